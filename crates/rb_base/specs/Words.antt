@@ -1,0 +1,65 @@
+-- The printed words of faults and causes.
+use Rattle.std.specs.Prelude.{ℕ, List, codes}
+use Rattle.rb_base.specs.declared.fault.FaultName.{FaultName}
+use Rattle.rb_base.specs.declared.fault.FaultName.TheVariants.{X1, X2, X3, X4, X5, Y0, Y1, Y2, S1, S2, S3, S4, S5, S6, S7, S8, S9, S10, S11, N1, N2, N3, N4, N5, N6, N7, N8, N9, N10, N11, N12, N13, T1, T2, T3, T4, V1, V2, V3, V4}
+use Rattle.rb_base.specs.declared.event.Cause.{Cause}
+use Rattle.rb_base.specs.declared.event.Cause.TheVariants.{Test, Fail, Overrun, Zero, Overflow, Index, Stack, Range, Calls, Depth, Hold, Inner, Broken}
+
+-- a fault is printed by its name
+abbrev pub fault_word : FaultName → List ℕ
+fault_word X1 = codes "X1"
+fault_word X2 = codes "X2"
+fault_word X3 = codes "X3"
+fault_word X4 = codes "X4"
+fault_word X5 = codes "X5"
+fault_word Y0 = codes "Y0"
+fault_word Y1 = codes "Y1"
+fault_word Y2 = codes "Y2"
+fault_word S1 = codes "S1"
+fault_word S2 = codes "S2"
+fault_word S3 = codes "S3"
+fault_word S4 = codes "S4"
+fault_word S5 = codes "S5"
+fault_word S6 = codes "S6"
+fault_word S7 = codes "S7"
+fault_word S8 = codes "S8"
+fault_word S9 = codes "S9"
+fault_word S10 = codes "S10"
+fault_word S11 = codes "S11"
+fault_word N1 = codes "N1"
+fault_word N2 = codes "N2"
+fault_word N3 = codes "N3"
+fault_word N4 = codes "N4"
+fault_word N5 = codes "N5"
+fault_word N6 = codes "N6"
+fault_word N7 = codes "N7"
+fault_word N8 = codes "N8"
+fault_word N9 = codes "N9"
+fault_word N10 = codes "N10"
+fault_word N11 = codes "N11"
+fault_word N12 = codes "N12"
+fault_word N13 = codes "N13"
+fault_word T1 = codes "T1"
+fault_word T2 = codes "T2"
+fault_word T3 = codes "T3"
+fault_word T4 = codes "T4"
+fault_word V1 = codes "V1"
+fault_word V2 = codes "V2"
+fault_word V3 = codes "V3"
+fault_word V4 = codes "V4"
+
+-- a cause is printed in lower case
+abbrev pub cause_word : Cause → List ℕ
+cause_word Test = codes "test"
+cause_word Fail = codes "fail"
+cause_word Overrun = codes "overrun"
+cause_word Zero = codes "zero"
+cause_word Overflow = codes "overflow"
+cause_word Index = codes "index"
+cause_word Stack = codes "stack"
+cause_word Range = codes "range"
+cause_word Calls = codes "calls"
+cause_word Depth = codes "depth"
+cause_word Hold = codes "hold"
+cause_word Inner = codes "inner"
+cause_word Broken = codes "broken"

@@ -1,0 +1,121 @@
+ghost use Rattle.std.specs.Prelude.{◌≡◌};
+ghost use Rattle.rb_base.specs.Words.{fault_word};
+
+use crate::place::Place;
+
+/// The name of a fault. X faults are of tokens, Y of the grammar, S of scopes and limits, N of nesting,
+/// T of a schedule and V of a record. `Y0` is a text that this program accepts and does not run yet.
+#[derive(Clone, Copy, Debug, PartialEq, Eq)]
+pub enum FaultName {
+    X1,
+    X2,
+    X3,
+    X4,
+    X5,
+    Y0,
+    Y1,
+    Y2,
+    S1,
+    S2,
+    S3,
+    S4,
+    S5,
+    S6,
+    S7,
+    S8,
+    S9,
+    S10,
+    S11,
+    N1,
+    N2,
+    N3,
+    N4,
+    N5,
+    N6,
+    N7,
+    N8,
+    N9,
+    N10,
+    N11,
+    N12,
+    N13,
+    T1,
+    T2,
+    T3,
+    T4,
+    V1,
+    V2,
+    V3,
+    V4,
+}
+
+impl FaultName {
+    /// The name as it is printed.
+    pub fn word(self) -> &'static [u8]
+        ensures { result.now ≡ fault_word self }
+    {
+        match self {
+            FaultName::X1 => b"X1",
+            FaultName::X2 => b"X2",
+            FaultName::X3 => b"X3",
+            FaultName::X4 => b"X4",
+            FaultName::X5 => b"X5",
+            FaultName::Y0 => b"Y0",
+            FaultName::Y1 => b"Y1",
+            FaultName::Y2 => b"Y2",
+            FaultName::S1 => b"S1",
+            FaultName::S2 => b"S2",
+            FaultName::S3 => b"S3",
+            FaultName::S4 => b"S4",
+            FaultName::S5 => b"S5",
+            FaultName::S6 => b"S6",
+            FaultName::S7 => b"S7",
+            FaultName::S8 => b"S8",
+            FaultName::S9 => b"S9",
+            FaultName::S10 => b"S10",
+            FaultName::S11 => b"S11",
+            FaultName::N1 => b"N1",
+            FaultName::N2 => b"N2",
+            FaultName::N3 => b"N3",
+            FaultName::N4 => b"N4",
+            FaultName::N5 => b"N5",
+            FaultName::N6 => b"N6",
+            FaultName::N7 => b"N7",
+            FaultName::N8 => b"N8",
+            FaultName::N9 => b"N9",
+            FaultName::N10 => b"N10",
+            FaultName::N11 => b"N11",
+            FaultName::N12 => b"N12",
+            FaultName::N13 => b"N13",
+            FaultName::T1 => b"T1",
+            FaultName::T2 => b"T2",
+            FaultName::T3 => b"T3",
+            FaultName::T4 => b"T4",
+            FaultName::V1 => b"V1",
+            FaultName::V2 => b"V2",
+            FaultName::V3 => b"V3",
+            FaultName::V4 => b"V4",
+        }
+    }
+}
+
+/// A fault of a source, at its place.
+#[derive(Clone, Copy, Debug, PartialEq, Eq)]
+pub struct SourceFault {
+    pub name: FaultName,
+    pub place: Place,
+}
+
+/// A fault of a schedule or a record, at its line; for `V4` at its turn. Lines count from 1.
+#[derive(Clone, Copy, Debug, PartialEq, Eq)]
+pub struct TextFault {
+    pub name: FaultName,
+    pub at: u32,
+}
+
+/// Why a source was not taken.
+#[derive(Clone, Copy, Debug, PartialEq, Eq)]
+pub enum Refusal {
+    Fault(SourceFault),
+    Memory,
+}

@@ -1,0 +1,16 @@
+// Plain data that the other crates speak of: places, names, faults, causes, the events of a turn, and the counter of steps.
+#![tactic(auto)]
+
+pub mod event;
+pub mod fault;
+pub mod names;
+pub mod place;
+pub mod steps;
+pub mod text;
+
+pub use event::{Cause, Event, Report, State, TurnKind, MOST_EVENTS};
+pub use fault::{FaultName, Refusal, SourceFault, TextFault};
+pub use names::{Group, Names, Nested, ProcessNames, Variable};
+pub use place::Place;
+pub use steps::Steps;
+pub use text::{Memory, Text};

@@ -1,0 +1,6 @@
+/// A place in a text: the line and the column of a byte, both from 1. Columns count bytes.
+#[derive(Clone, Copy, Debug, PartialEq, Eq, PartialOrd, Ord)]
+pub struct Place {
+    pub line: u32,
+    pub column: u32,
+}

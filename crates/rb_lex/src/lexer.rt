@@ -1,0 +1,62 @@
+ghost use Rattle.std.specs.Prelude.{◌≡◌, ◌≤◌, ◌+◌, ◌^◌, length, Bool};
+ghost use Rattle.rb_lex.specs.Bytes.{first_place};
+ghost use Rattle.rb_lex.specs.Tokens.{is_second};
+ghost use Rattle.rb_lex.specs.Reader.{Reader, Answers};
+
+use rb_base::{Place, SourceFault};
+use std::marker::Model;
+
+use crate::token::Token;
+
+/// Reads the tokens of a source, one at a time. Contracts see the edition, the place of the next byte and
+/// the bytes left.
+#[derive(Debug, Drop)]
+pub struct Lexer<'a> {
+    second: bool,
+    place: Place,
+    left: &'a [u8],
+}
+
+impl<'a> Model for Lexer<'a> {
+    ghost Value = { Reader };
+
+    ghost view = { λ l. record { second = l.second; place = l.place; left = l.left.now } };
+
+    // a place moves one line or one column for a byte, so it fits
+    ghost invariant = { λ l. l.place.line + l.place.column + length l.left.now ≤ 1048578 };
+}
+
+impl<'a> Lexer<'a> {
+    /// Stands before the first byte of a source.
+    pub fn new(source: &'a [u8]) -> Self
+        requires { length source.now ≤ 1048576 }
+        ensures { result ≡ record { second = is_second source.now; place = first_place; left = source.now } }
+    {
+        Lexer {
+            second: false,
+            place: Place { line: 1, column: 1 },
+            left: source,
+        }
+    }
+
+    /// The next token, or `None` at the end and from then on. A fault is answered again by each later call.
+    pub fn next(&mut self) -> Result<Option<Token<'a>>, SourceFault>
+        ensures { Answers self.old result self.new }
+    {
+        Ok(None)
+    }
+
+    /// The place of the next byte to be read; after the end that behind the last byte.
+    pub fn place(&self) -> Place
+        ensures { result ≡ self.now.place }
+    {
+        self.place
+    }
+
+    /// Whether the source is of edition 2.
+    pub fn is_second(&self) -> bool
+        ensures { result ≡ self.now.second }
+    {
+        self.second
+    }
+}

@@ -1,0 +1,6 @@
+// Schedules: the list of turns that a text asks for, read without taking memory.
+#![tactic(auto)]
+
+pub mod schedule;
+
+pub use schedule::Schedule;
