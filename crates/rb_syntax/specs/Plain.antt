@@ -1,0 +1,7 @@
+-- The plain tree that a tree in memory stands for.
+use Rattle.std.specs.Prelude.{ℕ, List, [], ◌∷◌, map, Option, Some, None}
+use Rattle.rb_syntax.specs.declared.expression.Name.{Name}
+use Rattle.rb_syntax.specs.Tree.{Identifier}
+
+abbrev pub identifier : Name → Identifier
+identifier name = record { text = name.text.now; place = name.place; id = name.id }

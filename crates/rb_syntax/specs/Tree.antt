@@ -1,0 +1,116 @@
+-- The plain tree of a program: what a tree in memory stands for, with lists in place of vectors and bytes in place of
+-- slices. The language's forms are those of recovery blocks (Horning, Lauer, Melliar-Smith, Randell 1974) and of
+-- conversations (Randell 1975); channels, quantified expressions and the rest are this project's own.
+use Rattle.std.specs.Prelude.{ℕ, ℤ, List, Option}
+use Rattle.rb_base.specs.declared.place.Place.{Place}
+use Rattle.rb_syntax.specs.declared.expression.Number.{Number}
+use Rattle.rb_syntax.specs.declared.expression.Op.{Op}
+use Rattle.rb_syntax.specs.declared.expression.Quantifier.{Quantifier}
+
+-- a name where it stands, with its number among all names of the text
+pub record Identifier : Type 0 where
+  pub text : List ℕ
+  pub place : Place
+  pub id : ℕ
+
+mutual
+  pub data Expression : Type 0 where
+    Literal : (number : Number) → Expression
+    Variable : (reference : Reference) → Expression
+    Former : (place : Place) (reference : Reference) → Expression
+    Minus : (operand : Expression) → Expression
+    Negation : (operand : Expression) → Expression
+    Chained : (first : Expression) (links : Links) → Expression
+    Quantification : (kind : Quantifier) (place : Place) (name : Identifier) (low high body : Expression) → Expression
+
+  -- a variable, or an element of an array
+  pub data Reference : Type 0 where
+    Refer : (name : Identifier) (subscript : Subscript) → Reference
+
+  pub data Subscript : Type 0 where
+    Scalar : Subscript
+    Element : (index : Expression) → Subscript
+
+  -- the operators of one level and their right operands, from left to right
+  pub data Links : Type 0 where
+    NoLink : Links
+    Linked : (op : Op) (right : Expression) (links : Links) → Links
+
+-- a declaration of a variable, or of an array with its size
+pub record Declaration : Type 0 where
+  pub name : Identifier
+  pub size : Option Number
+
+-- what an item of a `print` prints
+pub data Printed : Type 0 where
+  Words : (text : List ℕ) → Printed
+  Amount : (value : Expression) → Printed
+
+pub record PrintItem : Type 0 where
+  pub place : Place
+  pub what : Printed
+
+mutual
+  pub data Command : Type 0 where
+    Assignment : (to : Reference) (value : Expression) → Command
+    Printing : (items : List PrintItem) → Command
+    Sending : (channel : Identifier) (value : Expression) → Command
+    Receiving : (channel : Identifier) (to : Reference) (otherwise : Otherwise) → Command
+    Conditional : (test : Expression) (body : Body) (otherwise : Otherwise) → Command
+    Loop : (test : Expression) (body : Body) → Command
+    Invocation : (procedure : Identifier) (arguments : List Expression) → Command
+    Failure : Command
+    Recovering : (block : RecoveryBlock) → Command
+
+  -- statements in order
+  pub data Commands : Type 0 where
+    NoCommand : Commands
+    Then : (first : Command) (rest : Commands) → Commands
+
+  -- a block: its variables and its statements
+  pub data Body : Type 0 where
+    Scope : (variables : List Declaration) (commands : Commands) → Body
+
+  pub data Otherwise : Type 0 where
+    NoElse : Otherwise
+    Else : (body : Body) → Otherwise
+
+  -- A recovery block, or a member's part of a conversation: its number, its conversation, the place of its word `ensure`,
+  -- its acceptance test, its turn bound and its alternates.
+  pub data RecoveryBlock : Type 0 where
+    Recovers : (number : ℕ) (conversation : Option Identifier) (place : Place) (test : Expression) (bound : Number) (alternates : Alternates) → RecoveryBlock
+
+  pub data Alternates : Type 0 where
+    NoAlternate : Alternates
+    Alternate : (body : Body) (others : Alternates) → Alternates
+
+pub record ChannelDeclaration : Type 0 where
+  pub name : Identifier
+  pub sender : Identifier
+  pub receiver : Identifier
+  pub size : Number
+
+pub record ConversationDeclaration : Type 0 where
+  pub name : Identifier
+  pub members : List Identifier
+
+pub record ProcedureDeclaration : Type 0 where
+  pub name : Identifier
+  pub parameters : List Identifier
+  pub body : Body
+
+pub record ProcessDeclaration : Type 0 where
+  pub name : Identifier
+  pub variables : List Declaration
+  pub procedures : List ProcedureDeclaration
+  pub commands : Commands
+
+-- a whole program, with the numbers of its names and of its recoveries
+pub record Tree : Type 0 where
+  pub name : Identifier
+  pub channels : List ChannelDeclaration
+  pub conversations : List ConversationDeclaration
+  pub processes : List ProcessDeclaration
+  pub names : ℕ
+  pub blocks : ℕ
+  pub edition : ℕ

@@ -1,0 +1,47 @@
+use crate::expression::{Name, Number};
+use crate::statement::{Block, Statement, Var};
+
+/// A whole program: `names` is the number of names in the text, `blocks` that of its recoveries.
+#[derive(Debug, Drop)]
+pub struct Program<'a> {
+    pub name: Name<'a>,
+    pub channels: Vec<Channel<'a>>,
+    pub conversations: Vec<Conversation<'a>>,
+    pub processes: Vec<Process<'a>>,
+    pub names: u32,
+    pub blocks: u32,
+    pub edition: u32,
+}
+
+/// A channel from one process to another, with room for `size` values.
+#[derive(Clone, Copy, Debug)]
+pub struct Channel<'a> {
+    pub name: Name<'a>,
+    pub sender: Name<'a>,
+    pub receiver: Name<'a>,
+    pub size: Number,
+}
+
+/// A conversation and its members.
+#[derive(Debug, Drop)]
+pub struct Conversation<'a> {
+    pub name: Name<'a>,
+    pub members: Vec<Name<'a>>,
+}
+
+/// A process.
+#[derive(Debug, Drop)]
+pub struct Process<'a> {
+    pub name: Name<'a>,
+    pub vars: Vec<Var<'a>>,
+    pub procedures: Vec<Procedure<'a>>,
+    pub body: Vec<Statement<'a>>,
+}
+
+/// A procedure of a process.
+#[derive(Debug, Drop)]
+pub struct Procedure<'a> {
+    pub name: Name<'a>,
+    pub params: Vec<Name<'a>>,
+    pub block: Block<'a>,
+}
