@@ -1,5 +1,4 @@
 -- The plain tree that a tree in memory stands for.
-use Rattle.std.specs.Prelude.{ℕ, List, [], ◌∷◌, map, Option, Some, None}
 use Rattle.rb_syntax.specs.declared.expression.Name.{Name}
 use Rattle.rb_syntax.specs.Tree.{Identifier}
 

@@ -1,0 +1,127 @@
+-- What a program declares: channels and their ends, conversations with their members and parents, procedures. A
+-- conversation's parent is the innermost conversation around its first `converse` in the text (nesting: Randell 1975).
+use Rattle.std.specs.Prelude.{ℕ, ◌+◌, Bool, false, cond, List, [], ◌∷◌, map, position, slice_get, Option, Some, None}
+use Rattle.std.specs.Option.{unwrap_or}
+use Rattle.rb_syntax.specs.Tree.{Identifier, Command, Assignment, Printing, Sending, Receiving, Conditional, Loop, Invocation, Failure, Recovering, Commands, NoCommand, Then, Body, Scope, Otherwise, NoElse, Else, RecoveryBlock, Recovers, Alternates, NoAlternate, Alternate, ChannelDeclaration, ConversationDeclaration, ProcedureDeclaration, ProcessDeclaration, Tree}
+use Rattle.rb_world.specs.Kind.{Ends, Membership, Facts}
+use Rattle.rb_meaning.specs.Environment.{same_name, natural, or_else}
+
+-- the number of the first that is declared by a name; in an accepted program there is one
+abbrev pub number_or_zero : Option ℕ → ℕ
+number_or_zero n = unwrap_or n 0
+
+abbrev pub process_number : Tree → List ℕ → ℕ
+process_number tree x = number_or_zero (position (λ p. same_name p.name.text x) tree.processes)
+
+abbrev pub channel_number : Tree → List ℕ → ℕ
+channel_number tree x = number_or_zero (position (λ c. same_name c.name.text x) tree.channels)
+
+abbrev pub conversation_number : Tree → List ℕ → ℕ
+conversation_number tree x = number_or_zero (position (λ c. same_name c.name.text x) tree.conversations)
+
+abbrev pub ends_of : Tree → ChannelDeclaration → Ends
+ends_of tree channel = record {
+    sender = process_number tree channel.sender.text;
+    receiver = process_number tree channel.receiver.text;
+    size = natural channel.size.value }
+
+abbrev pub channels_of : Tree → List Ends
+channels_of tree = map (ends_of tree) tree.channels
+
+-- The first `converse` for a conversation, with the conversation around it.
+abbrev pub Around : Type 0
+Around = Option Identifier
+
+abbrev pub is_named : List ℕ → Option Identifier → Bool
+is_named x None = false
+is_named x (Some name) = same_name name.text x
+
+-- inside a `converse` its conversation is the one around; an `ensure` is none
+abbrev pub around_inside : Option Identifier → Around → Around
+around_inside None around = around
+around_inside (Some name) around = Some name
+
+abbrev mutual
+  pub first_in_command : List ℕ → Around → Command → Option Around
+  first_in_command x around (Assignment to e) = None
+  first_in_command x around (Printing items) = None
+  first_in_command x around (Sending channel e) = None
+  first_in_command x around (Receiving channel to otherwise) = first_in_otherwise x around otherwise
+  first_in_command x around (Conditional test body otherwise) =
+      or_else (first_in_body x around body) (first_in_otherwise x around otherwise)
+  first_in_command x around (Loop test body) = first_in_body x around body
+  first_in_command x around (Invocation procedure arguments) = None
+  first_in_command x around Failure = None
+  first_in_command x around (Recovering block) = first_in_block x around block
+
+  pub first_in : List ℕ → Around → Commands → Option Around
+  first_in x around NoCommand = None
+  first_in x around (Then first rest) = or_else (first_in_command x around first) (first_in x around rest)
+
+  pub first_in_body : List ℕ → Around → Body → Option Around
+  first_in_body x around (Scope variables commands) = first_in x around commands
+
+  pub first_in_otherwise : List ℕ → Around → Otherwise → Option Around
+  first_in_otherwise x around NoElse = None
+  first_in_otherwise x around (Else body) = first_in_body x around body
+
+  pub first_in_block : List ℕ → Around → RecoveryBlock → Option Around
+  first_in_block x around (Recovers number conversation place test bound alternates) =
+      cond (is_named x conversation) (Some around) (first_in_alternates x (around_inside conversation around) alternates)
+
+  pub first_in_alternates : List ℕ → Around → Alternates → Option Around
+  first_in_alternates x around NoAlternate = None
+  first_in_alternates x around (Alternate body others) =
+      or_else (first_in_body x around body) (first_in_alternates x around others)
+
+abbrev pub first_in_procedures : List ℕ → List ProcedureDeclaration → Option Around
+first_in_procedures x [] = None
+first_in_procedures x (procedure ∷ procedures) =
+    or_else (first_in_body x None procedure.body) (first_in_procedures x procedures)
+
+abbrev pub first_in_processes : List ℕ → List ProcessDeclaration → Option Around
+first_in_processes x [] = None
+first_in_processes x (process ∷ processes) =
+    or_else (or_else (first_in_procedures x process.procedures) (first_in x None process.commands)) (first_in_processes x processes)
+
+abbrev pub parent_named : Tree → Option Around → Option ℕ
+parent_named tree None = None
+parent_named tree (Some None) = None
+parent_named tree (Some (Some name)) = Some (conversation_number tree name.text)
+
+abbrev pub membership_of : Tree → ConversationDeclaration → Membership
+membership_of tree conversation = record {
+    members = map (λ name. process_number tree name.text) conversation.members;
+    parent = parent_named tree (first_in_processes conversation.name.text tree.processes) }
+
+abbrev pub groups_of : Tree → List Membership
+groups_of tree = map (membership_of tree) tree.conversations
+
+-- what is known of a recovery block at its entry
+abbrev pub count_alternates : Alternates → ℕ
+count_alternates NoAlternate = 0
+count_alternates (Alternate body others) = count_alternates others + 1
+
+abbrev pub conversation_of : Tree → Option Identifier → Option ℕ
+conversation_of tree None = None
+conversation_of tree (Some name) = Some (conversation_number tree name.text)
+
+abbrev pub facts_of : Tree → RecoveryBlock → Facts
+facts_of tree (Recovers number conversation place test bound alternates) = record {
+    line = place.line;
+    conversation = conversation_of tree conversation;
+    bound = natural bound.value;
+    alternates = count_alternates alternates }
+
+-- a procedure of a process by its name
+abbrev pub procedure_among : List ℕ → List ProcedureDeclaration → Option ProcedureDeclaration
+procedure_among x [] = None
+procedure_among x (procedure ∷ procedures) =
+    cond (same_name procedure.name.text x) (Some procedure) (procedure_among x procedures)
+
+abbrev pub procedures_of : Option ProcessDeclaration → List ProcedureDeclaration
+procedures_of None = []
+procedures_of (Some process) = process.procedures
+
+abbrev pub procedure_named : Tree → ℕ → List ℕ → Option ProcedureDeclaration
+procedure_named tree p x = procedure_among x (procedures_of (slice_get tree.processes p))

@@ -1,0 +1,7 @@
+pub mod Environment
+pub mod Value
+pub mod State
+pub mod Step
+pub mod Groups
+pub mod Meaning
+pub mod PlainRun

@@ -1,0 +1,244 @@
+-- One step of a process over its tree, for each form that may stand first.
+use Rattle.std.specs.Prelude.{ℕ, zero, suc, ℤ, pos, ◌+◌, ◌-◌, nat_eq, nat_lt, nat_le, Bool, true, false, cond, List, [], ◌∷◌, ◌++◌, length, sum_by, Option, Some, None, Result, Ok, Err}
+use Rattle.std.specs.Fmt.{signed_decimal}
+use Rattle.rb_base.specs.declared.event.Cause.{Cause}
+use Rattle.rb_base.specs.declared.event.Cause.TheVariants.{Test, Fail, Stack, Calls, Hold}
+use Rattle.rb_syntax.specs.Tree.{Identifier, Expression, Reference, Refer, Scalar, Element, Declaration, Printed, Words, Amount, PrintItem, Command, Assignment, Printing, Sending, Receiving, Conditional, Loop, Invocation, Failure, Recovering, Commands, Body, Scope, Otherwise, NoElse, Else, RecoveryBlock, Recovers, Alternates, NoAlternate, Alternate, ProcedureDeclaration, Tree}
+use Rattle.rb_world.specs.Kind.{Want, NothingLeft, SendsOn, ReceivesOn, MayReceiveOn, Enters, Starts, Acts, Stepped, Trapped, Went, Held}
+use Rattle.rb_world.specs.World.{change_at}
+use Rattle.rb_meaning.specs.Environment.{Environment, Frame, frame_of, values_of, store, words, push_frame, push_call}
+use Rattle.rb_meaning.specs.Value.{Outcome, and_then, is_zero, index_in, value}
+use Rattle.rb_meaning.specs.State.{Item, Perform, StartOf, TestOf, EndBlock, EndCall, State, performed, continue_with, with_environment, with_sent, with_taken, with_held}
+use Rattle.rb_meaning.specs.Groups.{channel_number, procedure_named, facts_of}
+
+-- what the meaning over trees keeps beside the processes: nothing
+abbrev pub Nothing : Type 0
+Nothing = Unit {0}
+
+abbrev pub Result_of_step : Type 0
+Result_of_step = Stepped State Nothing
+
+-- a step that goes on, or traps
+abbrev pub goes : Result State Cause → Result_of_step
+goes (Ok s) = Went s tt
+goes (Err cause) = Trapped cause
+
+-- the words of a process and of its frames are at most these
+abbrev pub most_words : ℕ → ℕ
+most_words edition = cond (nat_eq edition 2) 4096 2048
+
+abbrev pub most_calls : ℕ
+most_calls = 256
+
+abbrev pub most_held : ℕ
+most_held = 65536
+
+-- outside acceptance tests no accepted program reads a former value
+abbrev pub present_value : Environment → Expression → Outcome
+present_value env e = value env env [] e
+
+-- the place of a value: evaluates and checks the index where there is one
+abbrev pub place_in : Environment → Reference → Result (List ℕ × ℕ) Cause
+place_in env (Refer x Scalar) = Ok (x.text, 0)
+place_in env (Refer x (Element index)) =
+    and_then (present_value env index) (λ i. and_then (index_in (values_of env x.text) i) (λ n. Ok (x.text, n)))
+
+abbrev pub put_at : Environment → ℤ → List ℕ × ℕ → Environment
+put_at env v (x, n) = store env x n v
+
+abbrev pub assigned : State → Reference → Expression → Result State Cause
+assigned s to e =
+    and_then (place_in s.environment to) (λ place.
+    and_then (present_value s.environment e) (λ v. Ok (with_environment (put_at s.environment v place) s)))
+
+-- a line: its items, with one blank between them
+abbrev pub printed : Environment → Printed → Result (List ℕ) Cause
+printed env (Words text) = Ok text
+printed env (Amount e) = and_then (present_value env e) (λ v. Ok (signed_decimal v))
+
+abbrev pub after_blank : List ℕ → Bool → List ℕ
+after_blank text true = text
+after_blank text false = 32 ∷ text
+
+abbrev pub line_from : Environment → Bool → List PrintItem → Result (List ℕ) Cause
+line_from env first [] = Ok []
+line_from env first (item ∷ items) =
+    and_then (printed env item.what) (λ text.
+    and_then (line_from env false items) (λ rest. Ok (after_blank text first ++ rest)))
+
+-- the held bytes: those of the lines, and one more for each
+abbrev pub held_bytes : List (List ℕ) → ℕ
+held_bytes lines = sum_by (λ line. length line + 1) lines
+
+abbrev pub held_with : State → List ℕ → Result State Cause
+held_with s line =
+    cond (nat_lt most_held (held_bytes s.held + (length line + 1))) (Err Hold) (Ok (with_held (s.held ++ line ∷ []) s))
+
+abbrev pub prints : State → List PrintItem → Result State Cause
+prints s items = and_then (line_from s.environment true items) (held_with s)
+
+abbrev pub sends : State → ℕ → Expression → Result State Cause
+sends s channel e =
+    and_then (present_value s.environment e) (λ v. Ok (with_sent (change_at channel (λ values. values ++ v ∷ []) s.sent) s))
+
+abbrev pub takes : State → ℕ → Reference → ℤ → Result State Cause
+takes s channel to v =
+    and_then (place_in s.environment to) (λ place.
+    Ok (with_taken (change_at channel (λ n. n + 1) s.taken) (with_environment (put_at s.environment v place) s)))
+
+-- the block's frame is pushed, and its statements and its end come first; too many words are a trap
+abbrev pub within_words : ℕ → Environment → State → Result State Cause
+within_words edition env s = cond (nat_lt (most_words edition) (words env)) (Err Stack) (Ok (with_environment env s))
+
+abbrev pub pushes : ℕ → Body → List Item → State → Result State Cause
+pushes edition (Scope variables commands) rest s =
+    within_words edition (push_frame (frame_of variables) s.environment) (continue_with (performed commands (EndBlock ∷ rest)) s)
+
+abbrev pub pushes_else : ℕ → Otherwise → List Item → State → Result State Cause
+pushes_else edition NoElse rest s = Ok (continue_with rest s)
+pushes_else edition (Else body) rest s = pushes edition body rest s
+
+abbrev pub chooses : ℕ → Body → Otherwise → List Item → State → ℤ → Result State Cause
+chooses edition body otherwise rest s v = cond (is_zero v) (pushes_else edition otherwise rest s) (pushes edition body rest s)
+
+abbrev pub repeats : ℕ → Expression → Body → List Item → State → ℤ → Result State Cause
+repeats edition test body rest s v =
+    cond (is_zero v) (Ok (continue_with rest s)) (pushes edition body (Perform (Loop test body) ∷ rest) s)
+
+-- a call: its arguments from left to right, then the check of open calls, then the new frame
+abbrev pub values_in : Environment → List Expression → Result (List ℤ) Cause
+values_in env [] = Ok []
+values_in env (e ∷ es) = and_then (present_value env e) (λ v. and_then (values_in env es) (λ vs. Ok (v ∷ vs)))
+
+abbrev pub bound_to : List Identifier → List ℤ → Frame
+bound_to [] values = []
+bound_to (x ∷ xs) [] = record { name = x.text; values = pos 0 ∷ [] } ∷ bound_to xs []
+bound_to (x ∷ xs) (v ∷ vs) = record { name = x.text; values = v ∷ [] } ∷ bound_to xs vs
+
+abbrev pub variables_of : Body → List Declaration
+variables_of (Scope variables commands) = variables
+
+abbrev pub commands_of : Body → Commands
+commands_of (Scope variables commands) = commands
+
+-- the main body is no open call
+abbrev pub open_calls : Environment → ℕ
+open_calls env = length env.calls - 1
+
+abbrev pub calls_with : ℕ → Option ProcedureDeclaration → List Item → State → List ℤ → Result State Cause
+calls_with edition None rest s values = Ok (continue_with rest s)
+calls_with edition (Some procedure) rest s values =
+    cond (nat_le most_calls (open_calls s.environment)) (Err Calls)
+    (within_words edition (push_call (bound_to procedure.parameters values ++ frame_of (variables_of procedure.body)) s.environment)
+        (continue_with (performed (commands_of procedure.body) (EndCall ∷ rest)) s))
+
+abbrev pub invokes : Tree → Identifier → List Expression → List Item → State → Result State Cause
+invokes tree procedure arguments rest s =
+    and_then (values_in s.environment arguments) (calls_with tree.edition (procedure_named tree s.process procedure.text) rest s)
+
+abbrev pub receives : Tree → ℕ → Reference → Otherwise → List Item → State → Option ℤ → Result State Cause
+receives tree channel to otherwise rest s (Some v) = takes (continue_with rest s) channel to v
+receives tree channel to otherwise rest s None = pushes_else tree.edition otherwise rest s
+
+-- a statement, with what comes after it
+abbrev pub performs : Tree → Option ℤ → State → List Item → Command → Result State Cause
+performs tree message s rest (Assignment to e) = assigned (continue_with rest s) to e
+performs tree message s rest (Printing items) = prints (continue_with rest s) items
+performs tree message s rest (Sending channel e) = sends (continue_with rest s) (channel_number tree channel.text) e
+performs tree message s rest (Receiving channel to otherwise) =
+    receives tree (channel_number tree channel.text) to otherwise rest s message
+performs tree message s rest (Conditional test body otherwise) =
+    and_then (present_value s.environment test) (chooses tree.edition body otherwise rest s)
+performs tree message s rest (Loop test body) =
+    and_then (present_value s.environment test) (repeats tree.edition test body rest s)
+performs tree message s rest (Invocation procedure arguments) = invokes tree procedure arguments rest s
+performs tree message s rest Failure = Err Fail
+performs tree message s rest (Recovering block) = Ok (continue_with rest s)
+
+-- the start of an alternate: its frame, its statements, its end, and then the acceptance test
+abbrev pub alternate_number : ℕ → Alternates → Option Body
+alternate_number n NoAlternate = None
+alternate_number zero (Alternate body others) = None
+alternate_number (suc zero) (Alternate body others) = Some body
+alternate_number (suc (suc n)) (Alternate body others) = alternate_number (suc n) others
+
+abbrev pub alternates_in : RecoveryBlock → Alternates
+alternates_in (Recovers number conversation place test bound alternates) = alternates
+
+abbrev pub test_in : RecoveryBlock → Expression
+test_in (Recovers number conversation place test bound alternates) = test
+
+-- an alternate that the block does not have is never started
+abbrev pub starts_body : ℕ → RecoveryBlock → List Item → State → Option Body → Result State Cause
+starts_body edition block rest s None = Err Fail
+starts_body edition block rest s (Some body) = pushes edition body (TestOf block ∷ rest) s
+
+-- an acceptance test, which reads former values of the innermost recovery point
+abbrev pub judged : List Item → State → Outcome → Result_of_step
+judged rest s (Err cause) = Trapped cause
+judged rest s (Ok v) = cond (is_zero v) (Trapped Test) (Held (continue_with rest s))
+
+abbrev pub former : Environment → Option Environment → Environment
+former env None = env
+former env (Some prior) = prior
+
+abbrev pub step_items : Tree → ℕ → Option Environment → State → Option ℤ → List Item → Result_of_step
+step_items tree alternate prior s message [] = Went s tt
+step_items tree alternate prior s message (Perform command ∷ rest) = goes (performs tree message s rest command)
+step_items tree alternate prior s message (StartOf block ∷ rest) =
+    goes (starts_body tree.edition block rest s (alternate_number alternate (alternates_in block)))
+step_items tree alternate prior s message (TestOf block ∷ rest) =
+    judged rest s (value s.environment (former s.environment prior) [] (test_in block))
+step_items tree alternate prior s message (EndBlock ∷ rest) = Went s tt
+step_items tree alternate prior s message (EndCall ∷ rest) = Went s tt
+
+-- one step at an alternate, given the environment at the innermost recovery point and the message that is taken
+abbrev pub step : Tree → ℕ → Option Environment → State → Option ℤ → Result_of_step
+step tree alternate prior s message = step_items tree alternate prior s message s.items
+
+-- what stands first
+abbrev pub wants_receipt : ℕ → Otherwise → Want
+wants_receipt channel NoElse = ReceivesOn channel
+wants_receipt channel (Else body) = MayReceiveOn channel
+
+abbrev pub wants : Tree → Command → Want
+wants tree (Assignment to e) = Acts
+wants tree (Printing items) = Acts
+wants tree (Sending channel e) = SendsOn (channel_number tree channel.text)
+wants tree (Receiving channel to otherwise) = wants_receipt (channel_number tree channel.text) otherwise
+wants tree (Conditional test body otherwise) = Acts
+wants tree (Loop test body) = Acts
+wants tree (Invocation procedure arguments) = Acts
+wants tree Failure = Acts
+wants tree (Recovering block) = Enters (facts_of tree block)
+
+abbrev pub wants_first : Tree → List Item → Want
+wants_first tree [] = NothingLeft
+wants_first tree (Perform command ∷ rest) = wants tree command
+wants_first tree (StartOf block ∷ rest) = Starts
+wants_first tree (TestOf block ∷ rest) = Acts
+wants_first tree (EndBlock ∷ rest) = Acts
+wants_first tree (EndCall ∷ rest) = Acts
+
+-- the start of the first alternate takes the place of the entry
+abbrev pub entered : Command → List Item → List Item
+entered (Assignment to e) rest = rest
+entered (Printing items) rest = rest
+entered (Sending channel e) rest = rest
+entered (Receiving channel to otherwise) rest = rest
+entered (Conditional test body otherwise) rest = rest
+entered (Loop test body) rest = rest
+entered (Invocation procedure arguments) rest = rest
+entered Failure rest = rest
+entered (Recovering block) rest = StartOf block ∷ rest
+
+abbrev pub entered_items : List Item → List Item
+entered_items [] = []
+entered_items (Perform command ∷ rest) = entered command rest
+entered_items (StartOf block ∷ rest) = StartOf block ∷ rest
+entered_items (TestOf block ∷ rest) = TestOf block ∷ rest
+entered_items (EndBlock ∷ rest) = EndBlock ∷ rest
+entered_items (EndCall ∷ rest) = EndCall ∷ rest
+
+abbrev pub enter : State → State
+enter s = continue_with (entered_items s.items) s
