@@ -1,0 +1,4 @@
+pub mod Terminals
+pub mod Grammar
+pub mod Scoped
+pub mod Verdict
