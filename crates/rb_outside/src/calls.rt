@@ -1,11 +1,11 @@
-ghost use Rattle.std.specs.Prelude.{◌≡◌, true, is_err};
+ghost use Rattle.std.specs.Prelude.{◌≡◌, ◌≤◌, is_err};
 ghost use Rattle.rb_outside.specs.InMemory.{after_call, fails, one_more};
 
 use crate::Failed;
 use std::marker::Model;
 
 /// Calls that are numbered from 0. One whose number is listed fails. Faults are counted.
-#[derive(Debug, Drop)]
+#[derive(Drop)]
 pub struct Calls {
     failing: Vec<u64>,
     next: u64,
@@ -36,6 +36,7 @@ impl Calls {
     pub fn begin(&mut self) -> Result<(), Failed>
         ensures exact { is_err result ≡ fails self.old }
         ensures after { self.new ≡ after_call (fails self.old) self.old }
+        ensures faults { self.old.faults ≤ self.new.faults }
     {
         let fails = self.failing.contains(&self.next);
         self.next = self.next.saturating_add(1);
@@ -48,7 +49,8 @@ impl Calls {
 
     /// Counts a fault.
     pub fn count_fault(&mut self)
-        ensures { self.new ≡ record { failing = self.old.failing; next = self.old.next; faults = one_more self.old.faults } }
+        ensures after { self.new ≡ record { failing = self.old.failing; next = self.old.next; faults = one_more self.old.faults } }
+        ensures faults { self.old.faults ≤ self.new.faults }
     {
         self.faults = self.faults.saturating_add(1);
     }

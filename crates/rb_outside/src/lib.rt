@@ -2,11 +2,13 @@
 #![tactic(auto)]
 
 mod calls;
+pub mod memory_shelf;
 pub mod memory_sink;
 pub mod put;
 pub mod shelf;
 pub mod sink;
 
+pub use memory_shelf::MemoryShelf;
 pub use memory_sink::MemorySink;
 pub use put::{put_all, put_number};
 pub use shelf::Shelf;

@@ -8,7 +8,7 @@ use std::alloc::Global;
 use std::marker::Model;
 
 /// Output that is kept in memory, where there is room for it. Its calls are numbered from 0.
-#[derive(Debug, Drop)]
+#[derive(Drop)]
 pub struct MemorySink {
     bytes: Vec<u8>,
     room: usize,
@@ -55,6 +55,12 @@ impl Sink for MemorySink {
         ensures exact { is_err result ≡ put_fails self.old }
         ensures size { IfOk result (λ n. n ≡ length (fitting self.old bytes.now)) }
         ensures after { self.new ≡ after_put self.old bytes.now }
+        ensures some { IfOk result (λ n. 0 < n) }
+        ensures fits { IfOk result (λ n. n ≤ length bytes.now) }
+        ensures ok { IfOk result (λ n. Some self.new.bytes ≡ then_written (Some self.old.bytes) (take n bytes.now)) }
+        ensures err { OnErr result (Some self.new.bytes ≡ Some self.old.bytes) }
+        ensures failed { OnErr result (Rose self.old.calls.faults self.new.calls.faults) }
+        ensures faults { self.old.calls.faults ≤ self.new.calls.faults }
     {
         self.calls.begin()?;
         let n = bytes.len().min(self.room - self.bytes.len());
