@@ -1,7 +1,7 @@
 ghost use Rattle.std.specs.Prelude.{◌≡◌, ℕ, ◌+◌, ◌-◌, ◌^◌, ◌<◌, ◌≤◌, ◌⊎◌, ◌||◌, ◌++◌, min, List, Option, None, Some, length, take, drop, IsSome, IfOk, OnOk, OnErr, MatchOption, is_err, is_none};
 ghost use Rattle.rb_outside.specs.Outside.{Rose, IsMissing, Starts, Reads, bytes_of};
 ghost use Rattle.rb_outside.specs.InMemory.{fails, after_start, rest_of, piece_of, after_piece};
-ghost use Rattle.rb_outside.specs.Started.{stored_files, StandsAt, IsOpen, reading_at};
+ghost use Rattle.rb_outside.specs.Started.{stored_files, Begins, IsOpen, reading_at};
 
 use crate::calls::Calls;
 use crate::{Failed, Shelf};
@@ -77,8 +77,7 @@ impl Shelf for MemoryShelf {
     {
         self.started = None;
         self.calls.begin()?;
-        let file = find_file(self.files.as_slice(), name.as_bytes()).ok_or(Failed)?;
-        self.started = Some(Started { file, passed: 0 });
+        self.started = Some(open(self.files.as_slice(), name.as_bytes())?);
         Ok(())
     }
 
@@ -109,22 +108,27 @@ impl Shelf for MemoryShelf {
     }
 }
 
-// The place of the first file of this name.
-fn find_file(files: &[(Vec<u8>, Vec<u8>)], name: &[u8]) -> Option<usize>
-    ensures { MatchOption result (bytes_of (stored_files files.now) name.now ≡ None) (StandsAt (stored_files files.now) name.now) }
+// The first byte of the first file of this name.
+fn open(files: &[(Vec<u8>, Vec<u8>)], name: &[u8]) -> Result<Started, Failed>
+    ensures begins { IfOk result (Begins (stored_files files.now) name.now) }
+    ensures missing { OnErr result (bytes_of (stored_files files.now) name.now ≡ None) }
 {
     for (at, file) in files.iter().enumerate() {
         if file.0.as_slice() == name {
-            return Some(at);
+            return Ok(Started {
+                file: at,
+                passed: 0,
+            });
         }
     }
-    None
+    Err(Failed)
 }
 
 // What is left of a file.
 fn rest_of_file(files: &[(Vec<u8>, Vec<u8>)], started: Started) -> &[u8]
     requires { IsOpen (stored_files files.now) started }
-    ensures { result.now ≡ rest_of (stored_files files.now) (reading_at (stored_files files.now) (Some started)) }
+    ensures bytes { result.now ≡ rest_of (stored_files files.now) (reading_at (stored_files files.now) (Some started)) }
+    ensures fits { started.passed + length result.now ≤ usize.MAX }
 {
     &files[started.file].1[started.passed..]
 }
