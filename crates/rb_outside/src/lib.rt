@@ -2,12 +2,14 @@
 #![tactic(auto)]
 
 mod calls;
+pub mod host;
 pub mod memory_shelf;
 pub mod memory_sink;
 pub mod put;
 pub mod shelf;
 pub mod sink;
 
+pub use host::{HostShelf, HostSink};
 pub use memory_shelf::MemoryShelf;
 pub use memory_sink::MemorySink;
 pub use put::{put_all, put_number};
