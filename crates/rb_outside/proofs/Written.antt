@@ -1,6 +1,6 @@
 -- What several writes in a row come to, and several counts of faults.
 use Rattle.std.proofs.Common.{◌≡◌, ℕ, ◌+◌, ◌-◌, ◌≤◌, List, [], ◌∷◌, ◌++◌, length, take, drop, Option, None, Some, Result, Ok, Err, OnErr, refl, sym, ap, subst, ◌∙◌, append_assoc, arith, length-append}
-use Rattle.std.proofs.lemmas.List.{append-nil, take-append-le, take-append-drop, length-drop}
+use Rattle.std.proofs.lemmas.List.{append-nil, take-append-le, take-append-drop, length-drop, drop-drop}
 use Rattle.std.proofs.Math.Seq.{take-append-add, take-append_seam, take-length}
 use Rattle.rb_outside.specs.Outside.{Rose, then_written}
 
@@ -49,10 +49,19 @@ pub OnErr-from : {T E P : Type 0} (r : Result T E) → P → OnErr r P
 OnErr-from (Ok v) p = tt
 OnErr-from (Err e) p = p
 
+-- what is left after a place, as a range to the end is written
+drop-whole : (xs : List ℕ) (k : ℕ) → take (length xs - k) (drop k xs) ≡ drop k xs
+drop-whole xs k = subst (λ m. take m (drop k xs) ≡ drop k xs) (length-drop k xs) (take-length (drop k xs))
+
 -- a cut moves the first n bytes of what is left to what was written
-pub cut-after : (all done rest : List ℕ) (n : ℕ) → all ≡ done ++ rest → n ≤ length rest → all ≡ (done ++ take n rest) ++ take (length rest - n) (drop n rest)
-cut-after all done rest n e le =
-    let size : length (drop n rest) ≡ length rest - n = length-drop n rest in
-    let whole : take (length rest - n) (drop n rest) ≡ drop n rest = subst (λ m. take m (drop n rest) ≡ drop n rest) size (take-length (drop n rest)) in
+pub cut-after : (all done rest : List ℕ) (n : ℕ) → all ≡ done ++ rest → all ≡ (done ++ take n rest) ++ take (length rest - n) (drop n rest)
+cut-after all done rest n e =
     let parts : done ++ (take n rest ++ drop n rest) ≡ done ++ rest = ap (λ (x : List ℕ). done ++ x) (take-append-drop n rest) in
-    rw (whole, append_assoc, parts) e
+    rw (drop-whole rest n, append_assoc, parts) e
+
+-- a sink took the next n bytes of what waits
+pub written-on : (w0 w1 : Option (List ℕ)) (same all : List ℕ) (k n : ℕ) → same ≡ all → w1 ≡ then_written w0 (take n (take (length same - k) (drop k same))) → then_written w1 (drop (k + n) all) ≡ then_written w0 (drop k all)
+written-on w0 w1 same all k n is e =
+    let took : w1 ≡ then_written w0 (take n (drop k all)) = e ∙ ap (λ xs. then_written w0 (take n xs)) (drop-whole same k ∙ ap (drop k) is) in
+    let parts : take n (drop k all) ++ drop (k + n) all ≡ drop k all = ap (λ (xs : List ℕ). take n (drop k all) ++ xs) (sym (drop-drop n k all)) ∙ take-append-drop n (drop k all) in
+    ap (λ w. then_written w (drop (k + n) all)) took ∙ then_written-append w0 (take n (drop k all)) (drop (k + n) all) ∙ ap (then_written w0) parts

@@ -1,6 +1,7 @@
 // What lies outside the program: files that are read in pieces, and a place that bytes are written to.
 #![tactic(auto)]
 
+pub mod buffered;
 mod calls;
 pub mod host;
 pub mod memory_shelf;
@@ -9,6 +10,7 @@ pub mod put;
 pub mod shelf;
 pub mod sink;
 
+pub use buffered::Buffered;
 pub use host::{HostShelf, HostSink};
 pub use memory_shelf::MemoryShelf;
 pub use memory_sink::MemorySink;

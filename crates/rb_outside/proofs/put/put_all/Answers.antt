@@ -18,7 +18,7 @@ loop-rest-preserved g c =
     let now = take c.in_ok-n.n c.loop-rest.rest.now in
     (
         done.0 ++ now,
-        cut-after c.args.bytes.now done.0 c.loop-rest.rest.now c.in_ok-n.n done.1 c.in_ok-n.ensures.fits,
+        cut-after c.args.bytes.now done.0 c.loop-rest.rest.now c.in_ok-n.n done.1,
         c.in_ok-n.ensures.ok ∙ ap (λ w. then_written w now) done.2 ∙ then_written-append _ done.0 now,
         omega arith
     )
