@@ -75,11 +75,19 @@ pub enum Event {
         cause: Cause,
     },
     /// A process has failed.
-    Error { process: u32, cause: Cause },
+    Error {
+        process: u32,
+        cause: Cause,
+    },
     /// The members of a conversation leave at an alternate.
-    Pass { conversation: u32, alternate: u32 },
+    Pass {
+        conversation: u32,
+        alternate: u32,
+    },
     /// A process is done.
-    Done { process: u32 },
+    Done {
+        process: u32,
+    },
 }
 
 // The fixed list of a report asks for a value to fill its places with.

@@ -8,7 +8,7 @@ pub mod place;
 pub mod steps;
 pub mod text;
 
-pub use event::{Cause, Event, Report, State, TurnKind, MOST_EVENTS};
+pub use event::{Cause, Event, MOST_EVENTS, Report, State, TurnKind};
 pub use fault::{FaultName, Refusal, SourceFault, TextFault};
 pub use names::{Group, Names, Nested, ProcessNames, Variable};
 pub use place::Place;

@@ -1,1 +1,4 @@
 pub mod Outside
+pub mod InMemory
+pub mod Started
+pub mod Host

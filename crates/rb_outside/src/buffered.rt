@@ -1,0 +1,67 @@
+ghost use Rattle.std.specs.Prelude.{◌≡◌, ℕ, ◌<◌, ◌≤◌, List, [], length, take, drop, IfOk, OnOk, OnErr, vec_len, vec_capacity};
+ghost use Rattle.rb_outside.specs.Outside.{Rose, then_written};
+
+use crate::{Failed, Memory, Sink};
+use std::alloc::Global;
+
+/// How many bytes a buffer holds.
+const ROOM: usize = 65536;
+
+/// A sink with a buffer in front, so that many short texts cost one put. What it means to have been written is
+/// what the sink took and then what waits in the buffer: call `flush` in the end.
+#[derive(Drop)]
+pub struct Buffered<S: Sink> {
+    sink: S,
+    bytes: Vec<u8>,
+    passed_on: usize,
+    ghost holds: { (passed_on ≤ vec_len bytes) × (vec_len bytes ≤ 65536) × (65536 ≤ vec_capacity bytes) },
+}
+
+impl<S: Sink + Drop> Buffered<S> {
+    /// Reserves the buffer, so that no later call takes memory.
+    pub fn new(alloc: Global, sink: S) -> Result<Self, Memory>
+        ensures sink { IfOk result (λ b. b.sink ≡ sink) }
+        ensures waits { IfOk result (λ b. drop b.passed_on b.bytes.items ≡ []) }
+    {
+        let bytes = Vec::with_capacity(alloc, ROOM)?;
+        Ok(Buffered {
+            sink,
+            bytes,
+            passed_on: 0,
+        })
+    }
+}
+
+impl<S: Sink> Buffered<S> {
+    /// Puts all that waits into the sink. After `Failed` a part may have been put, and the rest still waits.
+    pub fn flush(&mut self) -> Result<(), Failed>
+        ensures waits { OnOk result (drop self.new.passed_on self.new.bytes.items ≡ []) }
+        ensures empty { OnOk result (self.new.bytes.items ≡ []) }
+        ensures written { then_written (S.written self.new.sink) (drop self.new.passed_on self.new.bytes.items) ≡ then_written (S.written self.old.sink) (drop self.old.passed_on self.old.bytes.items) }
+        ensures failed { OnErr result (Rose (S.faults self.old.sink) (S.faults self.new.sink)) }
+        ensures faults { S.faults self.old.sink ≤ S.faults self.new.sink }
+    {
+        while self.passed_on < self.bytes.len() {
+            let n = self.sink.put(&self.bytes[self.passed_on..])?;
+            self.passed_on += n;
+        }
+        self.bytes.clear();
+        self.passed_on = 0;
+        Ok(())
+    }
+}
+
+impl<S: Sink> Sink for Buffered<S> {
+    ghost written = { λ b. then_written (S.written b.sink) (drop b.passed_on b.bytes.items) };
+
+    ghost faults = { λ b. S.faults b.sink };
+
+    fn put(&mut self, bytes: &[u8]) -> Result<usize, Failed> {
+        if self.bytes.len() == ROOM {
+            self.flush()?;
+        }
+        let n = bytes.len().min(ROOM - self.bytes.len());
+        self.bytes.extend_from_slice(&bytes[..n]).unwrap();
+        Ok(n)
+    }
+}
