@@ -1,3 +1,4 @@
 pub mod Bytes
 pub mod Tokens
 pub mod Reader
+pub mod Cuts

@@ -3,10 +3,9 @@ ghost use Rattle.rb_lex.specs.Bytes.{first_place};
 ghost use Rattle.rb_lex.specs.Tokens.{is_second};
 ghost use Rattle.rb_lex.specs.Reader.{Reader, Answers};
 
+use crate::token::Token;
 use rb_base::{Place, SourceFault};
 use std::marker::Model;
-
-use crate::token::Token;
 
 /// Reads the tokens of a source, one at a time. Contracts see the edition, the place of the next byte and
 /// the bytes left.
