@@ -2,3 +2,4 @@ pub mod Bytes
 pub mod Tokens
 pub mod Reader
 pub mod Cuts
+pub mod Gaps

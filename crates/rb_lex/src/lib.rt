@@ -3,9 +3,11 @@
 
 mod bytes;
 mod cut;
+mod gap;
 pub mod lexer;
 mod marks;
 mod numbers;
+mod reading;
 mod texts;
 pub mod token;
 mod words;
