@@ -1,3 +1,5 @@
 pub mod Bytes
 pub mod Tokens
 pub mod Reader
+pub mod Cuts
+pub mod Gaps

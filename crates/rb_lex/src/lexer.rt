@@ -1,12 +1,13 @@
-ghost use Rattle.std.specs.Prelude.{◌≡◌, ◌≤◌, ◌+◌, ◌^◌, length, Bool};
+ghost use Rattle.std.specs.Prelude.{◌≡◌, ◌≤◌, ◌+◌, ◌*◌, ◌^◌, length, Bool, false, codes};
 ghost use Rattle.rb_lex.specs.Bytes.{first_place};
-ghost use Rattle.rb_lex.specs.Tokens.{is_second};
+ghost use Rattle.rb_lex.specs.Tokens.{is_second, begins_with, next_from};
 ghost use Rattle.rb_lex.specs.Reader.{Reader, Answers};
+ghost use Rattle.rb_lex.specs.Gaps.{HasRoom};
 
+use crate::reading::{Reading, read_next};
+use crate::token::Token;
 use rb_base::{Place, SourceFault};
 use std::marker::Model;
-
-use crate::token::Token;
 
 /// Reads the tokens of a source, one at a time. Contracts see the edition, the place of the next byte and
 /// the bytes left.
@@ -22,8 +23,7 @@ impl<'a> Model for Lexer<'a> {
 
     ghost view = { λ l. record { second = l.second; place = l.place; left = l.left.now } };
 
-    // a place moves one line or one column for a byte, so it fits
-    ghost invariant = { λ l. l.place.line + l.place.column + length l.left.now ≤ 1048578 };
+    ghost invariant = { λ l. HasRoom l.place l.left.now };
 }
 
 impl<'a> Lexer<'a> {
@@ -32,9 +32,10 @@ impl<'a> Lexer<'a> {
         requires { length source.now ≤ 1048576 }
         ensures { result ≡ record { second = is_second source.now; place = first_place; left = source.now } }
     {
+        let place = Place { line: 1, column: 1 };
         Lexer {
-            second: false,
-            place: Place { line: 1, column: 1 },
+            second: begins_second(place, source),
+            place,
             left: source,
         }
     }
@@ -43,7 +44,10 @@ impl<'a> Lexer<'a> {
     pub fn next(&mut self) -> Result<Option<Token<'a>>, SourceFault>
         ensures { Answers self.old result self.new }
     {
-        Ok(None)
+        let Reading { token, after } = read_next(self.second, self.place, self.left)?;
+        self.place = after.place;
+        self.left = after.left;
+        Ok(token)
     }
 
     /// The place of the next byte to be read; after the end that behind the last byte.
@@ -58,5 +62,21 @@ impl<'a> Lexer<'a> {
         ensures { result ≡ self.now.second }
     {
         self.second
+    }
+}
+
+// Whether the first token from here has the bytes of edition 2.
+fn begins_second(place: Place, source: &[u8]) -> bool
+    requires { HasRoom place source.now }
+    ensures { result ≡ begins_with (next_from false false place source.now) (codes "edition") }
+{
+    match read_next(false, place, source) {
+        Ok(
+            Reading {
+                token: Some(token),
+                ..
+            },
+        ) => token.text == b"edition".as_slice(),
+        Ok(Reading { token: None, .. }) | Err(_) => false,
     }
 }

@@ -1,0 +1,3 @@
+pub mod Reserved
+pub mod Digits
+pub mod Steps

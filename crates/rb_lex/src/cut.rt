@@ -1,0 +1,50 @@
+ghost use Rattle.std.specs.Prelude.{◌≡◌, ◌≤◌, ◌<◌, length};
+ghost use Rattle.rb_lex.specs.Tokens.{front};
+ghost use Rattle.rb_lex.specs.Cuts.{front_of, reach_of};
+
+use crate::bytes::{is_digit, is_letter};
+use crate::marks::mark_cut;
+use crate::numbers::number_cut;
+use crate::texts::text_cut;
+use crate::token::Kind;
+use crate::words::name_cut;
+use rb_base::FaultName;
+
+// A token at the front of the bytes, with its size.
+#[derive(Clone, Copy, Debug)]
+pub(crate) struct Cut {
+    pub(crate) kind: Kind,
+    pub(crate) size: usize,
+}
+
+// A fault, so many bytes after the front.
+#[derive(Clone, Copy, Debug)]
+pub(crate) struct Stop {
+    pub(crate) name: FaultName,
+    pub(crate) offset: usize,
+}
+
+// What stands at the front, where that is no blank and no comment.
+pub(crate) fn front_cut(second: bool, bytes: &[u8]) -> Result<Cut, Stop>
+    requires { 0 < length bytes.now }
+    ensures value { front_of result ≡ front second bytes.now }
+    ensures within { reach_of result ≤ length bytes.now }
+{
+    match bytes {
+        [b, after @ ..] => {
+            if is_letter(*b) {
+                name_cut(second, bytes)
+            } else if is_digit(*b) {
+                number_cut(bytes)
+            } else if *b == b'"' {
+                text_cut(after)
+            } else {
+                mark_cut(second, bytes)
+            }
+        }
+        [] => Err(Stop {
+            name: FaultName::X1,
+            offset: 0,
+        }),
+    }
+}

@@ -1,0 +1,48 @@
+ghost use Rattle.std.specs.Prelude.{◌≡◌, ◌≤◌, ◌∷◌, [], ◌||◌, ◌&&◌, length, codes};
+ghost use Rattle.rb_lex.specs.Tokens.{is_one_of, mark_front, one_marks, two_marks};
+ghost use Rattle.rb_lex.specs.Cuts.{front_of, reach_of};
+
+use crate::cut::{Cut, Stop};
+use crate::token::Kind;
+use rb_base::FaultName;
+
+pub(crate) fn mark_cut(second: bool, bytes: &[u8]) -> Result<Cut, Stop>
+    ensures value { front_of result ≡ mark_front second bytes.now }
+    ensures within { reach_of result ≤ length bytes.now }
+{
+    match bytes {
+        [a, b, ..] if is_two_mark(*a, *b) => Ok(Cut {
+            kind: Kind::Mark,
+            size: 2,
+        }),
+        [a, ..] if is_one_mark(second, *a) => Ok(Cut {
+            kind: Kind::Mark,
+            size: 1,
+        }),
+        _ => Err(Stop {
+            name: FaultName::X1,
+            offset: 0,
+        }),
+    }
+}
+
+fn is_two_mark(a: u8, b: u8) -> bool
+    ensures { result ≡ is_one_of two_marks (a ∷ b ∷ []) }
+{
+    match a {
+        b':' | b'>' => b == b'=',
+        b'<' => b == b'=' || b == b'>',
+        _ => false,
+    }
+}
+
+fn is_one_mark(second: bool, a: u8) -> bool
+    ensures { result ≡ (is_one_of one_marks (a ∷ []) || (second && is_one_of (codes ":" ∷ []) (a ∷ []))) }
+{
+    match a {
+        b';' | b',' | b'.' | b'(' | b')' | b'{' | b'}' | b'[' | b']' => true,
+        b'=' | b'<' | b'>' | b'+' | b'-' | b'*' | b'/' | b'%' => true,
+        b':' => second,
+        _ => false,
+    }
+}

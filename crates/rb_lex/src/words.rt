@@ -1,0 +1,80 @@
+ghost use Rattle.std.specs.Prelude.{◌≡◌, ◌≤◌, length, take_while, map, nat_eq};
+ghost use Rattle.std.specs.List.{prefix_len, list_any};
+ghost use Rattle.std.specs.Cmp.Lexicographic.{pointwise};
+ghost use Rattle.rb_lex.specs.Bytes.{is_name_byte};
+ghost use Rattle.rb_lex.specs.Tokens.{name_front, is_reserved, is_one_of, common_words, second_words};
+ghost use Rattle.rb_lex.specs.Cuts.{front_of, reach_of, of_length};
+
+use crate::bytes::is_name_byte;
+use crate::cut::{Cut, Stop};
+use crate::token::Kind;
+use rb_base::FaultName;
+
+const LONGEST_NAME: usize = 64;
+
+// A name, or a reserved word.
+pub(crate) fn name_cut(second: bool, bytes: &[u8]) -> Result<Cut, Stop>
+    ensures value { front_of result ≡ name_front second (take_while is_name_byte bytes.now) }
+    ensures within { reach_of result ≤ length bytes.now }
+{
+    let size = name_len(bytes);
+    if size > LONGEST_NAME {
+        return Err(Stop {
+            name: FaultName::X5,
+            offset: 0,
+        });
+    }
+    let kind = if is_reserved(second, &bytes[..size]) {
+        Kind::Word
+    } else {
+        Kind::Name
+    };
+    Ok(Cut { kind, size })
+}
+
+fn name_len(bytes: &[u8]) -> usize
+    ensures { result ≡ prefix_len is_name_byte bytes.now }
+{
+    bytes.iter().take_while(|b| is_name_byte(**b)).count()
+}
+
+fn is_reserved(second: bool, text: &[u8]) -> bool
+    ensures { result ≡ is_reserved second text.now }
+{
+    is_common_word(text) || (second && is_second_word(text))
+}
+
+fn is_common_word(text: &[u8]) -> bool
+    ensures { result ≡ is_one_of common_words text.now }
+{
+    is_listed(words_of_length(text.len()), text)
+}
+
+fn words_of_length(size: usize) -> &'static [&'static [u8]]
+    ensures { map (λ word. word.now) result.now ≡ of_length size common_words }
+{
+    match size {
+        2 => &[b"by", b"if", b"or", b"to"],
+        3 => &[b"all", b"and", b"end", b"not", b"var"],
+        4 => &[b"call", b"else", b"fail", b"from", b"send", b"size"],
+        5 => &[b"error", b"print", b"prior", b"while"],
+        6 => &[b"ensure", b"within"],
+        7 => &[b"channel", b"process", b"program", b"receive"],
+        8 => &[b"converse"],
+        9 => &[b"procedure"],
+        12 => &[b"conversation"],
+        _ => &[],
+    }
+}
+
+fn is_second_word(text: &[u8]) -> bool
+    ensures { result ≡ is_one_of second_words text.now }
+{
+    is_listed(&[b"edition", b"every", b"some", b"sum"], text)
+}
+
+fn is_listed(words: &[&[u8]], text: &[u8]) -> bool
+    ensures { result ≡ list_any (λ word. pointwise nat_eq word.now text.now) words.now }
+{
+    words.iter().any(|word| *word == text)
+}
