@@ -1,7 +1,7 @@
 -- The plain tree of a program: what a tree in memory stands for, with lists in place of vectors and bytes in place of
 -- slices. The language's forms are those of recovery blocks (Horning, Lauer, Melliar-Smith, Randell 1974) and of
 -- conversations (Randell 1975); channels, quantified expressions and the rest are this project's own.
-use Rattle.std.specs.Prelude.{ℕ, ℤ, List, Option}
+use Rattle.std.specs.Prelude.{ℕ, List, Option}
 use Rattle.rb_base.specs.declared.place.Place.{Place}
 use Rattle.rb_syntax.specs.declared.expression.Number.{Number}
 use Rattle.rb_syntax.specs.declared.expression.Op.{Op}
