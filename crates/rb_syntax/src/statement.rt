@@ -1,6 +1,5 @@
-use rb_base::Place;
-
 use crate::expression::{Expr, Name, Number, Target};
+use rb_base::Place;
 
 /// A declaration of a variable, or of an array with its number of elements.
 #[derive(Clone, Copy, Debug)]
