@@ -1,8 +1,7 @@
 -- The grammar: which plain trees a list of tokens derives, one case for each row. Names are numbered from 0 in their
 -- order, recoveries by their word `ensure`, and each place is that of its token. The forms are this project's own.
-use Rattle.std.specs.Prelude.{◌≡◌, ℕ, ℤ, ◌+◌, ◌-◌, List, [], ◌∷◌, ◌++◌, length, take, drop, Option, Some, None}
+use Rattle.std.specs.Prelude.{◌≡◌, ℕ, ℤ, ◌+◌, ◌-◌, List, [], ◌∷◌, length, take, drop, Some, None}
 use Rattle.rb_base.specs.declared.place.Place.{Place}
-use Rattle.rb_lex.specs.declared.token.Kind.{Kind}
 use Rattle.rb_lex.specs.declared.token.Kind.TheVariants as kinds
 use Rattle.rb_lex.specs.Tokens.{Lexeme}
 use Rattle.rb_parse.specs.declared.terminal.Terminal.{Terminal}
@@ -11,7 +10,7 @@ use Rattle.rb_parse.specs.Terminals.{terminal_of}
 use Rattle.rb_syntax.specs.declared.expression.Number.{Number}
 use Rattle.rb_syntax.specs.declared.expression.Op.{Op}
 use Rattle.rb_syntax.specs.declared.expression.Op.TheVariants.{Add, Sub}
-use Rattle.rb_syntax.specs.Tree.{Identifier, Expression, Literal, Variable, Chained, Reference, Refer, Scalar, Links, NoLink, Linked, Declaration, Printed, Words, Amount, PrintItem, Command, Assignment, Printing, Commands, NoCommand, Then, ProcessDeclaration, Tree}
+use Rattle.rb_syntax.specs.Tree.{Identifier, Expression, Literal, Variable, Chained, Reference, Refer, Scalar, Links, NoLink, Linked, Declaration, Words, Amount, PrintItem, Command, Assignment, Printing, Commands, NoCommand, Then, ProcessDeclaration, Tree}
 
 -- A point between two tokens: the tokens left, and how many names and recoveries came before.
 pub record Point : Type 0 where

@@ -1,9 +1,9 @@
 -- Which trees are run so far: one process whose variables are scalars with names of their own, at most 2,048, and whose
 -- every used name is one of them; a `print` has at most 16 items.
-use Rattle.std.specs.Prelude.{ℕ, nat_le, nat_eq, Bool, true, false, not, cond, ◌&&◌, List, [], ◌∷◌, length, map, Option, Some, None}
+use Rattle.std.specs.Prelude.{ℕ, nat_le, nat_eq, Bool, true, false, not, ◌&&◌, List, [], ◌∷◌, length, map, Option, Some, None}
 use Rattle.std.specs.List.{list_any, list_all}
 use Rattle.std.specs.Cmp.Lexicographic.{pointwise}
-use Rattle.rb_syntax.specs.Tree.{Identifier, Expression, Literal, Variable, Former, Minus, Negation, Chained, Quantification, Reference, Refer, Subscript, Scalar, Element, Links, NoLink, Linked, Declaration, Printed, Words, Amount, PrintItem, Command, Assignment, Printing, Sending, Receiving, Conditional, Loop, Invocation, Failure, Recovering, Commands, NoCommand, Then, ProcessDeclaration, Tree}
+use Rattle.rb_syntax.specs.Tree.{Expression, Literal, Variable, Former, Minus, Negation, Chained, Quantification, Reference, Refer, Scalar, Element, Links, NoLink, Linked, Declaration, Printed, Words, Amount, Command, Assignment, Printing, Sending, Receiving, Conditional, Loop, Invocation, Failure, Recovering, Commands, NoCommand, Then, ProcessDeclaration, Tree}
 
 abbrev pub is_among : List (List ℕ) → List ℕ → Bool
 is_among names x = list_any (λ name. pointwise nat_eq name x) names

@@ -1,5 +1,5 @@
 -- Terminals: what a token is to the grammar.
-use Rattle.std.specs.Prelude.{ℕ, ℤ, nat_eq, Bool, cond, List, [], ◌∷◌, codes, Option, Some, None}
+use Rattle.std.specs.Prelude.{ℕ, nat_eq, cond, List, [], ◌∷◌, codes, Option, Some, None}
 use Rattle.std.specs.Cmp.Lexicographic.{pointwise}
 use Rattle.rb_lex.specs.declared.token.Kind.{Kind}
 use Rattle.rb_lex.specs.declared.token.Kind.TheVariants as kinds

@@ -1,8 +1,8 @@
 // The parser: from the bytes of a source to its tree, or to the first fault.
 #![tactic(auto)]
 
-pub mod parse;
+pub mod parser;
 pub mod terminal;
 
-pub use parse::parse_source;
+pub use parser::parse;
 pub use terminal::Terminal;
