@@ -1,12 +1,12 @@
 -- What is known of a file that was found by its name.
-use Rattle.std.proofs.Common.{◌≡◌, ℕ, suc, ◌+◌, ◌<◌, ◌≤◌, List, [], ◌∷◌, length, drop, get_or, map, Option, Some, None, Vec, Bool, true, false, cond, refl, sym, ap, subst, ◌∙◌, arith, nat_eq, drop-cons}
+use Rattle.std.proofs.Common.{◌≡◌, ℕ, suc, ◌<◌, List, ◌∷◌, length, drop, get_or, Some, Vec, true, cond, refl, sym, ap, subst, ◌∙◌, arith, nat_eq, drop-cons}
 use Rattle.std.specs.List.{slice_get}
 use Rattle.std.specs.Option.{option_map}
 use Rattle.std.proofs.lemmas.Option.{slice_get_read, slice_get-map}
 use Rattle.std.specs.Cmp.Lexicographic.{pointwise, same_text}
 use Rattle.std.specs.declared.alloc.Global.{Global}
-use Rattle.rb_outside.specs.Outside.{File, Reading, Starts, bytes_of}
-use Rattle.rb_outside.specs.Started.{stored_files, IsOpen, Begins, reading_at}
+use Rattle.rb_outside.specs.Outside.{File, bytes_of}
+use Rattle.rb_outside.specs.Started.{stored_files, Begins, reading_at}
 
 -- the bytes of a name whose first file stands first
 bytes_of-first : (file : File) (files : List File) (name : List ℕ) → true ≡ pointwise nat_eq file.name name → bytes_of (file ∷ files) name ≡ Some file.bytes
@@ -24,14 +24,14 @@ pub Begins-found : (pairs : List (Vec ℕ Global × Vec ℕ Global)) (name : Lis
 Begins-found pairs name at pair lt is none same =
     let file : File = record { name = pair.0.items; bytes = pair.1.items } in
     let here : slice_get (stored_files pairs) at ≡ Some file =
-        slice_get-map (λ p. record { name = p.0.items; bytes = p.1.items }) pairs at
-        ∙ ap (option_map (λ p. record { name = p.0.items; bytes = p.1.items })) (slice_get_read pairs (length pairs) at pair refl lt is) in
+    slice_get-map (λ p. record { name = p.0.items; bytes = p.1.items }) pairs at
+    ∙ ap (option_map (λ p. record { name = p.0.items; bytes = p.1.items })) (slice_get_read pairs (length pairs) at pair refl lt is) in
     let named : file.name ≡ name = same_text file.name name same in
     let first : bytes_of (stored_files pairs) name ≡ Some file.bytes = bytes_of-here pairs name at pair lt is none same in
     let own : bytes_of (stored_files pairs) file.name ≡ Some file.bytes = subst (λ (n : List ℕ). bytes_of (stored_files pairs) n ≡ Some file.bytes) (sym named) first in
     let now : reading_at (stored_files pairs) (Some (record { file = at; passed = 0 })) ≡ Some (record { name = name; passed = 0 }) =
-        ap (option_map (λ f. record { name = f.name; passed = 0 })) here ∙ ap (λ (n : List ℕ). Some (record { name = n; passed = 0 })) named in
+    ap (option_map (λ f. record { name = f.name; passed = 0 })) here ∙ ap (λ (n : List ℕ). Some (record { name = n; passed = 0 })) named in
     record {
-        is_open = record { file = file; here = here; first = own; within = omega arith };
-        starts = (now, (file.bytes, first))
+      is_open = record { file = file; here = here; first = own; within = omega arith };
+      starts = (now, (file.bytes, first));
     }

@@ -1,5 +1,5 @@
 -- What contracts say of a file that the host has opened.
-use Rattle.std.specs.Prelude.{List, [], Option, Some, None}
+use Rattle.std.specs.Prelude.{[], Option, Some, None}
 use Rattle.rb_outside.specs.Outside.{Reading}
 
 -- a file is read; which one, and how far, is not told

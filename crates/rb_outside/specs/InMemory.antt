@@ -1,5 +1,5 @@
 -- What contracts say of files and of output that are kept in memory, with calls that fail by their number.
-use Rattle.std.specs.Prelude.{ℕ, ◌+◌, ◌-◌, ◌^◌, min, nat_eq, Bool, true, ◌||◌, List, [], ◌++◌, length, take, drop, Option, Some, None, cond}
+use Rattle.std.specs.Prelude.{ℕ, ◌+◌, ◌-◌, ◌^◌, min, nat_eq, Bool, ◌||◌, List, [], ◌++◌, length, take, drop, Option, Some, None, cond}
 use Rattle.std.specs.List.{list_any}
 use Rattle.std.specs.Option.{option_map, unwrap_or}
 use Rattle.rb_outside.specs.Outside.{File, Reading, bytes_of}
@@ -23,7 +23,7 @@ abbrev pub after_call : Bool → CallsMade → CallsMade
 after_call fault calls = record {
   failing = calls.failing;
   next = one_more calls.next;
-  faults = cond fault (one_more calls.faults) calls.faults
+  faults = cond fault (one_more calls.faults) calls.faults;
 }
 
 -- Files in memory: what is started, and how many bytes a piece has at most.
@@ -43,7 +43,7 @@ after_start shelf name = record {
   files = shelf.files;
   calls = after_call (fails shelf.calls) shelf.calls;
   reading = cond (fails shelf.calls) None (begun shelf.files name);
-  most = shelf.most
+  most = shelf.most;
 }
 
 -- what is left of the file that is read
@@ -65,7 +65,7 @@ after_piece shelf room = record {
   files = shelf.files;
   calls = after_call (fails shelf.calls) shelf.calls;
   reading = cond (fails shelf.calls) shelf.reading (pass (length (piece_of shelf room)) shelf.reading);
-  most = shelf.most
+  most = shelf.most;
 }
 
 -- Output in memory, and how many bytes there is room for.
@@ -87,5 +87,5 @@ abbrev pub after_put : StoredOutput → List ℕ → StoredOutput
 after_put out bytes = record {
   bytes = out.bytes ++ cond (put_fails out) [] (fitting out bytes);
   room = out.room;
-  calls = after_call (put_fails out) out.calls
+  calls = after_call (put_fails out) out.calls;
 }

@@ -1,5 +1,6 @@
 ghost use Rattle.std.specs.Prelude.{◌≡◌, ℕ, ◌<◌, ◌≤◌, List, [], length, take, drop, IfOk, OnOk, OnErr, vec_len, vec_capacity};
 ghost use Rattle.rb_outside.specs.Outside.{Rose, then_written};
+ghost use Rattle.rb_outside.specs.declared.buffered.TheConstants.{ROOM};
 
 use crate::{Failed, Memory, Sink};
 use std::alloc::Global;
@@ -14,7 +15,7 @@ pub struct Buffered<S: Sink> {
     sink: S,
     bytes: Vec<u8>,
     passed_on: usize,
-    ghost holds: { (passed_on ≤ vec_len bytes) × (vec_len bytes ≤ 65536) × (65536 ≤ vec_capacity bytes) },
+    ghost holds: { (passed_on ≤ vec_len bytes) × (vec_len bytes ≤ ROOM) × (ROOM ≤ vec_capacity bytes) },
 }
 
 impl<S: Sink + Drop> Buffered<S> {
@@ -33,11 +34,18 @@ impl<S: Sink + Drop> Buffered<S> {
 }
 
 impl<S: Sink> Buffered<S> {
+    /// The sink behind the buffer.
+    pub fn sink(&self) -> &S
+        ensures { result.now ≡ self.now.sink }
+    {
+        &self.sink
+    }
+
     /// Puts all that waits into the sink. After `Failed` a part may have been put, and the rest still waits.
     pub fn flush(&mut self) -> Result<(), Failed>
-        ensures waits { OnOk result (drop self.new.passed_on self.new.bytes.items ≡ []) }
         ensures empty { OnOk result (self.new.bytes.items ≡ []) }
-        ensures written { then_written (S.written self.new.sink) (drop self.new.passed_on self.new.bytes.items) ≡ then_written (S.written self.old.sink) (drop self.old.passed_on self.old.bytes.items) }
+        ensures ok { OnOk result (S.written self.new.sink ≡ ⟦<Buffered<S> as Sink>⟧.written self.old) }
+        ensures written { ⟦<Buffered<S> as Sink>⟧.written self.new ≡ ⟦<Buffered<S> as Sink>⟧.written self.old }
         ensures failed { OnErr result (Rose (S.faults self.old.sink) (S.faults self.new.sink)) }
         ensures faults { S.faults self.old.sink ≤ S.faults self.new.sink }
     {

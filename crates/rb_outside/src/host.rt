@@ -88,3 +88,23 @@ impl<R: Print> Sink for HostSink<'_, R> {
         }
     }
 }
+
+#[cfg(test)]
+mod tests {
+    use super::*;
+    use crate::put_all;
+
+    #[test]
+    fn missing_file_fails(rt: HostRuntime) {
+        let mut shelf = HostShelf::new(&rt);
+        assert_eq!(rt; shelf.start("no such file"), Err(Failed));
+        assert_eq!(rt; shelf.faults, 1);
+    }
+
+    #[test]
+    fn line_is_written(rt: HostRuntime) {
+        let mut sink = HostSink::new(&rt);
+        assert_eq!(rt; put_all(&mut sink, b"a line\n"), Ok(()));
+        assert_eq!(rt; sink.faults, 0);
+    }
+}

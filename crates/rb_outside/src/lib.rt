@@ -9,6 +9,8 @@ pub mod memory_sink;
 pub mod put;
 pub mod shelf;
 pub mod sink;
+#[cfg(test)]
+mod tests;
 
 pub use buffered::Buffered;
 pub use host::{HostShelf, HostSink};
@@ -17,7 +19,6 @@ pub use memory_sink::MemorySink;
 pub use put::{put_all, put_number};
 pub use shelf::Shelf;
 pub use sink::Sink;
-
 use std::alloc::AllocError;
 
 /// A read or a write failed. The object's count of faults says that it did.

@@ -1,4 +1,4 @@
-use Rattle.std.proofs.Common.{◌≡◌, ℕ, ◌≤◌, ◌++◌, length, take, drop, sym, subst, ap, ◌∙◌, arith}
+use Rattle.std.proofs.Common.{◌≡◌, ◌++◌, take, sym, subst, ap, ◌∙◌, arith}
 use Rattle.rb_outside.specs.Outside.{then_written}
 use Rattle.rb_outside.proofs.Written.{WrotePart, WrotePart-front, OnErr-from, then_written-append, cut-after}
 use Rattle.rb_outside.proofs.put.put_all.Goals as goal
@@ -15,10 +15,9 @@ returns-in_err-n-clause-err g c =
 pub loop-rest-preserved : goal.loop-rest-preserved
 loop-rest-preserved g c =
     let done = c.loop-rest.invariant in
-    let now = take c.in_ok-n.n c.loop-rest.rest.now in
-    (
-        done.0 ++ now,
-        cut-after c.args.bytes.now done.0 c.loop-rest.rest.now c.in_ok-n.n done.1,
-        c.in_ok-n.ensures.ok ∙ ap (λ w. then_written w now) done.2 ∙ then_written-append _ done.0 now,
-        omega arith
+    let now = take c.in_ok-n.n c.loop-rest.rest.now in (
+      done.0 ++ now,
+      cut-after c.args.bytes.now done.0 c.loop-rest.rest.now c.in_ok-n.n done.1,
+      c.in_ok-n.ensures.ok ∙ ap (λ w. then_written w now) done.2 ∙ then_written-append _ done.0 now,
+      omega arith,
     )
