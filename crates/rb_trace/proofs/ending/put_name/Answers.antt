@@ -1,0 +1,6 @@
+use Rattle.std.proofs.Common.{[], ◌∷◌}
+use Rattle.rb_outside.proofs.Puts.{puts_both}
+use Rattle.rb_trace.proofs.ending.put_name.Goals as goal
+
+pub returns : goal.returns
+returns g c = puts_both c.args.process.now (46 ∷ c.args.variable.now) _ _ _ _ _ _ _ _ c.in_ok-put.ensures c.put_after.ensures

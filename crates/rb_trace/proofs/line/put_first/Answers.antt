@@ -1,0 +1,9 @@
+use Rattle.std.proofs.Common.{ℕ, List, Bor, [], ◌∷◌, ◌++◌, map, sym, codes}
+use Rattle.std.specs.Fmt.{signed_decimal}
+use Rattle.rb_outside.proofs.Puts.{puts_both, puts_same}
+use Rattle.rb_trace.specs.Lines.{spaced}
+use Rattle.rb_trace.proofs.Spaced.{line_of-spaced}
+use Rattle.rb_trace.proofs.line.put_first.Goals as goal
+
+pub returns : goal.returns
+returns g c = puts_both c.args.first.now (spaced (map (λ (word : Bor (List ℕ)). word.now) c.args.others.now) ++ 10 ∷ []) _ _ _ _ _ _ _ _ c.in_ok-put.ensures c.put_rest.ensures

@@ -1,0 +1,55 @@
+ghost use Rattle.std.specs.Prelude.{◌≡◌, ℕ, List, [], ◌∷◌, ◌++◌, map};
+ghost use Rattle.rb_outside.specs.Puts.{Puts};
+ghost use Rattle.rb_world.specs.Text.{line_of};
+ghost use Rattle.rb_trace.specs.Lines.{spaced, spaced_word};
+
+use rb_outside::put::put_all;
+use rb_outside::{Failed, Sink};
+
+/// Writes words with one blank between them, and LF.
+pub fn put_line<S: Sink>(out: &mut S, words: &[&[u8]]) -> Result<(), Failed>
+    ensures { Puts (line_of (map (λ word. word.now) words.now)) (S.written out.old) (S.written out.new) (S.faults out.old) (S.faults out.new) result }
+{
+    match words {
+        [] => put(out, b"\n"),
+        [first, others @ ..] => put_first(out, first, others),
+    }
+}
+
+fn put_first<S: Sink>(out: &mut S, first: &[u8], others: &[&[u8]]) -> Result<(), Failed>
+    ensures { Puts (first.now ++ (spaced (map (λ word. word.now) others.now) ++ 10 ∷ [])) (S.written out.old) (S.written out.new) (S.faults out.old) (S.faults out.new) result }
+{
+    put(out, first)?;
+    put_rest(out, others)
+}
+
+fn put_rest<S: Sink>(out: &mut S, others: &[&[u8]]) -> Result<(), Failed>
+    ensures { Puts (spaced (map (λ word. word.now) others.now) ++ 10 ∷ []) (S.written out.old) (S.written out.new) (S.faults out.old) (S.faults out.new) result }
+{
+    put_others(out, others)?;
+    put(out, b"\n")
+}
+
+/// Writes bytes.
+pub fn put<S: Sink>(out: &mut S, bytes: &[u8]) -> Result<(), Failed>
+    ensures { Puts bytes.now (S.written out.old) (S.written out.new) (S.faults out.old) (S.faults out.new) result }
+{
+    put_all(out, bytes)
+}
+
+// Each word with a blank before it.
+fn put_others<S: Sink>(out: &mut S, words: &[&[u8]]) -> Result<(), Failed>
+    ensures { Puts (spaced (map (λ word. word.now) words.now)) (S.written out.old) (S.written out.new) (S.faults out.old) (S.faults out.new) result }
+{
+    for word in words {
+        put_spaced(out, word)?;
+    }
+    Ok(())
+}
+
+fn put_spaced<S: Sink>(out: &mut S, word: &[u8]) -> Result<(), Failed>
+    ensures { Puts (spaced_word word.now) (S.written out.old) (S.written out.new) (S.faults out.old) (S.faults out.new) result }
+{
+    put(out, b" ")?;
+    put(out, word)
+}
