@@ -98,9 +98,11 @@ mod tests {
     const NAME: &str = "rb_outside_test_file";
 
     #[test]
-    fn file_is_read(rt: HostRuntime) -> Result<(), Fail> {
-        fs::write(&rt, NAME, "abcde")?;
+    fn files_are_read(rt: HostRuntime) -> Result<(), Fail> {
         let mut shelf = HostShelf::new(&rt);
+        assert_eq!(rt; shelf.start("no such file"), Err(Failed));
+        assert_eq!(rt; shelf.faults, 1);
+        fs::write(&rt, NAME, "abcde")?;
         let mut buffer = [0; 4];
         shelf.start(NAME).ok().ok_or("start")?;
         for (answer, front) in [(4, "abcd"), (1, "e"), (0, "")] {
@@ -110,13 +112,6 @@ mod tests {
         }
         fs::remove_file(&rt, NAME)?;
         Ok(())
-    }
-
-    #[test]
-    fn missing_file_fails(rt: HostRuntime) {
-        let mut shelf = HostShelf::new(&rt);
-        assert_eq!(rt; shelf.start("no such file"), Err(Failed));
-        assert_eq!(rt; shelf.faults, 1);
     }
 
     #[test]
