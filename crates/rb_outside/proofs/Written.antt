@@ -2,7 +2,7 @@
 use Rattle.std.proofs.Common.{◌≡◌, ℕ, ◌+◌, ◌-◌, ◌≤◌, List, [], ◌++◌, length, take, drop, Option, None, Some, Result, Ok, Err, OnErr, refl, sym, ap, subst, ◌∙◌, append_assoc, arith, length-append}
 use Rattle.std.proofs.lemmas.List.{append-nil, take-append-le, take-append-drop, length-drop, drop-drop}
 use Rattle.std.proofs.Math.Seq.{take-append-add, take-append_seam, take-length}
-use Rattle.rb_outside.specs.Outside.{Rose, then_written}
+use Rattle.rb_outside.specs.Outside.{Rose, then_written, WrotePart}
 
 -- two writes are one of both texts
 pub then_written-append : (w : Option (List ℕ)) (a b : List ℕ) → then_written (then_written w a) b ≡ then_written w (a ++ b)
@@ -13,10 +13,6 @@ then_written-append (Some old) a b = ap (λ (x : List ℕ). Some x) (append_asso
 pub then_written-nil : (w : Option (List ℕ)) → then_written w [] ≡ w
 then_written-nil None = refl
 then_written-nil (Some old) = ap (λ (x : List ℕ). Some x) (append-nil old)
-
--- a prefix of these bytes was written
-abbrev pub WrotePart : Option (List ℕ) → Option (List ℕ) → List ℕ → Type 0
-WrotePart old new bytes = (k : ℕ) × (k ≤ length bytes) × (new ≡ then_written old (take k bytes))
 
 -- the first part was written, and nothing of the second
 pub WrotePart-front : (w0 w1 : Option (List ℕ)) (a b : List ℕ) → w1 ≡ then_written w0 a → WrotePart w0 w1 (a ++ b)

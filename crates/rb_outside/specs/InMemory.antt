@@ -10,6 +10,10 @@ pub record CallsMade : Type 0 where
   pub next : ℕ
   pub faults : ℕ
 
+-- no call was made yet
+abbrev pub uncalled : List ℕ → CallsMade
+uncalled failing = record { failing = failing; next = 0; faults = 0 }
+
 -- one more, or the last value
 abbrev pub one_more : ℕ → ℕ
 one_more n = min (n + 1) (2 ^ 64 - 1)

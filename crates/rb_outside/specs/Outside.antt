@@ -50,3 +50,7 @@ Reads (Some files) (Some old) now buffer n = Passes files old now buffer n
 -- what is written after more bytes, where the sink tells it
 abbrev pub then_written : Option (List ℕ) → List ℕ → Option (List ℕ)
 then_written written bytes = option_map (λ old. old ++ bytes) written
+
+-- a prefix of these bytes was written
+abbrev pub WrotePart : Option (List ℕ) → Option (List ℕ) → List ℕ → Type 0
+WrotePart before after bytes = (k : ℕ) × (k ≤ length bytes) × (after ≡ then_written before (take k bytes))

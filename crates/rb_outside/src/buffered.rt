@@ -1,4 +1,4 @@
-ghost use Rattle.std.specs.Prelude.{◌≡◌, ℕ, ◌<◌, ◌≤◌, List, [], length, take, drop, IfOk, OnOk, OnErr, vec_len, vec_capacity};
+ghost use Rattle.std.specs.Prelude.{◌≡◌, ◌≤◌, [], drop, IfOk, OnOk, OnErr, vec_len, vec_capacity};
 ghost use Rattle.rb_outside.specs.Outside.{Rose, then_written};
 ghost use Rattle.rb_outside.specs.declared.buffered.TheConstants.{ROOM};
 
@@ -8,8 +8,8 @@ use std::alloc::Global;
 /// How many bytes a buffer holds.
 const ROOM: usize = 65536;
 
-/// A sink with a buffer in front, so that many short texts cost one put. What it means to have been written is
-/// what the sink took and then what waits in the buffer: call `flush` in the end.
+/// A sink with a buffer in front, so that many short texts cost one put. What is written to it is what the sink
+/// has, and then what waits in the buffer: call `flush` in the end.
 #[derive(Drop)]
 pub struct Buffered<S: Sink> {
     sink: S,
@@ -69,6 +69,7 @@ impl<S: Sink> Sink for Buffered<S> {
             self.flush()?;
         }
         let n = bytes.len().min(ROOM - self.bytes.len());
+        // The room was reserved, so this takes no memory and does not fail.
         self.bytes.extend_from_slice(&bytes[..n]).unwrap();
         Ok(n)
     }

@@ -1,5 +1,5 @@
 ghost use Rattle.std.specs.Prelude.{◌≡◌, ◌≤◌, is_err};
-ghost use Rattle.rb_outside.specs.InMemory.{after_call, fails, one_more};
+ghost use Rattle.rb_outside.specs.InMemory.{after_call, fails, one_more, uncalled};
 
 use crate::Failed;
 use std::marker::Model;
@@ -23,7 +23,7 @@ impl Model for Calls {
 impl Calls {
     /// No call was made yet.
     pub fn new(failing: Vec<u64>) -> Self
-        ensures { result ≡ record { failing = failing.items; next = 0; faults = 0 } }
+        ensures { result ≡ uncalled failing.items }
     {
         Calls {
             failing,

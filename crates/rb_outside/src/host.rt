@@ -93,12 +93,25 @@ impl<R: Print> Sink for HostSink<'_, R> {
 mod tests {
     use super::*;
     use crate::put_all;
+    use std::test::Fail;
+
+    const NAME: &str = "rb_outside_test_file";
 
     #[test]
-    fn missing_file_fails(rt: HostRuntime) {
+    fn files_are_read(rt: HostRuntime) -> Result<(), Fail> {
         let mut shelf = HostShelf::new(&rt);
         assert_eq!(rt; shelf.start("no such file"), Err(Failed));
         assert_eq!(rt; shelf.faults, 1);
+        fs::write(&rt, NAME, "abcde")?;
+        let mut buffer = [0; 4];
+        shelf.start(NAME).ok().ok_or("start")?;
+        for (answer, front) in [(4, "abcd"), (1, "e"), (0, "")] {
+            let n = shelf.piece(&mut buffer).ok().ok_or("piece")?;
+            assert_eq!(rt; n, answer);
+            assert_eq!(rt; &buffer[..n], front.as_bytes());
+        }
+        fs::remove_file(&rt, NAME)?;
+        Ok(())
     }
 
     #[test]

@@ -1,6 +1,6 @@
-ghost use Rattle.std.specs.Prelude.{◌≡◌, ℕ, ◌+◌, ◌-◌, ◌^◌, ◌<◌, ◌≤◌, ◌⊎◌, ◌||◌, ◌++◌, min, List, Option, None, Some, length, take, drop, IsSome, IfOk, OnOk, OnErr, MatchOption, is_err, is_none};
+ghost use Rattle.std.specs.Prelude.{◌≡◌, ◌+◌, ◌-◌, ◌^◌, ◌<◌, ◌≤◌, ◌⊎◌, ◌||◌, ◌++◌, min, None, Some, length, take, drop, IsSome, IfOk, OnOk, OnErr, is_err, is_none};
 ghost use Rattle.rb_outside.specs.Outside.{Rose, IsMissing, Starts, Reads, bytes_of};
-ghost use Rattle.rb_outside.specs.InMemory.{fails, after_start, rest_of, piece_of, after_piece};
+ghost use Rattle.rb_outside.specs.InMemory.{fails, after_start, rest_of, piece_of, after_piece, uncalled};
 ghost use Rattle.rb_outside.specs.Started.{stored_files, Begins, IsOpen, reading_at};
 
 use crate::calls::Calls;
@@ -24,7 +24,7 @@ pub struct MemoryShelf {
 }
 
 impl Model for MemoryShelf {
-    ghost use Rattle.std.specs.Prelude.{ℕ, ◌<◌};
+    ghost use Rattle.std.specs.Prelude.{◌<◌};
     ghost use Rattle.rb_outside.specs.InMemory.{StoredFiles};
 
     ghost Value = { StoredFiles };
@@ -39,7 +39,7 @@ impl Model for MemoryShelf {
 impl MemoryShelf {
     /// Files, each as its name and its bytes; of two with one name the first counts. The calls with these numbers fail.
     pub fn new(files: Vec<(Vec<u8>, Vec<u8>)>, failing: Vec<u64>) -> Self
-        ensures { result ≡ record { files = stored_files files.items; calls = record { failing = failing.items; next = 0; faults = 0 }; reading = None; most = 2 ^ 64 - 1 } }
+        ensures { result ≡ record { files = stored_files files.items; calls = uncalled failing.items; reading = None; most = 2 ^ 64 - 1 } }
     {
         MemoryShelf::in_pieces(files, failing, usize::MAX)
     }
@@ -47,7 +47,7 @@ impl MemoryShelf {
     /// The same, where a piece has at most so many bytes.
     pub fn in_pieces(files: Vec<(Vec<u8>, Vec<u8>)>, failing: Vec<u64>, most: usize) -> Self
         requires { 0 < most }
-        ensures { result ≡ record { files = stored_files files.items; calls = record { failing = failing.items; next = 0; faults = 0 }; reading = None; most = most } }
+        ensures { result ≡ record { files = stored_files files.items; calls = uncalled failing.items; reading = None; most = most } }
     {
         MemoryShelf {
             files,
@@ -81,13 +81,14 @@ impl Shelf for MemoryShelf {
         Ok(())
     }
 
-    /// It gives as many bytes as fit. It fails exactly where its number is listed.
+    /// It gives as many bytes as fit, within the most that a piece has. It fails exactly where its number is listed.
     fn piece(&mut self, buffer: &mut [u8]) -> Result<usize, Failed>
         requires started { IsSome self.old.reading }
         requires room { 0 < length buffer.old }
         ensures exact { is_err result ≡ fails self.old.calls }
         ensures size { IfOk result (λ n. n ≡ length (piece_of self.old (length buffer.old))) }
         ensures bytes { OnOk result (let piece = piece_of self.old (length buffer.old) in buffer.new ≡ piece ++ drop (length piece) buffer.old) }
+        ensures kept { OnErr result (buffer.new ≡ buffer.old) }
         ensures after { self.new ≡ after_piece self.old (length buffer.old) }
         ensures files { Some self.new.files ≡ Some self.old.files }
         ensures fits { IfOk result (λ n. n ≤ length buffer.new) }

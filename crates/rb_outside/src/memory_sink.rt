@@ -1,6 +1,6 @@
-ghost use Rattle.std.specs.Prelude.{◌≡◌, ℕ, ◌<◌, ◌≤◌, List, [], Option, Some, length, take, IfOk, OnErr, is_err};
+ghost use Rattle.std.specs.Prelude.{◌≡◌, ◌<◌, ◌≤◌, [], Some, length, take, IfOk, OnErr, is_err};
 ghost use Rattle.rb_outside.specs.Outside.{Rose, then_written};
-ghost use Rattle.rb_outside.specs.InMemory.{put_fails, fitting, after_put};
+ghost use Rattle.rb_outside.specs.InMemory.{put_fails, fitting, after_put, uncalled};
 
 use crate::calls::Calls;
 use crate::{Failed, Memory, Sink};
@@ -29,7 +29,7 @@ impl Model for MemorySink {
 impl MemorySink {
     /// Reserves the room, so that no later call takes memory. The calls with these numbers fail.
     pub fn new(alloc: Global, room: usize, failing: Vec<u64>) -> Result<Self, Memory>
-        ensures { IfOk result (λ sink. sink ≡ record { bytes = []; room = room; calls = record { failing = failing.items; next = 0; faults = 0 } }) }
+        ensures { IfOk result (λ sink. sink ≡ record { bytes = []; room = room; calls = uncalled failing.items }) }
     {
         let bytes = Vec::with_capacity(alloc, room)?;
         let calls = Calls::new(failing);
@@ -68,6 +68,7 @@ impl Sink for MemorySink {
             self.calls.count_fault();
             return Err(Failed);
         }
+        // The room was reserved, so this takes no memory and does not fail.
         self.bytes.extend_from_slice(&bytes[..n]).unwrap();
         Ok(n)
     }

@@ -1,6 +1,6 @@
 use Rattle.std.proofs.Common.{◌≡◌, ◌++◌, take, sym, subst, ap, ◌∙◌, arith}
-use Rattle.rb_outside.specs.Outside.{then_written}
-use Rattle.rb_outside.proofs.Written.{WrotePart, WrotePart-front, OnErr-from, then_written-append, cut-after}
+use Rattle.rb_outside.specs.Outside.{then_written, WrotePart}
+use Rattle.rb_outside.proofs.Written.{WrotePart-front, OnErr-from, then_written-append, cut-after}
 use Rattle.rb_outside.proofs.put.put_all.Goals as goal
 
 pub returns-in_err-n-clause-err : goal.returns-in_err-n-clause-err
