@@ -1,3 +1,6 @@
 pub mod Reserved
 pub mod Digits
 pub mod Steps
+pub mod Fronts
+pub mod Landing
+pub mod Lists
