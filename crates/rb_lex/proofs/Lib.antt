@@ -4,3 +4,5 @@ pub mod Steps
 pub mod Fronts
 pub mod Landing
 pub mod Lists
+pub mod Standing
+pub mod Counting

@@ -4,6 +4,7 @@
 mod bytes;
 mod cut;
 mod gap;
+pub mod laws;
 pub mod lexer;
 mod marks;
 mod numbers;
