@@ -11,14 +11,14 @@ use crate::words::name_cut;
 use rb_base::FaultName;
 
 // A token at the front of the bytes, with its size.
-#[derive(Clone, Copy, Debug)]
+#[derive(Clone, Copy)]
 pub(crate) struct Cut {
     pub(crate) kind: Kind,
     pub(crate) size: usize,
 }
 
 // A fault, so many bytes after the front.
-#[derive(Clone, Copy, Debug)]
+#[derive(Clone, Copy)]
 pub(crate) struct Stop {
     pub(crate) name: FaultName,
     pub(crate) offset: usize,

@@ -15,3 +15,6 @@ mod words;
 
 pub use lexer::Lexer;
 pub use token::{Kind, Token};
+
+#[cfg(test)]
+mod tests;
