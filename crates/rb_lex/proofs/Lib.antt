@@ -6,3 +6,4 @@ pub mod Landing
 pub mod Lists
 pub mod Standing
 pub mod Counting
+pub mod Answered

@@ -1,10 +1,13 @@
 -- Laws of the token lists of texts.
-use Rattle.std.specs.Prelude.{◌≡◌, ℕ, ◌+◌, ◌<◌, ◌==◌, not, ◌⊎◌, List, [], ◌∷◌, ◌++◌, All, AllPairs, count_by}
+use Rattle.std.specs.Prelude.{◌≡◌, ℕ, ◌+◌, ◌<◌, ◌==◌, not, ◌⊎◌, List, [], ◌∷◌, ◌++◌, length, All, AllPairs, count_by, Option, Some, None, Result, Ok, Err}
 use Rattle.std.specs.List.{suffix_len}
 use Rattle.rb_base.specs.declared.place.Place.{Place}
 use Rattle.rb_lex.specs.Bytes.{first_place, place_past}
 use Rattle.rb_lex.specs.Tokens.{Lexeme, Ending, AtEnd, AtFault, Tokens}
-use Rattle.rb_lex.specs.TokenList.{tokens_of, ending_of}
+use Rattle.rb_base.specs.declared.fault.SourceFault.{SourceFault}
+use Rattle.rb_lex.specs.declared.token.Token.{Token}
+use Rattle.rb_lex.specs.Reader.{Reader, lexeme_of, Answers}
+use Rattle.rb_lex.specs.TokenList.{tokens_of, ending_of, tokens_left, ending_left}
 
 -- a text has one token list and one ending
 abbrev pub HasOneTokenList : Type 0
@@ -45,3 +48,20 @@ since_last_lf bytes = suffix_len (λ b. not (b == 10)) bytes
 -- a line counts the LF before it, and a column the bytes since the last of them
 abbrev pub PlacesCount : Type 0
 PlacesCount = (before : List ℕ) → place_past first_place before ≡ record { line = 1 + count_by (λ b. b == 10) before; column = 1 + since_last_lf before }
+
+-- What a lexer answers is the first of the tokens that it has left, or their ending. Each token leaves fewer bytes.
+abbrev pub AnswersFirst : Type 0
+AnswersFirst = (old new : Reader) (token : Token) → Answers old (Ok (Some token)) new → (tokens_left old ≡ lexeme_of token ∷ tokens_left new) × (ending_left old ≡ ending_left new) × (length new.left < length old.left)
+
+abbrev pub AnswersEnd : Type 0
+AnswersEnd = (old new : Reader) → Answers old (Ok None) new → (tokens_left old ≡ []) × (ending_left old ≡ AtEnd new.place)
+
+abbrev pub AnswersFault : Type 0
+AnswersFault = (old new : Reader) (fault : SourceFault) → Answers old (Err fault) new → (tokens_left old ≡ []) × (ending_left old ≡ AtFault fault)
+
+-- the end, or a fault, is answered again, and nothing changes
+abbrev pub EndStays : Type 0
+EndStays = (a b c : Reader) (outcome : Result (Option Token) SourceFault) → Answers a (Ok None) b → Answers b outcome c → (outcome ≡ Ok None) × (c ≡ b)
+
+abbrev pub FaultStays : Type 0
+FaultStays = (a b c : Reader) (fault : SourceFault) (outcome : Result (Option Token) SourceFault) → Answers a (Err fault) b → Answers b outcome c → (outcome ≡ Err fault) × (c ≡ b)

@@ -2,6 +2,7 @@
 use Rattle.std.specs.Prelude.{ℕ, zero, suc, Bool, false, List, [], ◌∷◌, length}
 use Rattle.rb_base.specs.declared.place.Place.{Place}
 use Rattle.rb_lex.specs.Bytes.{first_place}
+use Rattle.rb_lex.specs.Reader.{Reader}
 use Rattle.rb_lex.specs.Tokens.{Lexeme, Next, End, Found, Refused, Ending, AtEnd, AtFault, next_from, is_second}
 
 -- the token that comes next, if one does, and those after it
@@ -37,3 +38,10 @@ tokens_of bytes = tokens_from (is_second bytes) first_place bytes
 
 abbrev pub ending_of : List ℕ → Ending
 ending_of bytes = ending_from (is_second bytes) first_place bytes
+
+-- those that a lexer has still to answer
+abbrev pub tokens_left : Reader → List Lexeme
+tokens_left reader = tokens_from reader.second reader.place reader.left
+
+abbrev pub ending_left : Reader → Ending
+ending_left reader = ending_from reader.second reader.place reader.left
