@@ -1,11 +1,10 @@
 -- What `next` answers, as tokens that are left.
-use Rattle.std.proofs.Common.{◌≡◌, ℕ, ◌<◌, Bool, false, List, [], ◌∷◌, length, refl, ap, sym, subst, ◌∙◌, arith, Option, Some, None, Result, Ok, Err}
-use Rattle.rb_base.specs.declared.place.Place.{Place}
+use Rattle.std.proofs.Common.{◌≡◌, false, [], ◌∷◌, refl, ap, sym, ◌∙◌, Option, Some, None, Result, Ok, Err}
 use Rattle.rb_base.specs.declared.fault.SourceFault.{SourceFault}
 use Rattle.rb_lex.specs.declared.token.Token.{Token}
 use Rattle.rb_lex.specs.Reader.{Reader, next_of, lexeme_of, Answers}
-use Rattle.rb_lex.specs.Tokens.{Lexeme, Next, End, Found, Refused, Ending, AtEnd, AtFault, next_from}
-use Rattle.rb_lex.specs.TokenList.{tokens_from, ending_from, tokens_left, ending_left}
+use Rattle.rb_lex.specs.Tokens.{End, Refused, next_from}
+use Rattle.rb_lex.specs.TokenList.{tokens_from, ending_from}
 use Rattle.rb_lex.specs.Laws.{AnswersFirst, AnswersEnd, AnswersFault, EndStays, FaultStays}
 use Rattle.rb_lex.proofs.Landing.{found-progress}
 use Rattle.rb_lex.proofs.Lists.{tokens_from-found, tokens_from-end, tokens_from-refused}

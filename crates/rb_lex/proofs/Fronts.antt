@@ -1,9 +1,9 @@
 -- What stands at a front is a part of the bytes that holds no LF, and a token takes a byte at least.
-use Rattle.std.proofs.Common.{◌≡◌, ℕ, pos, ◌+◌, ◌*◌, ◌-◌, ◌^◌, ◌==◌, ◌≤◌, ◌<◌, nat_lt, nat_le, nat_eq, Bool, true, false, not, ◌&&◌, ◌||◌, cond, List, [], ◌∷◌, ◌++◌, length, take, drop, take_while, codes, refl, ap, sym, subst, ◌∙◌, inl, inr, arith, length-take, length-append, append_assoc}
-use Rattle.std.specs.List.{list_all, list_any, prefix_len}
+use Rattle.std.proofs.Common.{◌≡◌, ℕ, pos, ◌+◌, ◌-◌, ◌^◌, ◌==◌, ◌≤◌, ◌<◌, nat_lt, nat_le, nat_eq, Bool, true, false, not, ◌&&◌, ◌||◌, cond, List, [], ◌∷◌, ◌++◌, length, take, take_while, codes, refl, ap, sym, subst, ◌∙◌, inl, inr, arith, length-take, length-append, append_assoc}
+use Rattle.std.specs.List.{list_all, prefix_len}
 use Rattle.std.specs.Cmp.Lexicographic.{pointwise, same_text}
 use Rattle.std.proofs.lemmas.Bool.{or_cases, or_left, and_from, and_parts, not_from_false, not-false, false_from_ne_true, eqb-true, true≢false, cond_both}
-use Rattle.std.proofs.lemmas.List.{take_at, length-take-le, append-nil}
+use Rattle.std.proofs.lemmas.List.{take_at, length-take-le}
 use Rattle.std.proofs.lemmas.List.Folds.{list_all-append}
 use Rattle.std.proofs.lemmas.List.Sums.{take_while-cons, prefix_len-le-length}
 use Rattle.rb_lex.specs.declared.token.Kind.{Kind}

@@ -1,10 +1,10 @@
 -- A text has one token list, which `tokens_of` computes.
-use Rattle.std.proofs.Common.{◌≡◌, ℕ, zero, suc, ◌+◌, ◌≤◌, ◌<◌, Bool, true, false, List, [], ◌∷◌, length, refl, ap, sym, ◌∙◌, arith}
+use Rattle.std.proofs.Common.{◌≡◌, ℕ, zero, suc, ◌≤◌, Bool, false, List, [], ◌∷◌, length, refl, ap, sym, ◌∙◌, arith}
 use Rattle.rb_base.specs.declared.place.Place.{Place}
 use Rattle.rb_base.specs.declared.fault.SourceFault.{SourceFault}
 use Rattle.rb_lex.specs.Bytes.{first_place}
-use Rattle.rb_lex.specs.Tokens.{Lexeme, Next, End, Found, Refused, Ending, AtEnd, AtFault, TokensFrom, no_more, one_more, a_fault, Tokens, next_from, is_second}
-use Rattle.rb_lex.specs.TokenList.{token_and, ending_and, tokens_within, ending_within, tokens_from, ending_from, tokens_of, ending_of}
+use Rattle.rb_lex.specs.Tokens.{Lexeme, Next, End, Found, Refused, Ending, AtEnd, AtFault, TokensFrom, no_more, one_more, a_fault, next_from, is_second}
+use Rattle.rb_lex.specs.TokenList.{token_and, ending_and, tokens_within, ending_within, tokens_from, ending_from}
 use Rattle.rb_lex.specs.Laws.{HasOneTokenList, HasTokenList}
 use Rattle.rb_lex.proofs.Landing.{found-progress}
 

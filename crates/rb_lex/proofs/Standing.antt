@@ -1,14 +1,13 @@
 -- The tokens of a text stand at their places in it, and their places rise.
-use Rattle.std.proofs.Common.{◌≡◌, ℕ, ◌+◌, ◌==◌, ◌≤◌, ◌<◌, Bool, true, false, not, cond, ◌⊎◌, inl, inr, List, [], ◌∷◌, ◌++◌, length, refl, ap, sym, subst, ◌∙◌, arith, append_assoc, All, AllPairs}
+use Rattle.std.proofs.Common.{◌≡◌, ℕ, ◌+◌, ◌==◌, ◌≤◌, ◌<◌, Bool, true, false, cond, ◌⊎◌, inl, inr, List, [], ◌∷◌, ◌++◌, length, refl, ap, sym, subst, ◌∙◌, arith, append_assoc, All, AllPairs}
 use Rattle.std.proofs.lemmas.List.Elements.{All-cons, All-nil}
 use Rattle.std.proofs.lemmas.List.Kept.{AllPairs-cons}
 use Rattle.std.proofs.lemmas.List.{append-nil}
 use Rattle.rb_base.specs.declared.place.Place.{Place}
-use Rattle.rb_base.specs.declared.fault.SourceFault.{SourceFault}
 use Rattle.rb_lex.specs.Bytes.{first_place, place_after, place_past}
-use Rattle.rb_lex.specs.Tokens.{Lexeme, Next, End, Found, Refused, Ending, AtEnd, AtFault, TokensFrom, no_more, one_more, a_fault, Tokens, next_from, is_second}
+use Rattle.rb_lex.specs.Tokens.{Lexeme, Found, Ending, TokensFrom, no_more, one_more, a_fault, next_from, is_second}
 use Rattle.rb_lex.specs.Laws.{StandsAt, TokensStand, IsBefore, TokensRise, EndingStandsAt, EndingStands}
-use Rattle.rb_lex.proofs.Landing.{FoundStands, FaultStands, NextStands, next_from-stands, found-stands}
+use Rattle.rb_lex.proofs.Landing.{FaultStands, NextStands, next_from-stands, found-stands}
 
 pub place_past-append : (p : Place) (xs ys : List ℕ) → place_past p (xs ++ ys) ≡ place_past (place_past p xs) ys
 place_past-append p [] ys = refl
