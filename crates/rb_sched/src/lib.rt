@@ -1,6 +1,8 @@
 // Schedules: the list of turns that a text asks for, read without taking memory.
 #![tactic(auto)]
 
+mod words;
+
 pub mod schedule;
 
 pub use schedule::Schedule;
