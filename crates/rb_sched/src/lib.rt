@@ -1,6 +1,7 @@
 // Schedules: the list of turns that a text asks for, read without taking memory.
 #![tactic(auto)]
 
+mod forms;
 mod words;
 
 pub mod schedule;
