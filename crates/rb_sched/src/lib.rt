@@ -2,6 +2,7 @@
 #![tactic(auto)]
 
 mod forms;
+mod rounds;
 mod words;
 
 pub mod schedule;
