@@ -1,5 +1,5 @@
 -- What the words of a line's definition say of the places where the code cuts it.
-use Rattle.std.proofs.Common.{◌≡◌, ℕ, suc, ◌+◌, ◌-◌, ◌*◌, ◌≤◌, min, ⊎_elim, List, [], ◌∷◌, Bool, true, false, cond, ◌&&◌, nat_eq, length, Option, take, drop, map, position, not, get_or, refl, ap, ◌∙◌, sym, arith}
+use Rattle.std.proofs.Common.{◌≡◌, ℕ, suc, ◌+◌, ◌-◌, ◌*◌, ◌≤◌, min, ⊎_elim, List, [], ◌∷◌, Bool, true, false, cond, ◌&&◌, nat_eq, length, Option, take, drop, vec_len, map, position, not, get_or, refl, ap, ◌∙◌, sym, arith}
 use Rattle.std.specs.List.{list_all, prefix_len}
 use Rattle.std.specs.Cmp.Lexicographic.{pointwise}
 use Rattle.std.proofs.lemmas.Bool.{cases_lt}
@@ -70,3 +70,6 @@ place_named names word ps r same found =
     found
     ∙ ap (position (λ process. pointwise nat_eq process.name word)) same
     ∙ sym (position_mapped (λ name. pointwise nat_eq name word) (λ process. process.name) names.processes.items)
+
+pub length_process_names : (names : Names) → length (process_names names) ≡ vec_len names.processes
+length_process_names names = length-map names.processes.items (λ process. process.name) ∙ sym names.processes.ok.0

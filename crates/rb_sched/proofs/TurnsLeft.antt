@@ -78,3 +78,7 @@ length_turns_left first end at (suc n) some =
     parts
     ∙ ap (λ m. m + length (rounds_over first (end - first) n)) (length-numbers_from at (end - at))
     ∙ ap (λ m. end - at + m) (length-rounds_over first (end - first) n ∙ mul_comm (end - first) n ∙ ap (λ m. m * (end - first)) (sym fewer))
+
+-- so many rounds have so many turns of each process
+pub length_rounds : (processes n : ℕ) → length (rounds processes n) ≡ processes * n
+length_rounds processes n = ap length (sym (rounds_over_all processes n)) ∙ length-rounds_over 0 processes n

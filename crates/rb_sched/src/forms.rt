@@ -1,4 +1,4 @@
-ghost use Rattle.std.specs.Prelude.{◌≡◌, ◌≤◌, IsTrue, min, nat_eq, position, vec_len};
+ghost use Rattle.std.specs.Prelude.{◌≡◌, ◌<◌, ◌≤◌, IfSome, IsTrue, min, nat_eq, position, vec_len};
 ghost use Rattle.std.specs.List.{list_all};
 ghost use Rattle.std.specs.Cmp.Lexicographic.{pointwise};
 ghost use Rattle.rb_sched.specs.Schedule.{is_letter, is_digit, is_name_byte, is_name, is_count, digits_value, process_names};
@@ -72,7 +72,8 @@ fn place_of(processes: &[ProcessNames], word: &[u8]) -> Option<usize>
 /// The process of this name.
 pub(crate) fn process_of(names: &Names, word: &[u8]) -> Option<u32>
     requires { vec_len names.now.processes ≤ 64 }
-    ensures { result ≡ position (λ name. pointwise nat_eq name word.now) (process_names names.now) }
+    ensures place { result ≡ position (λ name. pointwise nat_eq name word.now) (process_names names.now) }
+    ensures known { IfSome result (λ process. process < vec_len names.now.processes) }
 {
     let place = place_of(&names.processes, word)?;
     Some(place as u32)

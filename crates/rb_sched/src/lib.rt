@@ -2,6 +2,7 @@
 #![tactic(auto)]
 
 mod forms;
+mod line;
 mod rounds;
 mod words;
 
