@@ -6,6 +6,7 @@ mod line;
 mod rounds;
 mod words;
 
+pub mod laws;
 pub mod schedule;
 
 pub use schedule::Schedule;

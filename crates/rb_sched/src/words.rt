@@ -20,7 +20,7 @@ pub(crate) fn first_line(text: &[u8]) -> (&[u8], &[u8])
 }
 
 /// A line without the CR that may end it.
-#[tactic(auto, using(crate::proofs::Lines::without_cr_at))]
+#[tactic(auto, using(crate::proofs::Cuts::without_cr_at))]
 pub(crate) fn without_cr(line: &[u8]) -> &[u8]
     ensures { result.now ≡ without_cr line.now }
 {
