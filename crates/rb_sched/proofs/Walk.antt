@@ -1,6 +1,7 @@
 -- How the turns of a text follow from those of its lines.
 use Rattle.std.proofs.Common.{◌≡◌, ℕ, zero, suc, ◌+◌, ◌*◌, ◌≤◌, ◌<◌, List, [], ◌∷◌, ◌++◌, length, replicate, position, codes, nat_eq, Bool, true, false, cond, nat_lt, ◌==◌, ◌||◌, ◌&&◌, Option, Some, None, Result, Ok, Err, refl, ap, ◌∙◌, sym, subst, arith, append_assoc, length-append}
 use Rattle.std.specs.List.{AllByRecursion}
+use Rattle.std.specs.Result.{IsOk, is_ok}
 use Rattle.std.specs.Cmp.Lexicographic.{pointwise}
 use Rattle.std.proofs.lemmas.Bool.Decides.{nat_tests}
 use Rattle.std.proofs.lemmas.List.{length-replicate}
@@ -10,7 +11,7 @@ use Rattle.rb_base.specs.declared.fault.FaultName.{FaultName}
 use Rattle.rb_base.specs.declared.fault.FaultName.TheVariants.{T1, T2, T3, T4}
 use Rattle.rb_sched.specs.Schedule.{Whose, One, Everyone, most_turns, is_name, is_count, digits_value, whose, numbers_from, rounds, turns_of, count_of, counted_line, line_of_words, in_front, after_line, line_turns, lines_turns, lines_of, words_of, schedule_of}
 use Rattle.rb_sched.specs.Lines.{fitting}
-use Rattle.rb_sched.specs.Walk.{turns_in}
+use Rattle.rb_sched.specs.Walk.{turns_in, GoesOn}
 use Rattle.rb_sched.proofs.TurnsLeft.{length_rounds}
 
 -- every turn is that of one of so many processes
@@ -169,3 +170,52 @@ pub turns_known : (names : List (List ℕ)) (text turns : List ℕ) → schedule
 turns_known names text turns e =
     let ls = lines_known names (lines_of text) 0 1 turns (omega arith) e in
     (ls.known, omega (arith, ls.few))
+
+-- the turns so far of a text that is read up to a line
+pub record ReadUpTo (names : List (List ℕ)) (text : List ℕ) (total at : ℕ) (rest : List ℕ) : Type 0 where
+  pub front : List ℕ
+  pub goes_on : schedule_of names text ≡ in_front front (lines_turns names total at (lines_of rest))
+  pub counted : total ≡ length front
+  pub few : total ≤ 1000000
+
+in_front_twice : (front turns : List ℕ) (r : Result (List ℕ) TextFault) → in_front front (in_front turns r) ≡ in_front (front ++ turns) r
+in_front_twice front turns (Ok later) = ap (λ xs. Ok xs) (sym (append_assoc front turns later))
+in_front_twice front turns (Err fault) = refl
+
+pub read_more : (names : List (List ℕ)) (text line : List ℕ) (total at : ℕ) (rest after turns : List ℕ) (sum : ℕ) → ReadUpTo names text total at rest → lines_of rest ≡ line ∷ lines_of after → line_turns names total line ≡ Ok turns → sum ≡ total + length turns → sum ≤ 1000000 → ReadUpTo names text sum (at + 1) after
+read_more names text line total at rest after turns sum read cut given sum_is few = record {
+  front = read.front ++ turns;
+  goes_on =
+      read.goes_on
+      ∙ ap (λ lines. in_front read.front (lines_turns names total at lines)) cut
+      ∙ ap (λ first. in_front read.front (after_line first at (λ n. lines_turns names (total + n) (at + 1) (lines_of after)))) given
+      ∙ in_front_twice read.front turns (lines_turns names (total + length turns) (at + 1) (lines_of after))
+      ∙ ap (λ n. in_front (read.front ++ turns) (lines_turns names n (at + 1) (lines_of after))) (sym sum_is);
+  counted = omega (arith, length-append read.front turns, read.counted);
+  few = few;
+}
+
+-- a text without a fault has none after its first line, whose turns come first
+line_first : (names : List (List ℕ)) (text line after turns : List ℕ) → lines_of text ≡ line ∷ lines_of after → ((before : ℕ) → before ≤ 1000000 → line_turns names before line ≡ fitting before turns) → IsOk (schedule_of names text) → GoesOn names text turns after
+line_first names text line after turns cut given sound = by_turns (schedule_of names text) refl sound
+  where
+    by_turns : (r : Result (List ℕ) TextFault) → schedule_of names text ≡ r → IsOk r → GoesOn names text turns after
+    by_turns (Err fault) is sound = absurd (cc)
+    by_turns (Ok all) is sound =
+        let first = ap (lines_turns names 0 1) (sym cut) ∙ is in
+        let s = after_line-Ok (line_turns names 0 line) 1 (λ n. lines_turns names (0 + n) 2 (lines_of after)) all first in
+        let few : 0 ≤ 1000000 = omega arith in
+        let are = fitting-Ok 0 turns s.front (sym (given 0 few) ∙ s.first_is) in
+        let l = line_known names line 0 s.front few s.first_is in
+        let ls = lines_known names (lines_of after) (0 + length s.front) 2 s.later l.few s.others_are in
+        let later_is : schedule_of names after ≡ Ok s.later = ls.earlier 0 1 (omega arith) in
+        record {
+          sound = ap is_ok later_is;
+          joined = ap turns_in is ∙ sym s.joined ∙ (λ i. sym are.same i ++ turns_in (sym later_is i));
+        }
+
+-- a line more is read off
+pub goes_on_with : (names : List (List ℕ)) (text rest line after turns : List ℕ) → GoesOn names text [] rest → lines_of rest ≡ line ∷ lines_of after → ((before : ℕ) → before ≤ 1000000 → line_turns names before line ≡ fitting before turns) → GoesOn names text turns after
+goes_on_with names text rest line after turns so_far cut given =
+    let next = line_first names rest line after turns cut given so_far.sound in
+    record { sound = next.sound; joined = so_far.joined ∙ next.joined }

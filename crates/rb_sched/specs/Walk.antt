@@ -1,8 +1,15 @@
--- A schedule on its walk, and what a line's turns leave for the lines after it.
-use Rattle.std.specs.Prelude.{ℕ, List, [], Result, Ok, Err}
+-- A schedule on its walk: the turns that were read off its text, and the text that is left.
+use Rattle.std.specs.Prelude.{◌≡◌, ℕ, List, [], ◌++◌, Result, Ok, Err}
+use Rattle.std.specs.Result.{IsOk}
 use Rattle.rb_base.specs.declared.fault.TextFault.{TextFault}
+use Rattle.rb_sched.specs.Schedule.{schedule_of}
 
 -- the turns of a text that has no fault
 abbrev pub turns_in : Result (List ℕ) TextFault → List ℕ
 turns_in (Ok turns) = turns
 turns_in (Err fault) = []
+
+-- a text's turns are these and then those of the rest, which has no fault either
+pub record GoesOn (names : List (List ℕ)) (text turns rest : List ℕ) : Type 0 where
+  pub sound : IsOk (schedule_of names rest)
+  pub joined : turns_in (schedule_of names text) ≡ turns ++ turns_in (schedule_of names rest)

@@ -4,6 +4,7 @@
 mod forms;
 mod line;
 mod rounds;
+mod turns;
 mod words;
 
 pub mod laws;

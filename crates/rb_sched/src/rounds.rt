@@ -79,7 +79,8 @@ impl Rounds {
     /// How many turns are left.
     #[tactic(auto, using(crate::proofs::TurnsLeft::length_turns_left))]
     pub(crate) fn len(&self) -> u32
-        ensures { result ≡ length self.now }
+        ensures turns { result ≡ length self.now }
+        ensures few { result ≤ 64000000 }
     {
         if self.left == 0 {
             return 0;
