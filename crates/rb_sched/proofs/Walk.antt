@@ -1,18 +1,20 @@
 -- How the turns of a text follow from those of its lines.
-use Rattle.std.proofs.Common.{◌≡◌, ℕ, zero, suc, ◌+◌, ◌*◌, ◌≤◌, ◌<◌, List, [], ◌∷◌, ◌++◌, length, replicate, position, codes, nat_eq, Bool, true, false, cond, nat_lt, ◌==◌, ◌||◌, ◌&&◌, Option, Some, None, Result, Ok, Err, refl, ap, ◌∙◌, sym, subst, arith, append_assoc, length-append}
+use Rattle.std.proofs.Common.{◌≡◌, ℕ, zero, suc, ◌+◌, ◌*◌, ◌≤◌, ◌<◌, List, [], ◌∷◌, ◌++◌, length, replicate, position, codes, nat_eq, Bool, true, false, cond, nat_lt, vec_len, ◌==◌, ◌||◌, ◌&&◌, Option, Some, None, Result, Ok, Err, refl, ap, ◌∙◌, sym, subst, arith, append_assoc, length-append}
 use Rattle.std.specs.List.{AllByRecursion}
 use Rattle.std.specs.Result.{IsOk, is_ok}
 use Rattle.std.specs.Cmp.Lexicographic.{pointwise}
 use Rattle.std.proofs.lemmas.Bool.Decides.{nat_tests}
 use Rattle.std.proofs.lemmas.List.{length-replicate}
 use Rattle.std.proofs.lemmas.List.Quantifiers.{position-Some}
+use Rattle.rb_base.specs.declared.names.Names.{Names}
 use Rattle.rb_base.specs.declared.fault.TextFault.{TextFault}
 use Rattle.rb_base.specs.declared.fault.FaultName.{FaultName}
 use Rattle.rb_base.specs.declared.fault.FaultName.TheVariants.{T1, T2, T3, T4}
-use Rattle.rb_sched.specs.Schedule.{Whose, One, Everyone, most_turns, is_name, is_count, digits_value, whose, numbers_from, rounds, turns_of, count_of, counted_line, line_of_words, in_front, after_line, line_turns, lines_turns, lines_of, words_of, schedule_of}
+use Rattle.rb_sched.specs.Schedule.{Whose, One, Everyone, most_turns, is_name, is_count, digits_value, whose, numbers_from, rounds, turns_of, count_of, counted_line, line_of_words, in_front, after_line, line_turns, lines_turns, lines_of, words_of, schedule_of, process_names}
 use Rattle.rb_sched.specs.Lines.{fitting}
 use Rattle.rb_sched.specs.Walk.{turns_in, GoesOn}
 use Rattle.rb_sched.proofs.TurnsLeft.{length_rounds}
+use Rattle.rb_sched.proofs.Cuts.{length_process_names}
 
 -- every turn is that of one of so many processes
 abbrev pub Known : ℕ → List ℕ → Type 0
@@ -219,3 +221,10 @@ pub goes_on_with : (names : List (List ℕ)) (text rest line after turns : List 
 goes_on_with names text rest line after turns so_far cut given =
     let next = line_first names rest line after turns cut given so_far.sound in
     record { sound = next.sound; joined = so_far.joined ∙ next.joined }
+
+-- the same of the processes of a program
+pub turns_known_in : (names : Names) (text turns none : List ℕ) → none ≡ [] → schedule_of (process_names names) text ≡ Ok turns → AllByRecursion (λ p. p < vec_len names.processes) (none ++ turns_in (schedule_of (process_names names) text))
+turns_known_in names text turns none is_none sound =
+    let all : none ++ turns_in (schedule_of (process_names names) text) ≡ turns = λ i. is_none i ++ turns_in (sound i) in
+    subst (λ k. Known k (none ++ turns_in (schedule_of (process_names names) text))) (length_process_names names)
+    (subst (Known (length (process_names names))) (sym all) (turns_known (process_names names) text turns sound).0)
