@@ -14,7 +14,7 @@ use Rattle.rb_sched.specs.Schedule.{Whose, One, Everyone, most_turns, is_name, i
 use Rattle.rb_sched.specs.Lines.{fitting}
 use Rattle.rb_sched.specs.Walk.{turns_in, GoesOn}
 use Rattle.rb_sched.proofs.TurnsLeft.{length_rounds}
-use Rattle.rb_sched.proofs.Cuts.{length_process_names}
+use Rattle.rb_sched.proofs.WordForms.{length_process_names}
 
 -- every turn is that of one of so many processes
 abbrev pub Known : ℕ → List ℕ → Type 0

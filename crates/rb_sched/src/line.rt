@@ -21,7 +21,7 @@ fn judged_count(digits: &[u8]) -> Result<u32, FaultName>
 }
 
 /// The turns of a name and a count.
-#[tactic(auto, using(crate::proofs::TurnsLeft::length_rounds, crate::proofs::Cuts::length_process_names))]
+#[tactic(auto, using(crate::proofs::TurnsLeft::length_rounds, crate::proofs::WordForms::length_process_names))]
 fn named_rounds(name: &[u8], count: &[u8], names: &Names) -> Result<Rounds, FaultName>
     requires digits { IsTrue (is_count count.now) }
     requires few { vec_len names.now.processes ≤ 64 }

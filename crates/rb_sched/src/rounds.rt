@@ -1,6 +1,6 @@
 ghost use Rattle.std.specs.Prelude.{◌≡◌, ℕ, ◌-◌, ◌<◌, ◌≤◌, ◌↔◌, List, [], length, replicate, IsTrue};
 ghost use Rattle.rb_sched.specs.Schedule.{rounds};
-ghost use Rattle.rb_sched.specs.Rounds.{turns_left, TakesFirst};
+ghost use Rattle.rb_sched.specs.Rounds.{turns_left, AreRounds, TakesFirst};
 
 use std::marker::Model;
 
@@ -19,7 +19,7 @@ impl Model for Rounds {
 
     ghost view = { λ r. turns_left r.first r.end r.next r.left };
 
-    ghost invariant = { λ r. (r.end ≤ 64) × (r.left ≤ 1000000) × (0 < r.left → r.first < r.end) × (0 < r.left → r.next < r.end) };
+    ghost invariant = { λ r. AreRounds r.first r.end r.next r.left };
 }
 
 impl Rounds {

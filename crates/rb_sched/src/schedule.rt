@@ -1,8 +1,7 @@
 ghost use Rattle.std.specs.Prelude.{◌≡◌, ℕ, ◌<◌, ◌≤◌, List, ◌++◌, length, vec_len, Ok, Err, IfOk, MatchResult};
 ghost use Rattle.std.specs.List.{AllByRecursion};
-ghost use Rattle.std.specs.Result.{IsOk};
 ghost use Rattle.rb_sched.specs.Schedule.{Plan, schedule_of, process_names, fresh, TakesTurn};
-ghost use Rattle.rb_sched.specs.Walk.{turns_in};
+ghost use Rattle.rb_sched.specs.Walk.{turns_in, IsWalk};
 
 use rb_base::{Names, TextFault};
 use std::marker::Model;
@@ -29,11 +28,7 @@ impl<'a> Model for Schedule<'a> {
         left = s.present ++ turns_in (schedule_of (process_names s.names.now) s.rest.now)
     } };
 
-    ghost invariant = { λ s.
-        (vec_len s.names.now.processes ≤ 64)
-        × (s.total ≡ length (turns_in (schedule_of (process_names s.names.now) s.text.now)))
-        × (s.total ≤ 1000000)
-        × IsOk (schedule_of (process_names s.names.now) s.rest.now) };
+    ghost invariant = { λ s. IsWalk s.names.now s.text.now s.total s.rest.now };
 }
 
 impl<'a> Schedule<'a> {

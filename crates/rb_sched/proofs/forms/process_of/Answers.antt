@@ -1,5 +1,5 @@
 use Rattle.std.proofs.Common.{◌∙◌, sym}
-use Rattle.rb_sched.proofs.Cuts.{place_named}
+use Rattle.rb_sched.proofs.WordForms.{place_named}
 use Rattle.rb_sched.proofs.forms.process_of.Goals as goal
 
 pub returns-in_err-place-clause-place : goal.returns-in_err-place-clause-place
