@@ -66,7 +66,9 @@ pub(crate) fn count_value(digits: &[u8]) -> u32
 fn place_of(processes: &[ProcessNames], word: &[u8]) -> Option<usize>
     ensures { result ≡ position (λ process. pointwise nat_eq process.name word.now) processes.now }
 {
-    processes.iter().position(|process| process.name.as_bytes() == word)
+    processes
+        .iter()
+        .position(|process| process.name.as_bytes() == word)
 }
 
 /// The process of this name.

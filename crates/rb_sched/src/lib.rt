@@ -2,12 +2,13 @@
 #![tactic(auto)]
 
 mod forms;
+pub mod laws;
 mod line;
 mod rounds;
+pub mod schedule;
+#[cfg(test)]
+mod tests;
 mod turns;
 mod words;
-
-pub mod laws;
-pub mod schedule;
 
 pub use schedule::Schedule;

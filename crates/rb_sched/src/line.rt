@@ -2,11 +2,10 @@ ghost use Rattle.std.specs.Prelude.{◌≡◌, ℕ, ◌≤◌, IsTrue, vec_len, 
 ghost use Rattle.rb_sched.specs.Schedule.{is_count, digits_value, process_names, whose, counted_line, line_turns};
 ghost use Rattle.rb_sched.specs.Lines.{counted, fitting};
 
-use rb_base::{FaultName, Names};
-
-use crate::forms::{count_value, is_count, is_name, process_of, MOST_TURNS};
+use crate::forms::{MOST_TURNS, count_value, is_count, is_name, process_of};
 use crate::rounds::Rounds;
 use crate::words::{next_word, without_comment, without_cr};
+use rb_base::{FaultName, Names};
 
 /// A count that is neither 0 nor above the greatest.
 fn judged_count(digits: &[u8]) -> Result<u32, FaultName>

@@ -3,11 +3,10 @@ ghost use Rattle.std.specs.List.{AllByRecursion};
 ghost use Rattle.rb_sched.specs.Schedule.{Plan, schedule_of, process_names, fresh, TakesTurn};
 ghost use Rattle.rb_sched.specs.Walk.{turns_in, IsWalk};
 
-use rb_base::{Names, TextFault};
-use std::marker::Model;
-
 use crate::rounds::Rounds;
 use crate::turns::{count_turns, first_turns};
+use rb_base::{Names, TextFault};
+use std::marker::Model;
 
 /// The turns of a schedule that are left. It borrows its text and the names, and takes no memory.
 #[derive(Drop)]
@@ -24,8 +23,8 @@ impl<'a> Model for Schedule<'a> {
 
     // what is left is what the present line still gives, and the lines after it
     ghost view = { λ s. record {
-        all = turns_in (schedule_of (process_names s.names.now) s.text.now);
-        left = s.present ++ turns_in (schedule_of (process_names s.names.now) s.rest.now)
+      all = turns_in (schedule_of (process_names s.names.now) s.text.now);
+      left = s.present ++ turns_in (schedule_of (process_names s.names.now) s.rest.now);
     } };
 
     ghost invariant = { λ s. IsWalk s.names.now s.text.now s.total s.rest.now };

@@ -3,12 +3,11 @@ ghost use Rattle.std.specs.Result.{IsOk};
 ghost use Rattle.rb_sched.specs.Schedule.{process_names, line_turns, schedule_of};
 ghost use Rattle.rb_sched.specs.Walk.{GoesOn};
 
-use rb_base::{FaultName, Names, TextFault};
-
 use crate::forms::MOST_TURNS;
 use crate::line::line_rounds;
 use crate::rounds::Rounds;
 use crate::words::first_line;
+use rb_base::{FaultName, Names, TextFault};
 
 /// How many turns there are up to a line and with it, or the line's fault.
 fn with_line(before: u32, line: &[u8], names: &Names) -> Result<u32, FaultName>

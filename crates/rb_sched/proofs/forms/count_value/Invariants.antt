@@ -7,7 +7,7 @@ abbrev pub invariant-loop-rest : goal.invariant-loop-rest
 invariant-loop-rest l = record {
   digits : list_all is_digit l.rest ≡ true;
   small : l.value ≤ 1000001;
-  read : min (digits_value l.value l.rest) 1000001 ≡ min (digits_value 0 l.digits) 1000001
+  read : min (digits_value l.value l.rest) 1000001 ≡ min (digits_value 0 l.digits) 1000001;
 }
 
 abbrev pub decreases-loop-rest : goal.decreases-loop-rest

@@ -6,7 +6,7 @@ use Rattle.rb_sched.proofs.turns.count_turns.Given as goal
 abbrev pub invariant-loop-rest : goal.invariant-loop-rest
 invariant-loop-rest l = record {
   lines : l.at + length l.rest ≤ 1048577;
-  read : ReadUpTo (process_names l.names) l.text l.total l.at l.rest
+  read : ReadUpTo (process_names l.names) l.text l.total l.at l.rest;
 }
 
 abbrev pub decreases-loop-rest : goal.decreases-loop-rest
