@@ -1,12 +1,7 @@
 -- Where the CR that may end a line stands.
-use Rattle.std.proofs.Common.{◌≡◌, ℕ, suc, ◌+◌, ◌-◌, ◌*◌, ◌≤◌, min, ⊎_elim, List, [], ◌∷◌, Bool, true, false, cond, ◌&&◌, nat_eq, length, Option, take, drop, vec_len, map, position, not, get_or, refl, ap, ◌∙◌, sym, arith}
-use Rattle.std.specs.List.{list_all, prefix_len}
+use Rattle.std.proofs.Common.{◌≡◌, ℕ, suc, ◌-◌, List, [], ◌∷◌, Bool, true, false, cond, ◌&&◌, nat_eq, length, take, drop, refl, ap, ◌∙◌, sym, arith}
 use Rattle.std.specs.Cmp.Lexicographic.{pointwise}
-use Rattle.std.proofs.lemmas.Bool.{cases_lt}
-use Rattle.std.proofs.lemmas.List.{length-map}
-use Rattle.rb_base.specs.declared.names.Names.{Names}
-use Rattle.rb_base.specs.declared.names.ProcessNames.{ProcessNames}
-use Rattle.rb_sched.specs.Schedule.{without_cr, digits_value, process_names}
+use Rattle.rb_sched.specs.Schedule.{without_cr}
 
 and_true : (t : Bool) → t ≡ (t && true)
 and_true true = refl

@@ -1,5 +1,5 @@
 -- Rounds over processes: how many turns they have, and what one turn leaves of them.
-use Rattle.std.proofs.Common.{◌≡◌, ℕ, zero, suc, ◌+◌, ◌-◌, ◌*◌, ◌<◌, ◌≤◌, List, [], ◌∷◌, ◌++◌, length, replicate, refl, ap, ◌∙◌, sym, subst, arith, append_assoc, length-append}
+use Rattle.std.proofs.Common.{◌≡◌, ℕ, zero, suc, ◌+◌, ◌-◌, ◌*◌, ◌<◌, [], ◌∷◌, ◌++◌, length, replicate, refl, ap, ◌∙◌, sym, arith, length-append}
 use Rattle.std.proofs.Math.Nat.{mul_comm}
 use Rattle.rb_sched.specs.Schedule.{numbers_from, rounds}
 use Rattle.rb_sched.specs.Rounds.{rounds_over, turns_left}

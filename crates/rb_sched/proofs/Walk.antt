@@ -1,5 +1,5 @@
 -- How the turns of a text follow from those of its lines.
-use Rattle.std.proofs.Common.{◌≡◌, ℕ, zero, suc, ◌+◌, ◌*◌, ◌≤◌, ◌<◌, List, [], ◌∷◌, ◌++◌, length, replicate, position, codes, nat_eq, Bool, true, false, cond, nat_lt, vec_len, ◌==◌, ◌||◌, ◌&&◌, Option, Some, None, Result, Ok, Err, refl, ap, ◌∙◌, sym, subst, arith, append_assoc, length-append}
+use Rattle.std.proofs.Common.{◌≡◌, ℕ, zero, suc, ◌+◌, ◌≤◌, ◌<◌, List, [], ◌∷◌, ◌++◌, length, replicate, position, codes, nat_eq, Bool, true, false, cond, nat_lt, vec_len, ◌==◌, ◌||◌, ◌&&◌, Option, Some, None, Result, Ok, Err, refl, ap, ◌∙◌, sym, subst, arith, append_assoc, length-append}
 use Rattle.std.specs.List.{AllByRecursion}
 use Rattle.std.specs.Result.{IsOk, is_ok}
 use Rattle.std.specs.Cmp.Lexicographic.{pointwise}

@@ -1,5 +1,5 @@
 -- Counts, names and places in a line: what one step of each loop keeps.
-use Rattle.std.proofs.Common.{◌≡◌, ℕ, suc, ◌+◌, ◌-◌, ◌*◌, ◌≤◌, min, ⊎_elim, List, [], ◌∷◌, Bool, true, false, cond, ◌&&◌, nat_eq, length, Option, drop, vec_len, map, position, not, get_or, refl, ap, ◌∙◌, sym, arith}
+use Rattle.std.proofs.Common.{◌≡◌, ℕ, ◌+◌, ◌-◌, ◌*◌, ◌≤◌, min, ⊎_elim, List, [], ◌∷◌, Bool, true, false, cond, ◌&&◌, nat_eq, length, Option, drop, vec_len, map, position, not, get_or, refl, ap, ◌∙◌, sym, arith}
 use Rattle.std.specs.List.{list_all, prefix_len}
 use Rattle.std.specs.Cmp.Lexicographic.{pointwise}
 use Rattle.std.proofs.lemmas.Bool.{cases_lt}

@@ -1,5 +1,5 @@
 -- The turns that a line still gives, as rounds over processes that stand side by side.
-use Rattle.std.specs.Prelude.{◌≡◌, ℕ, zero, suc, ◌+◌, ◌-◌, ◌<◌, ◌≤◌, List, [], ◌∷◌, ◌++◌, Option, Some, None}
+use Rattle.std.specs.Prelude.{◌≡◌, ℕ, zero, suc, ◌-◌, ◌<◌, ◌≤◌, List, [], ◌∷◌, ◌++◌, Option, Some, None}
 use Rattle.rb_sched.specs.Schedule.{numbers_from}
 
 -- so many rounds over the processes from `first` on

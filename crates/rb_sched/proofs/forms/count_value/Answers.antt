@@ -1,4 +1,4 @@
-use Rattle.std.proofs.Common.{◌≡◌, ◌≤◌, arith}
+use Rattle.std.proofs.Common.{arith}
 use Rattle.std.proofs.lemmas.Grind.{common_steps}
 use Rattle.rb_sched.proofs.WordForms.{digits_value_more, list_all_drop}
 use Rattle.rb_sched.specs.Schedule.{is_digit}

@@ -1,4 +1,4 @@
-use Rattle.std.proofs.Common.{◌∙◌, sym}
+use Rattle.std.proofs.Common.{◌∙◌}
 use Rattle.rb_sched.proofs.WordForms.{place_named}
 use Rattle.rb_sched.proofs.forms.process_of.Goals as goal
 

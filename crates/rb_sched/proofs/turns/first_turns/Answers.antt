@@ -1,4 +1,4 @@
-use Rattle.std.proofs.Common.{List, ℕ, subst, arith}
+use Rattle.std.proofs.Common.{subst}
 use Rattle.rb_sched.specs.Schedule.{process_names}
 use Rattle.rb_sched.specs.Walk.{GoesOn}
 use Rattle.rb_sched.proofs.Walk.{goes_on_with}

@@ -1,4 +1,4 @@
-use Rattle.std.proofs.Common.{◌≡◌, [], take, drop, length}
+use Rattle.std.proofs.Common.{◌≡◌, take, drop, length}
 use Rattle.rb_sched.specs.Schedule.{lines_of, lines_from}
 use Rattle.rb_sched.proofs.words.first_line.Given as goal
 
