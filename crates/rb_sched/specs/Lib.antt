@@ -1,1 +1,5 @@
 pub mod Schedule
+pub mod Lines
+pub mod Rounds
+pub mod Walk
+pub mod Laws

@@ -1,6 +1,14 @@
 // Schedules: the list of turns that a text asks for, read without taking memory.
 #![tactic(auto)]
 
+mod forms;
+pub mod laws;
+mod line;
+mod rounds;
 pub mod schedule;
+#[cfg(test)]
+mod tests;
+mod turns;
+mod words;
 
 pub use schedule::Schedule;

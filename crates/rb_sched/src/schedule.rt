@@ -1,6 +1,10 @@
-ghost use Rattle.std.specs.Prelude.{◌≡◌, ℕ, ◌≤◌, List, [], length, vec_len, Ok, Err, MatchResult};
+ghost use Rattle.std.specs.Prelude.{◌≡◌, ℕ, ◌<◌, ◌≤◌, List, ◌++◌, length, vec_len, Ok, Err, IfOk, MatchResult};
+ghost use Rattle.std.specs.List.{AllByRecursion};
 ghost use Rattle.rb_sched.specs.Schedule.{Plan, schedule_of, process_names, fresh, TakesTurn};
+ghost use Rattle.rb_sched.specs.Walk.{turns_in, IsWalk};
 
+use crate::rounds::Rounds;
+use crate::turns::{count_turns, first_turns};
 use rb_base::{Names, TextFault};
 use std::marker::Model;
 
@@ -9,12 +13,21 @@ use std::marker::Model;
 pub struct Schedule<'a> {
     text: &'a [u8],
     names: &'a Names,
+    total: u32,
+    present: Rounds,
+    rest: &'a [u8],
 }
 
 impl<'a> Model for Schedule<'a> {
     ghost Value = { Plan };
 
-    ghost view = { λ s. fresh [] };
+    // what is left is what the present line still gives, and the lines after it
+    ghost view = { λ s. record {
+      all = turns_in (schedule_of (process_names s.names.now) s.text.now);
+      left = s.present ++ turns_in (schedule_of (process_names s.names.now) s.rest.now);
+    } };
+
+    ghost invariant = { λ s. IsWalk s.names.now s.text.now s.total s.rest.now };
 }
 
 impl<'a> Schedule<'a> {
@@ -22,22 +35,37 @@ impl<'a> Schedule<'a> {
     pub fn read(text: &'a [u8], names: &'a Names) -> Result<Self, TextFault>
         requires short { length text.now ≤ 1048576 }
         requires few { vec_len names.now.processes ≤ 64 }
-        ensures { MatchResult result (λ schedule. (turns : List ℕ) × (schedule_of (process_names names.now) text.now ≡ Ok turns) × (schedule ≡ fresh turns)) (λ fault. schedule_of (process_names names.now) text.now ≡ Err fault) }
+        ensures turns { MatchResult result (λ schedule. (turns : List ℕ) × (schedule_of (process_names names.now) text.now ≡ Ok turns) × (schedule ≡ fresh turns)) (λ fault. schedule_of (process_names names.now) text.now ≡ Err fault) }
+        ensures known { IfOk result (λ schedule. AllByRecursion (λ p. p < vec_len names.now.processes) schedule.left) }
+        ensures few { IfOk result (λ schedule. length schedule.left ≤ 1000000) }
     {
-        Ok(Schedule { text, names })
+        let total = count_turns(text, names)?;
+        Ok(Schedule {
+            text,
+            names,
+            total,
+            present: Rounds::none(),
+            rest: text,
+        })
     }
 
     /// How many turns the whole text has.
     pub fn turns(&self) -> u32
-        ensures { result ≡ length self.now.all }
+        ensures all { result ≡ length self.now.all }
+        ensures few { result ≤ 1000000 }
     {
-        0
+        self.total
     }
 
     /// The process of the next turn, or `None` at the end and from then on.
     pub fn next(&mut self) -> Option<u32>
         ensures { TakesTurn self.old result self.new }
     {
-        None
+        if self.present.is_empty() {
+            let (present, rest) = first_turns(self.rest, self.names);
+            self.present = present;
+            self.rest = rest;
+        }
+        self.present.next()
     }
 }

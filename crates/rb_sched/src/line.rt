@@ -1,0 +1,58 @@
+ghost use Rattle.std.specs.Prelude.{◌≡◌, ℕ, ◌≤◌, IsTrue, vec_len, Err, MatchResult};
+ghost use Rattle.rb_sched.specs.Schedule.{is_count, digits_value, process_names, whose, counted_line, line_turns};
+ghost use Rattle.rb_sched.specs.Lines.{counted, fitting};
+
+use crate::forms::{MOST_TURNS, count_value, is_count, is_name, process_of};
+use crate::rounds::Rounds;
+use crate::words::{next_word, without_comment, without_cr};
+use rb_base::{FaultName, Names};
+
+/// A count that is neither 0 nor above the greatest.
+fn judged_count(digits: &[u8]) -> Result<u32, FaultName>
+    requires { IsTrue (is_count digits.now) }
+    ensures { result ≡ counted (digits_value 0 digits.now) }
+{
+    let count = count_value(digits);
+    if count == 0 || count > MOST_TURNS {
+        return Err(FaultName::T3);
+    }
+    Ok(count)
+}
+
+/// The turns of a name and a count.
+#[tactic(auto, using(crate::proofs::TurnsLeft::length_rounds, crate::proofs::WordForms::length_process_names))]
+fn named_rounds(name: &[u8], count: &[u8], names: &Names) -> Result<Rounds, FaultName>
+    requires digits { IsTrue (is_count count.now) }
+    requires few { vec_len names.now.processes ≤ 64 }
+    ensures { MatchResult result
+        (λ turns. (before : ℕ) → counted_line (process_names names.now) before (whose (process_names names.now) name.now) (digits_value 0 count.now) ≡ fitting before turns)
+        (λ fault. (before : ℕ) → counted_line (process_names names.now) before (whose (process_names names.now) name.now) (digits_value 0 count.now) ≡ Err fault) }
+{
+    if b"all".as_slice() == name {
+        let count = judged_count(count)?;
+        return Ok(Rounds::of_all(names.processes.len() as u32, count));
+    }
+    let process = process_of(names, name).ok_or(FaultName::T2)?;
+    let count = judged_count(count)?;
+    Ok(Rounds::of_one(process, count))
+}
+
+/// The turns of a line, or its fault with the least number. That they may be too many with those that
+/// came before is for the caller to see.
+pub(crate) fn line_rounds(line: &[u8], names: &Names) -> Result<Rounds, FaultName>
+    requires { vec_len names.now.processes ≤ 64 }
+    ensures { MatchResult result
+        (λ turns. (before : ℕ) → before ≤ 1000000 → line_turns (process_names names.now) before line.now ≡ fitting before turns)
+        (λ fault. (before : ℕ) → line_turns (process_names names.now) before line.now ≡ Err fault) }
+{
+    let Some((name, rest)) = next_word(without_comment(without_cr(line))) else {
+        return Ok(Rounds::none());
+    };
+    let Some((count, rest)) = next_word(rest) else {
+        return Err(FaultName::T1);
+    };
+    if next_word(rest).is_some() || !is_name(name) || !is_count(count) {
+        return Err(FaultName::T1);
+    }
+    named_rounds(name, count, names)
+}
