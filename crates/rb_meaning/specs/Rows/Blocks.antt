@@ -43,7 +43,7 @@ one_rejection_tree =
     let process_p = process_called "p" (scalar "x" ∷ []) [] (assign "x" (whole 5) ∷ ensured_1 ∷ []) in
     program_called "r" [] [] (process_p ∷ [])
 
--- The line of the alternate that was undone is gone, and further turns do nothing.
+-- Nothing is printed of the alternate that was undone. Turns after the end are idle.
 abbrev pub OneRejection : Type 0
 OneRejection =
     run_text one_rejection_tree (times 20 first)
@@ -120,7 +120,7 @@ bound_tree =
     let ensured_1 = ensure 2 (two Eq (of "x") (whole 1)) 3 (alternate_1 ∷ alternate_2 ∷ []) in
     program_called "b" [] [] (process_called "p" (scalar "x" ∷ []) [] (ensured_1 ∷ []) ∷ [])
 
--- The third turn of an alternate is allowed, the fourth is an overrun.
+-- An alternate may use as many turns as its bound says; one more is an overrun.
 abbrev pub TheBound : Type 0
 TheBound =
     run_text bound_tree (times 8 first)
@@ -212,6 +212,31 @@ abbrev pub Cascade : Type 0
 Cascade =
     run_text cascade_tree (times 10 first)
     ≡ codes "7 reject p ensure 3 1 test\n7 reject p ensure 2 1 inner\n10 done p\nend 10\np done\np.x = 0\np.y = 1\n"
+
+--     program a; process p { var x;
+--     procedure f(n) { var t; t := n;
+--     ensure t = prior n + 2 within 20 by { n := 9; t := 8; } else by { var t; t := 7; } else by { t := t + 2; } else error;
+--     x := x * 10 + t; }
+--     call f(3); call f(1); } end.
+abbrev pub inside_a_call_tree : Tree
+inside_a_call_tree =
+    let alternate_1 = block (assign "n" (whole 9) ∷ assign "t" (whole 8) ∷ []) in
+    let alternate_2 = block_with (scalar "t" ∷ []) (assign "t" (whole 7) ∷ []) in
+    let alternate_3 = block (assign "t" (two Add (of "t") (whole 2)) ∷ []) in
+    let ensured_1 = ensure 3 (two Eq (of "t") (two Add (prior "n") (whole 2))) 20 (alternate_1 ∷ alternate_2 ∷ alternate_3 ∷ []) in
+    let assigned_1 = assign "x" (two Add (two Mul (of "x") (whole 10)) (of "t")) in
+    let body_1 = block_with (scalar "t" ∷ []) (assign "t" (of "n") ∷ ensured_1 ∷ assigned_1 ∷ []) in
+    let procedure_f = procedure_called "f" (called "n" ∷ []) body_1 in
+    let invoked_1 = invoke "f" (whole 3 ∷ []) in
+    let invoked_2 = invoke "f" (whole 1 ∷ []) in
+    let process_p = process_called "p" (scalar "x" ∷ []) (procedure_f ∷ []) (invoked_1 ∷ invoked_2 ∷ []) in
+    program_called "a" [] [] (process_p ∷ [])
+
+-- Parameters and variables of a call go back too; a test sees no variable of an alternate.
+abbrev pub InsideACall : Type 0
+InsideACall =
+    run_text inside_a_call_tree (times 28 first)
+    ≡ codes "7 reject p ensure 3 1 test\n10 reject p ensure 3 2 test\n21 reject p ensure 3 1 test\n24 reject p ensure 3 2 test\n28 done p\nend 28\np done\np.x = 53\n"
 
 --     program h; process p { var x; print "a";
 --     ensure 1 within 30 by { print "b";

@@ -7,7 +7,7 @@ use Rattle.rb_base.specs.declared.place.Place.{Place}
 use Rattle.rb_syntax.specs.declared.expression.Number.{Number}
 use Rattle.rb_syntax.specs.declared.expression.Op.{Op}
 use Rattle.rb_syntax.specs.declared.expression.Quantifier.{Quantifier}
-use Rattle.rb_syntax.specs.Tree.{Identifier, Expression, Literal, Variable, Former, Minus, Negation, Chained, Quantification, Reference, Refer, Scalar, Element, NoLink, Linked, Declaration, Words, Amount, PrintItem, Command, Assignment, Printing, Sending, Receiving, Conditional, Invocation, Recovering, Commands, NoCommand, Then, Body, Scope, NoElse, Else, Recovers, Alternates, NoAlternate, Alternate, ChannelDeclaration, ConversationDeclaration, ProcedureDeclaration, ProcessDeclaration, Tree}
+use Rattle.rb_syntax.specs.Tree.{Identifier, Expression, Literal, Variable, Former, Chained, Quantification, Reference, Refer, Scalar, Element, NoLink, Linked, Declaration, Words, Amount, PrintItem, Command, Assignment, Printing, Sending, Receiving, Conditional, Invocation, Recovering, Commands, NoCommand, Then, Body, Scope, NoElse, Else, Recovers, Alternates, NoAlternate, Alternate, ChannelDeclaration, ConversationDeclaration, ProcedureDeclaration, ProcessDeclaration, Tree}
 use Rattle.rb_world.specs.Plain.{Kept}
 use Rattle.rb_world.specs.Text.{record_text}
 use Rattle.rb_meaning.specs.Meaning.{run_of, naming_of, survivors}
@@ -53,6 +53,10 @@ over_numbers kind x low high body = Quantification kind (on_line 1) (called x) l
 -- what a `print` prints
 abbrev pub written : String → PrintItem
 written text = record { place = on_line 1; what = Words (codes text) }
+
+-- the longest text that a `print` may hold
+abbrev pub full_text : PrintItem
+full_text = record { place = on_line 1; what = Words (replicate 256 120) }
 
 abbrev pub shown : Expression → PrintItem
 shown e = record { place = on_line 1; what = Amount e }

@@ -171,7 +171,7 @@ ExhaustedInside =
 --     conversation C (p, q);
 --     process p { converse C ensure 1 within 20 by { fail; } else by { } else error; }
 --     process q { var a;
---     converse C ensure 1 within 20 by { a := 1; ensure 1 within 9 by { a := a + 1; print "x"; } else error; }
+--     converse C ensure 1 within 6 by { a := 1; ensure 1 within 9 by { a := a + 1; print "x"; } else error; }
 --     else by { print "y", a; } else error; }
 --     end.
 abbrev pub undone_inside_tree : Tree
@@ -180,10 +180,10 @@ undone_inside_tree =
     let alternate_1 = block (assign "a" (whole 1) ∷ ensured_1 ∷ []) in
     let alternate_2 = block (print (written "y" ∷ shown (of "a") ∷ []) ∷ []) in
     let process_p = process_called "p" [] [] (converse "C" 3 (whole 1) 20 (block (Failure ∷ []) ∷ block [] ∷ []) ∷ []) in
-    let process_q = process_called "q" (scalar "a" ∷ []) [] (converse "C" 5 (whole 1) 20 (alternate_1 ∷ alternate_2 ∷ []) ∷ []) in
+    let process_q = process_called "q" (scalar "a" ∷ []) [] (converse "C" 5 (whole 1) 6 (alternate_1 ∷ alternate_2 ∷ []) ∷ []) in
     program_called "i" [] (conversation_called "C" (called "p" ∷ called "q" ∷ []) ∷ []) (process_p ∷ process_q ∷ [])
 
--- A member goes back out of a block that it has open inside.
+-- A member goes back out of a block that it has open inside, and its turns are counted anew.
 abbrev pub UndoneInside : Type 0
 UndoneInside =
     run_text undone_inside_tree (times 6 second ++ (times 3 first ++ (times 3 second ++ times 2 first)))
@@ -220,6 +220,78 @@ abbrev pub FirstAgain : Type 0
 FirstAgain =
     run_text first_again_tree (rounds 23 2)
     ≡ codes "13 reject D 1 by p test\n23 reject C 1 by p overrun\n27 pass C 2\n41 pass D 1\n43 pass C 1\n44 done q\n45 done p\nend 46\np done\np.i = 2\nq done\nq.j = 2\n"
+
+--     program n;
+--     conversation C (p, q);
+--     conversation D (p, q);
+--     conversation E (p, q);
+--     process p { var i;
+--     while i < 2 { i := i + 1;
+--     converse C ensure 1 within 10 by {
+--     converse D ensure 1 within 40 by {
+--     converse E ensure i > 1 within 40 by { } else by { while 1 { } } else error;
+--     } else error;
+--     } else by { } else error; } }
+--     process q { var j;
+--     while j < 2 { j := j + 1;
+--     converse C ensure 1 within 40 by {
+--     converse D ensure 1 within 40 by {
+--     converse E ensure 1 within 40 by { } else by { } else error;
+--     } else error;
+--     } else by { } else error; } }
+--     end.
+abbrev pub first_again_further_tree : Tree
+first_again_further_tree =
+    let conversed_1 = converse "E" 9 (two Gt (of "i") (whole 1)) 40 (block [] ∷ block (Loop (whole 1) (block []) ∷ []) ∷ []) in
+    let alternate_1 = block (converse "D" 8 (whole 1) 40 (block (conversed_1 ∷ []) ∷ []) ∷ []) in
+    let conversed_2 = converse "C" 7 (whole 1) 10 (alternate_1 ∷ block [] ∷ []) in
+    let loop_1 = Loop (two Lt (of "i") (whole 2)) (block (assign "i" (two Add (of "i") (whole 1)) ∷ conversed_2 ∷ [])) in
+    let conversed_3 = converse "D" 15 (whole 1) 40 (block (converse "E" 16 (whole 1) 40 (block [] ∷ block [] ∷ []) ∷ []) ∷ []) in
+    let conversed_4 = converse "C" 14 (whole 1) 40 (block (conversed_3 ∷ []) ∷ block [] ∷ []) in
+    let loop_2 = Loop (two Lt (of "j") (whole 2)) (block (assign "j" (two Add (of "j") (whole 1)) ∷ conversed_4 ∷ [])) in
+    let process_p = process_called "p" (scalar "i" ∷ []) [] (loop_1 ∷ []) in
+    let process_q = process_called "q" (scalar "j" ∷ []) [] (loop_2 ∷ []) in
+    program_called "n" [] (conversation_called "C" (called "p" ∷ called "q" ∷ []) ∷ conversation_called "D" (called "p" ∷ called "q" ∷ []) ∷ conversation_called "E" (called "p" ∷ called "q" ∷ []) ∷ []) (process_p ∷ process_q ∷ [])
+
+-- So does one further inside.
+abbrev pub FirstAgainFurther : Type 0
+FirstAgainFurther =
+    run_text first_again_further_tree (rounds 28 2)
+    ≡ codes "17 reject E 1 by p test\n27 reject C 1 by p overrun\n31 pass C 2\n49 pass E 1\n51 pass D 1\n53 pass C 1\n54 done q\n55 done p\nend 56\np done\np.i = 2\nq done\nq.j = 2\n"
+
+--     program t;
+--     conversation D (r, q);
+--     conversation C (p, q, r);
+--     process p { var a; converse C ensure 1 within 30 by { a := a + 1; } else by { a := 9; } else error; }
+--     process q {
+--     converse C ensure 1 within 30 by {
+--     converse D ensure 1 within 9 by { fail; } else by { } else error;
+--     } else by { } else error; }
+--     process r { var a;
+--     converse C ensure 1 within 30 by {
+--     converse D ensure 1 within 9 by { a := 1; } else by { a := a + 2; } else error;
+--     print "r", a;
+--     } else by { } else error; }
+--     end.
+abbrev pub fewer_inside_tree : Tree
+fewer_inside_tree =
+    let alternate_1 = block (assign "a" (two Add (of "a") (whole 1)) ∷ []) in
+    let alternate_2 = block (assign "a" (whole 9) ∷ []) in
+    let alternate_3 = block (converse "D" 7 (whole 1) 9 (block (Failure ∷ []) ∷ block [] ∷ []) ∷ []) in
+    let alternate_4 = block (assign "a" (whole 1) ∷ []) in
+    let alternate_5 = block (assign "a" (two Add (of "a") (whole 2)) ∷ []) in
+    let conversed_1 = converse "D" 11 (whole 1) 9 (alternate_4 ∷ alternate_5 ∷ []) in
+    let alternate_6 = block (conversed_1 ∷ print (written "r" ∷ shown (of "a") ∷ []) ∷ []) in
+    let process_p = process_called "p" (scalar "a" ∷ []) [] (converse "C" 4 (whole 1) 30 (alternate_1 ∷ alternate_2 ∷ []) ∷ []) in
+    let process_q = process_called "q" [] [] (converse "C" 6 (whole 1) 30 (alternate_3 ∷ block [] ∷ []) ∷ []) in
+    let process_r = process_called "r" (scalar "a" ∷ []) [] (converse "C" 10 (whole 1) 30 (alternate_6 ∷ block [] ∷ []) ∷ []) in
+    program_called "t" [] (conversation_called "D" (called "r" ∷ called "q" ∷ []) ∷ conversation_called "C" (called "p" ∷ called "q" ∷ called "r" ∷ []) ∷ []) (process_p ∷ process_q ∷ process_r ∷ [])
+
+-- A rejection of D leaves p, which is in C alone, where it stands.
+abbrev pub FewerInside : Type 0
+FewerInside =
+    run_text fewer_inside_tree (rounds 9 3)
+    ≡ codes "14 reject D 1 by q fail\n21 pass D 2\n27 pass C 1\n27 out r r 2\n27 done p\n27 done q\n27 done r\nend 27\np done\np.a = 1\nq done\nr done\nr.a = 2\n"
 
 --     program m;
 --     channel c from p to q size 1;

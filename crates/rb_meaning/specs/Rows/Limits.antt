@@ -1,9 +1,9 @@
 -- Traps and limits.
-use Rattle.std.specs.Prelude.{◌≡◌, [], ◌∷◌, ◌++◌, codes}
-use Rattle.rb_syntax.specs.declared.expression.Op.TheVariants.{Eq, Sub, Div}
-use Rattle.rb_syntax.specs.Tree.{Minus, Failure, Tree}
+use Rattle.std.specs.Prelude.{◌≡◌, [], ◌∷◌, ◌++◌, codes, replicate}
+use Rattle.rb_syntax.specs.declared.expression.Op.TheVariants.{Eq, Lt, Add, Sub, Div}
+use Rattle.rb_syntax.specs.Tree.{Minus, Failure, Loop, Tree}
 use Rattle.rb_meaning.specs.Meaning.{run_text}
-use Rattle.rb_meaning.specs.Rows.Build.{array, assign, assign_at, block, block_with, ensure, first, invoke, of, procedure_called, process_called, program_called, program_of_edition_2, repeated, scalar, times, two, when, whole}
+use Rattle.rb_meaning.specs.Rows.Build.{array, assign, assign_at, block, block_with, called, ensure, first, full_text, invoke, of, print, procedure_called, process_called, program_called, program_of_edition_2, repeated, scalar, times, two, when, whole, written}
 
 --     program z; process p { var x; var a[3];
 --     ensure 10 / x = 5 within 9 by { a[2] := 1; } else by { x := -9223372036854775807 - 2; }
@@ -35,6 +35,53 @@ abbrev pub OpenCalls : Type 0
 OpenCalls =
     run_text open_calls_tree (times 261 first)
     ≡ codes "259 reject p ensure 1 1 calls\n261 done p\nend 261\np done\n"
+
+--     program g; process p {
+--     procedure f(n) { var t[7]; call f(n); }
+--     ensure 1 within 500 by { call f(0); } else by { } else error; } end.
+abbrev pub calls_before_words_tree : Tree
+calls_before_words_tree =
+    let procedure_f = procedure_called "f" (called "n" ∷ []) (block_with (array "t" 7 ∷ []) (invoke "f" (of "n" ∷ []) ∷ [])) in
+    let ensured_1 = ensure 3 (whole 1) 500 (block (invoke "f" (whole 0 ∷ []) ∷ []) ∷ block [] ∷ []) in
+    program_called "g" [] [] (process_called "p" [] (procedure_f ∷ []) (ensured_1 ∷ []) ∷ [])
+
+-- The 257th call would have too many words too.
+abbrev pub CallsBeforeWords : Type 0
+CallsBeforeWords =
+    run_text calls_before_words_tree (times 261 first)
+    ≡ codes "259 reject p ensure 3 1 calls\n261 done p\nend 261\np done\n"
+
+--     program h; process p { var i; ensure 1 within 99
+--     by { while i < 15 { print T, T, T, T, T, T, T, T, T, T, T, T, T, T, T, T; i := i + 1; }
+--     print T, T, T, T, T, T, T, T, T, T, T, T, T, T, T, ""; print ""; }
+--     else by { print "ok"; } else error; } end.
+-- Each T stands for a text of 256 times the letter x.
+abbrev pub held_bytes_tree : Tree
+held_bytes_tree =
+    let printing_1 = print (replicate 16 full_text) in
+    let loop_1 = Loop (two Lt (of "i") (whole 15)) (block (printing_1 ∷ assign "i" (two Add (of "i") (whole 1)) ∷ [])) in
+    let printing_2 = print (replicate 15 full_text ++ written "" ∷ []) in
+    let printing_3 = print (written "" ∷ []) in
+    let alternate_1 = block (loop_1 ∷ printing_2 ∷ printing_3 ∷ []) in
+    let alternate_2 = block (print (written "ok" ∷ []) ∷ []) in
+    let process_p = process_called "p" (scalar "i" ∷ []) [] (ensure 1 (whole 1) 99 (alternate_1 ∷ alternate_2 ∷ []) ∷ []) in
+    program_called "h" [] [] (process_p ∷ [])
+
+-- 65,536 held bytes are allowed, and one more is a trap.
+abbrev pub HeldBytes : Type 0
+HeldBytes =
+    run_text held_bytes_tree (times 53 first)
+    ≡ codes "50 reject p ensure 1 1 hold\n53 out p ok\n53 done p\nend 53\np done\np.i = 0\n"
+
+--     program a; process p { fail; } end.
+abbrev pub fail_outside_tree : Tree
+fail_outside_tree =
+    program_called "a" [] [] (process_called "p" [] [] (Failure ∷ []) ∷ [])
+
+abbrev pub FailOutside : Type 0
+FailOutside =
+    run_text fail_outside_tree (times 2 first)
+    ≡ codes "1 error p fail\nend 2\np failed\n"
 
 --     program h; process p { var a[1024]; var b[1024]; ensure 1 within 9 by { var t; } else by { } else error; } end.
 abbrev pub full_process_tree : Tree

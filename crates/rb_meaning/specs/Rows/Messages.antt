@@ -1,9 +1,9 @@
 -- Messages, and what may be undone of them.
 use Rattle.std.specs.Prelude.{◌≡◌, [], ◌∷◌, ◌++◌, codes}
-use Rattle.rb_syntax.specs.declared.expression.Op.TheVariants.{Eq, Div}
+use Rattle.rb_syntax.specs.declared.expression.Op.TheVariants.{Eq, Add, Mul, Div}
 use Rattle.rb_syntax.specs.Tree.{Tree}
 use Rattle.rb_meaning.specs.Meaning.{run_text}
-use Rattle.rb_meaning.specs.Rows.Build.{array, assign, block, block_with, channel_called, element, ensure, first, of, print, process_called, program_called, program_of_edition_2, receive, receive_else, scalar, second, send, shown, times, two, variable, whole}
+use Rattle.rb_meaning.specs.Rows.Build.{array, assign, block, block_with, channel_called, element, ensure, first, of, print, process_called, program_called, program_of_edition_2, receive, receive_else, rounds, scalar, second, send, shown, times, two, variable, whole}
 
 --     program v;
 --     channel c from p to q size 2;
@@ -49,6 +49,84 @@ abbrev pub SlotLeftOpen : Type 0
 SlotLeftOpen =
     run_text slot_tree (times 2 first ++ times 2 second)
     ≡ codes "end 4\np open 0\nq open 1\nq.y = 0\nc sent 2 taken 0\n"
+
+--     program s;
+--     channel c from p to q size 1;
+--     process p { send c 1; send c 2; }
+--     process q { var y;
+--     ensure 1 within 20 by { receive c y; ensure 1 within 9 by { y := y + 1; } else error; y := y * 2; } else error; }
+--     end.
+abbrev pub room_outside_tree : Tree
+room_outside_tree =
+    let ensured_1 = ensure 5 (whole 1) 9 (block (assign "y" (two Add (of "y") (whole 1)) ∷ []) ∷ []) in
+    let alternate_1 = block (receive "c" (variable "y") ∷ ensured_1 ∷ assign "y" (two Mul (of "y") (whole 2)) ∷ []) in
+    let process_p = process_called "p" [] [] (send "c" (whole 1) ∷ send "c" (whole 2) ∷ []) in
+    let process_q = process_called "q" (scalar "y" ∷ []) [] (ensure 5 (whole 1) 20 (alternate_1 ∷ []) ∷ []) in
+    program_called "s" (channel_called "c" "p" "q" 1 ∷ []) [] (process_p ∷ process_q ∷ [])
+
+-- Room is counted from the receiver's outermost block.
+abbrev pub RoomOutside : Type 0
+RoomOutside =
+    run_text room_outside_tree (times 1 first ++ (times 3 second ++ (times 1 first ++ (times 2 second ++ (times 1 first ++ (times 2 second ++ (times 1 first ++ (times 2 second ++ times 1 first))))))))
+    ≡ codes "13 done q\n14 done p\nend 14\np done\nq done\nq.y = 4\nc sent 2 taken 1\n"
+
+--     program v;
+--     channel c from p to q size 1;
+--     process p { ensure 1 within 20 by { send c 5; ensure 1 within 9 by { } else error; } else error; }
+--     process q { var y; receive c y; }
+--     end.
+abbrev pub seen_outside_tree : Tree
+seen_outside_tree =
+    let ensured_1 = ensure 3 (whole 1) 20 (block (send "c" (whole 5) ∷ ensure 3 (whole 1) 9 (block [] ∷ []) ∷ []) ∷ []) in
+    let process_p = process_called "p" [] [] (ensured_1 ∷ []) in
+    let process_q = process_called "q" (scalar "y" ∷ []) [] (receive "c" (variable "y") ∷ []) in
+    program_called "v" (channel_called "c" "p" "q" 1 ∷ []) [] (process_p ∷ process_q ∷ [])
+
+-- A message is seen once the sender's outermost block is accepted.
+abbrev pub SeenOutside : Type 0
+SeenOutside =
+    run_text seen_outside_tree (times 3 first ++ (times 1 second ++ (times 2 first ++ (times 1 second ++ (times 1 first ++ (times 1 second ++ (times 1 first ++ times 1 second)))))))
+    ≡ codes "10 done p\n11 done q\nend 11\np done\nq done\nq.y = 5\nc sent 1 taken 1\n"
+
+--     program r;
+--     channel c from p to q size 2;
+--     process p { send c 4; send c 9; }
+--     process q { var y;
+--     ensure y = 8 within 9 by { receive c y; } else by { receive c y; y := y + 4; } else error; }
+--     end.
+abbrev pub received_again_tree : Tree
+received_again_tree =
+    let alternate_1 = block (receive "c" (variable "y") ∷ []) in
+    let alternate_2 = block (receive "c" (variable "y") ∷ assign "y" (two Add (of "y") (whole 4)) ∷ []) in
+    let ensured_1 = ensure 5 (two Eq (of "y") (whole 8)) 9 (alternate_1 ∷ alternate_2 ∷ []) in
+    let process_p = process_called "p" [] [] (send "c" (whole 4) ∷ send "c" (whole 9) ∷ []) in
+    let process_q = process_called "q" (scalar "y" ∷ []) [] (ensured_1 ∷ []) in
+    program_called "r" (channel_called "c" "p" "q" 2 ∷ []) [] (process_p ∷ process_q ∷ [])
+
+-- A receipt that was undone takes the same message again.
+abbrev pub ReceivedAgain : Type 0
+ReceivedAgain =
+    run_text received_again_tree (times 2 first ++ times 8 second)
+    ≡ codes "2 done p\n6 reject q ensure 5 1 test\n10 done q\nend 10\np done\nq done\nq.y = 8\nc sent 2 taken 1\n"
+
+--     program e;
+--     channel c from p to q size 2;
+--     channel d from q to p size 1;
+--     process p { var x; send c 3; send c 4; receive d x; }
+--     process q { var y; var z; receive c y; receive c z; send d y * 10 + z; }
+--     end.
+abbrev pub two_channels_tree : Tree
+two_channels_tree =
+    let test_1 = two Add (two Mul (of "y") (whole 10)) (of "z") in
+    let process_p = process_called "p" (scalar "x" ∷ []) [] (send "c" (whole 3) ∷ send "c" (whole 4) ∷ receive "d" (variable "x") ∷ []) in
+    let process_q = process_called "q" (scalar "y" ∷ scalar "z" ∷ []) [] (receive "c" (variable "y") ∷ receive "c" (variable "z") ∷ send "d" test_1 ∷ []) in
+    program_called "e" (channel_called "c" "p" "q" 2 ∷ channel_called "d" "q" "p" 1 ∷ []) [] (process_p ∷ process_q ∷ [])
+
+-- Messages come in the order in which they were sent.
+abbrev pub TwoChannels : Type 0
+TwoChannels =
+    run_text two_channels_tree (rounds 4 2)
+    ≡ codes "6 done q\n7 done p\nend 8\np done\np.x = 34\nq done\nq.y = 3\nq.z = 4\nc sent 2 taken 2\nd sent 1 taken 1\n"
 
 --     edition 2; program e;
 --     channel c from p to q size 2;

@@ -3,7 +3,7 @@ use Rattle.std.specs.Prelude.{◌≡◌, [], ◌∷◌, ◌++◌, codes, Ok, Err
 use Rattle.rb_meaning.specs.PlainRun.{plain_text}
 use Rattle.rb_meaning.specs.Rows.Build.{first, kept, rounds, second, started, survived, survivors_after, times}
 use Rattle.rb_meaning.specs.Rows.Blocks.{exhausted_tree, one_rejection_tree}
-use Rattle.rb_meaning.specs.Rows.Conversations.{conversation_tree, nested_tree}
+use Rattle.rb_meaning.specs.Rows.Conversations.{conversation_tree, fewer_inside_tree, full_channel_inside_tree, nested_tree, not_yet_inside_tree}
 use Rattle.rb_meaning.specs.Rows.Limits.{traps_tree}
 use Rattle.rb_meaning.specs.Rows.Messages.{maybe_tree, private_message_tree}
 
@@ -63,12 +63,27 @@ PlainMaybeReceived =
     plain_text maybe_tree (survivors_after maybe_tree (times 3 first ++ (times 3 second ++ (times 1 first ++ times 2 second))))
     ≡ Ok (codes "6 out q 1\n9 out q 7\nq.x = 7\nc sent 1 taken 1\n")
 
+abbrev pub PlainFullChannelInside : Type 0
+PlainFullChannelInside =
+    plain_text full_channel_inside_tree (survivors_after full_channel_inside_tree (rounds 12 2))
+    ≡ Ok (codes "q.a = 3\nq.b = 4\nc sent 2 taken 2\n")
+
+abbrev pub PlainNotYetInside : Type 0
+PlainNotYetInside =
+    plain_text not_yet_inside_tree (survivors_after not_yet_inside_tree (times 6 first ++ (times 10 second ++ (times 1 first ++ times 1 second))))
+    ≡ Ok (codes "17 out q 1\n18 out q 5\nq.a = 5\nc sent 1 taken 1\n")
+
+abbrev pub PlainFewerInside : Type 0
+PlainFewerInside =
+    plain_text fewer_inside_tree (survivors_after fewer_inside_tree (rounds 9 3))
+    ≡ Ok (codes "27 out r r 2\np.a = 1\nr.a = 2\n")
+
 abbrev pub PlainRecord : Type 0
 PlainRecord =
     plain_text one_rejection_tree (kept 1 first ∷ kept 2 first ∷ started 7 first 2 ∷ kept 8 first ∷ kept 9 first ∷ kept 10 first ∷ [])
     ≡ Ok (codes "10 out p two\np.x = 7\n")
 
--- Turn 10 is the `print` here, and the block stays open.
+-- Turn 10 is the `print` here. The test is never taken, and the line stays held.
 abbrev pub PlainLeftOpen : Type 0
 PlainLeftOpen =
     plain_text one_rejection_tree (kept 1 first ∷ kept 2 first ∷ started 7 first 2 ∷ kept 8 first ∷ kept 10 first ∷ [])

@@ -2,9 +2,9 @@
 use Rattle.std.specs.Prelude.{◌≡◌, [], ◌∷◌, codes}
 use Rattle.rb_syntax.specs.declared.expression.Op.TheVariants.{Or, And, Eq, Ne, Lt, Le, Gt, Ge, Add, Sub, Mul, Div, Rem}
 use Rattle.rb_syntax.specs.declared.expression.Quantifier.TheVariants.{Every, Any, Total}
-use Rattle.rb_syntax.specs.Tree.{Minus, Negation, Chained, NoLink, Linked, Tree}
+use Rattle.rb_syntax.specs.Tree.{Minus, Negation, Chained, NoLink, Linked, Loop, Tree}
 use Rattle.rb_meaning.specs.Meaning.{run_text}
-use Rattle.rb_meaning.specs.Rows.Build.{array, assign, assign_at, at, block, block_with, called, ensure, first, invoke, of, over_numbers, print, prior, prior_at, procedure_called, process_called, program_called, program_of_edition_2, scalar, shown, times, two, when, whole}
+use Rattle.rb_meaning.specs.Rows.Build.{array, assign, assign_at, at, block, block_with, called, ensure, first, invoke, of, over_numbers, print, prior, prior_at, procedure_called, process_called, program_called, program_of_edition_2, scalar, shown, times, two, when, when_else, whole}
 
 --     program a; process p { var x; var y; var z;
 --     x := 2 or 1 / 0; y := x - 1 and 1 / 0; z := 5 and 7;
@@ -127,6 +127,53 @@ abbrev pub Scopes : Type 0
 Scopes =
     run_text scopes_tree (times 10 first)
     ≡ codes "10 done p\nend 10\np done\np.x = 1\np.y = 32\n"
+
+--     program a; process p { var x;
+--     procedure f(a, b) { call g(b, a); x := x + 1; }
+--     procedure g(b, c) { var d; d := b * 100; x := d + c; }
+--     call f(x + 7, 2); call f(1 / 0, x); } end.
+abbrev pub arguments_tree : Tree
+arguments_tree =
+    let body_1 = block (invoke "g" (of "b" ∷ of "a" ∷ []) ∷ assign "x" (two Add (of "x") (whole 1)) ∷ []) in
+    let assigned_1 = assign "d" (two Mul (of "b") (whole 100)) in
+    let assigned_2 = assign "x" (two Add (of "d") (of "c")) in
+    let body_2 = block_with (scalar "d" ∷ []) (assigned_1 ∷ assigned_2 ∷ []) in
+    let procedure_f = procedure_called "f" (called "a" ∷ called "b" ∷ []) body_1 in
+    let procedure_g = procedure_called "g" (called "b" ∷ called "c" ∷ []) body_2 in
+    let invoked_1 = invoke "f" (two Add (of "x") (whole 7) ∷ whole 2 ∷ []) in
+    let invoked_2 = invoke "f" (two Div (whole 1) (whole 0) ∷ of "x" ∷ []) in
+    let process_p = process_called "p" (scalar "x" ∷ []) (procedure_f ∷ procedure_g ∷ []) (invoked_1 ∷ invoked_2 ∷ []) in
+    program_called "a" [] [] (process_p ∷ [])
+
+abbrev pub Arguments : Type 0
+Arguments =
+    run_text arguments_tree (times 6 first)
+    ≡ codes "6 error p zero\nend 6\np failed\np.x = 208\n"
+
+--     program a; process p { var x;
+--     if x { x := 1; } else { var y; y := 5; x := y; }
+--     if x { var y; x := x + y + 1; } else { x := 0; }
+--     if 0 { x := 9; }
+--     while x < 8 { var y; y := y + 1; x := x + y; } } end.
+abbrev pub choices_tree : Tree
+choices_tree =
+    let body_1 = block (assign "x" (whole 1) ∷ []) in
+    let body_2 = block_with (scalar "y" ∷ []) (assign "y" (whole 5) ∷ assign "x" (of "y") ∷ []) in
+    let assigned_1 = assign "x" (Chained (of "x") (Linked Add (of "y") (Linked Add (whole 1) NoLink))) in
+    let assigned_2 = assign "y" (two Add (of "y") (whole 1)) in
+    let assigned_3 = assign "x" (two Add (of "x") (of "y")) in
+    let choice_1 = when_else (of "x") body_1 body_2 in
+    let choice_2 = when_else (of "x") (block_with (scalar "y" ∷ []) (assigned_1 ∷ [])) (block (assign "x" (whole 0) ∷ [])) in
+    let choice_3 = when (whole 0) (block (assign "x" (whole 9) ∷ [])) in
+    let loop_1 = Loop (two Lt (of "x") (whole 8)) (block_with (scalar "y" ∷ []) (assigned_2 ∷ assigned_3 ∷ [])) in
+    let process_p = process_called "p" (scalar "x" ∷ []) [] (choice_1 ∷ choice_2 ∷ choice_3 ∷ loop_1 ∷ []) in
+    program_called "a" [] [] (process_p ∷ [])
+
+-- The variables of a block begin at 0 each time.
+abbrev pub Choices : Type 0
+Choices =
+    run_text choices_tree (times 13 first)
+    ≡ codes "13 done p\nend 13\np done\np.x = 8\n"
 
 --     edition 2; program s; process p { var a[3]; var x; a[1] := 5; x := sum i from 0 to 2 : a[i]; ensure every i from 0 to 2 : a[i] >= prior a[i] within 9 by { a[2] := 1; } else error; print x, some i from 1 to 0 : 1; } end.
 abbrev pub quantified_tree : Tree

@@ -47,6 +47,10 @@ pub returns-clause-cascade : goal.returns-clause-cascade
 unfolding digits
 returns-clause-cascade c = refl
 
+pub returns-clause-inside_a_call : goal.returns-clause-inside_a_call
+unfolding digits
+returns-clause-inside_a_call c = refl
+
 pub returns-clause-held_lines : goal.returns-clause-held_lines
 unfolding digits
 returns-clause-held_lines c = refl

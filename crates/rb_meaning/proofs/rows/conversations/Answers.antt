@@ -39,6 +39,14 @@ pub returns-clause-first_again : goal.returns-clause-first_again
 unfolding digits
 returns-clause-first_again c = refl
 
+pub returns-clause-first_again_further : goal.returns-clause-first_again_further
+unfolding digits
+returns-clause-first_again_further c = refl
+
+pub returns-clause-fewer_inside : goal.returns-clause-fewer_inside
+unfolding digits
+returns-clause-fewer_inside c = refl
+
 pub returns-clause-private_inside : goal.returns-clause-private_inside
 unfolding digits
 returns-clause-private_inside c = refl

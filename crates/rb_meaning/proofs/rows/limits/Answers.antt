@@ -11,6 +11,18 @@ pub returns-clause-open_calls : goal.returns-clause-open_calls
 unfolding digits
 returns-clause-open_calls c = refl
 
+pub returns-clause-calls_before_words : goal.returns-clause-calls_before_words
+unfolding digits
+returns-clause-calls_before_words c = refl
+
+pub returns-clause-held_bytes : goal.returns-clause-held_bytes
+unfolding digits
+returns-clause-held_bytes c = refl
+
+pub returns-clause-fail_outside : goal.returns-clause-fail_outside
+unfolding digits
+returns-clause-fail_outside c = refl
+
 pub returns-clause-full_process : goal.returns-clause-full_process
 unfolding digits
 returns-clause-full_process c = refl

@@ -15,6 +15,22 @@ pub returns-clause-slot_left_open : goal.returns-clause-slot_left_open
 unfolding digits
 returns-clause-slot_left_open c = refl
 
+pub returns-clause-room_outside : goal.returns-clause-room_outside
+unfolding digits
+returns-clause-room_outside c = refl
+
+pub returns-clause-seen_outside : goal.returns-clause-seen_outside
+unfolding digits
+returns-clause-seen_outside c = refl
+
+pub returns-clause-received_again : goal.returns-clause-received_again
+unfolding digits
+returns-clause-received_again c = refl
+
+pub returns-clause-two_channels : goal.returns-clause-two_channels
+unfolding digits
+returns-clause-two_channels c = refl
+
 pub returns-clause-maybe_received : goal.returns-clause-maybe_received
 unfolding digits
 returns-clause-maybe_received c = refl

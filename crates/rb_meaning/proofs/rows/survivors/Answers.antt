@@ -47,6 +47,18 @@ pub returns-clause-plain_maybe_received : goal.returns-clause-plain_maybe_receiv
 unfolding digits
 returns-clause-plain_maybe_received c = refl
 
+pub returns-clause-plain_full_channel_inside : goal.returns-clause-plain_full_channel_inside
+unfolding digits
+returns-clause-plain_full_channel_inside c = refl
+
+pub returns-clause-plain_not_yet_inside : goal.returns-clause-plain_not_yet_inside
+unfolding digits
+returns-clause-plain_not_yet_inside c = refl
+
+pub returns-clause-plain_fewer_inside : goal.returns-clause-plain_fewer_inside
+unfolding digits
+returns-clause-plain_fewer_inside c = refl
+
 pub returns-clause-plain_record : goal.returns-clause-plain_record
 unfolding digits
 returns-clause-plain_record c = refl

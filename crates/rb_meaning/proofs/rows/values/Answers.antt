@@ -23,6 +23,14 @@ pub returns-clause-scopes : goal.returns-clause-scopes
 unfolding digits
 returns-clause-scopes c = refl
 
+pub returns-clause-arguments : goal.returns-clause-arguments
+unfolding digits
+returns-clause-arguments c = refl
+
+pub returns-clause-choices : goal.returns-clause-choices
+unfolding digits
+returns-clause-choices c = refl
+
 pub returns-clause-quantified : goal.returns-clause-quantified
 unfolding digits
 returns-clause-quantified c = refl
