@@ -5,3 +5,4 @@ pub mod Step
 pub mod Groups
 pub mod Meaning
 pub mod PlainRun
+pub mod Rows

@@ -1,3 +1,5 @@
 // The meaning of a program: the world over its tree, in which each recovery point is a whole copy of a process's state.
 // Definitions stand in specs/, and their laws in proofs/; no code is run from here.
 #![tactic(auto)]
+
+pub mod rows;
