@@ -21,10 +21,11 @@ fallen k cause q = record { state = k.cut 0 q.state; levels = []; at_line = fals
 abbrev pub back_to : {S C M : Type 0} → Kind S C M → ℕ → Process S C → Option (Level C) → Process S C
 back_to k j q None = q
 back_to k j q (Some level) = record {
-    state = k.restore (k.cut (j + 1) q.state) level.copy;
-    levels = take (j + 1) q.levels;
-    at_line = false;
-    status = q.status }
+  state = k.restore (k.cut (j + 1) q.state) level.copy;
+  levels = take (j + 1) q.levels;
+  at_line = false;
+  status = q.status;
+}
 
 abbrev pub put_back : {S C M : Type 0} → Kind S C M → ℕ → Process S C → Process S C
 put_back k j q = back_to k j q (slice_get q.levels j)

@@ -227,10 +227,11 @@ pub record Told : Type 0 where
 
 abbrev pub told : {S C M : Type 0} → Kind S C M → World S C M → Moved S C M → Told
 told k before moved = record {
-    kind = moved.kind;
-    events = moved.rejections ++ (compared error_at 0 before.processes moved.world.processes
-        ++ (moved.passes ++ compared done_at 0 before.processes moved.world.processes));
-    released = freed_lines k moved.world }
+  kind = moved.kind;
+  events = moved.rejections ++ (compared error_at 0 before.processes moved.world.processes
+      ++ (moved.passes ++ compared done_at 0 before.processes moved.world.processes));
+  released = freed_lines k moved.world;
+}
 
 abbrev pub finishes : {S C M : Type 0} → Kind S C M → World S C M → Moved S C M → World S C M × Told
 finishes k before moved = (with_each (freed k) moved.world, told k before moved)

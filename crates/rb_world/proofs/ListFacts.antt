@@ -1,0 +1,47 @@
+-- Lists with one element changed, looked up.
+use Rattle.std.proofs.Common.{◌≡◌, ◌≤◌, ℕ, zero, suc, List, [], ◌∷◌, length, map, option_map, slice_get, unwrap_or, Option, Some, None, refl, ap, subst, arith}
+use Rattle.rb_world.specs.World.{change_at, without_last}
+
+-- what is looked up where the change was made
+pub slice_get-change_at : {A : Type 0} (p : ℕ) (f : A → A) (xs : List A) → slice_get (change_at p f xs) p ≡ option_map f (slice_get xs p)
+slice_get-change_at p f [] = refl
+slice_get-change_at zero f (x ∷ xs) = refl
+slice_get-change_at (suc p) f (x ∷ xs) = slice_get-change_at p f xs
+
+-- P holds of each element, by its number
+abbrev pub Each : {A : Type 0} → (ℕ → A → Type 0) → List A → Type 0
+Each {A} P xs = (r : ℕ) (x : A) → slice_get xs r ≡ Some x → P r x
+
+-- what a Some holds
+pub some_same : {A : Type 0} {x y : A} → Some x ≡ Some y → x ≡ y
+some_same {A} {x} e = ap (λ (o : Option A). unwrap_or o x) e
+
+pub Each-change_at : {A : Type 0} (P : ℕ → A → Type 0) (p : ℕ) (f : A → A) (xs : List A) → Each P xs
+    → ((x : A) → slice_get xs p ≡ Some x → P p (f x)) → Each P (change_at p f xs)
+Each-change_at P p f [] each new r y e = each r y e
+Each-change_at P zero f (x ∷ xs) each new zero y e = subst (P zero) (some_same e) (new x refl)
+Each-change_at P zero f (x ∷ xs) each new (suc r) y e = each (suc r) y e
+Each-change_at P (suc p) f (x ∷ xs) each new zero y e = each zero y e
+Each-change_at P (suc p) f (x ∷ xs) each new (suc r) y e =
+    Each-change_at (λ n. P (suc n)) p f xs (λ n. each (suc n)) new r y e
+
+pub Each-map : {A : Type 0} (P : ℕ → A → Type 0) (f : A → A) (xs : List A) → Each P xs
+    → ((r : ℕ) (x : A) → slice_get xs r ≡ Some x → P r x → P r (f x)) → Each P (map f xs)
+Each-map P f [] each new r y e = each r y e
+Each-map P f (x ∷ xs) each new zero y e = subst (P zero) (some_same e) (new zero x refl (each zero x refl))
+Each-map P f (x ∷ xs) each new (suc r) y e =
+    Each-map (λ n. P (suc n)) f xs (λ n. each (suc n)) (λ n. new (suc n)) r y e
+
+pub length-change_at : {A : Type 0} (p : ℕ) (f : A → A) (xs : List A) → length (change_at p f xs) ≡ length xs
+length-change_at p f [] = refl
+length-change_at zero f (x ∷ xs) = refl
+length-change_at (suc p) f (x ∷ xs) = ap suc (length-change_at p f xs)
+
+pub length-without_last : {A : Type 0} (xs : List A) → length (without_last xs) ≤ length xs
+length-without_last [] = omega arith
+length-without_last (x ∷ []) = omega arith
+length-without_last (x ∷ y ∷ ys) = omega (arith, length-without_last (y ∷ ys))
+
+-- None holds nothing
+pub none_some : {A : Type 0} {x : A} → None ≡ Some x → ⊥
+none_some e = cc
