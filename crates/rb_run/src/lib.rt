@@ -1,0 +1,8 @@
+// A run of a program over a schedule, from its tree to the bytes that it prints.
+#![tactic(auto)]
+
+pub mod engine;
+pub mod naming;
+
+pub use engine::{run, Ended};
+pub use naming::names;
