@@ -1,0 +1,47 @@
+ghost use Rattle.std.specs.Prelude.{◌≡◌, ℕ, List, [], ◌∷◌, ◌++◌, map, OnOk, OnErr, string_bytes};
+
+use rb_base::Memory;
+use std::alloc::Global;
+use std::marker::Model;
+
+/// The words after the program's name. Contracts see the list of the words, each a list of bytes.
+#[derive(Drop)]
+pub struct Words {
+    alloc: Global,
+    words: Vec<String>,
+}
+
+impl Model for Words {
+    ghost Value = { List (List ℕ) };
+
+    ghost view = { λ w. map string_bytes w.words.items };
+}
+
+impl Words {
+    /// No words. It takes no memory.
+    pub fn new(alloc: Global) -> Self
+        ensures { result ≡ [] }
+    {
+        Words {
+            alloc,
+            words: Vec::new(alloc),
+        }
+    }
+
+    /// Puts a word at the end; after `Memory` the list is as before.
+    pub fn push(&mut self, word: &str) -> Result<(), Memory>
+        ensures ok { OnOk result (self.new ≡ self.old ++ word.now ∷ []) }
+        ensures err { OnErr result (self.new ≡ self.old) }
+    {
+        let word = String::from_str(self.alloc, word)?;
+        self.words.push(word)?;
+        Ok(())
+    }
+
+    /// The words in order.
+    pub fn list(&self) -> &[String]
+        ensures { map string_bytes result.now ≡ self.now }
+    {
+        self.words.as_slice()
+    }
+}
