@@ -5,7 +5,7 @@ use Rattle.rb_meaning.specs.Rows.Build.{first, kept, rounds, second, started, su
 use Rattle.rb_meaning.specs.Rows.Blocks.{exhausted_tree, one_rejection_tree}
 use Rattle.rb_meaning.specs.Rows.Conversations.{conversation_tree, fewer_inside_tree, full_channel_inside_tree, nested_tree, not_yet_inside_tree}
 use Rattle.rb_meaning.specs.Rows.Limits.{traps_tree}
-use Rattle.rb_meaning.specs.Rows.Messages.{maybe_tree, private_message_tree}
+use Rattle.rb_meaning.specs.Rows.Messages.{maybe_tree, private_message_tree, slot_tree}
 
 abbrev pub SurvivorsOfOneRejection : Type 0
 SurvivorsOfOneRejection =
@@ -127,8 +127,13 @@ StuckAtATrap =
     plain_text traps_tree (kept 1 first ∷ started 2 first 1 ∷ kept 3 first ∷ kept 4 first ∷ [])
     ≡ Err 4
 
--- The process stands at the test line.
+abbrev pub StuckWithoutRoom : Type 0
+StuckWithoutRoom =
+    plain_text slot_tree (kept 1 first ∷ kept 2 first ∷ kept 3 second ∷ started 4 second 1 ∷ kept 5 second ∷ kept 6 first ∷ [])
+    ≡ Err 6
+
+-- The process stands at the test line of D.
 abbrev pub StuckAtTheLine : Type 0
 StuckAtTheLine =
-    plain_text conversation_tree (kept 1 first ∷ kept 2 second ∷ started 13 first 2 ∷ started 14 second 2 ∷ kept 15 first ∷ kept 17 first ∷ kept 18 second ∷ kept 19 first ∷ kept 20 second ∷ kept 21 first ∷ kept 22 first ∷ [])
-    ≡ Err 22
+    plain_text not_yet_inside_tree (kept 1 first ∷ started 2 first 1 ∷ kept 3 first ∷ started 4 first 1 ∷ kept 5 first ∷ kept 6 first ∷ kept 7 first ∷ [])
+    ≡ Err 7
