@@ -6,7 +6,7 @@ ghost use Rattle.rb_meaning.specs.Rows.Limits.{TrapsInTurn, OpenCalls, CallsBefo
 ghost use Rattle.rb_meaning.specs.Rows.Values.{ShortCircuit, Division, Comparisons, IndexFirst, Scopes, Arguments, Choices, Quantified, LongRange, LongestRange, StopsEarly};
 ghost use Rattle.rb_meaning.specs.Rows.Messages.{PrivateMessage, SlotNotFree, SlotLeftOpen, RoomOutside, SeenOutside, ReceivedAgain, TwoChannels, MaybeReceived, MaybeReceivedElement, IndexOfReceipt, WaitFirst, EndOfWait};
 ghost use Rattle.rb_meaning.specs.Rows.Conversations.{OneConversation, LateMember, NestedConversation, BrokenConversation, BrokenForThree, OverrunAtTheLine, ExhaustedInside, UndoneInside, FirstAgain, FirstAgainFurther, FewerInside, PrivateInside, NotYetInside, FullChannelInside};
-ghost use Rattle.rb_meaning.specs.Rows.Survivors.{SurvivorsOfOneRejection, SurvivorsOfExhausted, SurvivorsOfAPrivateMessage, SurvivorsOfAConversation, SurvivorsOfMaybeReceived, PlainOneRejection, PlainExhausted, PlainPrivateMessage, PlainConversation, PlainNestedConversation, PlainMaybeReceived, PlainFullChannelInside, PlainNotYetInside, PlainFewerInside, PlainRecord, PlainLeftOpen, StuckAtTest, StuckWithoutAlternate, StuckWithAThirdAlternate, StuckWithAnAlternate, StuckWhenDone, StuckAtAWait, StuckAtATrap, StuckAtTheLine};
+ghost use Rattle.rb_meaning.specs.Rows.Survivors.{SurvivorsOfOneRejection, SurvivorsOfExhausted, SurvivorsOfAPrivateMessage, SurvivorsOfAConversation, SurvivorsOfMaybeReceived, PlainOneRejection, PlainExhausted, PlainPrivateMessage, PlainConversation, PlainNestedConversation, PlainMaybeReceived, PlainFullChannelInside, PlainNotYetInside, PlainFewerInside, PlainRecord, PlainLeftOpen, StuckAtTest, StuckWithoutAlternate, StuckWithAThirdAlternate, StuckWithAnAlternate, StuckWhenDone, StuckAtAWait, StuckAtATrap, StuckWithoutRoom, StuckAtTheLine};
 
 /// Recovery blocks of one process.
 pub fn blocks()
@@ -113,5 +113,6 @@ pub fn survivors()
     ensures stuck_when_done { StuckWhenDone }
     ensures stuck_at_a_wait { StuckAtAWait }
     ensures stuck_at_a_trap { StuckAtATrap }
+    ensures stuck_without_room { StuckWithoutRoom }
     ensures stuck_at_the_line { StuckAtTheLine }
 {}

@@ -54,7 +54,7 @@ late_member_tree =
 -- Who enters late begins at the present alternate.
 abbrev pub LateMember : Type 0
 LateMember =
-    run_text late_member_tree (times 4 first ++ (times 4 second ++ (times 3 first ++ times 1 second)))
+    run_text late_member_tree (times 4 first ++ times 4 second ++ times 3 first ++ times 1 second)
     ≡ codes "4 reject C 1 by p test\n12 pass C 2\n12 done p\n12 done q\nend 12\np done\np.a = 2\nq done\nq.b = 21\n"
 
 --     program n;
@@ -125,7 +125,7 @@ broken_for_three_tree =
 -- All that are inside fail together; who enters later fails then.
 abbrev pub BrokenForThree : Type 0
 BrokenForThree =
-    run_text broken_for_three_tree (times 1 first ++ (times 4 second ++ (times 4 first ++ times 4 third)))
+    run_text broken_for_three_tree (times 1 first ++ times 4 second ++ times 4 first ++ times 4 third)
     ≡ codes "1 out p p\n9 reject C 1 by p test\n9 error p inner\n9 error q inner\n12 error r broken\nend 13\np failed\nq failed\nq.a = 1\nr failed\nr.a = 1\n"
 
 --     program o;
@@ -186,7 +186,7 @@ undone_inside_tree =
 -- A member goes back out of a block that it has open inside, and its turns are counted anew.
 abbrev pub UndoneInside : Type 0
 UndoneInside =
-    run_text undone_inside_tree (times 6 second ++ (times 3 first ++ (times 3 second ++ times 2 first)))
+    run_text undone_inside_tree (times 6 second ++ times 3 first ++ times 3 second ++ times 2 first)
     ≡ codes "9 reject C 1 by p fail\n14 pass C 2\n14 out q y 0\n14 done p\n14 done q\nend 14\np done\nq done\nq.a = 0\n"
 
 --     program n;
@@ -336,7 +336,7 @@ not_yet_inside_tree =
 -- A message from a conversation is seen by a member once it has entered.
 abbrev pub NotYetInside : Type 0
 NotYetInside =
-    run_text not_yet_inside_tree (times 6 first ++ (times 10 second ++ (times 1 first ++ times 1 second)))
+    run_text not_yet_inside_tree (times 6 first ++ times 10 second ++ times 1 first ++ times 1 second)
     ≡ codes "15 pass D 1\n17 pass C 1\n17 out q 1\n17 done p\n18 out q 5\n18 done q\nend 18\np done\nq done\nq.a = 5\nc sent 1 taken 1\n"
 
 --     program f;

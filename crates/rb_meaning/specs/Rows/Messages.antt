@@ -23,7 +23,7 @@ private_message_tree =
 -- A message that was sent in a block is seen once the block is accepted.
 abbrev pub PrivateMessage : Type 0
 PrivateMessage =
-    run_text private_message_tree (times 4 first ++ (times 1 second ++ (times 1 first ++ (times 1 second ++ (times 3 first ++ (times 1 second ++ (times 1 first ++ times 2 second)))))))
+    run_text private_message_tree (times 4 first ++ times 1 second ++ times 1 first ++ times 1 second ++ times 3 first ++ times 1 second ++ times 1 first ++ times 2 second)
     ≡ codes "6 reject p ensure 4 1 test\n12 done p\n14 out q 20\n14 done q\nend 14\np done\np.x = 2\nq done\nq.y = 20\nc sent 1 taken 1\n"
 
 --     program s;
@@ -42,7 +42,7 @@ slot_tree =
 -- A receipt frees its slot once it can't be undone.
 abbrev pub SlotNotFree : Type 0
 SlotNotFree =
-    run_text slot_tree (times 2 first ++ (times 3 second ++ (times 1 first ++ (times 1 second ++ times 1 first))))
+    run_text slot_tree (times 2 first ++ times 3 second ++ times 1 first ++ times 1 second ++ times 1 first)
     ≡ codes "7 done q\n8 done p\nend 8\np done\nq done\nq.y = 1\nc sent 3 taken 1\n"
 
 abbrev pub SlotLeftOpen : Type 0
@@ -67,7 +67,7 @@ room_outside_tree =
 -- Room is counted from the receiver's outermost block.
 abbrev pub RoomOutside : Type 0
 RoomOutside =
-    run_text room_outside_tree (times 1 first ++ (times 3 second ++ (times 1 first ++ (times 2 second ++ (times 1 first ++ (times 2 second ++ (times 1 first ++ (times 2 second ++ times 1 first))))))))
+    run_text room_outside_tree (times 1 first ++ times 3 second ++ times 1 first ++ times 2 second ++ times 1 first ++ times 2 second ++ times 1 first ++ times 2 second ++ times 1 first)
     ≡ codes "13 done q\n14 done p\nend 14\np done\nq done\nq.y = 4\nc sent 2 taken 1\n"
 
 --     program v;
@@ -85,7 +85,7 @@ seen_outside_tree =
 -- A message is seen once the sender's outermost block is accepted.
 abbrev pub SeenOutside : Type 0
 SeenOutside =
-    run_text seen_outside_tree (times 3 first ++ (times 1 second ++ (times 2 first ++ (times 1 second ++ (times 1 first ++ (times 1 second ++ (times 1 first ++ times 1 second)))))))
+    run_text seen_outside_tree (times 3 first ++ times 1 second ++ times 2 first ++ times 1 second ++ times 1 first ++ times 1 second ++ times 1 first ++ times 1 second)
     ≡ codes "10 done p\n11 done q\nend 11\np done\nq done\nq.y = 5\nc sent 1 taken 1\n"
 
 --     program r;
@@ -145,7 +145,7 @@ maybe_tree =
 
 abbrev pub MaybeReceived : Type 0
 MaybeReceived =
-    run_text maybe_tree (times 3 first ++ (times 3 second ++ (times 1 first ++ times 2 second)))
+    run_text maybe_tree (times 3 first ++ times 3 second ++ times 1 first ++ times 2 second)
     ≡ codes "6 out q 1\n7 done p\n9 out q 7\n9 done q\nend 9\np done\nq done\nq.x = 7\nc sent 1 taken 1\n"
 
 --     edition 2; program f;
@@ -169,7 +169,7 @@ maybe_element_tree =
 -- Where nothing is there, no index is evaluated.
 abbrev pub MaybeReceivedElement : Type 0
 MaybeReceivedElement =
-    run_text maybe_element_tree (times 4 second ++ (times 1 first ++ times 3 second))
+    run_text maybe_element_tree (times 4 second ++ times 1 first ++ times 3 second)
     ≡ codes "5 done p\n8 done q\nend 8\np done\nq done\nq.a = 0 4\nq.i = 0\nc sent 1 taken 1\n"
 
 --     program i;
@@ -206,7 +206,7 @@ wait_first_tree =
 -- A send waits before it evaluates.
 abbrev pub WaitFirst : Type 0
 WaitFirst =
-    run_text wait_first_tree (times 2 first ++ (times 1 second ++ times 1 first))
+    run_text wait_first_tree (times 2 first ++ times 1 second ++ times 1 first)
     ≡ codes "3 done q\n4 error p zero\nend 4\np failed\nq done\nq.x = 1\nc sent 1 taken 1\n"
 
 --     program w;

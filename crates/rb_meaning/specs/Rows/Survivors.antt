@@ -5,7 +5,7 @@ use Rattle.rb_meaning.specs.Rows.Build.{first, kept, rounds, second, started, su
 use Rattle.rb_meaning.specs.Rows.Blocks.{exhausted_tree, one_rejection_tree}
 use Rattle.rb_meaning.specs.Rows.Conversations.{conversation_tree, fewer_inside_tree, full_channel_inside_tree, nested_tree, not_yet_inside_tree}
 use Rattle.rb_meaning.specs.Rows.Limits.{traps_tree}
-use Rattle.rb_meaning.specs.Rows.Messages.{maybe_tree, private_message_tree}
+use Rattle.rb_meaning.specs.Rows.Messages.{maybe_tree, private_message_tree, slot_tree}
 
 abbrev pub SurvivorsOfOneRejection : Type 0
 SurvivorsOfOneRejection =
@@ -20,7 +20,7 @@ SurvivorsOfExhausted =
 
 abbrev pub SurvivorsOfAPrivateMessage : Type 0
 SurvivorsOfAPrivateMessage =
-    survived private_message_tree (times 4 first ++ (times 1 second ++ (times 1 first ++ (times 1 second ++ (times 3 first ++ (times 1 second ++ (times 1 first ++ times 2 second)))))))
+    survived private_message_tree (times 4 first ++ times 1 second ++ times 1 first ++ times 1 second ++ times 3 first ++ times 1 second ++ times 1 first ++ times 2 second)
     ≡ codes "1 p\n8 p 2\n9 p\n10 p\n12 p\n13 q\n14 q\n"
 
 abbrev pub SurvivorsOfAConversation : Type 0
@@ -30,7 +30,7 @@ SurvivorsOfAConversation =
 
 abbrev pub SurvivorsOfMaybeReceived : Type 0
 SurvivorsOfMaybeReceived =
-    survived maybe_tree (times 3 first ++ (times 3 second ++ (times 1 first ++ times 2 second)))
+    survived maybe_tree (times 3 first ++ times 3 second ++ times 1 first ++ times 2 second)
     ≡ codes "1 p\n2 p 1\n3 p\n4 q\n5 q\n6 q\n7 p\n8 q\n9 q\n"
 
 abbrev pub PlainOneRejection : Type 0
@@ -45,7 +45,7 @@ PlainExhausted =
 
 abbrev pub PlainPrivateMessage : Type 0
 PlainPrivateMessage =
-    plain_text private_message_tree (survivors_after private_message_tree (times 4 first ++ (times 1 second ++ (times 1 first ++ (times 1 second ++ (times 3 first ++ (times 1 second ++ (times 1 first ++ times 2 second))))))))
+    plain_text private_message_tree (survivors_after private_message_tree (times 4 first ++ times 1 second ++ times 1 first ++ times 1 second ++ times 3 first ++ times 1 second ++ times 1 first ++ times 2 second))
     ≡ Ok (codes "14 out q 20\np.x = 2\nq.y = 20\nc sent 1 taken 1\n")
 
 abbrev pub PlainConversation : Type 0
@@ -60,7 +60,7 @@ PlainNestedConversation =
 
 abbrev pub PlainMaybeReceived : Type 0
 PlainMaybeReceived =
-    plain_text maybe_tree (survivors_after maybe_tree (times 3 first ++ (times 3 second ++ (times 1 first ++ times 2 second))))
+    plain_text maybe_tree (survivors_after maybe_tree (times 3 first ++ times 3 second ++ times 1 first ++ times 2 second))
     ≡ Ok (codes "6 out q 1\n9 out q 7\nq.x = 7\nc sent 1 taken 1\n")
 
 abbrev pub PlainFullChannelInside : Type 0
@@ -70,7 +70,7 @@ PlainFullChannelInside =
 
 abbrev pub PlainNotYetInside : Type 0
 PlainNotYetInside =
-    plain_text not_yet_inside_tree (survivors_after not_yet_inside_tree (times 6 first ++ (times 10 second ++ (times 1 first ++ times 1 second))))
+    plain_text not_yet_inside_tree (survivors_after not_yet_inside_tree (times 6 first ++ times 10 second ++ times 1 first ++ times 1 second))
     ≡ Ok (codes "17 out q 1\n18 out q 5\nq.a = 5\nc sent 1 taken 1\n")
 
 abbrev pub PlainFewerInside : Type 0
@@ -127,8 +127,13 @@ StuckAtATrap =
     plain_text traps_tree (kept 1 first ∷ started 2 first 1 ∷ kept 3 first ∷ kept 4 first ∷ [])
     ≡ Err 4
 
--- The process stands at the test line.
+abbrev pub StuckWithoutRoom : Type 0
+StuckWithoutRoom =
+    plain_text slot_tree (kept 1 first ∷ kept 2 first ∷ kept 3 second ∷ started 4 second 1 ∷ kept 5 second ∷ kept 6 first ∷ [])
+    ≡ Err 6
+
+-- The process stands at the test line of D.
 abbrev pub StuckAtTheLine : Type 0
 StuckAtTheLine =
-    plain_text conversation_tree (kept 1 first ∷ kept 2 second ∷ started 13 first 2 ∷ started 14 second 2 ∷ kept 15 first ∷ kept 17 first ∷ kept 18 second ∷ kept 19 first ∷ kept 20 second ∷ kept 21 first ∷ kept 22 first ∷ [])
-    ≡ Err 22
+    plain_text not_yet_inside_tree (kept 1 first ∷ started 2 first 1 ∷ kept 3 first ∷ started 4 first 1 ∷ kept 5 first ∷ kept 6 first ∷ kept 7 first ∷ [])
+    ≡ Err 7

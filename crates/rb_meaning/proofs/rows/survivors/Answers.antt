@@ -95,6 +95,10 @@ pub returns-clause-stuck_at_a_trap : goal.returns-clause-stuck_at_a_trap
 unfolding digits
 returns-clause-stuck_at_a_trap c = refl
 
+pub returns-clause-stuck_without_room : goal.returns-clause-stuck_without_room
+unfolding digits
+returns-clause-stuck_without_room c = refl
+
 pub returns-clause-stuck_at_the_line : goal.returns-clause-stuck_at_the_line
 unfolding digits
 returns-clause-stuck_at_the_line c = refl
