@@ -8,6 +8,8 @@ use Rattle.rb_syntax.specs.Tree.{Tree}
 use Rattle.rb_meaning.specs.Meaning.{run_text}
 use Rattle.rb_parse.specs.Verdict.{HasTree, RefusedFor, most_bytes}
 use Rattle.rb_sched.specs.Schedule.{schedule_of}
+use Rattle.rb_run.specs.declared.engine.Ended.{Ended}
+use Rattle.rb_run.specs.declared.engine.Ended.TheVariants as ends
 use Rattle.rb_run.specs.Ran.{names_of}
 use Rattle.rb_top.specs.Words.{Request}
 use Rattle.rb_top.specs.declared.status.Status.{Status}
@@ -161,3 +163,26 @@ pub record HoldsTree (files : List File) (name : List ℕ) (tree : Tree) : Type 
 abbrev pub HoldsTreeIn : Option (List File) → List ℕ → Tree → Type 0
 HoldsTreeIn None name tree = Unit {0}
 HoldsTreeIn (Some files) name tree = HoldsTree files name tree
+
+-- The schedule of an accepted source is accepted, and its run has this text.
+pub record ScheduleRuns (tree : Tree) (schedule text : List ℕ) : Type 0 where
+  pub turns : List ℕ
+  pub short : length schedule ≤ most_bytes
+  pub listed : schedule_of (names_of tree) schedule ≡ Ok turns
+  pub is : text ≡ run_text tree turns
+
+-- each answer once the source was accepted and the schedule read
+abbrev pub AfterSchedule : Tree → List ℕ → Option (List ℕ) → Option (List ℕ) → ℕ → ℕ → Status → Type 0
+AfterSchedule tree schedule old new before after Done = (text : List ℕ) × ScheduleRuns tree schedule text × (new ≡ then_written old text)
+AfterSchedule tree schedule old new before after Refused = (line : List ℕ) × ScheduleRefused tree schedule line × (new ≡ then_written old line)
+AfterSchedule tree schedule old new before after Usage = ⊥
+AfterSchedule tree schedule old new before after ReadFault = ⊥
+AfterSchedule tree schedule old new before after WriteFault =
+    Rose before after × ((text : List ℕ) × (ScheduleRuns tree schedule text ⊎ ScheduleRefused tree schedule text) × WrotePart old new text)
+AfterSchedule tree schedule old new before after Memory = new ≡ old
+
+-- how the call ends after a run
+abbrev pub status_of_run : Result (Unit {0}) Ended → Status
+status_of_run (Ok done) = Done
+status_of_run (Err ends.WriteFault) = WriteFault
+status_of_run (Err ends.Memory) = Memory

@@ -1,11 +1,11 @@
-ghost use Rattle.std.specs.Prelude.{◌≡◌};
+ghost use Rattle.std.specs.Prelude.{◌≡◌, ◌++◌, codes};
 ghost use Rattle.rb_outside.specs.Puts.{Puts};
 ghost use Rattle.rb_top.specs.Answers.{source_line, schedule_line, too_long_line, usage_line};
 
 use itoa::Buffer;
 use rb_base::{SourceFault, TextFault};
 use rb_outside::{Failed, Sink};
-use rb_trace::line::put;
+use rb_trace::line::{put, put_pieces};
 
 /// Writes the line of a source's fault.
 pub fn refuse_source<S: Sink>(out: &mut S, fault: SourceFault) -> Result<(), Failed>
@@ -13,13 +13,21 @@ pub fn refuse_source<S: Sink>(out: &mut S, fault: SourceFault) -> Result<(), Fai
 {
     let mut lines = Buffer::new();
     let mut columns = Buffer::new();
-    put(out, b"refused ")?;
-    put(out, fault.name.word())?;
-    put(out, b" at ")?;
-    put(out, lines.format(fault.place.line).as_bytes())?;
-    put(out, b":")?;
-    put(out, columns.format(fault.place.column).as_bytes())?;
-    put(out, b"\n")
+    let line = lines.format(fault.place.line).as_bytes();
+    let column = columns.format(fault.place.column).as_bytes();
+    put_place(out, fault.name.word(), line, column)
+}
+
+// The references of one list have one lifetime.
+fn put_place<'w, S: Sink>(
+    out: &mut S,
+    name: &'w [u8],
+    line: &'w [u8],
+    column: &'w [u8],
+) -> Result<(), Failed>
+    ensures { Puts (codes "refused " ++ (name.now ++ (codes " at " ++ (line.now ++ (codes ":" ++ (column.now ++ codes "\n")))))) (S.written out.old) (S.written out.new) (S.faults out.old) (S.faults out.new) result }
+{
+    put_pieces(out, &[b"refused ", name, b" at ", line, b":", column, b"\n"])
 }
 
 /// Writes the line of a schedule's fault.
@@ -27,11 +35,13 @@ pub fn refuse_schedule<S: Sink>(out: &mut S, fault: TextFault) -> Result<(), Fai
     ensures { Puts (schedule_line fault) (S.written out.old) (S.written out.new) (S.faults out.old) (S.faults out.new) result }
 {
     let mut lines = Buffer::new();
-    put(out, b"refused ")?;
-    put(out, fault.name.word())?;
-    put(out, b" at ")?;
-    put(out, lines.format(fault.at).as_bytes())?;
-    put(out, b"\n")
+    put_at(out, fault.name.word(), lines.format(fault.at).as_bytes())
+}
+
+fn put_at<'w, S: Sink>(out: &mut S, name: &'w [u8], line: &'w [u8]) -> Result<(), Failed>
+    ensures { Puts (codes "refused " ++ (name.now ++ (codes " at " ++ (line.now ++ codes "\n")))) (S.written out.old) (S.written out.new) (S.faults out.old) (S.faults out.new) result }
+{
+    put_pieces(out, &[b"refused ", name, b" at ", line, b"\n"])
 }
 
 /// Writes the line of a file that is too long.

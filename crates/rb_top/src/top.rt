@@ -1,14 +1,19 @@
-ghost use Rattle.std.specs.Prelude.{◌≡◌, ◌≤◌, length, vec_len};
+ghost use Rattle.std.specs.Prelude.{◌≡◌, ◌≤◌, ℕ, List, length, vec_len, true, MatchResult};
 ghost use Rattle.rb_syntax.specs.Plain.{tree};
+ghost use Rattle.rb_parse.specs.Scoped.{is_scoped};
+ghost use Rattle.rb_meaning.specs.Meaning.{naming_of};
+ghost use Rattle.rb_trace.specs.Naming.{naming};
+ghost use Rattle.rb_sched.specs.Schedule.{process_names};
+ghost use Rattle.rb_run.specs.Ran.{names_of};
 ghost use Rattle.rb_top.specs.Words.{Request, request_of};
-ghost use Rattle.rb_top.specs.Answers.{Scene, WithRequest, WhereRequested, WasReadIn, HoldsTreeIn};
+ghost use Rattle.rb_top.specs.Answers.{Scene, WithRequest, WhereRequested, WasReadIn, HoldsTreeIn, AfterSchedule, status_of_run};
 
 use crate::read::{MOST_BYTES, Unread, read_file};
 use crate::refuse::{put_usage, refuse_long, refuse_schedule, refuse_source};
 use crate::request::request;
 use crate::status::Status;
 use crate::words::Words;
-use rb_base::Refusal;
+use rb_base::{Memory, Names, Refusal};
 use rb_outside::{Failed, Shelf, Sink};
 use rb_parse::parse;
 use rb_run::{Ended, names, run};
@@ -39,8 +44,10 @@ pub fn command<F: Shelf, S: Sink>(
     }
 }
 
-// A line that was to end the call with this status.
-fn status_after(written: Result<(), Failed>, status: Status) -> Status {
+// How the call ends after a line that was to end it with this status.
+fn status_after(written: Result<(), Failed>, status: Status) -> Status
+    ensures { MatchResult written (λ _. result ≡ status) (λ _. result ≡ Status.WriteFault) }
+{
     match written {
         Ok(()) => status,
         Err(_) => Status::WriteFault,
@@ -53,7 +60,15 @@ fn run_files<F: Shelf, S: Sink>(
     schedule: &str,
     shelf: &mut F,
     out: &mut S,
-) -> Status {
+) -> Status
+    ensures files { F.files shelf.new ≡ F.files shelf.old }
+    ensures read_faults { F.faults shelf.old ≤ F.faults shelf.new }
+    ensures write_faults { S.faults out.old ≤ S.faults out.new }
+    ensures answers { WithRequest (record { source = source.now; schedule = schedule.now })
+        (record { files = F.files shelf.old; reading = F.reading shelf.old; read_faults = F.faults shelf.old; written = S.written out.old; write_faults = S.faults out.old })
+        (record { files = F.files shelf.new; reading = F.reading shelf.new; read_faults = F.faults shelf.new; written = S.written out.new; write_faults = S.faults out.new })
+        result }
+{
     match read_file(alloc, shelf, source) {
         Ok(bytes) => judge_source(alloc, source, bytes.as_slice(), schedule, shelf, out),
         Err(Unread::Fault) => Status::ReadFault,
@@ -61,6 +76,7 @@ fn run_files<F: Shelf, S: Sink>(
     }
 }
 
+// The source was read.
 fn judge_source<F: Shelf, S: Sink>(
     alloc: Global,
     source: &str,
@@ -68,7 +84,16 @@ fn judge_source<F: Shelf, S: Sink>(
     schedule: &str,
     shelf: &mut F,
     out: &mut S,
-) -> Status {
+) -> Status
+    requires { WasReadIn (F.files shelf.old) source.now bytes.now (F.reading shelf.old) }
+    ensures files { F.files shelf.new ≡ F.files shelf.old }
+    ensures read_faults { F.faults shelf.old ≤ F.faults shelf.new }
+    ensures write_faults { S.faults out.old ≤ S.faults out.new }
+    ensures answers { WithRequest (record { source = source.now; schedule = schedule.now })
+        (record { files = F.files shelf.old; reading = F.reading shelf.old; read_faults = F.faults shelf.old; written = S.written out.old; write_faults = S.faults out.old })
+        (record { files = F.files shelf.new; reading = F.reading shelf.new; read_faults = F.faults shelf.new; written = S.written out.new; write_faults = S.faults out.new })
+        result }
+{
     if bytes.len() > MOST_BYTES {
         return status_after(refuse_long(out), Status::Refused);
     }
@@ -79,14 +104,26 @@ fn judge_source<F: Shelf, S: Sink>(
     }
 }
 
+// The source was accepted. Its name is seen by the contract alone.
 fn read_schedule<F: Shelf, S: Sink>(
     alloc: Global,
-    _source: &str,
+    source: &str,
     program: &Program<'_>,
     schedule: &str,
     shelf: &mut F,
     out: &mut S,
-) -> Status {
+) -> Status
+    requires held { HoldsTreeIn (F.files shelf.old) source.now (tree program.now) }
+    requires scoped { is_scoped (tree program.now) ≡ true }
+    ensures files { F.files shelf.new ≡ F.files shelf.old }
+    ensures read_faults { F.faults shelf.old ≤ F.faults shelf.new }
+    ensures write_faults { S.faults out.old ≤ S.faults out.new }
+    ensures answers { WithRequest (record { source = source.now; schedule = schedule.now })
+        (record { files = F.files shelf.old; reading = F.reading shelf.old; read_faults = F.faults shelf.old; written = S.written out.old; write_faults = S.faults out.old })
+        (record { files = F.files shelf.new; reading = F.reading shelf.new; read_faults = F.faults shelf.new; written = S.written out.new; write_faults = S.faults out.new })
+        result }
+{
+    let _ = source;
     match read_file(alloc, shelf, schedule) {
         Ok(bytes) => run_schedule(alloc, program, bytes.as_slice(), out),
         Err(Unread::Fault) => Status::ReadFault,
@@ -94,24 +131,53 @@ fn read_schedule<F: Shelf, S: Sink>(
     }
 }
 
+// The schedule was read.
 fn run_schedule<S: Sink>(
     alloc: Global,
     program: &Program<'_>,
     bytes: &[u8],
     out: &mut S,
-) -> Status {
+) -> Status
+    requires { is_scoped (tree program.now) ≡ true }
+    ensures write_faults { S.faults out.old ≤ S.faults out.new }
+    ensures answers { AfterSchedule (tree program.now) bytes.now (S.written out.old) (S.written out.new) (S.faults out.old) (S.faults out.new) result }
+{
     if bytes.len() > MOST_BYTES {
         return status_after(refuse_long(out), Status::Refused);
     }
-    let Ok(names) = names(alloc, program) else {
-        return Status::Memory;
-    };
-    match Schedule::read(bytes, &names) {
-        Ok(schedule) => match run(alloc, program, &names, schedule, out) {
-            Ok(()) => Status::Done,
-            Err(Ended::WriteFault) => Status::WriteFault,
-            Err(Ended::Memory) => Status::Memory,
-        },
+    match names(alloc, program) {
+        Ok(names) => run_named(alloc, program, &names, bytes, out),
+        Err(Memory) => Status::Memory,
+    }
+}
+
+fn run_named<S: Sink>(
+    alloc: Global,
+    program: &Program<'_>,
+    names: &Names,
+    bytes: &[u8],
+    out: &mut S,
+) -> Status
+    requires short { length bytes.now ≤ 1048576 }
+    requires scoped { is_scoped (tree program.now) ≡ true }
+    requires printed { naming names.now ≡ naming_of (tree program.now) }
+    requires scheduled { process_names names.now ≡ names_of (tree program.now) }
+    ensures write_faults { S.faults out.old ≤ S.faults out.new }
+    ensures answers { AfterSchedule (tree program.now) bytes.now (S.written out.old) (S.written out.new) (S.faults out.old) (S.faults out.new) result }
+{
+    match Schedule::read(bytes, names) {
+        Ok(schedule) => status_of(run(alloc, program, names, schedule, out)),
         Err(fault) => status_after(refuse_schedule(out, fault), Status::Refused),
+    }
+}
+
+// How the call ends after a run.
+fn status_of(ran: Result<(), Ended>) -> Status
+    ensures { result ≡ status_of_run ran }
+{
+    match ran {
+        Ok(()) => Status::Done,
+        Err(Ended::WriteFault) => Status::WriteFault,
+        Err(Ended::Memory) => Status::Memory,
     }
 }

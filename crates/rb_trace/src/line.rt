@@ -1,4 +1,5 @@
 ghost use Rattle.std.specs.Prelude.{◌≡◌, ℕ, List, [], ◌∷◌, ◌++◌, map};
+ghost use Rattle.std.specs.List.{flat_map};
 ghost use Rattle.rb_outside.specs.Puts.{Puts};
 ghost use Rattle.rb_world.specs.Text.{line_of};
 ghost use Rattle.rb_trace.specs.Lines.{spaced, spaced_word};
@@ -52,4 +53,14 @@ fn put_spaced<S: Sink>(out: &mut S, word: &[u8]) -> Result<(), Failed>
 {
     put(out, b" ")?;
     put(out, word)
+}
+
+/// Writes pieces one after another.
+pub fn put_pieces<S: Sink>(out: &mut S, pieces: &[&[u8]]) -> Result<(), Failed>
+    ensures { Puts (flat_map (λ piece. piece.now) pieces.now) (S.written out.old) (S.written out.new) (S.faults out.old) (S.faults out.new) result }
+{
+    for piece in pieces {
+        put(out, piece)?;
+    }
+    Ok(())
 }
