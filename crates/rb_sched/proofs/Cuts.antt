@@ -3,10 +3,12 @@ use Rattle.std.proofs.Common.{◌≡◌, ℕ, suc, ◌-◌, List, [], ◌∷◌,
 use Rattle.std.specs.Cmp.Lexicographic.{pointwise}
 use Rattle.rb_sched.specs.Schedule.{without_cr}
 
+-- a test and no further one
 and_true : (t : Bool) → t ≡ (t && true)
 and_true true = refl
 and_true false = refl
 
+-- a byte in front of either choice
 cond-cons : (t : Bool) (b : ℕ) (xs ys : List ℕ) → b ∷ cond t xs ys ≡ cond t (b ∷ xs) (b ∷ ys)
 cond-cons true b xs ys = refl
 cond-cons false b xs ys = refl

@@ -1,4 +1,5 @@
 pub mod Cuts
 pub mod WordForms
 pub mod TurnsLeft
+pub mod LineTurns
 pub mod Walk

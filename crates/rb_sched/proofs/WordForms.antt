@@ -14,7 +14,7 @@ capped_past cap n [] past = omega arith
 capped_past cap n (d ∷ ds) past = capped_past cap (10 * n + (d - 48)) ds (omega arith)
 
 -- a count may be capped after each digit
-pub digits_value_capped : (cap n : ℕ) (ds : List ℕ) → min (digits_value (min n cap) ds) cap ≡ min (digits_value n ds) cap
+digits_value_capped : (cap n : ℕ) (ds : List ℕ) → min (digits_value (min n cap) ds) cap ≡ min (digits_value n ds) cap
 digits_value_capped cap n ds = ⊎_elim
     (λ below. ap (λ m. min (digits_value m ds) cap) (let e : min n cap ≡ n = omega arith in e))
     (λ past. capped_past cap (min n cap) ds (omega arith) ∙ sym (capped_past cap n ds past))
@@ -25,6 +25,7 @@ pub digits_value_more : (n : ℕ) (ds : List ℕ) → 1 ≤ length ds → min (d
 digits_value_more n [] some = absurd (omega arith)
 digits_value_more n (d ∷ ds) some = digits_value_capped 1000001 (10 * n + (d - 48)) ds
 
+-- a test that all pass is passed by all but the first
 pub list_all_drop : (p : ℕ → Bool) (xs : List ℕ) → 1 ≤ length xs → list_all p xs ≡ true → list_all p (drop 1 xs) ≡ true
 list_all_drop p [] some all = absurd (omega arith)
 list_all_drop p (x ∷ xs) some all = and_right (p x) (list_all p xs) all
@@ -33,12 +34,13 @@ list_all_drop p (x ∷ xs) some all = and_right (p x) (list_all p xs) all
     and_right true t e = e
     and_right false t e = absurd (cc)
 
+-- how many pass first, before and after a map
 prefix_len_mapped : {X Y : Type 0} (p : Y → Bool) (f : X → Y) (xs : List X) → prefix_len p (map f xs) ≡ prefix_len (λ x. p (f x)) xs
 prefix_len_mapped p f [] = refl
 prefix_len_mapped p f (x ∷ xs) = ap (λ n. cond (p (f x)) (1 + n) 0) (prefix_len_mapped p f xs)
 
 -- the first place that passes, before and after a map
-pub position_mapped : {X Y : Type 0} (p : Y → Bool) (f : X → Y) (xs : List X) → position p (map f xs) ≡ position (λ x. p (f x)) xs
+position_mapped : {X Y : Type 0} (p : Y → Bool) (f : X → Y) (xs : List X) → position p (map f xs) ≡ position (λ x. p (f x)) xs
 position_mapped p f xs = rw (prefix_len_mapped (λ y. not (p y)) f xs, length-map xs f) refl
 
 -- a name's place is its process's
@@ -48,5 +50,6 @@ place_named names word ps r same found =
     ∙ ap (position (λ process. pointwise nat_eq process.name word)) same
     ∙ sym (position_mapped (λ name. pointwise nat_eq name word) (λ process. process.name) names.processes.items)
 
+-- a name for each process
 pub length_process_names : (names : Names) → length (process_names names) ≡ vec_len names.processes
 length_process_names names = length-map names.processes.items (λ process. process.name) ∙ sym names.processes.ok.0

@@ -8,22 +8,22 @@ use rb_base::{Names, ProcessNames};
 /// The greatest count, and the most turns that a schedule may have.
 pub(crate) const MOST_TURNS: u32 = 1_000_000;
 
-fn is_letter(b: u8) -> bool
-    ensures { result ≡ is_letter b }
+fn is_letter(byte: u8) -> bool
+    ensures { result ≡ is_letter byte }
 {
-    b.is_ascii_alphabetic()
+    byte.is_ascii_alphabetic()
 }
 
-fn is_name_byte(b: u8) -> bool
-    ensures { result ≡ is_name_byte b }
+fn is_name_byte(byte: u8) -> bool
+    ensures { result ≡ is_name_byte byte }
 {
-    is_letter(b) || b.is_ascii_digit() || b == b'_'
+    is_letter(byte) || byte.is_ascii_digit() || byte == b'_'
 }
 
 fn are_name_bytes(bytes: &[u8]) -> bool
     ensures { result ≡ list_all is_name_byte bytes.now }
 {
-    bytes.iter().all(|b| is_name_byte(*b))
+    bytes.iter().all(|byte| is_name_byte(*byte))
 }
 
 /// Whether a word is a letter, and then letters, digits and `_`.
@@ -39,7 +39,7 @@ pub(crate) fn is_name(word: &[u8]) -> bool
 fn are_digits(bytes: &[u8]) -> bool
     ensures { result ≡ list_all is_digit bytes.now }
 {
-    bytes.iter().all(|b| b.is_ascii_digit())
+    bytes.iter().all(|byte| byte.is_ascii_digit())
 }
 
 /// Whether a word is one digit or more.
@@ -56,8 +56,8 @@ pub(crate) fn count_value(digits: &[u8]) -> u32
 {
     let mut value = 0;
     let mut rest = digits;
-    while let [d, after @ ..] = rest {
-        value = (10 * value + u32::from(*d - b'0')).min(MOST_TURNS + 1);
+    while let [digit, after @ ..] = rest {
+        value = (10 * value + u32::from(*digit - b'0')).min(MOST_TURNS + 1);
         rest = after;
     }
     value

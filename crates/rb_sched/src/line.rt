@@ -24,9 +24,11 @@ fn judged_count(digits: &[u8]) -> Result<u32, FaultName>
 fn named_rounds(name: &[u8], count: &[u8], names: &Names) -> Result<Rounds, FaultName>
     requires digits { IsTrue (is_count count.now) }
     requires few { vec_len names.now.processes ≤ 64 }
-    ensures { MatchResult result
-        (λ turns. (before : ℕ) → counted_line (process_names names.now) before (whose (process_names names.now) name.now) (digits_value 0 count.now) ≡ fitting before turns)
-        (λ fault. (before : ℕ) → counted_line (process_names names.now) before (whose (process_names names.now) name.now) (digits_value 0 count.now) ≡ Err fault) }
+    ensures { let known = process_names names.now in
+        let answer = λ (before : ℕ). counted_line known before (whose known name.now) (digits_value 0 count.now) in
+        MatchResult result
+        (λ turns. (before : ℕ) → answer before ≡ fitting before turns)
+        (λ fault. (before : ℕ) → answer before ≡ Err fault) }
 {
     if b"all".as_slice() == name {
         let count = judged_count(count)?;
@@ -41,9 +43,10 @@ fn named_rounds(name: &[u8], count: &[u8], names: &Names) -> Result<Rounds, Faul
 /// came before is for the caller to see.
 pub(crate) fn line_rounds(line: &[u8], names: &Names) -> Result<Rounds, FaultName>
     requires { vec_len names.now.processes ≤ 64 }
-    ensures { MatchResult result
-        (λ turns. (before : ℕ) → before ≤ 1000000 → line_turns (process_names names.now) before line.now ≡ fitting before turns)
-        (λ fault. (before : ℕ) → line_turns (process_names names.now) before line.now ≡ Err fault) }
+    ensures { let answer = λ (before : ℕ). line_turns (process_names names.now) before line.now in
+        MatchResult result
+        (λ turns. (before : ℕ) → before ≤ 1000000 → answer before ≡ fitting before turns)
+        (λ fault. (before : ℕ) → answer before ≡ Err fault) }
 {
     let Some((name, rest)) = next_word(without_comment(without_cr(line))) else {
         return Ok(Rounds::none());

@@ -88,7 +88,7 @@ impl Rounds {
         (self.end - self.next) + (self.left - 1) * (self.end - self.first)
     }
 
-    /// The process of the next turn.
+    /// The process of the next turn, or `None` where none is left.
     #[tactic(auto, using(crate::proofs::TurnsLeft::turns_left_inside, crate::proofs::TurnsLeft::turns_left_last))]
     pub(crate) fn next(&mut self) -> Option<u32>
         ensures { TakesFirst self.old result self.new }

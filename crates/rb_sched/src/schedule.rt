@@ -11,9 +11,11 @@ use std::marker::Model;
 /// The turns of a schedule that are left. It borrows its text and the names, and takes no memory.
 #[derive(Drop)]
 pub struct Schedule<'a> {
+    // the whole text, which contracts alone speak of
     text: &'a [u8],
     names: &'a Names,
     total: u32,
+    // what the present line still gives, and the lines after it
     present: Rounds,
     rest: &'a [u8],
 }
@@ -21,7 +23,6 @@ pub struct Schedule<'a> {
 impl<'a> Model for Schedule<'a> {
     ghost Value = { Plan };
 
-    // what is left is what the present line still gives, and the lines after it
     ghost view = { λ s. record {
       all = turns_in (schedule_of (process_names s.names.now) s.text.now);
       left = s.present ++ turns_in (schedule_of (process_names s.names.now) s.rest.now);
@@ -35,7 +36,9 @@ impl<'a> Schedule<'a> {
     pub fn read(text: &'a [u8], names: &'a Names) -> Result<Self, TextFault>
         requires short { length text.now ≤ 1048576 }
         requires few { vec_len names.now.processes ≤ 64 }
-        ensures turns { MatchResult result (λ schedule. (turns : List ℕ) × (schedule_of (process_names names.now) text.now ≡ Ok turns) × (schedule ≡ fresh turns)) (λ fault. schedule_of (process_names names.now) text.now ≡ Err fault) }
+        ensures turns { MatchResult result
+            (λ schedule. (turns : List ℕ) × (schedule_of (process_names names.now) text.now ≡ Ok turns) × (schedule ≡ fresh turns))
+            (λ fault. schedule_of (process_names names.now) text.now ≡ Err fault) }
         ensures known { IfOk result (λ schedule. AllByRecursion (λ p. p < vec_len names.now.processes) schedule.left) }
         ensures few { IfOk result (λ schedule. length schedule.left ≤ 1000000) }
     {

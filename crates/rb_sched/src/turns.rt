@@ -13,9 +13,10 @@ use rb_base::{FaultName, Names, TextFault};
 fn with_line(before: u32, line: &[u8], names: &Names) -> Result<u32, FaultName>
     requires few { vec_len names.now.processes ≤ 64 }
     requires before { before ≤ 1000000 }
-    ensures { MatchResult result
-        (λ total. (turns : List ℕ) × (line_turns (process_names names.now) before line.now ≡ Ok turns) × (total ≡ before + length turns) × (total ≤ 1000000))
-        (λ fault. line_turns (process_names names.now) before line.now ≡ Err fault) }
+    ensures { let answer = line_turns (process_names names.now) before line.now in
+        MatchResult result
+        (λ total. (turns : List ℕ) × (answer ≡ Ok turns) × (total ≡ before + length turns) × (total ≤ 1000000))
+        (λ fault. answer ≡ Err fault) }
 {
     let total = before + line_rounds(line, names)?.len();
     if total > MOST_TURNS {
@@ -24,14 +25,15 @@ fn with_line(before: u32, line: &[u8], names: &Names) -> Result<u32, FaultName>
     Ok(total)
 }
 
-#[tactic(auto, using(crate::proofs::Walk::read_more))]
 /// How many turns a text has, or its first fault.
+#[tactic(auto, using(crate::proofs::Walk::read_more))]
 pub(crate) fn count_turns(text: &[u8], names: &Names) -> Result<u32, TextFault>
     requires short { length text.now ≤ 1048576 }
     requires few { vec_len names.now.processes ≤ 64 }
-    ensures { MatchResult result
-        (λ total. (turns : List ℕ) × (schedule_of (process_names names.now) text.now ≡ Ok turns) × (total ≡ length turns) × (total ≤ 1000000))
-        (λ fault. schedule_of (process_names names.now) text.now ≡ Err fault) }
+    ensures { let answer = schedule_of (process_names names.now) text.now in
+        MatchResult result
+        (λ total. (turns : List ℕ) × (answer ≡ Ok turns) × (total ≡ length turns) × (total ≤ 1000000))
+        (λ fault. answer ≡ Err fault) }
 {
     let mut total = 0;
     let mut at = 1;

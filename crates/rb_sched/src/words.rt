@@ -9,8 +9,8 @@ pub(crate) fn first_line(text: &[u8]) -> (&[u8], &[u8])
 {
     let mut length = 0;
     let mut rest = text;
-    while let [b, after @ ..] = rest {
-        if *b == b'\n' {
+    while let [byte, after @ ..] = rest {
+        if *byte == b'\n' {
             return (&text[..length], after);
         }
         length += 1;
@@ -33,8 +33,8 @@ pub(crate) fn without_comment(line: &[u8]) -> &[u8]
 {
     let mut length = 0;
     let mut rest = line;
-    while let [b, after @ ..] = rest {
-        if *b == b'#' {
+    while let [byte, after @ ..] = rest {
+        if *byte == b'#' {
             return &line[..length];
         }
         length += 1;
@@ -43,21 +43,22 @@ pub(crate) fn without_comment(line: &[u8]) -> &[u8]
     line
 }
 
-fn is_space(b: u8) -> bool
-    ensures { result ≡ is_space b }
+fn is_space(byte: u8) -> bool
+    ensures { result ≡ is_space byte }
 {
-    b == b' ' || b == b'\t'
+    byte == b' ' || byte == b'\t'
 }
 
 /// How many bytes stand before the first space.
 fn word_length(line: &[u8]) -> usize
-    ensures word { (word : List ℕ) → words_from word line.now ≡ end_word (word ++ take result line.now) (words_from [] (drop result line.now)) }
+    ensures word { (word : List ℕ) →
+        words_from word line.now ≡ end_word (word ++ take result line.now) (words_from [] (drop result line.now)) }
     ensures within { result ≤ length line.now }
 {
     let mut length = 0;
     let mut rest = line;
-    while let [b, after @ ..] = rest {
-        if is_space(*b) {
+    while let [byte, after @ ..] = rest {
+        if is_space(*byte) {
             return length;
         }
         length += 1;
@@ -68,11 +69,12 @@ fn word_length(line: &[u8]) -> usize
 
 /// The first word, and what follows it.
 pub(crate) fn next_word(line: &[u8]) -> Option<(&[u8], &[u8])>
-    ensures { MatchOption result (words_from [] line.now ≡ []) (λ p. words_from [] line.now ≡ p.0.now ∷ words_from [] p.1.now) }
+    ensures { let words = words_from [] line.now in
+        MatchOption result (words ≡ []) (λ cut. words ≡ cut.0.now ∷ words_from [] cut.1.now) }
 {
     let mut rest = line;
-    while let [b, after @ ..] = rest {
-        if !is_space(*b) {
+    while let [byte, after @ ..] = rest {
+        if !is_space(*byte) {
             return Some(rest.split_at(1 + word_length(after)));
         }
         rest = after;
