@@ -3,7 +3,7 @@ use Rattle.std.specs.Prelude.{◌≡◌, ◌⊎◌, ℕ, ◌+◌, ◌<◌, ◌�
 use Rattle.rb_base.specs.declared.fault.SourceFault.{SourceFault}
 use Rattle.rb_base.specs.declared.fault.TextFault.{TextFault}
 use Rattle.rb_base.specs.Words.{fault_word}
-use Rattle.rb_outside.specs.Outside.{File, Reading, Rose, IsMissing, bytes_of, then_written}
+use Rattle.rb_outside.specs.Outside.{File, Reading, Rose, IsMissing, WrotePart, bytes_of, then_written}
 use Rattle.rb_syntax.specs.Tree.{Tree}
 use Rattle.rb_meaning.specs.Meaning.{run_text}
 use Rattle.rb_parse.specs.Verdict.{HasTree, RefusedFor, most_bytes}
@@ -97,10 +97,6 @@ pub data NextMissing (files : List File) (request : Request) : Type 0 where
 abbrev pub NextMissingIn : Option (List File) → Request → Type 0
 NextMissingIn None request = ⊥
 NextMissingIn (Some files) request = NextMissing files request
-
--- a prefix of the bytes was written
-abbrev pub WrotePart : Option (List ℕ) → Option (List ℕ) → List ℕ → Type 0
-WrotePart old new bytes = (k : ℕ) × (k ≤ length bytes) × (new ≡ then_written old (take k bytes))
 
 -- What a contract sees of the shelf and the sink.
 pub record Scene : Type 0 where
