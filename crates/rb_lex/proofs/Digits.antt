@@ -4,10 +4,12 @@ use Rattle.std.proofs.lemmas.Bool.Decides.{nat_tests}
 use Rattle.rb_lex.specs.Tokens.{digits_value}
 use Rattle.rb_lex.specs.Cuts.{within_limit}
 
+-- a value is at least what it began with
 pub digits_value-grows : (n : ℕ) (digits : List ℕ) → n ≤ digits_value n digits
 digits_value-grows n [] = omega arith
 digits_value-grows n (d ∷ ds) = omega (arith, digits_value-grows (10 * n + (d - 48)) ds)
 
+-- a number above the limit has only larger ones above it
 above : (n m : ℕ) → n ≤ m → within_limit n ≡ None → within_limit m ≡ None
 above n m h e = grind (arith, nat_tests)
 

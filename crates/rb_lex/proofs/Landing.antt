@@ -28,11 +28,13 @@ pub record FaultStands (p : Place) (bytes : List ℕ) (fault : SourceFault) : Ty
   pub parts : bytes ≡ before ++ byte ∷ after
   pub stands : fault.place ≡ place_past p before
 
+-- what comes next stands where it says; the end stands behind all bytes
 abbrev pub NextStands : Place → List ℕ → Next → Type 0
 NextStands p bytes (End at) = at ≡ place_past p bytes
 NextStands p bytes (Found token at left) = FoundStands p bytes token at left
 NextStands p bytes (Refused fault) = FaultStands p bytes fault
 
+-- columns add up
 columns_on-none : (p : Place) → p ≡ columns_on p 0
 columns_on-none p = let e : p.column ≡ p.column + 0 = omega arith in ap (λ c. let q : Place = record { line = p.line; column = c } in q) e
 
@@ -47,6 +49,7 @@ place_past-columns p (b ∷ bs) h =
     let here : place_after p b ≡ columns_on p 1 = cond-false (b == 10) _ _ (not-true (b == 10) both.0) in
     place_past-columns (place_after p b) bs both.1 ∙ ap (λ q. columns_on q (length bs)) here ∙ columns_on-more p (length bs) ∙ ap (columns_on p) (omega arith)
 
+-- what stands at a front, cut off there
 cut-stands : (f : Front) (p : Place) (bytes : List ℕ) → FrontStands f bytes → NextStands p bytes (cut f p bytes)
 cut-stands (Whole kind n) p bytes h =
     let long : length (take n bytes) ≡ n = length-take-le n bytes h.1 in
@@ -67,6 +70,7 @@ cut-stands (Faulty name n) p bytes h =
       stands = ap (columns_on p) (sym long) ∙ sym (place_past-columns p (take n bytes) h.1);
     }
 
+-- one byte more stands before it
 one_further : (p : Place) (b : ℕ) (bs : List ℕ) (next : Next) → NextStands (place_after p b) bs next → NextStands p (b ∷ bs) next
 one_further p b bs (End at) h = h
 one_further p b bs (Found token at left) h =
@@ -74,6 +78,7 @@ one_further p b bs (Found token at left) h =
 one_further p b bs (Refused fault) h =
     record { before = b ∷ h.before; byte = h.byte; after = h.after; parts = ap (λ l. b ∷ l) h.parts; stands = h.stands }
 
+-- the step of `next_from-stands`
 step-stands : (s : Step) (second : Bool) (p : Place) (b : ℕ) (bs : List ℕ) → ((comment : Bool) → NextStands (place_after p b) bs (next_from second comment (place_after p b) bs)) → NextStands p (b ∷ bs) (next_by s second p b bs)
 step-stands (Pass comment) second p b bs h =
     one_further p b bs (next_from second comment (place_after p b) bs) (h comment)
@@ -81,6 +86,7 @@ step-stands Begin second p b bs h = cut-stands (front second (b ∷ bs)) p (b �
 step-stands Fault second p b bs h =
     record { before = []; byte = b; after = bs; parts = refl; stands = refl }
 
+-- what comes next, from any place
 pub next_from-stands : (second comment : Bool) (p : Place) (bytes : List ℕ) → NextStands p bytes (next_from second comment p bytes)
 next_from-stands second comment p [] = refl
 next_from-stands second comment p (b ∷ bs) =

@@ -8,12 +8,14 @@ use Rattle.rb_lex.specs.TokenList.{token_and, ending_and, tokens_within, ending_
 use Rattle.rb_lex.specs.Laws.{HasOneTokenList, HasTokenList}
 use Rattle.rb_lex.proofs.Landing.{found-progress}
 
+-- the step of `within-made`, by what comes next
 made_by : (next : Next) (n : ℕ) (second : Bool) (p : Place) (bytes : List ℕ) → next_from second false p bytes ≡ next → length bytes ≤ suc n → ((at : Place) (left : List ℕ) → length left ≤ n → TokensFrom second at left (tokens_within n second at left) (ending_within n second at left)) → TokensFrom second p bytes (token_and next (λ at left. tokens_within n second at left)) (ending_and next (λ at left. ending_within n second at left))
 made_by (End at) n second p bytes e h rest = no_more p bytes at e
 made_by (Found token at left) n second p bytes e h rest =
     one_more p bytes token at left (tokens_within n second at left) (ending_within n second at left) e (rest at left (omega (arith, found-progress second false p bytes token at left e)))
 made_by (Refused fault) n second p bytes e h rest = a_fault p bytes fault e
 
+-- the computed tokens are those of the bytes
 within-made : (n : ℕ) (second : Bool) (p : Place) (bytes : List ℕ) → length bytes ≤ n → TokensFrom second p bytes (tokens_within n second p bytes) (ending_within n second p bytes)
 within-made zero second p [] h = no_more p [] p refl
 within-made zero second p (b ∷ bs) h = absurd (omega arith)
@@ -29,6 +31,7 @@ pub record AreWithin (n : ℕ) (second : Bool) (p : Place) (bytes : List ℕ) (t
   pub tokens_are : tokens ≡ tokens_within n second p bytes
   pub ending_is : ending ≡ ending_within n second p bytes
 
+-- the cases of `are_within`
 end_within : (n : ℕ) (second : Bool) (p : Place) (bytes : List ℕ) (at : Place) → next_from second false p bytes ≡ End at → length bytes ≤ n → AreWithin n second p bytes [] (AtEnd at)
 end_within zero second p [] at e h = record { tokens_are = refl; ending_is = cc }
 end_within zero second p (b ∷ bs) at e h = absurd (omega arith)
@@ -47,6 +50,7 @@ fault_within (suc n) second p bytes fault e h =
       ending_is = sym (ap (λ next. ending_and next (λ q left. ending_within n second q left)) e);
     }
 
+-- tokens of the bytes are the computed ones
 are_within : (second : Bool) (p : Place) (bytes : List ℕ) (tokens : List Lexeme) (ending : Ending) → TokensFrom second p bytes tokens ending → (n : ℕ) → length bytes ≤ n → AreWithin n second p bytes tokens ending
 are_within second _ _ _ _ (no_more p bytes at e) n h = end_within n second p bytes at e h
 are_within second _ _ _ _ (a_fault p bytes fault e) n h = fault_within n second p bytes fault e h
@@ -80,6 +84,7 @@ pub tokens_from-refused : (second : Bool) (p : Place) (bytes : List ℕ) (fault 
 tokens_from-refused second p bytes fault e =
     let a = tokens_from-only second p bytes _ _ (a_fault p bytes fault e) in (sym a.0, sym a.1)
 
+-- the laws
 pub one_list : HasOneTokenList
 one_list bytes ts us e f t u =
     let a = tokens_from-only (is_second bytes) first_place bytes ts e t in

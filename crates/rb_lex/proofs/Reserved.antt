@@ -11,6 +11,7 @@ pub other_length : (word text : List ℕ) → (length text == length word) ≡ f
 other_length word text h =
     false_from_ne_true (pointwise nat_eq word text) (λ e. eqb-false _ _ h (ap length (sym (same_text word text (sym e)))))
 
+-- the step of `is_one_of-length`
 one_more : (b : Bool) (word text : List ℕ) (words kept : List (List ℕ)) → (b ≡ false → pointwise nat_eq word text ≡ false) → is_one_of words text ≡ is_one_of kept text → is_one_of (word ∷ words) text ≡ is_one_of (cond b (word ∷ kept) kept) text
 one_more true word text words kept h e = ap (λ r. pointwise nat_eq word text || r) e
 one_more false word text words kept h e = rw (h refl) e

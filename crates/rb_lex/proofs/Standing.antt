@@ -9,6 +9,7 @@ use Rattle.rb_lex.specs.Tokens.{Lexeme, Found, Ending, TokensFrom, no_more, one_
 use Rattle.rb_lex.specs.Laws.{StandsAt, TokensStand, IsBefore, TokensRise, EndingStandsAt, EndingStands}
 use Rattle.rb_lex.proofs.Landing.{FaultStands, NextStands, next_from-stands, found-stands}
 
+-- places go on from one part to the next
 pub place_past-append : (p : Place) (xs ys : List ℕ) → place_past p (xs ++ ys) ≡ place_past (place_past p xs) ys
 place_past-append p [] ys = refl
 place_past-append p (x ∷ xs) ys = place_past-append (place_after p x) xs ys
@@ -26,10 +27,12 @@ further source p q before bytes gap rest here e f =
       stands = f ∙ ap (λ x. place_past x gap) here.stands ∙ sym (place_past-append first_place before gap);
     }
 
+-- the part that begins at such a place
 stands_from : (source : List ℕ) (text rest : List ℕ) (p : Place) (before : List ℕ) → IsAt source p before (text ++ rest) → StandsAt source text p
 stands_from source text rest p before here =
     (before, rest, here.parts ∙ sym (append_assoc before text rest), here.stands)
 
+-- the tokens from a place in the source on
 tokens-stand_from : (second : Bool) (source : List ℕ) (p : Place) (before bytes : List ℕ) (tokens : List Lexeme) (ending : Ending) → IsAt source p before bytes → TokensFrom second p bytes tokens ending → All (λ token. StandsAt source token.text token.place) tokens
 tokens-stand_from second source _ before _ _ _ here (no_more p bytes at e) = All-nil _
 tokens-stand_from second source _ before _ _ _ here (a_fault p bytes fault e) = All-nil _
@@ -43,6 +46,7 @@ pub tokens_stand : TokensStand
 tokens_stand bytes tokens ending t =
     tokens-stand_from (is_second bytes) bytes first_place [] bytes tokens ending (record { parts = refl; stands = refl }) t
 
+-- the ending of those tokens
 ending-stands_from : (second : Bool) (source : List ℕ) (p : Place) (before bytes : List ℕ) (tokens : List Lexeme) (ending : Ending) → IsAt source p before bytes → TokensFrom second p bytes tokens ending → EndingStandsAt source ending
 ending-stands_from second source _ before _ _ _ here (no_more p bytes at e) =
     let s : at ≡ place_past p bytes = subst (NextStands p bytes) e (next_from-stands second false p bytes) in
@@ -65,6 +69,7 @@ ending_stands bytes tokens ending t =
 abbrev pub IsNotAfter : Place → Place → Type 0
 IsNotAfter p q = (p.line < q.line) ⊎ ((p.line ≡ q.line) × (p.column ≤ q.column))
 
+-- the order of places
 not_after-trans : (p q r : Place) → IsNotAfter p q → IsNotAfter q r → IsNotAfter p r
 not_after-trans p q r a b = grind arith
 
@@ -78,11 +83,13 @@ step_before : (x : Bool) (p : Place) → IsBefore p (cond x (record { line = p.l
 step_before true p = inl (omega arith)
 step_before false p = inr (refl, omega arith)
 
+-- bytes lead to no earlier place
 pub place_past-not_after : (p : Place) (bytes : List ℕ) → IsNotAfter p (place_past p bytes)
 place_past-not_after p [] = inr (refl, omega arith)
 place_past-not_after p (b ∷ bs) =
     not_after-trans p (place_after p b) (place_past (place_after p b) bs) (before-not_after p (place_after p b) (step_before (b == 10) p)) (place_past-not_after (place_after p b) bs)
 
+-- and a byte or more to a later one
 pub place_past-before : (p : Place) (bytes : List ℕ) → 1 ≤ length bytes → IsBefore p (place_past p bytes)
 place_past-before p [] h = absurd (omega arith)
 place_past-before p (b ∷ bs) h =
@@ -94,6 +101,7 @@ found-before second p bytes token at left e =
     let s = found-stands second false p bytes token at left e in
     (subst (IsNotAfter p) (sym s.begins) (place_past-not_after p s.gap), subst (IsBefore token.place) (sym s.ends) (place_past-before token.place token.text s.some))
 
+-- no token stands before the place from which they are read
 later_tokens : (second : Bool) (p : Place) (bytes : List ℕ) (tokens : List Lexeme) (ending : Ending) → TokensFrom second p bytes tokens ending → All (λ t. IsNotAfter p t.place) tokens
 later_tokens second _ _ _ _ (no_more p bytes at e) = All-nil _
 later_tokens second _ _ _ _ (a_fault p bytes fault e) = All-nil _
@@ -102,6 +110,7 @@ later_tokens second _ _ _ _ (one_more p bytes token at left tokens ending e rest
     let p_at = not_after-trans p token.place at b.0 (before-not_after token.place at b.1) in
     All-cons (λ t. IsNotAfter p t.place) token tokens b.0 (λ k d h. not_after-trans p at _ p_at (later_tokens second at left tokens ending rest k d h))
 
+-- each token stands before those that come after it
 rise_from : (second : Bool) (p : Place) (bytes : List ℕ) (tokens : List Lexeme) (ending : Ending) → TokensFrom second p bytes tokens ending → AllPairs (λ t u. IsBefore t.place u.place) tokens
 rise_from second _ _ _ _ (no_more p bytes at e) = λ i j d h k. absurd (omega (arith, k))
 rise_from second _ _ _ _ (a_fault p bytes fault e) = λ i j d h k. absurd (omega (arith, k))

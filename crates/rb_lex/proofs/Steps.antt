@@ -16,6 +16,7 @@ next_by (Pass comment) second p b bs = next_from second comment (place_after p b
 next_by Begin second p b bs = here second p (b ∷ bs)
 next_by Fault second p b bs = Refused (record { name = X1; place = p })
 
+-- the two cases of `by_step`, over the tests of the byte
 in_comment : (is_end goes_on second : Bool) (p : Place) (b : ℕ) (bs : List ℕ) → cond is_end (next_by (Pass false) second p b bs) (cond goes_on (next_by (Pass true) second p b bs) (next_by Fault second p b bs)) ≡ next_by (cond is_end (Pass false) (cond goes_on (Pass true) Fault)) second p b bs
 in_comment true _ second p b bs = refl
 in_comment false true second p b bs = refl
@@ -31,6 +32,7 @@ pub by_step : (second comment : Bool) (p : Place) (b : ℕ) (bs : List ℕ) → 
 by_step second true p b bs = in_comment (b == 10) (is_comment_byte b) second p b bs
 by_step second false p b bs = outside (is_blank b) (b == 35) second p b bs
 
+-- what a slice pattern leaves after the first byte
 rest_cons : (b : ℕ) (bs : List ℕ) → take (length (b ∷ bs) - 1) (drop 1 (b ∷ bs)) ≡ bs
 rest_cons b bs = grind (arith, common_steps)
 
@@ -45,5 +47,6 @@ pub begins : (second comment : Bool) (p : Place) (bytes : List ℕ) → 1 ≤ le
 begins second comment p [] h e = absurd (omega arith)
 begins second comment p (b ∷ bs) h e = by_step second comment p b bs ∙ ap (λ s. next_by s second p b bs) e
 
+-- a byte that is passed leaves room
 pub HasRoom-after : (p : Place) (bytes : List ℕ) → 1 ≤ length bytes → HasRoom p bytes → HasRoom (place_after p (get_or bytes 0 0)) (take (length bytes - 1) (drop 1 bytes))
 HasRoom-after p bytes h e = grind (arith, common_steps, nat_tests)

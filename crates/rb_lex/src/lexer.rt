@@ -44,6 +44,7 @@ impl<'a> Lexer<'a> {
     pub fn next(&mut self) -> Result<Option<Token<'a>>, SourceFault>
         ensures { Answers self.old result self.new }
     {
+        // nothing is written before the reading is done, so a fault leaves the lexer where it was
         let Reading { token, after } = read_next(self.second, self.place, self.left)?;
         self.place = after.place;
         self.left = after.left;

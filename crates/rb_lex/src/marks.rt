@@ -6,6 +6,7 @@ use crate::cut::{Cut, Stop};
 use crate::token::Kind;
 use rb_base::FaultName;
 
+// A mark of two bytes before one of one.
 pub(crate) fn mark_cut(second: bool, bytes: &[u8]) -> Result<Cut, Stop>
     ensures value { front_of result ≡ mark_front second bytes.now }
     ensures within { reach_of result ≤ length bytes.now }

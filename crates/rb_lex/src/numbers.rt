@@ -11,6 +11,7 @@ use rb_base::FaultName;
 
 const LARGEST: u64 = 9_223_372_036_854_775_807;
 
+// A number. Its digits may be any number; only their value has a limit.
 pub(crate) fn number_cut(bytes: &[u8]) -> Result<Cut, Stop>
     ensures value { front_of result ≡ number_front (take_while is_digit bytes.now) }
     ensures within { reach_of result ≤ length bytes.now }
@@ -25,6 +26,7 @@ pub(crate) fn number_cut(bytes: &[u8]) -> Result<Cut, Stop>
     }
 }
 
+// How many digits stand at the front.
 fn digits_len(bytes: &[u8]) -> usize
     ensures { result ≡ prefix_len is_digit bytes.now }
 {
@@ -44,6 +46,7 @@ fn digits_value(digits: &[u8]) -> Option<u64>
     Some(value)
 }
 
+// One digit more. The test comes before the sum, so that nothing overflows.
 fn add_digit(value: u64, digit: u8) -> Option<u64>
     requires { value ≤ 2 ^ 63 - 1 }
     ensures { result ≡ within_limit (10 * value + (digit - 48)) }

@@ -35,6 +35,7 @@ pub(crate) fn read_next<'a>(
     read_token(second, point.place, point.left)
 }
 
+// The token at the front of the bytes, where no blank and no comment stands.
 fn read_token<'a>(second: bool, place: Place, bytes: &'a [u8]) -> Result<Reading<'a>, SourceFault>
     requires some { 0 < length bytes.now }
     requires room { HasRoom place bytes.now }

@@ -29,6 +29,7 @@ pub(crate) fn name_cut(second: bool, bytes: &[u8]) -> Result<Cut, Stop>
     Ok(Cut { kind, size })
 }
 
+// How many bytes a name at the front has.
 fn name_len(bytes: &[u8]) -> usize
     ensures { result ≡ prefix_len is_name_byte bytes.now }
 {
@@ -47,6 +48,7 @@ fn is_common_word(text: &[u8]) -> bool
     is_listed(words_of_length(text.len()), text)
 }
 
+// A text is compared with the words of its own length alone.
 fn words_of_length(size: usize) -> &'static [&'static [u8]]
     ensures { map (λ word. word.now) result.now ≡ of_length size common_words }
 {
@@ -70,6 +72,7 @@ fn is_second_word(text: &[u8]) -> bool
     is_listed(&[b"edition", b"every", b"some", b"sum"], text)
 }
 
+// Whether the text is one of these words.
 fn is_listed(words: &[&[u8]], text: &[u8]) -> bool
     ensures { result ≡ list_any (λ word. pointwise nat_eq word.now text.now) words.now }
 {
