@@ -1,5 +1,5 @@
 -- Rows of a plain tree, as a vector that they are pushed to holds them.
-use Rattle.std.proofs.Common.{◌≡◌, List, [], ◌∷◌, ◌++◌, refl, ap}
+use Rattle.std.proofs.Common.{◌≡◌, List, [], ◌∷◌, ◌++◌, length, refl, ap}
 use Rattle.std.proofs.lemmas.Grind.{common_steps}
 use Rattle.rb_syntax.specs.declared.expression.Link.{Link}
 use Rattle.rb_syntax.specs.declared.statement.Block.{Block}
@@ -26,6 +26,10 @@ pub links_push : (xs : List Link) (x : Link) (after : Links) → links_append (l
 links_push [] x after = refl
 links_push (y ∷ xs) x after = ap (Linked y.op (expression y.right)) (links_push xs x after)
 
+pub links_none : (xs : List Link) → links_of xs ≡ NoLink → length xs ≡ 0
+links_none [] e = refl
+links_none (x ∷ xs) e = cc
+
 pub commands_of_append : (xs ys : List Statement) → commands_of (xs ++ ys) ≡ commands_append (commands_of xs) (commands_of ys)
 commands_of_append [] ys = refl
 commands_of_append (x ∷ xs) ys = ap (Then (command x)) (commands_of_append xs ys)
@@ -42,6 +46,10 @@ commands_append_assoc (Then first rest) b c = ap (Then first) (commands_append_a
 pub commands_push : (xs : List Statement) (x : Statement) (after : Commands) → commands_append (commands_of (xs ++ (x ∷ []))) after ≡ commands_append (commands_of xs) (Then (command x) after)
 commands_push [] x after = refl
 commands_push (y ∷ xs) x after = ap (Then (command y)) (commands_push xs x after)
+
+pub commands_none : (xs : List Statement) → commands_of xs ≡ NoCommand → length xs ≡ 0
+commands_none [] e = refl
+commands_none (x ∷ xs) e = cc
 
 pub alternates_of_append : (xs ys : List Block) → alternates_of (xs ++ ys) ≡ alternates_append (alternates_of xs) (alternates_of ys)
 alternates_of_append [] ys = refl
@@ -60,6 +68,10 @@ pub alternates_push : (xs : List Block) (x : Block) (after : Alternates) → alt
 alternates_push [] x after = refl
 alternates_push (y ∷ xs) x after = ap (Alternate (body y)) (alternates_push xs x after)
 
+pub alternates_none : (xs : List Block) → alternates_of xs ≡ NoAlternate → length xs ≡ 0
+alternates_none [] e = refl
+alternates_none (x ∷ xs) e = cc
+
 -- the laws by which a loop that pushes is proved
 pub ruleset pushes = (
   common_steps,
@@ -67,10 +79,13 @@ pub ruleset pushes = (
   links_of_append,
   links_append_none,
   links_push,
+  links_none,
   commands_of_append,
   commands_append_none,
   commands_push,
+  commands_none,
   alternates_of_append,
   alternates_append_none,
   alternates_push,
+  alternates_none,
 )

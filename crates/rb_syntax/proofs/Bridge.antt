@@ -16,6 +16,7 @@ use Rattle.rb_syntax.specs.declared.expression.Quantifier.{Quantifier}
 use Rattle.rb_syntax.specs.declared.expression.Expr.{Expr, Number, Value', Prior', Neg', Not', Chain', Quantified', Held-Target-index, None', Some', view-Target-index, Row_of-Link, end_of-Link, more_of-Link, items-the_row-Link, items_shown-the_row-Link-0, Expr-F, out-Expr}
 use Rattle.rb_syntax.specs.declared.expression.Expr.TheOpen as open_expr
 use Rattle.rb_syntax.specs.declared.expression.Expr.TheVariants.{Value, Prior, Neg, Not, Chain, Quantified as quantified, outs-Number, outs-Value, outs-Prior, outs-Neg, outs-Not, outs-Chain, outs-Quantified}
+use Rattle.rb_syntax.specs.declared.statement.Var.{Var}
 use Rattle.rb_syntax.specs.declared.statement.Block.{Block}
 use Rattle.rb_syntax.specs.declared.statement.Recovery.{Recovery, Recovery', Row_of-Block, end_of-Block, more_of-Block, items-the_row-Block, items_shown-the_row-Block-1, Recovery-F, out-Recovery, out-roll-Recovery}
 use Rattle.rb_syntax.specs.declared.statement.Statement.{Statement, Assign, Print, Send, Receive', If', While', Call, Fail, Recover, Row_of-Statement, end_of-Statement, more_of-Statement, items-the_row-Statement, items_shown-the_row-Statement-0, Held-Statement-Receive-2, None' as no_block', Some' as some_block', view-Statement-Receive-2, Statement-F, out-Statement}
@@ -162,20 +163,24 @@ command_receive channel target block = command_out (Receive channel target block
 pub command_receive_none : (channel : Name) (target : Target) → command (Receive channel target None) ≡ Receiving (identifier channel) (reference target) NoElse
 command_receive_none channel target = command_receive channel target None
 
-pub command_receive_some : (channel : Name) (target : Target) (block : Block) → command (Receive channel target (Some block)) ≡ Receiving (identifier channel) (reference target) (Else (body block))
-command_receive_some channel target block = command_receive channel target (Some block)
+pub command_receive_some : (channel : Name) (target : Target) (vars : Vec Var Global) (rest : Vec Statement Global) → command (Receive channel target (Some record { vars = vars; body = rest })) ≡ Receiving (identifier channel) (reference target) (Else (Scope (map declaration vars.items) (commands_of rest.items)))
+command_receive_some channel target vars rest = command_receive channel target (Some record { vars = vars; body = rest })
 
-pub command_if : (test : Expr) (block : Block) (other : Option Block) → command (If test block other) ≡ Conditional (expression test) (body block) (otherwise other)
-command_if test block other = command_out (If test block other) ∙ ap command_layer (outs-If test block other)
+pub command_if : (test : Expr) (vars : Vec Var Global) (rest : Vec Statement Global) (other : Option Block) → command (If test record { vars = vars; body = rest } other) ≡ Conditional (expression test) (Scope (map declaration vars.items) (commands_of rest.items)) (otherwise other)
+command_if test vars rest other =
+    let block : Block = record { vars = vars; body = rest } in
+    command_out (If test block other) ∙ ap command_layer (outs-If test block other)
 
-pub command_if_none : (test : Expr) (block : Block) → command (If test block None) ≡ Conditional (expression test) (body block) NoElse
-command_if_none test block = command_if test block None
+pub command_if_none : (test : Expr) (vars : Vec Var Global) (rest : Vec Statement Global) → command (If test record { vars = vars; body = rest } None) ≡ Conditional (expression test) (Scope (map declaration vars.items) (commands_of rest.items)) NoElse
+command_if_none test vars rest = command_if test vars rest None
 
-pub command_if_some : (test : Expr) (block other : Block) → command (If test block (Some other)) ≡ Conditional (expression test) (body block) (Else (body other))
-command_if_some test block other = command_if test block (Some other)
+pub command_if_some : (test : Expr) (vars : Vec Var Global) (rest : Vec Statement Global) (vars_else : Vec Var Global) (rest_else : Vec Statement Global) → command (If test record { vars = vars; body = rest } (Some record { vars = vars_else; body = rest_else })) ≡ Conditional (expression test) (Scope (map declaration vars.items) (commands_of rest.items)) (Else (Scope (map declaration vars_else.items) (commands_of rest_else.items)))
+command_if_some test vars rest vars_else rest_else = command_if test vars rest (Some record { vars = vars_else; body = rest_else })
 
-pub command_while : (test : Expr) (block : Block) → command (While test block) ≡ Loop (expression test) (body block)
-command_while test block = command_out (While test block) ∙ ap command_layer (outs-While test block)
+pub command_while : (test : Expr) (vars : Vec Var Global) (rest : Vec Statement Global) → command (While test record { vars = vars; body = rest }) ≡ Loop (expression test) (Scope (map declaration vars.items) (commands_of rest.items))
+command_while test vars rest =
+    let block : Block = record { vars = vars; body = rest } in
+    command_out (While test block) ∙ ap command_layer (outs-While test block)
 
 pub command_call : (procedure : Name) (arguments : Vec Expr Global) → command (Call procedure arguments) ≡ Invocation (identifier procedure) (map expression arguments.items)
 command_call procedure arguments = command_out (Call procedure arguments) ∙ ap command_layer (outs-Call procedure arguments)
