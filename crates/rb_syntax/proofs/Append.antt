@@ -4,7 +4,8 @@ use Rattle.std.proofs.lemmas.Grind.{common_steps}
 use Rattle.rb_syntax.specs.declared.expression.Link.{Link}
 use Rattle.rb_syntax.specs.declared.statement.Block.{Block}
 use Rattle.rb_syntax.specs.declared.statement.Statement.{Statement}
-use Rattle.rb_syntax.specs.Tree.{Links, NoLink, Linked, Commands, NoCommand, Then, Alternates, NoAlternate, Alternate}
+use Rattle.rb_syntax.specs.declared.expression.Op.{Op}
+use Rattle.rb_syntax.specs.Tree.{Expression, Links, NoLink, Linked, Command, Commands, NoCommand, Then, Body, Alternates, NoAlternate, Alternate}
 use Rattle.rb_syntax.specs.Append.{links_append, commands_append, alternates_append}
 use Rattle.rb_syntax.specs.Plain.{expression, links_of, command, commands_of, body, alternates_of}
 use Rattle.rb_syntax.proofs.Bridge.{trees}
@@ -20,6 +21,9 @@ links_append_none (Linked op right links) = ap (Linked op right) (links_append_n
 pub links_append_assoc : (a b c : Links) → links_append (links_append a b) c ≡ links_append a (links_append b c)
 links_append_assoc NoLink b c = refl
 links_append_assoc (Linked op right links) b c = ap (Linked op right) (links_append_assoc links b c)
+
+pub links_append_one : (a : Links) (op : Op) (right : Expression) (after : Links) → links_append (links_append a (Linked op right NoLink)) after ≡ links_append a (Linked op right after)
+links_append_one a op right after = links_append_assoc a (Linked op right NoLink) after
 
 -- one more link, with what is still to come
 pub links_push : (xs : List Link) (x : Link) (after : Links) → links_append (links_of (xs ++ (x ∷ []))) after ≡ links_append (links_of xs) (Linked x.op (expression x.right) after)
@@ -42,6 +46,9 @@ pub commands_append_assoc : (a b c : Commands) → commands_append (commands_app
 commands_append_assoc NoCommand b c = refl
 commands_append_assoc (Then first rest) b c = ap (Then first) (commands_append_assoc rest b c)
 
+pub commands_append_one : (a : Commands) (next : Command) (after : Commands) → commands_append (commands_append a (Then next NoCommand)) after ≡ commands_append a (Then next after)
+commands_append_one a next after = commands_append_assoc a (Then next NoCommand) after
+
 -- one more statement, with what is still to come
 pub commands_push : (xs : List Statement) (x : Statement) (after : Commands) → commands_append (commands_of (xs ++ (x ∷ []))) after ≡ commands_append (commands_of xs) (Then (command x) after)
 commands_push [] x after = refl
@@ -63,6 +70,9 @@ pub alternates_append_assoc : (a b c : Alternates) → alternates_append (altern
 alternates_append_assoc NoAlternate b c = refl
 alternates_append_assoc (Alternate body others) b c = ap (Alternate body) (alternates_append_assoc others b c)
 
+pub alternates_append_one : (a : Alternates) (next : Body) (after : Alternates) → alternates_append (alternates_append a (Alternate next NoAlternate)) after ≡ alternates_append a (Alternate next after)
+alternates_append_one a next after = alternates_append_assoc a (Alternate next NoAlternate) after
+
 -- one more alternate, with what is still to come
 pub alternates_push : (xs : List Block) (x : Block) (after : Alternates) → alternates_append (alternates_of (xs ++ (x ∷ []))) after ≡ alternates_append (alternates_of xs) (Alternate (body x) after)
 alternates_push [] x after = refl
@@ -78,14 +88,17 @@ pub ruleset pushes = (
   trees,
   links_of_append,
   links_append_none,
+  links_append_one,
   links_push,
   links_none,
   commands_of_append,
   commands_append_none,
+  commands_append_one,
   commands_push,
   commands_none,
   alternates_of_append,
   alternates_append_none,
+  alternates_append_one,
   alternates_push,
   alternates_none,
 )
