@@ -5,3 +5,6 @@ pub mod CascadeKeeps
 pub mod Induction
 pub mod EachProcess
 pub mod StandingFacts
+pub mod Simulation
+pub mod MarksMeet
+pub mod ProcessesMeet
