@@ -8,3 +8,6 @@ pub mod StandingFacts
 pub mod Simulation
 pub mod MarksMeet
 pub mod ProcessesMeet
+pub mod ChannelsMeet
+pub mod CascadeMeets
+pub mod StepsMeetWorlds
