@@ -11,3 +11,6 @@ pub mod ProcessesMeet
 pub mod ChannelsMeet
 pub mod CascadeMeets
 pub mod StepsMeetWorlds
+pub mod TurnsMeet
+pub mod RunsMeet
+pub mod PlainRunsMeet

@@ -34,7 +34,7 @@ cond_meets R true false e one other = absurd (true≢false e)
 cond_meets R false true e one other = absurd (true≢false (sym e))
 cond_meets R false false e one other = other refl
 
-first_holds : (a b : Bool) → (a && b) ≡ true → a ≡ true
+pub first_holds : (a b : Bool) → (a && b) ≡ true → a ≡ true
 first_holds true b e = refl
 first_holds false b e = e
 

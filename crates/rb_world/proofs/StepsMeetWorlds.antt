@@ -96,7 +96,7 @@ module _ {S C M T D N : Type 0} {k : Kind S C M} {l : Kind T D N} {shared : Shar
       at_test_line_meets c (come_to_stand p ls w (s, m)) (come_to_stand p ms v (u, n))
         (changed_world p w v true m n (copies_of ls) s (copies_of ms) u _ _ still (stands_now_meets laws m n s ls u ms same still.states) meets)
 
-  accepted_meets : (p : ℕ) (w : World S C M) (v : World T D N) (m : M) (n : N) (s : S) (ls : List (Level C)) (u : T) (ms : List (Level D)) (x : Option (Level C)) (y : Option (Level D))
+  pub accepted_meets : (p : ℕ) (w : World S C M) (v : World T D N) (m : M) (n : N) (s : S) (ls : List (Level C)) (u : T) (ms : List (Level D)) (x : Option (Level C)) (y : Option (Level D))
       → StillMeets shared related p w v.memory true m n (copies_of ls) s (copies_of ms) u → SameMarks ls ms → OptionsMeet SameMark x y → WorldsMeet shared related w v
       → MovesMeet shared related (accepted k p ls x w (s, m)) (accepted l p ms y v (u, n))
   accepted_meets p w v m n s ls u ms None None still same last meets = record { worlds = meets; kinds = refl; rejections = refl; passes = refl }
