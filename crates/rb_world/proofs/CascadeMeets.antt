@@ -1,5 +1,5 @@
 -- In related worlds a cascade of rejections goes the same way, and leaves related worlds.
-use Rattle.std.proofs.Common.{◌≡◌, ℕ, zero, suc, Bool, true, false, List, [], ◌∷◌, slice_get, Option, Some, None, refl, sym, ap, ap₂, ◌∙◌, subst, nat_lt}
+use Rattle.std.proofs.Common.{◌≡◌, ℕ, zero, suc, Bool, true, false, List, ◌∷◌, slice_get, Option, Some, None, refl, ap, ap₂, subst, nat_lt}
 use Rattle.rb_base.specs.declared.event.Cause.{Cause}
 use Rattle.rb_base.specs.declared.event.Cause.TheVariants.{Inner}
 use Rattle.rb_base.specs.declared.event.Event.{Event}
@@ -9,7 +9,7 @@ use Rattle.rb_world.specs.World.{Level, Process, Talk, World, change_at, levels_
 use Rattle.rb_world.specs.Reject.{Happened, after_event, all_back, broken_talk, exhausted_next, fallen, fallen_inside, first_again, next_talk, parent_of, private_next, put_back, raised, reject, reject_at, reject_either, reject_private, reject_together, reset_below, together_next, where_inside}
 use Rattle.rb_world.proofs.Simulation.{Shared, Related, Knowing, IsSimulation}
 use Rattle.rb_world.proofs.MarksMeet.{OptionsMeet, SameMark, SameMarks, get_marks}
-use Rattle.rb_world.proofs.ProcessesMeet.{ProcessesMeet, WorldsMeet, cond_meets, get_meets, map_meets, change_meets, fallen_meets, fallen_inside_meets, put_back_meets, raised_meets, where_inside_meets}
+use Rattle.rb_world.proofs.ProcessesMeet.{ProcessesMeet, WorldsMeet, get_meets, map_meets, change_meets, fallen_meets, fallen_inside_meets, put_back_meets, raised_meets, where_inside_meets}
 
 -- related worlds, and the same events
 pub record HappenedMeet {S C M T D N : Type 0} (shared : Shared M N) (related : Related S C M T D N) (x : Happened S C M) (y : Happened T D N) : Type 0 where
@@ -28,7 +28,7 @@ pub process_levels_meet : {S C M T D N : Type 0} {shared : Shared M N} {related 
     → WorldsMeet shared related w v → SameMarks (process_levels w p) (process_levels v p)
 process_levels_meet {related = related} w v p meets =
     levels_meet related w.memory v.memory (slice_get w.processes p) (slice_get v.processes p)
-      (get_meets related w.memory v.memory w.processes v.processes p meets.processes)
+    (get_meets related w.memory v.memory w.processes v.processes p meets.processes)
 
 module _ {S C M T D N : Type 0} {shared : Shared M N} {related : Related S C M T D N} where
   -- one process, each process or the conversations change
@@ -38,7 +38,8 @@ module _ {S C M T D N : Type 0} {shared : Shared M N} {related : Related S C M T
   with_process_meets w v p f g one meets = record {
     memories = meets.memories;
     processes = change_meets related w.memory v.memory w.memory v.memory p f g w.processes v.processes (λ i q r _ _ e. e) (λ q r _ _. one q r) meets.processes;
-    talks = meets.talks }
+    talks = meets.talks;
+  }
 
   pub with_each_meets : (w : World S C M) (v : World T D N) (f : Process S C → Process S C) (g : Process T D → Process T D)
       → ((q : Process S C) (r : Process T D) → ProcessesMeet related w.memory v.memory q r → ProcessesMeet related w.memory v.memory (f q) (g r))
@@ -46,7 +47,8 @@ module _ {S C M T D N : Type 0} {shared : Shared M N} {related : Related S C M T
   with_each_meets w v f g one meets = record {
     memories = meets.memories;
     processes = map_meets related w.memory v.memory w.memory v.memory f g w.processes v.processes (λ i q r _. one q r) meets.processes;
-    talks = meets.talks }
+    talks = meets.talks;
+  }
 
   pub with_talks_meets : (w : World S C M) (v : World T D N) (f : List Talk → List Talk)
       → WorldsMeet shared related w v → WorldsMeet shared related (with_talks f w) (with_talks f v)
@@ -77,18 +79,18 @@ module _ {S C M T D N : Type 0} {k : Kind S C M} {l : Kind T D N} {shared : Shar
       → HappenedMeet shared related (reject_private k p j cause x w outer) (reject_private l p j cause y v outer')
   reject_private_meets p j cause x y w v outer outer' same meets rest =
       after_event_meets _ _ _ _ (ap₂ (λ (facts : Facts) (a : ℕ). Reject p facts.line a cause) same.facts same.alternate)
-        (private_next_meets (nat_lt x.alternate x.facts.alternates) (nat_lt y.alternate y.facts.alternates)
-          (ap₂ (λ (facts : Facts) (a : ℕ). nat_lt a facts.alternates) same.facts same.alternate)
-          p j (with_process p (put_back k j) w) (with_process p (put_back l j) v) outer outer'
-          (with_process_meets w v p (put_back k j) (put_back l j) (put_back_meets laws w.memory v.memory j) meets) rest)
+      (private_next_meets (nat_lt x.alternate x.facts.alternates) (nat_lt y.alternate y.facts.alternates)
+      (ap₂ (λ (facts : Facts) (a : ℕ). nat_lt a facts.alternates) same.facts same.alternate)
+      p j (with_process p (put_back k j) w) (with_process p (put_back l j) v) outer outer'
+      (with_process_meets w v p (put_back k j) (put_back l j) (put_back_meets laws w.memory v.memory j) meets) rest)
 
   all_back_meets : (c : ℕ) (w : World S C M) (v : World T D N) → WorldsMeet shared related w v → WorldsMeet shared related (all_back k c w) (all_back l c v)
   all_back_meets c w v meets =
       subst (λ (groups : List Membership). WorldsMeet shared related (all_back k c w) (with_talks (reset_below groups c) (with_each (where_inside (put_back l) c) v)))
-        laws.groups
-        (with_talks_meets (with_each (where_inside (put_back k) c) w) (with_each (where_inside (put_back l) c) v) (reset_below k.groups c)
-          (with_each_meets w v (where_inside (put_back k) c) (where_inside (put_back l) c)
-            (where_inside_meets laws w.memory v.memory (put_back k) (put_back l) (put_back_meets laws w.memory v.memory) c) meets))
+      laws.groups
+      (with_talks_meets (with_each (where_inside (put_back k) c) w) (with_each (where_inside (put_back l) c) v) (reset_below k.groups c)
+      (with_each_meets w v (where_inside (put_back k) c) (where_inside (put_back l) c)
+      (where_inside_meets laws w.memory v.memory (put_back k) (put_back l) (put_back_meets laws w.memory v.memory) c) meets))
 
   exhausted_next_meets : (parent parent' : Option ℕ) → parent ≡ parent' → (c : ℕ) (w : World S C M) (v : World T D N) (outer : World S C M → Happened S C M) (outer' : World T D N → Happened T D N)
       → WorldsMeet shared related w v → RestMeets shared related outer outer'
@@ -100,7 +102,8 @@ module _ {S C M T D N : Type 0} {k : Kind S C M} {l : Kind T D N} {shared : Shar
       go None = record {
         worlds = with_talks_meets (with_each (fallen_inside k c) w) (with_each (fallen_inside l c) v) (change_at c broken_talk)
             (with_each_meets w v (fallen_inside k c) (fallen_inside l c) (fallen_inside_meets laws w.memory v.memory c) meets);
-        events = refl }
+        events = refl;
+      }
       go (Some d) = rest (with_talks (change_at c first_again) w) (with_talks (change_at c first_again) v)
           (with_talks_meets w v (change_at c first_again) meets)
 
@@ -114,8 +117,9 @@ module _ {S C M T D N : Type 0} {k : Kind S C M} {l : Kind T D N} {shared : Shar
       go true = record {
         worlds = with_talks_meets (with_each (where_inside raised c) w) (with_each (where_inside raised c) v) (change_at c next_talk)
             (with_each_meets w v (where_inside raised c) (where_inside raised c)
-              (where_inside_meets laws w.memory v.memory raised raised (raised_meets laws w.memory v.memory) c) meets);
-        events = refl }
+            (where_inside_meets laws w.memory v.memory raised raised (raised_meets laws w.memory v.memory) c) meets);
+        events = refl;
+      }
       go false = exhausted_next_meets (parent_of (slice_get k.groups c)) (parent_of (slice_get l.groups c))
           (ap (λ (groups : List Membership). parent_of (slice_get groups c)) laws.groups) c w v outer outer' meets rest
 
@@ -124,9 +128,9 @@ module _ {S C M T D N : Type 0} {k : Kind S C M} {l : Kind T D N} {shared : Shar
       → HappenedMeet shared related (reject_together k p c cause x w outer) (reject_together l p c cause y v outer')
   reject_together_meets p c cause x y w v outer outer' same meets rest =
       after_event_meets _ _ _ _ (ap (λ (a : ℕ). RejectAll c a p cause) same.alternate)
-        (together_next_meets (nat_lt x.alternate x.facts.alternates) (nat_lt y.alternate y.facts.alternates)
-          (ap₂ (λ (facts : Facts) (a : ℕ). nat_lt a facts.alternates) same.facts same.alternate)
-          c (all_back k c w) (all_back l c v) outer outer' (all_back_meets c w v meets) rest)
+      (together_next_meets (nat_lt x.alternate x.facts.alternates) (nat_lt y.alternate y.facts.alternates)
+      (ap₂ (λ (facts : Facts) (a : ℕ). nat_lt a facts.alternates) same.facts same.alternate)
+      c (all_back k c w) (all_back l c v) outer outer' (all_back_meets c w v meets) rest)
 
   reject_either_meets : (p j : ℕ) (cause : Cause) (x : Level C) (y : Level D) (conversation : Option ℕ) (w : World S C M) (v : World T D N) (outer : World S C M → Happened S C M) (outer' : World T D N → Happened T D N)
       → SameMark x y → WorldsMeet shared related w v → RestMeets shared related outer outer'
@@ -142,16 +146,17 @@ module _ {S C M T D N : Type 0} {k : Kind S C M} {l : Kind T D N} {shared : Shar
   reject_at_meets p j cause (Some x) None w v outer outer' same meets rest = absurd same
   reject_at_meets p j cause (Some x) (Some y) w v outer outer' same meets rest =
       subst (λ (conversation : Option ℕ). HappenedMeet shared related (reject_at k p j cause (Some x) w outer) (reject_either l p j cause y conversation v outer'))
-        (ap (λ (facts : Facts). facts.conversation) same.facts)
-        (reject_either_meets p j cause x y x.facts.conversation w v outer outer' same meets rest)
+      (ap (λ (facts : Facts). facts.conversation) same.facts)
+      (reject_either_meets p j cause x y x.facts.conversation w v outer outer' same meets rest)
 
   pub reject_meets : (p left : ℕ) (cause : Cause) (w : World S C M) (v : World T D N) → WorldsMeet shared related w v
       → HappenedMeet shared related (reject k p left cause w) (reject l p left cause v)
   reject_meets p zero cause w v meets = record {
     worlds = with_process_meets w v p (fallen k cause) (fallen l cause) (fallen_meets laws w.memory v.memory cause) meets;
-    events = refl }
+    events = refl;
+  }
   reject_meets p (suc j) cause w v meets =
       reject_at_meets p j cause (slice_get (process_levels w p) j) (slice_get (process_levels v p) j) w v
-        (λ outer. reject k p j Inner outer) (λ outer. reject l p j Inner outer)
-        (get_marks (process_levels w p) (process_levels v p) j (process_levels_meet w v p meets)) meets
-        (λ x y. reject_meets p j Inner x y)
+      (λ outer. reject k p j Inner outer) (λ outer. reject l p j Inner outer)
+      (get_marks (process_levels w p) (process_levels v p) j (process_levels_meet w v p meets)) meets
+      (λ x y. reject_meets p j Inner x y)

@@ -1,10 +1,10 @@
 -- In related worlds a sender has the same room, and a receiver the same message.
-use Rattle.std.proofs.Common.{◌≡◌, ◌⊎◌, ◌<◌, ℕ, ℤ, ◌+◌, zero, suc, Bool, true, false, cond, List, [], ◌∷◌, slice_get, Option, Some, None, refl, sym, ap, ap₂, ◌∙◌, subst, nat_lt, ltb-true}
+use Rattle.std.proofs.Common.{◌≡◌, ◌⊎◌, ℕ, ℤ, ◌+◌, suc, Bool, true, List, [], ◌∷◌, slice_get, Option, Some, None, refl, ap, ap₂, ◌∙◌, nat_lt, ltb-true}
 use Rattle.rb_world.specs.Kind.{Ends, Facts, Kind, ReceivesOn, MayReceiveOn}
 use Rattle.rb_world.specs.World.{Level, Process, World, is_shared}
 use Rattle.rb_world.specs.Channels.{first_message, has_room, has_room_for, has_room_on, message_between, message_on, message_there, room_from, seen_copy, seen_count, seen_message}
 use Rattle.rb_world.proofs.Simulation.{Shared, Related, Knowing, copies_of, IsActing, IsReceipt, IsSimulation}
-use Rattle.rb_world.proofs.MarksMeet.{OptionsMeet, SameMark, SameMarks}
+use Rattle.rb_world.proofs.MarksMeet.{OptionsMeet, SameMarks}
 use Rattle.rb_world.proofs.ProcessesMeet.{ProcessesMeet, WorldsMeet, cond_meets, get_meets}
 
 -- both are the present state, or copies of one number
@@ -30,10 +30,10 @@ seen_copies (l ∷ ls) (m ∷ ms) [] (m' ∷ ms') e f = absurd f
 seen_copies (l ∷ ls) (m ∷ ms) (l' ∷ ls') [] e f = absurd f
 seen_copies (l ∷ ls) (m ∷ ms) (l' ∷ ls') (m' ∷ ms') e f =
     cond_meets (CopiesMeet (l.copy ∷ copies_of ls) (m.copy ∷ copies_of ms))
-      (is_shared l.facts.conversation l'.facts.conversation) (is_shared m.facts.conversation m'.facts.conversation)
-      (ap₂ (λ (x y : Facts). is_shared x.conversation y.conversation) e.0.facts f.0.facts)
-      (λ _. further_in l.copy (copies_of ls) m.copy (copies_of ms) (seen_copy ls ls') (seen_copy ms ms') (seen_copies ls ms ls' ms' e.1 f.1))
-      (λ _. (0, refl, refl))
+    (is_shared l.facts.conversation l'.facts.conversation) (is_shared m.facts.conversation m'.facts.conversation)
+    (ap₂ (λ (x y : Facts). is_shared x.conversation y.conversation) e.0.facts f.0.facts)
+    (λ _. further_in l.copy (copies_of ls) m.copy (copies_of ms) (seen_copy ls ls') (seen_copy ms ms') (seen_copies ls ms ls' ms' e.1 f.1))
+    (λ _. (0, refl, refl))
 
 module _ {S C M T D N : Type 0} {k : Kind S C M} {l : Kind T D N} {shared : Shared M N} {related : Related S C M T D N} {known : Knowing S C M} (laws : IsSimulation k l shared related known) where
   room_from-same : (line : Bool) (m : M) (n : N) (c : ℕ) (s : S) (ls : List (Level C)) (u : T) (ms : List (Level D)) → SameMarks ls ms
@@ -55,17 +55,17 @@ module _ {S C M T D N : Type 0} {k : Kind S C M} {l : Kind T D N} {shared : Shar
   has_room_for-same m n c ends (Some p) (Some p') (Some q) None e f = absurd f
   has_room_for-same m n c ends (Some p) (Some p') (Some q) (Some q') e f =
       ap₂ (λ (sent from : ℕ). nat_lt sent (ends.size + from))
-        (laws.sent p.at_line m n (copies_of p.levels) p.state (copies_of p'.levels) p'.state c e.states)
-        (room_from-same q.at_line m n c q.state q.levels q'.state q'.levels f.marks f.states)
+      (laws.sent p.at_line m n (copies_of p.levels) p.state (copies_of p'.levels) p'.state c e.states)
+      (room_from-same q.at_line m n c q.state q.levels q'.state q'.levels f.marks f.states)
 
   has_room_on-same : (w : World S C M) (v : World T D N) (c : ℕ) (ends : Option Ends) → WorldsMeet shared related w v
       → has_room_on k w c ends ≡ has_room_on l v c ends
   has_room_on-same w v c None meets = refl
   has_room_on-same w v c (Some ends) meets =
       has_room_for-same w.memory v.memory c ends
-        (slice_get w.processes ends.sender) (slice_get v.processes ends.sender) (slice_get w.processes ends.receiver) (slice_get v.processes ends.receiver)
-        (get_meets related w.memory v.memory w.processes v.processes ends.sender meets.processes)
-        (get_meets related w.memory v.memory w.processes v.processes ends.receiver meets.processes)
+      (slice_get w.processes ends.sender) (slice_get v.processes ends.sender) (slice_get w.processes ends.receiver) (slice_get v.processes ends.receiver)
+      (get_meets related w.memory v.memory w.processes v.processes ends.sender meets.processes)
+      (get_meets related w.memory v.memory w.processes v.processes ends.receiver meets.processes)
 
   pub has_room-same : (w : World S C M) (v : World T D N) (c : ℕ) → WorldsMeet shared related w v → has_room k w c ≡ has_room l v c
   has_room-same w v c meets =
@@ -88,25 +88,25 @@ module _ {S C M T D N : Type 0} {k : Kind S C M} {l : Kind T D N} {shared : Shar
         → seen_message k w.memory sender.state x c (k.taken receiver.state c) ≡ seen_message l n r.state y c (k.taken receiver.state c)
     seen_message-same n sender receiver r receipt memories meets None None e copies more =
         laws.message t p q w c sender receiver n (copies_of r.levels) r.state acts receipt memories meets.states e
-          (ltb-true (k.taken receiver.state c) (k.sent sender.state c) more)
+        (ltb-true (k.taken receiver.state c) (k.sent sender.state c) more)
     seen_message-same n sender receiver r receipt memories meets None (Some y) e copies more = absurd copies
     seen_message-same n sender receiver r receipt memories meets (Some x) None e copies more = absurd copies
     seen_message-same n sender receiver r receipt memories meets (Some x) (Some y) e copies more =
         laws.message_then t p q w c sender receiver n (copies_of r.levels) r.state copies.0 x y acts receipt memories meets.states e copies.1 copies.2
-          (ltb-true (k.taken receiver.state c) (k.sent_then sender.state x c) more)
+        (ltb-true (k.taken receiver.state c) (k.sent_then sender.state x c) more)
 
     first_message-same : (n : N) (sender receiver : Process S C) (r : Process T D) → IsReceipt k q w c sender receiver → shared w.memory n
         → ProcessesMeet related w.memory n sender r → (y : Option D)
         → CopiesMeet (copies_of sender.levels) (copies_of r.levels) (seen_copy sender.levels receiver.levels) y
         → first_message k w.memory c sender.state (seen_copy sender.levels receiver.levels) (k.taken receiver.state c)
-          ≡ first_message l n c r.state y (k.taken receiver.state c)
+        ≡ first_message l n c r.state y (k.taken receiver.state c)
     first_message-same n sender receiver r receipt memories meets y copies =
         let x = seen_copy sender.levels receiver.levels in
         let i = k.taken receiver.state c in
         cond_meets (λ (v v' : Option ℤ). v ≡ v') (nat_lt i (seen_count k sender.state x c)) (nat_lt i (seen_count l r.state y c))
-          (ap (nat_lt i) (seen_count-same sender.at_line w.memory n c (copies_of sender.levels) sender.state (copies_of r.levels) r.state x y meets.states copies))
-          (λ more. ap Some (seen_message-same n sender receiver r receipt memories meets x y refl copies more))
-          (λ _. refl)
+        (ap (nat_lt i) (seen_count-same sender.at_line w.memory n c (copies_of sender.levels) sender.state (copies_of r.levels) r.state x y meets.states copies))
+        (λ more. ap Some (seen_message-same n sender receiver r receipt memories meets x y refl copies more))
+        (λ _. refl)
 
     message_between-same : (n : N) (ends : Ends) → slice_get k.channels c ≡ Some ends → shared w.memory n
         → (x : Option (Process S C)) (x' : Option (Process T D)) (y : Option (Process S C)) (y' : Option (Process T D))
@@ -121,19 +121,19 @@ module _ {S C M T D N : Type 0} {k : Kind S C M} {l : Kind T D N} {shared : Shar
     message_between-same n ends channel memories (Some x) (Some x') (Some y) None sends receives e f = absurd f
     message_between-same n ends channel memories (Some x) (Some x') (Some y) (Some y') sends receives e f =
         first_message-same n x y x' (record { ends = ends; channel = channel; sends = sends; receives = receives; wants = wants }) memories e
-          (seen_copy x'.levels y'.levels) (seen_copies x.levels x'.levels y.levels y'.levels e.marks f.marks)
+        (seen_copy x'.levels y'.levels) (seen_copies x.levels x'.levels y.levels y'.levels e.marks f.marks)
         ∙ ap (first_message l n c x'.state (seen_copy x'.levels y'.levels))
-            (laws.taken y.at_line w.memory n (copies_of y.levels) y.state (copies_of y'.levels) y'.state c f.states)
+        (laws.taken y.at_line w.memory n (copies_of y.levels) y.state (copies_of y'.levels) y'.state c f.states)
 
     message_on-same : (v : World T D N) → WorldsMeet shared related w v → (ends : Option Ends) → slice_get k.channels c ≡ ends
         → message_on k w c ends ≡ message_on l v c ends
     message_on-same v meets None channel = refl
     message_on-same v meets (Some ends) channel =
         message_between-same v.memory ends channel meets.memories
-          (slice_get w.processes ends.sender) (slice_get v.processes ends.sender) (slice_get w.processes ends.receiver) (slice_get v.processes ends.receiver)
-          refl refl
-          (get_meets related w.memory v.memory w.processes v.processes ends.sender meets.processes)
-          (get_meets related w.memory v.memory w.processes v.processes ends.receiver meets.processes)
+        (slice_get w.processes ends.sender) (slice_get v.processes ends.sender) (slice_get w.processes ends.receiver) (slice_get v.processes ends.receiver)
+        refl refl
+        (get_meets related w.memory v.memory w.processes v.processes ends.sender meets.processes)
+        (get_meets related w.memory v.memory w.processes v.processes ends.receiver meets.processes)
 
     pub message_there-same : (v : World T D N) → WorldsMeet shared related w v → message_there k w c ≡ message_there l v c
     message_there-same v meets =

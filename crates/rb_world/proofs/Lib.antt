@@ -14,3 +14,5 @@ pub mod StepsMeetWorlds
 pub mod TurnsMeet
 pub mod RunsMeet
 pub mod PlainRunsMeet
+pub mod Image
+pub mod ImageRuns

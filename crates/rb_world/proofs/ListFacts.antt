@@ -45,3 +45,10 @@ length-without_last (x ∷ y ∷ ys) = omega (arith, length-without_last (y ∷ 
 -- None holds nothing
 pub none_some : {A : Type 0} {x : A} → None ≡ Some x → ⊥
 none_some e = cc
+
+-- lists that are equal have equal heads and tails
+pub heads_same : {A : Type 0} {x y : A} {xs ys : List A} → x ∷ xs ≡ y ∷ ys → x ≡ y
+heads_same e = cc
+
+pub tails_same : {A : Type 0} {x y : A} {xs ys : List A} → x ∷ xs ≡ y ∷ ys → xs ≡ ys
+tails_same e = cc

@@ -1,14 +1,13 @@
 -- Related kinds take the plain run of a record alike: both are stuck at one turn, or both end in related worlds and told the
 -- same.
-use Rattle.std.proofs.Common.{◌≡◌, ◌⊎◌, ℕ, ℤ, Bool, true, false, cond, List, [], ◌∷◌, length, slice_get, Option, Some, None, refl, sym, ap, ap₂, ◌∙◌, subst, inl, inr, true≢false, nat_eq, nat_le, nat_lt, eqb-true, ◌&&◌}
-use Rattle.rb_base.specs.declared.event.Cause.{Cause}
+use Rattle.std.proofs.Common.{◌≡◌, ◌⊎◌, ℕ, ℤ, Bool, true, false, cond, List, [], ◌∷◌, length, slice_get, Option, Some, None, refl, sym, ap, ap₂, subst, inl, inr, true≢false, nat_le, nat_lt, eqb-true, ◌&&◌}
 use Rattle.rb_world.specs.Kind.{Facts, Kind, Want, NothingLeft, SendsOn, ReceivesOn, MayReceiveOn, Enters, Starts, Acts, Stepped, Trapped, Went, Held}
 use Rattle.rb_world.specs.World.{Level, Status, Running, Finished, FailedWith, Process, World, last_of}
 use Rattle.rb_world.specs.Channels.{has_room, message_there}
-use Rattle.rb_world.specs.Turn.{Moved, Told, copy_of, most_levels, open_at}
+use Rattle.rb_world.specs.Turn.{Moved, Told, most_levels}
 use Rattle.rb_world.specs.Plain.{Kept, PlainEnd, Ended, StuckAt, alternates_of, has_alternate, no_alternate, plain_acts, plain_moves, plain_on, plain_receives, plain_run, plain_runs, plain_stepped, plain_steps, plain_told, plain_turn, plain_turned, when}
 use Rattle.rb_world.proofs.TurnFacts.{RunsAt, IsReady, ToSend, ToReceive, ToReceiveIfThere, ToStart, ToAct}
-use Rattle.rb_world.proofs.Simulation.{Shared, Related, Knowing, copies_of, IsActing, StepsMeet, IsSimulation}
+use Rattle.rb_world.proofs.Simulation.{Shared, Related, Knowing, nothing_known, copies_of, IsActing, StepsMeet, IsSimulation}
 use Rattle.rb_world.proofs.MarksMeet.{OptionsMeet, SameMark, SameMarks, copies-last, last_marks, same_length}
 use Rattle.rb_world.proofs.ProcessesMeet.{ProcessesMeet, WorldsMeet, first_holds, get_meets}
 use Rattle.rb_world.proofs.ChannelsMeet.{has_room-same, message_there-same}
@@ -61,12 +60,12 @@ module _ {S C M T D N : Type 0} {k : Kind S C M} {l : Kind T D N} {shared : Shar
         → OptionsMeet (MovesMeet shared related) (plain_steps k kept message q w) (plain_steps l kept message r v)
     plain_steps_meet message ready at =
         subst (λ (x : Option C). OptionsMeet (MovesMeet shared related) (plain_stepped k kept q.levels w (k.step kept.alternate x q.state message w.memory)) (plain_steps l kept message r v))
-          (sym (copies-last q.levels))
-          (subst (λ (y : Option D). OptionsMeet (MovesMeet shared related) (plain_stepped k kept q.levels w (k.step kept.alternate (last_of (copies_of q.levels)) q.state message w.memory)) (plain_stepped l kept r.levels v (l.step kept.alternate y r.state message v.memory)))
-            (sym (copies-last r.levels))
-            (plain_stepped_meets kept w v q.levels r.levels _ _
-              (laws.step kept.turn kept.process q w kept.alternate message v.memory (copies_of r.levels) r.state may ready at meets.memories
-                (away_states laws kept.turn kept.process q w r v may both meets)) both.marks meets))
+        (sym (copies-last q.levels))
+        (subst (λ (y : Option D). OptionsMeet (MovesMeet shared related) (plain_stepped k kept q.levels w (k.step kept.alternate (last_of (copies_of q.levels)) q.state message w.memory)) (plain_stepped l kept r.levels v (l.step kept.alternate y r.state message v.memory)))
+        (sym (copies-last r.levels))
+        (plain_stepped_meets kept w v q.levels r.levels _ _
+        (laws.step kept.turn kept.process q w kept.alternate message v.memory (copies_of r.levels) r.state may ready at meets.memories
+        (away_states laws kept.turn kept.process q w r v may both meets)) both.marks meets))
 
     no_start : no_alternate kept ≡ true → (k.want q.state ≡ Starts) ⊎ (kept.alternate ≡ 0)
     no_start e = inr (eqb-true kept.alternate 0 e)
@@ -80,37 +79,37 @@ module _ {S C M T D N : Type 0} {k : Kind S C M} {l : Kind T D N} {shared : Shar
     plain_acts_meet NothingLeft wants = tt
     plain_acts_meet (SendsOn c) wants =
         when_meets (MovesMeet shared related) (no_alternate kept && has_room k w c) (no_alternate kept && has_room l v c) _ _
-          (ap (λ (room : Bool). no_alternate kept && room) (has_room-same laws w v c meets))
-          (λ e. plain_steps_meet None (ToSend c wants (second_holds (no_alternate kept) (has_room k w c) e) refl)
-            (no_start (first_holds (no_alternate kept) (has_room k w c) e)))
+        (ap (λ (room : Bool). no_alternate kept && room) (has_room-same laws w v c meets))
+        (λ e. plain_steps_meet None (ToSend c wants (second_holds (no_alternate kept) (has_room k w c) e) refl)
+        (no_start (first_holds (no_alternate kept) (has_room k w c) e)))
     plain_acts_meet (ReceivesOn c) wants =
         when_meets (MovesMeet shared related) (no_alternate kept) (no_alternate kept) _ _ refl
-          (λ none. subst (λ (message : Option ℤ). OptionsMeet (MovesMeet shared related) (plain_receives k kept q w (message_there k w c)) (plain_receives l kept r v message))
-            (message_there-same laws kept.turn kept.process q w c may (inl wants) v meets)
-            (plain_receives_meet c wants none (message_there k w c) refl))
+        (λ none. subst (λ (message : Option ℤ). OptionsMeet (MovesMeet shared related) (plain_receives k kept q w (message_there k w c)) (plain_receives l kept r v message))
+        (message_there-same laws kept.turn kept.process q w c may (inl wants) v meets)
+        (plain_receives_meet c wants none (message_there k w c) refl))
     plain_acts_meet (MayReceiveOn c) wants =
         when_meets (MovesMeet shared related) (no_alternate kept) (no_alternate kept) _ _ refl
-          (λ none. subst (λ (message : Option ℤ). OptionsMeet (MovesMeet shared related) (plain_steps k kept (message_there k w c) q w) (plain_steps l kept message r v))
-            (message_there-same laws kept.turn kept.process q w c may (inr wants) v meets)
-            (plain_steps_meet (message_there k w c) (ToReceiveIfThere c wants refl) (no_start none)))
+        (λ none. subst (λ (message : Option ℤ). OptionsMeet (MovesMeet shared related) (plain_steps k kept (message_there k w c) q w) (plain_steps l kept message r v))
+        (message_there-same laws kept.turn kept.process q w c may (inr wants) v meets)
+        (plain_steps_meet (message_there k w c) (ToReceiveIfThere c wants refl) (no_start none)))
     plain_acts_meet (Enters facts) wants =
         when_meets (MovesMeet shared related) (no_alternate kept && nat_lt (length q.levels) most_levels) (no_alternate kept && nat_lt (length r.levels) most_levels) _ _
-          (ap (λ (n : ℕ). no_alternate kept && nat_lt n most_levels) (same_length q.levels r.levels both.marks))
-          (λ _. open_at_meets laws kept.turn kept.process q w r v may both meets facts 0 wants)
+        (ap (λ (n : ℕ). no_alternate kept && nat_lt n most_levels) (same_length q.levels r.levels both.marks))
+        (λ _. open_at_meets laws kept.turn kept.process q w r v may both meets facts 0 wants)
     plain_acts_meet Starts wants =
         when_meets (MovesMeet shared related) (has_alternate kept q) (has_alternate kept r) _ _
-          (ap (λ (n : ℕ). nat_lt 0 kept.alternate && nat_le kept.alternate n)
-            (alternates_same (last_of q.levels) (last_of r.levels) (last_marks q.levels r.levels both.marks)))
-          (λ _. plain_steps_meet None (ToStart wants refl) (inl wants))
+        (ap (λ (n : ℕ). nat_lt 0 kept.alternate && nat_le kept.alternate n)
+        (alternates_same (last_of q.levels) (last_of r.levels) (last_marks q.levels r.levels both.marks)))
+        (λ _. plain_steps_meet None (ToStart wants refl) (inl wants))
     plain_acts_meet Acts wants =
         when_meets (MovesMeet shared related) (no_alternate kept) (no_alternate kept) _ _ refl
-          (λ none. plain_steps_meet None (ToAct wants refl) (no_start none))
+        (λ none. plain_steps_meet None (ToAct wants refl) (no_start none))
 
     plain_acts_meet_both : OptionsMeet (MovesMeet shared related) (plain_acts k kept q w (k.want q.state)) (plain_acts l kept r v (l.want r.state))
     plain_acts_meet_both =
         subst (λ (want : Want). OptionsMeet (MovesMeet shared related) (plain_acts k kept q w (k.want q.state)) (plain_acts l kept r v want))
-          (laws.want w.memory v.memory _ q.state _ r.state (away_states laws kept.turn kept.process q w r v may both meets))
-          (plain_acts_meet (k.want q.state) refl)
+        (laws.want w.memory v.memory _ q.state _ r.state (away_states laws kept.turn kept.process q w r v may both meets))
+        (plain_acts_meet (k.want q.state) refl)
 
   at_line_meets : (kept : Kept) (q : Process S C) (w : World S C M) (r : Process T D) (v : World T D N) → KnowsKept known kept w → RunsAt kept.process q w
       → ProcessesMeet related w.memory v.memory q r → WorldsMeet shared related w v
@@ -138,7 +137,7 @@ module _ {S C M T D N : Type 0} {k : Kind S C M} {l : Kind T D N} {shared : Shar
   plain_moves_meet kept w v knows meets (Some q) None e both = absurd both
   plain_moves_meet kept w v knows meets (Some q) (Some r) e both =
       subst (λ (status : Status). OptionsMeet (MovesMeet shared related) (plain_runs k kept q w q.status) (plain_runs l kept r v status)) both.statuses
-        (plain_runs_meet kept q w r v knows e both meets q.status refl)
+      (plain_runs_meet kept q w r v knows e both meets q.status refl)
 
   plain_turned_meets : (w : World S C M) (v : World T D N) (x : Option (Moved S C M)) (y : Option (Moved T D N)) → WorldsMeet shared related w v
       → OptionsMeet (MovesMeet shared related) x y → OptionsMeet (TurnsMeet shared related) (plain_turned k w x) (plain_turned l v y)
@@ -152,8 +151,8 @@ module _ {S C M T D N : Type 0} {k : Kind S C M} {l : Kind T D N} {shared : Shar
       → OptionsMeet (TurnsMeet shared related) (plain_turn k kept w) (plain_turn l kept v)
   plain_turn_meets kept w v knows meets =
       plain_turned_meets w v _ _ meets
-        (plain_moves_meet kept w v knows meets (slice_get w.processes kept.process) (slice_get v.processes kept.process) refl
-          (get_meets related w.memory v.memory w.processes v.processes kept.process meets.processes))
+      (plain_moves_meet kept w v knows meets (slice_get w.processes kept.process) (slice_get v.processes kept.process) refl
+      (get_meets related w.memory v.memory w.processes v.processes kept.process meets.processes))
 
 -- both are stuck at one turn, or both end
 abbrev pub EndsMeet : {S C M T D N : Type 0} → Shared M N → Related S C M T D N → PlainEnd S C M → PlainEnd T D N → Type 0
@@ -175,6 +174,10 @@ pub record KeepsPlainKnown {S C M : Type 0} (k : Kind S C M) (known : Knowing S 
   pub knows : (kept : Kept) (w : World S C M) → holds w → KnowsKept known kept w
   pub stays : (kept : Kept) (w : World S C M) (x : World S C M × Told) → holds w → plain_turn k kept w ≡ Some x → holds x.0
 
+-- nothing is asked
+pub keeps_nothing_plain : {S C M : Type 0} (k : Kind S C M) → KeepsPlainKnown k nothing_known (λ _. Unit {0})
+keeps_nothing_plain k = record { knows = λ kept w _ q _ _. tt; stays = λ kept w x _ _. tt }
+
 module _ {S C M T D N : Type 0} {k : Kind S C M} {l : Kind T D N} {shared : Shared M N} {related : Related S C M T D N} {known : Knowing S C M} (laws : IsSimulation k l shared related known) where
   plain_on_meets : (t : ℕ) (x : Option (World S C M × Told)) (y : Option (World T D N × Told)) (others : World S C M → PlainEnd S C M) (others' : World T D N → PlainEnd T D N)
       → OptionsMeet (TurnsMeet shared related) x y
@@ -192,5 +195,5 @@ module _ {S C M T D N : Type 0} {k : Kind S C M} {l : Kind T D N} {shared : Shar
   plain_run_meets along [] w v holds meets = (meets, refl)
   plain_run_meets along (kept ∷ turns) w v holds meets =
       plain_on_meets kept.turn (plain_turn k kept w) (plain_turn l kept v) (plain_run k turns) (plain_run l turns)
-        (plain_turn_meets laws kept w v (along.knows kept w holds) meets)
-        (λ x y e worlds. plain_run_meets along turns x.0 y.0 (along.stays kept w x holds e) worlds)
+      (plain_turn_meets laws kept w v (along.knows kept w holds) meets)
+      (λ x y e worlds. plain_run_meets along turns x.0 y.0 (along.stays kept w x holds e) worlds)

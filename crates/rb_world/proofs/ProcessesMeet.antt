@@ -75,9 +75,10 @@ module _ {S C M T D N : Type 0} (related : Related S C M T D N) where
   change_meets m n m' n' p f g (q ∷ qs) [] others one e = absurd e
   change_meets m n m' n' zero f g (q ∷ qs) (r ∷ rs) others one e =
       (one q r refl refl e.0, carry_meets m n m' n' qs rs (λ i x y. others (suc i) x y (suc-ne-zero i)) e.1)
-  change_meets m n m' n' (suc p) f g (q ∷ qs) (r ∷ rs) others one e =
-      (others 0 q r (λ z. suc-ne-zero p (sym z)) refl e.0,
-        change_meets m n m' n' p f g qs rs (λ i x y ne. others (suc i) x y (λ z. ne (ap pred z))) one e.1)
+  change_meets m n m' n' (suc p) f g (q ∷ qs) (r ∷ rs) others one e = (
+    others 0 q r (λ z. suc-ne-zero p (sym z)) refl e.0,
+    change_meets m n m' n' p f g qs rs (λ i x y ne. others (suc i) x y (λ z. ne (ap pred z))) one e.1,
+  )
 
 -- changes of one process under the laws
 module _ {S C M T D N : Type 0} {k : Kind S C M} {l : Kind T D N} {shared : Shared M N} {related : Related S C M T D N} {known : Knowing S C M} (laws : IsSimulation k l shared related known) where
@@ -93,21 +94,24 @@ module _ {S C M T D N : Type 0} {k : Kind S C M} {l : Kind T D N} {shared : Shar
     states = meets;
     marks = e;
     lines = refl;
-    statuses = ap status_at (laws.want m n (copies_of ls) s (copies_of ms) u meets) }
+    statuses = ap status_at (laws.want m n (copies_of ls) s (copies_of ms) u meets);
+  }
 
   pub used_meets : (m : M) (n : N) (q : Process S C) (r : Process T D) → ProcessesMeet related m n q r → ProcessesMeet related m n (turn_used q) (turn_used r)
   used_meets m n q r meets = record {
     states = rewritten (sym (copies-used q.levels)) (sym (copies-used r.levels)) meets.states;
     marks = used_marks q.levels r.levels meets.marks;
     lines = meets.lines;
-    statuses = meets.statuses }
+    statuses = meets.statuses;
+  }
 
   pub fallen_meets : (m : M) (n : N) (cause : Cause) (q : Process S C) (r : Process T D) → ProcessesMeet related m n q r → ProcessesMeet related m n (fallen k cause q) (fallen l cause r)
   fallen_meets m n cause q r meets = record {
     states = laws.fall q.at_line m n (copies_of q.levels) q.state (copies_of r.levels) r.state meets.states;
     marks = tt;
     lines = refl;
-    statuses = refl }
+    statuses = refl;
+  }
 
   get_copy : (X : Type 0) (ls : List (Level X)) (j : ℕ) (x : Level X) → slice_get ls j ≡ Some x → slice_get (copies_of ls) j ≡ Some x.copy
   get_copy X ls j x e = copies-get ls j ∙ ap (option_map (λ (y : Level X). y.copy)) e
@@ -122,11 +126,12 @@ module _ {S C M T D N : Type 0} {k : Kind S C M} {l : Kind T D N} {shared : Shar
     states = subst (λ (i : ℕ). related false m n (copies_of (take i q.levels)) (k.restore (k.cut i q.state) x.copy) (copies_of (take i r.levels)) (l.restore (l.cut i r.state) y.copy))
         (sym (add-one j))
         (rewritten (sym (copies-take (suc j) q.levels)) (sym (copies-take (suc j) r.levels))
-          (laws.back q.at_line m n (copies_of q.levels) q.state (copies_of r.levels) r.state j x.copy y.copy meets.states
-            (get_copy C q.levels j x e) (get_copy D r.levels j y f)));
+        (laws.back q.at_line m n (copies_of q.levels) q.state (copies_of r.levels) r.state j x.copy y.copy meets.states
+        (get_copy C q.levels j x e) (get_copy D r.levels j y f)));
     marks = take_marks (j + 1) q.levels r.levels meets.marks;
     lines = refl;
-    statuses = meets.statuses }
+    statuses = meets.statuses;
+  }
 
   pub put_back_meets : (m : M) (n : N) (j : ℕ) (q : Process S C) (r : Process T D) → ProcessesMeet related m n q r → ProcessesMeet related m n (put_back k j q) (put_back l j r)
   put_back_meets m n j q r meets =
@@ -137,7 +142,8 @@ module _ {S C M T D N : Type 0} {k : Kind S C M} {l : Kind T D N} {shared : Shar
     states = rewritten (sym (copies-next j q.levels)) (sym (copies-next j r.levels)) meets.states;
     marks = next_marks j q.levels r.levels meets.marks;
     lines = meets.lines;
-    statuses = meets.statuses }
+    statuses = meets.statuses;
+  }
 
   -- whoever has a level of a conversation
   at_place_meets : (m : M) (n : N) (f : ℕ → Process S C → Process S C) (g : ℕ → Process T D → Process T D)
@@ -153,14 +159,14 @@ module _ {S C M T D N : Type 0} {k : Kind S C M} {l : Kind T D N} {shared : Shar
       → ProcessesMeet related m n (where_inside f c q) (where_inside g c r)
   where_inside_meets m n f g one c q r meets =
       subst (λ (place : Option ℕ). ProcessesMeet related m n (where_inside f c q) (at_place g place r))
-        (same_position (is_of c) (is_of c) (same_of c) q.levels r.levels meets.marks)
-        (at_place_meets m n f g one (position (is_of c) q.levels) q r meets)
+      (same_position (is_of c) (is_of c) (same_of c) q.levels r.levels meets.marks)
+      (at_place_meets m n f g one (position (is_of c) q.levels) q r meets)
 
   pub fallen_inside_meets : (m : M) (n : N) (c : ℕ) (q : Process S C) (r : Process T D) → ProcessesMeet related m n q r
       → ProcessesMeet related m n (fallen_inside k c q) (fallen_inside l c r)
   fallen_inside_meets m n c q r meets =
       cond_meets (ProcessesMeet related m n) (is_inside c q) (is_inside c r) (same_any (is_of c) (is_of c) (same_of c) q.levels r.levels meets.marks)
-        (λ _. fallen_meets m n Inner q r meets) (λ _. meets)
+      (λ _. fallen_meets m n Inner q r meets) (λ _. meets)
 
   -- the test line
   pub same_stand : (m : M) (n : N) (c : ℕ) (q : Process S C) (r : Process T D) → ProcessesMeet related m n q r → stands_at c q ≡ stands_at c r
@@ -176,7 +182,7 @@ module _ {S C M T D N : Type 0} {k : Kind S C M} {l : Kind T D N} {shared : Shar
       → ProcessesMeet related m n (settled k (k.accept s) (without_last ls)) (settled l (l.accept u) (without_last ms))
   left_meets m n s ls u ms e meets =
       goes_on_meets m n (k.settle (k.accept s)) (without_last ls) (l.settle (l.accept u)) (without_last ms) (front_marks ls ms e)
-        (rewritten (sym (copies-front ls)) (sym (copies-front ms)) (laws.leave m n (copies_of ls) s (copies_of ms) u meets))
+      (rewritten (sym (copies-front ls)) (sym (copies-front ms)) (laws.leave m n (copies_of ls) s (copies_of ms) u meets))
 
   stood : (q : Process S C) (c : ℕ) → stands_at c q ≡ true → q.at_line ≡ true
   stood q c e = first_holds q.at_line _ e
@@ -185,9 +191,9 @@ module _ {S C M T D N : Type 0} {k : Kind S C M} {l : Kind T D N} {shared : Shar
       → ProcessesMeet related m n (leaves k c q) (leaves l c r)
   leaves_meets m n c q r meets =
       cond_meets (ProcessesMeet related m n) (stands_at c q) (stands_at c r) (same_stand m n c q r meets)
-        (λ there. left_meets m n q.state q.levels r.state r.levels meets.marks
-          (subst (λ (line : Bool). related line m n (copies_of q.levels) q.state (copies_of r.levels) r.state) (stood q c there) meets.states))
-        (λ _. meets)
+      (λ there. left_meets m n q.state q.levels r.state r.levels meets.marks
+      (subst (λ (line : Bool). related line m n (copies_of q.levels) q.state (copies_of r.levels) r.state) (stood q c there) meets.states))
+      (λ _. meets)
 
   -- release
   freed_states : (line : Bool) (m : M) (n : N) (s : S) (ls : List (Level C)) (u : T) (ms : List (Level D)) → SameMarks ls ms
@@ -210,7 +216,8 @@ module _ {S C M T D N : Type 0} {k : Kind S C M} {l : Kind T D N} {shared : Shar
     states = freed_states q.at_line m n q.state q.levels r.state r.levels meets.marks meets.states;
     marks = meets.marks;
     lines = meets.lines;
-    statuses = meets.statuses }
+    statuses = meets.statuses;
+  }
 
   pub all_freed : (m : M) (n : N) (qs : List (Process S C)) (rs : List (Process T D)) → AllMeet related m n qs rs
       → map (λ (q : Process S C). lines_freed k q.state q.levels) qs ≡ map (λ (r : Process T D). lines_freed l r.state r.levels) rs

@@ -1,18 +1,18 @@
 -- Related kinds over whole runs: from related worlds, and from related openings. What a step may ask of the left world
 -- comes from something that holds along the run on the left, as an invariant does.
-use Rattle.std.proofs.Common.{◌≡◌, ℕ, ◌+◌, false, List, [], ◌∷◌, ◌++◌, length, map, slice_get, Option, Some, None, refl, sym, ap, ap₂, ◌∙◌, subst}
+use Rattle.std.proofs.Common.{◌≡◌, ℕ, ◌+◌, false, List, [], ◌∷◌, ◌++◌, length, map, refl, sym, ap, ap₂, subst}
 use Rattle.std.proofs.lemmas.List.{length-map}
 use Rattle.rb_base.specs.declared.event.Event.{Event}
 use Rattle.rb_base.specs.declared.event.TurnKind.TheVariants.{Took}
-use Rattle.rb_world.specs.Kind.{Kind, Membership}
-use Rattle.rb_world.specs.World.{Level, Running, Process, World, settled, with_process}
+use Rattle.rb_world.specs.Kind.{Kind}
+use Rattle.rb_world.specs.World.{Running, Process, World, settled, with_process}
 use Rattle.rb_world.specs.Turn.{Told, done_at, finished_at, one_used, opening, opening_talks, run, told_at_opening, turn, turn_used}
 use Rattle.rb_world.proofs.TurnFacts.{MayAct}
 use Rattle.rb_world.proofs.Invariant.{Between, Within, IsInvariant}
 use Rattle.rb_world.proofs.Induction.{turn-keeps}
-use Rattle.rb_world.proofs.Simulation.{Shared, Related, Knowing, IsSimulation}
+use Rattle.rb_world.proofs.Simulation.{Shared, Related, Knowing, nothing_known, IsSimulation}
 use Rattle.rb_world.proofs.ProcessesMeet.{AllMeet, WorldsMeet, goes_on_meets}
-use Rattle.rb_world.proofs.TurnsMeet.{KnowsTurn, TurnsMeet, turn_meets}
+use Rattle.rb_world.proofs.TurnsMeet.{KnowsTurn, turn_meets}
 
 -- what holds before every turn tells all that is to be known
 pub record KeepsKnown {S C M : Type 0} (k : Kind S C M) (known : Knowing S C M) (holds : ℕ → World S C M → Type 0) : Type 0 where
@@ -20,9 +20,6 @@ pub record KeepsKnown {S C M : Type 0} (k : Kind S C M) (known : Knowing S C M) 
   pub stays : (t p : ℕ) (w : World S C M) → holds t w → holds (t + 1) (turn k t p w).0
 
 -- nothing is asked
-abbrev pub nothing_known : {S C M : Type 0} → Knowing S C M
-nothing_known t p q w = Unit {0}
-
 pub keeps_nothing : {S C M : Type 0} (k : Kind S C M) → KeepsKnown k nothing_known (λ _ _. Unit {0})
 keeps_nothing k = record { knows = λ t p w _ q _ _. tt; stays = λ t p w _. tt }
 
@@ -38,7 +35,7 @@ pub invariant_knows : {S C M : Type 0} {k : Kind S C M} {before : Between S C M}
 invariant_knows {during = during} laws says = record {
   knows = λ t p w holds q at may. says t holds.0 p (turn_used q) (with_process p (λ _. turn_used q) w)
       (subst (λ (n : ℕ). during t holds.0 p n (with_process p (λ _. turn_used q) w)) (sym (length-map q.levels one_used))
-        (laws.uses t holds.0 p q w holds.1 at)) may;
+      (laws.uses t holds.0 p q w holds.1 at)) may;
   stays = λ t p w holds. (_, turn-keeps laws t holds.0 p w holds.1);
 }
 
@@ -67,7 +64,7 @@ pub same_told_at_opening : {S C M T D N : Type 0} {shared : Shared M N} {related
     → WorldsMeet shared related w v → told_at_opening w ≡ told_at_opening v
 same_told_at_opening {related = related} w v meets =
     ap (λ (events : List Event). record { kind = Took; events = events; released = [] })
-      (same_finished related w.memory v.memory 0 w.processes v.processes meets.processes)
+    (same_finished related w.memory v.memory 0 w.processes v.processes meets.processes)
 
 module _ {S C M T D N : Type 0} {k : Kind S C M} {l : Kind T D N} {shared : Shared M N} {related : Related S C M T D N} {known : Knowing S C M} (laws : IsSimulation k l shared related known) where
   -- a whole run
@@ -91,7 +88,8 @@ module _ {S C M T D N : Type 0} {k : Kind S C M} {l : Kind T D N} {shared : Shar
   opening_meets m n ss us memories meets = record {
     memories = memories;
     processes = settled_meet m n ss us meets;
-    talks = ap opening_talks laws.groups }
+    talks = ap opening_talks laws.groups;
+  }
 
   -- a whole run from the opening
   pub opening_run_meets : {holds : ℕ → World S C M → Type 0} → KeepsKnown k known holds → (turns : List ℕ) (m : M) (n : N) (ss : List S) (us : List T)

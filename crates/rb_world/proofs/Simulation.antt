@@ -21,6 +21,10 @@ Related S C M T D N = Bool → M → N → List C → S → List D → T → Typ
 abbrev pub Knowing : Type 0 → Type 0 → Type 0 → Type 1
 Knowing S C M = ℕ → ℕ → Process S C → World S C M → Type 0
 
+-- nothing is asked
+abbrev pub nothing_known : {S C M : Type 0} → Knowing S C M
+nothing_known t p q w = Unit {0}
+
 -- the copies of levels
 abbrev pub copies_of : {C : Type 0} → List (Level C) → List C
 copies_of [] = []
@@ -96,13 +100,13 @@ pub record IsSimulation {S C M T D N : Type 0} (k : Kind S C M) (l : Kind T D N)
       → IsActing known t p q w → IsReady k q w message → (k.want q.state ≡ Starts) ⊎ (alternate ≡ 0) → shared w.memory n
       → related false w.memory n (copies_of q.levels) q.state ds u
       → StepsMeet k l shared related t p alternate w n (copies_of q.levels) ds
-          (k.step alternate (last_of (copies_of q.levels)) q.state message w.memory) (l.step alternate (last_of ds) u message n)
+      (k.step alternate (last_of (copies_of q.levels)) q.state message w.memory) (l.step alternate (last_of ds) u message n)
   pub enter : (t p : ℕ) (q : Process S C) (w : World S C M) (facts : Facts) (n : N) (ds : List D) (u : T)
       → IsActing known t p q w → k.want q.state ≡ Enters facts → shared w.memory n
       → related false w.memory n (copies_of q.levels) q.state ds u
       → let x = k.keep t 0 (k.enter q.state) w.memory in
-        let y = l.keep t 0 (l.enter u) n in
-        StillMeets shared related p w n false x.1 y.1 (copies_of q.levels ++ k.copy x.0 ∷ []) x.0 (ds ++ l.copy y.0 ∷ []) y.0
+      let y = l.keep t 0 (l.enter u) n in
+      StillMeets shared related p w n false x.1 y.1 (copies_of q.levels ++ k.copy x.0 ∷ []) x.0 (ds ++ l.copy y.0 ∷ []) y.0
   -- the innermost level was accepted, of a private block or by all members
   pub leave : (m : M) (n : N) (cs : List C) (s : S) (ds : List D) (u : T) → related true m n cs s ds u
       → related false m n (without_last cs) (k.settle (k.accept s)) (without_last ds) (l.settle (l.accept u))

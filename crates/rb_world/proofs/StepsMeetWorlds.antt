@@ -1,16 +1,14 @@
 -- In related worlds a step, an entry and a test that holds leave related worlds.
-use Rattle.std.proofs.Common.{◌≡◌, ◌≢◌, ◌⊎◌, ℕ, ℤ, zero, suc, Bool, true, false, cond, List, [], ◌∷◌, ◌++◌, length, slice_get, Option, Some, None, refl, sym, ap, ap₂, ◌∙◌, subst, nat_le, ◌&&◌}
+use Rattle.std.proofs.Common.{◌≡◌, ◌⊎◌, ℕ, ℤ, Bool, true, false, List, [], ◌∷◌, ◌++◌, length, slice_get, Option, Some, None, refl, sym, ap, ap₂, ◌∙◌, subst, nat_le, ◌&&◌}
 use Rattle.std.specs.List.{list_all}
 use Rattle.rb_base.specs.declared.event.Cause.{Cause}
 use Rattle.rb_base.specs.declared.event.Cause.TheVariants.{Broken, Depth}
-use Rattle.rb_base.specs.declared.event.Event.{Event}
 use Rattle.rb_base.specs.declared.event.Event.TheVariants.{Pass}
-use Rattle.rb_base.specs.declared.event.TurnKind.{TurnKind}
-use Rattle.rb_world.specs.Kind.{Facts, Kind, Membership, Want, Enters, Starts, Stepped, Trapped, Went, Held}
+use Rattle.rb_world.specs.Kind.{Facts, Kind, Membership, Enters, Starts, Stepped, Trapped, Went, Held}
 use Rattle.rb_world.specs.World.{Level, Process, Talk, World, change_at, last_of, process_levels, talk_at, with_each, with_process, with_memory}
 use Rattle.rb_world.specs.Reject.{Happened, fallen, first_again, reject}
-use Rattle.rb_world.specs.Turn.{Moved, accepted, accepted_at, all_leave, all_stand, alternate_of, at_test_line, copy_of, enter_either, enters, join, leaves, members_of, most_levels, moved_to, new_level, open_at, opened, stands_now, stands_there, stepped, steps, took, trapped, undone}
-use Rattle.rb_world.proofs.TurnFacts.{IsReady, left_alone, come_to_stand}
+use Rattle.rb_world.specs.Turn.{Moved, accepted, accepted_at, all_leave, all_stand, alternate_of, at_test_line, enter_either, enters, join, leaves, members_of, most_levels, moved_to, new_level, open_at, stands_there, stepped, steps, took, trapped, undone}
+use Rattle.rb_world.proofs.TurnFacts.{IsReady, come_to_stand}
 use Rattle.rb_world.proofs.Simulation.{Shared, Related, Knowing, copies_of, IsActing, StillMeets, StepsMeet, IsSimulation}
 use Rattle.rb_world.proofs.MarksMeet.{OptionsMeet, SameMark, SameMarks, same_length, last_marks, more_marks, copies-last, copies-more}
 use Rattle.rb_world.proofs.ProcessesMeet.{ProcessesMeet, WorldsMeet, cond_meets, get_meets, change_meets, fallen_meets, goes_on_meets, leaves_meets, left_meets, rewritten, same_stand, stands_now_meets}
@@ -33,9 +31,13 @@ module _ {S C M T D N : Type 0} {shared : Shared M N} {related : Related S C M T
     processes = change_meets related w.memory v.memory m n p (λ _. q) (λ _. r) w.processes v.processes
         (λ i x y ne e both. record {
           states = still.others i x (copies_of y.levels) y.state ne e both.states;
-          marks = both.marks; lines = both.lines; statuses = both.statuses })
+          marks = both.marks;
+          lines = both.lines;
+          statuses = both.statuses;
+        })
         (λ _ _ _ _ _. new) meets.processes;
-    talks = meets.talks }
+    talks = meets.talks;
+  }
 
   pub undone_meets : (x : Happened S C M) (y : Happened T D N) → HappenedMeet shared related x y → MovesMeet shared related (undone x) (undone y)
   undone_meets x y meets = record { worlds = meets.worlds; kinds = refl; rejections = meets.events; passes = refl }
@@ -48,8 +50,8 @@ module _ {S C M T D N : Type 0} {k : Kind S C M} {l : Kind T D N} {shared : Shar
       → MovesMeet shared related (trapped k p cause w) (trapped l p cause v)
   trapped_meets p cause w v meets =
       subst (λ (n : ℕ). MovesMeet shared related (trapped k p cause w) (undone (reject l p n cause v)))
-        (same_length (process_levels w p) (process_levels v p) (process_levels_meet w v p meets))
-        (undone_meets _ _ (reject_meets laws p (length (process_levels w p)) cause w v meets))
+      (same_length (process_levels w p) (process_levels v p) (process_levels_meet w v p meets))
+      (undone_meets _ _ (reject_meets laws p (length (process_levels w p)) cause w v meets))
 
   -- the test line of a conversation
   stand_there_same : (m : M) (n : N) (c : ℕ) (q : Option (Process S C)) (r : Option (Process T D)) → OptionsMeet (ProcessesMeet related m n) q r
@@ -64,8 +66,8 @@ module _ {S C M T D N : Type 0} {k : Kind S C M} {l : Kind T D N} {shared : Shar
   all_stand_among c w v [] meets = refl
   all_stand_among c w v (i ∷ is) meets =
       ap₂ ◌&&◌ (stand_there_same w.memory v.memory c (slice_get w.processes i) (slice_get v.processes i)
-          (get_meets related w.memory v.memory w.processes v.processes i meets.processes))
-        (all_stand_among c w v is meets)
+      (get_meets related w.memory v.memory w.processes v.processes i meets.processes))
+      (all_stand_among c w v is meets)
 
   all_stand_same : (c : ℕ) (w : World S C M) (v : World T D N) → WorldsMeet shared related w v → all_stand k c w ≡ all_stand l c v
   all_stand_same c w v meets =
@@ -75,16 +77,19 @@ module _ {S C M T D N : Type 0} {k : Kind S C M} {l : Kind T D N} {shared : Shar
   all_leave_meets : (c : ℕ) (w : World S C M) (v : World T D N) → WorldsMeet shared related w v → WorldsMeet shared related (all_leave k c w) (all_leave l c v)
   all_leave_meets c w v meets =
       with_talks_meets (with_each (leaves k c) w) (with_each (leaves l c) v) (change_at c first_again)
-        (with_each_meets w v (leaves k c) (leaves l c) (leaves_meets laws w.memory v.memory c) meets)
+      (with_each_meets w v (leaves k c) (leaves l c) (leaves_meets laws w.memory v.memory c) meets)
 
   at_test_line_meets : (c : ℕ) (w : World S C M) (v : World T D N) → WorldsMeet shared related w v
       → MovesMeet shared related (at_test_line k c w) (at_test_line l c v)
   at_test_line_meets c w v meets =
       cond_meets (MovesMeet shared related) (all_stand k c w) (all_stand l c v) (all_stand_same c w v meets)
-        (λ _. record {
-          worlds = all_leave_meets c w v meets; kinds = refl; rejections = refl;
-          passes = ap (λ (talks : List Talk). Pass c (alternate_of (slice_get talks c)) ∷ []) meets.talks })
-        (λ _. took_meets w v meets)
+      (λ _. record {
+        worlds = all_leave_meets c w v meets;
+        kinds = refl;
+        rejections = refl;
+        passes = ap (λ (talks : List Talk). Pass c (alternate_of (slice_get talks c)) ∷ []) meets.talks;
+      })
+      (λ _. took_meets w v meets)
 
   -- a test that held
   accepted_at_meets : (p : ℕ) (w : World S C M) (v : World T D N) (m : M) (n : N) (s : S) (ls : List (Level C)) (u : T) (ms : List (Level D)) (conversation : Option ℕ)
@@ -94,7 +99,7 @@ module _ {S C M T D N : Type 0} {k : Kind S C M} {l : Kind T D N} {shared : Shar
       took_meets _ _ (changed_world p w v true m n (copies_of ls) s (copies_of ms) u _ _ still (left_meets laws m n s ls u ms same still.states) meets)
   accepted_at_meets p w v m n s ls u ms (Some c) still same meets =
       at_test_line_meets c (come_to_stand p ls w (s, m)) (come_to_stand p ms v (u, n))
-        (changed_world p w v true m n (copies_of ls) s (copies_of ms) u _ _ still (stands_now_meets laws m n s ls u ms same still.states) meets)
+      (changed_world p w v true m n (copies_of ls) s (copies_of ms) u _ _ still (stands_now_meets laws m n s ls u ms same still.states) meets)
 
   pub accepted_meets : (p : ℕ) (w : World S C M) (v : World T D N) (m : M) (n : N) (s : S) (ls : List (Level C)) (u : T) (ms : List (Level D)) (x : Option (Level C)) (y : Option (Level D))
       → StillMeets shared related p w v.memory true m n (copies_of ls) s (copies_of ms) u → SameMarks ls ms → OptionsMeet SameMark x y → WorldsMeet shared related w v
@@ -104,8 +109,8 @@ module _ {S C M T D N : Type 0} {k : Kind S C M} {l : Kind T D N} {shared : Shar
   accepted_meets p w v m n s ls u ms (Some x) None still same last meets = absurd last
   accepted_meets p w v m n s ls u ms (Some x) (Some y) still same last meets =
       subst (λ (conversation : Option ℕ). MovesMeet shared related (accepted k p ls (Some x) w (s, m)) (accepted_at l p ms conversation v (u, n)))
-        (ap (λ (facts : Facts). facts.conversation) last.facts)
-        (accepted_at_meets p w v m n s ls u ms x.facts.conversation still same meets)
+      (ap (λ (facts : Facts). facts.conversation) last.facts)
+      (accepted_at_meets p w v m n s ls u ms x.facts.conversation still same meets)
 
   -- what a step comes to
   pub moved_to_meets : (p : ℕ) (w : World S C M) (v : World T D N) (m : M) (n : N) (s : S) (ls : List (Level C)) (u : T) (ms : List (Level D))
@@ -113,7 +118,7 @@ module _ {S C M T D N : Type 0} {k : Kind S C M} {l : Kind T D N} {shared : Shar
       → WorldsMeet shared related (moved_to k p ls w (s, m)) (moved_to l p ms v (u, n))
   moved_to_meets p w v m n s ls u ms still same meets =
       changed_world p w v false m n (copies_of ls) (k.settle s) (copies_of ms) (l.settle u) _ _ still
-        (goes_on_meets laws m n (k.settle s) ls (l.settle u) ms same still.states) meets
+      (goes_on_meets laws m n (k.settle s) ls (l.settle u) ms same still.states) meets
 
   stepped_meets : (t p alternate : ℕ) (w : World S C M) (v : World T D N) (ls : List (Level C)) (ms : List (Level D)) (x : Stepped S M) (y : Stepped T N)
       → StepsMeet k l shared related t p alternate w v.memory (copies_of ls) (copies_of ms) x y → SameMarks ls ms → WorldsMeet shared related w v
@@ -144,11 +149,11 @@ module _ {S C M T D N : Type 0} {k : Kind S C M} {l : Kind T D N} {shared : Shar
         → MovesMeet shared related (steps k t p alternate message q w) (steps l t p alternate message r v)
     steps_meet alternate message ready at =
         subst (λ (x : Option C). MovesMeet shared related (stepped k t p alternate q.levels w (k.step alternate x q.state message w.memory)) (steps l t p alternate message r v))
-          (sym (copies-last q.levels))
-          (subst (λ (y : Option D). MovesMeet shared related (stepped k t p alternate q.levels w (k.step alternate (last_of (copies_of q.levels)) q.state message w.memory)) (stepped l t p alternate r.levels v (l.step alternate y r.state message v.memory)))
-            (sym (copies-last r.levels))
-            (stepped_meets t p alternate w v q.levels r.levels _ _
-              (laws.step t p q w alternate message v.memory (copies_of r.levels) r.state acts ready at meets.memories away_states) both.marks meets))
+        (sym (copies-last q.levels))
+        (subst (λ (y : Option D). MovesMeet shared related (stepped k t p alternate q.levels w (k.step alternate (last_of (copies_of q.levels)) q.state message w.memory)) (stepped l t p alternate r.levels v (l.step alternate y r.state message v.memory)))
+        (sym (copies-last r.levels))
+        (stepped_meets t p alternate w v q.levels r.levels _ _
+        (laws.step t p q w alternate message v.memory (copies_of r.levels) r.state acts ready at meets.memories away_states) both.marks meets))
 
     -- an entry at the same alternate
     pub open_at_meets : (facts : Facts) (alternate : ℕ) → k.want q.state ≡ Enters facts
@@ -160,29 +165,32 @@ module _ {S C M T D N : Type 0} {k : Kind S C M} {l : Kind T D N} {shared : Shar
         let x = new_level k facts alternate a.0 in
         let y = new_level l facts alternate b.0 in
         took_meets _ _ (changed_world p w v false a.1 b.1 (copies_of q.levels ++ x.copy ∷ []) a.0 (copies_of r.levels ++ y.copy ∷ []) b.0 _ _ still
-          (goes_on_meets laws a.1 b.1 a.0 (q.levels ++ x ∷ []) b.0 (r.levels ++ y ∷ [])
-            (more_marks q.levels r.levels x y both.marks (record { facts = refl; alternate = refl; used = refl }))
-            (rewritten laws (sym (copies-more q.levels x)) (sym (copies-more r.levels y)) still.states)) meets)
+        (goes_on_meets laws a.1 b.1 a.0 (q.levels ++ x ∷ []) b.0 (r.levels ++ y ∷ [])
+        (more_marks q.levels r.levels x y both.marks (record { facts = refl; alternate = refl; used = refl }))
+        (rewritten laws (sym (copies-more q.levels x)) (sym (copies-more r.levels y)) still.states)) meets)
 
     join_meets : (facts : Facts) (talk : Option Talk) → k.want q.state ≡ Enters facts
         → MovesMeet shared related (join k t p facts q w talk) (join l t p facts r v talk)
     join_meets facts None wants = record { worlds = meets; kinds = refl; rejections = refl; passes = refl }
     join_meets facts (Some talk) wants =
         cond_meets (MovesMeet shared related) talk.is_broken talk.is_broken refl
-          (λ _. record {
-            worlds = with_process_meets w v p (fallen k Broken) (fallen l Broken) (fallen_meets laws w.memory v.memory Broken) meets;
-            kinds = refl; rejections = refl; passes = refl })
-          (λ _. open_at_meets facts talk.alternate wants)
+        (λ _. record {
+          worlds = with_process_meets w v p (fallen k Broken) (fallen l Broken) (fallen_meets laws w.memory v.memory Broken) meets;
+          kinds = refl;
+          rejections = refl;
+          passes = refl;
+        })
+        (λ _. open_at_meets facts talk.alternate wants)
 
     enter_either_meets : (facts : Facts) (conversation : Option ℕ) → k.want q.state ≡ Enters facts
         → MovesMeet shared related (enter_either k t p facts conversation q w) (enter_either l t p facts conversation r v)
     enter_either_meets facts None wants = open_at_meets facts 1 wants
     enter_either_meets facts (Some c) wants =
         subst (λ (talks : List Talk). MovesMeet shared related (join k t p facts q w (talk_at w c)) (join l t p facts r v (slice_get talks c)))
-          meets.talks (join_meets facts (talk_at w c) wants)
+        meets.talks (join_meets facts (talk_at w c) wants)
 
     pub enters_meet : (facts : Facts) → k.want q.state ≡ Enters facts → MovesMeet shared related (enters k t p facts q w) (enters l t p facts r v)
     enters_meet facts wants =
         cond_meets (MovesMeet shared related) (nat_le most_levels (length q.levels)) (nat_le most_levels (length r.levels))
-          (ap (nat_le most_levels) (same_length q.levels r.levels both.marks))
-          (λ _. trapped_meets p Depth w v meets) (λ _. enter_either_meets facts facts.conversation wants)
+        (ap (nat_le most_levels) (same_length q.levels r.levels both.marks))
+        (λ _. trapped_meets p Depth w v meets) (λ _. enter_either_meets facts facts.conversation wants)
