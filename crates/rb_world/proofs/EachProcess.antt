@@ -6,10 +6,11 @@ use Rattle.rb_world.specs.Kind.{Facts, Kind, Went, Held}
 use Rattle.rb_world.specs.World.{Process, World, goes_on, is_inside, is_of, last_of, settled, with_process, without_last}
 use Rattle.rb_world.specs.Reject.{all_back, at_place, fallen, fallen_inside, put_back, raised, where_inside}
 use Rattle.rb_world.specs.Turn.{copy_of, freed, leaves, new_level, run, stands_at, stands_now, turn_used}
+use Rattle.rb_world.specs.Standing.{Each}
 use Rattle.rb_world.proofs.TurnFacts.{StepsAt, EntersAt}
 use Rattle.rb_world.proofs.Invariant.{IsInvariant}
 use Rattle.rb_world.proofs.Induction.{run-keeps}
-use Rattle.rb_world.proofs.ListFacts.{Each, Each-change_at, Each-map}
+use Rattle.rb_world.proofs.ListFacts.{Each-change_at, Each-map}
 
 -- The laws of a predicate of a process and its number. Where a step, an entry or a test is spoken of, w is a world in
 -- which the process is the one of that number.

@@ -28,22 +28,22 @@ last-map f [] = refl
 last-map f (c ∷ []) = refl
 last-map f (c ∷ d ∷ cs) = last-map f (d ∷ cs)
 
-front-map : {C D : Type 0} (f : C → D) (cs : List C) → without_last (map f cs) ≡ map f (without_last cs)
+pub front-map : {C D : Type 0} (f : C → D) (cs : List C) → without_last (map f cs) ≡ map f (without_last cs)
 front-map f [] = refl
 front-map f (c ∷ []) = refl
 front-map f (c ∷ d ∷ cs) = ap (λ x. f c ∷ x) (front-map f (d ∷ cs))
 
-take-map : {C D : Type 0} (f : C → D) (n : ℕ) (cs : List C) → take n (map f cs) ≡ map f (take n cs)
+pub take-map : {C D : Type 0} (f : C → D) (n : ℕ) (cs : List C) → take n (map f cs) ≡ map f (take n cs)
 take-map f zero cs = refl
 take-map f (suc n) [] = refl
 take-map f (suc n) (c ∷ cs) = ap (λ x. f c ∷ x) (take-map f n cs)
 
-more-map : {C D : Type 0} (f : C → D) (cs : List C) (c : C) → map f (cs ++ c ∷ []) ≡ map f cs ++ f c ∷ []
+pub more-map : {C D : Type 0} (f : C → D) (cs : List C) (c : C) → map f (cs ++ c ∷ []) ≡ map f cs ++ f c ∷ []
 more-map f [] c = refl
 more-map f (d ∷ cs) c = ap (λ x. f d ∷ x) (more-map f cs c)
 
 -- a copy by its number, on both sides
-copy_there : {C D : Type 0} (f : C → D) (cs : List C) (j : ℕ) (x : C) (y : D) → slice_get cs j ≡ Some x → slice_get (map f cs) j ≡ Some y → f x ≡ y
+pub copy_there : {C D : Type 0} (f : C → D) (cs : List C) (j : ℕ) (x : C) (y : D) → slice_get cs j ≡ Some x → slice_get (map f cs) j ≡ Some y → f x ≡ y
 copy_there f cs j x y e e' = some_same (sym (ap (option_map f) e) ∙ sym (slice_get-map f cs j) ∙ e')
 
 module _ {S C M T D N : Type 0} {k : Kind S C M} {l : Kind T D N} {on_state : S → T} {on_copy : C → D} {on_memory : M → N} (image : IsImage k l on_state on_copy on_memory) where

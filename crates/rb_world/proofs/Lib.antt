@@ -16,3 +16,4 @@ pub mod RunsMeet
 pub mod PlainRunsMeet
 pub mod Image
 pub mod ImageRuns
+pub mod Instances
