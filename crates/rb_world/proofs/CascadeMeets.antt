@@ -71,7 +71,7 @@ module _ {S C M T D N : Type 0} {k : Kind S C M} {l : Kind T D N} {shared : Shar
       subst (λ (b : Bool). HappenedMeet shared related (private_next more p j w outer) (private_next b p j v outer')) e (go more)
     where
       go : (b : Bool) → HappenedMeet shared related (private_next b p j w outer) (private_next b p j v outer')
-      go true = record { worlds = with_process_meets w v p (raised j) (raised j) (raised_meets laws w.memory v.memory j) meets; events = refl }
+      go true = record { worlds = with_process_meets w v p (raised j) (raised j) (raised_meets related w.memory v.memory j) meets; events = refl }
       go false = rest w v meets
 
   reject_private_meets : (p j : ℕ) (cause : Cause) (x : Level C) (y : Level D) (w : World S C M) (v : World T D N) (outer : World S C M → Happened S C M) (outer' : World T D N → Happened T D N)
@@ -90,7 +90,7 @@ module _ {S C M T D N : Type 0} {k : Kind S C M} {l : Kind T D N} {shared : Shar
       laws.groups
       (with_talks_meets (with_each (where_inside (put_back k) c) w) (with_each (where_inside (put_back l) c) v) (reset_below k.groups c)
       (with_each_meets w v (where_inside (put_back k) c) (where_inside (put_back l) c)
-      (where_inside_meets laws w.memory v.memory (put_back k) (put_back l) (put_back_meets laws w.memory v.memory) c) meets))
+      (where_inside_meets related w.memory v.memory (put_back k) (put_back l) (put_back_meets laws w.memory v.memory) c) meets))
 
   exhausted_next_meets : (parent parent' : Option ℕ) → parent ≡ parent' → (c : ℕ) (w : World S C M) (v : World T D N) (outer : World S C M → Happened S C M) (outer' : World T D N → Happened T D N)
       → WorldsMeet shared related w v → RestMeets shared related outer outer'
@@ -117,7 +117,7 @@ module _ {S C M T D N : Type 0} {k : Kind S C M} {l : Kind T D N} {shared : Shar
       go true = record {
         worlds = with_talks_meets (with_each (where_inside raised c) w) (with_each (where_inside raised c) v) (change_at c next_talk)
             (with_each_meets w v (where_inside raised c) (where_inside raised c)
-            (where_inside_meets laws w.memory v.memory raised raised (raised_meets laws w.memory v.memory) c) meets);
+            (where_inside_meets related w.memory v.memory raised raised (raised_meets related w.memory v.memory) c) meets);
         events = refl;
       }
       go false = exhausted_next_meets (parent_of (slice_get k.groups c)) (parent_of (slice_get l.groups c))

@@ -3,7 +3,7 @@ use Rattle.std.proofs.Common.{◌≡◌, ◌⊎◌, ℕ, ℤ, ◌+◌, suc, Bool
 use Rattle.rb_world.specs.Kind.{Ends, Facts, Kind, ReceivesOn, MayReceiveOn}
 use Rattle.rb_world.specs.World.{Level, Process, World, is_shared}
 use Rattle.rb_world.specs.Channels.{first_message, has_room, has_room_for, has_room_on, message_between, message_on, message_there, room_from, seen_copy, seen_count, seen_message}
-use Rattle.rb_world.proofs.Simulation.{Shared, Related, Knowing, copies_of, IsActing, IsReceipt, IsSimulation}
+use Rattle.rb_world.proofs.Simulation.{Shared, Related, Knowing, copies_of, IsActing, IsReceipt, IsPlainSimulation}
 use Rattle.rb_world.proofs.MarksMeet.{OptionsMeet, SameMarks}
 use Rattle.rb_world.proofs.ProcessesMeet.{ProcessesMeet, WorldsMeet, cond_meets, get_meets}
 
@@ -35,7 +35,7 @@ seen_copies (l ∷ ls) (m ∷ ms) (l' ∷ ls') (m' ∷ ms') e f =
     (λ _. further_in l.copy (copies_of ls) m.copy (copies_of ms) (seen_copy ls ls') (seen_copy ms ms') (seen_copies ls ms ls' ms' e.1 f.1))
     (λ _. (0, refl, refl))
 
-module _ {S C M T D N : Type 0} {k : Kind S C M} {l : Kind T D N} {shared : Shared M N} {related : Related S C M T D N} {known : Knowing S C M} (laws : IsSimulation k l shared related known) where
+module _ {S C M T D N : Type 0} {k : Kind S C M} {l : Kind T D N} {shared : Shared M N} {related : Related S C M T D N} {known : Knowing S C M} (laws : IsPlainSimulation k l shared related known) where
   room_from-same : (line : Bool) (m : M) (n : N) (c : ℕ) (s : S) (ls : List (Level C)) (u : T) (ms : List (Level D)) → SameMarks ls ms
       → related line m n (copies_of ls) s (copies_of ms) u → room_from k s ls c ≡ room_from l u ms c
   room_from-same line m n c s [] u [] e meets = laws.taken line m n [] s [] u c meets

@@ -9,15 +9,14 @@ stepped_image on_state on_memory (Trapped cause) = Trapped cause
 stepped_image on_state on_memory (Went s m) = Went (on_state s) (on_memory m)
 stepped_image on_state on_memory (Held s) = Held (on_state s)
 
-pub record IsImage {S C M T D N : Type 0} (k : Kind S C M) (l : Kind T D N) (on_state : S → T) (on_copy : C → D) (on_memory : M → N) : Type 0 where
+-- what a plain run needs, in which nothing is put back
+pub record IsPlainImage {S C M T D N : Type 0} (k : Kind S C M) (l : Kind T D N) (on_state : S → T) (on_copy : C → D) (on_memory : M → N) : Type 0 where
   pub channels : k.channels ≡ l.channels
   pub groups : k.groups ≡ l.groups
   pub want : (s : S) → l.want (on_state s) ≡ k.want s
   pub settle : (s : S) → l.settle (on_state s) ≡ on_state (k.settle s)
   pub enter : (s : S) → l.enter (on_state s) ≡ on_state (k.enter s)
   pub copy : (s : S) → l.copy (on_state s) ≡ on_copy (k.copy s)
-  pub restore : (s : S) (c : C) → l.restore (on_state s) (on_copy c) ≡ on_state (k.restore s c)
-  pub cut : (n : ℕ) (s : S) → l.cut n (on_state s) ≡ on_state (k.cut n s)
   pub accept : (s : S) → l.accept (on_state s) ≡ on_state (k.accept s)
   pub step : (alternate : ℕ) (c : Option C) (s : S) (message : Option ℤ) (m : M)
       → l.step alternate (option_map on_copy c) (on_state s) message (on_memory m) ≡ stepped_image on_state on_memory (k.step alternate c s message m)
@@ -31,6 +30,13 @@ pub record IsImage {S C M T D N : Type 0} (k : Kind S C M) (l : Kind T D N) (on_
   pub release : (s : S) → l.release (on_state s) ≡ on_state (k.release s)
   pub keep : (t alternate : ℕ) (s : S) (m : M)
       → l.keep t alternate (on_state s) (on_memory m) ≡ (on_state (k.keep t alternate s m).0, on_memory (k.keep t alternate s m).1)
+
+-- and what rejections need
+pub record IsImage {S C M T D N : Type 0} (k : Kind S C M) (l : Kind T D N) (on_state : S → T) (on_copy : C → D) (on_memory : M → N) : Type 0 where
+  pub plain : IsPlainImage k l on_state on_copy on_memory
+  pub open plain use *
+  pub restore : (s : S) (c : C) → l.restore (on_state s) (on_copy c) ≡ on_state (k.restore s c)
+  pub cut : (n : ℕ) (s : S) → l.cut n (on_state s) ≡ on_state (k.cut n s)
 
 -- the image of a level, a process, a world
 abbrev pub level_image : {C D : Type 0} → (C → D) → Level C → Level D

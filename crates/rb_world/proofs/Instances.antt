@@ -26,25 +26,27 @@ forgets_count (GivesUp ∷ deeds) s n = refl
 
 counting_image : (groups : List Membership) → IsImage (counts_steps groups) (copies_whole groups) (λ s. s) (λ copy. copy) (λ _. tt {0})
 counting_image groups = record {
-  channels = refl;
-  groups = refl;
-  want = λ s. refl;
-  settle = λ s. refl;
-  enter = λ s. refl;
-  copy = λ s. refl;
+  plain = record {
+    channels = refl;
+    groups = refl;
+    want = λ s. refl;
+    settle = λ s. refl;
+    enter = λ s. refl;
+    copy = λ s. refl;
+    accept = λ s. refl;
+    step = λ alternate copy s message m. forgets_count s.deeds s (m + 1);
+    sent = λ s c. refl;
+    taken = λ s c. refl;
+    sent_then = λ s copy c. refl;
+    taken_then = λ s copy c. refl;
+    message = λ m s c i. refl;
+    message_then = λ m s copy c i. refl;
+    held = λ s. refl;
+    release = λ s. refl;
+    keep = λ t alternate s m. refl;
+  };
   restore = λ s copy. refl;
   cut = λ n s. refl;
-  accept = λ s. refl;
-  step = λ alternate copy s message m. forgets_count s.deeds s (m + 1);
-  sent = λ s c. refl;
-  taken = λ s c. refl;
-  sent_then = λ s copy c. refl;
-  taken_then = λ s copy c. refl;
-  message = λ m s c i. refl;
-  message_then = λ m s copy c i. refl;
-  held = λ s. refl;
-  release = λ s. refl;
-  keep = λ t alternate s m. refl;
 }
 
 pub counting_tells_same : CountsAreUnseen
@@ -153,35 +155,39 @@ module _ (groups : List Membership) where
 
   marks_simulate : IsSimulation (copies_whole groups) (copies_marks groups) NoMemory Marking nothing_known
   marks_simulate = record {
-    channels = refl;
-    groups = refl;
-    want = λ m n cs s ds u e. ap (λ (x : Doing). first_want x.deeds) e.same;
-    sent = λ line m n cs s ds u c e. refl;
-    taken = λ line m n cs s ds u c e. refl;
-    sent_then = λ line m n cs s ds u c j x y e _ _. refl;
-    taken_then = λ line m n x cs s y ds u c e. refl;
-    message = λ t p q w c sender receiver n ds u acts receipt memories e _ _. refl;
-    message_then = λ t p q w c sender receiver n ds u j x y acts receipt memories e _ _ _ _. refl;
-    step = λ t p q w alternate message n ds u acts ready at memories e.
-        at_marks (λ ds u. StepsMeet (copies_whole groups) (copies_marks groups) NoMemory Marking t p alternate w n (copies_of q.levels) ds
-        (do_first q.state.deeds q.state w.memory) (do_first u.deeds u n)) e
-        (step_marked t p alternate w (copies_of q.levels) q.state.deeds q.state e.chain);
-    enter = λ t p q w facts n ds u acts wants memories e.
-        at_marks (λ ds u. let x = with_deeds (entered q.state.deeds) q.state in let y = with_deeds (entered u.deeds) u in
-        StillMeets NoMemory Marking p w n false w.memory n (copies_of q.levels ++ x ∷ []) x (ds ++ marked y ∷ []) y) e
-        (record {
-          memories = tt;
-          states = record {
-            marks = more-map marked (copies_of q.levels) (with_deeds (entered q.state.deeds) q.state);
-            same = refl;
-            chain = chain_more (copies_of q.levels) (with_deeds (entered q.state.deeds) q.state) e.chain;
-          };
-          others = λ r x es v _ _ both. both;
-        });
-    leave = λ m n cs s ds u e. record {
-      marks = sym (front-map marked cs) ∙ ap without_last e.marks;
-      same = e.same;
-      chain = chain_less cs s.lines e.chain;
+    plain = record {
+      channels = refl;
+      groups = refl;
+      want = λ m n cs s ds u e. ap (λ (x : Doing). first_want x.deeds) e.same;
+      sent = λ line m n cs s ds u c e. refl;
+      taken = λ line m n cs s ds u c e. refl;
+      sent_then = λ line m n cs s ds u c j x y e _ _. refl;
+      taken_then = λ line m n x cs s y ds u c e. refl;
+      message = λ t p q w c sender receiver n ds u acts receipt memories e _ _. refl;
+      message_then = λ t p q w c sender receiver n ds u j x y acts receipt memories e _ _ _ _. refl;
+      step = λ t p q w alternate message n ds u acts ready at memories e.
+          at_marks (λ ds u. StepsMeet (copies_whole groups) (copies_marks groups) NoMemory Marking t p alternate w n (copies_of q.levels) ds
+          (do_first q.state.deeds q.state w.memory) (do_first u.deeds u n)) e
+          (step_marked t p alternate w (copies_of q.levels) q.state.deeds q.state e.chain);
+      enter = λ t p q w facts n ds u acts wants memories e.
+          at_marks (λ ds u. let x = with_deeds (entered q.state.deeds) q.state in let y = with_deeds (entered u.deeds) u in
+          StillMeets NoMemory Marking p w n false w.memory n (copies_of q.levels ++ x ∷ []) x (ds ++ marked y ∷ []) y) e
+          (record {
+            memories = tt;
+            states = record {
+              marks = more-map marked (copies_of q.levels) (with_deeds (entered q.state.deeds) q.state);
+              same = refl;
+              chain = chain_more (copies_of q.levels) (with_deeds (entered q.state.deeds) q.state) e.chain;
+            };
+            others = λ r x es v _ _ both. both;
+          });
+      leave = λ m n cs s ds u e. record {
+        marks = sym (front-map marked cs) ∙ ap without_last e.marks;
+        same = e.same;
+        chain = chain_less cs s.lines e.chain;
+      };
+      held = λ line m n s u e. ap (λ (x : Doing). x.lines) e.same;
+      release = λ line m n s u e. record { marks = refl; same = ap without_lines e.same; chain = tt };
     };
     back = λ line m n cs s ds u j x y e at at'. record {
       marks = sym (take-map marked (suc j) cs) ∙ ap (take (suc j)) e.marks;
@@ -190,8 +196,6 @@ module _ (groups : List Membership) where
       chain = chain_take cs s.lines j x e.chain at;
     };
     fall = λ line m n cs s ds u e. record { marks = refl; same = e.same; chain = tt };
-    held = λ line m n s u e. ap (λ (x : Doing). x.lines) e.same;
-    release = λ line m n s u e. record { marks = refl; same = ap without_lines e.same; chain = tt };
   }
 
   openings_marked : (states : List Doing) → OpeningsMeet (copies_whole groups) (copies_marks groups) Marking tt tt states states
@@ -211,9 +215,9 @@ ends_tell_same groups (StuckAt t) (StuckAt t') e = refl
 pub marks_tell_same_plainly : MarksAreUnseenInRecords
 marks_tell_same_plainly groups turns states =
     ends_tell_same groups _ _
-    (plain_run_meets (marks_simulate groups) (keeps_nothing_plain (copies_whole groups)) turns
+    (plain_run_meets (marks_simulate groups).plain (keeps_nothing_plain (copies_whole groups)) turns
     (opening (copies_whole groups) states tt) (opening (copies_marks groups) states tt) tt
-    (opening_meets (marks_simulate groups) tt tt states states tt (openings_marked groups states)))
+    (opening_meets (marks_simulate groups).plain tt tt states states tt (openings_marked groups states)))
 
 -- every run of the counting kind stands
 pub counted_runs_stand : CountedRunsStand

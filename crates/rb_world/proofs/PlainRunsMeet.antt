@@ -7,7 +7,7 @@ use Rattle.rb_world.specs.Channels.{has_room, message_there}
 use Rattle.rb_world.specs.Turn.{Moved, Told, most_levels}
 use Rattle.rb_world.specs.Plain.{Kept, PlainEnd, Ended, StuckAt, alternates_of, has_alternate, no_alternate, plain_acts, plain_moves, plain_on, plain_receives, plain_run, plain_runs, plain_stepped, plain_steps, plain_told, plain_turn, plain_turned, when}
 use Rattle.rb_world.proofs.TurnFacts.{RunsAt, IsReady, ToSend, ToReceive, ToReceiveIfThere, ToStart, ToAct}
-use Rattle.rb_world.proofs.Simulation.{Shared, Related, Knowing, nothing_known, copies_of, IsActing, StepsMeet, IsSimulation}
+use Rattle.rb_world.proofs.Simulation.{Shared, Related, Knowing, nothing_known, copies_of, IsActing, StepsMeet, IsPlainSimulation}
 use Rattle.rb_world.proofs.MarksMeet.{OptionsMeet, SameMark, SameMarks, copies-last, last_marks, same_length}
 use Rattle.rb_world.proofs.ProcessesMeet.{ProcessesMeet, WorldsMeet, first_holds, get_meets}
 use Rattle.rb_world.proofs.ChannelsMeet.{has_room-same, message_there-same}
@@ -35,7 +35,7 @@ alternates_same None (Some y) e = absurd e
 alternates_same (Some x) None e = absurd e
 alternates_same (Some x) (Some y) e = ap (λ (facts : Facts). facts.alternates) e.facts
 
-module _ {S C M T D N : Type 0} {k : Kind S C M} {l : Kind T D N} {shared : Shared M N} {related : Related S C M T D N} {known : Knowing S C M} (laws : IsSimulation k l shared related known) where
+module _ {S C M T D N : Type 0} {k : Kind S C M} {l : Kind T D N} {shared : Shared M N} {related : Related S C M T D N} {known : Knowing S C M} (laws : IsPlainSimulation k l shared related known) where
   plain_stepped_meets : (kept : Kept) (w : World S C M) (v : World T D N) (ls : List (Level C)) (ms : List (Level D)) (x : Stepped S M) (y : Stepped T N)
       → StepsMeet k l shared related kept.turn kept.process kept.alternate w v.memory (copies_of ls) (copies_of ms) x y → SameMarks ls ms → WorldsMeet shared related w v
       → OptionsMeet (MovesMeet shared related) (plain_stepped k kept ls w x) (plain_stepped l kept ms v y)
@@ -178,7 +178,7 @@ pub record KeepsPlainKnown {S C M : Type 0} (k : Kind S C M) (known : Knowing S 
 pub keeps_nothing_plain : {S C M : Type 0} (k : Kind S C M) → KeepsPlainKnown k nothing_known (λ _. Unit {0})
 keeps_nothing_plain k = record { knows = λ kept w _ q _ _. tt; stays = λ kept w x _ _. tt }
 
-module _ {S C M T D N : Type 0} {k : Kind S C M} {l : Kind T D N} {shared : Shared M N} {related : Related S C M T D N} {known : Knowing S C M} (laws : IsSimulation k l shared related known) where
+module _ {S C M T D N : Type 0} {k : Kind S C M} {l : Kind T D N} {shared : Shared M N} {related : Related S C M T D N} {known : Knowing S C M} (laws : IsPlainSimulation k l shared related known) where
   plain_on_meets : (t : ℕ) (x : Option (World S C M × Told)) (y : Option (World T D N × Told)) (others : World S C M → PlainEnd S C M) (others' : World T D N → PlainEnd T D N)
       → OptionsMeet (TurnsMeet shared related) x y
       → ((w : World S C M × Told) (v : World T D N × Told) → x ≡ Some w → WorldsMeet shared related w.0 v.0 → EndsMeet shared related (others w.0) (others' v.0))

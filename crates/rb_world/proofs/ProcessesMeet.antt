@@ -6,7 +6,7 @@ use Rattle.rb_world.specs.Kind.{Kind}
 use Rattle.rb_world.specs.World.{Level, Process, World, change_at, goes_on, is_inside, is_of, last_of, settled, status_at, without_last}
 use Rattle.rb_world.specs.Reject.{at_place, back_to, fallen, fallen_inside, put_back, raised, where_inside}
 use Rattle.rb_world.specs.Turn.{freed, leaves, lines_freed, stands_at, stands_now, state_freed, turn_used}
-use Rattle.rb_world.proofs.Simulation.{Shared, Related, Knowing, copies_of, IsSimulation}
+use Rattle.rb_world.proofs.Simulation.{Shared, Related, Knowing, copies_of, IsPlainSimulation, IsSimulation}
 use Rattle.rb_world.proofs.MarksMeet.{OptionsMeet, SameMark, SameMarks, same_of, same_any, same_position, same_last_of, get_marks, last_marks, used_marks, next_marks, take_marks, front_marks, copies-used, copies-next, copies-take, copies-front, copies-get}
 
 pub record ProcessesMeet {S C M T D N : Type 0} (related : Related S C M T D N) (m : M) (n : N) (q : Process S C) (r : Process T D) : Type 0 where
@@ -80,22 +80,12 @@ module _ {S C M T D N : Type 0} (related : Related S C M T D N) where
     change_meets m n m' n' p f g qs rs (λ i x y ne. others (suc i) x y (λ z. ne (ap pred z))) one e.1,
   )
 
--- changes of one process under the laws
-module _ {S C M T D N : Type 0} {k : Kind S C M} {l : Kind T D N} {shared : Shared M N} {related : Related S C M T D N} {known : Knowing S C M} (laws : IsSimulation k l shared related known) where
+-- changes of one process that need no law
+module _ {S C M T D N : Type 0} (related : Related S C M T D N) where
   -- copies written another way
   pub rewritten : {line : Bool} {m : M} {n : N} {cs cs' : List C} {s : S} {ds ds' : List D} {u : T} → cs ≡ cs' → ds ≡ ds'
       → related line m n cs s ds u → related line m n cs' s ds' u
   rewritten {line} {m} {n} {cs} {cs'} {s} {ds} {ds'} {u} e f = subst₂ (λ (x : List C) (y : List D). related line m n x s y u) e f
-
-  -- who goes on
-  pub goes_on_meets : (m : M) (n : N) (s : S) (ls : List (Level C)) (u : T) (ms : List (Level D)) → SameMarks ls ms
-      → related false m n (copies_of ls) s (copies_of ms) u → ProcessesMeet related m n (goes_on k s ls) (goes_on l u ms)
-  goes_on_meets m n s ls u ms e meets = record {
-    states = meets;
-    marks = e;
-    lines = refl;
-    statuses = ap status_at (laws.want m n (copies_of ls) s (copies_of ms) u meets);
-  }
 
   pub used_meets : (m : M) (n : N) (q : Process S C) (r : Process T D) → ProcessesMeet related m n q r → ProcessesMeet related m n (turn_used q) (turn_used r)
   used_meets m n q r meets = record {
@@ -104,38 +94,6 @@ module _ {S C M T D N : Type 0} {k : Kind S C M} {l : Kind T D N} {shared : Shar
     lines = meets.lines;
     statuses = meets.statuses;
   }
-
-  pub fallen_meets : (m : M) (n : N) (cause : Cause) (q : Process S C) (r : Process T D) → ProcessesMeet related m n q r → ProcessesMeet related m n (fallen k cause q) (fallen l cause r)
-  fallen_meets m n cause q r meets = record {
-    states = laws.fall q.at_line m n (copies_of q.levels) q.state (copies_of r.levels) r.state meets.states;
-    marks = tt;
-    lines = refl;
-    statuses = refl;
-  }
-
-  get_copy : (X : Type 0) (ls : List (Level X)) (j : ℕ) (x : Level X) → slice_get ls j ≡ Some x → slice_get (copies_of ls) j ≡ Some x.copy
-  get_copy X ls j x e = copies-get ls j ∙ ap (option_map (λ (y : Level X). y.copy)) e
-
-  back_to_meets : (m : M) (n : N) (j : ℕ) (q : Process S C) (r : Process T D) → ProcessesMeet related m n q r
-      → (x : Option (Level C)) (y : Option (Level D)) → slice_get q.levels j ≡ x → slice_get r.levels j ≡ y → OptionsMeet SameMark x y
-      → ProcessesMeet related m n (back_to k j q x) (back_to l j r y)
-  back_to_meets m n j q r meets None None e f same = meets
-  back_to_meets m n j q r meets None (Some y) e f same = absurd same
-  back_to_meets m n j q r meets (Some x) None e f same = absurd same
-  back_to_meets m n j q r meets (Some x) (Some y) e f same = record {
-    states = subst (λ (i : ℕ). related false m n (copies_of (take i q.levels)) (k.restore (k.cut i q.state) x.copy) (copies_of (take i r.levels)) (l.restore (l.cut i r.state) y.copy))
-        (sym (add-one j))
-        (rewritten (sym (copies-take (suc j) q.levels)) (sym (copies-take (suc j) r.levels))
-        (laws.back q.at_line m n (copies_of q.levels) q.state (copies_of r.levels) r.state j x.copy y.copy meets.states
-        (get_copy C q.levels j x e) (get_copy D r.levels j y f)));
-    marks = take_marks (j + 1) q.levels r.levels meets.marks;
-    lines = refl;
-    statuses = meets.statuses;
-  }
-
-  pub put_back_meets : (m : M) (n : N) (j : ℕ) (q : Process S C) (r : Process T D) → ProcessesMeet related m n q r → ProcessesMeet related m n (put_back k j q) (put_back l j r)
-  put_back_meets m n j q r meets =
-      back_to_meets m n j q r meets (slice_get q.levels j) (slice_get r.levels j) refl refl (get_marks q.levels r.levels j meets.marks)
 
   pub raised_meets : (m : M) (n : N) (j : ℕ) (q : Process S C) (r : Process T D) → ProcessesMeet related m n q r → ProcessesMeet related m n (raised j q) (raised j r)
   raised_meets m n j q r meets = record {
@@ -162,12 +120,6 @@ module _ {S C M T D N : Type 0} {k : Kind S C M} {l : Kind T D N} {shared : Shar
       (same_position (is_of c) (is_of c) (same_of c) q.levels r.levels meets.marks)
       (at_place_meets m n f g one (position (is_of c) q.levels) q r meets)
 
-  pub fallen_inside_meets : (m : M) (n : N) (c : ℕ) (q : Process S C) (r : Process T D) → ProcessesMeet related m n q r
-      → ProcessesMeet related m n (fallen_inside k c q) (fallen_inside l c r)
-  fallen_inside_meets m n c q r meets =
-      cond_meets (ProcessesMeet related m n) (is_inside c q) (is_inside c r) (same_any (is_of c) (is_of c) (same_of c) q.levels r.levels meets.marks)
-      (λ _. fallen_meets m n Inner q r meets) (λ _. meets)
-
   -- the test line
   pub same_stand : (m : M) (n : N) (c : ℕ) (q : Process S C) (r : Process T D) → ProcessesMeet related m n q r → stands_at c q ≡ stands_at c r
   same_stand m n c q r meets =
@@ -177,12 +129,24 @@ module _ {S C M T D N : Type 0} {k : Kind S C M} {l : Kind T D N} {shared : Shar
       → related true m n (copies_of ls) s (copies_of ms) u → ProcessesMeet related m n (stands_now s ls) (stands_now u ms)
   stands_now_meets m n s ls u ms e meets = record { states = meets; marks = e; lines = refl; statuses = refl }
 
+-- changes under the laws of plain runs
+module _ {S C M T D N : Type 0} {k : Kind S C M} {l : Kind T D N} {shared : Shared M N} {related : Related S C M T D N} {known : Knowing S C M} (laws : IsPlainSimulation k l shared related known) where
+  -- who goes on
+  pub goes_on_meets : (m : M) (n : N) (s : S) (ls : List (Level C)) (u : T) (ms : List (Level D)) → SameMarks ls ms
+      → related false m n (copies_of ls) s (copies_of ms) u → ProcessesMeet related m n (goes_on k s ls) (goes_on l u ms)
+  goes_on_meets m n s ls u ms e meets = record {
+    states = meets;
+    marks = e;
+    lines = refl;
+    statuses = ap status_at (laws.want m n (copies_of ls) s (copies_of ms) u meets);
+  }
+
   pub left_meets : (m : M) (n : N) (s : S) (ls : List (Level C)) (u : T) (ms : List (Level D)) → SameMarks ls ms
       → related true m n (copies_of ls) s (copies_of ms) u
       → ProcessesMeet related m n (settled k (k.accept s) (without_last ls)) (settled l (l.accept u) (without_last ms))
   left_meets m n s ls u ms e meets =
       goes_on_meets m n (k.settle (k.accept s)) (without_last ls) (l.settle (l.accept u)) (without_last ms) (front_marks ls ms e)
-      (rewritten (sym (copies-front ls)) (sym (copies-front ms)) (laws.leave m n (copies_of ls) s (copies_of ms) u meets))
+      (rewritten related (sym (copies-front ls)) (sym (copies-front ms)) (laws.leave m n (copies_of ls) s (copies_of ms) u meets))
 
   stood : (q : Process S C) (c : ℕ) → stands_at c q ≡ true → q.at_line ≡ true
   stood q c e = first_holds q.at_line _ e
@@ -190,7 +154,7 @@ module _ {S C M T D N : Type 0} {k : Kind S C M} {l : Kind T D N} {shared : Shar
   pub leaves_meets : (m : M) (n : N) (c : ℕ) (q : Process S C) (r : Process T D) → ProcessesMeet related m n q r
       → ProcessesMeet related m n (leaves k c q) (leaves l c r)
   leaves_meets m n c q r meets =
-      cond_meets (ProcessesMeet related m n) (stands_at c q) (stands_at c r) (same_stand m n c q r meets)
+      cond_meets (ProcessesMeet related m n) (stands_at c q) (stands_at c r) (same_stand related m n c q r meets)
       (λ there. left_meets m n q.state q.levels r.state r.levels meets.marks
       (subst (λ (line : Bool). related line m n (copies_of q.levels) q.state (copies_of r.levels) r.state) (stood q c there) meets.states))
       (λ _. meets)
@@ -226,3 +190,43 @@ module _ {S C M T D N : Type 0} {k : Kind S C M} {l : Kind T D N} {shared : Shar
   all_freed m n (q ∷ qs) [] e = absurd e
   all_freed m n (q ∷ qs) (r ∷ rs) e =
       ap₂ ◌∷◌ (freed_same q.at_line m n q.state q.levels r.state r.levels e.0.marks e.0.states) (all_freed m n qs rs e.1)
+
+-- rejections
+module _ {S C M T D N : Type 0} {k : Kind S C M} {l : Kind T D N} {shared : Shared M N} {related : Related S C M T D N} {known : Knowing S C M} (laws : IsSimulation k l shared related known) where
+  pub fallen_meets : (m : M) (n : N) (cause : Cause) (q : Process S C) (r : Process T D) → ProcessesMeet related m n q r → ProcessesMeet related m n (fallen k cause q) (fallen l cause r)
+  fallen_meets m n cause q r meets = record {
+    states = laws.fall q.at_line m n (copies_of q.levels) q.state (copies_of r.levels) r.state meets.states;
+    marks = tt;
+    lines = refl;
+    statuses = refl;
+  }
+
+  get_copy : (X : Type 0) (ls : List (Level X)) (j : ℕ) (x : Level X) → slice_get ls j ≡ Some x → slice_get (copies_of ls) j ≡ Some x.copy
+  get_copy X ls j x e = copies-get ls j ∙ ap (option_map (λ (y : Level X). y.copy)) e
+
+  back_to_meets : (m : M) (n : N) (j : ℕ) (q : Process S C) (r : Process T D) → ProcessesMeet related m n q r
+      → (x : Option (Level C)) (y : Option (Level D)) → slice_get q.levels j ≡ x → slice_get r.levels j ≡ y → OptionsMeet SameMark x y
+      → ProcessesMeet related m n (back_to k j q x) (back_to l j r y)
+  back_to_meets m n j q r meets None None e f same = meets
+  back_to_meets m n j q r meets None (Some y) e f same = absurd same
+  back_to_meets m n j q r meets (Some x) None e f same = absurd same
+  back_to_meets m n j q r meets (Some x) (Some y) e f same = record {
+    states = subst (λ (i : ℕ). related false m n (copies_of (take i q.levels)) (k.restore (k.cut i q.state) x.copy) (copies_of (take i r.levels)) (l.restore (l.cut i r.state) y.copy))
+        (sym (add-one j))
+        (rewritten related (sym (copies-take (suc j) q.levels)) (sym (copies-take (suc j) r.levels))
+        (laws.back q.at_line m n (copies_of q.levels) q.state (copies_of r.levels) r.state j x.copy y.copy meets.states
+        (get_copy C q.levels j x e) (get_copy D r.levels j y f)));
+    marks = take_marks (j + 1) q.levels r.levels meets.marks;
+    lines = refl;
+    statuses = meets.statuses;
+  }
+
+  pub put_back_meets : (m : M) (n : N) (j : ℕ) (q : Process S C) (r : Process T D) → ProcessesMeet related m n q r → ProcessesMeet related m n (put_back k j q) (put_back l j r)
+  put_back_meets m n j q r meets =
+      back_to_meets m n j q r meets (slice_get q.levels j) (slice_get r.levels j) refl refl (get_marks q.levels r.levels j meets.marks)
+
+  pub fallen_inside_meets : (m : M) (n : N) (c : ℕ) (q : Process S C) (r : Process T D) → ProcessesMeet related m n q r
+      → ProcessesMeet related m n (fallen_inside k c q) (fallen_inside l c r)
+  fallen_inside_meets m n c q r meets =
+      cond_meets (ProcessesMeet related m n) (is_inside c q) (is_inside c r) (same_any (is_of c) (is_of c) (same_of c) q.levels r.levels meets.marks)
+      (λ _. fallen_meets m n Inner q r meets) (λ _. meets)

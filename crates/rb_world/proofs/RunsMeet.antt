@@ -10,7 +10,7 @@ use Rattle.rb_world.specs.Turn.{Told, done_at, finished_at, one_used, opening, o
 use Rattle.rb_world.proofs.TurnFacts.{MayAct}
 use Rattle.rb_world.proofs.Invariant.{Between, Within, IsInvariant}
 use Rattle.rb_world.proofs.Induction.{turn-keeps}
-use Rattle.rb_world.proofs.Simulation.{Shared, Related, Knowing, nothing_known, IsSimulation}
+use Rattle.rb_world.proofs.Simulation.{Shared, Related, Knowing, nothing_known, IsPlainSimulation, IsSimulation}
 use Rattle.rb_world.proofs.ProcessesMeet.{AllMeet, WorldsMeet, goes_on_meets}
 use Rattle.rb_world.proofs.TurnsMeet.{KnowsTurn, turn_meets}
 
@@ -66,16 +66,7 @@ same_told_at_opening {related = related} w v meets =
     ap (λ (events : List Event). record { kind = Took; events = events; released = [] })
     (same_finished related w.memory v.memory 0 w.processes v.processes meets.processes)
 
-module _ {S C M T D N : Type 0} {k : Kind S C M} {l : Kind T D N} {shared : Shared M N} {related : Related S C M T D N} {known : Knowing S C M} (laws : IsSimulation k l shared related known) where
-  -- a whole run
-  pub run_meets : {holds : ℕ → World S C M → Type 0} → KeepsKnown k known holds → (t : ℕ) (turns : List ℕ) (w : World S C M) (v : World T D N)
-      → holds t w → WorldsMeet shared related w v → RunsMeet shared related (run k t turns w) (run l t turns v)
-  run_meets along t [] w v holds meets = record { worlds = meets; same_told = refl }
-  run_meets along t (p ∷ turns) w v holds meets =
-      let first = turn_meets laws t p w v (along.knows t p w holds) meets in
-      let others = run_meets along (t + 1) turns (turn k t p w).0 (turn l t p v).0 (along.stays t p w holds) first.worlds in
-      record { worlds = others.worlds; same_told = ap₂ ◌∷◌ first.same_told others.same_told }
-
+module _ {S C M T D N : Type 0} {k : Kind S C M} {l : Kind T D N} {shared : Shared M N} {related : Related S C M T D N} {known : Knowing S C M} (laws : IsPlainSimulation k l shared related known) where
   settled_meet : (m : M) (n : N) (ss : List S) (us : List T) → OpeningsMeet k l related m n ss us
       → AllMeet related m n (map (λ s. settled k s []) ss) (map (λ u. settled l u []) us)
   settled_meet m n [] [] e = tt
@@ -91,9 +82,19 @@ module _ {S C M T D N : Type 0} {k : Kind S C M} {l : Kind T D N} {shared : Shar
     talks = ap opening_talks laws.groups;
   }
 
+module _ {S C M T D N : Type 0} {k : Kind S C M} {l : Kind T D N} {shared : Shared M N} {related : Related S C M T D N} {known : Knowing S C M} (laws : IsSimulation k l shared related known) where
+  -- a whole run
+  pub run_meets : {holds : ℕ → World S C M → Type 0} → KeepsKnown k known holds → (t : ℕ) (turns : List ℕ) (w : World S C M) (v : World T D N)
+      → holds t w → WorldsMeet shared related w v → RunsMeet shared related (run k t turns w) (run l t turns v)
+  run_meets along t [] w v holds meets = record { worlds = meets; same_told = refl }
+  run_meets along t (p ∷ turns) w v holds meets =
+      let first = turn_meets laws t p w v (along.knows t p w holds) meets in
+      let others = run_meets along (t + 1) turns (turn k t p w).0 (turn l t p v).0 (along.stays t p w holds) first.worlds in
+      record { worlds = others.worlds; same_told = ap₂ ◌∷◌ first.same_told others.same_told }
+
   -- a whole run from the opening
   pub opening_run_meets : {holds : ℕ → World S C M → Type 0} → KeepsKnown k known holds → (turns : List ℕ) (m : M) (n : N) (ss : List S) (us : List T)
       → holds 1 (opening k ss m) → shared m n → OpeningsMeet k l related m n ss us
       → RunsMeet shared related (run k 1 turns (opening k ss m)) (run l 1 turns (opening l us n))
   opening_run_meets along turns m n ss us holds memories meets =
-      run_meets along 1 turns (opening k ss m) (opening l us n) holds (opening_meets m n ss us memories meets)
+      run_meets along 1 turns (opening k ss m) (opening l us n) holds (opening_meets laws.plain m n ss us memories meets)

@@ -70,7 +70,8 @@ StepsMeet k l shared related t p alternate w old cs ds (Held s) (Held u) =
     let y = l.keep t alternate u old in
     StillMeets shared related p w old true x.1 y.1 cs x.0 ds y.0
 
-pub record IsSimulation {S C M T D N : Type 0} (k : Kind S C M) (l : Kind T D N) (shared : Shared M N) (related : Related S C M T D N) (known : Knowing S C M) : Type 0 where
+-- The laws that a plain run needs, in which nothing is put back.
+pub record IsPlainSimulation {S C M T D N : Type 0} (k : Kind S C M) (l : Kind T D N) (shared : Shared M N) (related : Related S C M T D N) (known : Knowing S C M) : Type 0 where
   pub channels : k.channels ≡ l.channels
   pub groups : k.groups ≡ l.groups
   pub want : (m : M) (n : N) (cs : List C) (s : S) (ds : List D) (u : T) → related false m n cs s ds u → k.want s ≡ l.want u
@@ -110,12 +111,17 @@ pub record IsSimulation {S C M T D N : Type 0} (k : Kind S C M) (l : Kind T D N)
   -- the innermost level was accepted, of a private block or by all members
   pub leave : (m : M) (n : N) (cs : List C) (s : S) (ds : List D) (u : T) → related true m n cs s ds u
       → related false m n (without_last cs) (k.settle (k.accept s)) (without_last ds) (l.settle (l.accept u))
+  -- without a level the same lines are held, and they are released
+  pub held : (line : Bool) (m : M) (n : N) (s : S) (u : T) → related line m n [] s [] u → k.held s ≡ l.held u
+  pub release : (line : Bool) (m : M) (n : N) (s : S) (u : T) → related line m n [] s [] u → related line m n [] (k.release s) [] (l.release u)
+
+-- And those of rejections.
+pub record IsSimulation {S C M T D N : Type 0} (k : Kind S C M) (l : Kind T D N) (shared : Shared M N) (related : Related S C M T D N) (known : Knowing S C M) : Type 0 where
+  pub plain : IsPlainSimulation k l shared related known
+  pub open plain use *
   -- a copy is put back, and the levels inside it go
   pub back : (line : Bool) (m : M) (n : N) (cs : List C) (s : S) (ds : List D) (u : T) (j : ℕ) (x : C) (y : D)
       → related line m n cs s ds u → slice_get cs j ≡ Some x → slice_get ds j ≡ Some y
       → related false m n (take (suc j) cs) (k.restore (k.cut (suc j) s) x) (take (suc j) ds) (l.restore (l.cut (suc j) u) y)
   pub fall : (line : Bool) (m : M) (n : N) (cs : List C) (s : S) (ds : List D) (u : T) → related line m n cs s ds u
       → related false m n [] (k.cut 0 s) [] (l.cut 0 u)
-  -- without a level the same lines are held, and they are released
-  pub held : (line : Bool) (m : M) (n : N) (s : S) (u : T) → related line m n [] s [] u → k.held s ≡ l.held u
-  pub release : (line : Bool) (m : M) (n : N) (s : S) (u : T) → related line m n [] s [] u → related line m n [] (k.release s) [] (l.release u)

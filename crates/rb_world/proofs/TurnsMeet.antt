@@ -8,7 +8,7 @@ use Rattle.rb_world.specs.Channels.{has_room, message_there}
 use Rattle.rb_world.specs.Turn.{Moved, Told, acts, bounded, by_status, compared, done_at, error_at, finishes, freed, is_over, move, moves, receives, steps, told, tried_at, turn, turn_used, waits}
 use Rattle.rb_world.proofs.TurnFacts.{RunsAt, MayAct, ToSend, ToReceive, ToReceiveIfThere, ToStart, ToAct}
 use Rattle.rb_world.proofs.ListFacts.{slice_get-change_at}
-use Rattle.rb_world.proofs.Simulation.{Shared, Related, Knowing, IsActing, IsSimulation}
+use Rattle.rb_world.proofs.Simulation.{Shared, Related, Knowing, IsActing, IsPlainSimulation, IsSimulation}
 use Rattle.rb_world.proofs.MarksMeet.{OptionsMeet, same_over, same_position, same_tried, last_marks}
 use Rattle.rb_world.proofs.ProcessesMeet.{ProcessesMeet, AllMeet, WorldsMeet, all_freed, cond_meets, freed_meets, get_meets, used_meets}
 use Rattle.rb_world.proofs.ChannelsMeet.{has_room-same, message_there-same}
@@ -39,6 +39,30 @@ same_compared related m n m' n' f p (q ∷ qs) (q' ∷ qs') (r ∷ rs) [] e e' =
 same_compared related m n m' n' f p (q ∷ qs) (q' ∷ qs') (r ∷ rs) (r' ∷ rs') e e' =
     ap₂ ◌++◌ (ap₂ (f p) e.0.statuses e'.0.statuses) (same_compared related m n m' n' f (p + 1) qs qs' rs rs' e.1 e'.1)
 
+-- what is told
+module _ {S C M T D N : Type 0} {k : Kind S C M} {l : Kind T D N} {shared : Shared M N} {related : Related S C M T D N} {known : Knowing S C M} (laws : IsPlainSimulation k l shared related known) where
+  same_of_all : (f : ℕ → Status → Status → List Event) (w : World S C M) (v : World T D N) (x : Moved S C M) (y : Moved T D N)
+      → WorldsMeet shared related w v → MovesMeet shared related x y
+      → compared f 0 w.processes x.world.processes ≡ compared f 0 v.processes y.world.processes
+  same_of_all f w v x y meets moves =
+      same_compared related w.memory v.memory x.world.memory y.world.memory f 0 w.processes x.world.processes v.processes y.world.processes
+      meets.processes moves.worlds.processes
+
+  same_told_of : (w : World S C M) (v : World T D N) (x : Moved S C M) (y : Moved T D N) → WorldsMeet shared related w v → MovesMeet shared related x y
+      → told k w x ≡ told l v y
+  same_told_of w v x y meets moves = λ i. record {
+    kind = moves.kinds i;
+    events = moves.rejections i ++ (same_of_all error_at w v x y meets moves i ++ (moves.passes i ++ same_of_all done_at w v x y meets moves i));
+    released = all_freed laws x.world.memory y.world.memory x.world.processes y.world.processes moves.worlds.processes i;
+  }
+
+  pub finishes_meet : (w : World S C M) (v : World T D N) (x : Moved S C M) (y : Moved T D N) → WorldsMeet shared related w v → MovesMeet shared related x y
+      → TurnsMeet shared related (finishes k w x) (finishes l v y)
+  finishes_meet w v x y meets moves = record {
+    worlds = with_each_meets x.world y.world (freed k) (freed l) (freed_meets laws x.world.memory y.world.memory) moves.worlds;
+    same_told = same_told_of w v x y meets moves;
+  }
+
 module _ {S C M T D N : Type 0} {k : Kind S C M} {l : Kind T D N} {shared : Shared M N} {related : Related S C M T D N} {known : Knowing S C M} (laws : IsSimulation k l shared related known) where
   -- q acts, and r is the same process on the right
   module _ (t p : ℕ) (q : Process S C) (w : World S C M) (r : Process T D) (v : World T D N) (may : IsActing known t p q w) (both : ProcessesMeet related w.memory v.memory q r) (meets : WorldsMeet shared related w v) where
@@ -54,15 +78,15 @@ module _ {S C M T D N : Type 0} {k : Kind S C M} {l : Kind T D N} {shared : Shar
     acts_meet : (want : Want) → k.want q.state ≡ want → MovesMeet shared related (acts k t p q w want) (acts l t p r v want)
     acts_meet NothingLeft wants = record { worlds = meets; kinds = refl; rejections = refl; passes = refl }
     acts_meet (SendsOn c) wants =
-        cond_meets (MovesMeet shared related) (has_room k w c) (has_room l v c) (has_room-same laws w v c meets)
+        cond_meets (MovesMeet shared related) (has_room k w c) (has_room l v c) (has_room-same laws.plain w v c meets)
         (λ room. steps_meet laws t p q w r v may both meets 0 None (ToSend c wants room refl) (inr refl))
         (λ _. waits_meet)
     acts_meet (ReceivesOn c) wants =
         subst (λ (message : Option ℤ). MovesMeet shared related (receives k t p q w (message_there k w c)) (receives l t p r v message))
-        (message_there-same laws t p q w c may (inl wants) v meets) (receives_meet c wants (message_there k w c) refl)
+        (message_there-same laws.plain t p q w c may (inl wants) v meets) (receives_meet c wants (message_there k w c) refl)
     acts_meet (MayReceiveOn c) wants =
         subst (λ (message : Option ℤ). MovesMeet shared related (steps k t p 0 (message_there k w c) q w) (steps l t p 0 message r v))
-        (message_there-same laws t p q w c may (inr wants) v meets)
+        (message_there-same laws.plain t p q w c may (inr wants) v meets)
         (steps_meet laws t p q w r v may both meets 0 (message_there k w c) (ToReceiveIfThere c wants refl) (inr refl))
     acts_meet (Enters facts) wants = enters_meet laws t p q w r v may both meets facts wants
     acts_meet Starts wants =
@@ -72,7 +96,7 @@ module _ {S C M T D N : Type 0} {k : Kind S C M} {l : Kind T D N} {shared : Shar
     acts_meet Acts wants = steps_meet laws t p q w r v may both meets 0 None (ToAct wants refl) (inr refl)
 
     same_want : k.want q.state ≡ l.want r.state
-    same_want = laws.want w.memory v.memory _ q.state _ r.state (away_states laws t p q w r v may both meets)
+    same_want = laws.want w.memory v.memory _ q.state _ r.state (away_states laws.plain t p q w r v may both meets)
 
     acts_meet_both : MovesMeet shared related (acts k t p q w (k.want q.state)) (acts l t p r v (l.want r.state))
     acts_meet_both = subst (λ (want : Want). MovesMeet shared related (acts k t p q w (k.want q.state)) (acts l t p r v want)) same_want (acts_meet (k.want q.state) refl)
@@ -102,8 +126,8 @@ module _ {S C M T D N : Type 0} {k : Kind S C M} {l : Kind T D N} {shared : Shar
       runs_meet t p (turn_used q) (with_process p (λ _. turn_used q) w) (turn_used r) (with_process p (λ _. turn_used r) v)
       (record { there = slice_get-change_at p (λ _. turn_used q) w.processes ∙ ap (option_map (λ _. turn_used q)) there; running = e })
       (knows q (record { there = there; running = e }))
-      (used_meets laws w.memory v.memory q r both)
-      (with_process_meets w v p (λ _. turn_used q) (λ _. turn_used r) (λ _ _ _. used_meets laws w.memory v.memory q r both) meets)
+      (used_meets related w.memory v.memory q r both)
+      (with_process_meets w v p (λ _. turn_used q) (λ _. turn_used r) (λ _ _ _. used_meets related w.memory v.memory q r both) meets)
   by_status_meets t p q w r v knows there both meets Finished e = record { worlds = meets; kinds = refl; rejections = refl; passes = refl }
   by_status_meets t p q w r v knows there both meets (FailedWith cause) e = record { worlds = meets; kinds = refl; rejections = refl; passes = refl }
 
@@ -124,29 +148,7 @@ module _ {S C M T D N : Type 0} {k : Kind S C M} {l : Kind T D N} {shared : Shar
       moves_meet t p w v knows meets (slice_get w.processes p) (slice_get v.processes p) refl
       (get_meets related w.memory v.memory w.processes v.processes p meets.processes)
 
-  same_of_all : (f : ℕ → Status → Status → List Event) (w : World S C M) (v : World T D N) (x : Moved S C M) (y : Moved T D N)
-      → WorldsMeet shared related w v → MovesMeet shared related x y
-      → compared f 0 w.processes x.world.processes ≡ compared f 0 v.processes y.world.processes
-  same_of_all f w v x y meets moves =
-      same_compared related w.memory v.memory x.world.memory y.world.memory f 0 w.processes x.world.processes v.processes y.world.processes
-      meets.processes moves.worlds.processes
-
-  same_told_of : (w : World S C M) (v : World T D N) (x : Moved S C M) (y : Moved T D N) → WorldsMeet shared related w v → MovesMeet shared related x y
-      → told k w x ≡ told l v y
-  same_told_of w v x y meets moves = λ i. record {
-    kind = moves.kinds i;
-    events = moves.rejections i ++ (same_of_all error_at w v x y meets moves i ++ (moves.passes i ++ same_of_all done_at w v x y meets moves i));
-    released = all_freed laws x.world.memory y.world.memory x.world.processes y.world.processes moves.worlds.processes i;
-  }
-
-  pub finishes_meet : (w : World S C M) (v : World T D N) (x : Moved S C M) (y : Moved T D N) → WorldsMeet shared related w v → MovesMeet shared related x y
-      → TurnsMeet shared related (finishes k w x) (finishes l v y)
-  finishes_meet w v x y meets moves = record {
-    worlds = with_each_meets x.world y.world (freed k) (freed l) (freed_meets laws x.world.memory y.world.memory) moves.worlds;
-    same_told = same_told_of w v x y meets moves;
-  }
-
   -- one turn
   pub turn_meets : (t p : ℕ) (w : World S C M) (v : World T D N) → KnowsTurn known t p w → WorldsMeet shared related w v
       → TurnsMeet shared related (turn k t p w) (turn l t p v)
-  turn_meets t p w v knows meets = finishes_meet w v (move k t p w) (move l t p v) meets (move_meets t p w v knows meets)
+  turn_meets t p w v knows meets = finishes_meet laws.plain w v (move k t p w) (move l t p v) meets (move_meets t p w v knows meets)
