@@ -17,3 +17,4 @@ pub mod PlainRunsMeet
 pub mod Image
 pub mod ImageRuns
 pub mod Instances
+pub mod Reread
