@@ -18,3 +18,4 @@ pub mod Image
 pub mod ImageRuns
 pub mod Instances
 pub mod Reread
+pub mod PlainInduction

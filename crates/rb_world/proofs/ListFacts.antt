@@ -1,5 +1,5 @@
--- Lists with one element changed, looked up.
-use Rattle.std.proofs.Common.{◌≡◌, ◌≤◌, ℕ, zero, suc, List, [], ◌∷◌, length, map, option_map, slice_get, unwrap_or, Option, Some, None, refl, ap, subst, arith}
+-- Small facts of lists with one element changed, of options and of tests.
+use Rattle.std.proofs.Common.{◌≡◌, ◌≤◌, ℕ, zero, suc, List, [], ◌∷◌, length, map, option_map, slice_get, unwrap_or, Option, Some, None, refl, sym, ap, subst, arith, Bool, true, false, ◌&&◌, true≢false}
 use Rattle.rb_world.specs.World.{change_at, without_last}
 use Rattle.rb_world.specs.Standing.{Each}
 
@@ -49,3 +49,12 @@ heads_same e = cc
 
 pub tails_same : {A : Type 0} {x y : A} {xs ys : List A} → x ∷ xs ≡ y ∷ ys → xs ≡ ys
 tails_same e = cc
+
+-- two tests that hold together
+pub first_holds : (a b : Bool) → (a && b) ≡ true → a ≡ true
+first_holds true b e = refl
+first_holds false b e = e
+
+pub second_holds : (a b : Bool) → (a && b) ≡ true → b ≡ true
+second_holds true b e = e
+second_holds false b e = absurd (true≢false (sym e))

@@ -6,10 +6,11 @@ use Rattle.rb_world.specs.World.{Level, Status, Running, Finished, FailedWith, P
 use Rattle.rb_world.specs.Channels.{has_room, message_there}
 use Rattle.rb_world.specs.Turn.{Moved, Told, most_levels}
 use Rattle.rb_world.specs.Plain.{Kept, PlainEnd, Ended, StuckAt, alternates_of, has_alternate, no_alternate, plain_acts, plain_moves, plain_on, plain_receives, plain_run, plain_runs, plain_stepped, plain_steps, plain_told, plain_turn, plain_turned, when}
+use Rattle.rb_world.proofs.ListFacts.{first_holds, second_holds}
 use Rattle.rb_world.proofs.TurnFacts.{RunsAt, IsReady, ToSend, ToReceive, ToReceiveIfThere, ToStart, ToAct}
 use Rattle.rb_world.proofs.Simulation.{Shared, Related, Knowing, nothing_known, copies_of, IsActing, StepsMeet, IsPlainSimulation}
 use Rattle.rb_world.proofs.MarksMeet.{OptionsMeet, SameMark, SameMarks, copies-last, last_marks, same_length}
-use Rattle.rb_world.proofs.ProcessesMeet.{ProcessesMeet, WorldsMeet, first_holds, get_meets}
+use Rattle.rb_world.proofs.ProcessesMeet.{ProcessesMeet, WorldsMeet, get_meets}
 use Rattle.rb_world.proofs.ChannelsMeet.{has_room-same, message_there-same}
 use Rattle.rb_world.proofs.StepsMeetWorlds.{MovesMeet, accepted_meets, away_states, moved_to_meets, open_at_meets, took_meets}
 use Rattle.rb_world.proofs.TurnsMeet.{TurnsMeet, finishes_meet}
@@ -17,10 +18,6 @@ use Rattle.rb_world.proofs.TurnsMeet.{TurnsMeet, finishes_meet}
 -- what is known of the process of a kept turn
 abbrev pub KnowsKept : {S C M : Type 0} → Knowing S C M → Kept → World S C M → Type 0
 KnowsKept {S} {C} known kept w = (q : Process S C) → RunsAt kept.process q w → q.at_line ≡ false → known kept.turn kept.process q w
-
-second_holds : (a b : Bool) → (a && b) ≡ true → b ≡ true
-second_holds true b e = e
-second_holds false b e = absurd (true≢false (sym e))
 
 when_meets : {A B : Type 0} (R : A → B → Type 0) (b d : Bool) (x : Option A) (y : Option B) → b ≡ d → (b ≡ true → OptionsMeet R x y)
     → OptionsMeet R (when b x) (when d y)

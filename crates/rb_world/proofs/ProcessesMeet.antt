@@ -6,6 +6,7 @@ use Rattle.rb_world.specs.Kind.{Kind}
 use Rattle.rb_world.specs.World.{Level, Process, World, change_at, goes_on, is_inside, is_of, last_of, settled, status_at, without_last}
 use Rattle.rb_world.specs.Reject.{at_place, back_to, fallen, fallen_inside, put_back, raised, where_inside}
 use Rattle.rb_world.specs.Turn.{freed, leaves, lines_freed, stands_at, stands_now, state_freed, turn_used}
+use Rattle.rb_world.proofs.ListFacts.{first_holds}
 use Rattle.rb_world.proofs.Simulation.{Shared, Related, Knowing, copies_of, IsPlainSimulation, IsSimulation}
 use Rattle.rb_world.proofs.MarksMeet.{OptionsMeet, SameMark, SameMarks, same_of, same_any, same_position, same_last_of, get_marks, last_marks, used_marks, next_marks, take_marks, front_marks, copies-used, copies-next, copies-take, copies-front, copies-get}
 
@@ -33,10 +34,6 @@ cond_meets R true true e one other = one refl
 cond_meets R true false e one other = absurd (true≢false e)
 cond_meets R false true e one other = absurd (true≢false (sym e))
 cond_meets R false false e one other = other refl
-
-pub first_holds : (a b : Bool) → (a && b) ≡ true → a ≡ true
-first_holds true b e = refl
-first_holds false b e = e
 
 -- all processes at once, looked up or changed
 module _ {S C M T D N : Type 0} (related : Related S C M T D N) where
