@@ -1,16 +1,16 @@
 -- Every run of every kind of process state keeps its processes and conversations, no more than the most levels, and none of
 -- a process that has failed.
-use Rattle.std.proofs.Common.{◌≡◌, ◌≤◌, ◌+◌, ℕ, zero, suc, Bool, true, false, List, [], ◌∷◌, length, map, slice_get, take, Option, Some, None, refl, sym, ap, ◌∙◌, subst, true≢false, add-one, arith, length-append, length-take}
+use Rattle.std.proofs.Common.{◌≡◌, ◌≤◌, ◌+◌, ℕ, suc, Bool, true, false, List, [], ◌∷◌, length, map, slice_get, take, Option, Some, None, refl, sym, ap, ◌∙◌, true≢false, add-one, arith, length-append, length-take}
 use Rattle.std.proofs.lemmas.List.{length-map}
 use Rattle.rb_world.specs.Kind.{Kind, Membership, Want, NothingLeft, SendsOn, ReceivesOn, MayReceiveOn, Enters, Starts, Acts}
-use Rattle.rb_world.specs.World.{Level, Process, Talk, World, change_at, settled, status_at}
+use Rattle.rb_world.specs.World.{Level, Process, Talk, World, change_at, status_at}
 use Rattle.rb_world.specs.Reject.{back_to, first_again, next_alternate, next_talk, broken_talk, reset_below, reset_from}
 use Rattle.rb_world.specs.Turn.{most_levels, new_level, one_used, opening, run}
 use Rattle.rb_world.proofs.Invariant.{IsInvariant}
 use Rattle.rb_world.proofs.Induction.{run-keeps}
-use Rattle.rb_world.proofs.EachProcess.{KeepsEach, each_run}
+use Rattle.rb_world.proofs.EachProcess.{KeepsEach, each_opening_run, each_run}
 use Rattle.rb_world.specs.Standing.{Each, HasSize, IsShallow, is_failed, IsBareIfFailed, IsStanding}
-use Rattle.rb_world.proofs.ListFacts.{none_some, some_same, length-change_at, length-without_last}
+use Rattle.rb_world.proofs.ListFacts.{length-change_at, length-without_last}
 
 length-reset_from : (below : ℕ → Bool) (d : ℕ) (talks : List Talk) → length (reset_from below d talks) ≡ length talks
 length-reset_from below d [] = refl
@@ -134,16 +134,10 @@ pub run-bare : {S C M : Type 0} (k : Kind S C M) (t : ℕ) (turns : List ℕ) (w
 run-bare k t turns w h = each_run (bare_kept k) t turns w h
 
 -- all of it at once, from the opening on
-settled_each : {S C M : Type 0} (k : Kind S C M) (P : ℕ → Process S C → Type 0) → ((r : ℕ) (s : S) → P r (settled k s []))
-    → (states : List S) → Each P (map (λ s. settled k s []) states)
-settled_each k P one (s ∷ states) zero q e = subst (P 0) (some_same e) (one 0 s)
-settled_each k P one (s ∷ states) (suc r) q e = settled_each k (λ n. P (suc n)) (λ n. one (suc n)) states r q e
-settled_each k P one [] r q e = absurd (none_some e)
-
 pub standing : {S C M : Type 0} (k : Kind S C M) (turns : List ℕ) (states : List S) (m : M) → IsStanding k states (run k 1 turns (opening k states m)).0
 standing k turns states m = record {
   size = run-keeps (size_kept k (length states) (length k.groups)) 1 [] turns (opening k states m)
       (record { of_processes = length-map states _; of_talks = length-map k.groups _ });
-  shallow = run-shallow k 1 turns (opening k states m) (settled_each k IsShallow (λ r s. omega arith) states);
-  bare = run-bare k 1 turns (opening k states m) (settled_each k IsBareIfFailed (λ r s e. refl) states);
+  shallow = each_opening_run (shallow_kept k) turns states m (λ r s _. omega arith);
+  bare = each_opening_run (bare_kept k) turns states m (λ r s _ e. refl);
 }
