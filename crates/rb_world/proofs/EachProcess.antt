@@ -1,15 +1,16 @@
 -- Invariants of each process alone: what a change does to one process at a time is all that is to be shown.
-use Rattle.std.proofs.Common.{◌≡◌, ℕ, ℤ, Bool, true, false, cond, List, [], ◌∷◌, ◌++◌, map, position, Option, Some, None, refl}
+use Rattle.std.proofs.Common.{◌≡◌, ℕ, ℤ, zero, suc, Bool, true, false, cond, List, [], ◌∷◌, ◌++◌, map, position, slice_get, Option, Some, None, refl, subst}
 use Rattle.rb_base.specs.declared.event.Cause.{Cause}
 use Rattle.rb_base.specs.declared.event.Cause.TheVariants.{Inner}
 use Rattle.rb_world.specs.Kind.{Facts, Kind, Went, Held}
 use Rattle.rb_world.specs.World.{Process, World, goes_on, is_inside, is_of, last_of, settled, with_process, without_last}
 use Rattle.rb_world.specs.Reject.{all_back, at_place, fallen, fallen_inside, put_back, raised, where_inside}
-use Rattle.rb_world.specs.Turn.{copy_of, freed, leaves, new_level, run, stands_at, stands_now, turn_used}
+use Rattle.rb_world.specs.Turn.{copy_of, freed, leaves, new_level, opening, run, stands_at, stands_now, turn_used}
+use Rattle.rb_world.specs.Standing.{Each}
 use Rattle.rb_world.proofs.TurnFacts.{StepsAt, EntersAt}
 use Rattle.rb_world.proofs.Invariant.{IsInvariant}
 use Rattle.rb_world.proofs.Induction.{run-keeps}
-use Rattle.rb_world.proofs.ListFacts.{Each, Each-change_at, Each-map}
+use Rattle.rb_world.proofs.ListFacts.{none_some, some_same, Each-change_at, Each-map}
 
 -- The laws of a predicate of a process and its number. Where a step, an entry or a test is spoken of, w is a world in
 -- which the process is the one of that number.
@@ -33,6 +34,13 @@ pub record KeepsEach {S C M : Type 0} (k : Kind S C M) (P : ℕ → Process S C 
   pub goes_back : (p j : ℕ) (q : Process S C) → P p q → P p (put_back k j q)
   pub rises : (p j : ℕ) (q : Process S C) → P p q → P p (raised j q)
   pub is_freed : (p : ℕ) (q : Process S C) → P p q → P p (freed k q)
+
+-- the processes of an opening
+pub settled_each : {S C M : Type 0} (k : Kind S C M) (P : ℕ → Process S C → Type 0) (states : List S)
+    → ((r : ℕ) (s : S) → slice_get states r ≡ Some s → P r (settled k s [])) → Each P (map (λ s. settled k s []) states)
+settled_each k P (s ∷ states) one zero q e = subst (P 0) (some_same e) (one 0 s refl)
+settled_each k P (s ∷ states) one (suc r) q e = settled_each k (λ n. P (suc n)) states (λ n. one (suc n)) r q e
+settled_each k P [] one r q e = absurd (none_some e)
 
 module _ {S C M : Type 0} {k : Kind S C M} {P : ℕ → Process S C → Type 0} (laws : KeepsEach k P) where
   -- whoever is inside a conversation is changed
@@ -100,3 +108,7 @@ module _ {S C M : Type 0} {k : Kind S C M} {P : ℕ → Process S C → Type 0} 
   -- so it holds of each process after every run
   pub each_run : (t : ℕ) (turns : List ℕ) (w : World S C M) → Each P w.processes → Each P (run k t turns w).0.processes
   each_run t turns w holds = run-keeps each_kept t [] turns w holds
+
+  pub each_opening_run : (turns : List ℕ) (states : List S) (m : M) → ((r : ℕ) (s : S) → slice_get states r ≡ Some s → P r (settled k s []))
+      → Each P (run k 1 turns (opening k states m)).0.processes
+  each_opening_run turns states m one = each_run 1 turns (opening k states m) (settled_each k P states one)

@@ -1,16 +1,13 @@
--- Lists with one element changed, looked up.
-use Rattle.std.proofs.Common.{◌≡◌, ◌≤◌, ℕ, zero, suc, List, [], ◌∷◌, length, map, option_map, slice_get, unwrap_or, Option, Some, None, refl, ap, subst, arith}
+-- Small facts of lists with one element changed, of options and of tests.
+use Rattle.std.proofs.Common.{◌≡◌, ◌≤◌, ℕ, zero, suc, List, [], ◌∷◌, length, map, option_map, slice_get, unwrap_or, Option, Some, None, refl, sym, ap, subst, arith, Bool, true, false, ◌&&◌, true≢false}
 use Rattle.rb_world.specs.World.{change_at, without_last}
+use Rattle.rb_world.specs.Standing.{Each}
 
 -- what is looked up where the change was made
 pub slice_get-change_at : {A : Type 0} (p : ℕ) (f : A → A) (xs : List A) → slice_get (change_at p f xs) p ≡ option_map f (slice_get xs p)
 slice_get-change_at p f [] = refl
 slice_get-change_at zero f (x ∷ xs) = refl
 slice_get-change_at (suc p) f (x ∷ xs) = slice_get-change_at p f xs
-
--- P holds of each element, by its number
-abbrev pub Each : {A : Type 0} → (ℕ → A → Type 0) → List A → Type 0
-Each {A} P xs = (r : ℕ) (x : A) → slice_get xs r ≡ Some x → P r x
 
 -- what a Some holds
 pub some_same : {A : Type 0} {x y : A} → Some x ≡ Some y → x ≡ y
@@ -45,3 +42,19 @@ length-without_last (x ∷ y ∷ ys) = omega (arith, length-without_last (y ∷ 
 -- None holds nothing
 pub none_some : {A : Type 0} {x : A} → None ≡ Some x → ⊥
 none_some e = cc
+
+-- lists that are equal have equal heads and tails
+pub heads_same : {A : Type 0} {x y : A} {xs ys : List A} → x ∷ xs ≡ y ∷ ys → x ≡ y
+heads_same e = cc
+
+pub tails_same : {A : Type 0} {x y : A} {xs ys : List A} → x ∷ xs ≡ y ∷ ys → xs ≡ ys
+tails_same e = cc
+
+-- two tests that hold together
+pub first_holds : (a b : Bool) → (a && b) ≡ true → a ≡ true
+first_holds true b e = refl
+first_holds false b e = e
+
+pub second_holds : (a b : Bool) → (a && b) ≡ true → b ≡ true
+second_holds true b e = e
+second_holds false b e = absurd (true≢false (sym e))

@@ -1,20 +1,16 @@
--- What stays true of every kind of process state: no process comes or goes, and no conversation; no process has more than
--- 32 levels; a process that has failed has none.
-use Rattle.std.proofs.Common.{◌≡◌, ◌≤◌, ◌+◌, ℕ, zero, suc, Bool, true, false, List, [], ◌∷◌, length, map, slice_get, take, Option, Some, None, refl, sym, ap, ◌∙◌, subst, true≢false, add-one, arith, length-append, length-take}
+-- Every run of every kind of process state keeps its processes and conversations, no more than the most levels, and none of
+-- a process that has failed.
+use Rattle.std.proofs.Common.{◌≡◌, ◌≤◌, ◌+◌, ℕ, suc, Bool, true, false, List, [], ◌∷◌, length, map, slice_get, take, Option, Some, None, refl, sym, ap, ◌∙◌, true≢false, add-one, arith, length-append, length-take}
 use Rattle.std.proofs.lemmas.List.{length-map}
 use Rattle.rb_world.specs.Kind.{Kind, Membership, Want, NothingLeft, SendsOn, ReceivesOn, MayReceiveOn, Enters, Starts, Acts}
-use Rattle.rb_world.specs.World.{Level, Status, Running, Finished, FailedWith, Process, Talk, World, change_at, settled, status_at}
+use Rattle.rb_world.specs.World.{Level, Process, Talk, World, change_at, status_at}
 use Rattle.rb_world.specs.Reject.{back_to, first_again, next_alternate, next_talk, broken_talk, reset_below, reset_from}
 use Rattle.rb_world.specs.Turn.{most_levels, new_level, one_used, opening, run}
 use Rattle.rb_world.proofs.Invariant.{IsInvariant}
 use Rattle.rb_world.proofs.Induction.{run-keeps}
-use Rattle.rb_world.proofs.EachProcess.{KeepsEach, each_run}
-use Rattle.rb_world.proofs.ListFacts.{Each, none_some, some_same, length-change_at, length-without_last}
-
--- so many processes, and so many conversations
-pub record HasSize {S C M : Type 0} (processes talks : ℕ) (w : World S C M) : Type 0 where
-  pub of_processes : length w.processes ≡ processes
-  pub of_talks : length w.talks ≡ talks
+use Rattle.rb_world.proofs.EachProcess.{KeepsEach, each_opening_run, each_run}
+use Rattle.rb_world.specs.Standing.{Each, HasSize, IsShallow, is_failed, IsBareIfFailed, IsStanding}
+use Rattle.rb_world.proofs.ListFacts.{length-change_at, length-without_last}
 
 length-reset_from : (below : ℕ → Bool) (d : ℕ) (talks : List Talk) → length (reset_from below d talks) ≡ length talks
 length-reset_from below d [] = refl
@@ -77,10 +73,6 @@ pub run-size : {S C M : Type 0} (k : Kind S C M) (t : ℕ) (turns : List ℕ) (w
 run-size k t turns w =
     run-keeps (size_kept k (length w.processes) (length w.talks)) t [] turns w (record { of_processes = refl; of_talks = refl })
 
--- at most so many levels
-abbrev pub IsShallow : {S C : Type 0} → ℕ → Process S C → Type 0
-IsShallow p q = length q.levels ≤ most_levels
-
 back_to-shallow : {S C M : Type 0} (k : Kind S C M) (j : ℕ) (q : Process S C) (level : Option (Level C)) → length q.levels ≤ most_levels → length (back_to k j q level).levels ≤ most_levels
 back_to-shallow k j q None h = h
 back_to-shallow k j q (Some level) h = omega (arith, length-take (j + 1) q.levels)
@@ -102,15 +94,6 @@ shallow_kept k = record {
 pub run-shallow : {S C M : Type 0} (k : Kind S C M) (t : ℕ) (turns : List ℕ) (w : World S C M) → Each IsShallow w.processes
     → Each IsShallow (run k t turns w).0.processes
 run-shallow k t turns w h = each_run (shallow_kept k) t turns w h
-
--- who failed has no level
-abbrev pub is_failed : Status → Bool
-is_failed Running = false
-is_failed Finished = false
-is_failed (FailedWith cause) = true
-
-abbrev pub IsBareIfFailed : {S C : Type 0} → ℕ → Process S C → Type 0
-IsBareIfFailed p q = is_failed q.status ≡ true → q.levels ≡ []
 
 -- who goes on has not failed
 status_at-whole : (want : Want) → is_failed (status_at want) ≡ false
@@ -151,21 +134,10 @@ pub run-bare : {S C M : Type 0} (k : Kind S C M) (t : ℕ) (turns : List ℕ) (w
 run-bare k t turns w h = each_run (bare_kept k) t turns w h
 
 -- all of it at once, from the opening on
-settled_each : {S C M : Type 0} (k : Kind S C M) (P : ℕ → Process S C → Type 0) → ((r : ℕ) (s : S) → P r (settled k s []))
-    → (states : List S) → Each P (map (λ s. settled k s []) states)
-settled_each k P one (s ∷ states) zero q e = subst (P 0) (some_same e) (one 0 s)
-settled_each k P one (s ∷ states) (suc r) q e = settled_each k (λ n. P (suc n)) (λ n. one (suc n)) states r q e
-settled_each k P one [] r q e = absurd (none_some e)
-
-pub record Stands {S C M : Type 0} (k : Kind S C M) (states : List S) (w : World S C M) : Type 0 where
-  pub size : HasSize (length states) (length k.groups) w
-  pub shallow : Each IsShallow w.processes
-  pub bare : Each IsBareIfFailed w.processes
-
-pub standing : {S C M : Type 0} (k : Kind S C M) (turns : List ℕ) (states : List S) (m : M) → Stands k states (run k 1 turns (opening k states m)).0
+pub standing : {S C M : Type 0} (k : Kind S C M) (turns : List ℕ) (states : List S) (m : M) → IsStanding k states (run k 1 turns (opening k states m)).0
 standing k turns states m = record {
   size = run-keeps (size_kept k (length states) (length k.groups)) 1 [] turns (opening k states m)
       (record { of_processes = length-map states _; of_talks = length-map k.groups _ });
-  shallow = run-shallow k 1 turns (opening k states m) (settled_each k IsShallow (λ r s. omega arith) states);
-  bare = run-bare k 1 turns (opening k states m) (settled_each k IsBareIfFailed (λ r s e. refl) states);
+  shallow = each_opening_run (shallow_kept k) turns states m (λ r s _. omega arith);
+  bare = each_opening_run (bare_kept k) turns states m (λ r s _ e. refl);
 }

@@ -5,3 +5,5 @@ pub mod Reject
 pub mod Turn
 pub mod Plain
 pub mod Text
+pub mod Samples
+pub mod Standing

@@ -1,0 +1,155 @@
+-- Three small kinds of process state, on which a clause can state what is proved of every kind: a process does deeds in
+-- their order and prints lines. One kind copies all at an entry; one counts steps in its memory beside that; and one copies
+-- the number of held lines alone, and cuts them when a copy is put back.
+use Rattle.std.specs.Prelude.{◌≡◌, ℕ, ℤ, ◌+◌, List, [], ◌∷◌, ◌++◌, length, take, Option, Some, None}
+use Rattle.rb_base.specs.declared.event.Cause.TheVariants.{Fail}
+use Rattle.rb_world.specs.Kind.{Facts, Kind, Membership, Want, NothingLeft, Enters, Starts, Acts, Stepped, Trapped, Went, Held}
+use Rattle.rb_world.specs.World.{World}
+use Rattle.rb_world.specs.Turn.{Told, opening, run}
+use Rattle.rb_world.specs.Plain.{Kept, PlainEnd, Ended, StuckAt, plain_run}
+use Rattle.rb_world.specs.Standing.{IsStanding}
+
+pub data Deed : Type 0 where
+  Prints : (line : List ℕ) → Deed
+  EntersAt : (facts : Facts) → Deed
+  Begins : Deed
+  Ends : Deed
+  GivesUp : Deed
+
+-- what is left to do, and the lines that are held
+pub record Doing : Type 0 where
+  pub deeds : List Deed
+  pub lines : List (List ℕ)
+
+-- what is left to do, and how many lines were held
+pub record Marked : Type 0 where
+  pub deeds : List Deed
+  pub held : ℕ
+
+abbrev pub first_want : List Deed → Want
+first_want [] = NothingLeft
+first_want (Prints line ∷ deeds) = Acts
+first_want (EntersAt facts ∷ deeds) = Enters facts
+first_want (Begins ∷ deeds) = Starts
+first_want (Ends ∷ deeds) = Acts
+first_want (GivesUp ∷ deeds) = Acts
+
+-- a start stands in the place of an entry
+abbrev pub entered : List Deed → List Deed
+entered [] = []
+entered (deed ∷ deeds) = Begins ∷ deeds
+
+abbrev pub with_deeds : List Deed → Doing → Doing
+with_deeds deeds s = record { deeds = deeds; lines = s.lines }
+
+abbrev pub print_line : List ℕ → List Deed → Doing → Doing
+print_line line deeds s = record { deeds = deeds; lines = s.lines ++ line ∷ [] }
+
+abbrev pub do_first : {M : Type 0} → List Deed → Doing → M → Stepped Doing M
+do_first [] s m = Went s m
+do_first (Prints line ∷ deeds) s m = Went (print_line line deeds s) m
+do_first (EntersAt facts ∷ deeds) s m = Went s m
+do_first (Begins ∷ deeds) s m = Went (with_deeds deeds s) m
+do_first (Ends ∷ deeds) s m = Held (with_deeds deeds s)
+do_first (GivesUp ∷ deeds) s m = Trapped Fail
+
+abbrev pub without_lines : Doing → Doing
+without_lines s = record { deeds = s.deeds; lines = [] }
+
+-- all is copied; `more` is done to the memory in each step
+abbrev pub copies_all : {M : Type 0} → List Membership → (M → M) → Kind Doing Doing M
+copies_all groups more = record {
+  channels = [];
+  groups = groups;
+  want = λ s. first_want s.deeds;
+  settle = λ s. s;
+  enter = λ s. with_deeds (entered s.deeds) s;
+  copy = λ s. s;
+  restore = λ s copy. copy;
+  cut = λ n s. s;
+  accept = λ s. s;
+  step = λ alternate copy s message m. do_first s.deeds s (more m);
+  sent = λ s c. 0;
+  taken = λ s c. 0;
+  sent_then = λ s copy c. 0;
+  taken_then = λ s copy c. 0;
+  message = λ m s c n. ℤ.pos 0;
+  message_then = λ m s copy c n. ℤ.pos 0;
+  held = λ s. s.lines;
+  release = λ s. without_lines s;
+  keep = λ t alternate s m. (s, m);
+}
+
+-- the lines are not copied
+abbrev pub marked : Doing → Marked
+marked s = record { deeds = s.deeds; held = length s.lines }
+
+abbrev pub back_to_mark : Doing → Marked → Doing
+back_to_mark s mark = record { deeds = mark.deeds; lines = take mark.held s.lines }
+
+abbrev pub copies_marks : List Membership → Kind Doing Marked (Unit {0})
+copies_marks groups = record {
+  channels = [];
+  groups = groups;
+  want = λ s. first_want s.deeds;
+  settle = λ s. s;
+  enter = λ s. with_deeds (entered s.deeds) s;
+  copy = marked;
+  restore = back_to_mark;
+  cut = λ n s. s;
+  accept = λ s. s;
+  step = λ alternate copy s message m. do_first s.deeds s m;
+  sent = λ s c. 0;
+  taken = λ s c. 0;
+  sent_then = λ s copy c. 0;
+  taken_then = λ s copy c. 0;
+  message = λ m s c n. ℤ.pos 0;
+  message_then = λ m s copy c n. ℤ.pos 0;
+  held = λ s. s.lines;
+  release = λ s. without_lines s;
+  keep = λ t alternate s m. (s, m);
+}
+
+abbrev pub copies_whole : List Membership → Kind Doing Doing (Unit {0})
+copies_whole groups = copies_all groups (λ m. m)
+
+abbrev pub counts_steps : List Membership → Kind Doing Doing ℕ
+counts_steps groups = copies_all groups (λ m. m + 1)
+
+-- what is told of a run from the opening
+abbrev pub told_of_run : {S C M : Type 0} → Kind S C M → List ℕ → List S → M → List Told
+told_of_run k turns states m = (run k 1 turns (opening k states m)).1
+
+-- the world that a run ends in
+abbrev pub world_of_run : {S C M : Type 0} → Kind S C M → List ℕ → List S → M → World S C M
+world_of_run k turns states m = (run k 1 turns (opening k states m)).0
+
+-- what is told of the plain run of a record, or nothing where it is stuck
+abbrev pub told_of_end : {S C M : Type 0} → PlainEnd S C M → Option (List (ℕ × Told))
+told_of_end (Ended w lines) = Some lines
+told_of_end (StuckAt t) = None
+
+abbrev pub told_of_record : {S C M : Type 0} → Kind S C M → List Kept → List S → M → Option (List (ℕ × Told))
+told_of_record k turns states m = told_of_end (plain_run k turns (opening k states m))
+
+-- to count steps changes nothing that is told
+abbrev pub CountsAreUnseen : Type 0
+CountsAreUnseen =
+    (groups : List Membership) (turns : List ℕ) (states : List Doing) (n : ℕ)
+    → told_of_run (counts_steps groups) turns states n ≡ told_of_run (copies_whole groups) turns states (tt {0})
+
+-- nor does it to copy the number of held lines in place of the lines; in a run, and in the plain run of a record
+abbrev pub MarksAreUnseen : Type 0
+MarksAreUnseen =
+    (groups : List Membership) (turns : List ℕ) (states : List Doing)
+    → told_of_run (copies_whole groups) turns states (tt {0}) ≡ told_of_run (copies_marks groups) turns states (tt {0})
+
+abbrev pub MarksAreUnseenInRecords : Type 0
+MarksAreUnseenInRecords =
+    (groups : List Membership) (turns : List Kept) (states : List Doing)
+    → told_of_record (copies_whole groups) turns states (tt {0}) ≡ told_of_record (copies_marks groups) turns states (tt {0})
+
+abbrev pub CountedRunsStand : Type 0
+CountedRunsStand =
+    (groups : List Membership) (turns : List ℕ) (states : List Doing) (n : ℕ)
+    → IsStanding (counts_steps groups) states (world_of_run (counts_steps groups) turns states n)
