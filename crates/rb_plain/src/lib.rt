@@ -2,4 +2,9 @@
 // plain run of a record will.
 #![tactic(auto)]
 
+pub mod counter;
+pub mod element;
 pub mod environment;
+pub mod operator;
+pub mod span;
+pub mod value;
