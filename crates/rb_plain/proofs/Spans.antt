@@ -1,5 +1,5 @@
 -- One number more of a quantified expression.
-use Rattle.std.proofs.Common.{◌≡◌, ◌+◌, ◌-◌, ◌<◌, ◌≤◌, ℕ, ℤ, zero, suc, pos, ◌+ℤ◌, Bool, true, false, cond, Ok, Err, refl, sym, ap, subst, ◌∙◌, arith, negsuc, w64, of_z, FitsSigned}
+use Rattle.std.proofs.Common.{◌≡◌, ◌+◌, ◌-◌, ◌<◌, ◌≤◌, ℕ, ℤ, suc, pos, ◌+ℤ◌, true, false, cond, Ok, Err, refl, ap, ◌∙◌, arith, negsuc, w64, of_z, FitsSigned}
 use Rattle.std.proofs.lemmas.Int.{ints}
 use Rattle.std.proofs.lemmas.Bool.Decides.{nat_tests}
 use Rattle.rb_base.specs.declared.event.Cause.{Cause}

@@ -141,3 +141,45 @@ impl<'a> Environment<'a> {
         Some((slot.name, slot.values.as_slice()))
     }
 }
+
+#[cfg(test)]
+mod tests {
+    use super::*;
+    use rb_base::Place;
+    use rb_syntax::Name;
+    use std::test::Fail;
+
+    const PLACE: Place = Place { line: 1, column: 1 };
+
+    fn variable(text: &[u8], size: Option<i64>) -> Var<'_> {
+        let size = size.map(|value| Number {
+            value,
+            place: PLACE,
+        });
+        Var {
+            name: Name {
+                text,
+                place: PLACE,
+                id: 0,
+            },
+            size,
+        }
+    }
+
+    #[test]
+    fn keeps_numbers(rt: HostRuntime) -> Result<(), Fail> {
+        let variables = [variable(b"x", None), variable(b"row", Some(3))];
+        let mut environment = Environment::new(rt.alloc(), &variables)?;
+        environment.set(b"row", 1, -7);
+        environment.set(b"row", 3, 9);
+        environment.set(b"y", 0, 9);
+        assert_eq!(rt; environment.values(b"x"), [0].as_slice());
+        assert_eq!(rt; environment.values(b"row"), [0, -7, 0].as_slice());
+        assert_eq!(rt; environment.values(b"y"), [].as_slice());
+        let last = environment.variable(1).ok_or("no variable")?;
+        assert_eq!(rt; last.0, b"row".as_slice());
+        assert_eq!(rt; last.1, [0, -7, 0].as_slice());
+        assert!(rt; environment.variable(2).is_none());
+        Ok(())
+    }
+}

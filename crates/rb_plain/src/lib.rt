@@ -7,4 +7,6 @@ pub mod element;
 pub mod environment;
 pub mod operator;
 pub mod span;
+#[cfg(test)]
+mod tests;
 pub mod value;

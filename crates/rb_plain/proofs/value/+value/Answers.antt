@@ -1,8 +1,7 @@
-use Rattle.std.proofs.Common.{◌≡◌, ◌∷◌, ◌+ℤ◌, pos, ℤ, sym, ◌∙◌, ap, Ok, Err, w64, rules, arith, refl, to_z, ◌-◌, ◌+◌}
+use Rattle.std.proofs.Common.{◌+ℤ◌, pos, ℤ, sym, ◌∙◌, ap, Ok, Err, w64, rules, to_z, ◌-◌, ◌+◌}
 use Rattle.std.proofs.lemmas.Result.{err_from_is_err_and}
 use Rattle.std.proofs.lemmas.Int.{to_z-of_z}
-use Rattle.rb_syntax.specs.Plain.{expression as plain}
-use Rattle.rb_meaning.specs.Value.{Outcome, value, fitting, every_from, some_from, sum_from}
+use Rattle.rb_meaning.specs.Value.{Outcome, fitting, sum_from}
 use Rattle.rb_plain.specs.Counters.{body_values}
 use Rattle.rb_plain.proofs.Spans.{every_trap, every_stop, every_on, some_trap, some_stop, some_on, sum_trap, sum_on, is_zero_bits, not_zero_bits}
 use Rattle.rb_plain.proofs.value.+value.Goals as goal

@@ -1,7 +1,6 @@
-use Rattle.std.proofs.Common.{◌≡◌, ◌∷◌, ◌-◌, ◌+ℤ◌, pos, drop, ℤ}
-use Rattle.rb_syntax.specs.Plain.{expression as plain}
+use Rattle.std.proofs.Common.{◌≡◌, ◌-◌, ◌+ℤ◌, pos, drop, ℤ}
 use Rattle.rb_syntax.specs.Plain.{links_of}
-use Rattle.rb_meaning.specs.Value.{Outcome, value, chained, every_from, some_from, sum_from}
+use Rattle.rb_meaning.specs.Value.{Outcome, chained, every_from, some_from, sum_from}
 use Rattle.rb_plain.specs.Counters.{counted, body_values}
 use Rattle.rb_plain.proofs.value.+value.Given as goal
 
