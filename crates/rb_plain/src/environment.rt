@@ -40,6 +40,15 @@ impl<'a> Slot<'a> {
             values,
         })
     }
+
+    /// Replaces a number, if it is there.
+    fn set(&mut self, index: usize, value: i64)
+        ensures { stored self.new ≡ changed (stored self.old) index value }
+    {
+        if index < self.values.len() {
+            self.values[index] = value;
+        }
+    }
 }
 
 /// The frame of these declarations, with zeros.
@@ -64,17 +73,6 @@ fn find<'s>(mut slots: &'s [Slot<'_>], name: &[u8]) -> Option<&'s [i64]>
         slots = rest;
     }
     None
-}
-
-impl Slot<'_> {
-    /// Replaces a number, if it is there.
-    fn set(&mut self, index: usize, value: i64)
-        ensures { stored self.new ≡ changed (stored self.old) index value }
-    {
-        if index < self.values.len() {
-            self.values[index] = value;
-        }
-    }
 }
 
 /// The place of the first variable with this name.

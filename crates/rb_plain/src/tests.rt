@@ -30,12 +30,12 @@ fn scalar(text: &[u8]) -> Expr<'_> {
     })
 }
 
-fn element(alloc: Global, text: &[u8], index: i64) -> Result<Expr<'_>, AllocError> {
+fn element(alloc: Global, text: &[u8], index: i64) -> Result<Target<'_>, AllocError> {
     let index = Some(Box::new(alloc, number(index))?);
-    Ok(Expr::Value(Target {
+    Ok(Target {
         name: name(text),
         index,
-    }))
+    })
 }
 
 /// One operator.
@@ -156,20 +156,13 @@ fn variables(rt: HostRuntime) -> Result<(), Fail> {
     let mut environment = Environment::new(alloc, &[declared(b"a", 2)])?;
     environment.set(b"a", 1, 5);
     for (index, want) in [(1, Ok(5)), (2, Err(Cause::Index)), (-1, Err(Cause::Index))] {
-        let expression = element(alloc, b"a", index)?;
+        let expression = Expr::Value(element(alloc, b"a", index)?);
         assert_eq!(rt;
             value_of(&environment, &prior, &Counters::None, &expression),
             want
         );
     }
-    let index = Some(Box::new(alloc, number(1))?);
-    let former = Expr::Prior(
-        PLACE,
-        Target {
-            name: name(b"a"),
-            index,
-        },
-    );
+    let former = Expr::Prior(PLACE, element(alloc, b"a", 1)?);
     assert_eq!(rt;
         value_of(&environment, &prior, &Counters::None, &former),
         Ok(0)
