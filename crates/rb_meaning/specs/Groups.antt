@@ -21,9 +21,10 @@ conversation_number tree x = number_or_zero (position (λ c. same_name c.name.te
 
 abbrev pub ends_of : Tree → ChannelDeclaration → Ends
 ends_of tree channel = record {
-    sender = process_number tree channel.sender.text;
-    receiver = process_number tree channel.receiver.text;
-    size = natural channel.size.value }
+  sender = process_number tree channel.sender.text;
+  receiver = process_number tree channel.receiver.text;
+  size = natural channel.size.value;
+}
 
 abbrev pub channels_of : Tree → List Ends
 channels_of tree = map (ends_of tree) tree.channels
@@ -91,8 +92,9 @@ parent_named tree (Some (Some name)) = Some (conversation_number tree name.text)
 
 abbrev pub membership_of : Tree → ConversationDeclaration → Membership
 membership_of tree conversation = record {
-    members = map (λ name. process_number tree name.text) conversation.members;
-    parent = parent_named tree (first_in_processes conversation.name.text tree.processes) }
+  members = map (λ name. process_number tree name.text) conversation.members;
+  parent = parent_named tree (first_in_processes conversation.name.text tree.processes);
+}
 
 abbrev pub groups_of : Tree → List Membership
 groups_of tree = map (membership_of tree) tree.conversations
@@ -108,10 +110,11 @@ conversation_of tree (Some name) = Some (conversation_number tree name.text)
 
 abbrev pub facts_of : Tree → RecoveryBlock → Facts
 facts_of tree (Recovers number conversation place test bound alternates) = record {
-    line = place.line;
-    conversation = conversation_of tree conversation;
-    bound = natural bound.value;
-    alternates = count_alternates alternates }
+  line = place.line;
+  conversation = conversation_of tree conversation;
+  bound = natural bound.value;
+  alternates = count_alternates alternates;
+}
 
 -- a procedure of a process by its name
 abbrev pub procedure_among : List ℕ → List ProcedureDeclaration → Option ProcedureDeclaration

@@ -33,25 +33,26 @@ keep t alternate s memory = (with_kept (s.kept ++ (t, alternate) ∷ []) s, memo
 -- the kind of state that trees have: copies are whole states
 abbrev pub tree_kind : Tree → Kind State State Nothing
 tree_kind tree = record {
-    channels = channels_of tree;
-    groups = groups_of tree;
-    want = λ s. wants_first tree s.items;
-    settle = settle;
-    enter = enter;
-    copy = λ s. s;
-    restore = λ s copy. copy;
-    cut = λ n s. s;
-    accept = λ s. s;
-    step = λ alternate copy s message memory. step tree alternate (environment_of copy) s message;
-    sent = λ s c. length (sent_on s c);
-    taken = taken_on;
-    sent_then = λ s copy c. length (sent_on copy c);
-    taken_then = λ s copy c. taken_on copy c;
-    message = λ memory s c n. message_number s c n;
-    message_then = λ memory s copy c n. message_number copy c n;
-    held = λ s. s.held;
-    release = with_held [];
-    keep = keep }
+  channels = channels_of tree;
+  groups = groups_of tree;
+  want = λ s. wants_first tree s.items;
+  settle = settle;
+  enter = enter;
+  copy = λ s. s;
+  restore = λ s copy. copy;
+  cut = λ n s. s;
+  accept = λ s. s;
+  step = λ alternate copy s message memory. step tree alternate (environment_of copy) s message;
+  sent = λ s c. length (sent_on s c);
+  taken = taken_on;
+  sent_then = λ s copy c. length (sent_on copy c);
+  taken_then = λ s copy c. taken_on copy c;
+  message = λ memory s c n. message_number s c n;
+  message_then = λ memory s copy c n. message_number copy c n;
+  held = λ s. s.held;
+  release = with_held [];
+  keep = keep;
+}
 
 abbrev pub TreeWorld : Type 0
 TreeWorld = World State State Nothing
@@ -59,13 +60,14 @@ TreeWorld = World State State Nothing
 -- the opening state of process number p, before it settles: its whole text, zeros, and nothing sent or taken
 abbrev pub opening_state : Tree → ℕ → ProcessDeclaration → State
 opening_state tree p process = record {
-    process = p;
-    items = performed process.commands [];
-    environment = record { globals = frame_of process.variables; calls = [] ∷ [] };
-    sent = replicate (length tree.channels) [];
-    taken = replicate (length tree.channels) 0;
-    held = [];
-    kept = [] }
+  process = p;
+  items = performed process.commands [];
+  environment = record { globals = frame_of process.variables; calls = [] ∷ [] };
+  sent = replicate (length tree.channels) [];
+  taken = replicate (length tree.channels) 0;
+  held = [];
+  kept = [];
+}
 
 abbrev pub opening_states : Tree → ℕ → List ProcessDeclaration → List State
 opening_states tree p [] = []
@@ -89,9 +91,10 @@ process_named process = record { name = process.name.text; variables = variables
 
 abbrev pub naming_of : Tree → Naming
 naming_of tree = record {
-    processes = map process_named tree.processes;
-    channels = map (λ c. c.name.text) tree.channels;
-    conversations = map (λ c. c.name.text) tree.conversations }
+  processes = map process_named tree.processes;
+  channels = map (λ c. c.name.text) tree.channels;
+  conversations = map (λ c. c.name.text) tree.conversations;
+}
 
 -- how a world ends
 abbrev pub standing : {S C : Type 0} → Process S C → Status × ℕ
@@ -116,10 +119,11 @@ count_taken states c (ends ∷ others) =
 
 abbrev pub final_of : {C M : Type 0} → Tree → World State C M → Final
 final_of tree w = record {
-    statuses = map standing w.processes;
-    words = map (λ s. global_words s.environment) (states_of w);
-    sent = count_sent (states_of w) 0 (channels_of tree);
-    taken = count_taken (states_of w) 0 (channels_of tree) }
+  statuses = map standing w.processes;
+  words = map (λ s. global_words s.environment) (states_of w);
+  sent = count_sent (states_of w) 0 (channels_of tree);
+  taken = count_taken (states_of w) 0 (channels_of tree);
+}
 
 -- The text of a run: who is done at turn 0, what each turn printed, and the ending.
 abbrev pub text_of : Tree → ℕ → TreeWorld × List Told → List ℕ

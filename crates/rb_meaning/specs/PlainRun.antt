@@ -28,25 +28,26 @@ environment_at point = option_map (λ e. e.environment) point
 
 abbrev pub plain_kind : Tree → Kind State EntryPoint Nothing
 plain_kind tree = record {
-    channels = channels_of tree;
-    groups = groups_of tree;
-    want = λ s. wants_first tree s.items;
-    settle = settle;
-    enter = enter;
-    copy = entry_point;
-    restore = λ s point. s;
-    cut = λ n s. s;
-    accept = λ s. s;
-    step = λ alternate point s message memory. step tree alternate (environment_at point) s message;
-    sent = λ s c. length (sent_on s c);
-    taken = taken_on;
-    sent_then = λ s point c. unwrap_or (slice_get point.sent c) 0;
-    taken_then = λ s point c. unwrap_or (slice_get point.taken c) 0;
-    message = λ memory s c n. message_number s c n;
-    message_then = λ memory s point c n. message_number s c n;
-    held = λ s. s.held;
-    release = with_held [];
-    keep = keep }
+  channels = channels_of tree;
+  groups = groups_of tree;
+  want = λ s. wants_first tree s.items;
+  settle = settle;
+  enter = enter;
+  copy = entry_point;
+  restore = λ s point. s;
+  cut = λ n s. s;
+  accept = λ s. s;
+  step = λ alternate point s message memory. step tree alternate (environment_at point) s message;
+  sent = λ s c. length (sent_on s c);
+  taken = taken_on;
+  sent_then = λ s point c. unwrap_or (slice_get point.sent c) 0;
+  taken_then = λ s point c. unwrap_or (slice_get point.taken c) 0;
+  message = λ memory s c n. message_number s c n;
+  message_then = λ memory s point c n. message_number s c n;
+  held = λ s. s.held;
+  release = with_held [];
+  keep = keep;
+}
 
 abbrev pub PlainWorld : Type 0
 PlainWorld = World State EntryPoint Nothing

@@ -130,7 +130,7 @@ calls_with edition None rest s values = Ok (continue_with rest s)
 calls_with edition (Some procedure) rest s values =
     cond (nat_le most_calls (open_calls s.environment)) (Err Calls)
     (within_words edition (push_call (bound_to procedure.parameters values ++ frame_of (variables_of procedure.body)) s.environment)
-        (continue_with (performed (commands_of procedure.body) (EndCall ∷ rest)) s))
+    (continue_with (performed (commands_of procedure.body) (EndCall ∷ rest)) s))
 
 abbrev pub invokes : Tree → Identifier → List Expression → List Item → State → Result State Cause
 invokes tree procedure arguments rest s =

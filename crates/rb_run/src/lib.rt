@@ -4,5 +4,5 @@
 pub mod engine;
 pub mod naming;
 
-pub use engine::{run, Ended};
+pub use engine::{Ended, run};
 pub use naming::names;

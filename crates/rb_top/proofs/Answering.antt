@@ -23,10 +23,11 @@ line_answer (Err failed) status line w0 w1 f0 f1 p e Q whole part = subst Q (sym
 pub read_whole : (files : List File) (name bytes : List ℕ) (reading : Option Reading) → WasRead files name bytes reading → length bytes ≤ most_bytes →
     (bytes_of files name ≡ Some bytes) × IsRead name bytes reading
 read_whole files name bytes reading was short = elim was.ended [
-    inl same ↦ (
-        let all : was.all ≡ bytes = sym (was.front ∙ take_all (length bytes) was.all (omega arith)) in
-        (was.stored ∙ ap (λ xs. Some xs) all, (length bytes, was.stands, inl refl, omega arith)))
-  | inr many ↦ absurd (omega arith) ]
+  | inl same ↦ (
+      let all : was.all ≡ bytes = sym (was.front ∙ take_all (length bytes) was.all (omega arith)) in
+      (was.stored ∙ ap (λ xs. Some xs) all, (length bytes, was.stands, inl refl, omega arith)))
+  | inr many ↦ absurd (omega arith)
+]
 
 -- a longer file is above 1,048,576 bytes
 pub read_long : (files : List File) (name bytes : List ℕ) (reading : Option Reading) (was : WasRead files name bytes reading) → most_bytes < length bytes →
@@ -95,14 +96,15 @@ schedule_runs (Some files) source schedule bytes text reading tree held was runs
       source_stored = held.stored;
       schedule_stored = whole.0;
       ran = record { tree = tree; turns = runs.turns; accepted = held.accepted; short = runs.short; listed = runs.listed; is = runs.is };
-      read = whole.1 }
+      read = whole.1;
+    }
 
 -- each answer once the schedule was read
 pub after_schedule : (files : Option (List File)) (source schedule bytes : List ℕ) (tree : Tree) (before reading : Option Reading) (now : Option (List File)) (r0 r1 f0 f1 : ℕ) (w0 w1 : Option (List ℕ)) (status : Status) →
     HoldsTreeIn files source tree → WasReadIn files schedule bytes reading → AfterSchedule tree bytes w0 w1 f0 f1 status →
     WithRequest (record { source = source; schedule = schedule })
-      (record { files = files; reading = before; read_faults = r0; written = w0; write_faults = f0 })
-      (record { files = now; reading = reading; read_faults = r1; written = w1; write_faults = f1 }) status
+    (record { files = files; reading = before; read_faults = r0; written = w0; write_faults = f0 })
+    (record { files = now; reading = reading; read_faults = r1; written = w1; write_faults = f1 }) status
 after_schedule files source schedule bytes tree before reading now r0 r1 f0 f1 w0 w1 Done held was (text, runs, e) =
     (text, schedule_runs files source schedule bytes text reading tree held was runs, e)
 after_schedule files source schedule bytes tree before reading now r0 r1 f0 f1 w0 w1 Refused held was (line, refused, e) =

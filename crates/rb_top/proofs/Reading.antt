@@ -35,18 +35,20 @@ read_told files name old new buffer before after n p fits is has =
     let size : length (take n buffer) ≡ n = length-take-le n buffer fits in
     let many : length after ≡ length before + n = ap length is ∙ length-append before (take n buffer) ∙ ap (λ k. length before + k) size in
     let within : length before + n ≤ length has.all = subst (λ k. k + n ≤ length has.all) passed (subst (λ (xs : List ℕ). old.passed + n ≤ length xs) same p.within) in
-    let piece : take n buffer ≡ take n (drop (length before) has.all) = p.read ∙ ap (λ (xs : List ℕ). take n (drop old.passed xs)) same ∙ ap (λ k. take n (drop k has.all)) passed in
-    ( record {
+    let piece : take n buffer ≡ take n (drop (length before) has.all) = p.read ∙ ap (λ (xs : List ℕ). take n (drop old.passed xs)) same ∙ ap (λ k. take n (drop k has.all)) passed in (
+      record {
         all = has.all;
         stored = has.stored;
         front = front_grows has.all before (take n buffer) after n has.front within piece size is;
         within = omega arith;
-        stands = p.moved ∙ ap (λ r. Some (record { name = r.name; passed = r.passed + n })) at ∙ ap (λ k. Some (record { name = name; passed = k })) (sym many) },
+        stands = p.moved ∙ ap (λ r. Some (record { name = r.name; passed = r.passed + n })) at ∙ ap (λ k. Some (record { name = name; passed = k })) (sym many);
+      },
       λ zero all stored.
-        let end : old.passed ≡ length p.bytes = p.end zero in
-        let whole : has.all ≡ all = cc (has.stored, stored) in
-        let one : length p.bytes ≡ length all = ap length (same ∙ whole) in
-        omega arith )
+          let end : old.passed ≡ length p.bytes = p.end zero in
+          let whole : has.all ≡ all = cc (has.stored, stored) in
+          let one : length p.bytes ≡ length all = ap length (same ∙ whole) in
+          omega arith,
+    )
 
 -- a piece more, whether files are told or not
 pub read_on : (files : Option (List File)) (old new : Option Reading) (buffer before after : List ℕ) (n : ℕ) →

@@ -11,3 +11,6 @@ pub mod words;
 pub use status::Status;
 pub use top::command;
 pub use words::Words;
+
+#[cfg(test)]
+mod tests;

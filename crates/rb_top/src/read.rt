@@ -32,11 +32,7 @@ pub fn read_file<F: Shelf>(alloc: Global, shelf: &mut F, name: &str) -> Result<V
 }
 
 // Reads a file that was just started. The name is seen by the contract alone.
-fn read_started<F: Shelf>(
-    alloc: Global,
-    shelf: &mut F,
-    _name: &str,
-) -> Result<Vec<u8>, Unread>
+fn read_started<F: Shelf>(alloc: Global, shelf: &mut F, _name: &str) -> Result<Vec<u8>, Unread>
     requires { HasReadIn (F.files shelf.old) _name.now [] (F.reading shelf.old) }
     ensures files { F.files shelf.new ≡ F.files shelf.old }
     ensures faults { F.faults shelf.old ≤ F.faults shelf.new }

@@ -27,7 +27,10 @@ fn put_place<'w, S: Sink>(
 ) -> Result<(), Failed>
     ensures { Puts (codes "refused " ++ (name.now ++ (codes " at " ++ (line.now ++ (codes ":" ++ (column.now ++ codes "\n")))))) (S.written out.old) (S.written out.new) (S.faults out.old) (S.faults out.new) result }
 {
-    put_pieces(out, &[b"refused ", name, b" at ", line, b":", column, b"\n"])
+    put_pieces(
+        out,
+        &[b"refused ", name, b" at ", line, b":", column, b"\n"],
+    )
 }
 
 /// Writes the line of a schedule's fault.

@@ -132,12 +132,7 @@ fn read_schedule<F: Shelf, S: Sink>(
 }
 
 // The schedule was read.
-fn run_schedule<S: Sink>(
-    alloc: Global,
-    program: &Program<'_>,
-    bytes: &[u8],
-    out: &mut S,
-) -> Status
+fn run_schedule<S: Sink>(alloc: Global, program: &Program<'_>, bytes: &[u8], out: &mut S) -> Status
     requires { is_scoped (tree program.now) ≡ true }
     ensures write_faults { S.faults out.old ≤ S.faults out.new }
     ensures answers { AfterSchedule (tree program.now) bytes.now (S.written out.old) (S.written out.new) (S.faults out.old) (S.faults out.new) result }

@@ -20,7 +20,7 @@ pub puts_next : {X T U E D : Type 0} (f : X → List ℕ) (xs : List X) (i : ℕ
     Puts {T = T} {E = D} (flat_map f (take i xs)) w0 w1 f0 f1 (Ok v) → Puts (f (get_or xs i d)) w1 w2 f1 f2 r → Puts (flat_map f (take (i + 1) xs)) w0 w2 f0 f2 r
 puts_next f xs i d h w0 w1 w2 f0 f1 f2 v r p q =
     let grown : flat_map f (take (i + 1) xs) ≡ flat_map f (take i xs) ++ f (get_or xs i d) =
-        ap (flat_map f) (take_more xs i d h) ∙ flat_map-append f (take i xs) (get_or xs i d ∷ []) ∙ ap (λ (x : List ℕ). flat_map f (take i xs) ++ x) (append-nil (f (get_or xs i d))) in
+    ap (flat_map f) (take_more xs i d h) ∙ flat_map-append f (take i xs) (get_or xs i d ∷ []) ∙ ap (λ (x : List ℕ). flat_map f (take i xs) ++ x) (append-nil (f (get_or xs i d))) in
     puts_same _ _ w0 w2 f0 f2 r (sym grown) (puts_both _ _ w0 w1 w2 f0 f1 f2 v r p q)
 
 -- a write stopped within a list
@@ -28,7 +28,7 @@ pub puts_part : {X T U E D : Type 0} (f : X → List ℕ) (xs : List X) (n : ℕ
     IsErr r → Puts {T = T} (flat_map f (take n xs)) w0 w1 f0 f1 (Err e) → Puts (flat_map f xs) w0 w1 f0 f1 r
 puts_part f xs n w0 w1 f0 f1 e r h p =
     let parts : flat_map f (take n xs) ++ flat_map f (drop n xs) ≡ flat_map f xs =
-        sym (flat_map-append f (take n xs) (drop n xs)) ∙ ap (flat_map f) (take-append-drop n xs) in
+    sym (flat_map-append f (take n xs) (drop n xs)) ∙ ap (flat_map f) (take-append-drop n xs) in
     puts_same _ _ w0 w1 f0 f1 r parts (puts_stopped_at _ _ w0 w1 f0 f1 e r h p)
 
 -- a whole list was written

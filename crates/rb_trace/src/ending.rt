@@ -5,11 +5,10 @@ ghost use Rattle.rb_world.specs.Text.{line_of};
 ghost use Rattle.rb_trace.specs.Ending.{state_words};
 ghost use Rattle.rb_trace.specs.Lines.{spaced};
 
+use crate::line::{put, put_line};
 use itoa::Buffer;
 use rb_base::State;
 use rb_outside::{Failed, Sink};
-
-use crate::line::{put, put_line};
 
 /// Writes the line that ends a run of so many turns.
 pub fn write_end<S: Sink>(out: &mut S, turns: u32) -> Result<(), Failed>

@@ -11,8 +11,8 @@ returns-then-bytes-gt-MOST_BYTES-clause-answers g c =
     let new : Scene = record { files = g.F.Shelf.files c.args.shelf.now; reading = g.F.Shelf.reading c.args.shelf.now; read_faults = g.F.Shelf.faults c.args.shelf.now; written = g.S.Sink.written c.refuse_long.new.out; write_faults = g.S.Sink.faults c.refuse_long.new.out } in
     let Q : Status → Type 0 = λ status. WithRequest (record { source = c.args.source.now; schedule = c.args.schedule.now }) old new status in
     line_answer _ c.status_after.result too_long_line _ _ _ _ c.refuse_long.ensures c.status_after.ensures Q
-      (λ whole. (too_long_line, refused, whole))
-      (λ rose part. (rose, (too_long_line, inr refused, part)))
+    (λ whole. (too_long_line, refused, whole))
+    (λ rose part. (rose, (too_long_line, inr refused, part)))
 
 pub read_schedule-requires-clause-held : goal.read_schedule-requires-clause-held
 read_schedule-requires-clause-held g c = source_held _ _ _ _ _ c.requires c.if-bytes-gt-MOST_BYTES.false c.in-Ok.ensures.ok
@@ -25,5 +25,5 @@ returns-in-Err-Fault-clause-answers g c =
     let new : Scene = record { files = g.F.Shelf.files c.args.shelf.now; reading = g.F.Shelf.reading c.args.shelf.now; read_faults = g.F.Shelf.faults c.args.shelf.now; written = g.S.Sink.written c.refuse_source.new.out; write_faults = g.S.Sink.faults c.refuse_source.new.out } in
     let Q : Status → Type 0 = λ status. WithRequest (record { source = c.args.source.now; schedule = c.args.schedule.now }) old new status in
     line_answer _ c.status_after-in-Err-Fault.result line _ _ _ _ (rw c.in-Err-Fault.fault-is at c.refuse_source.ensures) c.status_after-in-Err-Fault.ensures Q
-      (λ whole. (line, refused, whole))
-      (λ rose part. (rose, (line, inr refused, part)))
+    (λ whole. (line, refused, whole))
+    (λ rose part. (rose, (line, inr refused, part)))

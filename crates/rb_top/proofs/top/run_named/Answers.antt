@@ -10,8 +10,8 @@ pub returns-in-Err-clause-answers : goal.returns-in-Err-clause-answers
 returns-in-Err-clause-answers g c =
     let line = schedule_line c.in-Err.fault in
     let refused : ScheduleRefused (tree c.args.program.now) c.args.bytes.now line =
-        bad_schedule c.in-Err.fault c.requires.short (ap (λ (names : List (List ℕ)). schedule_of names c.args.bytes.now) (sym c.requires.scheduled) ∙ c.in-Err.ensures.turns) refl in
+    bad_schedule c.in-Err.fault c.requires.short (ap (λ (names : List (List ℕ)). schedule_of names c.args.bytes.now) (sym c.requires.scheduled) ∙ c.in-Err.ensures.turns) refl in
     let Q : Status → Type 0 = λ status. AfterSchedule (tree c.args.program.now) c.args.bytes.now (g.S.Sink.written c.args.out.now) (g.S.Sink.written c.refuse_schedule.new.out) (g.S.Sink.faults c.args.out.now) (g.S.Sink.faults c.refuse_schedule.new.out) status in
     line_answer _ c.status_after.result line _ _ _ _ c.refuse_schedule.ensures c.status_after.ensures Q
-      (λ whole. (line, refused, whole))
-      (λ rose part. (rose, (line, inr refused, part)))
+    (λ whole. (line, refused, whole))
+    (λ rose part. (rose, (line, inr refused, part)))

@@ -6,7 +6,6 @@ use Rattle.rb_trace.specs.Lines.{spaced_word}
 use Rattle.rb_trace.proofs.Spaced.{puts_next, puts_part, puts_whole}
 use Rattle.rb_trace.proofs.line.put_others.Goals as goal
 
-
 pub loop-word-init : goal.loop-word-init
 loop-word-init g c = puts_nothing _ _ _
 
