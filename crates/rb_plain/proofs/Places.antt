@@ -20,12 +20,14 @@ set-step i v slot slots k m d new rest false e h f =
     let s : suc m ≡ k = omega arith in
     subst P s (λ g. ap (λ r. stored slot ∷ r) (f g)) h
 
+-- the same, by the number of variables before it
 set-first : (x : List ℕ) (i : ℕ) (v : ℤ) (slots : List Slot) (k : ℕ) (d new : Slot) → k ≡ position_or_len (is_named x) slots → stored new ≡ changed (stored (get_or slots k d)) i v → frame (slice_set slots k new) ≡ stored_in x i v (frame slots)
 set-first x i v [] k d new e h = refl
 set-first x i v (slot ∷ slots) k d new e h =
     set-step i v slot slots k (position_or_len (is_named x) slots) d new (stored_in x i v (frame slots)) (is_named x slot) e h
     (set-first x i v slots (position_or_len (is_named x) slots) d new refl)
 
+-- the number that a choice gave
 picked : (b : Bool) (n k : ℕ) → cond b (Some n) None ≡ Some k → k ≡ n
 picked true n k e = cc
 picked false n k e = cc
@@ -35,16 +37,19 @@ pub frame-set : (x : List ℕ) (i : ℕ) (v : ℤ) (slots : List Slot) (k : ℕ)
 frame-set x i v slots k d new e h =
     set-first x i v slots k d new (picked _ (position_or_len (is_named x) slots) k e) h
 
+-- one step of the next lemma: no variable has the name, so the first has not
 unset-step : (i : ℕ) (v : ℤ) (slot : Slot) (slots : List Slot) (m : ℕ) (rest : Frame) (b : Bool) → 1 + length slots ≤ cond (not b) (1 + m) 0 → (length slots ≤ m → frame slots ≡ rest) → frame (slot ∷ slots) ≡ cond b (changed (stored slot) i v ∷ frame slots) (stored slot ∷ rest)
 unset-step i v slot slots m rest true e f = absurd (omega arith)
 unset-step i v slot slots m rest false e f = ap (λ r. stored slot ∷ r) (f (omega arith))
 
+-- the same, by the number of variables that do not have it
 unset-first : (x : List ℕ) (i : ℕ) (v : ℤ) (slots : List Slot) → length slots ≤ position_or_len (is_named x) slots → frame slots ≡ stored_in x i v (frame slots)
 unset-first x i v [] e = refl
 unset-first x i v (slot ∷ slots) e =
     unset-step i v slot slots (position_or_len (is_named x) slots) (stored_in x i v (frame slots)) (is_named x slot) (omega arith)
     (unset-first x i v slots)
 
+-- a choice that gave nothing was at the end
 passed : (n m : ℕ) → cond (nat_lt n m) (Some n) None ≡ None → m ≤ n
 passed n m e = grind (arith, nat_tests)
 
