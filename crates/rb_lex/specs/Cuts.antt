@@ -1,4 +1,5 @@
 -- What the parts of the lexer answer, as the definitions of tokens see it.
+-- All of it is this project's own.
 use Rattle.std.specs.Prelude.{ℕ, ◌-◌, ◌^◌, ◌==◌, nat_lt, cond, List, length, filter, Option, Some, None, Result, Ok, Err}
 use Rattle.rb_lex.specs.declared.cut.Cut.{Cut}
 use Rattle.rb_lex.specs.declared.cut.Stop.{Stop}

@@ -1,4 +1,5 @@
 -- What the reading of one token answers: the point where it stands after blanks and comments, and the point after it.
+-- All of it is this project's own.
 use Rattle.std.specs.Prelude.{◌≡◌, ℕ, ◌+◌, ◌*◌, ◌^◌, ◌==◌, ◌≤◌, Bool, true, false, cond, List, [], ◌∷◌, length, Option, Some, None, Result, Ok, Err}
 use Rattle.rb_base.specs.declared.place.Place.{Place}
 use Rattle.rb_base.specs.declared.fault.SourceFault.{SourceFault}
@@ -30,6 +31,7 @@ abbrev pub Passes : Next → Bool → Result Point SourceFault → Type 0
 Passes next second (Ok point) = next ≡ here second point.place point.left.now
 Passes next second (Err fault) = next ≡ Refused fault
 
+-- what comes next is the end with no byte left, or this token with the point after it
 abbrev pub ReadsToken : Next → Option Token → Point → Type 0
 ReadsToken next None after = (next ≡ End after.place) × (after.left.now ≡ [])
 ReadsToken next (Some token) after = next ≡ Found (lexeme_of token) after.place after.left.now

@@ -1,4 +1,5 @@
 -- Laws of the token lists of texts.
+-- All of it is this project's own.
 use Rattle.std.specs.Prelude.{◌≡◌, ℕ, ◌+◌, ◌<◌, ◌==◌, not, ◌⊎◌, List, [], ◌∷◌, ◌++◌, length, All, AllPairs, count_by, Option, Some, None, Result, Ok, Err}
 use Rattle.std.specs.List.{suffix_len}
 use Rattle.rb_base.specs.declared.place.Place.{Place}
@@ -38,6 +39,7 @@ abbrev pub EndingStandsAt : List ℕ → Ending → Type 0
 EndingStandsAt source (AtEnd at) = at ≡ place_past first_place source
 EndingStandsAt source (AtFault fault) = (b : ℕ) × StandsAt source (b ∷ []) fault.place
 
+-- the ending of each text stands behind its last byte, or at the byte of its fault
 abbrev pub EndingStands : Type 0
 EndingStands = (bytes : List ℕ) (tokens : List Lexeme) (ending : Ending) → Tokens bytes tokens ending → EndingStandsAt bytes ending
 
@@ -53,9 +55,11 @@ PlacesCount = (before : List ℕ) → place_past first_place before ≡ record {
 abbrev pub AnswersFirst : Type 0
 AnswersFirst = (old new : Reader) (token : Token) → Answers old (Ok (Some token)) new → (tokens_left old ≡ lexeme_of token ∷ tokens_left new) × (ending_left old ≡ ending_left new) × (length new.left < length old.left)
 
+-- where a lexer answers that there is no token, it has none left, and the source ends there
 abbrev pub AnswersEnd : Type 0
 AnswersEnd = (old new : Reader) → Answers old (Ok None) new → (tokens_left old ≡ []) × (ending_left old ≡ AtEnd new.place)
 
+-- where a lexer answers a fault, it has no token left, and the tokens end with this fault
 abbrev pub AnswersFault : Type 0
 AnswersFault = (old new : Reader) (fault : SourceFault) → Answers old (Err fault) new → (tokens_left old ≡ []) × (ending_left old ≡ AtFault fault)
 
@@ -63,5 +67,6 @@ AnswersFault = (old new : Reader) (fault : SourceFault) → Answers old (Err fau
 abbrev pub EndStays : Type 0
 EndStays = (a b c : Reader) (outcome : Result (Option Token) SourceFault) → Answers a (Ok None) b → Answers b outcome c → (outcome ≡ Ok None) × (c ≡ b)
 
+-- a fault is answered again, and nothing changes
 abbrev pub FaultStays : Type 0
 FaultStays = (a b c : Reader) (fault : SourceFault) (outcome : Result (Option Token) SourceFault) → Answers a (Err fault) b → Answers b outcome c → (outcome ≡ Err fault) × (c ≡ b)

@@ -1,4 +1,5 @@
 -- A lexer as its callers see it, and what `next` answers.
+-- All of it is this project's own.
 use Rattle.std.specs.Prelude.{◌≡◌, ℕ, Bool, false, List, [], Option, Some, None, Result, Ok, Err}
 use Rattle.rb_base.specs.declared.place.Place.{Place}
 use Rattle.rb_base.specs.declared.fault.SourceFault.{SourceFault}
@@ -11,9 +12,11 @@ pub record Reader : Type 0 where
   pub place : Place
   pub left : List ℕ
 
+-- what comes next for a lexer
 abbrev pub next_of : Reader → Next
 next_of reader = next_from reader.second false reader.place reader.left
 
+-- a token without where its bytes lie
 abbrev pub lexeme_of : Token → Lexeme
 lexeme_of token = record { kind = token.kind; text = token.text.now; place = token.place }
 

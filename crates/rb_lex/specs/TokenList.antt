@@ -1,4 +1,5 @@
 -- The token list of a text as a function of its bytes.
+-- All of it is this project's own.
 use Rattle.std.specs.Prelude.{ℕ, zero, suc, Bool, false, List, [], ◌∷◌, length}
 use Rattle.rb_base.specs.declared.place.Place.{Place}
 use Rattle.rb_lex.specs.Bytes.{first_place}
@@ -11,6 +12,7 @@ token_and (End at) rest = []
 token_and (Found token at left) rest = token ∷ rest at left
 token_and (Refused fault) rest = []
 
+-- how the tokens end: right here, or as those after the next token do
 abbrev pub ending_and : Next → (Place → List ℕ → Ending) → Ending
 ending_and (End at) rest = AtEnd at
 ending_and (Found token at left) rest = rest at left
@@ -21,6 +23,7 @@ abbrev pub tokens_within : ℕ → Bool → Place → List ℕ → List Lexeme
 tokens_within zero second p bytes = []
 tokens_within (suc n) second p bytes = token_and (next_from second false p bytes) (λ at left. tokens_within n second at left)
 
+-- how the tokens from a place on end, in at most so many bytes
 abbrev pub ending_within : ℕ → Bool → Place → List ℕ → Ending
 ending_within zero second p bytes = AtEnd p
 ending_within (suc n) second p bytes = ending_and (next_from second false p bytes) (λ at left. ending_within n second at left)
@@ -29,6 +32,7 @@ ending_within (suc n) second p bytes = ending_and (next_from second false p byte
 abbrev pub tokens_from : Bool → Place → List ℕ → List Lexeme
 tokens_from second p bytes = tokens_within (length bytes) second p bytes
 
+-- how the tokens from a place on end
 abbrev pub ending_from : Bool → Place → List ℕ → Ending
 ending_from second p bytes = ending_within (length bytes) second p bytes
 
@@ -36,6 +40,7 @@ ending_from second p bytes = ending_within (length bytes) second p bytes
 abbrev pub tokens_of : List ℕ → List Lexeme
 tokens_of bytes = tokens_from (is_second bytes) first_place bytes
 
+-- how the tokens of a whole text end
 abbrev pub ending_of : List ℕ → Ending
 ending_of bytes = ending_from (is_second bytes) first_place bytes
 
@@ -43,5 +48,6 @@ ending_of bytes = ending_from (is_second bytes) first_place bytes
 abbrev pub tokens_left : Reader → List Lexeme
 tokens_left reader = tokens_from reader.second reader.place reader.left
 
+-- how the tokens end that a lexer has still to answer
 abbrev pub ending_left : Reader → Ending
 ending_left reader = ending_from reader.second reader.place reader.left

@@ -17,6 +17,7 @@ pub record Lexeme : Type 0 where
   pub text : List ℕ
   pub place : Place
 
+-- a text is one of these words
 abbrev pub is_one_of : List (List ℕ) → List ℕ → Bool
 is_one_of words text = list_any (λ word. pointwise nat_eq word text) words
 
@@ -36,6 +37,7 @@ is_reserved second text = is_one_of common_words text || (second && is_one_of se
 abbrev pub two_marks : List (List ℕ)
 two_marks = codes ":=" ∷ codes "<>" ∷ codes "<=" ∷ codes ">=" ∷ []
 
+-- the marks of one byte
 abbrev pub one_marks : List (List ℕ)
 one_marks = codes ";" ∷ codes "," ∷ codes "." ∷ codes "(" ∷ codes ")" ∷ codes "{" ∷ codes "}" ∷ codes "[" ∷ codes "]" ∷ codes "=" ∷ codes "<" ∷ codes ">" ∷ codes "+" ∷ codes "-" ∷ codes "*" ∷ codes "/" ∷ codes "%" ∷ []
 
@@ -55,6 +57,7 @@ name_front second text =
     cond (nat_lt 64 (length text)) (Faulty X5 0)
     (Whole (cond (is_reserved second text) Word Name) (length text))
 
+-- a number, or the fault X3 where it is above the largest
 abbrev pub number_front : List ℕ → Front
 number_front digits =
     cond (nat_lt (2 ^ 63 - 1) (digits_value 0 digits)) (Faulty X3 0)
@@ -71,6 +74,7 @@ text_front n (b ∷ bs) =
     (cond (not (is_printable b)) (Faulty X1 (n + 1))
     (text_front (n + 1) bs))))
 
+-- the longest mark that fits, or the fault X1 where none does
 abbrev pub mark_front : Bool → List ℕ → Front
 mark_front second bytes =
     cond (is_one_of two_marks (take 2 bytes)) (Whole Mark 2)

@@ -14,6 +14,7 @@ pub record Stored : Type 0 where
   pub name : List ℕ
   pub values : List ℤ
 
+-- a frame: the variables of a process, of a call or of a block, in the order of declaration
 abbrev pub Frame : Type 0
 Frame = List Stored
 
@@ -23,10 +24,12 @@ pub record Environment : Type 0 where
   pub globals : Frame
   pub calls : List (List Frame)
 
+-- a number as a count; one below 0 is 0
 abbrev pub natural : ℤ → ℕ
 natural (pos n) = n
 natural (negsuc n) = 0
 
+-- how many numbers a variable has: one, or the size of an array
 abbrev pub size_of : Option Number → ℕ
 size_of None = 1
 size_of (Some number) = natural number.value
@@ -35,24 +38,30 @@ size_of (Some number) = natural number.value
 abbrev pub zeros : Declaration → Stored
 zeros declaration = record { name = declaration.name.text; values = replicate (size_of declaration.size) (pos 0) }
 
+-- the frame of these declarations, all zeros
 abbrev pub frame_of : List Declaration → Frame
 frame_of declarations = map zeros declarations
 
+-- a frame has a variable of this name
 abbrev pub has : List ℕ → Frame → Bool
 has x frame = list_any (λ stored. same_name stored.name x) frame
 
+-- the numbers of a variable in a frame, if it is there; of two with one name the first counts
 abbrev pub found_in : List ℕ → Frame → Option (List ℤ)
 found_in x [] = None
 found_in x (stored ∷ frame) = cond (same_name stored.name x) (Some stored.values) (found_in x frame)
 
+-- the first answer, or the other where the first is none
 abbrev pub or_else : {A : Type 0} → Option A → Option A → Option A
 or_else None other = other
 or_else (Some a) other = Some a
 
+-- the numbers of a variable in the first of these frames that has it
 abbrev pub found_among : List ℕ → List Frame → Option (List ℤ)
 found_among x [] = None
 found_among x (frame ∷ frames) = or_else (found_in x frame) (found_among x frames)
 
+-- the frames of the running call, the innermost first
 abbrev pub running_frames : List (List Frame) → List Frame
 running_frames [] = []
 running_frames (frames ∷ calls) = frames
@@ -61,10 +70,12 @@ running_frames (frames ∷ calls) = frames
 abbrev pub found : Environment → List ℕ → Option (List ℤ)
 found env x = or_else (found_among x (running_frames env.calls)) (found_in x env.globals)
 
+-- the numbers that were found, and none for an unknown name
 abbrev pub values_or_none : Option (List ℤ) → List ℤ
 values_or_none None = []
 values_or_none (Some values) = values
 
+-- the numbers of a variable by its name, and none for an unknown name
 abbrev pub values_of : Environment → List ℕ → List ℤ
 values_of env x = values_or_none (found env x)
 
@@ -74,14 +85,17 @@ stored_in x i v [] = []
 stored_in x i v (stored ∷ frame) =
     cond (same_name stored.name x) (record { name = stored.name; values = slice_set stored.values i v } ∷ frame) (stored ∷ stored_in x i v frame)
 
+-- the same in the first of these frames that has the variable
 abbrev pub stored_among : List ℕ → ℕ → ℤ → List Frame → List Frame
 stored_among x i v [] = []
 stored_among x i v (frame ∷ frames) = cond (has x frame) (stored_in x i v frame ∷ frames) (frame ∷ stored_among x i v frames)
 
+-- the frames of the running call are changed
 abbrev pub in_running : (List Frame → List Frame) → List (List Frame) → List (List Frame)
 in_running f [] = []
 in_running f (frames ∷ calls) = f frames ∷ calls
 
+-- a number of a variable is replaced, in the running call's frames or else in the frame of the process
 abbrev pub store : Environment → List ℕ → ℕ → ℤ → Environment
 store env x i v =
     cond (list_any (has x) (running_frames env.calls))
@@ -89,29 +103,37 @@ store env x i v =
     (record { globals = stored_in x i v env.globals; calls = env.calls })
 
 -- the words of an environment: how many numbers it holds
+-- First: how many numbers a frame holds.
 abbrev pub frame_words : Frame → ℕ
 frame_words frame = sum_by (λ stored. length stored.values) frame
 
+-- how many numbers these frames hold
 abbrev pub frames_words : List Frame → ℕ
 frames_words frames = sum_by frame_words frames
 
+-- how many numbers an environment holds, in the frame of the process and in all calls
 abbrev pub words : Environment → ℕ
 words env = frame_words env.globals + sum_by frames_words env.calls
 
 -- frames and calls come and go
+-- First: a block begins, and its frame is the innermost of the running call.
 abbrev pub push_frame : Frame → Environment → Environment
 push_frame frame env = record { globals = env.globals; calls = in_running (λ frames. frame ∷ frames) env.calls }
 
+-- a list without its first element
 abbrev pub rest_of : {A : Type 0} → List A → List A
 rest_of [] = []
 rest_of (x ∷ xs) = xs
 
+-- a block ends, and its frame goes
 abbrev pub pop_frame : Environment → Environment
 pop_frame env = record { globals = env.globals; calls = in_running rest_of env.calls }
 
+-- a call begins, with this frame
 abbrev pub push_call : Frame → Environment → Environment
 push_call frame env = record { globals = env.globals; calls = (frame ∷ []) ∷ env.calls }
 
+-- the running call ends, and the one that called it goes on
 abbrev pub pop_call : Environment → Environment
 pop_call env = record { globals = env.globals; calls = rest_of env.calls }
 

@@ -1,5 +1,6 @@
 -- The meaning of a program: each recovery point is a whole copy of the process's recoverable state, and each rejection
 -- puts that copy back (Horning, Lauer, Melliar-Smith, Randell 1974; in conversations, Randell 1975).
+-- All else is this project's own.
 use Rattle.std.specs.Prelude.{ℕ, ℤ, pos, ◌+◌, List, [], ◌∷◌, ◌++◌, length, map, replicate, slice_get, Option, Some, None}
 use Rattle.std.specs.Option.{option_map, unwrap_or}
 use Rattle.rb_syntax.specs.Tree.{Declaration, ProcessDeclaration, Tree}
@@ -17,12 +18,15 @@ use Rattle.rb_meaning.specs.Groups.{channels_of, groups_of}
 abbrev pub sent_on : State → ℕ → List ℤ
 sent_on s c = unwrap_or (slice_get s.sent c) []
 
+-- how many values a process has taken from a channel
 abbrev pub taken_on : State → ℕ → ℕ
 taken_on s c = unwrap_or (slice_get s.taken c) 0
 
+-- value number n of those that a process has sent on a channel, and 0 where none was sent
 abbrev pub message_number : State → ℕ → ℕ → ℤ
 message_number s c n = unwrap_or (slice_get (sent_on s c) n) (pos 0)
 
+-- the variables in a recovery point, if there is one
 abbrev pub environment_of : Option State → Option Environment
 environment_of copy = option_map (λ s. s.environment) copy
 
@@ -31,6 +35,7 @@ abbrev pub keep : ℕ → ℕ → State → Nothing → State × Nothing
 keep t alternate s memory = (with_kept (s.kept ++ (t, alternate) ∷ []) s, memory)
 
 -- the kind of state that trees have: copies are whole states
+-- (1974)
 abbrev pub tree_kind : Tree → Kind State State Nothing
 tree_kind tree = record {
   channels = channels_of tree;
@@ -54,6 +59,7 @@ tree_kind tree = record {
   keep = keep;
 }
 
+-- a world of a program's processes, whose recovery points are whole states (1974)
 abbrev pub TreeWorld : Type 0
 TreeWorld = World State State Nothing
 
@@ -69,10 +75,12 @@ opening_state tree p process = record {
   kept = [];
 }
 
+-- the opening states of the processes from number p on
 abbrev pub opening_states : Tree → ℕ → List ProcessDeclaration → List State
 opening_states tree p [] = []
 opening_states tree p (process ∷ processes) = opening_state tree p process ∷ opening_states tree (p + 1) processes
 
+-- the world in which each run of a program begins
 abbrev pub opening_world : Tree → TreeWorld
 opening_world tree = opening (tree_kind tree) (opening_states tree 0 tree.processes) tt
 
@@ -81,14 +89,17 @@ abbrev pub run_of : Tree → List ℕ → TreeWorld × List Told
 run_of tree turns = run (tree_kind tree) 1 turns (opening_world tree)
 
 -- the names of a program's lines
+-- First: the names of variables, each with its first word and its size.
 abbrev pub variables_named : ℕ → List Declaration → List VariableNaming
 variables_named at [] = []
 variables_named at (v ∷ vs) =
     record { name = v.name.text; at = at; size = option_map (λ n. size_of (Some n)) v.size } ∷ variables_named (at + size_of v.size) vs
 
+-- the name of a process, and those of its variables
 abbrev pub process_named : ProcessDeclaration → ProcessNaming
 process_named process = record { name = process.name.text; variables = variables_named 0 process.variables }
 
+-- all names that the lines of a program's runs speak of
 abbrev pub naming_of : Tree → Naming
 naming_of tree = record {
   processes = map process_named tree.processes;
@@ -97,26 +108,32 @@ naming_of tree = record {
 }
 
 -- how a world ends
+-- First: a process's status, and how many levels it has open.
 abbrev pub standing : {S C : Type 0} → Process S C → Status × ℕ
 standing q = (q.status, length q.levels)
 
+-- the states of all processes of a world
 abbrev pub states_of : {C M : Type 0} → World State C M → List State
 states_of w = map (λ q. q.state) w.processes
 
+-- what a state answers, and something else where there is no state
 abbrev pub by_state : {A : Type 0} → (State → A) → A → Option State → A
 by_state f d None = d
 by_state f d (Some s) = f s
 
+-- how many values were sent on each channel from number c on, by the state of its sender
 abbrev pub count_sent : List State → ℕ → List Ends → List ℕ
 count_sent states c [] = []
 count_sent states c (ends ∷ others) =
     by_state (λ s. length (sent_on s c)) 0 (slice_get states ends.sender) ∷ count_sent states (c + 1) others
 
+-- how many values were taken from each channel from number c on, by the state of its receiver
 abbrev pub count_taken : List State → ℕ → List Ends → List ℕ
 count_taken states c [] = []
 count_taken states c (ends ∷ others) =
     by_state (λ s. taken_on s c) 0 (slice_get states ends.receiver) ∷ count_taken states (c + 1) others
 
+-- the ending of a world: statuses, variables, and what was sent on each channel and taken from it
 abbrev pub final_of : {C M : Type 0} → Tree → World State C M → Final
 final_of tree w = record {
   statuses = map standing w.processes;
@@ -131,6 +148,7 @@ text_of tree turns (w, all) =
     told_text (naming_of tree) 0 (told_at_opening (opening_world tree))
     ++ (all_told (naming_of tree) 1 all ++ end_text (naming_of tree) turns (final_of tree w))
 
+-- the whole text of a program's run over a list of turns
 abbrev pub run_text : Tree → List ℕ → List ℕ
 run_text tree turns = text_of tree (length turns) (run_of tree turns)
 

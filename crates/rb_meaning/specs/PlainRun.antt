@@ -20,12 +20,15 @@ pub record EntryPoint : Type 0 where
   pub taken : List ℕ
   pub environment : Environment
 
+-- what the entry of a block keeps of a state
 abbrev pub entry_point : State → EntryPoint
 entry_point s = record { sent = map length s.sent; taken = s.taken; environment = s.environment }
 
+-- the variables at the entry of the innermost block, if there is one
 abbrev pub environment_at : Option EntryPoint → Option Environment
 environment_at point = option_map (λ e. e.environment) point
 
+-- the kind of state that a plain run has, in which nothing is ever put back
 abbrev pub plain_kind : Tree → Kind State EntryPoint Nothing
 plain_kind tree = record {
   channels = channels_of tree;
@@ -49,9 +52,11 @@ plain_kind tree = record {
   keep = keep;
 }
 
+-- a world of a plain run
 abbrev pub PlainWorld : Type 0
 PlainWorld = World State EntryPoint Nothing
 
+-- the world in which each plain run of a program begins
 abbrev pub plain_opening : Tree → PlainWorld
 plain_opening tree = opening (plain_kind tree) (opening_states tree 0 tree.processes) tt
 
@@ -64,5 +69,6 @@ abbrev pub plain_text_at : Tree → PlainEnd State EntryPoint Nothing → Result
 plain_text_at tree (Ended w lines) = Ok (outs_text (naming_of tree) lines ++ values_text (naming_of tree) (final_of tree w))
 plain_text_at tree (StuckAt turn) = Err turn
 
+-- the text of the plain run of a record, or the turn at which it is stuck
 abbrev pub plain_text : Tree → List Kept → Result (List ℕ) ℕ
 plain_text tree turns = plain_text_at tree (plain_of tree turns)

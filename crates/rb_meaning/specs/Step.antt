@@ -1,4 +1,6 @@
 -- One step of a process over its tree, for each form that may stand first.
+-- That an acceptance test comes after each alternate is from Horning, Lauer, Melliar-Smith, Randell (1974), and `prior`
+-- is from Randell (1975); all else is this project's own.
 use Rattle.std.specs.Prelude.{ℕ, zero, suc, ℤ, pos, ◌+◌, ◌-◌, nat_eq, nat_lt, nat_le, Bool, true, false, cond, List, [], ◌∷◌, ◌++◌, length, sum_by, Option, Some, None, Result, Ok, Err}
 use Rattle.std.specs.Fmt.{signed_decimal}
 use Rattle.rb_base.specs.declared.event.Cause.{Cause}
@@ -15,6 +17,7 @@ use Rattle.rb_meaning.specs.Groups.{channel_number, procedure_named, facts_of}
 abbrev pub Nothing : Type 0
 Nothing = Unit {0}
 
+-- what a step of a process over its tree comes to
 abbrev pub Result_of_step : Type 0
 Result_of_step = Stepped State Nothing
 
@@ -27,9 +30,11 @@ goes (Err cause) = Trapped cause
 abbrev pub most_words : ℕ → ℕ
 most_words edition = cond (nat_eq edition 2) 4096 2048
 
+-- at most this many calls of a process are open
 abbrev pub most_calls : ℕ
 most_calls = 256
 
+-- the held lines of a process have at most this many bytes
 abbrev pub most_held : ℕ
 most_held = 65536
 
@@ -43,23 +48,28 @@ place_in env (Refer x Scalar) = Ok (x.text, 0)
 place_in env (Refer x (Element index)) =
     and_then (present_value env index) (λ i. and_then (index_in (values_of env x.text) i) (λ n. Ok (x.text, n)))
 
+-- a value is stored at a place
 abbrev pub put_at : Environment → ℤ → List ℕ × ℕ → Environment
 put_at env v (x, n) = store env x n v
 
+-- an assignment: its place, then its value, and then the value is stored there
 abbrev pub assigned : State → Reference → Expression → Result State Cause
 assigned s to e =
     and_then (place_in s.environment to) (λ place.
     and_then (present_value s.environment e) (λ v. Ok (with_environment (put_at s.environment v place) s)))
 
 -- a line: its items, with one blank between them
+-- First: the bytes of an item, which are its text, or its value in decimal.
 abbrev pub printed : Environment → Printed → Result (List ℕ) Cause
 printed env (Words text) = Ok text
 printed env (Amount e) = and_then (present_value env e) (λ v. Ok (signed_decimal v))
 
+-- the bytes of an item, with a blank before them unless it is the first
 abbrev pub after_blank : List ℕ → Bool → List ℕ
 after_blank text true = text
 after_blank text false = 32 ∷ text
 
+-- the line of these items, evaluated from left to right
 abbrev pub line_from : Environment → Bool → List PrintItem → Result (List ℕ) Cause
 line_from env first [] = Ok []
 line_from env first (item ∷ items) =
@@ -70,54 +80,67 @@ line_from env first (item ∷ items) =
 abbrev pub held_bytes : List (List ℕ) → ℕ
 held_bytes lines = sum_by (λ line. length line + 1) lines
 
+-- a line joins the held lines, unless they would have too many bytes
 abbrev pub held_with : State → List ℕ → Result State Cause
 held_with s line =
     cond (nat_lt most_held (held_bytes s.held + (length line + 1))) (Err Hold) (Ok (with_held (s.held ++ line ∷ []) s))
 
+-- a `print`: its line is held
 abbrev pub prints : State → List PrintItem → Result State Cause
 prints s items = and_then (line_from s.environment true items) (held_with s)
 
+-- a `send`: its value joins those that were sent on the channel
 abbrev pub sends : State → ℕ → Expression → Result State Cause
 sends s channel e =
     and_then (present_value s.environment e) (λ v. Ok (with_sent (change_at channel (λ values. values ++ v ∷ []) s.sent) s))
 
+-- a receipt of a message, which counts as taken and is stored at its place
 abbrev pub takes : State → ℕ → Reference → ℤ → Result State Cause
 takes s channel to v =
     and_then (place_in s.environment to) (λ place.
     Ok (with_taken (change_at channel (λ n. n + 1) s.taken) (with_environment (put_at s.environment v place) s)))
 
 -- the block's frame is pushed, and its statements and its end come first; too many words are a trap
+-- First: the process goes on in this environment, unless it has too many words.
 abbrev pub within_words : ℕ → Environment → State → Result State Cause
 within_words edition env s = cond (nat_lt (most_words edition) (words env)) (Err Stack) (Ok (with_environment env s))
 
+-- a block begins: its frame is pushed, and its statements and its end come before what is left
 abbrev pub pushes : ℕ → Body → List Item → State → Result State Cause
 pushes edition (Scope variables commands) rest s =
     within_words edition (push_frame (frame_of variables) s.environment) (continue_with (performed commands (EndBlock ∷ rest)) s)
 
+-- an `else` begins its block; without an `else` the process goes on
 abbrev pub pushes_else : ℕ → Otherwise → List Item → State → Result State Cause
 pushes_else edition NoElse rest s = Ok (continue_with rest s)
 pushes_else edition (Else body) rest s = pushes edition body rest s
 
+-- an `if` begins its block where its test is not 0, and else its `else`
 abbrev pub chooses : ℕ → Body → Otherwise → List Item → State → ℤ → Result State Cause
 chooses edition body otherwise rest s v = cond (is_zero v) (pushes_else edition otherwise rest s) (pushes edition body rest s)
 
+-- a `while` begins its block where its test is not 0, and comes again after it; else it is over
 abbrev pub repeats : ℕ → Expression → Body → List Item → State → ℤ → Result State Cause
 repeats edition test body rest s v =
     cond (is_zero v) (Ok (continue_with rest s)) (pushes edition body (Perform (Loop test body) ∷ rest) s)
 
 -- a call: its arguments from left to right, then the check of open calls, then the new frame
+-- First: the values of a call's arguments, from left to right, or the first trap.
 abbrev pub values_in : Environment → List Expression → Result (List ℤ) Cause
 values_in env [] = Ok []
 values_in env (e ∷ es) = and_then (present_value env e) (λ v. and_then (values_in env es) (λ vs. Ok (v ∷ vs)))
 
+-- the parameters of a call with the values of its arguments; a parameter left over is 0
 abbrev pub bound_to : List Identifier → List ℤ → Frame
 bound_to [] values = []
 bound_to (x ∷ xs) [] = record { name = x.text; values = pos 0 ∷ [] } ∷ bound_to xs []
 bound_to (x ∷ xs) (v ∷ vs) = record { name = x.text; values = v ∷ [] } ∷ bound_to xs vs
 
+-- the variables that a block declares
 abbrev pub variables_of : Body → List Declaration
 variables_of (Scope variables commands) = variables
 
+-- the statements of a block
 abbrev pub commands_of : Body → Commands
 commands_of (Scope variables commands) = commands
 
@@ -125,6 +148,7 @@ commands_of (Scope variables commands) = commands
 abbrev pub open_calls : Environment → ℕ
 open_calls env = length env.calls - 1
 
+-- a call of a procedure with these values, which is a trap where the most calls are open already
 abbrev pub calls_with : ℕ → Option ProcedureDeclaration → List Item → State → List ℤ → Result State Cause
 calls_with edition None rest s values = Ok (continue_with rest s)
 calls_with edition (Some procedure) rest s values =
@@ -132,10 +156,12 @@ calls_with edition (Some procedure) rest s values =
     (within_words edition (push_call (bound_to procedure.parameters values ++ frame_of (variables_of procedure.body)) s.environment)
     (continue_with (performed (commands_of procedure.body) (EndCall ∷ rest)) s))
 
+-- a `call` of a procedure by its name, with its arguments
 abbrev pub invokes : Tree → Identifier → List Expression → List Item → State → Result State Cause
 invokes tree procedure arguments rest s =
     and_then (values_in s.environment arguments) (calls_with tree.edition (procedure_named tree s.process procedure.text) rest s)
 
+-- a `receive` takes the message that is there, and else begins its `else`
 abbrev pub receives : Tree → ℕ → Reference → Otherwise → List Item → State → Option ℤ → Result State Cause
 receives tree channel to otherwise rest s (Some v) = takes (continue_with rest s) channel to v
 receives tree channel to otherwise rest s None = pushes_else tree.edition otherwise rest s
@@ -156,15 +182,18 @@ performs tree message s rest Failure = Err Fail
 performs tree message s rest (Recovering block) = Ok (continue_with rest s)
 
 -- the start of an alternate: its frame, its statements, its end, and then the acceptance test
+-- First: the block of alternate number n, counted from 1, if there is such an alternate.
 abbrev pub alternate_number : ℕ → Alternates → Option Body
 alternate_number n NoAlternate = None
 alternate_number zero (Alternate body others) = None
 alternate_number (suc zero) (Alternate body others) = Some body
 alternate_number (suc (suc n)) (Alternate body others) = alternate_number (suc n) others
 
+-- the alternates of a recovery block
 abbrev pub alternates_in : RecoveryBlock → Alternates
 alternates_in (Recovers number conversation place test bound alternates) = alternates
 
+-- the acceptance test of a recovery block
 abbrev pub test_in : RecoveryBlock → Expression
 test_in (Recovers number conversation place test bound alternates) = test
 
@@ -174,14 +203,17 @@ starts_body edition block rest s None = Err Fail
 starts_body edition block rest s (Some body) = pushes edition body (TestOf block ∷ rest) s
 
 -- an acceptance test, which reads former values of the innermost recovery point
+-- First: a test that is 0 is the trap `test`, and any other holds (1974).
 abbrev pub judged : List Item → State → Outcome → Result_of_step
 judged rest s (Err cause) = Trapped cause
 judged rest s (Ok v) = cond (is_zero v) (Trapped Test) (Held (continue_with rest s))
 
+-- what `prior` reads: the variables at the innermost recovery point (Randell 1975), or without one the present ones
 abbrev pub former : Environment → Option Environment → Environment
 former env None = env
 former env (Some prior) = prior
 
+-- what stands first is done; the acceptance test is evaluated after its alternate (1974)
 abbrev pub step_items : Tree → ℕ → Option Environment → State → Option ℤ → List Item → Result_of_step
 step_items tree alternate prior s message [] = Went s tt
 step_items tree alternate prior s message (Perform command ∷ rest) = goes (performs tree message s rest command)
@@ -197,10 +229,12 @@ abbrev pub step : Tree → ℕ → Option Environment → State → Option ℤ �
 step tree alternate prior s message = step_items tree alternate prior s message s.items
 
 -- what stands first
+-- First: a receipt, which may find nothing if it has an `else`.
 abbrev pub wants_receipt : ℕ → Otherwise → Want
 wants_receipt channel NoElse = ReceivesOn channel
 wants_receipt channel (Else body) = MayReceiveOn channel
 
+-- what a statement that stands first asks of the turn
 abbrev pub wants : Tree → Command → Want
 wants tree (Assignment to e) = Acts
 wants tree (Printing items) = Acts
@@ -212,6 +246,7 @@ wants tree (Invocation procedure arguments) = Acts
 wants tree Failure = Acts
 wants tree (Recovering block) = Enters (facts_of tree block)
 
+-- what stands first in what is left of a text
 abbrev pub wants_first : Tree → List Item → Want
 wants_first tree [] = NothingLeft
 wants_first tree (Perform command ∷ rest) = wants tree command
@@ -232,6 +267,7 @@ entered (Invocation procedure arguments) rest = rest
 entered Failure rest = rest
 entered (Recovering block) rest = StartOf block ∷ rest
 
+-- what is left of a text once the recovery block that stands first was entered
 abbrev pub entered_items : List Item → List Item
 entered_items [] = []
 entered_items (Perform command ∷ rest) = entered command rest
@@ -240,5 +276,6 @@ entered_items (TestOf block ∷ rest) = TestOf block ∷ rest
 entered_items (EndBlock ∷ rest) = EndBlock ∷ rest
 entered_items (EndCall ∷ rest) = EndCall ∷ rest
 
+-- the state once the recovery block that stands first was entered
 abbrev pub enter : State → State
 enter s = continue_with (entered_items s.items) s

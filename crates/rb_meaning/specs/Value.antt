@@ -1,5 +1,6 @@
 -- The value of an expression, or the trap that its evaluation meets first. `prior` gives a value just before the block
 -- was entered (Randell 1975); 64-bit numbers, their traps and quantified expressions are this project's own.
+-- All else is this project's own too.
 use Rattle.std.specs.Prelude.{ℕ, zero, suc, ℤ, pos, negsuc, ◌+◌, ◌-◌, ◌^◌, ◌+ℤ◌, ◌-ℤ◌, ◌*ℤ◌, neg_ℤ, int_lt, int_le, int_div, int_rem, nat_lt, Bool, true, false, not, cond, ◌&&◌, List, [], ◌∷◌, length, slice_get, Option, Some, None, Result, Ok, Err}
 use Rattle.std.specs.Ordering.{int_eq}
 use Rattle.std.specs.Option.{unwrap_or}
@@ -12,6 +13,7 @@ use Rattle.rb_syntax.specs.declared.expression.Quantifier.TheVariants.{Every, An
 use Rattle.rb_syntax.specs.Tree.{Expression, Literal, Variable, Former, Minus, Negation, Chained, Quantification, Reference, Refer, Scalar, Element, Links, NoLink, Linked}
 use Rattle.rb_meaning.specs.Environment.{Environment, same_name, values_of, natural}
 
+-- a number, or the trap that is met in its place
 abbrev pub Outcome : Type 0
 Outcome = Result ℤ Cause
 
@@ -24,9 +26,11 @@ and_then (Err cause) f = Err cause
 abbrev pub fits : ℤ → Bool
 fits z = int_le (negsuc (2 ^ 63 - 1)) z && int_le z (pos (2 ^ 63 - 1))
 
+-- a result, or the trap `overflow` where it is no number of 64 bits
 abbrev pub fitting : ℤ → Outcome
 fitting z = cond (fits z) (Ok z) (Err Overflow)
 
+-- a number is 0, which counts as false
 abbrev pub is_zero : ℤ → Bool
 is_zero z = int_eq z (pos 0)
 
@@ -39,6 +43,7 @@ truth false = pos 0
 abbrev pub divided : ℤ → ℤ → Outcome
 divided a b = cond (is_zero b) (Err Zero) (fitting (int_div a b))
 
+-- what a quotient that is truncated towards zero leaves over; a divisor of 0 traps
 abbrev pub remainder : ℤ → ℤ → Outcome
 remainder a b = cond (is_zero b) (Err Zero) (Ok (int_rem a b))
 
@@ -74,10 +79,12 @@ decided Mul a = None
 decided Div a = None
 decided Rem a = None
 
+-- the right value counts only where the left one alone has not decided
 abbrev pub unless_decided : Option ℤ → Op → ℤ → Outcome → Outcome
 unless_decided (Some v) op a right = Ok v
 unless_decided None op a right = and_then right (applied op a)
 
+-- an operator on two operands, the left one first
 abbrev pub operated : Op → Outcome → Outcome → Outcome
 operated op left right = and_then left (λ a. unless_decided (decided op a) op a right)
 
@@ -90,6 +97,7 @@ index_in values (negsuc n) = Err Index
 abbrev pub number_at : List ℤ → ℕ → ℤ
 number_at values n = unwrap_or (slice_get values n) (pos 0)
 
+-- the element of an array at an index, or the trap of the index
 abbrev pub element_at : List ℤ → Outcome → Outcome
 element_at values index = and_then index (λ i. and_then (index_in values i) (λ n. Ok (number_at values n)))
 
@@ -97,10 +105,12 @@ element_at values index = and_then index (λ i. and_then (index_in values i) (λ
 abbrev pub Counters : Type 0
 Counters = List (List ℕ × ℤ)
 
+-- the number that a quantified name stands for, if it is such a name
 abbrev pub counter_of : Counters → List ℕ → Option ℤ
 counter_of [] x = None
 counter_of ((y, v) ∷ counters) x = cond (same_name y x) (Some v) (counter_of counters x)
 
+-- that number, or else the number of a variable
 abbrev pub counter_or : Option ℤ → ℤ → ℤ
 counter_or None v = v
 counter_or (Some n) v = n
@@ -112,28 +122,34 @@ span a b =
     (cond (int_lt (pos 1023) (b -ℤ a)) (Err Range) (Ok (natural (b -ℤ a) + 1)))
 
 -- so many numbers from a on: all of them hold, some holds, or their sum
+-- First: 1 if all of them hold, else 0; the first that does not hold decides.
 abbrev pub every_from : ℕ → ℤ → (ℤ → Outcome) → Outcome
 every_from zero a f = Ok (pos 1)
 every_from (suc n) a f = and_then (f a) (λ v. cond (is_zero v) (Ok (pos 0)) (every_from n (a +ℤ pos 1) f))
 
+-- 1 if some of so many numbers from a on holds, else 0; the first that holds decides
 abbrev pub some_from : ℕ → ℤ → (ℤ → Outcome) → Outcome
 some_from zero a f = Ok (pos 0)
 some_from (suc n) a f = and_then (f a) (λ v. cond (is_zero v) (some_from n (a +ℤ pos 1) f) (Ok (pos 1)))
 
+-- a total and the sum over so many numbers from a on, each step of which must fit into 64 bits
 abbrev pub sum_from : ℕ → ℤ → (ℤ → Outcome) → ℤ → Outcome
 sum_from zero a f total = Ok total
 sum_from (suc n) a f total = and_then (f a) (λ v. and_then (fitting (total +ℤ v)) (sum_from n (a +ℤ pos 1) f))
 
+-- a quantified expression over so many numbers from a on
 abbrev pub quantified : Quantifier → ℕ → ℤ → (ℤ → Outcome) → Outcome
 quantified Every n a f = every_from n a f
 quantified Any n a f = some_from n a f
 quantified Total n a f = sum_from n a f (pos 0)
 
+-- a quantified expression over all numbers from a low value to a high one
 abbrev pub over_span : Quantifier → Outcome → Outcome → (ℤ → Outcome) → Outcome
 over_span kind low high f = and_then low (λ a. and_then high (λ b. and_then (span a b) (λ n. quantified kind n a f)))
 
 -- The value of an expression in an environment, with the environment that `prior` reads and the counters.
 abbrev mutual
+  -- the value of an expression, where `prior` reads the variables just before the block was entered (Randell 1975)
   pub value : Environment → Environment → Counters → Expression → Outcome
   value env prior counters (Literal number) = Ok number.value
   value env prior counters (Variable reference) = read env prior counters env counters reference

@@ -39,6 +39,7 @@ pub record Passes (files : List File) (old : Reading) (now : Option Reading) (bu
   pub within : old.passed + n ≤ length bytes
   pub moved : now ≡ Some (record { name = old.name; passed = old.passed + n })
   pub read : take n buffer ≡ take n (drop old.passed bytes)
+  -- 0 came only at the file's end
   pub end : n ≡ 0 → old.passed ≡ length bytes
 
 -- the same of a shelf that may not tell its files

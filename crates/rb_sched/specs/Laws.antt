@@ -1,4 +1,5 @@
 -- What holds of every schedule.
+-- All of it is this project's own.
 use Rattle.std.specs.Prelude.{◌≡◌, ℕ, ◌<◌, ◌≤◌, List, length, Ok}
 use Rattle.std.specs.List.{AllByRecursion}
 use Rattle.rb_sched.specs.Schedule.{schedule_of}

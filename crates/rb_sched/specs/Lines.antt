@@ -1,4 +1,5 @@
 -- What a line asks for, apart from how many turns came before it.
+-- All of it is this project's own.
 use Rattle.std.specs.Prelude.{ℕ, ◌+◌, ◌==◌, nat_lt, ◌||◌, cond, List, length, Result, Ok, Err}
 use Rattle.rb_base.specs.declared.fault.FaultName.{FaultName}
 use Rattle.rb_base.specs.declared.fault.FaultName.TheVariants.{T3, T4}

@@ -1,4 +1,5 @@
 -- The turns that a line still gives, as rounds over processes that stand side by side.
+-- All of it is this project's own.
 use Rattle.std.specs.Prelude.{◌≡◌, ℕ, zero, suc, ◌-◌, ◌<◌, ◌≤◌, List, [], ◌∷◌, ◌++◌, Option, Some, None}
 use Rattle.rb_sched.specs.Schedule.{numbers_from}
 
@@ -21,5 +22,7 @@ TakesFirst old (Some p) new = old ≡ p ∷ new
 pub record AreRounds (first end at left : ℕ) : Type 0 where
   pub few_processes : end ≤ 64
   pub few_rounds : left ≤ 1000000
+  -- while rounds are left there are processes
   pub some_processes : 0 < left → first < end
+  -- while rounds are left one of the processes is next
   pub within : 0 < left → at < end

@@ -1,4 +1,5 @@
 -- Schedules: a text that lists the turns of a run, and its first fault. The form of the text is this project's own.
+-- So is all else here.
 use Rattle.std.specs.Prelude.{◌≡◌, ℕ, zero, suc, ◌+◌, ◌-◌, ◌*◌, ◌==◌, nat_eq, nat_le, nat_lt, Bool, false, ◌&&◌, ◌||◌, cond, List, [], ◌∷◌, ◌++◌, length, map, position, codes, replicate, Option, Some, None, Result, Ok, Err}
 use Rattle.std.specs.List.{list_all}
 use Rattle.std.specs.Cmp.Lexicographic.{pointwise}
@@ -7,15 +8,19 @@ use Rattle.rb_base.specs.declared.fault.FaultName.{FaultName}
 use Rattle.rb_base.specs.declared.fault.FaultName.TheVariants.{T1, T2, T3, T4}
 use Rattle.rb_base.specs.declared.names.Names.{Names}
 
+-- a space or a tab
 abbrev pub is_space : ℕ → Bool
 is_space b = b == 32 || b == 9
 
+-- a letter, large or small
 abbrev pub is_letter : ℕ → Bool
 is_letter b = (nat_le 65 b && nat_le b 90) || (nat_le 97 b && nat_le b 122)
 
+-- a decimal digit
 abbrev pub is_digit : ℕ → Bool
 is_digit b = nat_le 48 b && nat_le b 57
 
+-- what may stand in a name behind its first letter
 abbrev pub is_name_byte : ℕ → Bool
 is_name_byte b = is_letter b || is_digit b || b == 95
 
@@ -35,14 +40,17 @@ digits_value n [] = n
 digits_value n (d ∷ ds) = digits_value (10 * n + (d - 48)) ds
 
 -- the lines of a text; an LF at its very end begins no further line
+-- First: the bytes behind the last LF are a line, unless there are none.
 abbrev pub end_line : List ℕ → List (List ℕ) → List (List ℕ)
 end_line [] lines = lines
 end_line (b ∷ bs) lines = (b ∷ bs) ∷ lines
 
+-- the lines of a text, where these bytes of the first one were passed already
 abbrev pub lines_from : List ℕ → List ℕ → List (List ℕ)
 lines_from line [] = end_line line []
 lines_from line (b ∷ bs) = cond (b == 10) (line ∷ lines_from [] bs) (lines_from (line ++ b ∷ []) bs)
 
+-- the lines of a whole text
 abbrev pub lines_of : List ℕ → List (List ℕ)
 lines_of text = lines_from [] text
 
@@ -58,14 +66,17 @@ without_comment [] = []
 without_comment (b ∷ bs) = cond (b == 35) [] (b ∷ without_comment bs)
 
 -- the words of a line, which spaces and tabs part
+-- First: the bytes that were passed are a word, unless there are none.
 abbrev pub end_word : List ℕ → List (List ℕ) → List (List ℕ)
 end_word [] words = words
 end_word (b ∷ bs) words = (b ∷ bs) ∷ words
 
+-- the words of a line, where these bytes of the first one were passed already
 abbrev pub words_from : List ℕ → List ℕ → List (List ℕ)
 words_from word [] = end_word word []
 words_from word (b ∷ bs) = cond (is_space b) (end_word word (words_from [] bs)) (words_from (word ++ b ∷ []) bs)
 
+-- the words of a line, apart from its comment and its CR
 abbrev pub words_of : List ℕ → List (List ℕ)
 words_of line = words_from [] (without_comment (without_cr line))
 
@@ -82,6 +93,7 @@ whose names word = cond (pointwise nat_eq (codes "all") word) (Some Everyone) (o
     one_of None = None
     one_of (Some p) = Some (One p)
 
+-- so many numbers in order, from one on
 abbrev pub numbers_from : ℕ → ℕ → List ℕ
 numbers_from at zero = []
 numbers_from at (suc n) = at ∷ numbers_from (at + 1) n
@@ -121,6 +133,7 @@ line_of_words names before (name ∷ count ∷ []) =
     cond (is_name name && is_count count) (counted_line names before (whose names name) (digits_value 0 count)) (Err T1)
 line_of_words names before (name ∷ count ∷ more ∷ words) = Err T1
 
+-- the turns that a line lists, where so many came before it, or its fault with the least number
 abbrev pub line_turns : List (List ℕ) → ℕ → List ℕ → Result (List ℕ) FaultName
 line_turns names before line = line_of_words names before (words_of line)
 

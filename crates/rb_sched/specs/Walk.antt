@@ -1,4 +1,5 @@
 -- A schedule on its walk: the turns that were read off its text, and the text that is left.
+-- All of it is this project's own.
 use Rattle.std.specs.Prelude.{◌≡◌, ℕ, ◌≤◌, List, [], ◌++◌, length, vec_len, Result, Ok, Err}
 use Rattle.std.specs.Result.{IsOk}
 use Rattle.rb_base.specs.declared.fault.TextFault.{TextFault}

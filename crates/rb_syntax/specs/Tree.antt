@@ -14,6 +14,7 @@ pub record Identifier : Type 0 where
   pub id : ℕ
 
 mutual
+  -- an expression; a former value is one that `prior` reads (Randell 1975)
   pub data Expression : Type 0 where
     Literal : (number : Number) → Expression
     Variable : (reference : Reference) → Expression
@@ -27,6 +28,7 @@ mutual
   pub data Reference : Type 0 where
     Refer : (name : Identifier) (subscript : Subscript) → Reference
 
+  -- a variable as a whole, or the index of an element
   pub data Subscript : Type 0 where
     Scalar : Subscript
     Element : (index : Expression) → Subscript
@@ -46,11 +48,13 @@ pub data Printed : Type 0 where
   Words : (text : List ℕ) → Printed
   Amount : (value : Expression) → Printed
 
+-- an item of a `print`, with its place
 pub record PrintItem : Type 0 where
   pub place : Place
   pub what : Printed
 
 mutual
+  -- a statement, of each form that the language has
   pub data Command : Type 0 where
     Assignment : (to : Reference) (value : Expression) → Command
     Printing : (items : List PrintItem) → Command
@@ -71,34 +75,41 @@ mutual
   pub data Body : Type 0 where
     Scope : (variables : List Declaration) (commands : Commands) → Body
 
+  -- what stands under `else`, if there is an `else`
   pub data Otherwise : Type 0 where
     NoElse : Otherwise
     Else : (body : Body) → Otherwise
 
   -- A recovery block, or a member's part of a conversation: its number, its conversation, the place of its word `ensure`,
   -- its acceptance test, its turn bound and its alternates.
+  -- (1974, for conversations Randell 1975)
   pub data RecoveryBlock : Type 0 where
     Recovers : (number : ℕ) (conversation : Option Identifier) (place : Place) (test : Expression) (bound : Number) (alternates : Alternates) → RecoveryBlock
 
+  -- the alternates of a recovery block, in the order in which they are tried (1974)
   pub data Alternates : Type 0 where
     NoAlternate : Alternates
     Alternate : (body : Body) (others : Alternates) → Alternates
 
+-- a channel: its name, its sender, its receiver and its size
 pub record ChannelDeclaration : Type 0 where
   pub name : Identifier
   pub sender : Identifier
   pub receiver : Identifier
   pub size : Number
 
+-- a conversation: its name and its members (Randell 1975)
 pub record ConversationDeclaration : Type 0 where
   pub name : Identifier
   pub members : List Identifier
 
+-- a procedure: its name, its parameters and its block
 pub record ProcedureDeclaration : Type 0 where
   pub name : Identifier
   pub parameters : List Identifier
   pub body : Body
 
+-- a process: its name, its variables, its procedures and its statements
 pub record ProcessDeclaration : Type 0 where
   pub name : Identifier
   pub variables : List Declaration

@@ -1,4 +1,5 @@
 -- What the top call answers, and what it writes.
+-- All of it is this project's own.
 use Rattle.std.specs.Prelude.{◌≡◌, ◌⊎◌, ℕ, ◌+◌, ◌<◌, ◌≤◌, List, [], ◌∷◌, ◌++◌, length, take, codes, decimal, Option, Some, None, Result, Ok, Err}
 use Rattle.rb_base.specs.declared.fault.SourceFault.{SourceFault}
 use Rattle.rb_base.specs.declared.fault.TextFault.{TextFault}
@@ -16,16 +17,20 @@ use Rattle.rb_top.specs.declared.status.Status.{Status}
 use Rattle.rb_top.specs.declared.status.Status.TheVariants.{Done, Refused, Usage, ReadFault, WriteFault, Memory}
 
 -- the line of a refusal
+-- First: the line for a text that is too long.
 abbrev pub too_long_line : List ℕ
 too_long_line = codes "refused L0\n"
 
+-- the line for a fault of the source: its name and its place
 abbrev pub source_line : SourceFault → List ℕ
 source_line fault =
     codes "refused " ++ (fault_word fault.name ++ (codes " at " ++ (decimal fault.place.line ++ (codes ":" ++ (decimal fault.place.column ++ codes "\n")))))
 
+-- the line for a fault of the schedule: its name and the number of the line that has it
 abbrev pub schedule_line : TextFault → List ℕ
 schedule_line fault = codes "refused " ++ (fault_word fault.name ++ (codes " at " ++ (decimal fault.at ++ codes "\n")))
 
+-- the line for words that give no command
 abbrev pub usage_line : List ℕ
 usage_line = codes "usage: rbl run SOURCE SCHEDULE\n"
 
@@ -80,10 +85,12 @@ pub record Does (files : List File) (request : Request) (reading : Option Readin
   pub read : IsRead request.schedule schedule reading
 
 -- where files are told
+-- First: the texts under the request's names are refused with this line.
 abbrev pub RefusesIn : Option (List File) → Request → Option Reading → List ℕ → Type 0
 RefusesIn None request reading line = Unit {0}
 RefusesIn (Some files) request reading line = Refuses files request reading line
 
+-- the texts under the request's names are run, with this text, where files are told
 abbrev pub DoesIn : Option (List File) → Request → Option Reading → List ℕ → Type 0
 DoesIn None request reading text = Unit {0}
 DoesIn (Some files) request reading text = Does files request reading text
@@ -94,6 +101,7 @@ pub data NextMissing (files : List File) (request : Request) : Type 0 where
   no_schedule : (source : List ℕ) (tree : Tree) → bytes_of files request.source ≡ Some source → Accepted source tree →
       bytes_of files request.schedule ≡ None → NextMissing files request
 
+-- the file that is read next is not among the files, where files are told
 abbrev pub NextMissingIn : Option (List File) → Request → Type 0
 NextMissingIn None request = ⊥
 NextMissingIn (Some files) request = NextMissing files request
@@ -133,6 +141,7 @@ WithRequest request old new WriteFault =
     ((text : List ℕ) × (DoesIn old.files request new.reading text ⊎ RefusesIn old.files request new.reading text) × WrotePart old.written new.written text)
 WithRequest request old new Memory = new.written ≡ old.written
 
+-- each answer, whether the words give a command or not
 abbrev pub WhereRequested : Option Request → Scene → Scene → Status → Type 0
 WhereRequested None old new status = WithoutRequest old new status
 WhereRequested (Some request) old new status = WithRequest request old new status
@@ -146,6 +155,7 @@ pub record WasRead (files : List File) (name bytes : List ℕ) (reading : Option
   pub ended : (length bytes ≡ length all) ⊎ (most_bytes < length bytes)
   pub stands : reading ≡ Some (record { name = name; passed = length bytes })
 
+-- so many first bytes of a file were read, where files are told
 abbrev pub WasReadIn : Option (List File) → List ℕ → List ℕ → Option Reading → Type 0
 WasReadIn None name bytes reading = Unit {0}
 WasReadIn (Some files) name bytes reading = WasRead files name bytes reading
@@ -156,6 +166,7 @@ pub record HoldsTree (files : List File) (name : List ℕ) (tree : Tree) : Type 
   pub stored : bytes_of files name ≡ Some source
   pub accepted : Accepted source tree
 
+-- the file of this name holds an accepted source with this tree, where files are told
 abbrev pub HoldsTreeIn : Option (List File) → List ℕ → Tree → Type 0
 HoldsTreeIn None name tree = Unit {0}
 HoldsTreeIn (Some files) name tree = HoldsTree files name tree

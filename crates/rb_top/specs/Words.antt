@@ -1,4 +1,5 @@
 -- The words of a command line, and the command that they give.
+-- All of it is this project's own.
 use Rattle.std.specs.Prelude.{ℕ, nat_eq, Bool, true, false, not, cond, ◌&&◌, List, [], ◌∷◌, codes, Option, Some, None}
 use Rattle.std.specs.Cmp.Lexicographic.{pointwise}
 
@@ -12,6 +13,7 @@ abbrev pub is_plain_word : List ℕ → Bool
 is_plain_word [] = false
 is_plain_word (b ∷ bs) = not (nat_eq b 45)
 
+-- a run, where the first word is `run` and the two after it may name files
 abbrev pub run_request : List ℕ → List ℕ → List ℕ → Option Request
 run_request command source schedule =
     cond (pointwise nat_eq command (codes "run") && (is_plain_word source && is_plain_word schedule))

@@ -1,6 +1,7 @@
 -- What a receiver can see, and how much room a sender has. That a message which recovery may take back is not yet seen
 -- outside, and that a receipt which recovery may undo frees no room, is this project's own; that messages inside a
 -- conversation pass between its members at once is Randell's (1975).
+-- All else is this project's own too.
 use Rattle.std.specs.Prelude.{ℕ, ℤ, ◌+◌, nat_lt, Bool, false, cond, List, [], ◌∷◌, slice_get, Option, Some, None}
 use Rattle.rb_world.specs.Kind.{Ends, Kind}
 use Rattle.rb_world.specs.World.{Level, Process, World, is_shared}
@@ -17,6 +18,7 @@ abbrev pub seen_count : {S C M : Type 0} → Kind S C M → S → Option C → �
 seen_count k s None c = k.sent s c
 seen_count k s (Some copy) c = k.sent_then s copy c
 
+-- message number n of a channel, as it stands in the present or in a recovery point
 abbrev pub seen_message : {S C M : Type 0} → Kind S C M → M → S → Option C → ℕ → ℕ → ℤ
 seen_message k memory s None c n = k.message memory s c n
 seen_message k memory s (Some copy) c n = k.message_then memory s copy c n
@@ -32,10 +34,12 @@ has_room_for k c ends None q = false
 has_room_for k c ends (Some p) None = false
 has_room_for k c ends (Some p) (Some q) = nat_lt (k.sent p.state c) (ends.size + room_from k q.state q.levels c)
 
+-- whether a channel with these ends has room in a world
 abbrev pub has_room_on : {S C M : Type 0} → Kind S C M → World S C M → ℕ → Option Ends → Bool
 has_room_on k w c None = false
 has_room_on k w c (Some ends) = has_room_for k c ends (slice_get w.processes ends.sender) (slice_get w.processes ends.receiver)
 
+-- whether a send on channel number c has room
 abbrev pub has_room : {S C M : Type 0} → Kind S C M → World S C M → ℕ → Bool
 has_room k w c = has_room_on k w c (slice_get k.channels c)
 
@@ -44,12 +48,14 @@ abbrev pub first_message : {S C M : Type 0} → Kind S C M → M → ℕ → S �
 first_message k memory c s copy taken =
     cond (nat_lt taken (seen_count k s copy c)) (Some (seen_message k memory s copy c taken)) None
 
+-- the first message that a receiver sees of a sender and did not take; none where one of the two is missing
 abbrev pub message_between : {S C M : Type 0} → Kind S C M → M → ℕ → Option (Process S C) → Option (Process S C) → Option ℤ
 message_between k memory c None q = None
 message_between k memory c (Some p) None = None
 message_between k memory c (Some p) (Some q) =
     first_message k memory c p.state (seen_copy p.levels q.levels) (k.taken q.state c)
 
+-- the message that is there on a channel with these ends
 abbrev pub message_on : {S C M : Type 0} → Kind S C M → World S C M → ℕ → Option Ends → Option ℤ
 message_on k w c None = None
 message_on k w c (Some ends) =

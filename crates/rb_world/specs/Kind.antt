@@ -1,5 +1,6 @@
 -- A kind of process state: all that the turn of a world asks of one. The tree's meaning, the word machine and the plain
 -- run of a record are kinds; levels, rejections, test lines and channels are the same for each.
+-- All of it is this project's own.
 use Rattle.std.specs.Prelude.{ℕ, ℤ, List, Option}
 use Rattle.rb_base.specs.declared.event.Cause.{Cause}
 

@@ -1,6 +1,7 @@
 -- Three small kinds of process state, on which a clause can state what is proved of every kind: a process does deeds in
 -- their order and prints lines. One kind copies all at an entry; one counts steps in its memory beside that; and one copies
 -- the number of held lines alone, and cuts them when a copy is put back.
+-- All of it is this project's own.
 use Rattle.std.specs.Prelude.{◌≡◌, ℕ, ℤ, ◌+◌, List, [], ◌∷◌, ◌++◌, length, take, Option, Some, None}
 use Rattle.rb_base.specs.declared.event.Cause.TheVariants.{Fail}
 use Rattle.rb_world.specs.Kind.{Facts, Kind, Membership, Want, NothingLeft, Enters, Starts, Acts, Stepped, Trapped, Went, Held}
@@ -9,6 +10,7 @@ use Rattle.rb_world.specs.Turn.{Told, opening, run}
 use Rattle.rb_world.specs.Plain.{Kept, PlainEnd, Ended, StuckAt, plain_run}
 use Rattle.rb_world.specs.Standing.{IsStanding}
 
+-- a deed: to print a line, enter a recovery block, start an alternate, end it, or give up
 pub data Deed : Type 0 where
   Prints : (line : List ℕ) → Deed
   EntersAt : (facts : Facts) → Deed
@@ -26,6 +28,7 @@ pub record Marked : Type 0 where
   pub deeds : List Deed
   pub held : ℕ
 
+-- what stands first, by the first deed that is left
 abbrev pub first_want : List Deed → Want
 first_want [] = NothingLeft
 first_want (Prints line ∷ deeds) = Acts
@@ -39,12 +42,15 @@ abbrev pub entered : List Deed → List Deed
 entered [] = []
 entered (deed ∷ deeds) = Begins ∷ deeds
 
+-- the same process with these deeds left to do
 abbrev pub with_deeds : List Deed → Doing → Doing
 with_deeds deeds s = record { deeds = deeds; lines = s.lines }
 
+-- a line joins the held lines, and these deeds are left to do
 abbrev pub print_line : List ℕ → List Deed → Doing → Doing
 print_line line deeds s = record { deeds = deeds; lines = s.lines ++ line ∷ [] }
 
+-- the first deed is done: an end is an acceptance test that holds, and to give up is a trap
 abbrev pub do_first : {M : Type 0} → List Deed → Doing → M → Stepped Doing M
 do_first [] s m = Went s m
 do_first (Prints line ∷ deeds) s m = Went (print_line line deeds s) m
@@ -53,6 +59,7 @@ do_first (Begins ∷ deeds) s m = Went (with_deeds deeds s) m
 do_first (Ends ∷ deeds) s m = Held (with_deeds deeds s)
 do_first (GivesUp ∷ deeds) s m = Trapped Fail
 
+-- the same process with no line held
 abbrev pub without_lines : Doing → Doing
 without_lines s = record { deeds = s.deeds; lines = [] }
 
@@ -81,12 +88,15 @@ copies_all groups more = record {
 }
 
 -- the lines are not copied
+-- First: what a recovery point keeps, which is what is left to do and how many lines are held.
 abbrev pub marked : Doing → Marked
 marked s = record { deeds = s.deeds; held = length s.lines }
 
+-- such a recovery point is put back: the lines that were held since are cut off
 abbrev pub back_to_mark : Doing → Marked → Doing
 back_to_mark s mark = record { deeds = mark.deeds; lines = take mark.held s.lines }
 
+-- the kind whose recovery points keep the number of held lines alone
 abbrev pub copies_marks : List Membership → Kind Doing Marked (Unit {0})
 copies_marks groups = record {
   channels = [];
@@ -110,9 +120,11 @@ copies_marks groups = record {
   keep = λ t alternate s m. (s, m);
 }
 
+-- the kind whose recovery points are whole copies, and which has no memory
 abbrev pub copies_whole : List Membership → Kind Doing Doing (Unit {0})
 copies_whole groups = copies_all groups (λ m. m)
 
+-- the kind whose recovery points are whole copies, and whose memory counts steps
 abbrev pub counts_steps : List Membership → Kind Doing Doing ℕ
 counts_steps groups = copies_all groups (λ m. m + 1)
 
@@ -129,6 +141,7 @@ abbrev pub told_of_end : {S C M : Type 0} → PlainEnd S C M → Option (List (�
 told_of_end (Ended w lines) = Some lines
 told_of_end (StuckAt t) = None
 
+-- what is told of the plain run of a record from the opening, or nothing where it is stuck
 abbrev pub told_of_record : {S C M : Type 0} → Kind S C M → List Kept → List S → M → Option (List (ℕ × Told))
 told_of_record k turns states m = told_of_end (plain_run k turns (opening k states m))
 
@@ -144,11 +157,13 @@ MarksAreUnseen =
     (groups : List Membership) (turns : List ℕ) (states : List Doing)
     → told_of_run (copies_whole groups) turns states (tt {0}) ≡ told_of_run (copies_marks groups) turns states (tt {0})
 
+-- the plain run of a record tells the same where the number of held lines is copied as where all is
 abbrev pub MarksAreUnseenInRecords : Type 0
 MarksAreUnseenInRecords =
     (groups : List Membership) (turns : List Kept) (states : List Doing)
     → told_of_record (copies_whole groups) turns states (tt {0}) ≡ told_of_record (copies_marks groups) turns states (tt {0})
 
+-- every world of a run with counted steps keeps its size, has no level too many, and none for who has failed
 abbrev pub CountedRunsStand : Type 0
 CountedRunsStand =
     (groups : List Membership) (turns : List ℕ) (states : List Doing) (n : ℕ)

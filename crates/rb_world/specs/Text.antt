@@ -1,4 +1,5 @@
 -- The printed text of a run, of its ending, and of records. The forms of the lines are this project's own.
+-- So is all else here.
 use Rattle.std.specs.Prelude.{ℕ, ℤ, ◌+◌, nat_eq, Bool, true, false, cond, not, List, [], ◌∷◌, ◌++◌, map, filter, take, drop, codes, slice_get, Option, Some, None, decimal}
 use Rattle.std.specs.List.{flat_map}
 use Rattle.std.specs.Option.{unwrap_or}
@@ -16,6 +17,7 @@ pub record VariableNaming : Type 0 where
   pub at : ℕ
   pub size : Option ℕ
 
+-- a process: its name, and the names of its own variables
 pub record ProcessNaming : Type 0 where
   pub name : List ℕ
   pub variables : List VariableNaming
@@ -26,13 +28,16 @@ pub record Naming : Type 0 where
   pub channels : List (List ℕ)
   pub conversations : List (List ℕ)
 
+-- the name of a process, and no bytes where there is none
 abbrev pub process_name : Option ProcessNaming → List ℕ
 process_name None = []
 process_name (Some process) = process.name
 
+-- the name of process number p
 abbrev pub process_word : Naming → ℕ → List ℕ
 process_word names p = process_name (slice_get names.processes p)
 
+-- the name of conversation number c
 abbrev pub conversation_word : Naming → ℕ → List ℕ
 conversation_word names c = unwrap_or (slice_get names.conversations c) []
 
@@ -52,6 +57,7 @@ event_line names t (Error p cause) = line_of (decimal t ∷ codes "error" ∷ pr
 event_line names t (Pass c a) = line_of (decimal t ∷ codes "pass" ∷ conversation_word names c ∷ decimal a ∷ [])
 event_line names t (Done p) = line_of (decimal t ∷ codes "done" ∷ process_word names p ∷ [])
 
+-- an event tells that a process is done
 abbrev pub is_done : Event → Bool
 is_done (Reject p line a cause) = false
 is_done (RejectAll c a p cause) = false
@@ -89,11 +95,13 @@ pub record Final : Type 0 where
   pub sent : List ℕ
   pub taken : List ℕ
 
+-- the words of a status: of a process that still runs, with how many levels are open
 abbrev pub status_words : Status × ℕ → List (List ℕ)
 status_words (Running, levels) = codes "open" ∷ decimal levels ∷ []
 status_words (Finished, levels) = codes "done" ∷ []
 status_words (FailedWith cause, levels) = codes "failed" ∷ []
 
+-- how many words a variable has: one, or the size of an array
 abbrev pub size_of : Option ℕ → ℕ
 size_of None = 1
 size_of (Some n) = n
@@ -103,9 +111,11 @@ abbrev pub variable_line : List ℕ → List ℤ → VariableNaming → List ℕ
 variable_line process words variable =
     line_of ((process ++ 46 ∷ variable.name) ∷ codes "=" ∷ map signed_decimal (take (size_of variable.size) (drop variable.at words)))
 
+-- the lines of all variables of a process, in the order of declaration
 abbrev pub variable_lines : ProcessNaming → List ℤ → List ℕ
 variable_lines process words = flat_map (variable_line process.name words) process.variables
 
+-- the line of a process's name and status
 abbrev pub status_line : ProcessNaming → Status × ℕ → List ℕ
 status_line process status = line_of (process.name ∷ status_words status)
 
@@ -122,6 +132,7 @@ value_lines [] words = []
 value_lines (p ∷ ps) [] = []
 value_lines (p ∷ ps) (ws ∷ wss) = variable_lines p ws ++ value_lines ps wss
 
+-- each channel's line: how many values were sent on it, and taken from it
 abbrev pub channel_lines : List (List ℕ) → List ℕ → List ℕ → List ℕ
 channel_lines [] sent taken = []
 channel_lines (c ∷ cs) [] taken = []
@@ -144,5 +155,6 @@ abbrev pub kept_words : Naming → Kept → List (List ℕ)
 kept_words names kept =
     decimal kept.turn ∷ process_word names kept.process ∷ cond (nat_eq kept.alternate 0) [] (decimal kept.alternate ∷ [])
 
+-- the text of a record, in the order of its turns
 abbrev pub record_text : Naming → List Kept → List ℕ
 record_text names turns = flat_map (λ kept. line_of (kept_words names kept)) turns

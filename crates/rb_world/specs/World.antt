@@ -1,16 +1,20 @@
 -- Worlds: all processes with their open levels, the conversations, and the memory.
+-- Levels with recovery points are from Horning, Lauer, Melliar-Smith, Randell (1974), and conversations from Randell
+-- (1975); all else is this project's own.
 use Rattle.std.specs.Prelude.{ℕ, zero, suc, nat_eq, Bool, false, List, [], ◌∷◌, map, slice_get, Option, Some, None}
 use Rattle.std.specs.List.{list_any}
 use Rattle.rb_base.specs.declared.event.Cause.{Cause}
 use Rattle.rb_world.specs.Kind.{Facts, Kind, Want, NothingLeft, SendsOn, ReceivesOn, MayReceiveOn, Enters, Starts, Acts}
 
 -- an open level: the recovery block, the alternate that is tried, the turns that it used, and the recovery point
+-- (1974)
 pub record Level (C : Type 0) : Type 0 where
   pub facts : Facts
   pub alternate : ℕ
   pub used : ℕ
   pub copy : C
 
+-- whether a process still runs, is done, or has failed, and then with which cause
 pub data Status : Type 0 where
   Running : Status
   Finished : Status
@@ -28,6 +32,7 @@ pub record Talk : Type 0 where
   pub alternate : ℕ
   pub is_broken : Bool
 
+-- a world: all processes, all conversations, and the memory that no recovery point holds
 pub record World (S C M : Type 0) : Type 0 where
   pub processes : List (Process S C)
   pub talks : List Talk
@@ -45,6 +50,7 @@ last_of [] = None
 last_of (x ∷ []) = Some x
 last_of (x ∷ y ∷ ys) = last_of (y ∷ ys)
 
+-- a list without its last element
 abbrev pub without_last : {A : Type 0} → List A → List A
 without_last [] = []
 without_last (x ∷ []) = []
@@ -69,13 +75,16 @@ abbrev pub is_inside : {S C : Type 0} → ℕ → Process S C → Bool
 is_inside c q = list_any (is_of c) q.levels
 
 -- a process, a level of it, and a conversation by their numbers
+-- First: the levels of a process, and none where there is no process.
 abbrev pub levels_of : {S C : Type 0} → Option (Process S C) → List (Level C)
 levels_of None = []
 levels_of (Some q) = q.levels
 
+-- the open levels of process number p, from the outside in
 abbrev pub process_levels : {S C M : Type 0} → World S C M → ℕ → List (Level C)
 process_levels w p = levels_of (slice_get w.processes p)
 
+-- conversation number c, if there is one
 abbrev pub talk_at : {S C M : Type 0} → World S C M → ℕ → Option Talk
 talk_at w c = slice_get w.talks c
 
@@ -83,12 +92,15 @@ talk_at w c = slice_get w.talks c
 abbrev pub with_process : {S C M : Type 0} → ℕ → (Process S C → Process S C) → World S C M → World S C M
 with_process p f w = record { processes = change_at p f w.processes; talks = w.talks; memory = w.memory }
 
+-- the world with every process changed
 abbrev pub with_each : {S C M : Type 0} → (Process S C → Process S C) → World S C M → World S C M
 with_each f w = record { processes = map f w.processes; talks = w.talks; memory = w.memory }
 
+-- the world with its conversations changed
 abbrev pub with_talks : {S C M : Type 0} → (List Talk → List Talk) → World S C M → World S C M
 with_talks f w = record { processes = w.processes; talks = f w.talks; memory = w.memory }
 
+-- the world with another memory
 abbrev pub with_memory : {S C M : Type 0} → M → World S C M → World S C M
 with_memory m w = record { processes = w.processes; talks = w.talks; memory = m }
 
