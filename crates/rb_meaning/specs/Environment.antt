@@ -102,8 +102,7 @@ store env x i v =
     (record { globals = env.globals; calls = in_running (stored_among x i v) env.calls })
     (record { globals = stored_in x i v env.globals; calls = env.calls })
 
--- the words of an environment: how many numbers it holds
--- First: how many numbers a frame holds.
+-- how many numbers a frame holds.
 abbrev pub frame_words : Frame → ℕ
 frame_words frame = sum_by (λ stored. length stored.values) frame
 
@@ -115,8 +114,7 @@ frames_words frames = sum_by frame_words frames
 abbrev pub words : Environment → ℕ
 words env = frame_words env.globals + sum_by frames_words env.calls
 
--- frames and calls come and go
--- First: a block begins, and its frame is the innermost of the running call.
+-- a block begins, and its frame is the innermost of the running call.
 abbrev pub push_frame : Frame → Environment → Environment
 push_frame frame env = record { globals = env.globals; calls = in_running (λ frames. frame ∷ frames) env.calls }
 

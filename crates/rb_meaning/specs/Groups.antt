@@ -7,8 +7,7 @@ use Rattle.rb_syntax.specs.Tree.{Identifier, Command, Assignment, Printing, Send
 use Rattle.rb_world.specs.Kind.{Ends, Membership, Facts}
 use Rattle.rb_meaning.specs.Environment.{same_name, natural, or_else}
 
--- the number of the first that is declared by a name; in an accepted program there is one
--- First: a number, and 0 where there is none.
+-- a number, and 0 where there is none.
 abbrev pub number_or_zero : Option ℕ → ℕ
 number_or_zero n = unwrap_or n 0
 
@@ -118,8 +117,7 @@ membership_of tree conversation = record {
 abbrev pub groups_of : Tree → List Membership
 groups_of tree = map (membership_of tree) tree.conversations
 
--- what is known of a recovery block at its entry
--- First: how many alternates it has.
+-- how many alternates it has.
 abbrev pub count_alternates : Alternates → ℕ
 count_alternates NoAlternate = 0
 count_alternates (Alternate body others) = count_alternates others + 1

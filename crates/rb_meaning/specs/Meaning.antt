@@ -34,8 +34,7 @@ environment_of copy = option_map (λ s. s.environment) copy
 abbrev pub keep : ℕ → ℕ → State → Nothing → State × Nothing
 keep t alternate s memory = (with_kept (s.kept ++ (t, alternate) ∷ []) s, memory)
 
--- the kind of state that trees have: copies are whole states
--- (1974)
+-- the kind of state that trees have: copies are whole states (1974)
 abbrev pub tree_kind : Tree → Kind State State Nothing
 tree_kind tree = record {
   channels = channels_of tree;
@@ -88,8 +87,7 @@ opening_world tree = opening (tree_kind tree) (opening_states tree 0 tree.proces
 abbrev pub run_of : Tree → List ℕ → TreeWorld × List Told
 run_of tree turns = run (tree_kind tree) 1 turns (opening_world tree)
 
--- the names of a program's lines
--- First: the names of variables, each with its first word and its size.
+-- the names of variables, each with its first word and its size.
 abbrev pub variables_named : ℕ → List Declaration → List VariableNaming
 variables_named at [] = []
 variables_named at (v ∷ vs) =
@@ -107,8 +105,7 @@ naming_of tree = record {
   conversations = map (λ c. c.name.text) tree.conversations;
 }
 
--- how a world ends
--- First: a process's status, and how many levels it has open.
+-- a process's status, and how many levels it has open.
 abbrev pub standing : {S C : Type 0} → Process S C → Status × ℕ
 standing q = (q.status, length q.levels)
 

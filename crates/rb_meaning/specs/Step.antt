@@ -58,8 +58,7 @@ assigned s to e =
     and_then (place_in s.environment to) (λ place.
     and_then (present_value s.environment e) (λ v. Ok (with_environment (put_at s.environment v place) s)))
 
--- a line: its items, with one blank between them
--- First: the bytes of an item, which are its text, or its value in decimal.
+-- the bytes of an item, which are its text, or its value in decimal.
 abbrev pub printed : Environment → Printed → Result (List ℕ) Cause
 printed env (Words text) = Ok text
 printed env (Amount e) = and_then (present_value env e) (λ v. Ok (signed_decimal v))
@@ -100,8 +99,7 @@ takes s channel to v =
     and_then (place_in s.environment to) (λ place.
     Ok (with_taken (change_at channel (λ n. n + 1) s.taken) (with_environment (put_at s.environment v place) s)))
 
--- the block's frame is pushed, and its statements and its end come first; too many words are a trap
--- First: the process goes on in this environment, unless it has too many words.
+-- the process goes on in this environment, unless it has too many words.
 abbrev pub within_words : ℕ → Environment → State → Result State Cause
 within_words edition env s = cond (nat_lt (most_words edition) (words env)) (Err Stack) (Ok (with_environment env s))
 
@@ -124,8 +122,7 @@ abbrev pub repeats : ℕ → Expression → Body → List Item → State → ℤ
 repeats edition test body rest s v =
     cond (is_zero v) (Ok (continue_with rest s)) (pushes edition body (Perform (Loop test body) ∷ rest) s)
 
--- a call: its arguments from left to right, then the check of open calls, then the new frame
--- First: the values of a call's arguments, from left to right, or the first trap.
+-- the values of a call's arguments, from left to right, or the first trap.
 abbrev pub values_in : Environment → List Expression → Result (List ℤ) Cause
 values_in env [] = Ok []
 values_in env (e ∷ es) = and_then (present_value env e) (λ v. and_then (values_in env es) (λ vs. Ok (v ∷ vs)))
@@ -181,8 +178,7 @@ performs tree message s rest (Invocation procedure arguments) = invokes tree pro
 performs tree message s rest Failure = Err Fail
 performs tree message s rest (Recovering block) = Ok (continue_with rest s)
 
--- the start of an alternate: its frame, its statements, its end, and then the acceptance test
--- First: the block of alternate number n, counted from 1, if there is such an alternate.
+-- the block of alternate number n, counted from 1, if there is such an alternate.
 abbrev pub alternate_number : ℕ → Alternates → Option Body
 alternate_number n NoAlternate = None
 alternate_number zero (Alternate body others) = None
@@ -202,8 +198,7 @@ abbrev pub starts_body : ℕ → RecoveryBlock → List Item → State → Optio
 starts_body edition block rest s None = Err Fail
 starts_body edition block rest s (Some body) = pushes edition body (TestOf block ∷ rest) s
 
--- an acceptance test, which reads former values of the innermost recovery point
--- First: a test that is 0 is the trap `test`, and any other holds (1974).
+-- a test that is 0 is the trap `test`, and any other holds (1974).
 abbrev pub judged : List Item → State → Outcome → Result_of_step
 judged rest s (Err cause) = Trapped cause
 judged rest s (Ok v) = cond (is_zero v) (Trapped Test) (Held (continue_with rest s))
@@ -228,8 +223,7 @@ step_items tree alternate prior s message (EndCall ∷ rest) = Went s tt
 abbrev pub step : Tree → ℕ → Option Environment → State → Option ℤ → Result_of_step
 step tree alternate prior s message = step_items tree alternate prior s message s.items
 
--- what stands first
--- First: a receipt, which may find nothing if it has an `else`.
+-- a receipt, which may find nothing if it has an `else`.
 abbrev pub wants_receipt : ℕ → Otherwise → Want
 wants_receipt channel NoElse = ReceivesOn channel
 wants_receipt channel (Else body) = MayReceiveOn channel

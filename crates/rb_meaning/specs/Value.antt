@@ -121,8 +121,7 @@ span a b =
     cond (int_lt b a) (Ok 0)
     (cond (int_lt (pos 1023) (b -ℤ a)) (Err Range) (Ok (natural (b -ℤ a) + 1)))
 
--- so many numbers from a on: all of them hold, some holds, or their sum
--- First: 1 if all of them hold, else 0; the first that does not hold decides.
+-- 1 if all of them hold, else 0; the first that does not hold decides.
 abbrev pub every_from : ℕ → ℤ → (ℤ → Outcome) → Outcome
 every_from zero a f = Ok (pos 1)
 every_from (suc n) a f = and_then (f a) (λ v. cond (is_zero v) (Ok (pos 0)) (every_from n (a +ℤ pos 1) f))

@@ -39,8 +39,7 @@ abbrev pub digits_value : ℕ → List ℕ → ℕ
 digits_value n [] = n
 digits_value n (d ∷ ds) = digits_value (10 * n + (d - 48)) ds
 
--- the lines of a text; an LF at its very end begins no further line
--- First: the bytes behind the last LF are a line, unless there are none.
+-- the bytes behind the last LF are a line, unless there are none.
 abbrev pub end_line : List ℕ → List (List ℕ) → List (List ℕ)
 end_line [] lines = lines
 end_line (b ∷ bs) lines = (b ∷ bs) ∷ lines
@@ -65,8 +64,7 @@ abbrev pub without_comment : List ℕ → List ℕ
 without_comment [] = []
 without_comment (b ∷ bs) = cond (b == 35) [] (b ∷ without_comment bs)
 
--- the words of a line, which spaces and tabs part
--- First: the bytes that were passed are a word, unless there are none.
+-- the bytes that were passed are a word, unless there are none.
 abbrev pub end_word : List ℕ → List (List ℕ) → List (List ℕ)
 end_word [] words = words
 end_word (b ∷ bs) words = (b ∷ bs) ∷ words

@@ -16,8 +16,7 @@ use Rattle.rb_top.specs.Words.{Request}
 use Rattle.rb_top.specs.declared.status.Status.{Status}
 use Rattle.rb_top.specs.declared.status.Status.TheVariants.{Done, Refused, Usage, ReadFault, WriteFault, Memory}
 
--- the line of a refusal
--- First: the line for a text that is too long.
+-- the line for a text that is too long.
 abbrev pub too_long_line : List ℕ
 too_long_line = codes "refused L0\n"
 
@@ -84,8 +83,7 @@ pub record Does (files : List File) (request : Request) (reading : Option Readin
   pub ran : Runs source schedule text
   pub read : IsRead request.schedule schedule reading
 
--- where files are told
--- First: the texts under the request's names are refused with this line.
+-- the texts under the request's names are refused with this line.
 abbrev pub RefusesIn : Option (List File) → Request → Option Reading → List ℕ → Type 0
 RefusesIn None request reading line = Unit {0}
 RefusesIn (Some files) request reading line = Refuses files request reading line

@@ -12,8 +12,7 @@ pub record Kept : Type 0 where
   pub process : ℕ
   pub alternate : ℕ
 
--- where nothing is said the plain run is stuck
--- First: what is said where a condition holds, and nothing is said elsewhere.
+-- what is said where a condition holds, and nothing is said elsewhere.
 abbrev pub when : {A : Type 0} → Bool → Option A → Option A
 when true a = a
 when false a = None
@@ -40,8 +39,7 @@ plain_receives k kept q w (Some v) = plain_steps k kept (Some v) q w
 abbrev pub no_alternate : Kept → Bool
 no_alternate kept = nat_eq kept.alternate 0
 
--- a start has an alternate that its block has
--- First: how many alternates the block of a level has, and none without a level.
+-- how many alternates the block of a level has, and none without a level.
 abbrev pub alternates_of : {C : Type 0} → Option (Level C) → ℕ
 alternates_of None = 0
 alternates_of (Some level) = level.facts.alternates
@@ -101,8 +99,7 @@ abbrev pub plain_run : {S C M : Type 0} → Kind S C M → List Kept → World S
 plain_run k [] w = Ended w []
 plain_run k (kept ∷ record') w = plain_on kept.turn (plain_turn k kept w) (plain_run k record')
 
--- Survivors: the kept turns of all processes, in the order of their numbers.
--- First: a kept turn takes its place among others, by its number.
+-- a kept turn takes its place among others, by its number.
 abbrev pub insert_kept : Kept → List Kept → List Kept
 insert_kept one [] = one ∷ []
 insert_kept one (other ∷ others) =

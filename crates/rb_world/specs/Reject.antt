@@ -18,8 +18,7 @@ use Rattle.rb_world.specs.World.{Level, FailedWith, Process, Talk, World, change
 abbrev pub fallen : {S C M : Type 0} → Kind S C M → Cause → Process S C → Process S C
 fallen k cause q = record { state = k.cut 0 q.state; levels = []; at_line = false; status = FailedWith cause }
 
--- the recovery point of a level is put back, and all levels inside it go
--- (1974)
+-- the recovery point of a level is put back, and all levels inside it go (1974)
 abbrev pub back_to : {S C M : Type 0} → Kind S C M → ℕ → Process S C → Option (Level C) → Process S C
 back_to k j q None = q
 back_to k j q (Some level) = record {
@@ -33,8 +32,7 @@ back_to k j q (Some level) = record {
 abbrev pub put_back : {S C M : Type 0} → Kind S C M → ℕ → Process S C → Process S C
 put_back k j q = back_to k j q (slice_get q.levels j)
 
--- the next alternate of a level, with no turns used
--- (1974)
+-- the next alternate of a level, with no turns used (1974)
 abbrev pub next_alternate : {C : Type 0} → Level C → Level C
 next_alternate level = record { facts = level.facts; alternate = level.alternate + 1; used = 0; copy = level.copy }
 
@@ -51,8 +49,7 @@ at_place f (Some j) q = f j q
 abbrev pub where_inside : {S C : Type 0} → (ℕ → Process S C → Process S C) → ℕ → Process S C → Process S C
 where_inside f c q = at_place f (position (is_of c) q.levels) q
 
--- whether a conversation lies below another, by so many parents at most
--- First: the conversation right around one, if there is one (Randell 1975).
+-- the conversation right around one, if there is one (Randell 1975).
 abbrev pub parent_of : Option Membership → Option ℕ
 parent_of None = None
 parent_of (Some group) = group.parent
@@ -67,8 +64,7 @@ abbrev pub is_below : List Membership → ℕ → ℕ → ℕ → Bool
 is_below groups zero c d = false
 is_below groups (suc n) c d = is_under (is_below groups n c) c (parent_of (slice_get groups d))
 
--- every conversation below one returns to alternate 1
--- First: a conversation returns to alternate 1.
+-- a conversation returns to alternate 1.
 abbrev pub first_again : Talk → Talk
 first_again talk = record { alternate = 1; is_broken = talk.is_broken }
 
@@ -97,8 +93,7 @@ Happened S C M = World S C M × List Event
 abbrev pub after_event : {S C M : Type 0} → Event → Happened S C M → Happened S C M
 after_event event (w, events) = (w, event ∷ events)
 
--- An `ensure` was put back: the next alternate, or the level around it.
--- (1974)
+-- An `ensure` was put back: the next alternate, or the level around it. (1974)
 abbrev pub private_next : {S C M : Type 0} → Bool → ℕ → ℕ → World S C M → (World S C M → Happened S C M) → Happened S C M
 private_next true p j w outer = (with_process p (raised j) w, [])
 private_next false p j w outer = outer w
@@ -109,8 +104,7 @@ reject_private k p j cause level w outer =
     after_event (Reject p level.facts.line level.alternate cause)
     (private_next (nat_lt level.alternate level.facts.alternates) p j (with_process p (put_back k j) w) outer)
 
--- all that are inside a conversation go back to its recovery line
--- (Randell 1975)
+-- all that are inside a conversation go back to its recovery line (Randell 1975)
 abbrev pub all_back : {S C M : Type 0} → Kind S C M → ℕ → World S C M → World S C M
 all_back k c w = with_talks (reset_below k.groups c) (with_each (where_inside (put_back k) c) w)
 
@@ -145,8 +139,7 @@ reject_at k p j cause None w outer = (w, [])
 reject_at k p j cause (Some level) w outer = reject_either k p j cause level level.facts.conversation w outer
 
 -- Rejects the innermost of the first n levels of p, from the outside in. A block without an alternate left fails, and
--- `inner` rejects the next level out; with no level, p has failed.
--- (1974)
+-- `inner` rejects the next level out; with no level, p has failed. (1974)
 abbrev pub reject : {S C M : Type 0} → Kind S C M → ℕ → ℕ → Cause → World S C M → Happened S C M
 reject k p zero cause w = (with_process p (fallen k cause) w, [])
 reject k p (suc j) cause w =

@@ -87,8 +87,7 @@ copies_all groups more = record {
   keep = λ t alternate s m. (s, m);
 }
 
--- the lines are not copied
--- First: what a recovery point keeps, which is what is left to do and how many lines are held.
+-- what a recovery point keeps, which is what is left to do and how many lines are held.
 abbrev pub marked : Doing → Marked
 marked s = record { deeds = s.deeds; held = length s.lines }
 

@@ -51,8 +51,7 @@ most_levels = 32
 abbrev pub trapped : {S C M : Type 0} → Kind S C M → ℕ → Cause → World S C M → Moved S C M
 trapped k p cause w = undone (reject k p (length (process_levels w p)) cause w)
 
--- Entry. The level's recovery point has the start of the alternate next, and the entry turn among its kept turns.
--- (1974)
+-- Entry. The level's recovery point has the start of the alternate next, and the entry turn among its kept turns. (1974)
 abbrev pub new_level : {S C M : Type 0} → Kind S C M → Facts → ℕ → S → Level C
 new_level k facts alternate s = record { facts = facts; alternate = alternate; used = 0; copy = k.copy s }
 
@@ -85,8 +84,7 @@ enters k t p facts q w =
 abbrev pub moved_to : {S C M : Type 0} → Kind S C M → ℕ → List (Level C) → World S C M → S × M → World S C M
 moved_to k p levels w (s, m) = with_memory m (with_process p (λ _. settled k s levels) w)
 
--- whether a process stands at the test line of a conversation
--- First: the innermost level is one of this conversation.
+-- the innermost level is one of this conversation.
 abbrev pub is_last_of : {C : Type 0} → ℕ → Option (Level C) → Bool
 is_last_of c None = false
 is_last_of c (Some level) = is_of c level
@@ -109,8 +107,7 @@ members_of (Some group) = group.members
 abbrev pub all_stand : {S C M : Type 0} → Kind S C M → ℕ → World S C M → Bool
 all_stand k c w = list_all (λ m. stands_there c (slice_get w.processes m)) (members_of (slice_get k.groups c))
 
--- all members leave together: their levels go, and the conversation's alternate is 1 again
--- First: a member at the test line leaves, and goes on without its level.
+-- a member at the test line leaves, and goes on without its level.
 abbrev pub leaves : {S C M : Type 0} → Kind S C M → ℕ → Process S C → Process S C
 leaves k c q = cond (stands_at c q) (settled k (k.accept q.state) (without_last q.levels)) q
 
@@ -180,8 +177,7 @@ acts k t p q w (Enters facts) = enters k t p facts q w
 acts k t p q w Starts = steps k t p (tried_at (last_of q.levels)) None q w
 acts k t p q w Acts = steps k t p 0 None q w
 
--- one turn more is used at each level; the outermost level beyond its bound is rejected, and that is the whole turn
--- First: a level has used one turn more.
+-- a level has used one turn more.
 abbrev pub one_used : {C : Type 0} → Level C → Level C
 one_used level = record { facts = level.facts; alternate = level.alternate; used = level.used + 1; copy = level.copy }
 
@@ -217,8 +213,7 @@ moves k t p w (Some q) = by_status k t p q w q.status
 abbrev pub move : {S C M : Type 0} → Kind S C M → ℕ → ℕ → World S C M → Moved S C M
 move k t p w = moves k t p w (slice_get w.processes p)
 
--- Release: the held lines of each process without a level are printed, and are gone.
--- First: what a process prints, which is all that it holds if it has no level.
+-- what a process prints, which is all that it holds if it has no level.
 abbrev pub lines_freed : {S C M : Type 0} → Kind S C M → S → List (Level C) → List (List ℕ)
 lines_freed k s [] = k.held s
 lines_freed k s (l ∷ ls) = []
@@ -236,8 +231,7 @@ freed k q = record { state = state_freed k q.state q.levels; levels = q.levels; 
 abbrev pub freed_lines : {S C M : Type 0} → Kind S C M → World S C M → List (List (List ℕ))
 freed_lines k w = map (λ q. lines_freed k q.state q.levels) w.processes
 
--- who has failed in this turn, and who is done, in the order of the processes
--- First: a process that ran before the turn and has failed after it is told as an error.
+-- a process that ran before the turn and has failed after it is told as an error.
 abbrev pub error_at : ℕ → Status → Status → List Event
 error_at p Running (FailedWith cause) = Error p cause ∷ []
 error_at p Running Running = []
@@ -283,8 +277,7 @@ finishes k before moved = (with_each (freed k) moved.world, told k before moved)
 abbrev pub turn : {S C M : Type 0} → Kind S C M → ℕ → ℕ → World S C M → World S C M × Told
 turn k t p w = finishes k w (move k t p w)
 
--- The opening world: every process settled, with no level, every conversation at alternate 1.
--- First: at the opening every conversation is at alternate 1, and none is broken.
+-- at the opening every conversation is at alternate 1, and none is broken.
 abbrev pub opening_talks : List Membership → List Talk
 opening_talks groups = map (λ _. record { alternate = 1; is_broken = false }) groups
 
@@ -301,8 +294,7 @@ finished_at p (q ∷ qs) = done_at p Running q.status ++ finished_at (p + 1) qs
 abbrev pub told_at_opening : {S C M : Type 0} → World S C M → Told
 told_at_opening w = record { kind = Took; events = finished_at 0 w.processes; released = [] }
 
--- A run: turns numbered from t on, with what each came to.
--- First: what is told of a turn comes before what is told of the turns after it.
+-- what is told of a turn comes before what is told of the turns after it.
 abbrev pub told_first : {S C M : Type 0} → Told → World S C M × List Told → World S C M × List Told
 told_first one (w, all) = (w, one ∷ all)
 

@@ -6,8 +6,7 @@ use Rattle.std.specs.List.{list_any}
 use Rattle.rb_base.specs.declared.event.Cause.{Cause}
 use Rattle.rb_world.specs.Kind.{Facts, Kind, Want, NothingLeft, SendsOn, ReceivesOn, MayReceiveOn, Enters, Starts, Acts}
 
--- an open level: the recovery block, the alternate that is tried, the turns that it used, and the recovery point
--- (1974)
+-- an open level: the recovery block, the alternate that is tried, the turns that it used, and the recovery point (1974)
 pub record Level (C : Type 0) : Type 0 where
   pub facts : Facts
   pub alternate : ℕ
@@ -74,8 +73,7 @@ is_of c level = is_number level.facts.conversation c
 abbrev pub is_inside : {S C : Type 0} → ℕ → Process S C → Bool
 is_inside c q = list_any (is_of c) q.levels
 
--- a process, a level of it, and a conversation by their numbers
--- First: the levels of a process, and none where there is no process.
+-- the levels of a process, and none where there is no process.
 abbrev pub levels_of : {S C : Type 0} → Option (Process S C) → List (Level C)
 levels_of None = []
 levels_of (Some q) = q.levels
