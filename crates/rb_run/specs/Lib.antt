@@ -1,1 +1,4 @@
 pub mod Ran
+pub mod Alone
+pub mod Line
+pub mod Written
