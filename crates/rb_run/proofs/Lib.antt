@@ -5,3 +5,4 @@ pub mod OneTurn
 pub mod Endings
 pub mod OneRun
 pub mod Completes
+pub mod NamesMade

@@ -3,6 +3,7 @@
 
 pub mod engine;
 pub mod naming;
+mod scoped;
 
 pub use engine::{run, Ended};
 pub use naming::names;
