@@ -1,14 +1,14 @@
 -- The line that is made item by item is the definition's line, if that is within the limit.
-use Rattle.std.proofs.Common.{◌≡◌, ℕ, ◌+◌, ◌<◌, ◌≤◌, Bool, true, false, cond, nat_lt, List, [], ◌∷◌, ◌++◌, length, Option, Some, None, Result, Ok, Err, refl, sym, ap, ◌∙◌, arith, length-append, append_assoc}
+use Rattle.std.proofs.Common.{◌≡◌, ℕ, ◌+◌, ◌<◌, ◌≤◌, Bool, true, false, cond, nat_lt, List, [], ◌∷◌, ◌++◌, length, Option, Some, None, is_some, Result, Ok, Err, refl, sym, ap, ◌∙◌, arith, length-append, append_assoc}
 use Rattle.std.proofs.lemmas.List.{append-nil}
 use Rattle.std.proofs.lemmas.Bool.Decides.{nat_tests}
 use Rattle.rb_base.specs.declared.event.Cause.{Cause}
 use Rattle.rb_base.specs.declared.event.Cause.TheVariants.{Hold}
-use Rattle.rb_syntax.specs.Tree.{PrintItem}
+use Rattle.rb_syntax.specs.Tree.{PrintItem, Printing}
 use Rattle.rb_meaning.specs.Environment.{Environment}
 use Rattle.rb_meaning.specs.Value.{and_then}
 use Rattle.rb_meaning.specs.Step.{most_held, printed, after_blank, line_from}
-use Rattle.rb_run.specs.Alone.{Change, released}
+use Rattle.rb_run.specs.Alone.{Change, released, effect}
 use Rattle.rb_run.specs.Line.{fitting_line, added, item_added, before_item, items_added}
 
 -- a line that is too long stays so
@@ -67,3 +67,24 @@ released-line env (Err cause) = refl
 pub released-items_added : (env : Environment) (items : List PrintItem) → and_then (line_from env true items) (released env) ≡ and_then (items_added env true (Some []) items) (line_change env)
 released-items_added env items =
     released-line env (line_from env true items) ∙ ap (λ line. and_then line (line_change env)) (sym (items_added-line_from env true [] items))
+
+-- what a `print` comes to, from the line that was begun and filled
+pub print-trapped : (env : Environment) (items : List PrintItem) (begun : Option (List ℕ)) (cause : Cause) → begun ≡ Some [] → items_added env true begun items ≡ Err cause → effect env (Printing items) ≡ Err cause
+print-trapped env items begun cause empty made =
+    released-items_added env items ∙ ap (λ line. and_then (items_added env true line items) (line_change env)) (sym empty) ∙ ap (λ line. and_then line (line_change env)) made
+
+line_change-there : (env : Environment) (line : Option (List ℕ)) → is_some line ≡ true → line_change env line ≡ Ok (env, line)
+line_change-there env None there = absurd (cc)
+line_change-there env (Some text) there = refl
+
+line_change-gone : (env : Environment) (line : Option (List ℕ)) → is_some line ≡ false → line_change env line ≡ Err Hold
+line_change-gone env None gone = refl
+line_change-gone env (Some text) gone = absurd (cc)
+
+pub print-done : (env : Environment) (items : List PrintItem) (begun line : Option (List ℕ)) → begun ≡ Some [] → items_added env true begun items ≡ Ok line → is_some line ≡ true → effect env (Printing items) ≡ Ok (env, line)
+print-done env items begun line empty made there =
+    released-items_added env items ∙ ap (λ l. and_then (items_added env true l items) (line_change env)) (sym empty) ∙ ap (λ l. and_then l (line_change env)) made ∙ line_change-there env line there
+
+pub print-long : (env : Environment) (items : List PrintItem) (begun line : Option (List ℕ)) → begun ≡ Some [] → items_added env true begun items ≡ Ok line → is_some line ≡ false → effect env (Printing items) ≡ Err Hold
+print-long env items begun line empty made gone =
+    released-items_added env items ∙ ap (λ l. and_then (items_added env true l items) (line_change env)) (sym empty) ∙ ap (λ l. and_then l (line_change env)) made ∙ line_change-gone env line gone

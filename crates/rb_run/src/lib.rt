@@ -2,7 +2,9 @@
 #![tactic(auto)]
 
 pub mod engine;
+mod line;
 pub mod naming;
+mod perform;
 mod scoped;
 
 pub use engine::{run, Ended};
