@@ -1,5 +1,5 @@
 -- How a run of one process ends, by its variables as they lie in memory, one after another.
-use Rattle.std.proofs.Common.{◌≡◌, ℕ, zero, suc, ℤ, ◌+◌, ◌≤◌, List, [], ◌∷◌, ◌++◌, length, map, take, drop, replicate, codes, decimal, Option, Some, None, refl, sym, ap, subst, ◌∙◌, append_assoc, length-append}
+use Rattle.std.proofs.Common.{◌≡◌, ℕ, zero, suc, ℤ, ◌+◌, ◌≤◌, List, [], ◌∷◌, ◌++◌, length, map, take, drop, replicate, codes, decimal, Option, Some, None, refl, sym, ap, ◌∙◌, arith, append_assoc, length-append}
 use Rattle.std.specs.List.{flat_map, slice_get}
 use Rattle.std.specs.Option.{option_map, unwrap_or}
 use Rattle.std.specs.Fmt.{digits, signed_decimal}
@@ -145,3 +145,9 @@ end_text-lone tree process turns items env kept status only shaped =
         ∙ ap (λ words. line_of (name ∷ words) ++ (shown ++ used)) (status_words-standing status)
         ∙ ap (λ (rest : List ℕ). state_line name (standing_of status) ++ rest)
             (ap (λ (variables : List ℕ). variables ++ used) lines ∙ ap (λ (rest : List ℕ). stored_lines name env.globals ++ rest) channels))
+
+-- past the last variable there is none
+pub length-past : {A : Type 0} (xs : List A) (i : ℕ) → None ≡ slice_get xs i → length xs ≤ i
+length-past [] i e = omega arith
+length-past (x ∷ xs) zero e = absurd (cc)
+length-past (x ∷ xs) (suc i) e = omega (arith, length-past xs i e)

@@ -14,7 +14,7 @@ use Rattle.rb_base.specs.declared.event.State.{State as Standing}
 use Rattle.rb_meaning.specs.Environment.{Environment, frame_of}
 use Rattle.rb_meaning.specs.State.{Item, Perform, performed}
 use Rattle.rb_meaning.specs.Meaning.{TreeWorld, tree_kind, opening_states, opening_world, process_named, naming_of, final_of, text_of, run_of, run_text}
-use Rattle.rb_run.specs.Alone.{Change, Alone, Goes, Fell, effect, variables_of, state_of, after_effect, after_all}
+use Rattle.rb_run.specs.Alone.{Change, Alone, Goes, Fell, effect, variables_of, opening_alone, state_of, after_effect, after_all}
 use Rattle.rb_run.specs.Written.{out_text, done_text, effect_text, turns_text, ending_text, text_alone}
 use Rattle.rb_run.proofs.ScopedFacts.{first_holds, second_holds, scoped_facts, is_scoped-only}
 use Rattle.rb_run.proofs.Shapes.{shape_of, declared_shape, shape_of-frame_of, KeepsShape, effect-keeps}
@@ -119,10 +119,6 @@ told_at_opening-lone tree names (Then first rest) env = refl
 
 text_of-parts : (tree : Tree) (turns : ℕ) (all : TreeWorld × List Told) → text_of tree turns all ≡ told_text (naming_of tree) 0 (told_at_opening (opening_world tree)) ++ rest_text tree 1 turns all
 text_of-parts tree turns (w, all) = refl
-
--- the process as it begins
-abbrev pub opening_alone : ProcessDeclaration → Alone
-opening_alone process = Goes process.commands (record { globals = frame_of process.variables; calls = [] ∷ [] })
 
 pub run_text-alone : (tree : Tree) (process : ProcessDeclaration) (turns : List ℕ) → tree.processes ≡ process ∷ [] → is_scoped tree ≡ true → AllByRecursion (λ p. p < 1) turns →
     run_text tree turns ≡ text_alone (naming_of tree) turns (opening_alone process)

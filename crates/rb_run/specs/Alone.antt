@@ -5,8 +5,8 @@ use Rattle.rb_base.specs.declared.event.Cause.{Cause}
 use Rattle.rb_base.specs.declared.event.Cause.TheVariants.{Fail, Hold}
 use Rattle.rb_base.specs.declared.event.State.{State}
 use Rattle.rb_base.specs.declared.event.State.TheVariants.{Done, Failed, Running}
-use Rattle.rb_syntax.specs.Tree.{Command, Assignment, Printing, Sending, Receiving, Conditional, Loop, Invocation, Failure, Recovering, Commands, NoCommand, Then}
-use Rattle.rb_meaning.specs.Environment.{Environment}
+use Rattle.rb_syntax.specs.Tree.{Command, Assignment, Printing, Sending, Receiving, Conditional, Loop, Invocation, Failure, Recovering, Commands, NoCommand, Then, ProcessDeclaration}
+use Rattle.rb_meaning.specs.Environment.{Environment, frame_of}
 use Rattle.rb_meaning.specs.Value.{and_then}
 use Rattle.rb_meaning.specs.Step.{most_held, place_in, present_value, put_at, line_from}
 
@@ -35,6 +35,10 @@ effect env (Recovering block) = Err Fail
 pub data Alone : Type 0 where
   Goes : (left : Commands) (environment : Environment) → Alone
   Fell : (environment : Environment) → Alone
+
+-- a process as it begins
+abbrev pub opening_alone : ProcessDeclaration → Alone
+opening_alone process = Goes process.commands (record { globals = frame_of process.variables; calls = [] ∷ [] })
 
 abbrev pub variables_of : Alone → Environment
 variables_of (Goes left env) = env
