@@ -6,3 +6,5 @@ pub mod Endings
 pub mod OneRun
 pub mod Completes
 pub mod NamesMade
+pub mod EngineTurns
+pub mod WholeRun

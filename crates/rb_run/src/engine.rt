@@ -57,16 +57,16 @@ pub fn run<S: Sink>(
 /// A process that runs alone: its variables, the statements that are left, whether it has failed, and the
 /// line of its last turn.
 #[derive(Drop)]
-struct Engine<'a> {
+struct Engine<'p, 'a> {
     environment: Environment<'a>,
-    left: &'a [Statement<'a>],
+    left: &'p [Statement<'a>],
     failed: bool,
     line: Line,
 }
 
-impl<'a> Engine<'a> {
+impl<'p, 'a> Engine<'p, 'a> {
     /// A process as it begins. No later call takes memory.
-    fn open(alloc: Global, process: &'a Process<'a>) -> Result<Self, Memory>
+    fn open(alloc: Global, process: &'p Process<'a>) -> Result<Self, Memory>
         ensures { IfOk result (λ engine. alone engine ≡ opening_alone (process_declaration process.now)) }
     {
         let environment = Environment::new(alloc, &process.vars)?;
