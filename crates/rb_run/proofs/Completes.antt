@@ -23,9 +23,10 @@ remains_same a b whole w0 w1 f0 f1 e r = record { done = r.done; parts = ap (λ 
 pub remains_less : (a rest whole : List ℕ) (w0 w1 w2 : Option (List ℕ)) (f0 f1 f2 : ℕ) →
     Remains (a ++ rest) whole w0 w1 f0 f1 → Puts {T = Unit {0}} {E = Failed} a w1 w2 f1 f2 (Ok tt) → Remains rest whole w0 w2 f0 f2
 remains_less a rest whole w0 w1 w2 f0 f1 f2 r p = record {
-    done = r.done ++ a;
-    parts = append_assoc r.done a rest ∙ r.parts;
-    wrote = puts_both r.done a w0 w1 w2 f0 f1 f2 tt (Ok tt) r.wrote p }
+  done = r.done ++ a;
+  parts = append_assoc r.done a rest ∙ r.parts;
+  wrote = puts_both r.done a w0 w1 w2 f0 f1 f2 tt (Ok tt) r.wrote p;
+}
 
 -- nothing is left
 pub remains_none : (whole : List ℕ) (w0 w1 : Option (List ℕ)) (f0 f1 : ℕ) → Remains [] whole w0 w1 f0 f1 → Puts {T = Unit {0}} {E = Failed} whole w0 w1 f0 f1 (Ok tt)

@@ -7,18 +7,17 @@ use Rattle.std.proofs.lemmas.List.{append-nil}
 use Rattle.std.proofs.Math.Seq.{take-append_seam, drop-append_seam}
 use Rattle.rb_syntax.specs.declared.expression.Number.{Number}
 use Rattle.rb_syntax.specs.Tree.{Declaration, ChannelDeclaration, ProcessDeclaration, Tree}
-use Rattle.rb_world.specs.Kind.{Ends}
 use Rattle.rb_world.specs.World.{Status, Running, Finished, FailedWith}
-use Rattle.rb_world.specs.Text.{Naming, VariableNaming, Final, line_of, status_words, size_of as naming_size, variable_line, variable_lines, channel_lines, end_text}
+use Rattle.rb_world.specs.Text.{Naming, Final, line_of, status_words, size_of as naming_size, variable_line, variable_lines, channel_lines, end_text}
 use Rattle.rb_base.specs.declared.event.State.{State as Standing}
 use Rattle.rb_base.specs.declared.event.State.TheVariants.{Done, Failed, Running as Open}
 use Rattle.rb_meaning.specs.Environment.{Environment, Stored, Frame, size_of, global_words}
 use Rattle.rb_meaning.specs.State.{Item, State}
-use Rattle.rb_meaning.specs.Groups.{channels_of, ends_of}
+use Rattle.rb_meaning.specs.Groups.{ends_of}
 use Rattle.rb_meaning.specs.Meaning.{sent_on, taken_on, by_state, count_sent, count_taken, process_named, variables_named, naming_of, final_of}
 use Rattle.rb_trace.specs.Ending.{state_words}
 use Rattle.rb_run.specs.Written.{stored_line, stored_lines, unused_line, unused_lines, end_line, state_line}
-use Rattle.rb_run.proofs.Shapes.{Shape, shape_of, declared_shape}
+use Rattle.rb_run.proofs.Shapes.{shape_of, declared_shape}
 use Rattle.rb_run.proofs.OneTurn.{lone_state, lone_world}
 
 -- a variable's own words, among all words of the process
@@ -90,16 +89,16 @@ channel_line-none name sent taken e f =
 
 unused_lines-counted : (tree : Tree) (items : List Item) (env : Environment) (kept : List (ℕ × ℕ)) (n c : ℕ) (channels : List ChannelDeclaration) →
     channel_lines (map (λ channel. channel.name.text) channels)
-        (count_sent (lone_state n items env kept ∷ []) c (map (ends_of tree) channels))
-        (count_taken (lone_state n items env kept ∷ []) c (map (ends_of tree) channels))
+    (count_sent (lone_state n items env kept ∷ []) c (map (ends_of tree) channels))
+    (count_taken (lone_state n items env kept ∷ []) c (map (ends_of tree) channels))
     ≡ unused_lines (map (λ channel. channel.name.text) channels)
 unused_lines-counted tree items env kept n c [] = refl
 unused_lines-counted tree items env kept n c (channel ∷ channels) =
     let s = lone_state n items env kept in
     let ends = ends_of tree channel in
     let line = channel_line-none channel.name.text _ _
-        (none_by_state s (λ state. length (sent_on state c)) ends.sender (none_sent n c))
-        (none_by_state s (λ state. taken_on state c) ends.receiver (none_taken n c)) in
+    (none_by_state s (λ state. length (sent_on state c)) ends.sender (none_sent n c))
+    (none_by_state s (λ state. taken_on state c) ends.receiver (none_taken n c)) in
     ap (λ (first : List ℕ). first ++ channel_lines (map (λ d. d.name.text) channels) (count_sent (s ∷ []) (c + 1) (map (ends_of tree) channels)) (count_taken (s ∷ []) (c + 1) (map (ends_of tree) channels))) line
     ∙ ap (λ (rest : List ℕ). unused_line channel.name.text ++ rest) (unused_lines-counted tree items env kept n (c + 1) channels)
 
@@ -120,9 +119,10 @@ regrouped status variables channels = simp (append_assoc, append-nil)
 -- the names of a tree, with these processes
 abbrev naming_with : Tree → List ProcessDeclaration → Naming
 naming_with tree processes = record {
-    processes = map process_named processes;
-    channels = map (λ c. c.name.text) tree.channels;
-    conversations = map (λ c. c.name.text) tree.conversations }
+  processes = map process_named processes;
+  channels = map (λ c. c.name.text) tree.channels;
+  conversations = map (λ c. c.name.text) tree.conversations;
+}
 
 abbrev pub ending_with : Naming → List ℕ → ℕ → Standing → Frame → List ℕ
 ending_with names process turns standing frame =
@@ -141,10 +141,10 @@ end_text-lone tree process turns items env kept status only shaped =
     let lines = stored_lines-named name [] process.variables env.globals shaped in
     named
     ∙ ap (λ (rest : List ℕ). end_line turns ++ rest)
-        (regrouped (line_of (name ∷ status_words (status, 0))) shown used
-        ∙ ap (λ words. line_of (name ∷ words) ++ (shown ++ used)) (status_words-standing status)
-        ∙ ap (λ (rest : List ℕ). state_line name (standing_of status) ++ rest)
-            (ap (λ (variables : List ℕ). variables ++ used) lines ∙ ap (λ (rest : List ℕ). stored_lines name env.globals ++ rest) channels))
+    (regrouped (line_of (name ∷ status_words (status, 0))) shown used
+    ∙ ap (λ words. line_of (name ∷ words) ++ (shown ++ used)) (status_words-standing status)
+    ∙ ap (λ (rest : List ℕ). state_line name (standing_of status) ++ rest)
+    (ap (λ (variables : List ℕ). variables ++ used) lines ∙ ap (λ (rest : List ℕ). stored_lines name env.globals ++ rest) channels))
 
 -- past the last variable there is none
 pub length-past : {A : Type 0} (xs : List A) (i : ℕ) → None ≡ slice_get xs i → length xs ≤ i

@@ -1,20 +1,19 @@
 -- What an engine's turns come to, from what they did.
-use Rattle.std.proofs.Common.{◌≡◌, ℕ, suc, ◌+◌, ◌-◌, ◌≤◌, Bool, true, false, cond, List, [], ◌∷◌, ◌++◌, length, map, take, drop, get_or, Option, Some, None, Result, Ok, Err, IsErr, refl, sym, ap, ◌∙◌, arith}
+use Rattle.std.proofs.Common.{◌≡◌, ℕ, ◌+◌, ◌-◌, ◌≤◌, false, cond, List, [], ◌∷◌, ◌++◌, length, take, drop, get_or, Option, Result, Ok, Err, IsErr, refl, sym, ap, ◌∙◌, arith}
 use Rattle.std.proofs.lemmas.List.{take_all, length-map}
 use Rattle.rb_base.specs.declared.event.Cause.{Cause}
 use Rattle.rb_base.specs.declared.event.Event.TheVariants.{Error}
-use Rattle.rb_base.specs.declared.event.State.{State}
 use Rattle.rb_base.specs.declared.event.State.TheVariants.{Running}
 use Rattle.rb_outside.specs.declared.Failed.{Failed}
 use Rattle.rb_outside.specs.Puts.{Puts}
 use Rattle.rb_outside.proofs.Puts.{puts_same, puts_both, puts_stopped_at}
 use Rattle.rb_syntax.specs.declared.statement.Statement.{Statement}
 use Rattle.rb_syntax.specs.Plain.{command, commands_of}
-use Rattle.rb_syntax.specs.Tree.{Commands, NoCommand, Then, ProcessDeclaration}
+use Rattle.rb_syntax.specs.Tree.{Commands, NoCommand, Then}
 use Rattle.rb_world.specs.Text.{Naming, event_line}
 use Rattle.rb_meaning.specs.Environment.{Environment, Stored}
 use Rattle.rb_run.specs.declared.engine.Engine.{Engine}
-use Rattle.rb_run.specs.Alone.{Change, Alone, Goes, Fell, effect, opening_alone, variables_of, state_of, after_effect, after, after_all}
+use Rattle.rb_run.specs.Alone.{Change, Alone, Goes, Fell, effect, variables_of, state_of, after_effect, after, after_all}
 use Rattle.rb_run.specs.Written.{out_text, done_text, effect_text, turn_text, turns_text, ending_text, text_alone}
 use Rattle.rb_run.specs.Engine.{alone}
 use Rattle.rb_run.proofs.Completes.{Remains, remains_same, remains_less, remains_stopped}

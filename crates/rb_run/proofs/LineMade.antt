@@ -1,5 +1,5 @@
 -- The line that is made item by item is the definition's line, if that is within the limit.
-use Rattle.std.proofs.Common.{◌≡◌, ℕ, ◌+◌, ◌<◌, ◌≤◌, Bool, true, false, cond, nat_lt, List, [], ◌∷◌, ◌++◌, length, Option, Some, None, is_some, Result, Ok, Err, refl, sym, ap, ◌∙◌, arith, length-append, append_assoc}
+use Rattle.std.proofs.Common.{◌≡◌, ℕ, ◌+◌, Bool, true, false, cond, nat_lt, List, [], ◌∷◌, ◌++◌, length, Option, Some, None, is_some, Result, Ok, Err, refl, sym, ap, ◌∙◌, arith, length-append, append_assoc}
 use Rattle.std.proofs.lemmas.List.{append-nil}
 use Rattle.std.proofs.lemmas.Bool.Decides.{nat_tests}
 use Rattle.rb_base.specs.declared.event.Cause.{Cause}
@@ -29,7 +29,6 @@ added-item true text bytes = added-fitting_line text bytes
 added-item false text bytes =
     ap (λ line. added line bytes) (added-fitting_line text (32 ∷ [])) ∙ added-fitting_line (text ++ 32 ∷ []) bytes
     ∙ ap fitting_line (append_assoc text (32 ∷ []) bytes)
-
 
 then_fitting-append : (text bytes : List ℕ) (rest : Result (List ℕ) Cause) → and_then rest (λ more. Ok (fitting_line ((text ++ bytes) ++ more))) ≡ and_then (and_then rest (λ more. Ok (bytes ++ more))) (λ more. Ok (fitting_line (text ++ more)))
 then_fitting-append text bytes (Ok more) = ap (λ line. Ok (fitting_line line)) (append_assoc text bytes more)

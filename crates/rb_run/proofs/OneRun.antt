@@ -1,12 +1,12 @@
 -- A whole run of the only process of a tree: its text is that of a process that runs alone.
-use Rattle.std.proofs.Common.{◌≡◌, ℕ, ◌+◌, ◌<◌, List, [], ◌∷◌, ◌++◌, length, map, Option, Some, None, Result, Ok, Err, true, refl, sym, ap, ◌∙◌, arith, append_assoc, Bool, ◌&&◌}
-use Rattle.std.specs.List.{AllByRecursion, slice_get, list_all}
+use Rattle.std.proofs.Common.{◌≡◌, ℕ, ◌+◌, ◌<◌, List, [], ◌∷◌, ◌++◌, length, map, None, Result, Ok, Err, true, refl, sym, ap, ◌∙◌, arith, append_assoc}
+use Rattle.std.specs.List.{AllByRecursion, slice_get}
 use Rattle.std.proofs.lemmas.List.{append-nil}
 use Rattle.rb_base.specs.declared.event.Cause.{Cause}
 use Rattle.rb_base.specs.declared.event.Event.TheVariants.{Error, Done}
 use Rattle.rb_base.specs.declared.event.TurnKind.TheVariants.{Idle, Took, Undone}
 use Rattle.rb_syntax.specs.Tree.{Commands, NoCommand, Then, ProcessDeclaration, Tree}
-use Rattle.rb_parse.specs.Scoped.{names_in, are_known, is_scoped, is_scoped_process, has_one}
+use Rattle.rb_parse.specs.Scoped.{names_in, are_known, is_scoped}
 use Rattle.rb_world.specs.World.{Running, Finished, FailedWith}
 use Rattle.rb_world.specs.Turn.{Told, run, run_on, told_first, turn, opening, told_at_opening}
 use Rattle.rb_world.specs.Text.{Naming, event_line, process_name, told_text, all_told, end_text}
@@ -42,7 +42,6 @@ abbrev rest_alone : Tree → ℕ → ℕ → List ℕ → Alone → List ℕ
 rest_alone tree t turns ps alone = turns_text (naming_of tree) t ps alone ++ ending_text (naming_of tree) turns (after_all ps alone)
 
 module _ (tree : Tree) (process : ProcessDeclaration) (turns : ℕ) (only : tree.processes ≡ process ∷ []) where
-
   ending_with-alone : (alone : Alone) → ending_with (naming_of tree) process.name.text turns (state_of alone) (variables_of alone).globals ≡ ending_text (naming_of tree) turns alone
   ending_with-alone alone =
       let named : process_name (slice_get (map process_named tree.processes) 0) ≡ process.name.text = ap (λ processes. process_name (slice_get (map process_named processes) 0)) only in
@@ -63,7 +62,7 @@ module _ (tree : Tree) (process : ProcessDeclaration) (turns : ℕ) (only : tree
   -- a turn that took a statement, and the turns after it
   outcome_run : (ps : List ℕ) (t : ℕ) (items : List Item) (rest : Commands) (env : Environment) (kept : List (ℕ × ℕ)) (o : Result Change Cause) → AllByRecursion (λ p. p < 1) ps → shape_of env.globals ≡ declared_shape process.variables → KeepsShape env o →
       ((changed : Environment) (more : List (ℕ × ℕ)) → shape_of changed.globals ≡ declared_shape process.variables →
-          rest_text tree (t + 1) turns (run (tree_kind tree) (t + 1) ps (lone_world tree (performed rest []) changed more (status_of rest))) ≡ rest_alone tree (t + 1) turns ps (Goes rest changed)) →
+      rest_text tree (t + 1) turns (run (tree_kind tree) (t + 1) ps (lone_world tree (performed rest []) changed more (status_of rest))) ≡ rest_alone tree (t + 1) turns ps (Goes rest changed)) →
       rest_text tree t turns (run_on (run (tree_kind tree) (t + 1) ps) (outcome tree t items rest env kept o))
       ≡ (effect_text (naming_of tree) t rest o ++ turns_text (naming_of tree) (t + 1) ps (after_effect rest env o)) ++ ending_text (naming_of tree) turns (after_all ps (after_effect rest env o))
   outcome_run ps t items rest env kept (Ok (changed, line)) known shaped keeps others =
@@ -103,7 +102,7 @@ module _ (tree : Tree) (process : ProcessDeclaration) (turns : ℕ) (only : tree
       ap (λ q. rest_text tree t turns (run_on (run (tree_kind tree) (t + 1) ps) (turn (tree_kind tree) t q w))) (only_process p known.0)
       ∙ ap (λ turned. rest_text tree t turns (run_on (run (tree_kind tree) (t + 1) ps) turned)) (turn-running tree names t first rest env kept (first_holds _ _ scoped))
       ∙ outcome_run ps t items rest env kept (effect env first) known.1 shaped (effect-keeps env first)
-          (λ changed more still. goes_run names ps (t + 1) rest changed more known.1 (second_holds _ _ scoped) still)
+      (λ changed more still. goes_run names ps (t + 1) rest changed more known.1 (second_holds _ _ scoped) still)
 
 -- the opening world
 opening-lone : (tree : Tree) (left : Commands) (env : Environment) →
@@ -134,4 +133,4 @@ run_text-alone tree process turns only scoped known =
     ∙ ap (λ opened. told_text names 0 (told_at_opening opened) ++ rest_text tree 1 (length turns) (run (tree_kind tree) 1 turns opened)) start
     ∙ ap (λ (text : List ℕ). text ++ later) (told_at_opening-lone tree names left env)
     ∙ ap (λ (text : List ℕ). done_text names 0 (Goes left env) ++ text)
-        (goes_run tree process (length turns) only (names_in process.variables) turns 1 left env [] known parts.known (shape_of-frame_of process.variables))
+    (goes_run tree process (length turns) only (names_in process.variables) turns 1 left env [] known parts.known (shape_of-frame_of process.variables))

@@ -1,5 +1,5 @@
 -- One turn of the only process of a world, case by case, and what is told of it.
-use Rattle.std.proofs.Common.{◌≡◌, ℕ, ◌+◌, nat_lt, Bool, true, false, cond, List, [], ◌∷◌, ◌++◌, length, replicate, Option, Some, None, Result, Ok, Err, refl, sym, ap, ◌∙◌, zero-add}
+use Rattle.std.proofs.Common.{◌≡◌, ℕ, ◌+◌, nat_lt, Bool, true, false, cond, List, [], ◌∷◌, ◌++◌, length, replicate, Option, Some, None, Result, Ok, Err, refl, ap, ◌∙◌, zero-add}
 use Rattle.std.specs.Option.{option_to_list}
 use Rattle.std.proofs.lemmas.List.{append-nil}
 use Rattle.rb_base.specs.declared.event.Cause.{Cause}
@@ -26,17 +26,29 @@ use Rattle.rb_run.specs.Written.{out_text, done_text}
 -- the world of one process, which has no level and holds no line; no channel was used
 abbrev pub lone_state : ℕ → List Item → Environment → List (ℕ × ℕ) → State
 lone_state channels items env kept = record {
-    process = 0; items = items; environment = env; sent = replicate channels []; taken = replicate channels 0; held = []; kept = kept }
+  process = 0;
+  items = items;
+  environment = env;
+  sent = replicate channels [];
+  taken = replicate channels 0;
+  held = [];
+  kept = kept;
+}
 
 abbrev pub lone_process : ℕ → List Item → Environment → List (ℕ × ℕ) → Status → Process State State
 lone_process channels items env kept status = record {
-    state = lone_state channels items env kept; levels = []; at_line = false; status = status }
+  state = lone_state channels items env kept;
+  levels = [];
+  at_line = false;
+  status = status;
+}
 
 abbrev pub lone_world : Tree → List Item → Environment → List (ℕ × ℕ) → Status → TreeWorld
 lone_world tree items env kept status = record {
-    processes = lone_process (length tree.channels) items env kept status ∷ [];
-    talks = opening_talks (groups_of tree);
-    memory = tt }
+  processes = lone_process (length tree.channels) items env kept status ∷ [];
+  talks = opening_talks (groups_of tree);
+  memory = tt;
+}
 
 abbrev pub told_of : TurnKind → List Event → Option (List ℕ) → Told
 told_of kind events line = record { kind = kind; events = events; released = option_to_list line ∷ [] }
@@ -53,7 +65,14 @@ turn-finished tree t items env kept = refl
 -- what a step leaves of the state, from what its statement leaves
 abbrev pub stepped_to : State → List Item → Result Change Cause → Result State Cause
 stepped_to s items (Ok (env, line)) = Ok (record {
-    process = s.process; items = items; environment = env; sent = s.sent; taken = s.taken; held = option_to_list line; kept = s.kept })
+  process = s.process;
+  items = items;
+  environment = env;
+  sent = s.sent;
+  taken = s.taken;
+  held = option_to_list line;
+  kept = s.kept;
+})
 stepped_to s items (Err cause) = Err cause
 
 -- an assignment
@@ -143,14 +162,23 @@ stepped_turn-outcome : (tree : Tree) (t : ℕ) (items : List Item) (rest : Comma
 stepped_turn-outcome tree t items NoCommand env kept (Ok (changed, line)) = refl
 stepped_turn-outcome tree t items (Then first rest) env kept (Ok (changed, line)) =
     ap (λ status. finishes (tree_kind tree) (lone_world tree items env kept Running) (took (record {
-        processes = record {
-            state = record {
-                process = 0; items = Perform first ∷ performed rest []; environment = changed;
-                sent = replicate (length tree.channels) []; taken = replicate (length tree.channels) 0;
-                held = option_to_list line; kept = kept ++ (t, 0) ∷ [] };
-            levels = []; at_line = false; status = status } ∷ [];
-        talks = opening_talks (groups_of tree);
-        memory = tt }))) (status_at-wants tree first)
+      processes = record {
+        state = record {
+          process = 0;
+          items = Perform first ∷ performed rest [];
+          environment = changed;
+          sent = replicate (length tree.channels) [];
+          taken = replicate (length tree.channels) 0;
+          held = option_to_list line;
+          kept = kept ++ (t, 0) ∷ [];
+        };
+        levels = [];
+        at_line = false;
+        status = status;
+      } ∷ [];
+      talks = opening_talks (groups_of tree);
+      memory = tt;
+    }))) (status_at-wants tree first)
 stepped_turn-outcome tree t items rest env kept (Err cause) = refl
 
 -- a turn of a process that has a statement left
@@ -161,8 +189,8 @@ turn-running tree names t first rest env kept known =
     let items = Perform first ∷ performed rest [] in
     let n = length tree.channels in
     ap (λ want. finishes (tree_kind tree) (lone_world tree items env kept Running)
-        (acts (tree_kind tree) t 0 (lone_process n items env kept Running) (lone_world tree items env kept Running) want))
-        (wants-known tree names first known)
+    (acts (tree_kind tree) t 0 (lone_process n items env kept Running) (lone_world tree items env kept Running) want))
+    (wants-known tree names first known)
     ∙ ap (stepped_turn tree t items env kept) (performs-effect tree names n items (performed rest []) env kept first known)
     ∙ stepped_turn-outcome tree t items rest env kept (effect env first)
 

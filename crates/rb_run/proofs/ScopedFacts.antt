@@ -2,7 +2,7 @@
 use Rattle.std.proofs.Common.{◌≡◌, ℕ, ◌≤◌, nat_le, Bool, true, false, ◌&&◌, List, [], ◌∷◌, length, map, refl, sym, ap, ◌∙◌, arith}
 use Rattle.std.specs.List.{list_all}
 use Rattle.std.proofs.lemmas.Bool.Decides.{nat_tests}
-use Rattle.rb_syntax.specs.Tree.{Declaration, ProcessDeclaration, Tree}
+use Rattle.rb_syntax.specs.Tree.{ProcessDeclaration, Tree}
 use Rattle.rb_parse.specs.Scoped.{are_distinct, is_scalar, names_in, are_known, most_variables, has_one, is_scoped_process, is_scoped}
 
 -- the parts of a conjunction that holds

@@ -1,5 +1,5 @@
 -- The names of a process's variables, and how many numbers each has: no statement changes them.
-use Rattle.std.proofs.Common.{◌≡◌, ℕ, ℤ, pos, ◌+◌, nat_lt, Bool, true, false, cond, List, [], ◌∷◌, length, map, replicate, slice_set, Option, Some, None, Result, Ok, Err, refl, sym, ap, ◌∙◌}
+use Rattle.std.proofs.Common.{◌≡◌, ℕ, ℤ, pos, ◌+◌, nat_lt, Bool, true, false, cond, List, [], ◌∷◌, length, map, slice_set, Some, None, Result, Ok, Err, refl, ap, ◌∙◌}
 use Rattle.std.specs.List.{list_any}
 use Rattle.std.proofs.lemmas.List.{length-replicate, length-set}
 use Rattle.rb_base.specs.declared.event.Cause.{Cause}

@@ -1,8 +1,7 @@
 -- What the engine wrote is the text of the run.
-use Rattle.std.proofs.Common.{◌≡◌, ℕ, ◌<◌, ◌≤◌, List, [], ◌∷◌, length, map, take, Option, Result, Ok, Err, true, sym, ap, subst, ◌∙◌}
+use Rattle.std.proofs.Common.{◌≡◌, ℕ, ◌<◌, List, [], ◌∷◌, map, Option, Ok, Err, true, sym, ap, subst, ◌∙◌}
 use Rattle.std.specs.List.{AllByRecursion}
 use Rattle.rb_outside.specs.declared.Failed.{Failed}
-use Rattle.rb_outside.specs.Outside.{Rose, then_written}
 use Rattle.rb_outside.specs.Puts.{Puts}
 use Rattle.rb_outside.proofs.Puts.{puts_same}
 use Rattle.rb_syntax.specs.declared.program.Program.{Program}
@@ -11,7 +10,6 @@ use Rattle.rb_syntax.specs.Plain.{tree, process_declaration}
 use Rattle.rb_parse.specs.Scoped.{is_scoped}
 use Rattle.rb_world.specs.Text.{Naming}
 use Rattle.rb_meaning.specs.Meaning.{naming_of, run_text}
-use Rattle.rb_run.specs.declared.engine.Ended.{Ended}
 use Rattle.rb_run.specs.declared.engine.Ended.TheVariants.{WriteFault}
 use Rattle.rb_run.specs.Ran.{Ran}
 use Rattle.rb_run.specs.Alone.{Alone, opening_alone}

@@ -1,5 +1,5 @@
 -- The line of a `print` as it is made, item by item, as far as there is room for it.
-use Rattle.std.specs.Prelude.{ℕ, ◌+◌, nat_lt, Bool, true, false, cond, List, [], ◌∷◌, ◌++◌, length, Option, Some, None, Result, Ok, Err}
+use Rattle.std.specs.Prelude.{ℕ, ◌+◌, nat_lt, Bool, true, false, cond, List, [], ◌∷◌, ◌++◌, length, Option, Some, None, Result, Ok}
 use Rattle.rb_base.specs.declared.event.Cause.{Cause}
 use Rattle.rb_syntax.specs.Tree.{PrintItem}
 use Rattle.rb_meaning.specs.Environment.{Environment}

@@ -7,7 +7,7 @@ use Rattle.rb_base.specs.declared.event.State.{State}
 use Rattle.rb_base.specs.declared.event.Event.TheVariants.{Error, Done}
 use Rattle.rb_syntax.specs.Tree.{Commands, NoCommand, Then}
 use Rattle.rb_world.specs.Text.{Naming, process_word, line_of, event_line}
-use Rattle.rb_meaning.specs.Environment.{Environment, Stored, Frame}
+use Rattle.rb_meaning.specs.Environment.{Stored, Frame}
 use Rattle.rb_trace.specs.Ending.{state_words}
 use Rattle.rb_run.specs.Alone.{Change, Alone, Goes, Fell, effect, variables_of, state_of, after, after_all}
 

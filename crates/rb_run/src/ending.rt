@@ -10,7 +10,13 @@ use rb_plain::environment::Environment;
 use rb_trace::{put_line, write_end, write_status, write_variable};
 
 /// Writes the ending of a run of so many turns, in which no channel was used.
-pub(crate) fn write_ending<S: Sink>(out: &mut S, turns: u32, names: &Names, state: State, environment: &Environment<'_>) -> Result<(), Failed>
+pub(crate) fn write_ending<S: Sink>(
+    out: &mut S,
+    turns: u32,
+    names: &Names,
+    state: State,
+    environment: &Environment<'_>,
+) -> Result<(), Failed>
     requires { length environment.now.globals ≤ 2048 }
     ensures { Puts (end_line turns ++ (state_line (process_word (naming names.now) 0) state ++ (stored_lines (process_word (naming names.now) 0) environment.now.globals ++ unused_lines names.now.channels.items))) (S.written out.old) (S.written out.new) (S.faults out.old) (S.faults out.new) result }
 {
@@ -18,7 +24,12 @@ pub(crate) fn write_ending<S: Sink>(out: &mut S, turns: u32, names: &Names, stat
     write_process(out, names, state, environment)
 }
 
-fn write_process<S: Sink>(out: &mut S, names: &Names, state: State, environment: &Environment<'_>) -> Result<(), Failed>
+fn write_process<S: Sink>(
+    out: &mut S,
+    names: &Names,
+    state: State,
+    environment: &Environment<'_>,
+) -> Result<(), Failed>
     requires { length environment.now.globals ≤ 2048 }
     ensures { Puts (state_line (process_word (naming names.now) 0) state ++ (stored_lines (process_word (naming names.now) 0) environment.now.globals ++ unused_lines names.now.channels.items)) (S.written out.old) (S.written out.new) (S.faults out.old) (S.faults out.new) result }
 {
@@ -37,7 +48,12 @@ fn process_name(names: &Names) -> &[u8]
     }
 }
 
-fn write_values<S: Sink>(out: &mut S, process: &[u8], environment: &Environment<'_>, channels: &[Text]) -> Result<(), Failed>
+fn write_values<S: Sink>(
+    out: &mut S,
+    process: &[u8],
+    environment: &Environment<'_>,
+    channels: &[Text],
+) -> Result<(), Failed>
     requires { length environment.now.globals ≤ 2048 }
     ensures { Puts (stored_lines process.now environment.now.globals ++ unused_lines channels.now) (S.written out.old) (S.written out.new) (S.faults out.old) (S.faults out.new) result }
 {
@@ -45,7 +61,11 @@ fn write_values<S: Sink>(out: &mut S, process: &[u8], environment: &Environment<
     write_channels(out, channels)
 }
 
-fn write_variables<S: Sink>(out: &mut S, process: &[u8], environment: &Environment<'_>) -> Result<(), Failed>
+fn write_variables<S: Sink>(
+    out: &mut S,
+    process: &[u8],
+    environment: &Environment<'_>,
+) -> Result<(), Failed>
     requires { length environment.now.globals ≤ 2048 }
     ensures { Puts (stored_lines process.now environment.now.globals) (S.written out.old) (S.written out.new) (S.faults out.old) (S.faults out.new) result }
 {

@@ -80,7 +80,12 @@ impl<'p, 'a> Engine<'p, 'a> {
     }
 
     /// Writes the text of a whole run.
-    fn write_run<S: Sink>(&mut self, mut schedule: Schedule<'_>, names: &Names, out: &mut S) -> Result<(), Failed>
+    fn write_run<S: Sink>(
+        &mut self,
+        mut schedule: Schedule<'_>,
+        names: &Names,
+        out: &mut S,
+    ) -> Result<(), Failed>
         requires fresh { schedule.left ≡ schedule.all }
         requires few { length (variables_of (alone self.old)).globals ≤ 2048 }
         ensures { Puts (text_alone (naming names.now) schedule.entry.all (alone self.old)) (S.written out.old) (S.written out.new) (S.faults out.old) (S.faults out.new) result }
@@ -92,7 +97,12 @@ impl<'p, 'a> Engine<'p, 'a> {
     }
 
     /// Takes the turns that are left of a schedule.
-    fn walk<S: Sink>(&mut self, schedule: &mut Schedule<'_>, names: &Names, out: &mut S) -> Result<(), Failed>
+    fn walk<S: Sink>(
+        &mut self,
+        schedule: &mut Schedule<'_>,
+        names: &Names,
+        out: &mut S,
+    ) -> Result<(), Failed>
         requires { length schedule.old.left ≤ 1000000 }
         ensures after { OnOk result (alone self.new ≡ after_all schedule.old.left (alone self.old)) }
         ensures written { Puts (turns_text (naming names.now) 1 schedule.old.left (alone self.old)) (S.written out.old) (S.written out.new) (S.faults out.old) (S.faults out.new) result }

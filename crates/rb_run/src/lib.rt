@@ -8,5 +8,5 @@ pub mod naming;
 mod perform;
 mod scoped;
 
-pub use engine::{run, Ended};
+pub use engine::{Ended, run};
 pub use naming::names;

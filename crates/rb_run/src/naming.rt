@@ -70,7 +70,10 @@ fn channel_names(alloc: Global, channels: &[Channel<'_>]) -> Result<Vec<Text>, M
     Ok(names)
 }
 
-fn conversation_names(alloc: Global, conversations: &[Conversation<'_>]) -> Result<Vec<Text>, Memory>
+fn conversation_names(
+    alloc: Global,
+    conversations: &[Conversation<'_>],
+) -> Result<Vec<Text>, Memory>
     ensures { IfOk result (λ names. names.items ≡ map (λ conversation. conversation.name.text.now) conversations.now) }
 {
     let mut names = Vec::with_capacity(alloc, conversations.len())?;

@@ -40,7 +40,11 @@ fn place_of(environment: &Environment<'_>, target: &Target<'_>) -> Result<usize,
 }
 
 /// Stores the value of an expression. A trap leaves the variables.
-fn assign(environment: &mut Environment<'_>, target: &Target<'_>, value: &Expr<'_>) -> Result<(), Cause>
+fn assign(
+    environment: &mut Environment<'_>,
+    target: &Target<'_>,
+    value: &Expr<'_>,
+) -> Result<(), Cause>
     ensures done { MatchResult result
         (λ _. effect environment.old (Assignment (reference target.now) (plain value.now)) ≡ Ok (environment.new, None))
         (λ cause. effect environment.old (Assignment (reference target.now) (plain value.now)) ≡ Err cause) }
@@ -53,7 +57,11 @@ fn assign(environment: &mut Environment<'_>, target: &Target<'_>, value: &Expr<'
 }
 
 /// Adds an item to the line.
-fn add_item(line: &mut Line, environment: &Environment<'_>, item: &ItemKind<'_>) -> Result<(), Cause>
+fn add_item(
+    line: &mut Line,
+    environment: &Environment<'_>,
+    item: &ItemKind<'_>,
+) -> Result<(), Cause>
     ensures { MatchResult result
         (λ _. item_added line.old (printed environment.now (plain_item item.now)) ≡ Ok line.new)
         (λ cause. item_added line.old (printed environment.now (plain_item item.now)) ≡ Err cause) }
@@ -70,7 +78,11 @@ fn add_item(line: &mut Line, environment: &Environment<'_>, item: &ItemKind<'_>)
 }
 
 /// Adds items to the line, each with a blank before it.
-fn add_others(line: &mut Line, environment: &Environment<'_>, items: &[Item<'_>]) -> Result<(), Cause>
+fn add_others(
+    line: &mut Line,
+    environment: &Environment<'_>,
+    items: &[Item<'_>],
+) -> Result<(), Cause>
     ensures { MatchResult result
         (λ _. items_added environment.now false line.old (map print_item items.now) ≡ Ok line.new)
         (λ cause. items_added environment.now false line.old (map print_item items.now) ≡ Err cause) }
@@ -83,7 +95,11 @@ fn add_others(line: &mut Line, environment: &Environment<'_>, items: &[Item<'_>]
 }
 
 /// Adds items to the line, with blanks between them.
-fn add_items(line: &mut Line, environment: &Environment<'_>, items: &[Item<'_>]) -> Result<(), Cause>
+fn add_items(
+    line: &mut Line,
+    environment: &Environment<'_>,
+    items: &[Item<'_>],
+) -> Result<(), Cause>
     ensures { MatchResult result
         (λ _. items_added environment.now true line.old (map print_item items.now) ≡ Ok line.new)
         (λ cause. items_added environment.now true line.old (map print_item items.now) ≡ Err cause) }
@@ -111,7 +127,11 @@ fn print(line: &mut Line, environment: &Environment<'_>, items: &[Item<'_>]) -> 
 
 /// Takes a statement. A trap leaves the variables.
 #[tactic(auto, using(rb_syntax::proofs::Bridge::trees))]
-pub(crate) fn perform(environment: &mut Environment<'_>, line: &mut Line, statement: &Statement<'_>) -> Result<(), Cause>
+pub(crate) fn perform(
+    environment: &mut Environment<'_>,
+    line: &mut Line,
+    statement: &Statement<'_>,
+) -> Result<(), Cause>
     ensures done { MatchResult result
         (λ _. effect environment.old (command statement.now) ≡ Ok (environment.new, line.new))
         (λ cause. effect environment.old (command statement.now) ≡ Err cause) }

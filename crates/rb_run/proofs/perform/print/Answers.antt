@@ -1,4 +1,4 @@
-use Rattle.std.proofs.Common.{◌∙◌, sym, map, ap}
+use Rattle.std.proofs.Common.{◌∙◌, sym, map}
 use Rattle.std.proofs.lemmas.Result.{err_from_is_err_and}
 use Rattle.rb_syntax.specs.Plain.{print_item}
 use Rattle.rb_run.proofs.LineMade.{print-trapped, print-long, print-done}
