@@ -1,1 +1,5 @@
 pub mod Ran
+pub mod Alone
+pub mod Line
+pub mod Written
+pub mod Engine

@@ -1,0 +1,10 @@
+pub mod ScopedFacts
+pub mod LineMade
+pub mod Shapes
+pub mod OneTurn
+pub mod Endings
+pub mod OneRun
+pub mod Completes
+pub mod NamesMade
+pub mod EngineTurns
+pub mod WholeRun

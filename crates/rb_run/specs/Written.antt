@@ -1,0 +1,67 @@
+-- What is written of a process that runs alone.
+use Rattle.std.specs.Prelude.{ℕ, ◌+◌, List, [], ◌∷◌, ◌++◌, length, map, codes, decimal, Option, Some, None, Result, Ok, Err}
+use Rattle.std.specs.List.{flat_map}
+use Rattle.std.specs.Fmt.{signed_decimal}
+use Rattle.rb_base.specs.declared.event.Cause.{Cause}
+use Rattle.rb_base.specs.declared.event.State.{State}
+use Rattle.rb_base.specs.declared.event.Event.TheVariants.{Error, Done}
+use Rattle.rb_syntax.specs.Tree.{Commands, NoCommand, Then}
+use Rattle.rb_world.specs.Text.{Naming, process_word, line_of, event_line}
+use Rattle.rb_meaning.specs.Environment.{Stored, Frame}
+use Rattle.rb_trace.specs.Ending.{state_words}
+use Rattle.rb_run.specs.Alone.{Change, Alone, Goes, Fell, effect, variables_of, state_of, after, after_all}
+
+-- the line that was printed in turn t
+abbrev pub out_text : Naming → ℕ → Option (List ℕ) → List ℕ
+out_text names t None = []
+out_text names t (Some line) = line_of (decimal t ∷ codes "out" ∷ process_word names 0 ∷ line ∷ [])
+
+-- that the process is done in turn t
+abbrev pub done_text : Naming → ℕ → Alone → List ℕ
+done_text names t (Goes NoCommand env) = event_line names t (Done 0)
+done_text names t (Goes (Then first rest) env) = []
+done_text names t (Fell env) = []
+
+abbrev pub effect_text : Naming → ℕ → Commands → Result Change Cause → List ℕ
+effect_text names t rest (Ok (changed, line)) = out_text names t line ++ done_text names t (Goes rest changed)
+effect_text names t rest (Err cause) = event_line names t (Error 0 cause)
+
+-- one turn, and turns numbered from t on
+abbrev pub turn_text : Naming → ℕ → Alone → List ℕ
+turn_text names t (Goes NoCommand env) = []
+turn_text names t (Goes (Then first rest) env) = effect_text names t rest (effect env first)
+turn_text names t (Fell env) = []
+
+abbrev pub turns_text : Naming → ℕ → List ℕ → Alone → List ℕ
+turns_text names t [] alone = []
+turns_text names t (p ∷ ps) alone = turn_text names t alone ++ turns_text names (t + 1) ps (after alone)
+
+-- the ending of a run of so many turns, in which no channel was used
+abbrev pub stored_line : List ℕ → Stored → List ℕ
+stored_line process stored = line_of ((process ++ 46 ∷ stored.name) ∷ codes "=" ∷ map signed_decimal stored.values)
+
+abbrev pub stored_lines : List ℕ → Frame → List ℕ
+stored_lines process frame = flat_map (stored_line process) frame
+
+abbrev pub unused_line : List ℕ → List ℕ
+unused_line channel = line_of (channel ∷ codes "sent" ∷ codes "0" ∷ codes "taken" ∷ codes "0" ∷ [])
+
+abbrev pub unused_lines : List (List ℕ) → List ℕ
+unused_lines channels = flat_map unused_line channels
+
+abbrev pub end_line : ℕ → List ℕ
+end_line turns = line_of (codes "end" ∷ decimal turns ∷ [])
+
+abbrev pub state_line : List ℕ → State → List ℕ
+state_line process state = line_of (process ∷ state_words state)
+
+abbrev pub ending_text : Naming → ℕ → Alone → List ℕ
+ending_text names turns alone =
+    end_line turns
+    ++ (state_line (process_word names 0) (state_of alone)
+    ++ (stored_lines (process_word names 0) (variables_of alone).globals ++ unused_lines names.channels))
+
+-- a whole run
+abbrev pub text_alone : Naming → List ℕ → Alone → List ℕ
+text_alone names turns alone =
+    done_text names 0 alone ++ (turns_text names 1 turns alone ++ ending_text names (length turns) (after_all turns alone))
