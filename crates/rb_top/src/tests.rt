@@ -3,17 +3,149 @@ use rb_outside::{MemoryShelf, MemorySink};
 use std::alloc::{AllocError, Global};
 use std::test::Fail;
 
+// The rows stand in functions, so that a proof does not carry their texts.
+
+/// A source, a schedule, and the text of the run.
+#[derive(Drop)]
+struct Row {
+    source: &'static str,
+    schedule: &'static str,
+    want: &'static str,
+}
+
 const SMALLEST: &str = "program a; process p { var x; x := 1; print \"x\", x; } end.";
+
+fn run_row(n: u8) -> Row {
+    let (source, schedule, want) = match n {
+        0 => (
+            SMALLEST,
+            "p 2",
+            "2 out p x 1\n2 done p\nend 2\np done\np.x = 1\n",
+        ),
+        1 => (
+            SMALLEST,
+            "p\t1\r\n  p 1 # last",
+            "2 out p x 1\n2 done p\nend 2\np done\np.x = 1\n",
+        ),
+        2 => (
+            "program a; process p { } end.",
+            "",
+            "0 done p\nend 0\np done\n",
+        ),
+        3 => (SMALLEST, "p 1", "end 1\np open 0\np.x = 1\n"),
+        4 => (
+            "program o; process p { var x; x := 9223372036854775807; x := x + 1; print x; } end.",
+            "all 3",
+            "2 error p overflow\nend 3\np failed\np.x = 9223372036854775807\n",
+        ),
+        _ => (
+            "program m; process p { var y; y := 3 - 5 + 1; print \"y\", y, y + y, \"\"; } end.",
+            "p 2",
+            "2 out p y -1 -2 \n2 done p\nend 2\np done\np.y = -1\n",
+        ),
+    };
+    Row {
+        source,
+        schedule,
+        want,
+    }
+}
+
+fn refused_row(n: u8) -> Row {
+    let (source, schedule, want) = match n {
+        0 => ("", "", "refused Y0 at 1:1\n"),
+        1 => ("program a; \u{7f} ;", "", "refused X1 at 1:12\n"),
+        2 => (
+            "program a; process p { print \"x",
+            "",
+            "refused X2 at 1:30\n",
+        ),
+        3 => (
+            "program a; process p { var x; x := 9223372036854775808; } end.",
+            "",
+            "refused X3 at 1:36\n",
+        ),
+        4 => (
+            "program a; process p { x := 1; } end.",
+            "",
+            "refused Y0 at 1:1\n",
+        ),
+        5 => (SMALLEST, "p 1\n# note\n\np", "refused T1 at 4\n"),
+        6 => (SMALLEST, "p 1\n# note\n\nz 2", "refused T2 at 4\n"),
+        7 => (SMALLEST, "p 0", "refused T3 at 1\n"),
+        _ => (SMALLEST, "p 600000\np 600000", "refused T4 at 2\n"),
+    };
+    Row {
+        source,
+        schedule,
+        want,
+    }
+}
+
+/// Words, the calls of the shelf and of the sink that fail, how much room the sink has, and what comes of it.
+#[derive(Drop)]
+struct Call {
+    words: &'static str,
+    bad_read: u64,
+    bad_write: u64,
+    room: usize,
+    status: Status,
+    want: &'static str,
+}
+
+fn call_row(n: u8) -> Call {
+    let (words, bad_read, bad_write, room, status, want) = match n {
+        0 => (
+            "run a",
+            99,
+            99,
+            99,
+            Status::Usage,
+            "usage: rbl run SOURCE SCHEDULE\n",
+        ),
+        1 => (
+            "run a b c",
+            99,
+            99,
+            99,
+            Status::Usage,
+            "usage: rbl run SOURCE SCHEDULE\n",
+        ),
+        2 => (
+            "run a -b",
+            99,
+            99,
+            99,
+            Status::Usage,
+            "usage: rbl run SOURCE SCHEDULE\n",
+        ),
+        3 => ("run a c", 99, 99, 99, Status::ReadFault, ""),
+        4 => ("run c b", 99, 99, 99, Status::ReadFault, ""),
+        5 => ("run a b", 0, 99, 99, Status::ReadFault, ""),
+        6 => ("run a b", 4, 99, 99, Status::ReadFault, ""),
+        7 => ("run a b", 99, 0, 99, Status::WriteFault, ""),
+        _ => ("run a b", 99, 99, 10, Status::WriteFault, "2 out p x "),
+    };
+    Call {
+        words,
+        bad_read,
+        bad_write,
+        room,
+        status,
+        want,
+    }
+}
 
 // The files a and b.
 fn files(alloc: Global, a: &str, b: &str) -> Result<Vec<(Vec<u8>, Vec<u8>)>, AllocError> {
     let mut files = Vec::new(alloc);
-    for (name, text) in [("a", a), ("b", b)] {
-        let name = Vec::from_slice(alloc, name.as_bytes())?;
-        let bytes = Vec::from_slice(alloc, text.as_bytes())?;
-        files.push((name, bytes))?;
-    }
+    files.push((named(alloc, "a")?, named(alloc, a)?))?;
+    files.push((named(alloc, "b")?, named(alloc, b)?))?;
     Ok(files)
+}
+
+fn named(alloc: Global, text: &str) -> Result<Vec<u8>, AllocError> {
+    Vec::from_slice(alloc, text.as_bytes())
 }
 
 fn words_of(alloc: Global, line: &str) -> Result<Words, Fail> {
@@ -24,9 +156,10 @@ fn words_of(alloc: Global, line: &str) -> Result<Words, Fail> {
     Ok(words)
 }
 
-// `run a b` over these texts, in pieces of at most so many bytes.
-fn ran(alloc: Global, a: &str, b: &str, most: usize) -> Result<(Status, MemorySink), Fail> {
-    let mut shelf = MemoryShelf::in_pieces(files(alloc, a, b)?, Vec::new(alloc), most);
+// `run a b` over the texts of a row, in pieces of one byte.
+fn ran(alloc: Global, row: &Row) -> Result<(Status, MemorySink), Fail> {
+    let files = files(alloc, row.source, row.schedule)?;
+    let mut shelf = MemoryShelf::in_pieces(files, Vec::new(alloc), 1);
     let mut sink = MemorySink::new(alloc, 1000, Vec::new(alloc))
         .ok()
         .ok_or("memory")?;
@@ -37,114 +170,64 @@ fn ran(alloc: Global, a: &str, b: &str, most: usize) -> Result<(Status, MemorySi
 
 #[test]
 fn runs(rt: HostRuntime) -> Result<(), Fail> {
-    let smallest = "2 out p x 1\n2 done p\nend 2\np done\np.x = 1\n";
-    for (a, b, want) in [
-        (SMALLEST, "p 2", smallest),
-        (SMALLEST, "p\t1\r\n  p 1 # last", smallest),
-        (
-            "program a; process p { } end.",
-            "",
-            "0 done p\nend 0\np done\n",
-        ),
-        (SMALLEST, "p 1", "end 1\np open 0\np.x = 1\n"),
-        (
-            "program o; process p { var x; x := 9223372036854775807; x := x + 1; print x; } end.",
-            "all 3",
-            "2 error p overflow\nend 3\np failed\np.x = 9223372036854775807\n",
-        ),
-        (
-            "program m; process p { var y; y := 3 - 5 + 1; print \"y\", y, y + y, \"\"; } end.",
-            "p 2",
-            "2 out p y -1 -2 \n2 done p\nend 2\np done\np.y = -1\n",
-        ),
-    ] {
-        for most in [1, 7, 4096] {
-            let (status, sink) = ran(rt.alloc(), a, b, most)?;
-            assert_eq!(rt; status, Status::Done, "{a}");
-            assert_eq!(rt; sink.bytes(), want.as_bytes(), "{a}");
-        }
+    for n in 0..6 {
+        let row = run_row(n);
+        let (status, sink) = ran(rt.alloc(), &row)?;
+        assert_eq!(rt; status, Status::Done);
+        assert_eq!(rt; sink.bytes(), row.want.as_bytes());
     }
     Ok(())
 }
 
 #[test]
 fn refuses(rt: HostRuntime) -> Result<(), Fail> {
-    for (a, b, want) in [
-        ("", "", "refused Y0 at 1:1\n"),
-        ("program a; \u{7f} ;", "", "refused X1 at 1:12\n"),
-        (
-            "program a; process p { print \"x",
-            "",
-            "refused X2 at 1:30\n",
-        ),
-        (
-            "program a; process p { var x; x := 9223372036854775808; } end.",
-            "",
-            "refused X3 at 1:36\n",
-        ),
-        (
-            "program a; process p { x := 1; } end.",
-            "",
-            "refused Y0 at 1:1\n",
-        ),
-        (SMALLEST, "p 1\n# note\n\np", "refused T1 at 4\n"),
-        (SMALLEST, "p 1\n# note\n\nz 2", "refused T2 at 4\n"),
-        (SMALLEST, "p 0", "refused T3 at 1\n"),
-        (SMALLEST, "p 600000\np 600000", "refused T4 at 2\n"),
-    ] {
-        let (status, sink) = ran(rt.alloc(), a, b, 4096)?;
-        assert_eq!(rt; status, Status::Refused, "{a}");
-        assert_eq!(rt; sink.bytes(), want.as_bytes(), "{a}");
+    for n in 0..9 {
+        let row = refused_row(n);
+        let (status, sink) = ran(rt.alloc(), &row)?;
+        assert_eq!(rt; status, Status::Refused);
+        assert_eq!(rt; sink.bytes(), row.want.as_bytes());
     }
     Ok(())
 }
 
+// A file that is one byte too long.
+#[test]
+fn refuses_long(rt: HostRuntime) -> Result<(), Fail> {
+    let alloc = rt.alloc();
+    let mut files = Vec::new(alloc);
+    files.push((named(alloc, "a")?, vec![in alloc; 32u8; 1048577]?))?;
+    let mut shelf = MemoryShelf::new(files, Vec::new(alloc));
+    let mut sink = MemorySink::new(alloc, 99, Vec::new(alloc))
+        .ok()
+        .ok_or("memory")?;
+    let words = words_of(alloc, "run a b")?;
+    assert_eq!(rt;
+        command(alloc, &words, &mut shelf, &mut sink),
+        Status::Refused
+    );
+    assert_eq!(rt; sink.bytes(), b"refused L0\n".as_slice());
+    Ok(())
+}
+
+fn called(alloc: Global, call: &Call) -> Result<(Status, MemorySink), Fail> {
+    let bad_reads = Vec::from_slice(alloc, &[call.bad_read])?;
+    let bad_writes = Vec::from_slice(alloc, &[call.bad_write])?;
+    let mut shelf = MemoryShelf::new(files(alloc, SMALLEST, "p 2")?, bad_reads);
+    let mut sink = MemorySink::new(alloc, call.room, bad_writes)
+        .ok()
+        .ok_or("memory")?;
+    let words = words_of(alloc, call.words)?;
+    let status = command(alloc, &words, &mut shelf, &mut sink);
+    Ok((status, sink))
+}
+
 #[test]
 fn answers(rt: HostRuntime) -> Result<(), Fail> {
-    let alloc = rt.alloc();
-    for (line, room, read_fault, write_fault, want, bytes) in [
-        (
-            "run a",
-            1000usize,
-            99u64,
-            99u64,
-            Status::Usage,
-            "usage: rbl run SOURCE SCHEDULE\n",
-        ),
-        (
-            "run a b c",
-            1000,
-            99,
-            99,
-            Status::Usage,
-            "usage: rbl run SOURCE SCHEDULE\n",
-        ),
-        (
-            "run a -b",
-            1000,
-            99,
-            99,
-            Status::Usage,
-            "usage: rbl run SOURCE SCHEDULE\n",
-        ),
-        ("run a c", 1000, 99, 99, Status::ReadFault, ""),
-        ("run c b", 1000, 99, 99, Status::ReadFault, ""),
-        ("run a b", 1000, 0, 99, Status::ReadFault, ""),
-        ("run a b", 1000, 4, 99, Status::ReadFault, ""),
-        ("run a b", 1000, 99, 0, Status::WriteFault, ""),
-        ("run a b", 10, 99, 99, Status::WriteFault, "2 out p x "),
-    ] {
-        let failing = Vec::from_slice(alloc, &[read_fault])?;
-        let mut shelf = MemoryShelf::new(files(alloc, SMALLEST, "p 2")?, failing);
-        let failing = Vec::from_slice(alloc, &[write_fault])?;
-        let mut sink = MemorySink::new(alloc, room, failing).ok().ok_or("memory")?;
-        let words = words_of(alloc, line)?;
-        assert_eq!(rt;
-            command(alloc, &words, &mut shelf, &mut sink),
-            want,
-            "{line}"
-        );
-        assert_eq!(rt; sink.bytes(), bytes.as_bytes(), "{line}");
+    for n in 0..9 {
+        let call = call_row(n);
+        let (status, sink) = called(rt.alloc(), &call)?;
+        assert_eq!(rt; status, call.status);
+        assert_eq!(rt; sink.bytes(), call.want.as_bytes());
     }
     Ok(())
 }
