@@ -1,5 +1,5 @@
 -- Kinds of bytes, and places. The bytes of a source are ASCII: blanks are space, tab, CR and LF.
-use Rattle.std.specs.Prelude.{ℕ, ◌+◌, ◌==◌, nat_le, nat_lt, Bool, ◌&&◌, ◌||◌, if◌then◌else◌, List, [], ◌∷◌}
+use Rattle.std.specs.Prelude.{ℕ, ◌+◌, ◌==◌, nat_le, Bool, ◌&&◌, ◌||◌, if◌then◌else◌, List, [], ◌∷◌}
 use Rattle.rb_base.specs.declared.place.Place.{Place}
 
 abbrev pub is_blank : ℕ → Bool

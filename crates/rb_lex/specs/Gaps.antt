@@ -8,7 +8,7 @@ use Rattle.rb_lex.specs.declared.gap.Step.{Step}
 use Rattle.rb_lex.specs.declared.gap.Step.TheVariants.{Pass, Begin, Fault}
 use Rattle.rb_lex.specs.declared.reading.Reading.{Reading}
 use Rattle.rb_lex.specs.Bytes.{is_blank, is_comment_byte}
-use Rattle.rb_lex.specs.Tokens.{Next, End, Found, Refused, cut, front, next_from}
+use Rattle.rb_lex.specs.Tokens.{Next, End, Found, Refused, cut, front}
 use Rattle.rb_lex.specs.Reader.{lexeme_of}
 
 -- a byte adds at most 2 to the line and the column together, so places fit as long as this holds

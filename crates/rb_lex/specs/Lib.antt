@@ -3,3 +3,5 @@ pub mod Tokens
 pub mod Reader
 pub mod Cuts
 pub mod Gaps
+pub mod TokenList
+pub mod Laws

@@ -11,22 +11,30 @@ use crate::words::name_cut;
 use rb_base::FaultName;
 
 // A token at the front of the bytes, with its size.
-#[derive(Clone, Copy, Debug)]
+#[derive(Clone, Copy)]
 pub(crate) struct Cut {
     pub(crate) kind: Kind,
     pub(crate) size: usize,
 }
 
 // A fault, so many bytes after the front.
-#[derive(Clone, Copy, Debug)]
+#[derive(Clone, Copy)]
 pub(crate) struct Stop {
     pub(crate) name: FaultName,
     pub(crate) offset: usize,
 }
 
+impl Stop {
+    // A fault at the front itself.
+    pub(crate) fn at_front(name: FaultName) -> Self
+        ensures { result ≡ record { name = name; offset = 0 } }
+    {
+        Stop { name, offset: 0 }
+    }
+}
+
 // What stands at the front, where that is no blank and no comment.
 pub(crate) fn front_cut(second: bool, bytes: &[u8]) -> Result<Cut, Stop>
-    requires { 0 < length bytes.now }
     ensures value { front_of result ≡ front second bytes.now }
     ensures within { reach_of result ≤ length bytes.now }
 {
@@ -42,9 +50,6 @@ pub(crate) fn front_cut(second: bool, bytes: &[u8]) -> Result<Cut, Stop>
                 mark_cut(second, bytes)
             }
         }
-        [] => Err(Stop {
-            name: FaultName::X1,
-            offset: 0,
-        }),
+        [] => Err(Stop::at_front(FaultName::X1)),
     }
 }

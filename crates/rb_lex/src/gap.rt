@@ -6,7 +6,7 @@ use crate::bytes::{is_blank, is_comment_byte, place_after};
 use rb_base::{FaultName, Place, SourceFault};
 
 // A place in a source, and the bytes from there on.
-#[derive(Clone, Copy, Debug)]
+#[derive(Clone, Copy)]
 pub(crate) struct Point<'a> {
     pub(crate) place: Place,
     pub(crate) left: &'a [u8],
@@ -42,7 +42,7 @@ pub(crate) fn pass_gap<'a>(place: Place, bytes: &'a [u8]) -> Result<Point<'a>, S
 
 // What a byte does before a token: it is passed, and a comment goes on after it or not; or a token begins; or
 // no comment holds it.
-#[derive(Clone, Copy, Debug)]
+#[derive(Clone, Copy)]
 pub(crate) enum Step {
     Pass(bool),
     Begin,

@@ -4,6 +4,7 @@
 mod bytes;
 mod cut;
 mod gap;
+pub mod laws;
 pub mod lexer;
 mod marks;
 mod numbers;
@@ -14,3 +15,6 @@ mod words;
 
 pub use lexer::Lexer;
 pub use token::{Kind, Token};
+
+#[cfg(test)]
+mod tests;

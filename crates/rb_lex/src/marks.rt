@@ -19,10 +19,7 @@ pub(crate) fn mark_cut(second: bool, bytes: &[u8]) -> Result<Cut, Stop>
             kind: Kind::Mark,
             size: 1,
         }),
-        _ => Err(Stop {
-            name: FaultName::X1,
-            offset: 0,
-        }),
+        _ => Err(Stop::at_front(FaultName::X1)),
     }
 }
 

@@ -21,10 +21,7 @@ pub(crate) fn number_cut(bytes: &[u8]) -> Result<Cut, Stop>
             kind: Kind::Number(value as i64),
             size,
         }),
-        None => Err(Stop {
-            name: FaultName::X3,
-            offset: 0,
-        }),
+        None => Err(Stop::at_front(FaultName::X3)),
     }
 }
 

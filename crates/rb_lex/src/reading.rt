@@ -9,7 +9,7 @@ use crate::token::Token;
 use rb_base::{Place, SourceFault};
 
 // A token, or none at the end, and the point after it.
-#[derive(Clone, Copy, Debug)]
+#[derive(Clone, Copy)]
 pub(crate) struct Reading<'a> {
     pub(crate) token: Option<Token<'a>>,
     pub(crate) after: Point<'a>,

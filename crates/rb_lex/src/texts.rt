@@ -27,10 +27,7 @@ pub(crate) fn text_cut(bytes: &[u8]) -> Result<Cut, Stop>
             break;
         }
         if passed >= LONGEST_TEXT {
-            return Err(Stop {
-                name: FaultName::X4,
-                offset: 0,
-            });
+            return Err(Stop::at_front(FaultName::X4));
         }
         if !is_printable(*b) {
             return Err(Stop {
@@ -41,8 +38,5 @@ pub(crate) fn text_cut(bytes: &[u8]) -> Result<Cut, Stop>
         passed += 1;
         rest = after;
     }
-    Err(Stop {
-        name: FaultName::X2,
-        offset: 0,
-    })
+    Err(Stop::at_front(FaultName::X2))
 }

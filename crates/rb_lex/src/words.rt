@@ -19,10 +19,7 @@ pub(crate) fn name_cut(second: bool, bytes: &[u8]) -> Result<Cut, Stop>
 {
     let size = name_len(bytes);
     if size > LONGEST_NAME {
-        return Err(Stop {
-            name: FaultName::X5,
-            offset: 0,
-        });
+        return Err(Stop::at_front(FaultName::X5));
     }
     let kind = if is_reserved(second, &bytes[..size]) {
         Kind::Word

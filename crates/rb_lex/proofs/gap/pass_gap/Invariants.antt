@@ -1,4 +1,4 @@
-use Rattle.std.proofs.Common.{◌≡◌, ◌+◌, ◌*◌, ◌≤◌, length, Bool, false}
+use Rattle.std.proofs.Common.{◌≡◌, length, Bool, false}
 use Rattle.rb_lex.specs.Tokens.{next_from}
 use Rattle.rb_lex.specs.Gaps.{HasRoom}
 use Rattle.rb_lex.proofs.gap.pass_gap.Given as goal
