@@ -1,4 +1,5 @@
 pub mod Terminals
+pub mod Spellings
 pub mod Grammar
 pub mod Parts
 pub mod Plans
