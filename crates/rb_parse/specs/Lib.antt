@@ -5,5 +5,6 @@ pub mod Parts
 pub mod Plans
 pub mod Table
 pub mod Machine
+pub mod Reading
 pub mod Scoped
 pub mod Verdict

@@ -1,7 +1,9 @@
 // The parser: from the bytes of a source to its tree, or to the first fault.
 #![tactic(auto)]
 
+mod cursor;
 pub mod parser;
+mod stop;
 pub mod terminal;
 
 pub use parser::parse;

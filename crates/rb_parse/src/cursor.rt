@@ -1,0 +1,126 @@
+ghost use Rattle.std.specs.Prelude.{◌≡◌, ◌+◌, ◌^◌, ◌<◌, ◌≤◌, length, IfOk, IfErr};
+ghost use Rattle.rb_lex.specs.Reader.{lexeme_of};
+ghost use Rattle.rb_lex.specs.Tokens.{AtFault};
+ghost use Rattle.rb_lex.specs.TokenList.{tokens_of, ending_of};
+ghost use Rattle.rb_parse.specs.Grammar.{start_of};
+ghost use Rattle.rb_parse.specs.Machine.{Advances, blocks_after, fits, look, names_after};
+ghost use Rattle.rb_parse.specs.Reading.{Misses, Stopped, terminal_ahead};
+
+use crate::stop::Stop;
+use crate::terminal::Terminal;
+use rb_base::SourceFault;
+use rb_lex::{Lexer, Token};
+use std::marker::Model;
+
+/// Stands before a token of a source, and knows which. Contracts see the tokens left, how they end, and how many
+/// names and recoveries came before.
+#[derive(Debug, Drop)]
+pub(crate) struct Cursor<'a> {
+    lexer: Lexer<'a>,
+    ahead: Option<Token<'a>>,
+    terminal: Option<Terminal>,
+    names: u32,
+    recoveries: u32,
+}
+
+impl<'a> Model for Cursor<'a> {
+    ghost use Rattle.rb_parse.specs.Reading.{Position, position_of, IsSound};
+
+    ghost Value = { Position };
+
+    ghost view = { λ c. position_of c.ahead c.lexer c.names c.recoveries };
+
+    ghost invariant = { λ c. IsSound c.terminal (position_of c.ahead c.lexer c.names c.recoveries) };
+}
+
+impl<'a> Cursor<'a> {
+    /// Stands before the first token.
+    pub(crate) fn new(source: &'a [u8]) -> Result<Self, SourceFault>
+        requires { length source.now ≤ 1048576 }
+        ensures ok { IfOk result (λ cursor. cursor ≡ record { point = start_of (tokens_of source.now); ending = ending_of source.now }) }
+        ensures err { IfErr result (λ fault. ending_of source.now ≡ AtFault fault) }
+    {
+        let mut lexer = Lexer::new(source);
+        let ahead = lexer.next()?;
+        Ok(Cursor {
+            terminal: terminal_ahead(&ahead),
+            lexer,
+            ahead,
+            names: 0,
+            recoveries: 0,
+        })
+    }
+
+    /// What stands first, or `None` at the end.
+    pub(crate) fn look(&self) -> Option<Terminal>
+        ensures { result ≡ look self.now.point.left }
+    {
+        self.terminal
+    }
+
+    /// Takes the first token, which is to be of this terminal.
+    pub(crate) fn take(&mut self, terminal: Terminal) -> Result<Token<'a>, Stop>
+        ensures ok { IfOk result (λ token. Advances terminal (lexeme_of token) self.old.point self.new.point) }
+        ensures err { IfErr result (Stopped (Misses terminal self.old self.new) self.old.ending) }
+        ensures ending { self.new.ending ≡ self.old.ending }
+    {
+        let Some(token) = self.ahead else {
+            return Err(Stop::Form);
+        };
+        if !fits(self.terminal, terminal) {
+            return Err(Stop::Form);
+        }
+        match self.lexer.next() {
+            Ok(ahead) => {
+                self.names = names_after(terminal, self.names);
+                self.recoveries = blocks_after(terminal, self.recoveries);
+                self.terminal = terminal_ahead(&ahead);
+                self.ahead = ahead;
+                Ok(token)
+            }
+            Err(fault) => {
+                self.terminal = None;
+                self.ahead = None;
+                Err(Stop::Token(fault))
+            }
+        }
+    }
+}
+
+fn fits(first: Option<Terminal>, terminal: Terminal) -> bool
+    ensures { result ≡ fits first terminal }
+{
+    match first {
+        Some(first) => first == terminal,
+        None => false,
+    }
+}
+
+fn terminal_ahead(ahead: &Option<Token<'_>>) -> Option<Terminal>
+    ensures { result ≡ terminal_ahead ahead.now }
+{
+    match ahead {
+        Some(token) => Terminal::of(token),
+        None => None,
+    }
+}
+
+fn names_after(terminal: Terminal, names: u32) -> u32
+    requires { names < 2 ^ 21 }
+    ensures { result ≡ names_after (Some terminal) names }
+{
+    match terminal {
+        Terminal::Name => names + 1,
+        _ => names,
+    }
+}
+
+fn blocks_after(terminal: Terminal, blocks: u32) -> u32
+    requires { blocks < 2 ^ 21 }
+    ensures { result ≡ blocks_after (Some terminal) blocks }
+{
+    match terminal {
+        Terminal::Ensure => blocks + 1,
+        _ => blocks,
+    }
+}
