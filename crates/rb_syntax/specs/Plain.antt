@@ -22,7 +22,7 @@ use Rattle.rb_syntax.specs.Tree.{Identifier, Expression, Literal, Variable, Form
 abbrev pub identifier : Name → Identifier
 identifier name = record { text = name.text.now; place = name.place; id = name.id }
 
-abbrev mutual
+unfoldable mutual
   pub expression : Expr → Expression
   expression (Number number) = Literal number
   expression (Value' name index) = Variable (Refer (identifier name) (subscript_behind index))
@@ -63,7 +63,7 @@ printed (Value value) = Amount (expression value)
 abbrev pub print_item : Item → PrintItem
 print_item item = record { place = item.place; what = printed item.what }
 
-abbrev mutual
+unfoldable mutual
   pub command : Statement → Command
   command (Assign target value) = Assignment (reference target) (expression value)
   command (Print items) = Printing (map print_item items.items)
