@@ -1,5 +1,5 @@
 -- The token ahead of a cursor, and the tokens that its lexer has left.
-use Rattle.std.proofs.Common.{◌≡◌, ℕ, zero, suc, ◌+◌, ◌^◌, ◌≤◌, Bool, true, false, List, [], ◌∷◌, length, Option, Some, None, Ok, Err, refl, ap, sym, subst, ◌∙◌, arith}
+use Rattle.std.proofs.Common.{◌≡◌, ℕ, zero, suc, ◌+◌, ◌^◌, ◌<◌, ◌≤◌, Bool, true, false, List, [], ◌∷◌, length, Option, Some, None, Ok, Err, refl, ap, sym, subst, ◌∙◌, arith}
 use denote.Enum.Bare.{same_true}
 use Rattle.rb_base.specs.declared.place.Place.{Place}
 use Rattle.rb_lex.specs.declared.token.Token.{Token}
@@ -114,3 +114,7 @@ module _ (token : Token) (held ahead : Option Token) (terminal : Terminal) (firs
     names_fit = omega (arith, sound.names_fit, names_after-le (Some terminal) names, ap length next_left);
     blocks_fit = omega (arith, sound.blocks_fit, blocks_after-le (Some terminal) blocks, ap length next_left);
   }
+
+  -- one token less is left
+  pub shorter : (old : Position) → position_of held lexer names blocks ≡ old → length (tokens_ahead ahead (tokens_left after)) < length old.point.left
+  shorter old at = omega (arith, ap length next_left, ap (λ x. length x.point.left) at)

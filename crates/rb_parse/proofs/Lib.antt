@@ -1,2 +1,6 @@
 pub mod Running
 pub mod Ahead
+pub mod Spelled
+pub mod Reaching
+pub mod Takes
+pub mod Forms

@@ -1,15 +1,17 @@
-ghost use Rattle.std.specs.Prelude.{◌≡◌, ◌+◌, ◌^◌, ◌<◌, ◌≤◌, length, IfOk, IfErr};
+ghost use Rattle.std.specs.Prelude.{◌≡◌, ◌+◌, ◌^◌, ◌<◌, ◌≤◌, length, IfOk, IfErr, OnOk};
 ghost use Rattle.rb_lex.specs.Reader.{lexeme_of};
 ghost use Rattle.rb_lex.specs.Tokens.{AtFault};
 ghost use Rattle.rb_lex.specs.TokenList.{tokens_of, ending_of};
-ghost use Rattle.rb_parse.specs.Grammar.{start_of};
+ghost use Rattle.rb_parse.specs.Grammar.{TakesName, TakesNumber, start_of};
 ghost use Rattle.rb_parse.specs.Machine.{Advances, blocks_after, fits, look, names_after};
 ghost use Rattle.rb_parse.specs.Reading.{Misses, Stopped, terminal_ahead};
+ghost use Rattle.rb_syntax.specs.Plain.{identifier};
 
 use crate::stop::Stop;
 use crate::terminal::Terminal;
 use rb_base::SourceFault;
-use rb_lex::{Lexer, Token};
+use rb_lex::{Kind, Lexer, Token};
+use rb_syntax::{Name, Number};
 use std::marker::Model;
 
 /// Stands before a token of a source, and knows which. Contracts see the tokens left, how they end, and how many
@@ -58,11 +60,19 @@ impl<'a> Cursor<'a> {
         self.terminal
     }
 
+    /// Whether what stands first is of this terminal.
+    pub(crate) fn stands_at(&self, terminal: Terminal) -> bool
+        ensures { result ≡ fits (look self.now.point.left) terminal }
+    {
+        fits(self.terminal, terminal)
+    }
+
     /// Takes the first token, which is to be of this terminal.
     pub(crate) fn take(&mut self, terminal: Terminal) -> Result<Token<'a>, Stop>
         ensures ok { IfOk result (λ token. Advances terminal (lexeme_of token) self.old.point self.new.point) }
         ensures err { IfErr result (Stopped (Misses terminal self.old self.new) self.old.ending) }
         ensures ending { self.new.ending ≡ self.old.ending }
+        ensures shorter { OnOk result (length self.new.point.left < length self.old.point.left) }
     {
         let Some(token) = self.ahead else {
             return Err(Stop::Form);
@@ -84,6 +94,39 @@ impl<'a> Cursor<'a> {
                 Err(Stop::Token(fault))
             }
         }
+    }
+
+    /// Takes the first token, which is to be a name.
+    pub(crate) fn take_name(&mut self) -> Result<Name<'a>, Stop>
+        ensures ok { IfOk result (λ name. TakesName (identifier name) self.old.point self.new.point) }
+        ensures err { IfErr result (Stopped (Misses Terminal.Name self.old self.new) self.old.ending) }
+        ensures ending { self.new.ending ≡ self.old.ending }
+        ensures shorter { OnOk result (length self.new.point.left < length self.old.point.left) }
+    {
+        let id = self.names;
+        let token = self.take(Terminal::Name)?;
+        Ok(Name {
+            text: token.text,
+            place: token.place,
+            id,
+        })
+    }
+
+    /// Takes the first token, which is to be a number.
+    pub(crate) fn take_number(&mut self) -> Result<Number, Stop>
+        ensures ok { IfOk result (λ number. TakesNumber number self.old.point self.new.point) }
+        ensures err { IfErr result (Stopped (Misses Terminal.Number self.old self.new) self.old.ending) }
+        ensures ending { self.new.ending ≡ self.old.ending }
+        ensures shorter { OnOk result (length self.new.point.left < length self.old.point.left) }
+    {
+        let token = self.take(Terminal::Number)?;
+        let Kind::Number(value) = token.kind else {
+            unreachable!()
+        };
+        Ok(Number {
+            value,
+            place: token.place,
+        })
     }
 }
 
