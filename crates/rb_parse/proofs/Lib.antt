@@ -4,3 +4,4 @@ pub mod Spelled
 pub mod Reaching
 pub mod Takes
 pub mod Forms
+pub mod Pushing

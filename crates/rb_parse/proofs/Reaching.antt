@@ -17,6 +17,9 @@ use Rattle.rb_parse.specs.Table.{begin, start, empty}
 use Rattle.rb_parse.proofs.Running.{bind-assoc, run_token, run_misses, run_start, run_empty, run_none, run_begin, run_begin_here}
 use Rattle.rb_syntax.specs.Tree.{Tree}
 
+true_not_false : true ≡ false → ⊥
+true_not_false e = cc
+
 -- a part was begun at one point, and at another this plan is left of it
 pub record Reaches (part : Part) (a : Point) (plan : Plan (Value part)) (b : Point) : Type 0 where
   pub leads : (k : Value part → Plan Tree) → run (Call part k) a ≡ run (bind plan k) b
@@ -62,8 +65,8 @@ pub complete : {part : Part} {a b : Point} {v : Value part} → Reaches part a (
 complete r = record { leads = r.leads }
 
 -- another way to say what is left
-pub same_rest : {part part_first : Part} {a b : Point} (f g : Value part_first → Plan (Value part)) → ((v : Value part_first) → f v ≡ g v) → Reaches part a (Call part_first f) b → Reaches part a (Call part_first g) b
-same_rest {b = b} f g e r = record { leads = λ k. r.leads k ∙ λ j. run (Call _ (λ v. bind (e v j) k)) b }
+pub same_rest : {part : Part} (part_first : Part) {a b : Point} (f g : Value part_first → Plan (Value part)) → ((v : Value part_first) → f v ≡ g v) → Reaches part a (Call part_first f) b → Reaches part a (Call part_first g) b
+same_rest part_first {b = b} f g e r = record { leads = λ k. r.leads k ∙ λ j. run (Call part_first (λ v. bind (e v j) k)) b }
 
 pub same_value : {part : Part} {a b : Point} {v w : Value part} → v ≡ w → Reads part v a b → Reads part w a b
 same_value {b = b} e r = record { leads = λ k. r.leads k ∙ ap (λ v. run (k v) b) e }
@@ -108,7 +111,11 @@ exit {Q = Q} {old = old} r e same f h =
     subst (λ x. IfErr x (Stopped Q old)) (sym p.1) (subst (Stopped Q old) (sym p.2) (stopped same f h))
 
 -- what the exit of a `?` hands on where memory ran out
-pub exit_memory : {T : Type 0} (Q : Type 0) (old : Ending) (r : Result T Stop) → IsErrAnd r (λ stop. stop ≡ stops.Memory) → IfErr r (Stopped Q old)
-exit_memory Q old r e =
+pub exit_memory : {T : Type 0} (Q : Type 0) (old : Ending) (r : Result T Stop) (given : Stop) → IsErrAnd r (λ stop. stop ≡ given) → given ≡ stops.Memory → IfErr r (Stopped Q old)
+exit_memory Q old r given e h =
     let p = err_from_is_err_and r e in
-    subst (λ x. IfErr x (Stopped Q old)) (sym p.1) (subst (Stopped Q old) (sym p.2) by_memory)
+    subst (λ x. IfErr x (Stopped Q old)) (sym p.1) (subst (Stopped Q old) (sym (p.2 ∙ h)) by_memory)
+
+-- what stands first was not missed
+pub not_missed : {P : Type 0} {terminal : Terminal} {old new : Position} → fits (look old.point.left) terminal ≡ true → Misses terminal old new → P
+not_missed e m = absurd (true_not_false (sym e ∙ m.other))

@@ -2,6 +2,7 @@
 -- of the table takes.
 use Rattle.std.specs.Prelude.{◌≡◌, ℕ, ◌+◌, Bool, true, false, cond, List, [], ◌∷◌, Option, Some, None}
 use denote.Enum.Bare.{sameb}
+use Rattle.rb_base.specs.declared.place.Place.{Place}
 use Rattle.rb_lex.specs.declared.token.Kind.TheVariants as kinds
 use Rattle.rb_lex.specs.Bytes.{first_place}
 use Rattle.rb_lex.specs.Tokens.{Lexeme}
@@ -69,6 +70,10 @@ run plan point = read point.left point.names point.blocks plan
 abbrev pub look : List Lexeme → Option Terminal
 look [] = None
 look (token ∷ others) = terminal_of token
+
+abbrev pub place_of : List Lexeme → Option Place
+place_of [] = None
+place_of (token ∷ others) = Some token.place
 
 -- the first token of a point; at the end nothing stands for it
 abbrev pub no_token : Lexeme

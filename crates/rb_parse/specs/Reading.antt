@@ -5,12 +5,14 @@ use Rattle.rb_lex.specs.Reader.{Reader, lexeme_of}
 use Rattle.rb_lex.specs.Tokens.{Lexeme, Ending, AtFault}
 use Rattle.rb_lex.specs.TokenList.{tokens_left, ending_left}
 use Rattle.rb_base.specs.declared.fault.SourceFault.{SourceFault}
+use Rattle.rb_parse.specs.declared.expressions.Operator.{Operator}
 use Rattle.rb_parse.specs.declared.stop.Stop.{Stop}
 use Rattle.rb_parse.specs.declared.stop.Stop.TheVariants as stops
 use Rattle.rb_parse.specs.declared.terminal.Terminal.{Terminal}
 use Rattle.rb_parse.specs.Grammar.{Point}
 use Rattle.rb_parse.specs.Machine.{fits, look}
 use Rattle.rb_parse.specs.Terminals.{terminal_of}
+use Rattle.rb_syntax.specs.declared.expression.Op.{Op}
 
 -- where a cursor stands: the point, and how its tokens end
 pub record Position : Type 0 where
@@ -49,3 +51,8 @@ pub record IsSound (terminal : Option Terminal) (at : Position) : Type 0 where
   pub looks : terminal ≡ look at.point.left
   pub names_fit : at.point.names + length at.point.left ≤ 2 ^ 20
   pub blocks_fit : at.point.blocks + length at.point.left ≤ 2 ^ 20
+
+-- An operator that the code found: that of what stands first, and which terminal this is.
+abbrev pub FindsOperator : Option Op → Option Terminal → Option Operator → Type 0
+FindsOperator here first None = here ≡ None
+FindsOperator here first (Some found) = (here ≡ Some found.op) × (first ≡ Some found.terminal)

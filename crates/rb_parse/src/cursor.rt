@@ -3,13 +3,13 @@ ghost use Rattle.rb_lex.specs.Reader.{lexeme_of};
 ghost use Rattle.rb_lex.specs.Tokens.{AtFault};
 ghost use Rattle.rb_lex.specs.TokenList.{tokens_of, ending_of};
 ghost use Rattle.rb_parse.specs.Grammar.{TakesName, TakesNumber, start_of};
-ghost use Rattle.rb_parse.specs.Machine.{Advances, blocks_after, fits, look, names_after};
+ghost use Rattle.rb_parse.specs.Machine.{Advances, blocks_after, fits, look, names_after, place_of};
 ghost use Rattle.rb_parse.specs.Reading.{Misses, Stopped, terminal_ahead};
 ghost use Rattle.rb_syntax.specs.Plain.{identifier};
 
 use crate::stop::Stop;
 use crate::terminal::Terminal;
-use rb_base::SourceFault;
+use rb_base::{Place, SourceFault};
 use rb_lex::{Kind, Lexer, Token};
 use rb_syntax::{Name, Number};
 use std::marker::Model;
@@ -65,6 +65,30 @@ impl<'a> Cursor<'a> {
         ensures { result ≡ fits (look self.now.point.left) terminal }
     {
         fits(self.terminal, terminal)
+    }
+
+    /// The place of what stands first, or `None` at the end.
+    pub(crate) fn place(&self) -> Option<Place>
+        ensures { result ≡ place_of self.now.point.left }
+    {
+        match self.ahead {
+            Some(token) => Some(token.place),
+            None => None,
+        }
+    }
+
+    /// How many names came before.
+    pub(crate) fn names(&self) -> u32
+        ensures { result ≡ self.now.point.names }
+    {
+        self.names
+    }
+
+    /// How many recoveries came before.
+    pub(crate) fn recoveries(&self) -> u32
+        ensures { result ≡ self.now.point.blocks }
+    {
+        self.recoveries
     }
 
     /// Takes the first token, which is to be of this terminal.

@@ -2,8 +2,10 @@
 #![tactic(auto)]
 
 mod cursor;
+mod declarations;
 mod expressions;
 pub mod parser;
+mod statements;
 mod stop;
 pub mod terminal;
 

@@ -3,7 +3,7 @@ use Rattle.rb_parse.specs.Parts.{Part}
 use Rattle.rb_parse.specs.Plans.{Done}
 use Rattle.rb_parse.specs.Table.{number_of}
 use Rattle.rb_parse.proofs.Forms.{term_place}
-use Rattle.rb_parse.proofs.Reaching.{starts, begins, complete, same_value, by_part, missed, stops_within, exit}
+use Rattle.rb_parse.proofs.Reaching.{starts, begins, complete, same_value, by_part, not_missed, stops_within, exit}
 use Rattle.rb_parse.proofs.Takes.{number_taken, number_is}
 use Rattle.rb_syntax.proofs.Bridge.{expression_number, expression_value}
 use Rattle.rb_syntax.specs.Tree.{Literal, Variable}
@@ -11,7 +11,7 @@ use Rattle.rb_parse.proofs.expressions.read_term.Goals as goal
 
 pub returns-in_err-number-clause-err : goal.returns-in_err-number-clause-err
 returns-in_err-number-clause-err c =
-    exit c.from_residual.result c.from_residual.ensures.1 refl (λ m. absurd ?) c.in_err-number.ensures.err
+    exit c.from_residual.result c.from_residual.ensures.1 refl (not_missed (sym c.if-stands_at.ensures)) c.in_err-number.ensures.err
 
 pub returns-in_err-target-clause-err : goal.returns-in_err-target-clause-err
 returns-in_err-target-clause-err c =
