@@ -63,7 +63,7 @@ fn read_declarations<'a>(alloc: Global, cursor: &mut Cursor<'a>) -> Result<Vec<V
     ensures shorter { OnOk result (length cursor.new.point.left ≤ length cursor.old.point.left) }
 {
     let mut vars = Vec::new(alloc);
-    while cursor.stands_at(Terminal::Var) {
+    'vars: while cursor.stands_at(Terminal::Var) {
         let var = read_declaration(cursor)?;
         vars.push(var)?;
     }

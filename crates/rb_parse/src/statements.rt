@@ -1,4 +1,4 @@
-ghost use Rattle.std.specs.Prelude.{◌≡◌, ◌≤◌, ◌<◌, length, map, true, IfOk, IfErr, OnOk};
+ghost use Rattle.std.specs.Prelude.{◌≡◌, ◌≤◌, ◌<◌, length, map, true, false, IfOk, IfErr, OnOk};
 ghost use Rattle.std.specs.Option.{is_some};
 ghost use Rattle.rb_parse.specs.Grammar.{between_quotes};
 ghost use Rattle.rb_parse.specs.Machine.{Reads, Stops, fits, look};
@@ -25,7 +25,7 @@ pub(crate) fn read_statements<'a>(
     ensures shorter { OnOk result (length cursor.new.point.left ≤ length cursor.old.point.left) }
 {
     let mut statements = Vec::new(alloc);
-    while begins_statement(cursor.look()) {
+    'statements: while begins_statement(cursor.look()) {
         let statement = read_statement(alloc, cursor)?;
         statements.push(statement)?;
     }
@@ -87,7 +87,7 @@ fn read_items<'a>(alloc: Global, cursor: &mut Cursor<'a>) -> Result<Vec<Item<'a>
     let mut items = Vec::new(alloc);
     let first = read_item(alloc, cursor)?;
     items.push(first)?;
-    while cursor.stands_at(Terminal::Comma) {
+    'items: while cursor.stands_at(Terminal::Comma) {
         cursor.take(Terminal::Comma)?;
         let item = read_item(alloc, cursor)?;
         items.push(item)?;
