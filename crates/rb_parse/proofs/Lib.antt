@@ -4,4 +4,5 @@ pub mod Spelled
 pub mod Reaching
 pub mod Takes
 pub mod Forms
+pub mod Made
 pub mod Pushing

@@ -93,20 +93,20 @@ abbrev pub start_process : Option Terminal → Start ProcessDeclaration
 start_process (Some terminals.Process) = Some (λ process. Token terminals.Name (λ name. Token terminals.OpenBrace (λ open_brace. Call Part.Declarations (λ variables. Call Part.Statements (λ commands. Token terminals.CloseBrace (λ close_brace. Done (record { name = name_of name; variables = variables; procedures = []; commands = commands })))))))
 start_process _ = None
 
--- the tree of one process, at the last token
-abbrev pub program_of : Identifier → ProcessDeclaration → Seen → Tree
-program_of name process dot = record {
+-- the tree of one process, with the numbers of names and recoveries
+abbrev pub program_of : Identifier → ProcessDeclaration → ℕ → ℕ → Tree
+program_of name process names blocks = record {
   name = name;
   channels = [];
   conversations = [];
   processes = process ∷ [];
-  names = dot.names;
-  blocks = dot.blocks;
+  names = names;
+  blocks = blocks;
   edition = 1;
 }
 
 abbrev pub start_program : Option Terminal → Start Tree
-start_program (Some terminals.Program) = Some (λ program. Token terminals.Name (λ name. Token terminals.Semicolon (λ semicolon. Call Part.Process (λ process. Token terminals.End (λ end. Token terminals.Dot (λ dot. Done (program_of (name_of name) process dot)))))))
+start_program (Some terminals.Program) = Some (λ program. Token terminals.Name (λ name. Token terminals.Semicolon (λ semicolon. Call Part.Process (λ process. Token terminals.End (λ end. Token terminals.Dot (λ dot. Done (program_of (name_of name) process dot.names dot.blocks)))))))
 start_program _ = None
 
 abbrev pub start : (part : Part) → Option Terminal → Start (Value part)
