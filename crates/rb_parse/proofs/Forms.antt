@@ -8,10 +8,10 @@ use Rattle.rb_parse.specs.contracts.terminal.Terminal.{the_type}
 use Rattle.rb_parse.specs.declared.terminal.Terminal.{Terminal}
 use Rattle.rb_parse.specs.declared.terminal.Terminal.TheVariants as terminals
 use Rattle.rb_parse.specs.Grammar.{Point, chain}
-use Rattle.rb_parse.specs.Machine.{Advances, fits, look, first_of, place_of}
+use Rattle.rb_parse.specs.Machine.{Advances, fits, look, first_of, seen_at, place_of}
 use Rattle.rb_parse.specs.Parts.{Part}
 use Rattle.rb_parse.specs.Plans.{Seen, Plan, Done, Token, Call}
-use Rattle.rb_parse.specs.Table.{Start, begin, start_place, start_term, sum_operator, start_link, start_expression, start_item, start_more_items, start_statement, start_statements, start_declaration, start_declarations, start_process, start_program}
+use Rattle.rb_parse.specs.Table.{Start, begin, variable_after, sum_after, expression_after, amount_after, items_after, assignment_after, statements_after, declarations_after, start_place, start_term, sum_operator, start_link, start_expression, start_item, start_more_items, start_statement, start_statements, start_declaration, start_declarations, start_process, start_program}
 use Rattle.rb_parse.proofs.Reaching.{Reaches, starts, begins, begins_here}
 use Rattle.rb_syntax.specs.declared.expression.Op.{Op}
 use Rattle.rb_syntax.specs.Tree.{Expression, Variable, Linked, PrintItem, Words, Amount, Assignment, Then}
@@ -20,16 +20,16 @@ pub no_place : (first : Option Terminal) → fits first terminals.Name ≡ false
 no_place (Some terminals.Name) e = absurd cc
 no_place _ e = refl
 
-pub term_place : (first : Option Terminal) → fits first terminals.Number ≡ false → start_term first ≡ begin (start_place first) (λ seen place. Done (Variable place))
+pub term_place : (first : Option Terminal) → fits first terminals.Number ≡ false → start_term first ≡ begin (start_place first) variable_after
 term_place (Some terminals.Number) e = absurd cc
 term_place _ e = refl
 
 -- a sum begins with a term
-pub sum_term : (a : Point) → Reaches Part.Sum a (Call Part.Term (λ term. Call Part.MoreTerms (λ links. Done (chain term links)))) a
-sum_term a = begins Part.Term a (λ seen term. Call Part.MoreTerms (λ links. Done (chain term links))) refl refl refl
+pub sum_term : (a : Point) → Reaches Part.Sum a (Call Part.Term (sum_after (seen_at a))) a
+sum_term a = begins Part.Term a sum_after refl refl refl
 
-pub expression_sum : (a : Point) → Reaches Part.Expression a (Call Part.Sum (λ sum. Done sum)) a
-expression_sum a = begins Part.Sum a (λ seen sum. Done sum) refl refl refl
+pub expression_sum : (a : Point) → Reaches Part.Expression a (Call Part.Sum (expression_after (seen_at a))) a
+expression_sum a = begins Part.Sum a expression_after refl refl refl
 
 fits_same : (first : Option Terminal) (terminal : Terminal) → first ≡ Some terminal → fits first terminal ≡ true
 fits_same first terminal e = ap (λ x. fits x terminal) e ∙ true_same the_type terminal terminal refl
@@ -52,59 +52,50 @@ some_declaration (Some terminals.Var) e = refl
 some_declaration _ e = absurd cc
 
 -- declarations begin with a declaration, where one begins
-pub declarations_first : (a : Point) → fits (look a.left) terminals.Var ≡ true → Reaches Part.Declarations a (Call Part.Declaration (λ declaration. Call Part.Declarations (λ others. Done (declaration ∷ others)))) a
+pub declarations_first : (a : Point) → fits (look a.left) terminals.Var ≡ true → Reaches Part.Declarations a (Call Part.Declaration (declarations_after (seen_at a))) a
 declarations_first a e =
-    begins_here Part.Declaration a (λ seen declaration. Call Part.Declarations (λ others. Done (declaration ∷ others))) refl (some_declaration (look a.left) e)
+    begins_here Part.Declaration a declarations_after refl (some_declaration (look a.left) e)
 
 pub no_declarations : (first : Option Terminal) → fits first terminals.Var ≡ false → start_declarations first ≡ None
-no_declarations first e =
-    ap (λ begun. begin begun (λ seen declaration. Call Part.Declarations (λ others. Done (declaration ∷ others)))) (no_declaration first e)
+no_declarations first e = ap (λ begun. begin begun declarations_after) (no_declaration first e)
 
 -- statements begin with a statement, where one begins
-pub statements_first : (a : Point) → is_some (start_statement (look a.left)) ≡ true → Reaches Part.Statements a (Call Part.Statement (λ statement. Call Part.Statements (λ others. Done (Then statement others)))) a
-statements_first a e =
-    begins_here Part.Statement a (λ seen statement. Call Part.Statements (λ others. Done (Then statement others))) refl e
+pub statements_first : (a : Point) → is_some (start_statement (look a.left)) ≡ true → Reaches Part.Statements a (Call Part.Statement (statements_after (seen_at a))) a
+statements_first a e = begins_here Part.Statement a statements_after refl e
 
 begin_none : {A B : Type 0} (begun : Start A) (rest : Seen → A → Plan B) → is_some begun ≡ false → begin begun rest ≡ None
 begin_none None rest e = refl
 begin_none (Some f) rest e = absurd cc
 
 pub no_statements : (first : Option Terminal) → is_some (start_statement first) ≡ false → start_statements first ≡ None
-no_statements first e =
-    begin_none (start_statement first) (λ seen statement. Call Part.Statements (λ others. Done (Then statement others))) e
+no_statements first e = begin_none (start_statement first) statements_after e
 
-statement_place : (first : Option Terminal) → fits first terminals.Print ≡ false → start_statement first ≡ begin (start_place first) (λ seen place. Token terminals.Becomes (λ becomes. Call Part.Expression (λ value. Token terminals.Semicolon (λ semicolon. Done (Assignment place value)))))
+statement_place : (first : Option Terminal) → fits first terminals.Print ≡ false → start_statement first ≡ begin (start_place first) assignment_after
 statement_place (Some terminals.Print) e = absurd cc
 statement_place _ e = refl
 
 -- a statement that is no `print` begins with a place
-pub assignment_place : (a : Point) → fits (look a.left) terminals.Print ≡ false → Reaches Part.Statement a (Call Part.Place (λ place. Token terminals.Becomes (λ becomes. Call Part.Expression (λ value. Token terminals.Semicolon (λ semicolon. Done (Assignment place value)))))) a
-assignment_place a e =
-    begins Part.Place a (λ seen place. Token terminals.Becomes (λ becomes. Call Part.Expression (λ value. Token terminals.Semicolon (λ semicolon. Done (Assignment place value))))) (statement_place (look a.left) e) refl refl
+pub assignment_place : (a : Point) → fits (look a.left) terminals.Print ≡ false → Reaches Part.Statement a (Call Part.Place (assignment_after (seen_at a))) a
+assignment_place a e = begins Part.Place a assignment_after (statement_place (look a.left) e) refl refl
 
-pub items_first : (a : Point) → Reaches Part.Items a (Call Part.Item (λ item. Call Part.MoreItems (λ others. Done (item ∷ others)))) a
-items_first a = begins Part.Item a (λ seen item. Call Part.MoreItems (λ others. Done (item ∷ others))) refl refl refl
+pub items_first : (a : Point) → Reaches Part.Items a (Call Part.Item (items_after (seen_at a))) a
+items_first a = begins Part.Item a items_after refl refl refl
 
 pub no_more_items : (first : Option Terminal) → fits first terminals.Comma ≡ false → start_more_items first ≡ None
 no_more_items (Some terminals.Comma) e = absurd cc
 no_more_items _ e = refl
 
--- an amount, at the place of its first token
-abbrev pub amount_at : Place → Expression → PrintItem
-amount_at place value = record { place = place; what = Amount value }
-
 -- a text, at its place
 abbrev pub text_at : Place → List ℕ → PrintItem
 text_at place text = record { place = place; what = Words text }
 
-item_amount : (first : Option Terminal) → fits first terminals.Text ≡ false → start_item first ≡ begin (start_expression first) (λ seen value. Done (amount_at seen.token.place value))
+item_amount : (first : Option Terminal) → fits first terminals.Text ≡ false → start_item first ≡ begin (start_expression first) amount_after
 item_amount (Some terminals.Text) e = absurd cc
 item_amount _ e = refl
 
 -- an item that is no text is an expression
-pub item_expression : (a : Point) → fits (look a.left) terminals.Text ≡ false → Reaches Part.Item a (Call Part.Expression (λ value. Done (amount_at (first_of a.left).place value))) a
-item_expression a e =
-    begins Part.Expression a (λ seen value. Done (amount_at seen.token.place value)) (item_amount (look a.left) e) refl refl
+pub item_expression : (a : Point) → fits (look a.left) terminals.Text ≡ false → Reaches Part.Item a (Call Part.Expression (amount_after (seen_at a))) a
+item_expression a e = begins Part.Expression a amount_after (item_amount (look a.left) e) refl refl
 
 pub place_first : (left : List Lexeme) (place : Place) → place_of left ≡ Some place → (first_of left).place ≡ place
 place_first [] place e = absurd cc

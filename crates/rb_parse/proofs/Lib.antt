@@ -5,4 +5,5 @@ pub mod Reaching
 pub mod Takes
 pub mod Forms
 pub mod Made
+pub mod Sound
 pub mod Pushing

@@ -1,5 +1,6 @@
 -- The table: what each part's plan is at the token that stands first, and what a part without tokens gives.
 use Rattle.std.specs.Prelude.{ℕ, ℤ, pos, List, [], ◌∷◌, Option, Some, None}
+use Rattle.rb_base.specs.declared.place.Place.{Place}
 use Rattle.rb_lex.specs.declared.token.Kind.{Kind}
 use Rattle.rb_lex.specs.declared.token.Kind.TheVariants as kinds
 use Rattle.rb_lex.specs.Tokens.{Lexeme}
@@ -41,9 +42,13 @@ abbrev pub start_place : Option Terminal → Start Reference
 start_place (Some terminals.Name) = Some (λ name. Done (Refer (name_of name) Scalar))
 start_place _ = None
 
+-- each form that begins with a part goes on by a plan of its own, `.._after`
+abbrev pub variable_after : Seen → Reference → Plan Expression
+variable_after seen place = Done (Variable place)
+
 abbrev pub start_term : Option Terminal → Start Expression
 start_term (Some terminals.Number) = Some (λ number. Done (Literal (number_of number.token)))
-start_term first = begin (start_place first) (λ seen place. Done (Variable place))
+start_term first = begin (start_place first) variable_after
 
 abbrev pub sum_operator : Option Terminal → Option Op
 sum_operator (Some terminals.Plus) = Some Add
@@ -55,39 +60,61 @@ abbrev pub start_link : Option Op → Start Links
 start_link None = None
 start_link (Some op) = Some (λ seen. Call Part.Term (λ right. Call Part.MoreTerms (λ links. Done (Linked op right links))))
 
+abbrev pub sum_after : Seen → Expression → Plan Expression
+sum_after seen term = Call Part.MoreTerms (λ links. Done (chain term links))
+
 abbrev pub start_sum : Option Terminal → Start Expression
-start_sum first = begin (start_term first) (λ seen term. Call Part.MoreTerms (λ links. Done (chain term links)))
+start_sum first = begin (start_term first) sum_after
+
+abbrev pub expression_after : Seen → Expression → Plan Expression
+expression_after seen sum = Done sum
 
 abbrev pub start_expression : Option Terminal → Start Expression
-start_expression first = begin (start_sum first) (λ seen sum. Done sum)
+start_expression first = begin (start_sum first) expression_after
+
+-- an amount, at the place of its first token
+abbrev pub amount_at : Place → Expression → PrintItem
+amount_at place value = record { place = place; what = Amount value }
+
+abbrev pub amount_after : Seen → Expression → Plan PrintItem
+amount_after seen value = Done (amount_at seen.token.place value)
 
 abbrev pub start_item : Option Terminal → Start PrintItem
 start_item (Some terminals.Text) = Some (λ text. Done (text_item text.token))
-start_item first =
-    begin (start_expression first) (λ seen value. Done (record { place = seen.token.place; what = Amount value }))
+start_item first = begin (start_expression first) amount_after
+
+abbrev pub items_after : Seen → PrintItem → Plan (List PrintItem)
+items_after seen item = Call Part.MoreItems (λ others. Done (item ∷ others))
 
 abbrev pub start_items : Option Terminal → Start (List PrintItem)
-start_items first = begin (start_item first) (λ seen item. Call Part.MoreItems (λ others. Done (item ∷ others)))
+start_items first = begin (start_item first) items_after
 
 abbrev pub start_more_items : Option Terminal → Start (List PrintItem)
 start_more_items (Some terminals.Comma) = Some (λ comma. Call Part.Item (λ item. Call Part.MoreItems (λ others. Done (item ∷ others))))
 start_more_items _ = None
 
+abbrev pub assignment_after : Seen → Reference → Plan Command
+assignment_after seen place = Token terminals.Becomes (λ becomes. Call Part.Expression (λ value. Token terminals.Semicolon (λ semicolon. Done (Assignment place value))))
+
 abbrev pub start_statement : Option Terminal → Start Command
 start_statement (Some terminals.Print) = Some (λ print. Call Part.Items (λ items. Token terminals.Semicolon (λ semicolon. Done (Printing items))))
-start_statement first =
-    begin (start_place first) (λ seen place. Token terminals.Becomes (λ becomes. Call Part.Expression (λ value. Token terminals.Semicolon (λ semicolon. Done (Assignment place value)))))
+start_statement first = begin (start_place first) assignment_after
+
+abbrev pub statements_after : Seen → Command → Plan Commands
+statements_after seen statement = Call Part.Statements (λ others. Done (Then statement others))
 
 abbrev pub start_statements : Option Terminal → Start Commands
-start_statements first = begin (start_statement first) (λ seen statement. Call Part.Statements (λ others. Done (Then statement others)))
+start_statements first = begin (start_statement first) statements_after
 
 abbrev pub start_declaration : Option Terminal → Start Declaration
 start_declaration (Some terminals.Var) = Some (λ var. Token terminals.Name (λ name. Token terminals.Semicolon (λ semicolon. Done (record { name = name_of name; size = None }))))
 start_declaration _ = None
 
+abbrev pub declarations_after : Seen → Declaration → Plan (List Declaration)
+declarations_after seen declaration = Call Part.Declarations (λ others. Done (declaration ∷ others))
+
 abbrev pub start_declarations : Option Terminal → Start (List Declaration)
-start_declarations first =
-    begin (start_declaration first) (λ seen declaration. Call Part.Declarations (λ others. Done (declaration ∷ others)))
+start_declarations first = begin (start_declaration first) declarations_after
 
 abbrev pub start_process : Option Terminal → Start ProcessDeclaration
 start_process (Some terminals.Process) = Some (λ process. Token terminals.Name (λ name. Token terminals.OpenBrace (λ open_brace. Call Part.Declarations (λ variables. Call Part.Statements (λ commands. Token terminals.CloseBrace (λ close_brace. Done (record { name = name_of name; variables = variables; procedures = []; commands = commands })))))))

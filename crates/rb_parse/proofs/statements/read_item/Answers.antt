@@ -2,7 +2,8 @@ use Rattle.std.proofs.Common.{ap, refl, sym, ◌∙◌}
 use Rattle.rb_parse.specs.Grammar.{between_quotes}
 use Rattle.rb_parse.specs.Machine.{first_of}
 use Rattle.rb_parse.specs.Reading.{by_form}
-use Rattle.rb_parse.proofs.Forms.{amount_at, text_at, item_expression, no_item, place_first}
+use Rattle.rb_parse.specs.Table.{amount_at}
+use Rattle.rb_parse.proofs.Forms.{text_at, item_expression, no_item, place_first}
 use Rattle.rb_parse.proofs.Reaching.{starts, by_part, complete, same_value, not_missed, stops_first, stops_within, exit}
 use Rattle.rb_syntax.specs.Plain.{expression}
 use Rattle.rb_parse.proofs.statements.read_item.Goals as goal
