@@ -17,7 +17,7 @@ use Rattle.rb_parse.specs.Machine.{fits, look, names_after, blocks_after, Advanc
 use Rattle.rb_parse.specs.Reading.{Position, position_of, tokens_ahead, terminal_ahead, Misses, Stopped, by_form, IsSound}
 use Rattle.rb_parse.specs.Terminals.{terminal_of}
 
-fits-true : (first : Option Terminal) (terminal : Terminal) → fits first terminal ≡ true → first ≡ Some terminal
+pub fits-true : (first : Option Terminal) (terminal : Terminal) → fits first terminal ≡ true → first ≡ Some terminal
 fits-true None terminal e = absurd cc
 fits-true (Some first) terminal e = ap Some (same_true the_type tt first terminal e)
 

@@ -6,4 +6,5 @@ pub mod Takes
 pub mod Forms
 pub mod Made
 pub mod Sound
+pub mod Accepted
 pub mod Pushing

@@ -69,7 +69,7 @@ pub record Passes (first : Option Terminal) (token : Lexeme) (a b : Point) : Typ
   pub names : b.names ≡ names_after first a.names
   pub blocks : b.blocks ≡ blocks_after first a.blocks
 
-advanced : {terminal : Terminal} {token : Lexeme} {a b : Point} → Passes (Some terminal) token a b → Advances terminal token a b
+pub advanced : {terminal : Terminal} {token : Lexeme} {a b : Point} → Passes (Some terminal) token a b → Advances terminal token a b
 advanced h = record { stands = h.stands; is = h.is; names = h.names; blocks = h.blocks }
 
 plain : {terminal : Terminal} {token : Lexeme} {a b : Point} (h : Advances terminal token a b) → b.names ≡ a.names → b.blocks ≡ a.blocks → Takes terminal a b
@@ -102,7 +102,7 @@ stands_first : {first : Option Terminal} {token : Lexeme} {a b : Point} → Pass
 stands_first {token = token} {b = b} h = record { token = token; others = b.left; stands = h.stands; is = refl }
 
 -- each form of the table, by its row
-abbrev Forms : (part : Part) → Start (Value part) → Lexeme → Point → Point → Type 0
+abbrev pub Forms : (part : Part) → Start (Value part) → Lexeme → Point → Point → Type 0
 Forms part begun token a b = Begun (λ v c. Derives (phrase part v) a c) token a b begun
 
 module _ (token : Lexeme) (a b : Point) where
@@ -177,7 +177,7 @@ module _ (token : Lexeme) (a b : Point) where
       λ name c n semicolon d s process e p end f x dot g z. ended (λ names blocks. Derives (AProgram (program_of (name_of (seen_from name b)) process names blocks)) a g) z.names z.blocks (program_row (plain (advanced h) h.names h.blocks) (named n) (plain s s.names s.blocks) p (plain x x.names x.blocks) (plain z z.names z.blocks))
   program_sound _ h = tt
 
-  start_sound : (part : Part) (first : Option Terminal) → Passes first token a b → Forms part (start part first) token a b
+  pub start_sound : (part : Part) (first : Option Terminal) → Passes first token a b → Forms part (start part first) token a b
   start_sound Part.Program first h = program_sound first h
   start_sound Part.Process first h = process_sound first h
   start_sound Part.Declarations first h = declarations_sound first h
@@ -194,11 +194,11 @@ module _ (token : Lexeme) (a b : Point) where
   start_sound Part.Place first h = place_sound first h
 
 -- and so is what a part without tokens gives
-abbrev Without : (part : Part) → Option (Value part) → Point → Type 0
+abbrev pub Without : (part : Part) → Option (Value part) → Point → Type 0
 Without part None a = Unit {0}
 Without part (Some v) a = Derives (phrase part v) a a
 
-empty_sound : (part : Part) (a : Point) → Without part (empty part) a
+pub empty_sound : (part : Part) (a : Point) → Without part (empty part) a
 empty_sound Part.Declarations a = no_declaration_row
 empty_sound Part.Statements a = no_statement_row
 empty_sound Part.MoreItems a = no_item_row
