@@ -7,4 +7,5 @@ pub mod Forms
 pub mod Made
 pub mod Sound
 pub mod Accepted
+pub mod Complete
 pub mod Pushing
