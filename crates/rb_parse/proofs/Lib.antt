@@ -8,4 +8,5 @@ pub mod Made
 pub mod Sound
 pub mod Accepted
 pub mod Complete
+pub mod Scopes
 pub mod Pushing

@@ -5,6 +5,7 @@ mod cursor;
 mod declarations;
 mod expressions;
 pub mod parser;
+pub mod scoped;
 mod statements;
 mod stop;
 pub mod terminal;
