@@ -3,7 +3,7 @@ use Rattle.std.proofs.Common.{◌≡◌, ℕ, Bool, true, false, cond, List, [],
 use Rattle.rb_lex.specs.Tokens.{Lexeme}
 use Rattle.rb_parse.specs.declared.terminal.Terminal.{Terminal}
 use Rattle.rb_parse.specs.Grammar.{Point, AProgram, Derives, DerivesTree, start_of}
-use Rattle.rb_parse.specs.Machine.{Outcome, Accepted, Refused, fits, names_after, blocks_after, called, finish, feed, read, run, Advances}
+use Rattle.rb_parse.specs.Machine.{Outcome, Accepted, Refused, fits, names_after, blocks_after, called, finish, feed, read, run, whole, Advances}
 use Rattle.rb_parse.specs.Parts.{Part}
 use Rattle.rb_parse.specs.Plans.{Value, Seen, Plan, Done, Token, Call, bind}
 use Rattle.rb_parse.specs.Table.{Start, start, empty}
@@ -63,7 +63,7 @@ module _ (Q : Tree → Point → Type 0) (tree : Tree) where
       fed first token a b (record { stands = refl; is = refl; names = refl; blocks = refl }) (token ∷ others) (λ later. read others (names_after first names) (blocks_after first blocks) later) (λ later f g. accepted others (names_after first names) (blocks_after first blocks) later f g) plan q h
 
 -- an accepted list of tokens derives the tree
-pub accepted_derives : (tokens : List Lexeme) (tree : Tree) → run (Call Part.Program (λ v. Done v)) (start_of tokens) ≡ Accepted tree → DerivesTree tree tokens
+pub accepted_derives : (tokens : List Lexeme) (tree : Tree) → run whole (start_of tokens) ≡ Accepted tree → DerivesTree tree tokens
 accepted_derives tokens tree h =
-    let ends = accepted (λ v c. Derives (AProgram v) (start_of tokens) c) tree tokens 0 0 (Call Part.Program (λ v. Done v)) (λ v c d. d) h in
+    let ends = accepted (λ v c. Derives (AProgram v) (start_of tokens) c) tree tokens 0 0 whole (λ v c d. d) h in
     record { end = ends.0; whole = ends.1; derived = ends.2 }

@@ -7,7 +7,8 @@ use Rattle.rb_lex.specs.Tokens.{Lexeme}
 use Rattle.rb_parse.specs.declared.terminal.Terminal.{Terminal}
 use Rattle.rb_parse.specs.declared.terminal.Terminal.TheVariants as terminals
 use Rattle.rb_parse.specs.Grammar.{Point, Phrase, AProgram, AProcess, Declarations, ADeclaration, Statements, AStatement, Items, MoreItems, AnItem, AnExpression, ASum, MoreTerms, ATerm, APlace, Takes, TakesName, TakesText, StandsAt, plus_row, minus_row, chain, Derives, program_row, process_row, no_declaration_row, declarations_row, declaration_row, no_statement_row, statements_row, assignment_row, print_row, items_row, no_item_row, more_items_row, text_row, amount_row, expression_row, sum_row, no_term_row, more_terms_row, number_row, variable_row, place_row, DerivesTree, start_of}
-use Rattle.rb_parse.specs.Machine.{Outcome, Accepted, fits, names_after, blocks_after, run, look, first_of, seen_at, Advances, Reads}
+use Rattle.rb_parse.specs.Machine.{Outcome, Accepted, fits, names_after, blocks_after, run, whole, look, first_of, seen_at, Advances, Reads}
+use Rattle.rb_parse.specs.Laws.{HasOneTree}
 use Rattle.rb_parse.specs.Parts.{Part}
 use Rattle.rb_parse.specs.Plans.{Value, Plan, Done, Call}
 use Rattle.rb_parse.specs.Table.{Start, begin, amount_at, program_of, sum_operator, start_link, variable_after, sum_after, expression_after, statements_after, declarations_after, start_place, start_term, start_sum, start_expression, start_item, start_items, start_more_items, start_statement, start_statements, start_declaration, start_declarations}
@@ -207,5 +208,9 @@ reads {a = a} (variable_row p) g =
 reads (place_row n) g = same_value (ap (λ name. Refer name Scalar) (sym n.is)) (complete (starts _ refl (name_taken n)))
 
 -- a tree that a list of tokens derives is accepted
-pub derived_accepted : (tree : Tree) (tokens : List Lexeme) → DerivesTree tree tokens → run (Call Part.Program (λ v. Done v)) (start_of tokens) ≡ Accepted tree
+pub derived_accepted : (tree : Tree) (tokens : List Lexeme) → DerivesTree tree tokens → run whole (start_of tokens) ≡ Accepted tree
 derived_accepted tree tokens d = (reads d.derived refl).leads (λ v. Done v) ∙ run_done tree d.end d.whole
+
+pub one_tree : HasOneTree
+one_tree tokens t u d e =
+    let same : Accepted t ≡ Accepted u = sym (derived_accepted t tokens d) ∙ derived_accepted u tokens e in cc

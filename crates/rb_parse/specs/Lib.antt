@@ -5,6 +5,7 @@ pub mod Parts
 pub mod Plans
 pub mod Table
 pub mod Machine
-pub mod Reading
 pub mod Scoped
+pub mod Reading
 pub mod Verdict
+pub mod Laws

@@ -66,6 +66,10 @@ read (token ∷ others) names blocks plan =
 abbrev pub run : Plan Tree → Point → Outcome
 run plan point = read point.left point.names point.blocks plan
 
+-- a whole program is wanted, and nothing behind it
+abbrev pub whole : Plan Tree
+whole = Call Part.Program (λ tree. Done tree)
+
 -- what stands first
 abbrev pub look : List Lexeme → Option Terminal
 look [] = None

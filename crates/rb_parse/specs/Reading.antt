@@ -1,18 +1,24 @@
 -- Where a cursor stands, and why reading stops there.
-use Rattle.std.specs.Prelude.{◌≡◌, ℕ, ◌+◌, ◌^◌, ◌≤◌, length, false, List, [], ◌∷◌, Option, Some, None}
+use Rattle.std.specs.Prelude.{◌≡◌, ℕ, ◌+◌, ◌^◌, ◌≤◌, length, Bool, true, false, List, [], ◌∷◌, Option, Some, None}
 use Rattle.rb_lex.specs.declared.token.Token.{Token}
 use Rattle.rb_lex.specs.Reader.{Reader, lexeme_of}
-use Rattle.rb_lex.specs.Tokens.{Lexeme, Ending, AtFault}
+use Rattle.rb_lex.specs.Tokens.{Lexeme, Ending, AtEnd, AtFault}
 use Rattle.rb_lex.specs.TokenList.{tokens_left, ending_left}
+use Rattle.rb_base.specs.declared.fault.Refusal.{Refusal}
+use Rattle.rb_base.specs.declared.fault.Refusal.TheVariants.{Fault, Memory}
 use Rattle.rb_base.specs.declared.fault.SourceFault.{SourceFault}
+use Rattle.rb_base.specs.declared.place.Place.{Place}
 use Rattle.rb_parse.specs.declared.expressions.Operator.{Operator}
 use Rattle.rb_parse.specs.declared.stop.Stop.{Stop}
 use Rattle.rb_parse.specs.declared.stop.Stop.TheVariants as stops
 use Rattle.rb_parse.specs.declared.terminal.Terminal.{Terminal}
 use Rattle.rb_parse.specs.Grammar.{Point}
-use Rattle.rb_parse.specs.Machine.{fits, look}
+use Rattle.rb_parse.specs.Machine.{Outcome, Accepted, Refused, fits, look}
+use Rattle.rb_parse.specs.Scoped.{is_scoped}
 use Rattle.rb_parse.specs.Terminals.{terminal_of}
 use Rattle.rb_syntax.specs.declared.expression.Op.{Op}
+use Rattle.rb_syntax.specs.declared.program.Program.{Program}
+use Rattle.rb_syntax.specs.Plain.{tree}
 
 -- where a cursor stands: the point, and how its tokens end
 pub record Position : Type 0 where
@@ -56,3 +62,27 @@ pub record IsSound (terminal : Option Terminal) (at : Position) : Type 0 where
 abbrev pub FindsOperator : Option Op → Option Terminal → Option Operator → Type 0
 FindsOperator here first None = here ≡ None
 FindsOperator here first (Some found) = (here ≡ Some found.op) × (first ≡ Some found.terminal)
+
+abbrev pub is_nothing : List Lexeme → Bool
+is_nothing [] = true
+is_nothing (token ∷ others) = false
+
+-- how tokens end: with a fault or not
+abbrev pub EndsBy : Ending → Option SourceFault → Type 0
+EndsBy ending None = (at : Place) × (ending ≡ AtEnd at)
+EndsBy ending (Some fault) = ending ≡ AtFault fault
+
+-- what a reading of all tokens gave: a tree that is accepted, or none, and then they are refused
+abbrev pub Gives : Outcome → Option Program → Type 0
+Gives outcome None = (left : List Lexeme) × (outcome ≡ Refused left)
+Gives outcome (Some program) = outcome ≡ Accepted (tree program)
+
+-- why no tree can be told
+abbrev pub IsNoReading : Ending → Refusal → Type 0
+IsNoReading ending (Fault fault) = ending ≡ AtFault fault
+IsNoReading ending Memory = Unit {0}
+
+-- there is no tree, or it is not run so far
+abbrev pub IsNotRun : Option Program → Type 0
+IsNotRun None = Unit {0}
+IsNotRun (Some program) = is_scoped (tree program) ≡ false

@@ -1,10 +1,10 @@
 ghost use Rattle.std.specs.Prelude.{◌≡◌, ◌+◌, ◌^◌, ◌<◌, ◌≤◌, length, IfOk, IfErr, OnOk};
 ghost use Rattle.rb_lex.specs.Reader.{lexeme_of};
 ghost use Rattle.rb_lex.specs.Tokens.{AtFault};
-ghost use Rattle.rb_lex.specs.TokenList.{tokens_of, ending_of};
+ghost use Rattle.rb_lex.specs.TokenList.{tokens_of, ending_of, ending_left};
 ghost use Rattle.rb_parse.specs.Grammar.{TakesName, TakesNumber, start_of};
 ghost use Rattle.rb_parse.specs.Machine.{Advances, blocks_after, fits, look, names_after, place_of};
-ghost use Rattle.rb_parse.specs.Reading.{Misses, Stopped, terminal_ahead};
+ghost use Rattle.rb_parse.specs.Reading.{EndsBy, Misses, Stopped, is_nothing, terminal_ahead};
 ghost use Rattle.rb_syntax.specs.Plain.{identifier};
 
 use crate::stop::Stop;
@@ -151,6 +151,34 @@ impl<'a> Cursor<'a> {
             value,
             place: token.place,
         })
+    }
+
+    /// Whether no token is left.
+    pub(crate) fn is_at_end(&self) -> bool
+        ensures { result ≡ is_nothing self.now.point.left }
+    {
+        self.ahead.is_none()
+    }
+
+    /// The first fault among what is left, if there is one.
+    pub(crate) fn first_fault(self) -> Option<SourceFault>
+        ensures { EndsBy self.entry.ending result }
+    {
+        let Cursor { mut lexer, .. } = self;
+        first_fault(&mut lexer)
+    }
+}
+
+// Reads on to the end.
+fn first_fault(lexer: &mut Lexer<'_>) -> Option<SourceFault>
+    ensures { EndsBy (ending_left lexer.old) result }
+{
+    'tokens: loop {
+        match lexer.next() {
+            Ok(Some(_)) => {}
+            Ok(None) => return None,
+            Err(fault) => return Some(fault),
+        }
     }
 }
 

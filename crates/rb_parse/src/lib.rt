@@ -4,6 +4,7 @@
 mod cursor;
 mod declarations;
 mod expressions;
+pub mod laws;
 pub mod parser;
 pub mod scoped;
 mod statements;
