@@ -9,4 +9,5 @@ pub mod Sound
 pub mod Accepted
 pub mod Complete
 pub mod Scopes
+pub mod Judged
 pub mod Pushing

@@ -119,3 +119,9 @@ exit_memory Q old r given e h =
 -- what stands first was not missed
 pub not_missed : {P : Type 0} {terminal : Terminal} {old new : Position} → fits (look old.point.left) terminal ≡ true → Misses terminal old new → P
 not_missed e m = absurd (true_not_false (sym e ∙ m.other))
+
+-- a form that is not there
+pub at_form : {P : Type 0} {ending : Ending} {stop : Stop} → Stopped P ending stop → stop ≡ stops.Form → P
+at_form (by_form p) e = p
+at_form (by_token fault h) e = absurd cc
+at_form by_memory e = absurd cc
