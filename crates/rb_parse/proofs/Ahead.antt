@@ -69,7 +69,7 @@ begins source lexer after ahead e a =
 pub begins_sound : (old new : Reader) (ahead : Option Token) → Answers old (Ok ahead) new → length old.left ≤ 1048576 → (terminal : Option Terminal) → terminal ≡ terminal_ahead ahead → IsSound terminal (position_of ahead new 0 0)
 begins_sound old new ahead a few terminal e =
     let shorter : length (tokens_ahead ahead (tokens_left new)) ≤ 1048576 =
-        omega (arith, ap length (next_tokens old new ahead a), few_tokens old) in
+    omega (arith, ap length (next_tokens old new ahead a), few_tokens old) in
     record {
       looks = e ∙ looks_ahead ahead (tokens_left new);
       names_fit = omega arith;

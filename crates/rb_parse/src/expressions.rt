@@ -70,10 +70,7 @@ fn read_terms<'a>(alloc: Global, cursor: &mut Cursor<'a>) -> Result<Vec<Link<'a>
 }
 
 /// Reads an expression.
-pub(crate) fn read_expression<'a>(
-    alloc: Global,
-    cursor: &mut Cursor<'a>,
-) -> Result<Expr<'a>, Stop>
+pub(crate) fn read_expression<'a>(alloc: Global, cursor: &mut Cursor<'a>) -> Result<Expr<'a>, Stop>
     ensures ok { IfOk result (λ value. Reads Part.Expression (expression value) cursor.old.point cursor.new.point) }
     ensures err { IfErr result (Stopped (Stops Part.Expression cursor.old.point cursor.new.point) cursor.old.ending) }
     ensures ending { cursor.new.ending ≡ cursor.old.ending }

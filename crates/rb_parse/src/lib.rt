@@ -13,3 +13,6 @@ pub mod terminal;
 
 pub use parser::parse;
 pub use terminal::Terminal;
+
+#[cfg(test)]
+mod tests;

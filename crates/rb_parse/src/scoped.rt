@@ -7,6 +7,7 @@ ghost use Rattle.rb_syntax.specs.Plain.{command, commands_of, declaration, expre
 use rb_syntax::{Expr, Item, ItemKind, Link, Process, Program, Statement, Target, Var};
 
 const MOST_VARIABLES: usize = 2_048;
+
 const MOST_ITEMS: usize = 16;
 
 /// Whether a program is run so far: it has one process, of scalars with names of their own, and its statements use no
@@ -155,11 +156,8 @@ fn is_known_term(vars: &[Var<'_>], value: &Expr<'_>) -> bool
     match value {
         Expr::Number(_) => true,
         Expr::Value(target) => is_known(vars, target),
-        Expr::Chain(_, _)
-        | Expr::Prior(_, _)
-        | Expr::Neg(_)
-        | Expr::Not(_)
-        | Expr::Quantified(_) => false,
+        Expr::Chain(_, _) | Expr::Prior(_, _) | Expr::Neg(_) | Expr::Not(_) | Expr::Quantified(_) =>
+            false,
     }
 }
 

@@ -15,7 +15,7 @@ returns-in_err-links-clause-err c =
     exit c.from_residual-in_err-links.result c.from_residual-in_err-links.ensures.1 c.in_ok-first.ensures.ending (stops_within (by_part (sum_term _) c.in_ok-first.ensures.ok)) c.in_err-links.ensures.err
 
 pub returns-in_err-value-clause-err : goal.returns-in_err-value-clause-err
-returns-in_err-value-clause-err c = 
+returns-in_err-value-clause-err c =
     exit_memory _ _ c.from_residual-in_err-value.result _ c.from_residual-in_err-value.ensures.1 c.in_err-value.ensures.err
 
 pub returns-clause-ok : goal.returns-clause-ok

@@ -10,7 +10,7 @@ pub returns-in_err-ahead-clause-err : goal.returns-in_err-ahead-clause-err
 returns-in_err-ahead-clause-err c =
     let p = err_from_is_err_and c.from_residual.result c.from_residual.ensures.1 in
     let same : ending_of c.args.source.now ≡ AtFault c.in_err-ahead.field-0.0 =
-        ap (λ r. ending_left r) (sym c.new-lexer.ensures) ∙ (answers_fault c.new-lexer.result c.next.new.self c.in_err-ahead.field-0.0 c.in_err-ahead.ensures).1 in
+    ap (λ r. ending_left r) (sym c.new-lexer.ensures) ∙ (answers_fault c.new-lexer.result c.next.new.self c.in_err-ahead.field-0.0 c.in_err-ahead.ensures).1 in
     subst (λ r. IfErr r (λ fault. ending_of c.args.source.now ≡ AtFault fault)) (sym p.1) (same ∙ ap AtFault (sym p.2))
 
 pub invariant_of-result : goal.invariant_of-result
