@@ -1,5 +1,5 @@
 -- The token ahead of a cursor, and the tokens that its lexer has left.
-use Rattle.std.proofs.Common.{◌≡◌, ℕ, zero, suc, ◌+◌, ◌^◌, ◌<◌, ◌≤◌, Bool, true, false, List, [], ◌∷◌, length, Option, Some, None, Ok, Err, refl, ap, sym, subst, ◌∙◌, arith}
+use Rattle.std.proofs.Common.{◌≡◌, ℕ, zero, suc, ◌+◌, ◌<◌, ◌≤◌, Bool, true, false, List, [], ◌∷◌, length, Option, Some, None, Ok, refl, ap, sym, ◌∙◌, arith}
 use denote.Enum.Bare.{same_true}
 use Rattle.rb_base.specs.declared.place.Place.{Place}
 use Rattle.rb_lex.specs.declared.token.Token.{Token}
@@ -15,7 +15,6 @@ use Rattle.rb_parse.specs.declared.terminal.Terminal.TheVariants as terminals
 use Rattle.rb_parse.specs.Grammar.{start_of}
 use Rattle.rb_parse.specs.Machine.{fits, look, names_after, blocks_after, Advances}
 use Rattle.rb_parse.specs.Reading.{Position, position_of, tokens_ahead, terminal_ahead, Misses, Stopped, by_form, IsSound}
-use Rattle.rb_parse.specs.Terminals.{terminal_of}
 
 pub fits-true : (first : Option Terminal) (terminal : Terminal) → fits first terminal ≡ true → first ≡ Some terminal
 fits-true None terminal e = absurd cc

@@ -1,22 +1,22 @@
 -- The machine accepts what is derived: it reads each row of the grammar, where nothing that it would take too stands
 -- behind it.
-use Rattle.std.proofs.Common.{◌≡◌, ℕ, Bool, true, false, ◌||◌, List, [], ◌∷◌, Option, Some, None, ◌⊎◌, inl, inr, refl, sym, ap, subst, ◌∙◌}
+use Rattle.std.proofs.Common.{◌≡◌, Bool, true, false, ◌||◌, List, [], Option, Some, None, ◌⊎◌, inl, inr, refl, sym, ap, ◌∙◌}
 use Rattle.std.specs.Option.{is_some}
 use Rattle.rb_base.specs.declared.place.Place.{Place}
 use Rattle.rb_lex.specs.Tokens.{Lexeme}
 use Rattle.rb_parse.specs.declared.terminal.Terminal.{Terminal}
 use Rattle.rb_parse.specs.declared.terminal.Terminal.TheVariants as terminals
-use Rattle.rb_parse.specs.Grammar.{Point, Phrase, AProgram, AProcess, Declarations, ADeclaration, Statements, AStatement, Items, MoreItems, AnItem, AnExpression, ASum, MoreTerms, ATerm, APlace, Takes, TakesName, TakesText, StandsAt, plus_row, minus_row, chain, Derives, program_row, process_row, no_declaration_row, declarations_row, declaration_row, no_statement_row, statements_row, assignment_row, print_row, items_row, no_item_row, more_items_row, text_row, amount_row, expression_row, sum_row, no_term_row, more_terms_row, number_row, variable_row, place_row, DerivesTree, start_of}
-use Rattle.rb_parse.specs.Machine.{Outcome, Accepted, fits, names_after, blocks_after, run, whole, look, first_of, seen_at, Advances, Reads}
+use Rattle.rb_parse.specs.Grammar.{Point, Phrase, AProgram, AProcess, Declarations, ADeclaration, Statements, AStatement, Items, MoreItems, AnItem, AnExpression, ASum, MoreTerms, ATerm, APlace, Takes, TakesName, TakesText, StandsAt, plus_row, minus_row, Derives, program_row, process_row, no_declaration_row, declarations_row, declaration_row, no_statement_row, statements_row, assignment_row, print_row, items_row, no_item_row, more_items_row, text_row, amount_row, expression_row, sum_row, no_term_row, more_terms_row, number_row, variable_row, place_row, DerivesTree, start_of}
+use Rattle.rb_parse.specs.Machine.{Accepted, fits, names_after, blocks_after, run, whole, look, first_of, seen_at, Advances, Reads}
 use Rattle.rb_parse.specs.Laws.{HasOneTree}
 use Rattle.rb_parse.specs.Parts.{Part}
-use Rattle.rb_parse.specs.Plans.{Value, Plan, Done, Call}
-use Rattle.rb_parse.specs.Table.{Start, begin, amount_at, program_of, sum_operator, start_link, variable_after, sum_after, expression_after, statements_after, declarations_after, start_place, start_term, start_sum, start_expression, start_item, start_items, start_more_items, start_statement, start_statements, start_declaration, start_declarations}
-use Rattle.rb_parse.proofs.Forms.{no_declarations, no_statements, term_place, sum_term, expression_sum, declarations_first, statements_first, assignment_place, items_first, item_expression}
-use Rattle.rb_parse.proofs.Reaching.{Reaches, starts, begins, begins_here, by_part, by_terminal, complete, same_value, passes}
+use Rattle.rb_parse.specs.Plans.{Plan, Done}
+use Rattle.rb_parse.specs.Table.{Start, begin, amount_at, program_of, sum_operator, start_link, variable_after, sum_after, expression_after, statements_after, declarations_after, start_place, start_term, start_sum, start_expression, start_more_items, start_statement, start_statements, start_declaration, start_declarations}
+use Rattle.rb_parse.proofs.Forms.{no_statements, term_place, sum_term, expression_sum, statements_first, assignment_place, items_first, item_expression}
+use Rattle.rb_parse.proofs.Reaching.{starts, begins, begins_here, by_part, by_terminal, complete, same_value, passes}
 use Rattle.rb_parse.proofs.Running.{run_done}
 use Rattle.rb_parse.proofs.Takes.{name_taken, number_taken, number_is}
-use Rattle.rb_syntax.specs.Tree.{Identifier, Literal, Variable, Refer, Scalar, NoLink, NoCommand, Declaration, ProcessDeclaration, Commands, Tree}
+use Rattle.rb_syntax.specs.Tree.{Identifier, Literal, Refer, Scalar, NoLink, NoCommand, Declaration, ProcessDeclaration, Commands, Tree}
 
 -- a part with its value was read
 abbrev pub IsRead : Phrase → Point → Point → Type 0

@@ -1,5 +1,5 @@
 -- What the table says of what stands first, one fact for each choice that the code makes.
-use Rattle.std.proofs.Common.{◌≡◌, ℕ, Bool, true, false, List, [], ◌∷◌, Option, Some, None, refl, sym, ap, ◌∙◌}
+use Rattle.std.proofs.Common.{◌≡◌, ℕ, true, false, List, [], ◌∷◌, Option, Some, None, refl, sym, ap, ◌∙◌}
 use Rattle.std.specs.Option.{is_some}
 use denote.Enum.Bare.{true_same}
 use Rattle.rb_base.specs.declared.place.Place.{Place}
@@ -7,14 +7,14 @@ use Rattle.rb_lex.specs.Tokens.{Lexeme}
 use Rattle.rb_parse.specs.contracts.terminal.Terminal.{the_type}
 use Rattle.rb_parse.specs.declared.terminal.Terminal.{Terminal}
 use Rattle.rb_parse.specs.declared.terminal.Terminal.TheVariants as terminals
-use Rattle.rb_parse.specs.Grammar.{Point, chain}
+use Rattle.rb_parse.specs.Grammar.{Point}
 use Rattle.rb_parse.specs.Machine.{Advances, fits, look, first_of, seen_at, place_of}
 use Rattle.rb_parse.specs.Parts.{Part}
-use Rattle.rb_parse.specs.Plans.{Seen, Plan, Done, Token, Call}
+use Rattle.rb_parse.specs.Plans.{Seen, Plan, Done, Call}
 use Rattle.rb_parse.specs.Table.{Start, begin, variable_after, sum_after, expression_after, amount_after, items_after, assignment_after, statements_after, declarations_after, start_place, start_term, sum_operator, start_link, start_expression, start_item, start_more_items, start_statement, start_statements, start_declaration, start_declarations, start_process, start_program}
 use Rattle.rb_parse.proofs.Reaching.{Reaches, starts, begins, begins_here}
 use Rattle.rb_syntax.specs.declared.expression.Op.{Op}
-use Rattle.rb_syntax.specs.Tree.{Expression, Variable, Linked, PrintItem, Words, Amount, Assignment, Then}
+use Rattle.rb_syntax.specs.Tree.{Linked, PrintItem, Words}
 
 pub no_place : (first : Option Terminal) → fits first terminals.Name ≡ false → start_place first ≡ None
 no_place (Some terminals.Name) e = absurd cc

@@ -1,16 +1,15 @@
 -- What the machine's outcome says of a source.
-use Rattle.std.proofs.Common.{◌≡◌, ℕ, Bool, true, false, List, [], ◌∷◌, Option, Some, None, Result, Ok, Err, IfOk, IfErr, refl, sym, ap, subst, ◌∙◌}
+use Rattle.std.proofs.Common.{◌≡◌, ℕ, true, false, List, [], ◌∷◌, Option, Some, None, refl, sym, ap, subst, ◌∙◌}
 use Rattle.rb_base.specs.declared.fault.Refusal.{Refusal}
 use Rattle.rb_base.specs.declared.fault.Refusal.TheVariants.{Fault, Memory}
 use Rattle.rb_base.specs.declared.fault.SourceFault.{SourceFault}
 use Rattle.rb_base.specs.declared.fault.FaultName.TheVariants.{Y0}
-use Rattle.rb_base.specs.declared.place.Place.{Place}
 use Rattle.rb_lex.proofs.Lists.{has_list}
 use Rattle.rb_lex.specs.Bytes.{first_place}
 use Rattle.rb_lex.specs.Tokens.{Lexeme, Ending, AtEnd, AtFault, Tokens}
 use Rattle.rb_lex.specs.TokenList.{tokens_of, ending_of}
 use Rattle.rb_parse.specs.Grammar.{Point, DerivesTree, start_of}
-use Rattle.rb_parse.specs.Machine.{Outcome, Accepted, Refused, Reads, Stops, run, whole}
+use Rattle.rb_parse.specs.Machine.{Accepted, Refused, Reads, Stops, run, whole}
 use Rattle.rb_parse.specs.Parts.{Part}
 use Rattle.rb_parse.specs.Plans.{Done}
 use Rattle.rb_parse.specs.Reading.{Gives, IsNoReading, IsNotRun, EndsBy, is_nothing}

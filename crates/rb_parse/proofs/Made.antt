@@ -5,12 +5,11 @@ use Rattle.rb_parse.specs.declared.terminal.Terminal.TheVariants as terminals
 use Rattle.rb_parse.specs.Grammar.{Point}
 use Rattle.rb_parse.specs.Machine.{Advances}
 use Rattle.rb_parse.specs.Table.{program_of}
-use Rattle.rb_syntax.specs.declared.expression.Name.{Name}
 use Rattle.rb_syntax.specs.declared.program.Channel.{Channel}
 use Rattle.rb_syntax.specs.declared.program.Conversation.{Conversation}
 use Rattle.rb_syntax.specs.declared.program.Procedure.{Procedure}
 use Rattle.rb_syntax.specs.declared.program.Process.{Process}
-use Rattle.rb_syntax.specs.Plain.{identifier, channel_declaration, conversation_declaration, procedure_declaration, process_declaration}
+use Rattle.rb_syntax.specs.Plain.{channel_declaration, conversation_declaration, procedure_declaration, process_declaration}
 use Rattle.rb_syntax.specs.Tree.{Identifier, Declaration, Commands, ProcessDeclaration, Tree}
 
 abbrev pub process_of : Identifier → List Declaration → List Procedure → Commands → ProcessDeclaration

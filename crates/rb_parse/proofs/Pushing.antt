@@ -1,5 +1,5 @@
 -- What stands in a vector, as the plan sees it that still wants the rest.
-use Rattle.std.proofs.Common.{◌≡◌, ℕ, ◌==◌, Bool, true, false, List, [], ◌∷◌, ◌++◌, length, map, None, refl, sym, ap, ◌∙◌}
+use Rattle.std.proofs.Common.{◌≡◌, ◌==◌, false, List, [], ◌∷◌, ◌++◌, length, map, None, refl, sym, ap, ◌∙◌}
 use Rattle.rb_parse.specs.Grammar.{Point, chain}
 use Rattle.rb_parse.specs.Machine.{Reads, look}
 use Rattle.rb_parse.specs.Parts.{Part}

@@ -1,10 +1,10 @@
 -- How far a part was read: up to a point, from which on a plan is left of its form. Each form is followed by these
 -- lemmas alone, one for each of its tokens and parts.
-use Rattle.std.proofs.Common.{◌≡◌, Bool, true, false, Option, Some, None, Result, IfErr, refl, sym, ap, subst, ◌∙◌}
+use Rattle.std.proofs.Common.{◌≡◌, true, false, Some, None, Result, IfErr, refl, sym, ap, subst, ◌∙◌}
 use Rattle.std.specs.Result.{IsErrAnd}
 use Rattle.std.proofs.lemmas.Result.{err_from_is_err_and}
 use Rattle.std.specs.Option.{is_some}
-use Rattle.rb_lex.specs.Tokens.{Lexeme, Ending, AtFault}
+use Rattle.rb_lex.specs.Tokens.{Lexeme, Ending}
 use Rattle.rb_parse.specs.declared.stop.Stop.{Stop}
 use Rattle.rb_parse.specs.declared.stop.Stop.TheVariants as stops
 use Rattle.rb_parse.specs.declared.terminal.Terminal.{Terminal}

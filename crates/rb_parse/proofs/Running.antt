@@ -1,12 +1,12 @@
 -- How the machine runs: one step for each form of plan.
-use Rattle.std.proofs.Common.{◌≡◌, ℕ, Bool, true, false, cond, List, [], ◌∷◌, Option, Some, None, refl, sym, ap, subst, ◌∙◌}
+use Rattle.std.proofs.Common.{◌≡◌, ℕ, true, false, cond, List, [], ◌∷◌, Option, Some, None, refl, sym, ap, ◌∙◌}
 use Rattle.std.specs.Option.{is_some}
 use denote.Enum.Bare.{true_same}
 use Rattle.rb_lex.specs.Tokens.{Lexeme}
 use Rattle.rb_parse.specs.contracts.terminal.Terminal.{the_type}
 use Rattle.rb_parse.specs.declared.terminal.Terminal.{Terminal}
 use Rattle.rb_parse.specs.Grammar.{Point}
-use Rattle.rb_parse.specs.Machine.{Outcome, Accepted, Refused, is_same, fits, names_after, blocks_after, called, finish, feed, read, run, look, first_of, seen_at, Advances}
+use Rattle.rb_parse.specs.Machine.{Outcome, Accepted, Refused, fits, names_after, blocks_after, called, finish, feed, read, run, look, first_of, seen_at, Advances}
 use Rattle.rb_parse.specs.Parts.{Part}
 use Rattle.rb_parse.specs.Plans.{Value, Seen, Plan, Done, Token, Call, bind}
 use Rattle.rb_parse.specs.Table.{Start, begin, start, empty}

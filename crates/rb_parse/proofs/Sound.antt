@@ -1,11 +1,10 @@
 -- What the machine accepts is derived: every form of the table is a row of the grammar.
-use Rattle.std.proofs.Common.{◌≡◌, ℕ, ℤ, Bool, true, false, cond, List, [], ◌∷◌, Option, Some, None, refl, sym, ap, subst, ◌∙◌}
-use Rattle.rb_lex.specs.declared.token.Kind.{Kind}
+use Rattle.std.proofs.Common.{◌≡◌, ℕ, ℤ, ◌∷◌, Option, Some, None, refl, ap, subst}
 use Rattle.rb_lex.specs.declared.token.Kind.TheVariants as kinds
 use Rattle.rb_lex.specs.Tokens.{Lexeme}
 use Rattle.rb_parse.specs.declared.terminal.Terminal.{Terminal}
 use Rattle.rb_parse.specs.declared.terminal.Terminal.TheVariants as terminals
-use Rattle.rb_parse.specs.Grammar.{Point, Phrase, AProgram, AProcess, Declarations, ADeclaration, Statements, AStatement, Items, MoreItems, AnItem, AnExpression, ASum, MoreTerms, ATerm, APlace, Takes, TakesName, TakesNumber, TakesText, StandsAt, SumOperator, plus_row, minus_row, Derives, program_row, process_row, no_declaration_row, declarations_row, declaration_row, no_statement_row, statements_row, assignment_row, print_row, items_row, no_item_row, more_items_row, text_row, amount_row, expression_row, sum_row, no_term_row, more_terms_row, number_row, variable_row, place_row}
+use Rattle.rb_parse.specs.Grammar.{Point, Phrase, AProgram, AProcess, Declarations, ADeclaration, Statements, AStatement, Items, MoreItems, AnItem, AnExpression, ASum, MoreTerms, ATerm, APlace, Takes, TakesName, TakesNumber, TakesText, StandsAt, plus_row, minus_row, Derives, program_row, process_row, no_declaration_row, declarations_row, declaration_row, no_statement_row, statements_row, assignment_row, print_row, items_row, no_item_row, more_items_row, text_row, amount_row, expression_row, sum_row, no_term_row, more_terms_row, number_row, variable_row, place_row}
 use Rattle.rb_parse.specs.Machine.{Advances, names_after, blocks_after}
 use Rattle.rb_parse.specs.Parts.{Part}
 use Rattle.rb_parse.specs.Plans.{Value, Seen, Plan, Done, Token, Call, bind}
@@ -14,9 +13,6 @@ use Rattle.rb_parse.specs.Terminals.{terminal_of}
 use Rattle.rb_parse.proofs.Reaching.{seen_from}
 use Rattle.rb_parse.proofs.Spelled.{number_kind}
 use Rattle.rb_syntax.specs.declared.expression.Number.{Number}
-use Rattle.rb_syntax.specs.declared.expression.Op.{Op}
-use Rattle.rb_syntax.specs.declared.expression.Op.TheVariants.{Add, Sub}
-use Rattle.rb_syntax.specs.Tree.{Tree}
 
 -- a part with its value
 abbrev pub phrase : (part : Part) → Value part → Phrase

@@ -1,5 +1,5 @@
 -- No word and no mark is a number: a token that stands for one is one.
-use Rattle.std.proofs.Common.{◌≡◌, ℕ, ℤ, nat_eq, cond, Bool, true, false, not, ◌&&◌, List, [], ◌∷◌, Option, Some, None, refl, ap, sym, ◌∙◌}
+use Rattle.std.proofs.Common.{◌≡◌, ℕ, ℤ, nat_eq, cond, Bool, true, false, not, ◌&&◌, List, [], ◌∷◌, Option, Some, refl, ap, ◌∙◌}
 use Rattle.std.specs.List.{list_all}
 use Rattle.std.specs.Cmp.Lexicographic.{pointwise}
 use Rattle.rb_lex.specs.declared.token.Kind.{Kind}

@@ -1,6 +1,5 @@
 -- A name or a number that was taken is a token.
-use Rattle.std.proofs.Common.{◌≡◌, Some, refl, sym, ap, ◌∙◌}
-use Rattle.rb_lex.specs.declared.token.Kind.TheVariants as kinds
+use Rattle.std.proofs.Common.{◌≡◌, sym, ap, ◌∙◌}
 use Rattle.rb_parse.specs.declared.terminal.Terminal.TheVariants as terminals
 use Rattle.rb_parse.specs.Grammar.{Point, TakesName, TakesNumber}
 use Rattle.rb_parse.specs.Machine.{Advances}

@@ -1,6 +1,6 @@
 -- The machine: it reads tokens by a plan, one after the other, and accepts a tree or stops at the first token that no row
 -- of the table takes.
-use Rattle.std.specs.Prelude.{◌≡◌, ℕ, ◌+◌, Bool, true, false, cond, List, [], ◌∷◌, Option, Some, None}
+use Rattle.std.specs.Prelude.{◌≡◌, ℕ, ◌+◌, Bool, false, cond, List, [], ◌∷◌, Option, Some, None}
 use denote.Enum.Bare.{sameb}
 use Rattle.rb_base.specs.declared.place.Place.{Place}
 use Rattle.rb_lex.specs.declared.token.Kind.TheVariants as kinds

@@ -83,17 +83,13 @@ impl Terminal {
 }
 
 // A word or a mark, and what it is.
-#[derive(Clone, Copy, Debug)]
-struct Spelling {
-    bytes: &'static [u8],
-    terminal: Terminal,
-}
+type Spelling = (&'static [u8], Terminal);
 
 fn spelled(text: &[u8], spellings: &[Spelling]) -> Option<Terminal>
     ensures { result ≡ spelled text.now (map spelling_of spellings.now) }
 {
     let mut rest = spellings;
-    while let [Spelling { bytes, terminal }, after @ ..] = rest {
+    while let [(bytes, terminal), after @ ..] = rest {
         if *bytes == text {
             return Some(*terminal);
         }
@@ -106,134 +102,38 @@ fn words() -> &'static [Spelling]
     ensures { map spelling_of result.now ≡ words }
 {
     &[
-        Spelling {
-            bytes: b"all",
-            terminal: Terminal::All,
-        },
-        Spelling {
-            bytes: b"and",
-            terminal: Terminal::And,
-        },
-        Spelling {
-            bytes: b"by",
-            terminal: Terminal::By,
-        },
-        Spelling {
-            bytes: b"call",
-            terminal: Terminal::Call,
-        },
-        Spelling {
-            bytes: b"channel",
-            terminal: Terminal::Channel,
-        },
-        Spelling {
-            bytes: b"conversation",
-            terminal: Terminal::Conversation,
-        },
-        Spelling {
-            bytes: b"converse",
-            terminal: Terminal::Converse,
-        },
-        Spelling {
-            bytes: b"edition",
-            terminal: Terminal::Edition,
-        },
-        Spelling {
-            bytes: b"else",
-            terminal: Terminal::Else,
-        },
-        Spelling {
-            bytes: b"end",
-            terminal: Terminal::End,
-        },
-        Spelling {
-            bytes: b"ensure",
-            terminal: Terminal::Ensure,
-        },
-        Spelling {
-            bytes: b"error",
-            terminal: Terminal::Error,
-        },
-        Spelling {
-            bytes: b"every",
-            terminal: Terminal::Every,
-        },
-        Spelling {
-            bytes: b"fail",
-            terminal: Terminal::Fail,
-        },
-        Spelling {
-            bytes: b"from",
-            terminal: Terminal::From,
-        },
-        Spelling {
-            bytes: b"if",
-            terminal: Terminal::If,
-        },
-        Spelling {
-            bytes: b"not",
-            terminal: Terminal::Not,
-        },
-        Spelling {
-            bytes: b"or",
-            terminal: Terminal::Or,
-        },
-        Spelling {
-            bytes: b"print",
-            terminal: Terminal::Print,
-        },
-        Spelling {
-            bytes: b"prior",
-            terminal: Terminal::Prior,
-        },
-        Spelling {
-            bytes: b"procedure",
-            terminal: Terminal::Procedure,
-        },
-        Spelling {
-            bytes: b"process",
-            terminal: Terminal::Process,
-        },
-        Spelling {
-            bytes: b"program",
-            terminal: Terminal::Program,
-        },
-        Spelling {
-            bytes: b"receive",
-            terminal: Terminal::Receive,
-        },
-        Spelling {
-            bytes: b"send",
-            terminal: Terminal::Send,
-        },
-        Spelling {
-            bytes: b"size",
-            terminal: Terminal::Size,
-        },
-        Spelling {
-            bytes: b"some",
-            terminal: Terminal::Some,
-        },
-        Spelling {
-            bytes: b"sum",
-            terminal: Terminal::Sum,
-        },
-        Spelling {
-            bytes: b"to",
-            terminal: Terminal::To,
-        },
-        Spelling {
-            bytes: b"var",
-            terminal: Terminal::Var,
-        },
-        Spelling {
-            bytes: b"while",
-            terminal: Terminal::While,
-        },
-        Spelling {
-            bytes: b"within",
-            terminal: Terminal::Within,
-        },
+        (b"all", Terminal::All),
+        (b"and", Terminal::And),
+        (b"by", Terminal::By),
+        (b"call", Terminal::Call),
+        (b"channel", Terminal::Channel),
+        (b"conversation", Terminal::Conversation),
+        (b"converse", Terminal::Converse),
+        (b"edition", Terminal::Edition),
+        (b"else", Terminal::Else),
+        (b"end", Terminal::End),
+        (b"ensure", Terminal::Ensure),
+        (b"error", Terminal::Error),
+        (b"every", Terminal::Every),
+        (b"fail", Terminal::Fail),
+        (b"from", Terminal::From),
+        (b"if", Terminal::If),
+        (b"not", Terminal::Not),
+        (b"or", Terminal::Or),
+        (b"print", Terminal::Print),
+        (b"prior", Terminal::Prior),
+        (b"procedure", Terminal::Procedure),
+        (b"process", Terminal::Process),
+        (b"program", Terminal::Program),
+        (b"receive", Terminal::Receive),
+        (b"send", Terminal::Send),
+        (b"size", Terminal::Size),
+        (b"some", Terminal::Some),
+        (b"sum", Terminal::Sum),
+        (b"to", Terminal::To),
+        (b"var", Terminal::Var),
+        (b"while", Terminal::While),
+        (b"within", Terminal::Within),
     ]
 }
 
@@ -241,93 +141,27 @@ fn marks() -> &'static [Spelling]
     ensures { map spelling_of result.now ≡ marks }
 {
     &[
-        Spelling {
-            bytes: b";",
-            terminal: Terminal::Semicolon,
-        },
-        Spelling {
-            bytes: b",",
-            terminal: Terminal::Comma,
-        },
-        Spelling {
-            bytes: b".",
-            terminal: Terminal::Dot,
-        },
-        Spelling {
-            bytes: b":",
-            terminal: Terminal::Colon,
-        },
-        Spelling {
-            bytes: b"(",
-            terminal: Terminal::OpenParen,
-        },
-        Spelling {
-            bytes: b")",
-            terminal: Terminal::CloseParen,
-        },
-        Spelling {
-            bytes: b"{",
-            terminal: Terminal::OpenBrace,
-        },
-        Spelling {
-            bytes: b"}",
-            terminal: Terminal::CloseBrace,
-        },
-        Spelling {
-            bytes: b"[",
-            terminal: Terminal::OpenBracket,
-        },
-        Spelling {
-            bytes: b"]",
-            terminal: Terminal::CloseBracket,
-        },
-        Spelling {
-            bytes: b":=",
-            terminal: Terminal::Becomes,
-        },
-        Spelling {
-            bytes: b"=",
-            terminal: Terminal::Equal,
-        },
-        Spelling {
-            bytes: b"<>",
-            terminal: Terminal::Unequal,
-        },
-        Spelling {
-            bytes: b"<",
-            terminal: Terminal::Less,
-        },
-        Spelling {
-            bytes: b"<=",
-            terminal: Terminal::LessEqual,
-        },
-        Spelling {
-            bytes: b">",
-            terminal: Terminal::Greater,
-        },
-        Spelling {
-            bytes: b">=",
-            terminal: Terminal::GreaterEqual,
-        },
-        Spelling {
-            bytes: b"+",
-            terminal: Terminal::Plus,
-        },
-        Spelling {
-            bytes: b"-",
-            terminal: Terminal::Minus,
-        },
-        Spelling {
-            bytes: b"*",
-            terminal: Terminal::Star,
-        },
-        Spelling {
-            bytes: b"/",
-            terminal: Terminal::Slash,
-        },
-        Spelling {
-            bytes: b"%",
-            terminal: Terminal::Percent,
-        },
+        (b";", Terminal::Semicolon),
+        (b",", Terminal::Comma),
+        (b".", Terminal::Dot),
+        (b":", Terminal::Colon),
+        (b"(", Terminal::OpenParen),
+        (b")", Terminal::CloseParen),
+        (b"{", Terminal::OpenBrace),
+        (b"}", Terminal::CloseBrace),
+        (b"[", Terminal::OpenBracket),
+        (b"]", Terminal::CloseBracket),
+        (b":=", Terminal::Becomes),
+        (b"=", Terminal::Equal),
+        (b"<>", Terminal::Unequal),
+        (b"<", Terminal::Less),
+        (b"<=", Terminal::LessEqual),
+        (b">", Terminal::Greater),
+        (b">=", Terminal::GreaterEqual),
+        (b"+", Terminal::Plus),
+        (b"-", Terminal::Minus),
+        (b"*", Terminal::Star),
+        (b"/", Terminal::Slash),
+        (b"%", Terminal::Percent),
     ]
 }

@@ -1,4 +1,4 @@
-use Rattle.std.proofs.Common.{◌++◌, ◌∷◌, [], ap, refl, sym, ◌∙◌}
+use Rattle.std.proofs.Common.{◌++◌, ◌∷◌, [], ap, refl, ◌∙◌}
 use Rattle.rb_parse.proofs.Forms.{no_program}
 use Rattle.rb_parse.proofs.Made.{made_program}
 use Rattle.rb_parse.proofs.Reaching.{starts, by_part, by_terminal, complete, same_value, missed, missed_first, stops_within, exit, exit_memory}

@@ -1,7 +1,4 @@
 use Rattle.std.proofs.Common.{refl, sym}
-use Rattle.rb_parse.specs.Grammar.{chain}
-use Rattle.rb_parse.specs.Parts.{Part}
-use Rattle.rb_parse.specs.Plans.{Done, Call}
 use Rattle.rb_parse.proofs.Forms.{sum_term}
 use Rattle.rb_parse.proofs.Reaching.{by_part, complete, same_value, stops_within, exit, exit_memory}
 use Rattle.rb_parse.proofs.expressions.read_sum.Goals as goal

@@ -1,4 +1,4 @@
-use Rattle.std.proofs.Common.{◌≡◌, refl, sym, ap, ◌∙◌}
+use Rattle.std.proofs.Common.{refl, sym, ap, ◌∙◌}
 use Rattle.rb_parse.specs.Parts.{Part}
 use Rattle.rb_parse.specs.Plans.{Done}
 use Rattle.rb_parse.specs.Table.{number_of, variable_after}

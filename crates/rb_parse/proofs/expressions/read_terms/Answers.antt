@@ -1,9 +1,9 @@
-use Rattle.std.proofs.Common.{◌≡◌, ap, refl, sym, ◌∙◌, arith}
+use Rattle.std.proofs.Common.{ap, refl, sym, ◌∙◌, arith}
 use Rattle.rb_parse.specs.declared.stop.Stop.TheVariants as stops
 use Rattle.rb_parse.specs.Table.{start_link, sum_operator}
 use Rattle.rb_parse.proofs.Forms.{operator_fits, link_begun}
 use Rattle.rb_parse.proofs.Pushing.{links_init, links_step, links_end}
-use Rattle.rb_parse.proofs.Reaching.{within, by_part, not_missed, stops_within, exit, exit_memory}
+use Rattle.rb_parse.proofs.Reaching.{by_part, not_missed, stops_within, exit, exit_memory}
 use Rattle.rb_parse.proofs.expressions.read_terms.Goals as goal
 
 pub loop-terminal-init : goal.loop-terminal-init

@@ -1,4 +1,4 @@
-use Rattle.std.proofs.Common.{◌≡◌, None, IfErr, ap, sym, subst, ◌∙◌}
+use Rattle.std.proofs.Common.{None, IfErr, ap, sym, subst, ◌∙◌}
 use Rattle.std.proofs.lemmas.Result.{err_from_is_err_and, IfOk-weaker, IfErr-weaker}
 use Rattle.rb_lex.specs.TokenList.{tokens_of, ending_of}
 use Rattle.rb_parse.specs.Grammar.{start_of}
