@@ -84,8 +84,8 @@ pub record StandsAt (place : Place) (a : Point) : Type 0 where
 
 -- `+` and `-`
 pub data SumOperator : Op → Point → Point → Type 0 where
-  plus_row : (op : Op) (a b : Point) → op ≡ Add → Takes terminals.Plus a b → SumOperator op a b
-  minus_row : (op : Op) (a b : Point) → op ≡ Sub → Takes terminals.Minus a b → SumOperator op a b
+  plus_row : {a b : Point} → Takes terminals.Plus a b → SumOperator Add a b
+  minus_row : {a b : Point} → Takes terminals.Minus a b → SumOperator Sub a b
 
 -- operators of one level leave one chain, and a single operand no node
 abbrev pub chain : Expression → Links → Expression
@@ -95,82 +95,68 @@ chain first (Linked op right links) = Chained first (Linked op right links)
 -- what the tokens between two points derive
 pub data Derives : Phrase → Point → Point → Type 0 where
   -- `program` name `;` process `end` `.`
-  program_row : (phrase : Phrase) (a b c d e f g : Point) (tree : Tree) (process : ProcessDeclaration) →
-      phrase ≡ AProgram tree →
-      tree.channels ≡ [] → tree.conversations ≡ [] → tree.processes ≡ process ∷ [] →
-      tree.names ≡ g.names → tree.blocks ≡ g.blocks → tree.edition ≡ 1 →
-      Takes terminals.Program a b → TakesName tree.name b c → Takes terminals.Semicolon c d →
+  program_row : {a b c d e f g : Point} {name : Identifier} {process : ProcessDeclaration} →
+      Takes terminals.Program a b → TakesName name b c → Takes terminals.Semicolon c d →
       Derives (AProcess process) d e → Takes terminals.End e f → Takes terminals.Dot f g →
-      Derives phrase a g
+      Derives (AProgram (record {
+        name = name;
+        channels = [];
+        conversations = [];
+        processes = process ∷ [];
+        names = g.names;
+        blocks = g.blocks;
+        edition = 1;
+      })) a g
   -- `process` name `{` { vardecl } { statement } `}`
-  process_row : (phrase : Phrase) (a b c d e f g : Point) (process : ProcessDeclaration) →
-      phrase ≡ AProcess process → process.procedures ≡ [] →
-      Takes terminals.Process a b → TakesName process.name b c → Takes terminals.OpenBrace c d →
-      Derives (Declarations process.variables) d e → Derives (Statements process.commands) e f →
+  process_row : {a b c d e f g : Point} {name : Identifier} {variables : List Declaration} {commands : Commands} →
+      Takes terminals.Process a b → TakesName name b c → Takes terminals.OpenBrace c d →
+      Derives (Declarations variables) d e → Derives (Statements commands) e f →
       Takes terminals.CloseBrace f g →
-      Derives phrase a g
-  no_declaration_row : (phrase : Phrase) (a b : Point) → phrase ≡ Declarations [] → a ≡ b → Derives phrase a b
-  declarations_row : (phrase : Phrase) (a b c : Point) (first : Declaration) (others : List Declaration) →
-      phrase ≡ Declarations (first ∷ others) →
+      Derives (AProcess (record { name = name; variables = variables; procedures = []; commands = commands })) a g
+  no_declaration_row : {a : Point} → Derives (Declarations []) a a
+  declarations_row : {a b c : Point} {first : Declaration} {others : List Declaration} →
       Derives (ADeclaration first) a b → Derives (Declarations others) b c →
-      Derives phrase a c
+      Derives (Declarations (first ∷ others)) a c
   -- `var` name `;`
-  declaration_row : (phrase : Phrase) (a b c d : Point) (declaration : Declaration) →
-      phrase ≡ ADeclaration declaration → declaration.size ≡ None →
-      Takes terminals.Var a b → TakesName declaration.name b c → Takes terminals.Semicolon c d →
-      Derives phrase a d
-  no_statement_row : (phrase : Phrase) (a b : Point) → phrase ≡ Statements NoCommand → a ≡ b → Derives phrase a b
-  statements_row : (phrase : Phrase) (a b c : Point) (first : Command) (others : Commands) →
-      phrase ≡ Statements (Then first others) →
+  declaration_row : {a b c d : Point} {name : Identifier} →
+      Takes terminals.Var a b → TakesName name b c → Takes terminals.Semicolon c d →
+      Derives (ADeclaration (record { name = name; size = None })) a d
+  no_statement_row : {a : Point} → Derives (Statements NoCommand) a a
+  statements_row : {a b c : Point} {first : Command} {others : Commands} →
       Derives (AStatement first) a b → Derives (Statements others) b c →
-      Derives phrase a c
+      Derives (Statements (Then first others)) a c
   -- place `:=` expr `;`
-  assignment_row : (phrase : Phrase) (a b c d e : Point) (to : Reference) (value : Expression) →
-      phrase ≡ AStatement (Assignment to value) →
+  assignment_row : {a b c d e : Point} {to : Reference} {value : Expression} →
       Derives (APlace to) a b → Takes terminals.Becomes b c → Derives (AnExpression value) c d → Takes terminals.Semicolon d e →
-      Derives phrase a e
+      Derives (AStatement (Assignment to value)) a e
   -- `print` item { `,` item } `;`
-  print_row : (phrase : Phrase) (a b c d : Point) (items : List PrintItem) →
-      phrase ≡ AStatement (Printing items) →
+  print_row : {a b c d : Point} {items : List PrintItem} →
       Takes terminals.Print a b → Derives (Items items) b c → Takes terminals.Semicolon c d →
-      Derives phrase a d
-  items_row : (phrase : Phrase) (a b c : Point) (first : PrintItem) (others : List PrintItem) →
-      phrase ≡ Items (first ∷ others) →
+      Derives (AStatement (Printing items)) a d
+  items_row : {a b c : Point} {first : PrintItem} {others : List PrintItem} →
       Derives (AnItem first) a b → Derives (MoreItems others) b c →
-      Derives phrase a c
-  no_item_row : (phrase : Phrase) (a b : Point) → phrase ≡ MoreItems [] → a ≡ b → Derives phrase a b
-  more_items_row : (phrase : Phrase) (a b c d : Point) (first : PrintItem) (others : List PrintItem) →
-      phrase ≡ MoreItems (first ∷ others) →
+      Derives (Items (first ∷ others)) a c
+  no_item_row : {a : Point} → Derives (MoreItems []) a a
+  more_items_row : {a b c d : Point} {first : PrintItem} {others : List PrintItem} →
       Takes terminals.Comma a b → Derives (AnItem first) b c → Derives (MoreItems others) c d →
-      Derives phrase a d
-  text_row : (phrase : Phrase) (a b : Point) (item : PrintItem) → phrase ≡ AnItem item → TakesText item a b → Derives phrase a b
-  amount_row : (phrase : Phrase) (a b : Point) (place : Place) (value : Expression) →
-      phrase ≡ AnItem (record { place = place; what = Amount value }) →
+      Derives (MoreItems (first ∷ others)) a d
+  text_row : {a b : Point} {item : PrintItem} → TakesText item a b → Derives (AnItem item) a b
+  amount_row : {a b : Point} {place : Place} {value : Expression} →
       StandsAt place a → Derives (AnExpression value) a b →
-      Derives phrase a b
-  expression_row : (phrase : Phrase) (a b : Point) (value : Expression) →
-      phrase ≡ AnExpression value → Derives (ASum value) a b →
-      Derives phrase a b
+      Derives (AnItem (record { place = place; what = Amount value })) a b
+  expression_row : {a b : Point} {value : Expression} → Derives (ASum value) a b → Derives (AnExpression value) a b
   -- term { (`+` | `-`) term }
-  sum_row : (phrase : Phrase) (a b c : Point) (first : Expression) (links : Links) →
-      phrase ≡ ASum (chain first links) →
+  sum_row : {a b c : Point} {first : Expression} {links : Links} →
       Derives (ATerm first) a b → Derives (MoreTerms links) b c →
-      Derives phrase a c
-  no_term_row : (phrase : Phrase) (a b : Point) → phrase ≡ MoreTerms NoLink → a ≡ b → Derives phrase a b
-  more_terms_row : (phrase : Phrase) (a b c d : Point) (op : Op) (right : Expression) (links : Links) →
-      phrase ≡ MoreTerms (Linked op right links) →
+      Derives (ASum (chain first links)) a c
+  no_term_row : {a : Point} → Derives (MoreTerms NoLink) a a
+  more_terms_row : {a b c d : Point} {op : Op} {right : Expression} {links : Links} →
       SumOperator op a b → Derives (ATerm right) b c → Derives (MoreTerms links) c d →
-      Derives phrase a d
-  number_row : (phrase : Phrase) (a b : Point) (number : Number) →
-      phrase ≡ ATerm (Literal number) → TakesNumber number a b →
-      Derives phrase a b
-  variable_row : (phrase : Phrase) (a b : Point) (reference : Reference) →
-      phrase ≡ ATerm (Variable reference) → Derives (APlace reference) a b →
-      Derives phrase a b
+      Derives (MoreTerms (Linked op right links)) a d
+  number_row : {a b : Point} {number : Number} → TakesNumber number a b → Derives (ATerm (Literal number)) a b
+  variable_row : {a b : Point} {reference : Reference} → Derives (APlace reference) a b → Derives (ATerm (Variable reference)) a b
   -- a name
-  place_row : (phrase : Phrase) (a b : Point) (name : Identifier) →
-      phrase ≡ APlace (Refer name Scalar) → TakesName name a b →
-      Derives phrase a b
+  place_row : {a b : Point} {name : Identifier} → TakesName name a b → Derives (APlace (Refer name Scalar)) a b
 
 -- a whole list of tokens derives a tree
 abbrev pub start_of : List Lexeme → Point

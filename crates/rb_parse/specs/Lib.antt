@@ -1,4 +1,11 @@
 pub mod Terminals
+pub mod Spellings
 pub mod Grammar
+pub mod Parts
+pub mod Plans
+pub mod Table
+pub mod Machine
 pub mod Scoped
+pub mod Reading
 pub mod Verdict
+pub mod Laws

@@ -1,0 +1,69 @@
+-- The machine derives what it accepts.
+use Rattle.std.proofs.Common.{◌≡◌, ℕ, Bool, true, false, cond, List, [], ◌∷◌, Option, Some, None, refl, subst}
+use Rattle.rb_lex.specs.Tokens.{Lexeme}
+use Rattle.rb_parse.specs.declared.terminal.Terminal.{Terminal}
+use Rattle.rb_parse.specs.Grammar.{Point, AProgram, Derives, DerivesTree, start_of}
+use Rattle.rb_parse.specs.Machine.{Outcome, Accepted, Refused, fits, names_after, blocks_after, called, finish, feed, read, run, whole}
+use Rattle.rb_parse.specs.Parts.{Part}
+use Rattle.rb_parse.specs.Plans.{Value, Seen, Plan, Done, Token, Call, bind}
+use Rattle.rb_parse.specs.Table.{Start, start, empty}
+use Rattle.rb_parse.specs.Terminals.{terminal_of}
+use Rattle.rb_parse.proofs.Ahead.{fits-true}
+use Rattle.rb_parse.proofs.Sound.{phrase, Follows, follows_bind, Forms, Without, Passes, advanced, start_sound, empty_sound}
+use Rattle.rb_parse.proofs.Reaching.{seen_from}
+use Rattle.rb_syntax.specs.Tree.{Tree}
+
+-- what is accepted in the end has the property that the plan promised
+module _ (Q : Tree → Point → Type 0) (tree : Tree) where
+  abbrev Ends : Type 0
+  Ends = (c : Point) × (c.left ≡ []) × Q tree c
+
+  accepted_done : (v : Tree) (a : Point) → a.left ≡ [] → Q v a → Accepted v ≡ Accepted tree → Ends
+  accepted_done v a e q h = let same : v ≡ tree = cc in (a, e, subst (λ w. Q w a) same q)
+
+  passed_end : (part : Part) (without : Option (Value part)) (k : Value part → Plan Tree) (a : Point) → Without part without a → ((v : Value part) → Derives (phrase part v) a a → finish (k v) ≡ Accepted tree → Ends) → called None without (λ f. Refused []) (λ v. finish (k v)) (Refused []) ≡ Accepted tree → Ends
+  passed_end part None k a d rest h = absurd cc
+  passed_end part (Some v) k a d rest h = rest v d h
+
+  finished : (a : Point) → a.left ≡ [] → (plan : Plan Tree) → Follows Q plan a → finish plan ≡ Accepted tree → Ends
+  unfolding finish
+  finished a e (Done v) q h = accepted_done v a e q h
+  finished a e (Token terminal f) q h = absurd cc
+  finished a e (Call part k) q h =
+      passed_end part (empty part) k a (empty_sound part a) (λ v d g. finished a e (k v) (q v a d) g) h
+
+  module _ (first : Option Terminal) (token : Lexeme) (a b : Point) (passes : Passes first token a b) (left : List Lexeme) (next : Plan Tree → Outcome) (onward : (plan : Plan Tree) → Follows Q plan b → next plan ≡ Accepted tree → Ends) where
+    taken : (terminal : Terminal) (f : Seen → Plan Tree) (test : Bool) → fits first terminal ≡ test → Follows Q (Token terminal f) a → cond test (next (f (seen_from token a))) (Refused left) ≡ Accepted tree → Ends
+    taken terminal f true t q h =
+        let is : first ≡ Some terminal = fits-true first terminal t in
+        onward (f (seen_from token a)) (q token b (advanced (subst (λ x. Passes x token a b) is passes))) h
+    taken terminal f false t q h = absurd cc
+
+    entered : (part : Part) (begun : Start (Value part)) (without : Option (Value part)) (k : Value part → Plan Tree) → Forms part begun token a b → Without part without a → Follows Q (Call part k) a → ((v : Value part) → Derives (phrase part v) a a → feed first (seen_from token a) left next (k v) ≡ Accepted tree → Ends) → called begun without (λ f. next (bind (f (seen_from token a)) k)) (λ v. feed first (seen_from token a) left next (k v)) (Refused left) ≡ Accepted tree → Ends
+    entered part (Some f) without k s d q rest h =
+        onward (bind (f (seen_from token a)) k) (follows_bind (λ v c. Derives (phrase part v) a c) Q (f (seen_from token a)) k b s (λ v c w. q v c w)) h
+    entered part None (Some v) k s d q rest h = rest v d h
+    entered part None None k s d q rest h = absurd cc
+
+    fed : (plan : Plan Tree) → Follows Q plan a → feed first (seen_from token a) left next plan ≡ Accepted tree → Ends
+    unfolding feed
+    fed (Done v) q h = absurd cc
+    fed (Token terminal f) q h = taken terminal f (fits first terminal) refl q h
+    fed (Call part k) q h =
+        entered part (start part first) (empty part) k (start_sound token a b part first passes) (empty_sound part a) q (λ v d g. fed (k v) (q v a d) g) h
+
+  accepted : (tokens : List Lexeme) (names blocks : ℕ) (plan : Plan Tree) → Follows Q plan (record { left = tokens; names = names; blocks = blocks }) → read tokens names blocks plan ≡ Accepted tree → Ends
+  unfolding read
+  accepted [] names blocks plan q h =
+      finished (record { left = []; names = names; blocks = blocks }) refl plan q h
+  accepted (token ∷ others) names blocks plan q h =
+      let first : Option Terminal = terminal_of token in
+      let a : Point = record { left = token ∷ others; names = names; blocks = blocks } in
+      let b : Point = record { left = others; names = names_after first names; blocks = blocks_after first blocks } in
+      fed first token a b (record { stands = refl; is = refl; names = refl; blocks = refl }) (token ∷ others) (λ later. read others (names_after first names) (blocks_after first blocks) later) (λ later f g. accepted others (names_after first names) (blocks_after first blocks) later f g) plan q h
+
+-- an accepted list of tokens derives the tree
+pub accepted_derives : (tokens : List Lexeme) (tree : Tree) → run whole (start_of tokens) ≡ Accepted tree → DerivesTree tree tokens
+accepted_derives tokens tree h =
+    let ends = accepted (λ v c. Derives (AProgram v) (start_of tokens) c) tree tokens 0 0 whole (λ v c d. d) h in
+    record { end = ends.0; whole = ends.1; derived = ends.2 }

@@ -1,0 +1,13 @@
+pub mod Running
+pub mod Ahead
+pub mod Spelled
+pub mod Reaching
+pub mod Takes
+pub mod Forms
+pub mod Made
+pub mod Sound
+pub mod Accepted
+pub mod Complete
+pub mod Scopes
+pub mod Judged
+pub mod Pushing

@@ -1,0 +1,31 @@
+use Rattle.std.proofs.Common.{refl, sym, ◌∙◌, arith}
+use Rattle.rb_parse.specs.declared.stop.Stop.TheVariants as stops
+use Rattle.rb_parse.proofs.Forms.{declarations_first, no_declarations}
+use Rattle.rb_parse.proofs.Pushing.{vars_init, vars_step, vars_end}
+use Rattle.rb_parse.proofs.Reaching.{by_part, stops_within, exit, exit_memory}
+use Rattle.rb_parse.proofs.declarations.read_declarations.Goals as goal
+
+pub vars-init : goal.vars-init
+vars-init c = record {
+  reached = vars_init c.new-vars.result.items c.args.cursor.now.point c.new-vars.ensures.items;
+  ending = refl;
+  shorter = omega arith;
+}
+
+pub returns-in_err-var-clause-err : goal.returns-in_err-var-clause-err
+returns-in_err-var-clause-err c =
+    exit c.from_residual.result c.from_residual.ensures.1 c.vars.invariant.ending (λ s. stops_within c.vars.invariant.reached (stops_within (declarations_first _ (sym c.vars-test.ensures)) s)) c.in_err-var.ensures.err
+
+pub returns-in_err-push-clause-err : goal.returns-in_err-push-clause-err
+returns-in_err-push-clause-err c =
+    exit_memory _ _ c.from_residual-in_err-push.result stops.Memory c.from_residual-in_err-push.ensures.1 refl
+
+pub vars-preserved : goal.vars-preserved
+vars-preserved c = record {
+  reached = vars_step c.vars.vars.items c.push.new.self.items c.in_ok-var.var c.in_ok-push.ensures.items c.vars.invariant.reached (by_part (declarations_first _ (sym c.vars-test.ensures)) c.in_ok-var.ensures.ok);
+  ending = c.in_ok-var.ensures.ending ∙ c.vars.invariant.ending;
+  shorter = omega (arith, c.in_ok-var.ensures.shorter, c.vars.invariant.shorter);
+}
+
+pub returns-clause-ok : goal.returns-clause-ok
+returns-clause-ok c = vars_end c.vars.vars.items c.vars.invariant.reached (no_declarations _ (sym c.vars-test.ensures))

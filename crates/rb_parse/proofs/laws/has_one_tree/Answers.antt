@@ -1,0 +1,5 @@
+use Rattle.rb_parse.proofs.Complete.{one_tree}
+use Rattle.rb_parse.proofs.laws.has_one_tree.Goals as goal
+
+pub returns : goal.returns
+returns c = one_tree

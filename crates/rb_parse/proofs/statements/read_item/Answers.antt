@@ -1,0 +1,36 @@
+use Rattle.std.proofs.Common.{ap, refl, sym, ◌∙◌}
+use Rattle.rb_parse.specs.Grammar.{between_quotes}
+use Rattle.rb_parse.specs.Machine.{first_of}
+use Rattle.rb_parse.specs.Reading.{by_form}
+use Rattle.rb_parse.specs.Table.{amount_at}
+use Rattle.rb_parse.proofs.Forms.{text_at, item_expression, no_item, place_first}
+use Rattle.rb_parse.proofs.Reaching.{starts, by_part, complete, same_value, not_missed, stops_first, stops_within, exit}
+use Rattle.rb_syntax.specs.Plain.{expression}
+use Rattle.rb_parse.proofs.statements.read_item.Goals as goal
+
+pub returns-in_default-clause-err : goal.returns-in_default-clause-err
+returns-in_default-clause-err c =
+    let at = c.args.cursor.now.point in
+    by_form (stops_first at (no_item at.left (sym c.place.ensures ∙ c.in_default.is)) refl)
+
+pub returns-in_err-token-clause-err : goal.returns-in_err-token-clause-err
+returns-in_err-token-clause-err c =
+    exit c.from_residual.result c.from_residual.ensures.1 refl (not_missed (sym c.if-stands_at.ensures)) c.in_err-token.ensures.err
+
+pub returns-in_err-value-clause-err : goal.returns-in_err-value-clause-err
+returns-in_err-value-clause-err c =
+    exit c.from_residual-in_err-value.result c.from_residual-in_err-value.ensures.1 refl (stops_within (item_expression _ (sym c.if-stands_at.ensures))) c.in_err-value.ensures.err
+
+pub returns-in_ok-token-clause-ok : goal.returns-in_ok-token-clause-ok
+returns-in_ok-token-clause-ok c =
+    let at = c.args.cursor.now.point in
+    let taken = c.in_ok-token.ensures.ok in
+    let here = place_first at.left c.in-Some.place (sym c.place.ensures ∙ c.in-Some.is) in
+    let same = ap (λ left. (first_of left).place) (sym taken.stands) ∙ here in
+    same_value (ap (λ place. text_at place (between_quotes c.in_ok-token.token.text.now)) same ∙ ap (text_at c.in-Some.place) (sym c.between_quotes.ensures)) (complete (starts _ refl taken))
+
+pub returns-in_ok-value-clause-ok : goal.returns-in_ok-value-clause-ok
+returns-in_ok-value-clause-ok c =
+    let at = c.args.cursor.now.point in
+    let here = place_first at.left c.in-Some.place (sym c.place.ensures ∙ c.in-Some.is) in
+    same_value (ap (λ place. amount_at place (expression c.in_ok-value.value)) here) (complete (by_part (item_expression _ (sym c.if-stands_at.ensures)) c.in_ok-value.ensures.ok))

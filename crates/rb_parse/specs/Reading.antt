@@ -1,0 +1,88 @@
+-- Where a cursor stands, and why reading stops there.
+use Rattle.std.specs.Prelude.{◌≡◌, ℕ, ◌+◌, ◌^◌, ◌≤◌, length, Bool, true, false, List, [], ◌∷◌, Option, Some, None}
+use Rattle.rb_lex.specs.declared.token.Token.{Token}
+use Rattle.rb_lex.specs.Reader.{Reader, lexeme_of}
+use Rattle.rb_lex.specs.Tokens.{Lexeme, Ending, AtEnd, AtFault}
+use Rattle.rb_lex.specs.TokenList.{tokens_left, ending_left}
+use Rattle.rb_base.specs.declared.fault.Refusal.{Refusal}
+use Rattle.rb_base.specs.declared.fault.Refusal.TheVariants.{Fault, Memory}
+use Rattle.rb_base.specs.declared.fault.SourceFault.{SourceFault}
+use Rattle.rb_base.specs.declared.place.Place.{Place}
+use Rattle.rb_parse.specs.declared.expressions.Operator.{Operator}
+use Rattle.rb_parse.specs.declared.stop.Stop.{Stop}
+use Rattle.rb_parse.specs.declared.stop.Stop.TheVariants as stops
+use Rattle.rb_parse.specs.declared.terminal.Terminal.{Terminal}
+use Rattle.rb_parse.specs.Grammar.{Point}
+use Rattle.rb_parse.specs.Machine.{Outcome, Accepted, Refused, fits, look}
+use Rattle.rb_parse.specs.Scoped.{is_scoped}
+use Rattle.rb_parse.specs.Terminals.{terminal_of}
+use Rattle.rb_syntax.specs.declared.expression.Op.{Op}
+use Rattle.rb_syntax.specs.declared.program.Program.{Program}
+use Rattle.rb_syntax.specs.Plain.{tree}
+
+-- where a cursor stands: the point, and how its tokens end
+pub record Position : Type 0 where
+  pub point : Point
+  pub ending : Ending
+
+-- the tokens from the one ahead on; with none ahead none is left
+abbrev pub tokens_ahead : Option Token → List Lexeme → List Lexeme
+tokens_ahead None others = []
+tokens_ahead (Some token) others = lexeme_of token ∷ others
+
+abbrev pub position_of : Option Token → Reader → ℕ → ℕ → Position
+position_of ahead reader names blocks = record {
+  point = record { left = tokens_ahead ahead (tokens_left reader); names = names; blocks = blocks };
+  ending = ending_left reader;
+}
+
+-- what stands first does not fit, and nothing was taken
+pub record Misses (terminal : Terminal) (old new : Position) : Type 0 where
+  pub other : fits (look old.point.left) terminal ≡ false
+  pub stays : new ≡ old
+
+-- why reading stopped: P says what a form that is not there means
+pub data Stopped (P : Type 0) (ending : Ending) : Stop → Type 0 where
+  by_form : P → Stopped P ending stops.Form
+  by_token : (fault : SourceFault) → ending ≡ AtFault fault → Stopped P ending (stops.Token fault)
+  by_memory : Stopped P ending stops.Memory
+
+-- what the token ahead is to the grammar
+abbrev pub terminal_ahead : Option Token → Option Terminal
+terminal_ahead None = None
+terminal_ahead (Some token) = terminal_of (lexeme_of token)
+
+-- A cursor knows what stands first. A source of at most 1,048,576 bytes has no more tokens, which bounds the counts.
+pub record IsSound (terminal : Option Terminal) (at : Position) : Type 0 where
+  pub looks : terminal ≡ look at.point.left
+  pub names_fit : at.point.names + length at.point.left ≤ 2 ^ 20
+  pub blocks_fit : at.point.blocks + length at.point.left ≤ 2 ^ 20
+
+-- An operator that the code found: that of what stands first, and which terminal this is.
+abbrev pub FindsOperator : Option Op → Option Terminal → Option Operator → Type 0
+FindsOperator here first None = here ≡ None
+FindsOperator here first (Some found) = (here ≡ Some found.op) × (first ≡ Some found.terminal)
+
+abbrev pub is_nothing : List Lexeme → Bool
+is_nothing [] = true
+is_nothing (token ∷ others) = false
+
+-- how tokens end: with a fault or not
+abbrev pub EndsBy : Ending → Option SourceFault → Type 0
+EndsBy ending None = (at : Place) × (ending ≡ AtEnd at)
+EndsBy ending (Some fault) = ending ≡ AtFault fault
+
+-- what a reading of all tokens gave: a tree that is accepted, or none, and then they are refused
+abbrev pub Gives : Outcome → Option Program → Type 0
+Gives outcome None = (left : List Lexeme) × (outcome ≡ Refused left)
+Gives outcome (Some program) = outcome ≡ Accepted (tree program)
+
+-- why no tree can be told
+abbrev pub IsNoReading : Ending → Refusal → Type 0
+IsNoReading ending (Fault fault) = ending ≡ AtFault fault
+IsNoReading ending Memory = Unit {0}
+
+-- there is no tree, or it is not run so far
+abbrev pub IsNotRun : Option Program → Type 0
+IsNotRun None = Unit {0}
+IsNotRun (Some program) = is_scoped (tree program) ≡ false

@@ -1,0 +1,221 @@
+ghost use Rattle.std.specs.Prelude.{◌≡◌, ◌+◌, ◌^◌, ◌<◌, ◌≤◌, length, IfOk, IfErr, OnOk};
+ghost use Rattle.rb_lex.specs.Reader.{lexeme_of};
+ghost use Rattle.rb_lex.specs.Tokens.{AtFault};
+ghost use Rattle.rb_lex.specs.TokenList.{tokens_of, ending_of, ending_left};
+ghost use Rattle.rb_parse.specs.Grammar.{TakesName, TakesNumber, start_of};
+ghost use Rattle.rb_parse.specs.Machine.{Advances, blocks_after, fits, look, names_after, place_of};
+ghost use Rattle.rb_parse.specs.Reading.{EndsBy, Misses, Stopped, is_nothing, terminal_ahead};
+ghost use Rattle.rb_syntax.specs.Plain.{identifier};
+
+use crate::stop::Stop;
+use crate::terminal::Terminal;
+use rb_base::{Place, SourceFault};
+use rb_lex::{Kind, Lexer, Token};
+use rb_syntax::{Name, Number};
+use std::marker::Model;
+
+/// Stands before a token of a source, and knows which. Contracts see the tokens left, how they end, and how many
+/// names and recoveries came before.
+#[derive(Debug, Drop)]
+pub(crate) struct Cursor<'a> {
+    lexer: Lexer<'a>,
+    ahead: Option<Token<'a>>,
+    terminal: Option<Terminal>,
+    names: u32,
+    recoveries: u32,
+}
+
+impl<'a> Model for Cursor<'a> {
+    ghost use Rattle.rb_parse.specs.Reading.{Position, position_of, IsSound};
+
+    ghost Value = { Position };
+
+    ghost view = { λ c. position_of c.ahead c.lexer c.names c.recoveries };
+
+    ghost invariant = { λ c. IsSound c.terminal (position_of c.ahead c.lexer c.names c.recoveries) };
+}
+
+impl<'a> Cursor<'a> {
+    /// Stands before the first token.
+    pub(crate) fn new(source: &'a [u8]) -> Result<Self, SourceFault>
+        requires { length source.now ≤ 1048576 }
+        ensures ok { IfOk result (λ cursor. cursor ≡ record { point = start_of (tokens_of source.now); ending = ending_of source.now }) }
+        ensures err { IfErr result (λ fault. ending_of source.now ≡ AtFault fault) }
+    {
+        let mut lexer = Lexer::new(source);
+        let ahead = lexer.next()?;
+        Ok(Cursor {
+            terminal: terminal_ahead(&ahead),
+            lexer,
+            ahead,
+            names: 0,
+            recoveries: 0,
+        })
+    }
+
+    /// What stands first, or `None` at the end.
+    pub(crate) fn look(&self) -> Option<Terminal>
+        ensures { result ≡ look self.now.point.left }
+    {
+        self.terminal
+    }
+
+    /// Whether what stands first is of this terminal.
+    pub(crate) fn stands_at(&self, terminal: Terminal) -> bool
+        ensures { result ≡ fits (look self.now.point.left) terminal }
+    {
+        fits(self.terminal, terminal)
+    }
+
+    /// The place of what stands first, or `None` at the end.
+    pub(crate) fn place(&self) -> Option<Place>
+        ensures { result ≡ place_of self.now.point.left }
+    {
+        match self.ahead {
+            Some(token) => Some(token.place),
+            None => None,
+        }
+    }
+
+    /// How many names came before.
+    pub(crate) fn names(&self) -> u32
+        ensures { result ≡ self.now.point.names }
+    {
+        self.names
+    }
+
+    /// How many recoveries came before.
+    pub(crate) fn recoveries(&self) -> u32
+        ensures { result ≡ self.now.point.blocks }
+    {
+        self.recoveries
+    }
+
+    /// Takes the first token, which is to be of this terminal.
+    pub(crate) fn take(&mut self, terminal: Terminal) -> Result<Token<'a>, Stop>
+        ensures ok { IfOk result (λ token. Advances terminal (lexeme_of token) self.old.point self.new.point) }
+        ensures err { IfErr result (Stopped (Misses terminal self.old self.new) self.old.ending) }
+        ensures ending { self.new.ending ≡ self.old.ending }
+        ensures shorter { OnOk result (length self.new.point.left < length self.old.point.left) }
+    {
+        let Some(token) = self.ahead else {
+            return Err(Stop::Form);
+        };
+        if !fits(self.terminal, terminal) {
+            return Err(Stop::Form);
+        }
+        match self.lexer.next() {
+            Ok(ahead) => {
+                self.names = names_after(terminal, self.names);
+                self.recoveries = blocks_after(terminal, self.recoveries);
+                self.terminal = terminal_ahead(&ahead);
+                self.ahead = ahead;
+                Ok(token)
+            }
+            Err(fault) => {
+                self.terminal = None;
+                self.ahead = None;
+                Err(Stop::Token(fault))
+            }
+        }
+    }
+
+    /// Takes the first token, which is to be a name.
+    pub(crate) fn take_name(&mut self) -> Result<Name<'a>, Stop>
+        ensures ok { IfOk result (λ name. TakesName (identifier name) self.old.point self.new.point) }
+        ensures err { IfErr result (Stopped (Misses Terminal.Name self.old self.new) self.old.ending) }
+        ensures ending { self.new.ending ≡ self.old.ending }
+        ensures shorter { OnOk result (length self.new.point.left < length self.old.point.left) }
+    {
+        let id = self.names;
+        let token = self.take(Terminal::Name)?;
+        Ok(Name {
+            text: token.text,
+            place: token.place,
+            id,
+        })
+    }
+
+    /// Takes the first token, which is to be a number.
+    pub(crate) fn take_number(&mut self) -> Result<Number, Stop>
+        ensures ok { IfOk result (λ number. TakesNumber number self.old.point self.new.point) }
+        ensures err { IfErr result (Stopped (Misses Terminal.Number self.old self.new) self.old.ending) }
+        ensures ending { self.new.ending ≡ self.old.ending }
+        ensures shorter { OnOk result (length self.new.point.left < length self.old.point.left) }
+    {
+        let token = self.take(Terminal::Number)?;
+        let Kind::Number(value) = token.kind else {
+            unreachable!()
+        };
+        Ok(Number {
+            value,
+            place: token.place,
+        })
+    }
+
+    /// Whether no token is left.
+    pub(crate) fn is_at_end(&self) -> bool
+        ensures { result ≡ is_nothing self.now.point.left }
+    {
+        self.ahead.is_none()
+    }
+
+    /// The first fault among what is left, if there is one.
+    pub(crate) fn first_fault(self) -> Option<SourceFault>
+        ensures { EndsBy self.entry.ending result }
+    {
+        let Cursor { mut lexer, .. } = self;
+        first_fault(&mut lexer)
+    }
+}
+
+// Reads on to the end.
+fn first_fault(lexer: &mut Lexer<'_>) -> Option<SourceFault>
+    ensures { EndsBy (ending_left lexer.old) result }
+{
+    'tokens: loop {
+        match lexer.next() {
+            Ok(Some(_)) => {}
+            Ok(None) => return None,
+            Err(fault) => return Some(fault),
+        }
+    }
+}
+
+fn fits(first: Option<Terminal>, terminal: Terminal) -> bool
+    ensures { result ≡ fits first terminal }
+{
+    match first {
+        Some(first) => first == terminal,
+        None => false,
+    }
+}
+
+fn terminal_ahead(ahead: &Option<Token<'_>>) -> Option<Terminal>
+    ensures { result ≡ terminal_ahead ahead.now }
+{
+    match ahead {
+        Some(token) => Terminal::of(token),
+        None => None,
+    }
+}
+
+fn names_after(terminal: Terminal, names: u32) -> u32
+    requires { names < 2 ^ 21 }
+    ensures { result ≡ names_after (Some terminal) names }
+{
+    match terminal {
+        Terminal::Name => names + 1,
+        _ => names,
+    }
+}
+
+fn blocks_after(terminal: Terminal, blocks: u32) -> u32
+    requires { blocks < 2 ^ 21 }
+    ensures { result ≡ blocks_after (Some terminal) blocks }
+{
+    match terminal {
+        Terminal::Ensure => blocks + 1,
+        _ => blocks,
+    }
+}

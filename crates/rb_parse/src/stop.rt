@@ -1,0 +1,23 @@
+use rb_base::SourceFault;
+use std::alloc::AllocFailed;
+
+/// Why the reading of a part stopped.
+#[derive(Clone, Copy, Debug)]
+pub(crate) enum Stop {
+    /// A token after the one that was taken has a fault.
+    Token(SourceFault),
+    /// What stands first is no part of any form that was begun.
+    Form,
+    Memory,
+}
+
+impl<T: Drop> From<AllocFailed<T>> for Stop {
+    ghost use Rattle.std.specs.Prelude.{◌≡◌};
+    ghost use Rattle.rb_parse.specs.declared.stop.Stop.TheVariants.{Memory};
+
+    ghost from_gives = { λ _ stop. stop ≡ Memory };
+
+    fn from(_error: AllocFailed<T>) -> Self {
+        Stop::Memory
+    }
+}
