@@ -16,7 +16,7 @@ use Rattle.rb_meaning.specs.State.{Item, State}
 use Rattle.rb_meaning.specs.Groups.{ends_of}
 use Rattle.rb_meaning.specs.Meaning.{sent_on, taken_on, by_state, count_sent, count_taken, process_named, variables_named, naming_of, final_of}
 use Rattle.rb_trace.specs.Ending.{state_words}
-use Rattle.rb_run.specs.Written.{stored_line, stored_lines, unused_line, unused_lines, end_line, state_line}
+use Rattle.rb_run.specs.Written.{stored_line, stored_lines, unused_line, unused_lines, end_line, state_line, standing_text}
 use Rattle.rb_run.proofs.Shapes.{shape_of, declared_shape}
 use Rattle.rb_run.proofs.OneTurn.{lone_state, lone_world}
 
@@ -124,13 +124,13 @@ naming_with tree processes = record {
   conversations = map (λ c. c.name.text) tree.conversations;
 }
 
-abbrev pub ending_with : Naming → List ℕ → ℕ → Standing → Frame → List ℕ
-ending_with names process turns standing frame =
-    end_line turns ++ (state_line process standing ++ (stored_lines process frame ++ unused_lines names.channels))
+-- an ending by the process's name
+abbrev pub ending_named : Naming → List ℕ → ℕ → Standing → Frame → List ℕ
+ending_named names process turns standing frame = end_line turns ++ standing_text process standing frame names.channels
 
 pub end_text-lone : (tree : Tree) (process : ProcessDeclaration) (turns : ℕ) (items : List Item) (env : Environment) (kept : List (ℕ × ℕ)) (status : Status) →
     tree.processes ≡ process ∷ [] → shape_of env.globals ≡ declared_shape process.variables →
-    end_text (naming_of tree) turns (final_of tree (lone_world tree items env kept status)) ≡ ending_with (naming_of tree) process.name.text turns (standing_of status) env.globals
+    end_text (naming_of tree) turns (final_of tree (lone_world tree items env kept status)) ≡ ending_named (naming_of tree) process.name.text turns (standing_of status) env.globals
 end_text-lone tree process turns items env kept status only shaped =
     let final : Final = final_of tree (lone_world tree items env kept status) in
     let name = process.name.text in

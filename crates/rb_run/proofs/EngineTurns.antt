@@ -1,6 +1,7 @@
 -- What an engine's turns come to, from what they did.
-use Rattle.std.proofs.Common.{◌≡◌, ℕ, ◌+◌, ◌-◌, ◌≤◌, false, cond, List, [], ◌∷◌, ◌++◌, length, take, drop, get_or, Option, Result, Ok, Err, IsErr, refl, sym, ap, ◌∙◌, arith}
+use Rattle.std.proofs.Common.{◌≡◌, ◌==◌, ℕ, Bool, true, not, ◌+◌, ◌-◌, ◌≤◌, false, cond, List, [], ◌∷◌, ◌++◌, length, take, drop, get_or, Option, Result, Ok, Err, IsErr, refl, sym, ap, ◌∙◌, arith}
 use Rattle.std.proofs.lemmas.List.{take_all, length-map}
+use Rattle.std.proofs.lemmas.Bool.Decides.{nat_tests}
 use Rattle.rb_base.specs.declared.event.Cause.{Cause}
 use Rattle.rb_base.specs.declared.event.Event.TheVariants.{Error}
 use Rattle.rb_base.specs.declared.event.State.TheVariants.{Running}
@@ -13,10 +14,10 @@ use Rattle.rb_syntax.specs.Tree.{Commands, NoCommand, Then}
 use Rattle.rb_world.specs.Text.{Naming, event_line}
 use Rattle.rb_meaning.specs.Environment.{Environment, Stored}
 use Rattle.rb_run.specs.declared.engine.Engine.{Engine}
-use Rattle.rb_run.specs.Alone.{Change, Alone, Goes, Fell, effect, variables_of, state_of, after_effect, after, after_all}
+use Rattle.rb_run.specs.Alone.{Change, Alone, Goes, Fell, effect, variables_of, is_running, state_of, after_effect, after, after_all}
 use Rattle.rb_run.specs.Written.{out_text, done_text, effect_text, turn_text, turns_text, ending_text, text_alone}
 use Rattle.rb_run.specs.Engine.{alone}
-use Rattle.rb_run.proofs.Completes.{Remains, remains_same, remains_less, remains_stopped}
+use Rattle.rb_run.proofs.Completes.{Remains, remains_same, remains_less, remains_none, remains_stopped}
 use Rattle.rb_run.proofs.Shapes.{shape_of, KeepsShape, effect-keeps}
 
 -- a list that begins with an element
@@ -34,6 +35,15 @@ state_of-left (first ∷ rest) env h = refl
 
 pub state_of-running : (engine : Engine) → engine.failed ≡ false → 1 ≤ length engine.left.now → state_of (alone engine) ≡ Running 0
 state_of-running engine going some = ap state_of (alone-goes engine going) ∙ state_of-left engine.left.now engine.environment some
+
+is_running-left : (left : List Statement) (env : Environment) (none : Bool) → none ≡ (length left == 0) → not none ≡ is_running (Goes (commands_of left) env)
+is_running-left [] env none e = ap not e
+is_running-left (first ∷ rest) env true e = absurd (grind (arith, nat_tests))
+is_running-left (first ∷ rest) env false e = refl
+
+pub is_running-going : (engine : Engine) (none : Bool) → engine.failed ≡ false → none ≡ (length engine.left.now == 0) → not none ≡ is_running (alone engine)
+is_running-going engine none going e =
+    is_running-left engine.left.now engine.environment none e ∙ ap is_running (sym (alone-goes engine going))
 
 -- a turn that takes a statement
 turn_text-first : (names : Naming) (t : ℕ) (engine : Engine) (first : Statement) (rest : List Statement) → engine.failed ≡ false → engine.left.now ≡ first ∷ rest →
@@ -69,6 +79,33 @@ walk_stopped names t p left rest before whole w0 w1 w2 f0 f1 f2 e r h parts rema
 
 pub led_on : (p : ℕ) (left rest : List ℕ) (before after_it : Alone) → left ≡ p ∷ rest → after_it ≡ after before → after_all rest after_it ≡ after_all left before
 led_on p left rest before after_it parts same = ap (after_all rest) same ∙ ap (λ ps. after_all ps before) (sym parts)
+
+-- the turns of a process that is done, or has failed, do nothing
+after-idle : (a : Alone) → is_running a ≡ false → after a ≡ a
+after-idle (Goes NoCommand env) idle = refl
+after-idle (Goes (Then first rest) env) idle = absurd (cc)
+after-idle (Fell env) idle = refl
+
+turn_text-idle : (names : Naming) (t : ℕ) (a : Alone) → is_running a ≡ false → turn_text names t a ≡ []
+turn_text-idle names t (Goes NoCommand env) idle = refl
+turn_text-idle names t (Goes (Then first rest) env) idle = absurd (cc)
+turn_text-idle names t (Fell env) idle = refl
+
+pub after_all-idle : (ps : List ℕ) (a : Alone) → is_running a ≡ false → after_all ps a ≡ a
+after_all-idle [] a idle = refl
+after_all-idle (p ∷ ps) a idle = ap (after_all ps) (after-idle a idle) ∙ after_all-idle ps a idle
+
+turns_text-idle : (names : Naming) (t : ℕ) (ps : List ℕ) (a : Alone) → is_running a ≡ false → turns_text names t ps a ≡ []
+turns_text-idle names t [] a idle = refl
+turns_text-idle names t (p ∷ ps) a idle =
+    ap (λ (text : List ℕ). text ++ turns_text names (t + 1) ps (after a)) (turn_text-idle names t a idle)
+    ∙ ap (turns_text names (t + 1) ps) (after-idle a idle) ∙ turns_text-idle names (t + 1) ps a idle
+
+-- the walk is over where all turns left are idle
+pub walk_idled : (names : Naming) (t : ℕ) (left : List ℕ) (a : Alone) (whole : List ℕ) (w0 w1 : Option (List ℕ)) (f0 f1 : ℕ) → is_running a ≡ false →
+    Remains (turns_text names t left a) whole w0 w1 f0 f1 → Puts {T = Unit {0}} {E = Failed} whole w0 w1 f0 f1 (Ok tt)
+walk_idled names t left a whole w0 w1 f0 f1 idle remains =
+    remains_none whole w0 w1 f0 f1 (remains_same (turns_text names t left a) [] whole w0 w1 f0 f1 (turns_text-idle names t left a idle) remains)
 
 -- no turn changes how many variables there are
 changed-keeps : (rest : Commands) (env : Environment) (o : Result Change Cause) → KeepsShape env o → shape_of (variables_of (after_effect rest env o)).globals ≡ shape_of env.globals

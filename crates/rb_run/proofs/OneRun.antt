@@ -18,7 +18,7 @@ use Rattle.rb_run.specs.Alone.{Change, Alone, Goes, Fell, effect, variables_of, 
 use Rattle.rb_run.specs.Written.{out_text, done_text, effect_text, turns_text, ending_text, text_alone}
 use Rattle.rb_run.proofs.ScopedFacts.{first_holds, second_holds, scoped_facts, is_scoped-only}
 use Rattle.rb_run.proofs.Shapes.{shape_of, declared_shape, shape_of-frame_of, KeepsShape, effect-keeps}
-use Rattle.rb_run.proofs.Endings.{standing_of, ending_with, end_text-lone}
+use Rattle.rb_run.proofs.Endings.{standing_of, ending_named, end_text-lone}
 use Rattle.rb_run.proofs.OneTurn.{lone_state, lone_world, told_of, status_of, done_events, outcome, turn-failed, turn-finished, turn-running, status_at-wants, told_text-went, told_text-failed}
 
 standing_of-left : (left : Commands) (env : Environment) → standing_of (status_of left) ≡ state_of (Goes left env)
@@ -42,16 +42,16 @@ abbrev rest_alone : Tree → ℕ → ℕ → List ℕ → Alone → List ℕ
 rest_alone tree t turns ps alone = turns_text (naming_of tree) t ps alone ++ ending_text (naming_of tree) turns (after_all ps alone)
 
 module _ (tree : Tree) (process : ProcessDeclaration) (turns : ℕ) (only : tree.processes ≡ process ∷ []) where
-  ending_with-alone : (alone : Alone) → ending_with (naming_of tree) process.name.text turns (state_of alone) (variables_of alone).globals ≡ ending_text (naming_of tree) turns alone
-  ending_with-alone alone =
+  ending_named-alone : (alone : Alone) → ending_named (naming_of tree) process.name.text turns (state_of alone) (variables_of alone).globals ≡ ending_text (naming_of tree) turns alone
+  ending_named-alone alone =
       let named : process_name (slice_get (map process_named tree.processes) 0) ≡ process.name.text = ap (λ processes. process_name (slice_get (map process_named processes) 0)) only in
-      ap (λ name. ending_with (naming_of tree) name turns (state_of alone) (variables_of alone).globals) (sym named)
+      ap (λ name. ending_named (naming_of tree) name turns (state_of alone) (variables_of alone).globals) (sym named)
 
   -- a process that failed idles to the end
   fell_run : (ps : List ℕ) (t : ℕ) (items : List Item) (env : Environment) (kept : List (ℕ × ℕ)) (cause : Cause) → AllByRecursion (λ p. p < 1) ps → shape_of env.globals ≡ declared_shape process.variables →
       rest_text tree t turns (run (tree_kind tree) t ps (lone_world tree items env kept (FailedWith cause))) ≡ rest_alone tree t turns ps (Fell env)
   fell_run [] t items env kept cause known shaped =
-      end_text-lone tree process turns items env kept (FailedWith cause) only shaped ∙ ending_with-alone (Fell env)
+      end_text-lone tree process turns items env kept (FailedWith cause) only shaped ∙ ending_named-alone (Fell env)
   fell_run (p ∷ ps) t items env kept cause known shaped =
       let w : TreeWorld = lone_world tree items env kept (FailedWith cause) in
       ap (λ q. rest_text tree t turns (run_on (run (tree_kind tree) (t + 1) ps) (turn (tree_kind tree) t q w))) (only_process p known.0)
@@ -88,8 +88,8 @@ module _ (tree : Tree) (process : ProcessDeclaration) (turns : ℕ) (only : tree
       rest_text tree t turns (run (tree_kind tree) t ps (lone_world tree (performed left []) env kept (status_of left))) ≡ rest_alone tree t turns ps (Goes left env)
   goes_run names [] t left env kept known scoped shaped =
       end_text-lone tree process turns (performed left []) env kept (status_of left) only shaped
-      ∙ ap (λ (standing : Standing). ending_with (naming_of tree) process.name.text turns standing env.globals) (standing_of-left left env)
-      ∙ ending_with-alone (Goes left env)
+      ∙ ap (λ (standing : Standing). ending_named (naming_of tree) process.name.text turns standing env.globals) (standing_of-left left env)
+      ∙ ending_named-alone (Goes left env)
   goes_run names (p ∷ ps) t NoCommand env kept known scoped shaped =
       let w : TreeWorld = lone_world tree [] env kept Finished in
       ap (λ q. rest_text tree t turns (run_on (run (tree_kind tree) (t + 1) ps) (turn (tree_kind tree) t q w))) (only_process p known.0)

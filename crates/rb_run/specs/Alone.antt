@@ -1,6 +1,6 @@
 -- A process that runs alone, as the engine keeps it: what is left of its text, and its variables. It opens no level, so
 -- that each line is released in the turn that prints it.
-use Rattle.std.specs.Prelude.{ℕ, ◌+◌, nat_lt, cond, true, List, [], ◌∷◌, length, Option, Some, None, Result, Ok, Err}
+use Rattle.std.specs.Prelude.{ℕ, ◌+◌, nat_lt, Bool, true, false, cond, List, [], ◌∷◌, length, Option, Some, None, Result, Ok, Err}
 use Rattle.rb_base.specs.declared.event.Cause.{Cause}
 use Rattle.rb_base.specs.declared.event.Cause.TheVariants.{Fail, Hold}
 use Rattle.rb_base.specs.declared.event.State.{State}
@@ -43,6 +43,11 @@ opening_alone process = Goes process.commands (record { globals = frame_of proce
 abbrev pub variables_of : Alone → Environment
 variables_of (Goes left env) = env
 variables_of (Fell env) = env
+
+abbrev pub is_running : Alone → Bool
+is_running (Goes NoCommand env) = false
+is_running (Goes (Then first rest) env) = true
+is_running (Fell env) = false
 
 abbrev pub state_of : Alone → State
 state_of (Goes NoCommand env) = Done

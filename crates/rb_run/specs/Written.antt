@@ -55,11 +55,17 @@ end_line turns = line_of (codes "end" ∷ decimal turns ∷ [])
 abbrev pub state_line : List ℕ → State → List ℕ
 state_line process state = line_of (process ∷ state_words state)
 
+abbrev pub values_text : List ℕ → Frame → List (List ℕ) → List ℕ
+values_text process frame channels = stored_lines process frame ++ unused_lines channels
+
+abbrev pub standing_text : List ℕ → State → Frame → List (List ℕ) → List ℕ
+standing_text process state frame channels = state_line process state ++ values_text process frame channels
+
+abbrev pub ending_with : Naming → ℕ → State → Frame → List ℕ
+ending_with names turns state frame = end_line turns ++ standing_text (process_word names 0) state frame names.channels
+
 abbrev pub ending_text : Naming → ℕ → Alone → List ℕ
-ending_text names turns alone =
-    end_line turns
-    ++ (state_line (process_word names 0) (state_of alone)
-    ++ (stored_lines (process_word names 0) (variables_of alone).globals ++ unused_lines names.channels))
+ending_text names turns alone = ending_with names turns (state_of alone) (variables_of alone).globals
 
 -- a whole run
 abbrev pub text_alone : Naming → List ℕ → Alone → List ℕ

@@ -1,8 +1,8 @@
-ghost use Rattle.std.specs.Prelude.{◌≡◌, ◌≤◌, ◌++◌, length};
+ghost use Rattle.std.specs.Prelude.{◌≡◌, ◌≤◌, length};
 ghost use Rattle.rb_outside.specs.Puts.{Puts};
 ghost use Rattle.rb_world.specs.Text.{process_word};
 ghost use Rattle.rb_trace.specs.Naming.{naming};
-ghost use Rattle.rb_run.specs.Written.{end_line, state_line, stored_lines, unused_line, unused_lines};
+ghost use Rattle.rb_run.specs.Written.{ending_with, standing_text, values_text, stored_lines, unused_line, unused_lines};
 
 use rb_base::{Names, State, Text};
 use rb_outside::{Failed, Sink};
@@ -18,7 +18,7 @@ pub(crate) fn write_ending<S: Sink>(
     environment: &Environment<'_>,
 ) -> Result<(), Failed>
     requires { length environment.now.globals ≤ 2048 }
-    ensures { Puts (end_line turns ++ (state_line (process_word (naming names.now) 0) state ++ (stored_lines (process_word (naming names.now) 0) environment.now.globals ++ unused_lines names.now.channels.items))) (S.written out.old) (S.written out.new) (S.faults out.old) (S.faults out.new) result }
+    ensures { Puts (ending_with (naming names.now) turns state environment.now.globals) (S.written out.old) (S.written out.new) (S.faults out.old) (S.faults out.new) result }
 {
     write_end(out, turns)?;
     write_process(out, names, state, environment)
@@ -31,7 +31,7 @@ fn write_process<S: Sink>(
     environment: &Environment<'_>,
 ) -> Result<(), Failed>
     requires { length environment.now.globals ≤ 2048 }
-    ensures { Puts (state_line (process_word (naming names.now) 0) state ++ (stored_lines (process_word (naming names.now) 0) environment.now.globals ++ unused_lines names.now.channels.items)) (S.written out.old) (S.written out.new) (S.faults out.old) (S.faults out.new) result }
+    ensures { Puts (standing_text (process_word (naming names.now) 0) state environment.now.globals names.now.channels.items) (S.written out.old) (S.written out.new) (S.faults out.old) (S.faults out.new) result }
 {
     let process = process_name(names);
     write_status(out, process, state)?;
@@ -55,7 +55,7 @@ fn write_values<S: Sink>(
     channels: &[Text],
 ) -> Result<(), Failed>
     requires { length environment.now.globals ≤ 2048 }
-    ensures { Puts (stored_lines process.now environment.now.globals ++ unused_lines channels.now) (S.written out.old) (S.written out.new) (S.faults out.old) (S.faults out.new) result }
+    ensures { Puts (values_text process.now environment.now.globals channels.now) (S.written out.old) (S.written out.new) (S.faults out.old) (S.faults out.new) result }
 {
     write_variables(out, process, environment)?;
     write_channels(out, channels)

@@ -6,7 +6,7 @@ ghost use Rattle.rb_parse.specs.Scoped.{is_scoped};
 ghost use Rattle.rb_meaning.specs.Meaning.{naming_of, run_text};
 ghost use Rattle.rb_trace.specs.Naming.{naming};
 ghost use Rattle.rb_run.specs.Ran.{Ran};
-ghost use Rattle.rb_run.specs.Alone.{opening_alone, variables_of, state_of, after, after_all};
+ghost use Rattle.rb_run.specs.Alone.{opening_alone, variables_of, is_running, state_of, after, after_all};
 ghost use Rattle.rb_run.specs.Written.{out_text, done_text, turn_text, turns_text, ending_text, text_alone};
 ghost use Rattle.rb_run.specs.Engine.{alone};
 
@@ -96,7 +96,8 @@ impl<'p, 'a> Engine<'p, 'a> {
         self.finish(turns, names, out)
     }
 
-    /// Takes the turns that are left of a schedule.
+    /// Takes the turns that are left of a schedule. Those of a process that is done or has failed are idle, and
+    /// are not walked.
     fn walk<S: Sink>(
         &mut self,
         schedule: &mut Schedule<'_>,
@@ -108,7 +109,10 @@ impl<'p, 'a> Engine<'p, 'a> {
         ensures written { Puts (turns_text (naming names.now) 1 schedule.old.left (alone self.old)) (S.written out.old) (S.written out.new) (S.faults out.old) (S.faults out.new) result }
     {
         let mut turn = 0;
-        while let Some(_) = schedule.next() {
+        'turns: while self.is_running() {
+            let Some(_) = schedule.next() else {
+                return Ok(());
+            };
             turn += 1;
             self.turn(turn, names, out)?;
         }
@@ -162,6 +166,13 @@ impl<'p, 'a> Engine<'p, 'a> {
             State::Done => write_event(out, turn, &Event::Done { process: 0 }, names),
             _ => Ok(()),
         }
+    }
+
+    /// Whether the process has a statement to take.
+    fn is_running(&self) -> bool
+        ensures { result ≡ is_running (alone self.now) }
+    {
+        !self.failed && !self.left.is_empty()
     }
 
     /// How the process stands.

@@ -1,16 +1,13 @@
-use Rattle.std.proofs.Common.{◌++◌}
 use Rattle.rb_outside.proofs.Puts.{puts_both, puts_stopped_at}
 use Rattle.rb_world.specs.Text.{process_word}
 use Rattle.rb_trace.specs.Naming.{naming}
-use Rattle.rb_run.specs.Written.{end_line, state_line, stored_lines, unused_lines}
+use Rattle.rb_run.specs.Written.{end_line, standing_text}
 use Rattle.rb_run.proofs.ending.write_ending.Goals as goal
 
 pub returns-in_err-write_end : goal.returns-in_err-write_end
 returns-in_err-write_end g c =
-    let process = process_word (naming c.args.names.now) 0 in
-    puts_stopped_at (end_line c.args.turns) (state_line process c.args.state ++ (stored_lines process c.args.environment.now.globals ++ unused_lines c.args.names.now.channels.items)) _ _ _ _ _ c.from_residual.result c.from_residual.ensures.0 c.in_err-write_end.ensures
+    puts_stopped_at (end_line c.args.turns) (standing_text (process_word (naming c.args.names.now) 0) c.args.state c.args.environment.now.globals c.args.names.now.channels.items) _ _ _ _ _ c.from_residual.result c.from_residual.ensures.0 c.in_err-write_end.ensures
 
 pub returns : goal.returns
 returns g c =
-    let process = process_word (naming c.args.names.now) 0 in
-    puts_both (end_line c.args.turns) (state_line process c.args.state ++ (stored_lines process c.args.environment.now.globals ++ unused_lines c.args.names.now.channels.items)) _ _ _ _ _ _ _ _ c.in_ok-write_end.ensures c.write_process.ensures
+    puts_both (end_line c.args.turns) (standing_text (process_word (naming c.args.names.now) 0) c.args.state c.args.environment.now.globals c.args.names.now.channels.items) _ _ _ _ _ _ _ _ c.in_ok-write_end.ensures c.write_process.ensures

@@ -7,12 +7,12 @@ use Rattle.rb_run.proofs.Completes.{Remains}
 use Rattle.rb_run.proofs.engine.Engine.walk.Given as goal
 
 -- the turns so far were written, and those that are left come to what all of them come to
-abbrev pub invariant-loop-turn : goal.invariant-loop-turn
-invariant-loop-turn g l = record {
+abbrev pub invariant-turns : goal.invariant-turns
+invariant-turns g l = record {
   few : l.turn + length l.schedule.left ≤ 1000000;
   led : after_all l.schedule.left (alone l.self) ≡ after_all l.fn.schedule.left (alone l.fn.self);
   text : Remains (turns_text (naming l.names) (l.turn + 1) l.schedule.left (alone l.self)) (turns_text (naming l.names) 1 l.fn.schedule.left (alone l.fn.self)) (g.S.Sink.written l.fn.out) (g.S.Sink.written l.out) (g.S.Sink.faults l.fn.out) (g.S.Sink.faults l.out);
 }
 
-abbrev pub decreases-loop-turn : goal.decreases-loop-turn
-decreases-loop-turn g l = length l.schedule.left
+abbrev pub decreases-turns : goal.decreases-turns
+decreases-turns g l = length l.schedule.left
