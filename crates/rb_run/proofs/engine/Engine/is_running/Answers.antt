@@ -1,4 +1,3 @@
-use Rattle.std.proofs.Common.{sym}
 use Rattle.rb_run.proofs.EngineTurns.{is_running-going}
 use Rattle.rb_run.proofs.engine.Engine.is_running.Goals as goal
 
