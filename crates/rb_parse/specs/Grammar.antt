@@ -162,6 +162,7 @@ pub data Derives : Phrase → Point → Point → Type 0 where
 abbrev pub start_of : List Lexeme → Point
 start_of tokens = record { left = tokens; names = 0; blocks = 0 }
 
+-- A whole list of tokens derives a tree, with no token left.
 pub record DerivesTree (tree : Tree) (tokens : List Lexeme) : Type 0 where
   pub end : Point
   pub derived : Derives (AProgram tree) (start_of tokens) end

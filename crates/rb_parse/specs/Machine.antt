@@ -22,9 +22,11 @@ pub data Outcome : Type 0 where
   Accepted : (tree : Tree) → Outcome
   Refused : (left : List Lexeme) → Outcome
 
+-- whether two terminals are one
 abbrev pub is_same : Terminal → Terminal → Bool
 is_same = sameb the_type
 
+-- whether the token that stands first is of a terminal
 abbrev pub fits : Option Terminal → Terminal → Bool
 fits None terminal = false
 fits (Some first) terminal = is_same first terminal
@@ -34,6 +36,7 @@ abbrev pub names_after : Option Terminal → ℕ → ℕ
 names_after (Some terminals.Name) names = names + 1
 names_after _ names = names
 
+-- how many recoveries came before the point after a token
 abbrev pub blocks_after : Option Terminal → ℕ → ℕ
 blocks_after (Some terminals.Ensure) blocks = blocks + 1
 blocks_after _ blocks = blocks
@@ -57,6 +60,7 @@ feed first seen left next (Token terminal f) = cond (fits first terminal) (next 
 feed first seen left next (Call part k) =
     called (start part first) (empty part) (λ f. next (bind (f seen) k)) (λ v. feed first seen left next (k v)) (Refused left)
 
+-- what comes of a plan over the tokens left, with so many names and recoveries before
 unfoldable pub read : List Lexeme → ℕ → ℕ → Plan Tree → Outcome
 read [] names blocks plan = finish plan
 read (token ∷ others) names blocks plan =
@@ -75,6 +79,7 @@ abbrev pub look : List Lexeme → Option Terminal
 look [] = None
 look (token ∷ others) = terminal_of token
 
+-- the place of the token that stands first, if there is one
 abbrev pub place_of : List Lexeme → Option Place
 place_of [] = None
 place_of (token ∷ others) = Some token.place
@@ -83,10 +88,12 @@ place_of (token ∷ others) = Some token.place
 abbrev pub no_token : Lexeme
 no_token = record { kind = kinds.Mark; text = []; place = first_place }
 
+-- the token that stands first
 abbrev pub first_of : List Lexeme → Lexeme
 first_of [] = no_token
 first_of (token ∷ others) = token
 
+-- what is seen at a point
 abbrev pub seen_at : Point → Seen
 seen_at point = record { token = first_of point.left; names = point.names; blocks = point.blocks }
 

@@ -29,6 +29,7 @@ pub record Seen : Type 0 where
   pub names : ℕ
   pub blocks : ℕ
 
+-- what is still wanted, and the value that comes of it
 pub data Plan (A : Type 0) : Type 0 where
   Done : A → Plan A
   Token : Terminal → (Seen → Plan A) → Plan A

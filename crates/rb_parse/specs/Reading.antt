@@ -30,6 +30,7 @@ abbrev pub tokens_ahead : Option Token → List Lexeme → List Lexeme
 tokens_ahead None others = []
 tokens_ahead (Some token) others = lexeme_of token ∷ others
 
+-- where a cursor stands, with one token ahead of its reader
 abbrev pub position_of : Option Token → Reader → ℕ → ℕ → Position
 position_of ahead reader names blocks = record {
   point = record { left = tokens_ahead ahead (tokens_left reader); names = names; blocks = blocks };
@@ -63,6 +64,7 @@ abbrev pub FindsOperator : Option Op → Option Terminal → Option Operator →
 FindsOperator here first None = here ≡ None
 FindsOperator here first (Some found) = (here ≡ Some found.op) × (first ≡ Some found.terminal)
 
+-- no token is left
 abbrev pub is_nothing : List Lexeme → Bool
 is_nothing [] = true
 is_nothing (token ∷ others) = false

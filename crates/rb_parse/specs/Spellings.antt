@@ -4,5 +4,6 @@ use Rattle.std.specs.Borrow.{Bor}
 use Rattle.rb_parse.specs.declared.terminal.Terminal.{Terminal}
 use Rattle.rb_parse.specs.Terminals.{Spelling}
 
+-- a row of the table in memory
 abbrev pub spelling_of : Bor (List ℕ) × Terminal → Spelling
 spelling_of held = (held.0.now, held.1)

@@ -11,13 +11,16 @@ use Rattle.rb_parse.specs.declared.terminal.Terminal.TheVariants as terminals
 abbrev pub Spelling : Type 0
 Spelling = List ℕ × Terminal
 
+-- what these bytes are in a table
 abbrev pub spelled : List ℕ → List Spelling → Option Terminal
 spelled text [] = None
 spelled text ((bytes, terminal) ∷ others) = cond (pointwise nat_eq bytes text) (Some terminal) (spelled text others)
 
+-- the reserved words of both editions
 abbrev pub words : List Spelling
 words = (codes "all", terminals.All) ∷ (codes "and", terminals.And) ∷ (codes "by", terminals.By) ∷ (codes "call", terminals.Call) ∷ (codes "channel", terminals.Channel) ∷ (codes "conversation", terminals.Conversation) ∷ (codes "converse", terminals.Converse) ∷ (codes "edition", terminals.Edition) ∷ (codes "else", terminals.Else) ∷ (codes "end", terminals.End) ∷ (codes "ensure", terminals.Ensure) ∷ (codes "error", terminals.Error) ∷ (codes "every", terminals.Every) ∷ (codes "fail", terminals.Fail) ∷ (codes "from", terminals.From) ∷ (codes "if", terminals.If) ∷ (codes "not", terminals.Not) ∷ (codes "or", terminals.Or) ∷ (codes "print", terminals.Print) ∷ (codes "prior", terminals.Prior) ∷ (codes "procedure", terminals.Procedure) ∷ (codes "process", terminals.Process) ∷ (codes "program", terminals.Program) ∷ (codes "receive", terminals.Receive) ∷ (codes "send", terminals.Send) ∷ (codes "size", terminals.Size) ∷ (codes "some", terminals.Some) ∷ (codes "sum", terminals.Sum) ∷ (codes "to", terminals.To) ∷ (codes "var", terminals.Var) ∷ (codes "while", terminals.While) ∷ (codes "within", terminals.Within) ∷ []
 
+-- the marks of both editions
 abbrev pub marks : List Spelling
 marks = (codes ";", terminals.Semicolon) ∷ (codes ",", terminals.Comma) ∷ (codes ".", terminals.Dot) ∷ (codes ":", terminals.Colon) ∷ (codes "(", terminals.OpenParen) ∷ (codes ")", terminals.CloseParen) ∷ (codes "{", terminals.OpenBrace) ∷ (codes "}", terminals.CloseBrace) ∷ (codes "[", terminals.OpenBracket) ∷ (codes "]", terminals.CloseBracket) ∷ (codes ":=", terminals.Becomes) ∷ (codes "=", terminals.Equal) ∷ (codes "<>", terminals.Unequal) ∷ (codes "<", terminals.Less) ∷ (codes "<=", terminals.LessEqual) ∷ (codes ">", terminals.Greater) ∷ (codes ">=", terminals.GreaterEqual) ∷ (codes "+", terminals.Plus) ∷ (codes "-", terminals.Minus) ∷ (codes "*", terminals.Star) ∷ (codes "/", terminals.Slash) ∷ (codes "%", terminals.Percent) ∷ []
 
@@ -29,5 +32,6 @@ terminal_of_kind kinds.Text text = Some terminals.Text
 terminal_of_kind kinds.Word text = spelled text words
 terminal_of_kind kinds.Mark text = spelled text marks
 
+-- what a token is
 abbrev pub terminal_of : Lexeme → Option Terminal
 terminal_of token = terminal_of_kind token.kind token.text

@@ -11,6 +11,7 @@ use Rattle.rb_parse.specs.Grammar.{DerivesTree}
 use Rattle.rb_parse.specs.Scoped.{is_scoped}
 use Rattle.rb_syntax.specs.Tree.{Tree}
 
+-- a source has at most so many bytes
 abbrev pub most_bytes : ℕ
 most_bytes = 1048576
 

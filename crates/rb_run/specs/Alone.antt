@@ -40,15 +40,18 @@ pub data Alone : Type 0 where
 abbrev pub opening_alone : ProcessDeclaration → Alone
 opening_alone process = Goes process.commands (record { globals = frame_of process.variables; calls = [] ∷ [] })
 
+-- the variables of a process that runs alone
 abbrev pub variables_of : Alone → Environment
 variables_of (Goes left env) = env
 variables_of (Fell env) = env
 
+-- it is neither done nor failed
 abbrev pub is_running : Alone → Bool
 is_running (Goes NoCommand env) = false
 is_running (Goes (Then first rest) env) = true
 is_running (Fell env) = false
 
+-- how it stands
 abbrev pub state_of : Alone → State
 state_of (Goes NoCommand env) = Done
 state_of (Goes (Then first rest) env) = Running 0
@@ -59,11 +62,13 @@ abbrev pub after_effect : Commands → Environment → Result Change Cause → A
 after_effect rest env (Ok (changed, line)) = Goes rest changed
 after_effect rest env (Err cause) = Fell env
 
+-- the same process after one turn
 abbrev pub after : Alone → Alone
 after (Goes NoCommand env) = Goes NoCommand env
 after (Goes (Then first rest) env) = after_effect rest env (effect env first)
 after (Fell env) = Fell env
 
+-- the same process after so many turns
 abbrev pub after_all : List ℕ → Alone → Alone
 after_all [] alone = alone
 after_all (p ∷ ps) alone = after_all ps (after alone)

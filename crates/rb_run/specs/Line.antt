@@ -15,6 +15,7 @@ abbrev pub added : Option (List ℕ) → List ℕ → Option (List ℕ)
 added None bytes = None
 added (Some text) bytes = fitting_line (text ++ bytes)
 
+-- a line with one item more, unless the item traps
 abbrev pub item_added : Option (List ℕ) → Result (List ℕ) Cause → Result (Option (List ℕ)) Cause
 item_added line text = and_then text (λ bytes. Ok (added line bytes))
 
@@ -23,6 +24,7 @@ abbrev pub before_item : Bool → Option (List ℕ) → Option (List ℕ)
 before_item true line = line
 before_item false line = added line (32 ∷ [])
 
+-- a line with more items, each behind a blank but the first of a line
 abbrev pub items_added : Environment → Bool → Option (List ℕ) → List PrintItem → Result (Option (List ℕ)) Cause
 items_added env first line [] = Ok line
 items_added env first line (item ∷ items) =

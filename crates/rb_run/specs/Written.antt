@@ -22,6 +22,7 @@ done_text names t (Goes NoCommand env) = event_line names t (Done 0)
 done_text names t (Goes (Then first rest) env) = []
 done_text names t (Fell env) = []
 
+-- what a turn writes that has this effect
 abbrev pub effect_text : Naming → ℕ → Commands → Result Change Cause → List ℕ
 effect_text names t rest (Ok (changed, line)) = out_text names t line ++ done_text names t (Goes rest changed)
 effect_text names t rest (Err cause) = event_line names t (Error 0 cause)
@@ -32,6 +33,7 @@ turn_text names t (Goes NoCommand env) = []
 turn_text names t (Goes (Then first rest) env) = effect_text names t rest (effect env first)
 turn_text names t (Fell env) = []
 
+-- what all these turns write
 abbrev pub turns_text : Naming → ℕ → List ℕ → Alone → List ℕ
 turns_text names t [] alone = []
 turns_text names t (p ∷ ps) alone = turn_text names t alone ++ turns_text names (t + 1) ps (after alone)
@@ -40,30 +42,39 @@ turns_text names t (p ∷ ps) alone = turn_text names t alone ++ turns_text name
 abbrev pub stored_line : List ℕ → Stored → List ℕ
 stored_line process stored = line_of ((process ++ 46 ∷ stored.name) ∷ codes "=" ∷ map signed_decimal stored.values)
 
+-- the lines of the variables of a process
 abbrev pub stored_lines : List ℕ → Frame → List ℕ
 stored_lines process frame = flat_map (stored_line process) frame
 
+-- the line of a channel that was never used
 abbrev pub unused_line : List ℕ → List ℕ
 unused_line channel = line_of (channel ∷ codes "sent" ∷ codes "0" ∷ codes "taken" ∷ codes "0" ∷ [])
 
+-- the lines of channels that were never used
 abbrev pub unused_lines : List (List ℕ) → List ℕ
 unused_lines channels = flat_map unused_line channels
 
+-- the line that ends a run of so many turns
 abbrev pub end_line : ℕ → List ℕ
 end_line turns = line_of (codes "end" ∷ decimal turns ∷ [])
 
+-- the line of how a process stands
 abbrev pub state_line : List ℕ → State → List ℕ
 state_line process state = line_of (process ∷ state_words state)
 
+-- the lines of variables and channels
 abbrev pub values_text : List ℕ → Frame → List (List ℕ) → List ℕ
 values_text process frame channels = stored_lines process frame ++ unused_lines channels
 
+-- the line of how it stands, and the lines of its values
 abbrev pub standing_text : List ℕ → State → Frame → List (List ℕ) → List ℕ
 standing_text process state frame channels = state_line process state ++ values_text process frame channels
 
+-- the ending of a run, for a process that stands so
 abbrev pub ending_with : Naming → ℕ → State → Frame → List ℕ
 ending_with names turns state frame = end_line turns ++ standing_text (process_word names 0) state frame names.channels
 
+-- the ending of a run of a process alone
 abbrev pub ending_text : Naming → ℕ → Alone → List ℕ
 ending_text names turns alone = ending_with names turns (state_of alone) (variables_of alone).globals
 
