@@ -8,10 +8,11 @@ use Rattle.rb_parse.specs.Grammar.{Point, AProgram, Derives, DerivesTree, start_
 use Rattle.rb_parse.specs.Laws.{GoesOn, FirstBadToken, EndsTooEarly}
 use Rattle.rb_parse.specs.Machine.{Outcome, Accepted, Refused, names_after, blocks_after, called, finish, step, onward, read, run, whole}
 use Rattle.rb_parse.specs.Parts.{Part}
-use Rattle.rb_parse.specs.Plans.{Value, Seen, Plan, Done, Token, Call}
+use Rattle.rb_parse.specs.Plans.{Value, Seen, Plan, Done, Token, Call, bind}
+use Rattle.rb_parse.specs.Reading.{Exhausts}
 use Rattle.rb_parse.specs.Table.{empty}
 use Rattle.rb_parse.specs.Terminals.{terminal_of}
-use Rattle.rb_parse.proofs.Accepted.{stepped}
+use Rattle.rb_parse.proofs.Accepted.{accepted_derives, stepped}
 use Rattle.rb_parse.proofs.Complete.{derived_accepted}
 use Rattle.rb_parse.proofs.Reaching.{seen_from}
 use Rattle.rb_parse.proofs.Shortest.{from, completion, completed}
@@ -157,3 +158,22 @@ pub ends_too_early : EndsTooEarly
 ends_too_early tokens h =
     let r = refused_remains tokens 0 0 whole [] [] (omega arith) (subst (λ ts. run whole (start_of ts) ≡ Refused []) (sym (append-nil tokens)) h) in
     (goes_on tokens r.0 r.1, λ tree d. not_both tree [] (run whole (start_of tokens)) (derived_accepted tree tokens d) h)
+
+none_left : (left : List Lexeme) → length left ≤ 0 → left ≡ []
+none_left [] h = refl
+none_left (token ∷ others) h = absurd (omega arith)
+
+goes_on_by : (tokens : List Lexeme) (outcome : Outcome) → run whole (start_of tokens) ≡ outcome → ((left : List Lexeme) → outcome ≡ Refused left → left ≡ []) → GoesOn tokens
+goes_on_by tokens (Accepted tree) e none =
+    ([], tree, subst (λ ts. DerivesTree tree ts) (sym (append-nil tokens)) (accepted_derives tokens tree e))
+goes_on_by tokens (Refused left) e none =
+    (ends_too_early tokens (e ∙ ap Refused (none left refl))).0
+
+-- where all tokens were taken, they go on
+pub exhausted_goes_on : (tokens : List Lexeme) → Exhausts Part.Program (start_of tokens) → GoesOn tokens
+exhausted_goes_on tokens x =
+    let there = x.leads (λ tree. Done tree) in
+    let none : (left : List Lexeme) → run whole (start_of tokens) ≡ Refused left → left ≡ [] = λ left e.
+        let ends = refused_left x.end.left x.end.names x.end.blocks (bind x.plan (λ tree. Done tree)) left (sym there ∙ e) in
+        none_left left (omega (arith, ap length (sym x.ended ∙ ends.1), length-append ends.0 left)) in
+    goes_on_by tokens (run whole (start_of tokens)) refl none
