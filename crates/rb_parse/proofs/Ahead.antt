@@ -124,7 +124,7 @@ pub ends_by_fault : (token : Token) (held : Option Token) (terminal : Terminal) 
 ends_by_fault token held terminal first lexer after names blocks fault old new sound holds at e answers =
     let faulty = answers_fault lexer after fault answers in
     let left : tokens_ahead held (tokens_left lexer) ≡ lexeme_of token ∷ [] =
-        ap (λ x. tokens_ahead x (tokens_left lexer)) holds ∙ ap (λ others. lexeme_of token ∷ others) faulty.0 in
+    ap (λ x. tokens_ahead x (tokens_left lexer)) holds ∙ ap (λ others. lexeme_of token ∷ others) faulty.0 in
     let later : Point = record {
       left = [];
       names = names_after (Some terminal) old.point.names;

@@ -144,7 +144,7 @@ stops_with before after token later e h g =
     let more = g.0 in
     let tree = g.1 in
     let joined : DerivesTree tree (before ++ (token ∷ more)) =
-        subst (λ ts. DerivesTree tree ts) (append_assoc before (token ∷ []) more) g.2 in
+    subst (λ ts. DerivesTree tree ts) (append_assoc before (token ∷ []) more) g.2 in
     let there = read_remains before 0 0 whole later e in
     let stops = refused_at token after more (names_past before 0) (blocks_past before 0) later (sym (there (token ∷ after)) ∙ h) in
     not_both tree (token ∷ more) (run whole (start_of (before ++ (token ∷ more)))) (derived_accepted tree (before ++ (token ∷ more)) joined) (there (token ∷ more) ∙ stops)
@@ -174,6 +174,6 @@ pub exhausted_goes_on : (tokens : List Lexeme) → Exhausts Part.Program (start_
 exhausted_goes_on tokens x =
     let there = x.leads (λ tree. Done tree) in
     let none : (left : List Lexeme) → run whole (start_of tokens) ≡ Refused left → left ≡ [] = λ left e.
-        let ends = refused_left x.end.left x.end.names x.end.blocks (bind x.plan (λ tree. Done tree)) left (sym there ∙ e) in
-        none_left left (omega (arith, ap length (sym x.ended ∙ ends.1), length-append ends.0 left)) in
+    let ends = refused_left x.end.left x.end.names x.end.blocks (bind x.plan (λ tree. Done tree)) left (sym there ∙ e) in
+    none_left left (omega (arith, ap length (sym x.ended ∙ ends.1), length-append ends.0 left)) in
     goes_on_by tokens (run whole (start_of tokens)) refl none
