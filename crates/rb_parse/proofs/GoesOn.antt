@@ -1,5 +1,5 @@
 -- The first token that the machine refuses: what stands before it goes on, and with it nothing does.
-use Rattle.std.proofs.Common.{◌≡◌, ℕ, ◌+◌, ◌<◌, ◌≤◌, List, [], ◌∷◌, ◌++◌, length, Option, Some, None, refl, sym, ap, subst, ◌∙◌, arith}
+use Rattle.std.proofs.Common.{◌≡◌, ℕ, ◌<◌, ◌≤◌, List, [], ◌∷◌, ◌++◌, length, Option, Some, None, refl, sym, ap, subst, ◌∙◌, arith}
 use Rattle.std.proofs.lemmas.List.{append-nil}
 use Rattle.std.proofs.Common.{length-append, append_assoc}
 use Rattle.rb_lex.specs.Tokens.{Lexeme}
@@ -8,7 +8,7 @@ use Rattle.rb_parse.specs.Grammar.{Point, AProgram, Derives, DerivesTree, start_
 use Rattle.rb_parse.specs.Laws.{GoesOn, FirstBadToken, EndsTooEarly}
 use Rattle.rb_parse.specs.Machine.{Outcome, Accepted, Refused, names_after, blocks_after, called, finish, step, onward, read, run, whole}
 use Rattle.rb_parse.specs.Parts.{Part}
-use Rattle.rb_parse.specs.Plans.{Value, Seen, Plan, Done, Token, Call, bind}
+use Rattle.rb_parse.specs.Plans.{Value, Plan, Done, Token, Call, bind}
 use Rattle.rb_parse.specs.Reading.{Exhausts}
 use Rattle.rb_parse.specs.Table.{empty}
 use Rattle.rb_parse.specs.Terminals.{terminal_of}
