@@ -3,7 +3,7 @@ use Rattle.std.proofs.Common.{◌≡◌, ℕ, Bool, true, false, cond, List, [],
 use Rattle.rb_lex.specs.Tokens.{Lexeme}
 use Rattle.rb_parse.specs.declared.terminal.Terminal.{Terminal}
 use Rattle.rb_parse.specs.Grammar.{Point, AProgram, Derives, DerivesTree, start_of}
-use Rattle.rb_parse.specs.Machine.{Outcome, Accepted, Refused, fits, names_after, blocks_after, called, finish, feed, read, run, whole}
+use Rattle.rb_parse.specs.Machine.{Outcome, Accepted, Refused, fits, names_after, blocks_after, called, finish, step, onward, read, run, whole}
 use Rattle.rb_parse.specs.Parts.{Part}
 use Rattle.rb_parse.specs.Plans.{Value, Seen, Plan, Done, Token, Call, bind}
 use Rattle.rb_parse.specs.Table.{Start, start, empty}
@@ -12,6 +12,29 @@ use Rattle.rb_parse.proofs.Ahead.{fits-true}
 use Rattle.rb_parse.proofs.Sound.{phrase, Follows, follows_bind, Forms, Without, Passes, advanced, start_sound, empty_sound}
 use Rattle.rb_parse.proofs.Reaching.{seen_from}
 use Rattle.rb_syntax.specs.Tree.{Tree}
+
+-- what a plan promises, the plan that is left after a token promises too
+module _ (Q : Tree → Point → Type 0) (first : Option Terminal) (token : Lexeme) (a b : Point) (passes : Passes first token a b) where
+  taken : (terminal : Terminal) (f : Seen → Plan Tree) (later : Plan Tree) (test : Bool) → fits first terminal ≡ test → Follows Q (Token terminal f) a → cond test (Some (f (seen_from token a))) None ≡ Some later → Follows Q later b
+  taken terminal f later true t q h =
+      let is : first ≡ Some terminal = fits-true first terminal t in
+      let same : f (seen_from token a) ≡ later = cc in
+      subst (λ plan. Follows Q plan b) same (q token b (advanced (subst (λ x. Passes x token a b) is passes)))
+  taken terminal f later false t q h = absurd cc
+
+  entered : (part : Part) (begun : Start (Value part)) (without : Option (Value part)) (k : Value part → Plan Tree) (later : Plan Tree) → Forms part begun token a b → Without part without a → Follows Q (Call part k) a → ((v : Value part) → Derives (phrase part v) a a → step first (seen_from token a) (k v) ≡ Some later → Follows Q later b) → called begun without (λ f. Some (bind (f (seen_from token a)) k)) (λ v. step first (seen_from token a) (k v)) None ≡ Some later → Follows Q later b
+  entered part (Some f) without k later s d q rest h =
+      let same : bind (f (seen_from token a)) k ≡ later = cc in
+      subst (λ plan. Follows Q plan b) same (follows_bind (λ v c. Derives (phrase part v) a c) Q (f (seen_from token a)) k b s (λ v c w. q v c w))
+  entered part None (Some v) k later s d q rest h = rest v d h
+  entered part None None k later s d q rest h = absurd cc
+
+  pub stepped : (plan later : Plan Tree) → Follows Q plan a → step first (seen_from token a) plan ≡ Some later → Follows Q later b
+  unfolding step
+  stepped (Done v) later q h = absurd cc
+  stepped (Token terminal f) later q h = taken terminal f later (fits first terminal) refl q h
+  stepped (Call part k) later q h =
+      entered part (start part first) (empty part) k later (start_sound token a b part first passes) (empty_sound part a) q (λ v d g. stepped (k v) later (q v a d) g) h
 
 -- what is accepted in the end has the property that the plan promised
 module _ (Q : Tree → Point → Type 0) (tree : Tree) where
@@ -32,25 +55,9 @@ module _ (Q : Tree → Point → Type 0) (tree : Tree) where
   finished a e (Call part k) q h =
       passed_end part (empty part) k a (empty_sound part a) (λ v d g. finished a e (k v) (q v a d) g) h
 
-  module _ (first : Option Terminal) (token : Lexeme) (a b : Point) (passes : Passes first token a b) (left : List Lexeme) (next : Plan Tree → Outcome) (onward : (plan : Plan Tree) → Follows Q plan b → next plan ≡ Accepted tree → Ends) where
-    taken : (terminal : Terminal) (f : Seen → Plan Tree) (test : Bool) → fits first terminal ≡ test → Follows Q (Token terminal f) a → cond test (next (f (seen_from token a))) (Refused left) ≡ Accepted tree → Ends
-    taken terminal f true t q h =
-        let is : first ≡ Some terminal = fits-true first terminal t in
-        onward (f (seen_from token a)) (q token b (advanced (subst (λ x. Passes x token a b) is passes))) h
-    taken terminal f false t q h = absurd cc
-
-    entered : (part : Part) (begun : Start (Value part)) (without : Option (Value part)) (k : Value part → Plan Tree) → Forms part begun token a b → Without part without a → Follows Q (Call part k) a → ((v : Value part) → Derives (phrase part v) a a → feed first (seen_from token a) left next (k v) ≡ Accepted tree → Ends) → called begun without (λ f. next (bind (f (seen_from token a)) k)) (λ v. feed first (seen_from token a) left next (k v)) (Refused left) ≡ Accepted tree → Ends
-    entered part (Some f) without k s d q rest h =
-        onward (bind (f (seen_from token a)) k) (follows_bind (λ v c. Derives (phrase part v) a c) Q (f (seen_from token a)) k b s (λ v c w. q v c w)) h
-    entered part None (Some v) k s d q rest h = rest v d h
-    entered part None None k s d q rest h = absurd cc
-
-    fed : (plan : Plan Tree) → Follows Q plan a → feed first (seen_from token a) left next plan ≡ Accepted tree → Ends
-    unfolding feed
-    fed (Done v) q h = absurd cc
-    fed (Token terminal f) q h = taken terminal f (fits first terminal) refl q h
-    fed (Call part k) q h =
-        entered part (start part first) (empty part) k (start_sound token a b part first passes) (empty_sound part a) q (λ v d g. fed (k v) (q v a d) g) h
+  accepted_onward : (found : Option (Plan Tree)) (next : Plan Tree → Outcome) (left : List Lexeme) → ((later : Plan Tree) → found ≡ Some later → next later ≡ Accepted tree → Ends) → onward found next (Refused left) ≡ Accepted tree → Ends
+  accepted_onward None next left h e = absurd cc
+  accepted_onward (Some later) next left h e = h later refl e
 
   accepted : (tokens : List Lexeme) (names blocks : ℕ) (plan : Plan Tree) → Follows Q plan (record { left = tokens; names = names; blocks = blocks }) → read tokens names blocks plan ≡ Accepted tree → Ends
   unfolding read
@@ -60,7 +67,8 @@ module _ (Q : Tree → Point → Type 0) (tree : Tree) where
       let first : Option Terminal = terminal_of token in
       let a : Point = record { left = token ∷ others; names = names; blocks = blocks } in
       let b : Point = record { left = others; names = names_after first names; blocks = blocks_after first blocks } in
-      fed first token a b (record { stands = refl; is = refl; names = refl; blocks = refl }) (token ∷ others) (λ later. read others (names_after first names) (blocks_after first blocks) later) (λ later f g. accepted others (names_after first names) (blocks_after first blocks) later f g) plan q h
+      let passes : Passes first token a b = record { stands = refl; is = refl; names = refl; blocks = refl } in
+      accepted_onward (step first (seen_from token a) plan) (λ later. read others (names_after first names) (blocks_after first blocks) later) (token ∷ others) (λ later e g. accepted others (names_after first names) (blocks_after first blocks) later (stepped Q first token a b passes plan later q e) g) h
 
 -- an accepted list of tokens derives the tree
 pub accepted_derives : (tokens : List Lexeme) (tree : Tree) → run whole (start_of tokens) ≡ Accepted tree → DerivesTree tree tokens

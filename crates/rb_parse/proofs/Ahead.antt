@@ -1,20 +1,21 @@
 -- The token ahead of a cursor, and the tokens that its lexer has left.
-use Rattle.std.proofs.Common.{◌≡◌, ℕ, zero, suc, ◌+◌, ◌<◌, ◌≤◌, Bool, true, false, List, [], ◌∷◌, length, Option, Some, None, Ok, refl, ap, sym, ◌∙◌, arith}
+use Rattle.std.proofs.Common.{◌≡◌, ℕ, zero, suc, ◌+◌, ◌<◌, ◌≤◌, Bool, true, false, List, [], ◌∷◌, length, Option, Some, None, Ok, refl, ap, sym, ◌∙◌, arith, Err}
 use denote.Enum.Bare.{same_true}
 use Rattle.rb_base.specs.declared.place.Place.{Place}
+use Rattle.rb_base.specs.declared.fault.SourceFault.{SourceFault}
 use Rattle.rb_lex.specs.declared.token.Token.{Token}
 use Rattle.rb_lex.specs.Reader.{Reader, lexeme_of, Answers}
 use Rattle.rb_lex.specs.Tokens.{Lexeme, Next, End, Found, Refused, AtEnd, next_from, is_second}
 use Rattle.rb_lex.specs.Bytes.{first_place}
 use Rattle.rb_lex.specs.TokenList.{token_and, tokens_within, tokens_left, ending_left, ending_from, tokens_of, ending_of}
-use Rattle.rb_lex.proofs.Answered.{answers_first, answers_end}
+use Rattle.rb_lex.proofs.Answered.{answers_first, answers_end, answers_fault}
 use Rattle.rb_parse.specs.contracts.terminal.Terminal.{the_type}
 use Rattle.rb_parse.specs.declared.stop.Stop.TheVariants as stops
 use Rattle.rb_parse.specs.declared.terminal.Terminal.{Terminal}
 use Rattle.rb_parse.specs.declared.terminal.Terminal.TheVariants as terminals
-use Rattle.rb_parse.specs.Grammar.{start_of}
+use Rattle.rb_parse.specs.Grammar.{Point, start_of}
 use Rattle.rb_parse.specs.Machine.{fits, look, names_after, blocks_after, Advances}
-use Rattle.rb_parse.specs.Reading.{Position, position_of, tokens_ahead, terminal_ahead, Misses, Stopped, by_form, IsSound}
+use Rattle.rb_parse.specs.Reading.{Position, position_of, tokens_ahead, terminal_ahead, by_form, by_token, IsNotTaken, IsSound}
 
 pub fits-true : (first : Option Terminal) (terminal : Terminal) → fits first terminal ≡ true → first ≡ Some terminal
 fits-true None terminal e = absurd cc
@@ -76,7 +77,7 @@ begins_sound old new ahead a few terminal e =
     }
 
 -- what stands first is another
-pub misses : (terminal : Terminal) (first : Option Terminal) (held : Option Token) (lexer : Reader) (names blocks : ℕ) (old : Position) → position_of held lexer names blocks ≡ old → IsSound first (position_of held lexer names blocks) → fits first terminal ≡ false → Stopped (Misses terminal old old) old.ending stops.Form
+pub misses : (terminal : Terminal) (first : Option Terminal) (held : Option Token) (lexer : Reader) (names blocks : ℕ) (old : Position) → position_of held lexer names blocks ≡ old → IsSound first (position_of held lexer names blocks) → fits first terminal ≡ false → IsNotTaken terminal old old stops.Form
 misses terminal first held lexer names blocks old at sound e =
     by_form (record {
       other = ap (λ x. fits (look x.point.left) terminal) (sym at) ∙ ap (λ x. fits x terminal) (sym sound.looks) ∙ e;
@@ -88,7 +89,7 @@ none_fits terminal first held lexer names blocks sound e =
     ap (λ x. fits x terminal) (sound.looks ∙ ap (λ x. look (tokens_ahead x (tokens_left lexer))) e)
 
 -- nothing stands first
-pub misses_all : (terminal : Terminal) (first : Option Terminal) (held : Option Token) (lexer : Reader) (names blocks : ℕ) (old : Position) → position_of held lexer names blocks ≡ old → IsSound first (position_of held lexer names blocks) → held ≡ None → Stopped (Misses terminal old old) old.ending stops.Form
+pub misses_all : (terminal : Terminal) (first : Option Terminal) (held : Option Token) (lexer : Reader) (names blocks : ℕ) (old : Position) → position_of held lexer names blocks ≡ old → IsSound first (position_of held lexer names blocks) → held ≡ None → IsNotTaken terminal old old stops.Form
 misses_all terminal first held lexer names blocks old at sound e =
     misses terminal first held lexer names blocks old at sound (none_fits terminal first held lexer names blocks sound e)
 
@@ -117,3 +118,26 @@ module _ (token : Token) (held ahead : Option Token) (terminal : Terminal) (firs
   -- one token less is left
   pub shorter : (old : Position) → position_of held lexer names blocks ≡ old → length (tokens_ahead ahead (tokens_left after)) < length old.point.left
   shorter old at = omega (arith, ap length next_left, ap (λ x. length x.point.left) at)
+
+-- the last token was taken, and a fault follows
+pub ends_by_fault : (token : Token) (held : Option Token) (terminal : Terminal) (first : Option Terminal) (lexer after : Reader) (names blocks : ℕ) (fault : SourceFault) (old new : Position) → IsSound first (position_of held lexer names blocks) → held ≡ Some token → position_of held lexer names blocks ≡ old → fits first terminal ≡ true → Answers lexer (Err fault) after → IsNotTaken terminal old new (stops.Token fault)
+ends_by_fault token held terminal first lexer after names blocks fault old new sound holds at e answers =
+    let faulty = answers_fault lexer after fault answers in
+    let left : tokens_ahead held (tokens_left lexer) ≡ lexeme_of token ∷ [] =
+    ap (λ x. tokens_ahead x (tokens_left lexer)) holds ∙ ap (λ others. lexeme_of token ∷ others) faulty.0 in
+    let later : Point = record {
+      left = [];
+      names = names_after (Some terminal) old.point.names;
+      blocks = blocks_after (Some terminal) old.point.blocks;
+    } in
+    by_token fault (ap (λ x. x.ending) (sym at) ∙ faulty.1) (record {
+      token = lexeme_of token;
+      after = later;
+      takes = record {
+        stands = ap (λ x. x.point.left) (sym at) ∙ left;
+        is = ap look (sym left) ∙ sym sound.looks ∙ fits-true first terminal e;
+        names = refl;
+        blocks = refl;
+      };
+      ended = refl;
+    })

@@ -10,4 +10,7 @@ pub mod Accepted
 pub mod Complete
 pub mod Scopes
 pub mod Judged
+pub mod Samples
+pub mod Shortest
+pub mod GoesOn
 pub mod Pushing

@@ -1,6 +1,6 @@
 -- How far a part was read: up to a point, from which on a plan is left of its form. Each form is followed by these
 -- lemmas alone, one for each of its tokens and parts.
-use Rattle.std.proofs.Common.{◌≡◌, true, false, Some, None, Result, IfErr, refl, sym, ap, subst, ◌∙◌}
+use Rattle.std.proofs.Common.{[], ◌≡◌, true, false, Some, None, Result, IfErr, refl, sym, ap, subst, ◌∙◌}
 use Rattle.std.specs.Result.{IsErrAnd}
 use Rattle.std.proofs.lemmas.Result.{err_from_is_err_and}
 use Rattle.std.specs.Option.{is_some}
@@ -12,7 +12,7 @@ use Rattle.rb_parse.specs.Grammar.{Point}
 use Rattle.rb_parse.specs.Machine.{fits, run, look, seen_at, Advances, Reads, Stops}
 use Rattle.rb_parse.specs.Parts.{Part}
 use Rattle.rb_parse.specs.Plans.{Value, Seen, Plan, Done, Token, Call, bind}
-use Rattle.rb_parse.specs.Reading.{Position, Misses, Stopped, by_form, by_token, by_memory}
+use Rattle.rb_parse.specs.Reading.{Position, Misses, TakesLast, Exhausts, Stopped, by_form, by_token, by_memory}
 use Rattle.rb_parse.specs.Table.{begin, start, empty}
 use Rattle.rb_parse.proofs.Running.{bind-assoc, run_token, run_misses, run_start, run_empty, run_none, run_begin, run_begin_here}
 use Rattle.rb_syntax.specs.Tree.{Tree}
@@ -98,30 +98,55 @@ pub missed_first : {part : Part} {terminal : Terminal} {old new : Position} → 
 missed_first {part = part} {old = old} m s e =
     subst (λ at. Stops part old.point at.point) (sym m.stays) (stops_first old.point s e)
 
--- why reading stopped, for the part around
-pub stopped : {P Q : Type 0} {old now : Ending} {stop : Stop} → now ≡ old → (P → Q) → Stopped P now stop → Stopped Q old stop
-stopped e f (by_form p) = by_form (f p)
-stopped e f (by_token fault h) = by_token fault (sym e ∙ h)
-stopped e f by_memory = by_memory
-
--- what the exit of a `?` hands on
-pub exit : {T : Type 0} {P Q : Type 0} {old now : Ending} {given : Stop} (r : Result T Stop) → IsErrAnd r (λ stop. stop ≡ given) → now ≡ old → (P → Q) → Stopped P now given → IfErr r (Stopped Q old)
-exit {Q = Q} {old = old} r e same f h =
-    let p = err_from_is_err_and r e in
-    subst (λ x. IfErr x (Stopped Q old)) (sym p.1) (subst (Stopped Q old) (sym p.2) (stopped same f h))
-
--- what the exit of a `?` hands on where memory ran out
-pub exit_memory : {T : Type 0} (Q : Type 0) (old : Ending) (r : Result T Stop) (given : Stop) → IsErrAnd r (λ stop. stop ≡ given) → given ≡ stops.Memory → IfErr r (Stopped Q old)
-exit_memory Q old r given e h =
-    let p = err_from_is_err_and r e in
-    subst (λ x. IfErr x (Stopped Q old)) (sym p.1) (subst (Stopped Q old) (sym (p.2 ∙ h)) by_memory)
-
 -- what stands first was not missed
-pub not_missed : {P : Type 0} {terminal : Terminal} {old new : Position} → fits (look old.point.left) terminal ≡ true → Misses terminal old new → P
+not_missed : {P : Type 0} {terminal : Terminal} {old new : Position} → fits (look old.point.left) terminal ≡ true → Misses terminal old new → P
 not_missed e m = absurd (true_not_false (sym e ∙ m.other))
 
+-- all tokens were taken
+pub exhausts : {part : Part} {a b : Point} {plan : Plan (Value part)} → Reaches part a plan b → b.left ≡ [] → Exhausts part a
+exhausts {b = b} {plan = plan} r e = record { end = b; plan = plan; ended = e; leads = r.leads }
+
+pub exhausts_within : {part part_first : Part} {a b : Point} {f : Value part_first → Plan (Value part)} → Reaches part a (Call part_first f) b → Exhausts part_first b → Exhausts part a
+exhausts_within {b = b} r x = exhausts (within {b = b} {c = x.end} r (record { leads = x.leads })) x.ended
+
+-- the last token was the first of a form
+pub last_start : {part : Part} {terminal : Terminal} {old : Position} (f : Seen → Plan (Value part)) → start part (Some terminal) ≡ Some f → TakesLast terminal old → Exhausts part old.point
+last_start f s l = exhausts (starts f s l.takes) l.ended
+
+-- why reading stopped, for the part around
+stopped : {P Q L M : Type 0} {old now : Ending} {stop : Stop} → now ≡ old → (P → Q) → (L → M) → Stopped P L now stop → Stopped Q M old stop
+stopped e f g (by_form p) = by_form (f p)
+stopped e f g (by_token fault h l) = by_token fault (sym e ∙ h) (g l)
+stopped e f g by_memory = by_memory
+
+-- What the exit of a `?` hands on, where the call was of a part that is wanted; of a token that is wanted; of the first
+-- token of the only form; of a token that is known to stand first; or where memory ran out.
+exit : {T P Q L M : Type 0} {old now : Ending} {given : Stop} (r : Result T Stop) → IsErrAnd r (λ stop. stop ≡ given) → now ≡ old → (P → Q) → (L → M) → Stopped P L now given → IfErr r (Stopped Q M old)
+exit {Q = Q} {M = M} {old = old} r e same f g h =
+    let p = err_from_is_err_and r e in
+    subst (λ x. IfErr x (Stopped Q M old)) (sym p.1) (subst (Stopped Q M old) (sym p.2) (stopped same f g h))
+
+pub exit_within : {T : Type 0} {part part_first : Part} {a b c : Point} {f : Value part_first → Plan (Value part)} {old now : Ending} {given : Stop} (r : Result T Stop) → IsErrAnd r (λ stop. stop ≡ given) → now ≡ old → Reaches part a (Call part_first f) b → Stopped (Stops part_first b c) (Exhausts part_first b) now given → IfErr r (Stopped (Stops part a c) (Exhausts part a) old)
+exit_within r e same reached h = exit r e same (stops_within reached) (exhausts_within reached) h
+
+pub exit_missed : {T : Type 0} {part : Part} {terminal : Terminal} {a : Point} {before after : Position} {f : Seen → Plan (Value part)} {old now : Ending} {given : Stop} (r : Result T Stop) → IsErrAnd r (λ stop. stop ≡ given) → now ≡ old → Reaches part a (Token terminal f) before.point → Stopped (Misses terminal before after) (TakesLast terminal before) now given → IfErr r (Stopped (Stops part a after.point) (Exhausts part a) old)
+exit_missed r e same reached h =
+    exit r e same (missed reached) (λ l. exhausts (by_terminal reached l.takes) l.ended) h
+
+pub exit_first : {T : Type 0} (part : Part) {terminal : Terminal} {before after : Position} {old now : Ending} {given : Stop} (f : Seen → Plan (Value part)) → start part (Some terminal) ≡ Some f → (fits (look before.point.left) terminal ≡ false → start part (look before.point.left) ≡ None) → empty part ≡ None → (r : Result T Stop) → IsErrAnd r (λ stop. stop ≡ given) → now ≡ old → Stopped (Misses terminal before after) (TakesLast terminal before) now given → IfErr r (Stopped (Stops part before.point after.point) (Exhausts part before.point) old)
+exit_first part f s none without r e same h =
+    exit r e same (λ m. missed_first m (none m.other) without) (last_start f s) h
+
+pub exit_sure : {T : Type 0} {part : Part} {terminal : Terminal} {a : Point} (c : Point) {before after : Position} {old now : Ending} {given : Stop} (r : Result T Stop) → IsErrAnd r (λ stop. stop ≡ given) → now ≡ old → fits (look before.point.left) terminal ≡ true → (TakesLast terminal before → Exhausts part a) → Stopped (Misses terminal before after) (TakesLast terminal before) now given → IfErr r (Stopped (Stops part a c) (Exhausts part a) old)
+exit_sure c r e same sure last h = exit r e same (not_missed sure) last h
+
+pub exit_memory : {T : Type 0} (Q M : Type 0) (old : Ending) (r : Result T Stop) (given : Stop) → IsErrAnd r (λ stop. stop ≡ given) → given ≡ stops.Memory → IfErr r (Stopped Q M old)
+exit_memory Q M old r given e h =
+    let p = err_from_is_err_and r e in
+    subst (λ x. IfErr x (Stopped Q M old)) (sym p.1) (subst (Stopped Q M old) (sym (p.2 ∙ h)) by_memory)
+
 -- a form that is not there
-pub at_form : {P : Type 0} {ending : Ending} {stop : Stop} → Stopped P ending stop → stop ≡ stops.Form → P
+pub at_form : {P L : Type 0} {ending : Ending} {stop : Stop} → Stopped P L ending stop → stop ≡ stops.Form → P
 at_form (by_form p) e = p
-at_form (by_token fault h) e = absurd cc
+at_form (by_token fault h l) e = absurd cc
 at_form by_memory e = absurd cc

@@ -6,7 +6,7 @@ use Rattle.rb_lex.specs.Tokens.{Lexeme}
 use Rattle.rb_parse.specs.contracts.terminal.Terminal.{the_type}
 use Rattle.rb_parse.specs.declared.terminal.Terminal.{Terminal}
 use Rattle.rb_parse.specs.Grammar.{Point}
-use Rattle.rb_parse.specs.Machine.{Outcome, Accepted, Refused, fits, names_after, blocks_after, called, finish, feed, read, run, look, first_of, seen_at, Advances}
+use Rattle.rb_parse.specs.Machine.{Outcome, Accepted, Refused, fits, names_after, blocks_after, called, finish, step, onward, read, run, look, first_of, seen_at, Advances}
 use Rattle.rb_parse.specs.Parts.{Part}
 use Rattle.rb_parse.specs.Plans.{Value, Seen, Plan, Done, Token, Call, bind}
 use Rattle.rb_parse.specs.Table.{Start, begin, start, empty}
@@ -20,12 +20,12 @@ bind-assoc (Call part h) f g = λ j. Call part (λ v. bind-assoc (h v) f g j)
 
 -- a token is taken where it is wanted
 token_step : (token : Lexeme) (others : List Lexeme) (names blocks : ℕ) (terminal : Terminal) (f : Seen → Plan Tree) → terminal_of token ≡ Some terminal → read (token ∷ others) names blocks (Token terminal f) ≡ read others (names_after (Some terminal) names) (blocks_after (Some terminal) blocks) (f (record { token = token; names = names; blocks = blocks }))
-unfolding read feed
+unfolding read step
 token_step token others names blocks terminal f e =
     let seen : Seen = record { token = token; names = names; blocks = blocks } in
     let after : Option Terminal → Plan Tree → Outcome = λ first later. read others (names_after first names) (blocks_after first blocks) later in
-    ap (λ first. feed first seen (token ∷ others) (after first) (Token terminal f)) e
-    ∙ ap (λ b. cond b (after (Some terminal) (f seen)) (Refused (token ∷ others))) (true_same the_type terminal terminal refl)
+    ap (λ first. onward (step first seen (Token terminal f)) (after first) (Refused (token ∷ others))) e
+    ∙ ap (λ b. onward (cond b (Some (f seen)) None) (after (Some terminal)) (Refused (token ∷ others))) (true_same the_type terminal terminal refl)
 
 pub run_token : (terminal : Terminal) (token : Lexeme) (a b : Point) → Advances terminal token a b → (f : Seen → Plan Tree) → run (Token terminal f) a ≡ run (f (record { token = token; names = a.names; blocks = a.blocks })) b
 run_token terminal token a b h f =
@@ -37,10 +37,10 @@ run_token terminal token a b h f =
 
 -- what is wanted does not stand first
 pub run_misses : (terminal : Terminal) (left : List Lexeme) (names blocks : ℕ) → fits (look left) terminal ≡ false → (f : Seen → Plan Tree) → read left names blocks (Token terminal f) ≡ Refused left
-unfolding read feed finish
+unfolding read step finish
 run_misses terminal [] names blocks e f = refl
 run_misses terminal (token ∷ others) names blocks e f =
-    ap (λ b. cond b (read others (names_after (terminal_of token) names) (blocks_after (terminal_of token) blocks) (f (record { token = token; names = names; blocks = blocks }))) (Refused (token ∷ others))) e
+    ap (λ b. onward (cond b (Some (f (record { token = token; names = names; blocks = blocks }))) None) (λ later. read others (names_after (terminal_of token) names) (blocks_after (terminal_of token) blocks) later) (Refused (token ∷ others))) e
 
 no_start : (part : Part) → start part None ≡ None
 no_start Part.Program = refl
@@ -72,10 +72,19 @@ abbrev called_from : (part : Part) → List Lexeme → ℕ → ℕ → (Value pa
 called_from part left names blocks k begun without =
     called begun without (λ f. past left names blocks (bind (f (record { token = first_of left; names = names; blocks = blocks })) k)) (λ v. read left names blocks (k v)) (Refused left)
 
+-- a choice among plans, and what is made of it
+onward_called : {V : Type 0} (begun : Start V) (without : Option V) (f : (Seen → Plan V) → Option (Plan Tree)) (g : V → Option (Plan Tree)) (next : Plan Tree → Outcome) (refused : Outcome) → onward (called begun without f g None) next refused ≡ called begun without (λ h. onward (f h) next refused) (λ v. onward (g v) next refused) refused
+onward_called (Some h) without f g next refused = refl
+onward_called None (Some v) f g next refused = refl
+onward_called None None f g next refused = refl
+
 call_step : (part : Part) (left : List Lexeme) (names blocks : ℕ) (k : Value part → Plan Tree) → read left names blocks (Call part k) ≡ called_from part left names blocks k (start part (look left)) (empty part)
-unfolding read feed finish
+unfolding read step finish
 call_step part [] names blocks k = ap (λ begun. called_from part [] names blocks k begun (empty part)) (sym (no_start part))
-call_step part (token ∷ others) names blocks k = refl
+call_step part (token ∷ others) names blocks k =
+    let first : Option Terminal = terminal_of token in
+    let seen : Seen = record { token = token; names = names; blocks = blocks } in
+    onward_called (start part first) (empty part) (λ f. Some (bind (f seen) k)) (λ v. step first seen (k v)) (λ later. read others (names_after first names) (blocks_after first blocks) later) (Refused (token ∷ others))
 
 run_call : (part : Part) (a : Point) (k : Value part → Plan Tree) → run (Call part k) a ≡ called_from part a.left a.names a.blocks k (start part (look a.left)) (empty part)
 run_call part a k = call_step part a.left a.names a.blocks k
@@ -146,7 +155,7 @@ unfolding read finish
 run_done tree a e = ap (λ left. read left a.names a.blocks (Done tree)) e
 
 done_step : (tree : Tree) (token : Lexeme) (others : List Lexeme) (names blocks : ℕ) → read (token ∷ others) names blocks (Done tree) ≡ Refused (token ∷ others)
-unfolding read feed
+unfolding read step
 done_step tree token others names blocks = refl
 
 -- and with a token left it is refused

@@ -68,17 +68,17 @@ pub record Passes (first : Option Terminal) (token : Lexeme) (a b : Point) : Typ
 pub advanced : {terminal : Terminal} {token : Lexeme} {a b : Point} → Passes (Some terminal) token a b → Advances terminal token a b
 advanced h = record { stands = h.stands; is = h.is; names = h.names; blocks = h.blocks }
 
-plain : {terminal : Terminal} {token : Lexeme} {a b : Point} (h : Advances terminal token a b) → b.names ≡ a.names → b.blocks ≡ a.blocks → Takes terminal a b
+pub plain : {terminal : Terminal} {token : Lexeme} {a b : Point} (h : Advances terminal token a b) → b.names ≡ a.names → b.blocks ≡ a.blocks → Takes terminal a b
 plain {token = token} h n m = record { token = token; stands = h.stands; fits = h.is; names = n; blocks = m }
 
-named : {token : Lexeme} {a b : Point} (h : Advances terminals.Name token a b) → TakesName (name_of (seen_from token a)) a b
+pub named : {token : Lexeme} {a b : Point} (h : Advances terminals.Name token a b) → TakesName (name_of (seen_from token a)) a b
 named {token = token} h = record { token = token; stands = h.stands; fits = h.is; is = refl; names = h.names; blocks = h.blocks }
 
 counted_number : (token : Lexeme) (value : ℤ) → token.kind ≡ kinds.Number value → number_of token ≡ record { value = value; place = token.place }
 counted_number token value e =
     ap (λ kind. let n : Number = record { value = value_of kind; place = token.place } in n) e
 
-numbered : {token : Lexeme} {a b : Point} (h : Advances terminals.Number token a b) → TakesNumber (number_of token) a b
+pub numbered : {token : Lexeme} {a b : Point} (h : Advances terminals.Number token a b) → TakesNumber (number_of token) a b
 numbered {token = token} h =
     let number = number_kind token.kind token.text h.is in
     record {

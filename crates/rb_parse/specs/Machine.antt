@@ -41,11 +41,11 @@ abbrev pub blocks_after : Option Terminal → ℕ → ℕ
 blocks_after (Some terminals.Ensure) blocks = blocks + 1
 blocks_after _ blocks = blocks
 
--- what becomes of a part: its plan goes on, or it gives what a part without tokens does, or it is refused
-abbrev pub called : {V : Type 0} → Start V → Option V → ((Seen → Plan V) → Outcome) → (V → Outcome) → Outcome → Outcome
-called (Some f) without started passed refused = started f
-called None (Some v) started passed refused = passed v
-called None None started passed refused = refused
+-- what becomes of a part: its form begins, or it gives what a part without tokens does, or neither
+abbrev pub called : {V R : Type 0} → Start V → Option V → ((Seen → Plan V) → R) → (V → R) → R → R
+called (Some f) without begun passed neither = begun f
+called None (Some v) begun passed neither = passed v
+called None None begun passed neither = neither
 
 -- at the end of the tokens
 unfoldable pub finish : Plan Tree → Outcome
@@ -53,18 +53,23 @@ finish (Done tree) = Accepted tree
 finish (Token terminal f) = Refused []
 finish (Call part k) = called None (empty part) (λ f. Refused []) (λ v. finish (k v)) (Refused [])
 
--- at a token, with what is done after it
-unfoldable pub feed : Option Terminal → Seen → List Lexeme → (Plan Tree → Outcome) → Plan Tree → Outcome
-feed first seen left next (Done tree) = Refused left
-feed first seen left next (Token terminal f) = cond (fits first terminal) (next (f seen)) (Refused left)
-feed first seen left next (Call part k) =
-    called (start part first) (empty part) (λ f. next (bind (f seen) k)) (λ v. feed first seen left next (k v)) (Refused left)
+-- the plan that is left after a token, if the plan takes it
+unfoldable pub step : Option Terminal → Seen → Plan Tree → Option (Plan Tree)
+step first seen (Done tree) = None
+step first seen (Token terminal f) = cond (fits first terminal) (Some (f seen)) None
+step first seen (Call part k) =
+    called (start part first) (empty part) (λ f. Some (bind (f seen) k)) (λ v. step first seen (k v)) None
+
+-- on with the plan that is left, if there is one
+abbrev pub onward : Option (Plan Tree) → (Plan Tree → Outcome) → Outcome → Outcome
+onward None next refused = refused
+onward (Some plan) next refused = next plan
 
 -- what comes of a plan over the tokens left, with so many names and recoveries before
 unfoldable pub read : List Lexeme → ℕ → ℕ → Plan Tree → Outcome
 read [] names blocks plan = finish plan
 read (token ∷ others) names blocks plan =
-    feed (terminal_of token) (record { token = token; names = names; blocks = blocks }) (token ∷ others) (λ later. read others (names_after (terminal_of token) names) (blocks_after (terminal_of token) blocks) later) plan
+    onward (step (terminal_of token) (record { token = token; names = names; blocks = blocks }) plan) (λ later. read others (names_after (terminal_of token) names) (blocks_after (terminal_of token) blocks) later) (Refused (token ∷ others))
 
 -- what comes of a plan from a point on
 abbrev pub run : Plan Tree → Point → Outcome

@@ -13,12 +13,15 @@ use Rattle.rb_parse.specs.declared.stop.Stop.{Stop}
 use Rattle.rb_parse.specs.declared.stop.Stop.TheVariants as stops
 use Rattle.rb_parse.specs.declared.terminal.Terminal.{Terminal}
 use Rattle.rb_parse.specs.Grammar.{Point}
-use Rattle.rb_parse.specs.Machine.{Outcome, Accepted, Refused, fits, look}
+use Rattle.rb_parse.specs.Machine.{Outcome, Accepted, Refused, Advances, Stops, fits, look, run}
+use Rattle.rb_parse.specs.Parts.{Part}
+use Rattle.rb_parse.specs.Plans.{Value, Plan, Call, bind}
 use Rattle.rb_parse.specs.Scoped.{is_scoped}
 use Rattle.rb_parse.specs.Terminals.{terminal_of}
 use Rattle.rb_syntax.specs.declared.expression.Op.{Op}
 use Rattle.rb_syntax.specs.declared.program.Program.{Program}
 use Rattle.rb_syntax.specs.Plain.{tree}
+use Rattle.rb_syntax.specs.Tree.{Tree}
 
 -- where a cursor stands: the point, and how its tokens end
 pub record Position : Type 0 where
@@ -42,11 +45,32 @@ pub record Misses (terminal : Terminal) (old new : Position) : Type 0 where
   pub other : fits (look old.point.left) terminal ≡ false
   pub stays : new ≡ old
 
--- why reading stopped: P says what a form that is not there means
-pub data Stopped (P : Type 0) (ending : Ending) : Stop → Type 0 where
-  by_form : P → Stopped P ending stops.Form
-  by_token : (fault : SourceFault) → ending ≡ AtFault fault → Stopped P ending (stops.Token fault)
-  by_memory : Stopped P ending stops.Memory
+-- a token of this terminal was taken, and no other stands behind it
+pub record TakesLast (terminal : Terminal) (old : Position) : Type 0 where
+  pub token : Lexeme
+  pub after : Point
+  pub takes : Advances terminal token old.point after
+  pub ended : after.left ≡ []
+
+-- a part was begun, all tokens were taken, and this plan is left of it
+pub record Exhausts (part : Part) (a : Point) : Type 0 where
+  pub end : Point
+  pub plan : Plan (Value part)
+  pub ended : end.left ≡ []
+  pub leads : (k : Value part → Plan Tree) → run (Call part k) a ≡ run (bind plan k) end
+
+-- why reading stopped: P says what a form that is not there means, L what it means that the tokens end with a fault
+pub data Stopped (P L : Type 0) (ending : Ending) : Stop → Type 0 where
+  by_form : P → Stopped P L ending stops.Form
+  by_token : (fault : SourceFault) → ending ≡ AtFault fault → L → Stopped P L ending (stops.Token fault)
+  by_memory : Stopped P L ending stops.Memory
+
+-- why the taking of a token stopped, and why the reading of a part did
+abbrev pub IsNotTaken : Terminal → Position → Position → Stop → Type 0
+IsNotTaken terminal old new stop = Stopped (Misses terminal old new) (TakesLast terminal old) old.ending stop
+
+abbrev pub IsNotRead : Part → Position → Position → Stop → Type 0
+IsNotRead part old new stop = Stopped (Stops part old.point new.point) (Exhausts part old.point) old.ending stop
 
 -- what the token ahead is to the grammar
 abbrev pub terminal_ahead : Option Token → Option Terminal

@@ -4,7 +4,7 @@ ghost use Rattle.rb_lex.specs.Tokens.{AtFault};
 ghost use Rattle.rb_lex.specs.TokenList.{tokens_of, ending_of, ending_left};
 ghost use Rattle.rb_parse.specs.Grammar.{TakesName, TakesNumber, start_of};
 ghost use Rattle.rb_parse.specs.Machine.{Advances, blocks_after, fits, look, names_after, place_of};
-ghost use Rattle.rb_parse.specs.Reading.{EndsBy, Misses, Stopped, is_nothing, terminal_ahead};
+ghost use Rattle.rb_parse.specs.Reading.{EndsBy, IsNotTaken, is_nothing, terminal_ahead};
 ghost use Rattle.rb_syntax.specs.Plain.{identifier};
 
 use crate::stop::Stop;
@@ -94,7 +94,7 @@ impl<'a> Cursor<'a> {
     /// Takes the first token, which is to be of this terminal.
     pub(crate) fn take(&mut self, terminal: Terminal) -> Result<Token<'a>, Stop>
         ensures ok { IfOk result (λ token. Advances terminal (lexeme_of token) self.old.point self.new.point) }
-        ensures err { IfErr result (Stopped (Misses terminal self.old self.new) self.old.ending) }
+        ensures err { IfErr result (IsNotTaken terminal self.old self.new) }
         ensures ending { self.new.ending ≡ self.old.ending }
         ensures shorter { OnOk result (length self.new.point.left < length self.old.point.left) }
     {
@@ -123,7 +123,7 @@ impl<'a> Cursor<'a> {
     /// Takes the first token, which is to be a name.
     pub(crate) fn take_name(&mut self) -> Result<Name<'a>, Stop>
         ensures ok { IfOk result (λ name. TakesName (identifier name) self.old.point self.new.point) }
-        ensures err { IfErr result (Stopped (Misses Terminal.Name self.old self.new) self.old.ending) }
+        ensures err { IfErr result (IsNotTaken Terminal.Name self.old self.new) }
         ensures ending { self.new.ending ≡ self.old.ending }
         ensures shorter { OnOk result (length self.new.point.left < length self.old.point.left) }
     {
@@ -139,7 +139,7 @@ impl<'a> Cursor<'a> {
     /// Takes the first token, which is to be a number.
     pub(crate) fn take_number(&mut self) -> Result<Number, Stop>
         ensures ok { IfOk result (λ number. TakesNumber number self.old.point self.new.point) }
-        ensures err { IfErr result (Stopped (Misses Terminal.Number self.old self.new) self.old.ending) }
+        ensures err { IfErr result (IsNotTaken Terminal.Number self.old self.new) }
         ensures ending { self.new.ending ≡ self.old.ending }
         ensures shorter { OnOk result (length self.new.point.left < length self.old.point.left) }
     {

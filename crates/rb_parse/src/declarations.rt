@@ -1,7 +1,7 @@
 ghost use Rattle.std.specs.Prelude.{◌≡◌, ◌≤◌, ◌<◌, length, map, IfOk, IfErr, OnOk};
-ghost use Rattle.rb_parse.specs.Machine.{Reads, Stops};
+ghost use Rattle.rb_parse.specs.Machine.{Reads};
 ghost use Rattle.rb_parse.specs.Parts.{Part};
-ghost use Rattle.rb_parse.specs.Reading.{Stopped};
+ghost use Rattle.rb_parse.specs.Reading.{IsNotRead};
 ghost use Rattle.rb_syntax.specs.Plain.{declaration, process_declaration, tree};
 
 use crate::cursor::Cursor;
@@ -14,7 +14,7 @@ use std::alloc::Global;
 /// Reads a whole program.
 pub(crate) fn read_program<'a>(alloc: Global, cursor: &mut Cursor<'a>) -> Result<Program<'a>, Stop>
     ensures ok { IfOk result (λ program. Reads Part.Program (tree program) cursor.old.point cursor.new.point) }
-    ensures err { IfErr result (Stopped (Stops Part.Program cursor.old.point cursor.new.point) cursor.old.ending) }
+    ensures err { IfErr result (IsNotRead Part.Program cursor.old cursor.new) }
     ensures ending { cursor.new.ending ≡ cursor.old.ending }
 {
     cursor.take(Terminal::Program)?;
@@ -38,7 +38,7 @@ pub(crate) fn read_program<'a>(alloc: Global, cursor: &mut Cursor<'a>) -> Result
 
 fn read_process<'a>(alloc: Global, cursor: &mut Cursor<'a>) -> Result<Process<'a>, Stop>
     ensures ok { IfOk result (λ process. Reads Part.Process (process_declaration process) cursor.old.point cursor.new.point) }
-    ensures err { IfErr result (Stopped (Stops Part.Process cursor.old.point cursor.new.point) cursor.old.ending) }
+    ensures err { IfErr result (IsNotRead Part.Process cursor.old cursor.new) }
     ensures ending { cursor.new.ending ≡ cursor.old.ending }
     ensures shorter { OnOk result (length cursor.new.point.left < length cursor.old.point.left) }
 {
@@ -58,7 +58,7 @@ fn read_process<'a>(alloc: Global, cursor: &mut Cursor<'a>) -> Result<Process<'a
 
 fn read_declarations<'a>(alloc: Global, cursor: &mut Cursor<'a>) -> Result<Vec<Var<'a>>, Stop>
     ensures ok { IfOk result (λ vars. Reads Part.Declarations (map declaration vars.items) cursor.old.point cursor.new.point) }
-    ensures err { IfErr result (Stopped (Stops Part.Declarations cursor.old.point cursor.new.point) cursor.old.ending) }
+    ensures err { IfErr result (IsNotRead Part.Declarations cursor.old cursor.new) }
     ensures ending { cursor.new.ending ≡ cursor.old.ending }
     ensures shorter { OnOk result (length cursor.new.point.left ≤ length cursor.old.point.left) }
 {
@@ -72,7 +72,7 @@ fn read_declarations<'a>(alloc: Global, cursor: &mut Cursor<'a>) -> Result<Vec<V
 
 fn read_declaration<'a>(cursor: &mut Cursor<'a>) -> Result<Var<'a>, Stop>
     ensures ok { IfOk result (λ var. Reads Part.Declaration (declaration var) cursor.old.point cursor.new.point) }
-    ensures err { IfErr result (Stopped (Stops Part.Declaration cursor.old.point cursor.new.point) cursor.old.ending) }
+    ensures err { IfErr result (IsNotRead Part.Declaration cursor.old cursor.new) }
     ensures ending { cursor.new.ending ≡ cursor.old.ending }
     ensures shorter { OnOk result (length cursor.new.point.left < length cursor.old.point.left) }
 {

@@ -1,8 +1,8 @@
 ghost use Rattle.std.specs.Prelude.{◌≡◌, ◌≤◌, ◌<◌, length, IfOk, IfErr, OnOk};
 ghost use Rattle.rb_parse.specs.Grammar.{chain};
-ghost use Rattle.rb_parse.specs.Machine.{Reads, Stops, look};
+ghost use Rattle.rb_parse.specs.Machine.{Reads, look};
 ghost use Rattle.rb_parse.specs.Parts.{Part};
-ghost use Rattle.rb_parse.specs.Reading.{FindsOperator, Stopped};
+ghost use Rattle.rb_parse.specs.Reading.{FindsOperator, IsNotRead};
 ghost use Rattle.rb_parse.specs.Table.{sum_operator};
 ghost use Rattle.rb_syntax.specs.Plain.{expression, links_of, reference};
 
@@ -16,7 +16,7 @@ use std::alloc::Global;
 #[tactic(auto, using(rb_syntax::proofs::Bridge::trees))]
 pub(crate) fn read_place<'a>(cursor: &mut Cursor<'a>) -> Result<Target<'a>, Stop>
     ensures ok { IfOk result (λ target. Reads Part.Place (reference target) cursor.old.point cursor.new.point) }
-    ensures err { IfErr result (Stopped (Stops Part.Place cursor.old.point cursor.new.point) cursor.old.ending) }
+    ensures err { IfErr result (IsNotRead Part.Place cursor.old cursor.new) }
     ensures ending { cursor.new.ending ≡ cursor.old.ending }
     ensures shorter { OnOk result (length cursor.new.point.left < length cursor.old.point.left) }
 {
@@ -27,7 +27,7 @@ pub(crate) fn read_place<'a>(cursor: &mut Cursor<'a>) -> Result<Target<'a>, Stop
 /// Reads a number or a variable.
 pub(crate) fn read_term<'a>(cursor: &mut Cursor<'a>) -> Result<Expr<'a>, Stop>
     ensures ok { IfOk result (λ value. Reads Part.Term (expression value) cursor.old.point cursor.new.point) }
-    ensures err { IfErr result (Stopped (Stops Part.Term cursor.old.point cursor.new.point) cursor.old.ending) }
+    ensures err { IfErr result (IsNotRead Part.Term cursor.old cursor.new) }
     ensures ending { cursor.new.ending ≡ cursor.old.ending }
     ensures shorter { OnOk result (length cursor.new.point.left < length cursor.old.point.left) }
 {
@@ -43,7 +43,7 @@ pub(crate) fn read_term<'a>(cursor: &mut Cursor<'a>) -> Result<Expr<'a>, Stop>
 /// Reads terms joined by `+` and `-`.
 pub(crate) fn read_sum<'a>(alloc: Global, cursor: &mut Cursor<'a>) -> Result<Expr<'a>, Stop>
     ensures ok { IfOk result (λ value. Reads Part.Sum (expression value) cursor.old.point cursor.new.point) }
-    ensures err { IfErr result (Stopped (Stops Part.Sum cursor.old.point cursor.new.point) cursor.old.ending) }
+    ensures err { IfErr result (IsNotRead Part.Sum cursor.old cursor.new) }
     ensures ending { cursor.new.ending ≡ cursor.old.ending }
     ensures shorter { OnOk result (length cursor.new.point.left < length cursor.old.point.left) }
 {
@@ -56,7 +56,7 @@ pub(crate) fn read_sum<'a>(alloc: Global, cursor: &mut Cursor<'a>) -> Result<Exp
 // Reads the operators after the first term, and their terms.
 fn read_terms<'a>(alloc: Global, cursor: &mut Cursor<'a>) -> Result<Vec<Link<'a>>, Stop>
     ensures ok { IfOk result (λ links. Reads Part.MoreTerms (links_of links.items) cursor.old.point cursor.new.point) }
-    ensures err { IfErr result (Stopped (Stops Part.MoreTerms cursor.old.point cursor.new.point) cursor.old.ending) }
+    ensures err { IfErr result (IsNotRead Part.MoreTerms cursor.old cursor.new) }
     ensures ending { cursor.new.ending ≡ cursor.old.ending }
     ensures shorter { OnOk result (length cursor.new.point.left ≤ length cursor.old.point.left) }
 {
@@ -72,7 +72,7 @@ fn read_terms<'a>(alloc: Global, cursor: &mut Cursor<'a>) -> Result<Vec<Link<'a>
 /// Reads an expression.
 pub(crate) fn read_expression<'a>(alloc: Global, cursor: &mut Cursor<'a>) -> Result<Expr<'a>, Stop>
     ensures ok { IfOk result (λ value. Reads Part.Expression (expression value) cursor.old.point cursor.new.point) }
-    ensures err { IfErr result (Stopped (Stops Part.Expression cursor.old.point cursor.new.point) cursor.old.ending) }
+    ensures err { IfErr result (IsNotRead Part.Expression cursor.old cursor.new) }
     ensures ending { cursor.new.ending ≡ cursor.old.ending }
     ensures shorter { OnOk result (length cursor.new.point.left < length cursor.old.point.left) }
 {

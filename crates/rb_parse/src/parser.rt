@@ -29,7 +29,7 @@ pub fn parse<'a>(alloc: Global, source: &'a [u8]) -> Result<Program<'a>, Refusal
     if let Some(fault) = cursor.first_fault() {
         return Err(Refusal::Fault(fault));
     }
-    if_run(program)
+    if_run_so_far(program)
 }
 
 // The tree of all tokens, or none if they have no form that is run so far.
@@ -53,7 +53,7 @@ fn read_whole<'a>(alloc: Global, cursor: &mut Cursor<'a>) -> Result<Option<Progr
 }
 
 // A tree that is run so far.
-fn if_run<'a>(program: Option<Program<'a>>) -> Result<Program<'a>, Refusal>
+fn if_run_so_far<'a>(program: Option<Program<'a>>) -> Result<Program<'a>, Refusal>
     ensures ok { IfOk result (λ run. (program.entry ≡ Some run) × (is_scoped (tree run) ≡ true)) }
     ensures err { IfErr result (λ refusal. (refusal ≡ Refusal.Fault (record { name = FaultName.Y0; place = first_place })) × IsNotRun program.entry) }
 {

@@ -28,7 +28,7 @@ fn is_scoped_process(process: &Process<'_>) -> bool
         return false;
     }
     let vars = process.vars.as_slice();
-    are_scalars(vars) && (are_distinct(vars) && are_known(vars, process.body.as_slice()))
+    are_scalars(vars) && are_distinct(vars) && are_known(vars, process.body.as_slice())
 }
 
 fn are_scalars(vars: &[Var<'_>]) -> bool

@@ -1,9 +1,9 @@
 ghost use Rattle.std.specs.Prelude.{◌≡◌, ◌≤◌, ◌<◌, length, map, true, false, IfOk, IfErr, OnOk};
 ghost use Rattle.std.specs.Option.{is_some};
 ghost use Rattle.rb_parse.specs.Grammar.{between_quotes};
-ghost use Rattle.rb_parse.specs.Machine.{Reads, Stops, fits, look};
+ghost use Rattle.rb_parse.specs.Machine.{Reads, fits, look};
 ghost use Rattle.rb_parse.specs.Parts.{Part};
-ghost use Rattle.rb_parse.specs.Reading.{Stopped};
+ghost use Rattle.rb_parse.specs.Reading.{IsNotRead};
 ghost use Rattle.rb_parse.specs.Table.{start_statement};
 ghost use Rattle.rb_syntax.specs.Plain.{command, commands_of, print_item};
 
@@ -20,7 +20,7 @@ pub(crate) fn read_statements<'a>(
     cursor: &mut Cursor<'a>,
 ) -> Result<Vec<Statement<'a>>, Stop>
     ensures ok { IfOk result (λ statements. Reads Part.Statements (commands_of statements.items) cursor.old.point cursor.new.point) }
-    ensures err { IfErr result (Stopped (Stops Part.Statements cursor.old.point cursor.new.point) cursor.old.ending) }
+    ensures err { IfErr result (IsNotRead Part.Statements cursor.old cursor.new) }
     ensures ending { cursor.new.ending ≡ cursor.old.ending }
     ensures shorter { OnOk result (length cursor.new.point.left ≤ length cursor.old.point.left) }
 {
@@ -40,7 +40,7 @@ fn begins_statement(first: Option<Terminal>) -> bool
 
 fn read_statement<'a>(alloc: Global, cursor: &mut Cursor<'a>) -> Result<Statement<'a>, Stop>
     ensures ok { IfOk result (λ statement. Reads Part.Statement (command statement) cursor.old.point cursor.new.point) }
-    ensures err { IfErr result (Stopped (Stops Part.Statement cursor.old.point cursor.new.point) cursor.old.ending) }
+    ensures err { IfErr result (IsNotRead Part.Statement cursor.old cursor.new) }
     ensures ending { cursor.new.ending ≡ cursor.old.ending }
     ensures shorter { OnOk result (length cursor.new.point.left < length cursor.old.point.left) }
 {
@@ -54,7 +54,7 @@ fn read_statement<'a>(alloc: Global, cursor: &mut Cursor<'a>) -> Result<Statemen
 fn read_assignment<'a>(alloc: Global, cursor: &mut Cursor<'a>) -> Result<Statement<'a>, Stop>
     requires { fits (look cursor.old.point.left) Terminal.Print ≡ false }
     ensures ok { IfOk result (λ statement. Reads Part.Statement (command statement) cursor.old.point cursor.new.point) }
-    ensures err { IfErr result (Stopped (Stops Part.Statement cursor.old.point cursor.new.point) cursor.old.ending) }
+    ensures err { IfErr result (IsNotRead Part.Statement cursor.old cursor.new) }
     ensures ending { cursor.new.ending ≡ cursor.old.ending }
     ensures shorter { OnOk result (length cursor.new.point.left < length cursor.old.point.left) }
 {
@@ -68,7 +68,7 @@ fn read_assignment<'a>(alloc: Global, cursor: &mut Cursor<'a>) -> Result<Stateme
 fn read_print<'a>(alloc: Global, cursor: &mut Cursor<'a>) -> Result<Statement<'a>, Stop>
     requires { fits (look cursor.old.point.left) Terminal.Print ≡ true }
     ensures ok { IfOk result (λ statement. Reads Part.Statement (command statement) cursor.old.point cursor.new.point) }
-    ensures err { IfErr result (Stopped (Stops Part.Statement cursor.old.point cursor.new.point) cursor.old.ending) }
+    ensures err { IfErr result (IsNotRead Part.Statement cursor.old cursor.new) }
     ensures ending { cursor.new.ending ≡ cursor.old.ending }
     ensures shorter { OnOk result (length cursor.new.point.left < length cursor.old.point.left) }
 {
@@ -80,7 +80,7 @@ fn read_print<'a>(alloc: Global, cursor: &mut Cursor<'a>) -> Result<Statement<'a
 
 fn read_items<'a>(alloc: Global, cursor: &mut Cursor<'a>) -> Result<Vec<Item<'a>>, Stop>
     ensures ok { IfOk result (λ items. Reads Part.Items (map print_item items.items) cursor.old.point cursor.new.point) }
-    ensures err { IfErr result (Stopped (Stops Part.Items cursor.old.point cursor.new.point) cursor.old.ending) }
+    ensures err { IfErr result (IsNotRead Part.Items cursor.old cursor.new) }
     ensures ending { cursor.new.ending ≡ cursor.old.ending }
     ensures shorter { OnOk result (length cursor.new.point.left < length cursor.old.point.left) }
 {
@@ -97,7 +97,7 @@ fn read_items<'a>(alloc: Global, cursor: &mut Cursor<'a>) -> Result<Vec<Item<'a>
 
 fn read_item<'a>(alloc: Global, cursor: &mut Cursor<'a>) -> Result<Item<'a>, Stop>
     ensures ok { IfOk result (λ item. Reads Part.Item (print_item item) cursor.old.point cursor.new.point) }
-    ensures err { IfErr result (Stopped (Stops Part.Item cursor.old.point cursor.new.point) cursor.old.ending) }
+    ensures err { IfErr result (IsNotRead Part.Item cursor.old cursor.new) }
     ensures ending { cursor.new.ending ≡ cursor.old.ending }
     ensures shorter { OnOk result (length cursor.new.point.left < length cursor.old.point.left) }
 {

@@ -2,7 +2,7 @@ use Rattle.std.proofs.Common.{refl, sym, ◌∙◌, arith}
 use Rattle.rb_parse.specs.declared.stop.Stop.TheVariants as stops
 use Rattle.rb_parse.proofs.Forms.{declarations_first, no_declarations}
 use Rattle.rb_parse.proofs.Pushing.{vars_init, vars_step, vars_end}
-use Rattle.rb_parse.proofs.Reaching.{by_part, stops_within, exit, exit_memory}
+use Rattle.rb_parse.proofs.Reaching.{by_part, exit_memory, exit_within, within}
 use Rattle.rb_parse.proofs.declarations.read_declarations.Goals as goal
 
 pub vars-init : goal.vars-init
@@ -14,11 +14,11 @@ vars-init c = record {
 
 pub returns-in_err-var-clause-err : goal.returns-in_err-var-clause-err
 returns-in_err-var-clause-err c =
-    exit c.from_residual.result c.from_residual.ensures.1 c.vars.invariant.ending (λ s. stops_within c.vars.invariant.reached (stops_within (declarations_first _ (sym c.vars-test.ensures)) s)) c.in_err-var.ensures.err
+    exit_within c.from_residual.result c.from_residual.ensures.1 c.vars.invariant.ending (within c.vars.invariant.reached (declarations_first _ (sym c.vars-test.ensures))) c.in_err-var.ensures.err
 
 pub returns-in_err-push-clause-err : goal.returns-in_err-push-clause-err
 returns-in_err-push-clause-err c =
-    exit_memory _ _ c.from_residual-in_err-push.result stops.Memory c.from_residual-in_err-push.ensures.1 refl
+    exit_memory _ _ _ c.from_residual-in_err-push.result stops.Memory c.from_residual-in_err-push.ensures.1 refl
 
 pub vars-preserved : goal.vars-preserved
 vars-preserved c = record {

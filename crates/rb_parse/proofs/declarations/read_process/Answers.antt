@@ -1,38 +1,39 @@
 use Rattle.std.proofs.Common.{refl, ◌∙◌}
+use Rattle.rb_parse.specs.Parts.{Part}
 use Rattle.rb_parse.proofs.Forms.{no_process}
 use Rattle.rb_parse.proofs.Made.{made_process}
-use Rattle.rb_parse.proofs.Reaching.{starts, by_part, by_terminal, complete, same_value, missed, missed_first, stops_within, exit}
+use Rattle.rb_parse.proofs.Reaching.{by_part, by_terminal, complete, exit_first, exit_missed, exit_within, same_value, starts}
 use Rattle.rb_parse.proofs.Takes.{name_taken}
 use Rattle.rb_parse.proofs.declarations.read_process.Goals as goal
 
 pub returns-in_err-take-clause-err : goal.returns-in_err-take-clause-err
 returns-in_err-take-clause-err c =
-    exit c.from_residual.result c.from_residual.ensures.1 refl (λ m. missed_first m (no_process _ m.other) refl) c.in_err-take.ensures.err
+    exit_first Part.Process _ refl (no_process _) refl c.from_residual.result c.from_residual.ensures.1 refl c.in_err-take.ensures.err
 
 pub returns-in_err-name-clause-err : goal.returns-in_err-name-clause-err
 returns-in_err-name-clause-err c =
     let before = starts _ refl c.in_ok-take.ensures.ok in
-    exit c.from_residual-in_err-name.result c.from_residual-in_err-name.ensures.1 (c.in_ok-take.ensures.ending) (missed before) c.in_err-name.ensures.err
+    exit_missed c.from_residual-in_err-name.result c.from_residual-in_err-name.ensures.1 (c.in_ok-take.ensures.ending) before c.in_err-name.ensures.err
 
 pub returns-in_err-take-2-clause-err : goal.returns-in_err-take-2-clause-err
 returns-in_err-take-2-clause-err c =
     let before = by_terminal (starts _ refl c.in_ok-take.ensures.ok) (name_taken c.in_ok-name.ensures.ok) in
-    exit c.from_residual-in_err-take-2.result c.from_residual-in_err-take-2.ensures.1 (c.in_ok-name.ensures.ending ∙ c.in_ok-take.ensures.ending) (missed before) c.in_err-take-2.ensures.err
+    exit_missed c.from_residual-in_err-take-2.result c.from_residual-in_err-take-2.ensures.1 (c.in_ok-name.ensures.ending ∙ c.in_ok-take.ensures.ending) before c.in_err-take-2.ensures.err
 
 pub returns-in_err-vars-clause-err : goal.returns-in_err-vars-clause-err
 returns-in_err-vars-clause-err c =
     let before = by_terminal (by_terminal (starts _ refl c.in_ok-take.ensures.ok) (name_taken c.in_ok-name.ensures.ok)) c.in_ok-take-2.ensures.ok in
-    exit c.from_residual-in_err-vars.result c.from_residual-in_err-vars.ensures.1 (c.in_ok-take-2.ensures.ending ∙ c.in_ok-name.ensures.ending ∙ c.in_ok-take.ensures.ending) (stops_within before) c.in_err-vars.ensures.err
+    exit_within c.from_residual-in_err-vars.result c.from_residual-in_err-vars.ensures.1 (c.in_ok-take-2.ensures.ending ∙ c.in_ok-name.ensures.ending ∙ c.in_ok-take.ensures.ending) before c.in_err-vars.ensures.err
 
 pub returns-in_err-body-clause-err : goal.returns-in_err-body-clause-err
 returns-in_err-body-clause-err c =
     let before = by_part (by_terminal (by_terminal (starts _ refl c.in_ok-take.ensures.ok) (name_taken c.in_ok-name.ensures.ok)) c.in_ok-take-2.ensures.ok) c.in_ok-vars.ensures.ok in
-    exit c.from_residual-in_err-body.result c.from_residual-in_err-body.ensures.1 (c.in_ok-vars.ensures.ending ∙ c.in_ok-take-2.ensures.ending ∙ c.in_ok-name.ensures.ending ∙ c.in_ok-take.ensures.ending) (stops_within before) c.in_err-body.ensures.err
+    exit_within c.from_residual-in_err-body.result c.from_residual-in_err-body.ensures.1 (c.in_ok-vars.ensures.ending ∙ c.in_ok-take-2.ensures.ending ∙ c.in_ok-name.ensures.ending ∙ c.in_ok-take.ensures.ending) before c.in_err-body.ensures.err
 
 pub returns-in_err-take-3-clause-err : goal.returns-in_err-take-3-clause-err
 returns-in_err-take-3-clause-err c =
     let before = by_part (by_part (by_terminal (by_terminal (starts _ refl c.in_ok-take.ensures.ok) (name_taken c.in_ok-name.ensures.ok)) c.in_ok-take-2.ensures.ok) c.in_ok-vars.ensures.ok) c.in_ok-body.ensures.ok in
-    exit c.from_residual-in_err-take-3.result c.from_residual-in_err-take-3.ensures.1 (c.in_ok-body.ensures.ending ∙ c.in_ok-vars.ensures.ending ∙ c.in_ok-take-2.ensures.ending ∙ c.in_ok-name.ensures.ending ∙ c.in_ok-take.ensures.ending) (missed before) c.in_err-take-3.ensures.err
+    exit_missed c.from_residual-in_err-take-3.result c.from_residual-in_err-take-3.ensures.1 (c.in_ok-body.ensures.ending ∙ c.in_ok-vars.ensures.ending ∙ c.in_ok-take-2.ensures.ending ∙ c.in_ok-name.ensures.ending ∙ c.in_ok-take.ensures.ending) before c.in_err-take-3.ensures.err
 
 pub returns-clause-ok : goal.returns-clause-ok
 returns-clause-ok c =

@@ -3,7 +3,7 @@ use Rattle.rb_parse.specs.Parts.{Part}
 use Rattle.rb_parse.specs.Plans.{Done}
 use Rattle.rb_parse.specs.Table.{number_of, variable_after}
 use Rattle.rb_parse.proofs.Forms.{term_place}
-use Rattle.rb_parse.proofs.Reaching.{starts, begins, complete, same_value, by_part, not_missed, stops_within, exit}
+use Rattle.rb_parse.proofs.Reaching.{begins, by_part, complete, exit_sure, exit_within, last_start, same_value, starts}
 use Rattle.rb_parse.proofs.Takes.{number_taken, number_is}
 use Rattle.rb_syntax.proofs.Bridge.{expression_number, expression_value}
 use Rattle.rb_syntax.specs.Tree.{Literal}
@@ -11,11 +11,11 @@ use Rattle.rb_parse.proofs.expressions.read_term.Goals as goal
 
 pub returns-in_err-number-clause-err : goal.returns-in_err-number-clause-err
 returns-in_err-number-clause-err c =
-    exit c.from_residual.result c.from_residual.ensures.1 refl (not_missed (sym c.if-stands_at.ensures)) c.in_err-number.ensures.err
+    exit_sure _ c.from_residual.result c.from_residual.ensures.1 refl (sym c.if-stands_at.ensures) (last_start _ refl) c.in_err-number.ensures.err
 
 pub returns-in_err-target-clause-err : goal.returns-in_err-target-clause-err
 returns-in_err-target-clause-err c =
-    exit c.from_residual-in_err-target.result c.from_residual-in_err-target.ensures.1 refl (λ s. stops_within (begins Part.Place c.args.cursor.now.point variable_after (term_place _ (sym c.if-stands_at.ensures)) refl refl) s) c.in_err-target.ensures.err
+    exit_within c.from_residual-in_err-target.result c.from_residual-in_err-target.ensures.1 refl (begins Part.Place c.args.cursor.now.point variable_after (term_place _ (sym c.if-stands_at.ensures)) refl refl) c.in_err-target.ensures.err
 
 pub returns-in_ok-number-clause-ok : goal.returns-in_ok-number-clause-ok
 returns-in_ok-number-clause-ok c =

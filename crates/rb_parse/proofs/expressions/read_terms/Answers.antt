@@ -3,7 +3,7 @@ use Rattle.rb_parse.specs.declared.stop.Stop.TheVariants as stops
 use Rattle.rb_parse.specs.Table.{start_link, sum_operator}
 use Rattle.rb_parse.proofs.Forms.{operator_fits, link_begun}
 use Rattle.rb_parse.proofs.Pushing.{links_init, links_step, links_end}
-use Rattle.rb_parse.proofs.Reaching.{by_part, not_missed, stops_within, exit, exit_memory}
+use Rattle.rb_parse.proofs.Reaching.{by_part, exhausts, exhausts_within, exit_memory, exit_sure, exit_within, within}
 use Rattle.rb_parse.proofs.expressions.read_terms.Goals as goal
 
 pub loop-terminal-init : goal.loop-terminal-init
@@ -15,12 +15,12 @@ loop-terminal-init c = record {
 
 pub returns-in_err-take-clause-err : goal.returns-in_err-take-clause-err
 returns-in_err-take-clause-err c =
-    exit c.from_residual.result c.from_residual.ensures.1 c.loop-terminal.invariant.ending (not_missed (operator_fits c.in-Some.ensures c.look.ensures)) c.in_err-take.ensures.err
+    exit_sure _ c.from_residual.result c.from_residual.ensures.1 c.loop-terminal.invariant.ending (operator_fits c.in-Some.ensures c.look.ensures) (λ l. exhausts_within c.loop-terminal.invariant.reached (exhausts (link_begun c.in-Some.ensures l.takes) l.ended)) c.in_err-take.ensures.err
 
 pub returns-in_err-right-clause-err : goal.returns-in_err-right-clause-err
 returns-in_err-right-clause-err c =
     let begun = link_begun c.in-Some.ensures c.in_ok-take.ensures.ok in
-    exit c.from_residual-in_err-right.result c.from_residual-in_err-right.ensures.1 (c.in_ok-take.ensures.ending ∙ c.loop-terminal.invariant.ending) (λ s. stops_within c.loop-terminal.invariant.reached (stops_within begun s)) c.in_err-right.ensures.err
+    exit_within c.from_residual-in_err-right.result c.from_residual-in_err-right.ensures.1 (c.in_ok-take.ensures.ending ∙ c.loop-terminal.invariant.ending) (within c.loop-terminal.invariant.reached begun) c.in_err-right.ensures.err
 
 pub loop-terminal-preserved : goal.loop-terminal-preserved
 loop-terminal-preserved c =
@@ -33,7 +33,7 @@ loop-terminal-preserved c =
 
 pub returns-in_err-push-clause-err : goal.returns-in_err-push-clause-err
 returns-in_err-push-clause-err c =
-    exit_memory _ _ c.from_residual-in_err-push.result stops.Memory c.from_residual-in_err-push.ensures.1 refl
+    exit_memory _ _ _ c.from_residual-in_err-push.result stops.Memory c.from_residual-in_err-push.ensures.1 refl
 
 pub returns-clause-ok : goal.returns-clause-ok
 returns-clause-ok c =

@@ -4,7 +4,7 @@ use Rattle.rb_parse.specs.Machine.{first_of}
 use Rattle.rb_parse.specs.Reading.{by_form}
 use Rattle.rb_parse.specs.Table.{amount_at}
 use Rattle.rb_parse.proofs.Forms.{text_at, item_expression, no_item, place_first}
-use Rattle.rb_parse.proofs.Reaching.{starts, by_part, complete, same_value, not_missed, stops_first, stops_within, exit}
+use Rattle.rb_parse.proofs.Reaching.{by_part, complete, exit_sure, exit_within, last_start, same_value, starts, stops_first}
 use Rattle.rb_syntax.specs.Plain.{expression}
 use Rattle.rb_parse.proofs.statements.read_item.Goals as goal
 
@@ -15,11 +15,11 @@ returns-in_default-clause-err c =
 
 pub returns-in_err-token-clause-err : goal.returns-in_err-token-clause-err
 returns-in_err-token-clause-err c =
-    exit c.from_residual.result c.from_residual.ensures.1 refl (not_missed (sym c.if-stands_at.ensures)) c.in_err-token.ensures.err
+    exit_sure _ c.from_residual.result c.from_residual.ensures.1 refl (sym c.if-stands_at.ensures) (last_start _ refl) c.in_err-token.ensures.err
 
 pub returns-in_err-value-clause-err : goal.returns-in_err-value-clause-err
 returns-in_err-value-clause-err c =
-    exit c.from_residual-in_err-value.result c.from_residual-in_err-value.ensures.1 refl (stops_within (item_expression _ (sym c.if-stands_at.ensures))) c.in_err-value.ensures.err
+    exit_within c.from_residual-in_err-value.result c.from_residual-in_err-value.ensures.1 refl (item_expression _ (sym c.if-stands_at.ensures)) c.in_err-value.ensures.err
 
 pub returns-in_ok-token-clause-ok : goal.returns-in_ok-token-clause-ok
 returns-in_ok-token-clause-ok c =

@@ -2,16 +2,16 @@ use Rattle.std.proofs.Common.{refl, sym, ◌∙◌, arith}
 use Rattle.rb_parse.specs.declared.stop.Stop.TheVariants as stops
 use Rattle.rb_parse.proofs.Forms.{items_first, no_more_items}
 use Rattle.rb_parse.proofs.Pushing.{items_init, items_step, items_end}
-use Rattle.rb_parse.proofs.Reaching.{starts, by_part, not_missed, stops_within, exit, exit_memory}
+use Rattle.rb_parse.proofs.Reaching.{exhausts_within, by_part, exit_memory, exit_sure, exit_within, last_start, starts, within}
 use Rattle.rb_parse.proofs.statements.read_items.Goals as goal
 
 pub returns-in_err-first-clause-err : goal.returns-in_err-first-clause-err
 returns-in_err-first-clause-err c =
-    exit c.from_residual.result c.from_residual.ensures.1 refl (stops_within (items_first _)) c.in_err-first.ensures.err
+    exit_within c.from_residual.result c.from_residual.ensures.1 refl (items_first _) c.in_err-first.ensures.err
 
 pub returns-in_err-push-clause-err : goal.returns-in_err-push-clause-err
 returns-in_err-push-clause-err c =
-    exit_memory _ _ c.from_residual-in_err-push.result stops.Memory c.from_residual-in_err-push.ensures.1 refl
+    exit_memory _ _ _ c.from_residual-in_err-push.result stops.Memory c.from_residual-in_err-push.ensures.1 refl
 
 pub items-init : goal.items-init
 items-init c = record {
@@ -22,15 +22,15 @@ items-init c = record {
 
 pub returns-in_err-take-clause-err : goal.returns-in_err-take-clause-err
 returns-in_err-take-clause-err c =
-    exit c.from_residual-in_err-take.result c.from_residual-in_err-take.ensures.1 c.items.invariant.ending (not_missed (sym c.items-test.ensures)) c.in_err-take.ensures.err
+    exit_sure _ c.from_residual-in_err-take.result c.from_residual-in_err-take.ensures.1 c.items.invariant.ending (sym c.items-test.ensures) (λ l. exhausts_within c.items.invariant.reached (last_start _ refl l)) c.in_err-take.ensures.err
 
 pub returns-in_err-item-clause-err : goal.returns-in_err-item-clause-err
 returns-in_err-item-clause-err c =
-    exit c.from_residual-in_err-item.result c.from_residual-in_err-item.ensures.1 (c.in_ok-take.ensures.ending ∙ c.items.invariant.ending) (λ s. stops_within c.items.invariant.reached (stops_within (starts _ refl c.in_ok-take.ensures.ok) s)) c.in_err-item.ensures.err
+    exit_within c.from_residual-in_err-item.result c.from_residual-in_err-item.ensures.1 (c.in_ok-take.ensures.ending ∙ c.items.invariant.ending) (within c.items.invariant.reached (starts _ refl c.in_ok-take.ensures.ok)) c.in_err-item.ensures.err
 
 pub returns-in_err-push-2-clause-err : goal.returns-in_err-push-2-clause-err
 returns-in_err-push-2-clause-err c =
-    exit_memory _ _ c.from_residual-in_err-push-2.result stops.Memory c.from_residual-in_err-push-2.ensures.1 refl
+    exit_memory _ _ _ c.from_residual-in_err-push-2.result stops.Memory c.from_residual-in_err-push-2.ensures.1 refl
 
 pub items-preserved : goal.items-preserved
 items-preserved c = record {

@@ -1,20 +1,20 @@
 use Rattle.std.proofs.Common.{refl, sym, ◌∙◌}
-use Rattle.rb_parse.proofs.Reaching.{starts, by_part, by_terminal, complete, same_value, missed, not_missed, stops_within, exit}
+use Rattle.rb_parse.proofs.Reaching.{by_part, by_terminal, complete, exit_missed, exit_sure, exit_within, last_start, same_value, starts}
 use Rattle.rb_syntax.proofs.Bridge.{command_print}
 use Rattle.rb_parse.proofs.statements.read_print.Goals as goal
 
 pub returns-in_err-take-clause-err : goal.returns-in_err-take-clause-err
 returns-in_err-take-clause-err c =
-    exit c.from_residual.result c.from_residual.ensures.1 refl (not_missed c.requires) c.in_err-take.ensures.err
+    exit_sure _ c.from_residual.result c.from_residual.ensures.1 refl c.requires (last_start _ refl) c.in_err-take.ensures.err
 
 pub returns-in_err-items-clause-err : goal.returns-in_err-items-clause-err
 returns-in_err-items-clause-err c =
-    exit c.from_residual-in_err-items.result c.from_residual-in_err-items.ensures.1 c.in_ok-take.ensures.ending (stops_within (starts _ refl c.in_ok-take.ensures.ok)) c.in_err-items.ensures.err
+    exit_within c.from_residual-in_err-items.result c.from_residual-in_err-items.ensures.1 c.in_ok-take.ensures.ending (starts _ refl c.in_ok-take.ensures.ok) c.in_err-items.ensures.err
 
 pub returns-in_err-take-2-clause-err : goal.returns-in_err-take-2-clause-err
 returns-in_err-take-2-clause-err c =
     let listed = by_part (starts _ refl c.in_ok-take.ensures.ok) c.in_ok-items.ensures.ok in
-    exit c.from_residual-in_err-take-2.result c.from_residual-in_err-take-2.ensures.1 (c.in_ok-items.ensures.ending ∙ c.in_ok-take.ensures.ending) (missed listed) c.in_err-take-2.ensures.err
+    exit_missed c.from_residual-in_err-take-2.result c.from_residual-in_err-take-2.ensures.1 (c.in_ok-items.ensures.ending ∙ c.in_ok-take.ensures.ending) listed c.in_err-take-2.ensures.err
 
 pub returns-clause-ok : goal.returns-clause-ok
 returns-clause-ok c =

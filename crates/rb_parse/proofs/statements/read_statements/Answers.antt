@@ -4,7 +4,7 @@ use Rattle.rb_parse.specs.declared.stop.Stop.TheVariants as stops
 use Rattle.rb_parse.specs.Table.{start_statement}
 use Rattle.rb_parse.proofs.Forms.{statements_first, no_statements}
 use Rattle.rb_parse.proofs.Pushing.{statements_init, statements_step, statements_end}
-use Rattle.rb_parse.proofs.Reaching.{by_part, stops_within, exit, exit_memory}
+use Rattle.rb_parse.proofs.Reaching.{by_part, exit_memory, exit_within, within}
 use Rattle.rb_parse.proofs.statements.read_statements.Goals as goal
 
 pub statements-init : goal.statements-init
@@ -17,11 +17,11 @@ statements-init c = record {
 pub returns-in_err-statement-clause-err : goal.returns-in_err-statement-clause-err
 returns-in_err-statement-clause-err c =
     let here = ap (λ first. is_some (start_statement first)) (sym c.look.ensures) ∙ sym c.statements-test.ensures in
-    exit c.from_residual.result c.from_residual.ensures.1 c.statements.invariant.ending (λ s. stops_within c.statements.invariant.reached (stops_within (statements_first _ here) s)) c.in_err-statement.ensures.err
+    exit_within c.from_residual.result c.from_residual.ensures.1 c.statements.invariant.ending (within c.statements.invariant.reached (statements_first _ here)) c.in_err-statement.ensures.err
 
 pub returns-in_err-push-clause-err : goal.returns-in_err-push-clause-err
 returns-in_err-push-clause-err c =
-    exit_memory _ _ c.from_residual-in_err-push.result stops.Memory c.from_residual-in_err-push.ensures.1 refl
+    exit_memory _ _ _ c.from_residual-in_err-push.result stops.Memory c.from_residual-in_err-push.ensures.1 refl
 
 pub statements-preserved : goal.statements-preserved
 statements-preserved c =

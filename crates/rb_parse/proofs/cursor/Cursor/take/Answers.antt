@@ -1,7 +1,5 @@
 use Rattle.std.proofs.Common.{ap, sym, ◌∙◌}
-use Rattle.rb_lex.proofs.Answered.{answers_fault}
-use Rattle.rb_parse.specs.Reading.{by_token}
-use Rattle.rb_parse.proofs.Ahead.{misses, misses_all, advances, advances_sound, shorter, next_ending}
+use Rattle.rb_parse.proofs.Ahead.{misses, misses_all, advances, advances_sound, shorter, next_ending, ends_by_fault}
 use Rattle.rb_parse.proofs.cursor.Cursor.take.Goals as goal
 
 pub returns-in_default-clause-err : goal.returns-in_default-clause-err
@@ -29,7 +27,8 @@ returns-in-Ok-clause-ending c = next_ending c.self.inside.lexer c.next.new.self 
 
 pub returns-in-Err-clause-err : goal.returns-in-Err-clause-err
 returns-in-Err-clause-err c =
-    by_token c.in-Err.fault (ap (λ p. p.ending) (sym c.self.view_is) ∙ (answers_fault c.self.inside.lexer c.next.new.self c.in-Err.fault c.in-Err.ensures).1)
+    let i = c.self.inside in
+    ends_by_fault c.in-Some.token i.ahead c.args.terminal i.terminal i.lexer c.next.new.self i.names i.recoveries c.in-Err.fault c.args.self.now _ c.self.invariant c.in-Some.is c.self.view_is (sym c.if-not-fits.ensures) c.in-Err.ensures
 
 pub returns-in-Ok-clause-shorter : goal.returns-in-Ok-clause-shorter
 returns-in-Ok-clause-shorter c =

@@ -1,0 +1,5 @@
+use Rattle.rb_parse.proofs.GoesOn.{ends_too_early}
+use Rattle.rb_parse.proofs.laws.ends_too_early.Goals as goal
+
+pub returns : goal.returns
+returns c = ends_too_early
