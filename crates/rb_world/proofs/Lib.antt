@@ -24,3 +24,8 @@ pub mod ImageRuns
 pub mod Reread
 -- All of it at small kinds.
 pub mod Instances
+-- Erasure: what survived a run, run alone, ends the same.
+pub mod Erasable
+pub mod Cuts
+pub mod ErasureInvariant
+pub mod ShownFacts

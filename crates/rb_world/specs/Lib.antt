@@ -7,3 +7,5 @@ pub mod Plain
 pub mod Text
 pub mod Samples
 pub mod Standing
+pub mod Nested
+pub mod Erased
