@@ -3,6 +3,8 @@ pub mod Value
 pub mod State
 pub mod Step
 pub mod Groups
+pub mod Nesting
 pub mod Meaning
 pub mod PlainRun
+pub mod Laws
 pub mod Rows
