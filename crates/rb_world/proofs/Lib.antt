@@ -7,6 +7,9 @@ pub mod CascadeKeeps
 pub mod Induction
 pub mod EachProcess
 pub mod StandingFacts
+-- What a turn comes to, with all that is told of it.
+pub mod Outcomes
+pub mod FewEvents
 pub mod PlainInduction
 -- Related kinds: the laws, and that related worlds stay related and tell the same.
 pub mod Simulation
