@@ -1,0 +1,2 @@
+-- Lemmas for the laws of the meaning.
+pub mod FewInTrees
