@@ -10,6 +10,7 @@ pub mod StandingFacts
 -- What a turn comes to, with all that is told of it.
 pub mod Outcomes
 pub mod FewEvents
+pub mod PlaceFacts
 pub mod PlainInduction
 -- Related kinds: the laws, and that related worlds stay related and tell the same.
 pub mod Simulation

@@ -1,0 +1,205 @@
+-- Where a conversation's level stands among nested levels: at one number, which is the same in every process that has it, and just
+-- inside the same conversations in each of them.
+use Rattle.std.proofs.Common.{◌≡◌, ◌≢◌, ◌⊎◌, inl, inr, ◌<◌, ◌≤◌, ◌+◌, ℕ, zero, suc, Bool, true, false, cond, ◌||◌, nat_lt, List, [], ◌∷◌, length, map, option_map, position, slice_get, take, get_or, Option, Some, None, refl, sym, ap, ◌∙◌, subst, eqb-true, eq-eqb, lt-ltb, le-ltb, true≢false, add-one, suc-ne-zero, arith}
+use Rattle.std.proofs.lemmas.Bool.{cases_eq, cases_lt}
+use Rattle.std.specs.List.{list_any, position_or_len}
+use Rattle.std.proofs.lemmas.Option.{slice_get-get_or, slice_get_within}
+use Rattle.std.proofs.lemmas.List.Sums.{position_or_len_is}
+use Rattle.rb_world.specs.Kind.{Membership}
+use Rattle.rb_world.specs.World.{Level, change_at, is_number, is_of}
+use Rattle.rb_world.specs.Reject.{parent_of}
+use Rattle.rb_world.specs.Nested.{AreNested, HasOutside, IsLevelOf}
+use Rattle.rb_world.proofs.ListFacts.{none_some, some_same}
+
+-- what is looked up below the end of a list's first elements
+pub slice_get-take : {A : Type 0} (n : ℕ) (xs : List A) (i : ℕ) → i < n → slice_get (take n xs) i ≡ slice_get xs i
+slice_get-take zero xs i below = absurd (omega arith)
+slice_get-take (suc n) [] i below = refl
+slice_get-take (suc n) (x ∷ xs) zero below = refl
+slice_get-take (suc n) (x ∷ xs) (suc i) below = slice_get-take n xs i (omega arith)
+
+-- and elsewhere than where a change was made
+pub slice_get-elsewhere : {A : Type 0} (p : ℕ) (f : A → A) (xs : List A) (i : ℕ) → i ≢ p → slice_get (change_at p f xs) i ≡ slice_get xs i
+slice_get-elsewhere p f [] i other = refl
+slice_get-elsewhere zero f (x ∷ xs) zero other = absurd (other refl)
+slice_get-elsewhere zero f (x ∷ xs) (suc i) other = refl
+slice_get-elsewhere (suc p) f (x ∷ xs) zero other = refl
+slice_get-elsewhere (suc p) f (x ∷ xs) (suc i) other = slice_get-elsewhere p f xs i (λ e. other (ap suc e))
+
+-- the first elements up to one that is there
+pub length-take_to : {A : Type 0} (j : ℕ) (xs : List A) {x : A} → slice_get xs j ≡ Some x → length (take (suc j) xs) ≡ suc j
+length-take_to j [] e = absurd (none_some e)
+length-take_to zero (y ∷ xs) e = refl
+length-take_to (suc j) (y ∷ xs) e = ap suc (length-take_to j xs e)
+
+-- the first that passes a test
+position_is : {A : Type 0} (test : A → Bool) (xs : List A) (j : ℕ) → position_or_len test xs ≡ j → j < length xs → position test xs ≡ Some j
+position_is test xs j e within =
+    ap (λ (b : Bool). cond b (Some (position_or_len test xs)) None) (lt-ltb (position_or_len test xs) (length xs) (omega arith)) ∙ ap Some e
+
+pub position_first : {A : Type 0} (test : A → Bool) (xs : List A) (j : ℕ) (x : A) → slice_get xs j ≡ Some x → test x ≡ true
+    → ((i : ℕ) (y : A) → i < j → slice_get xs i ≡ Some y → test y ≡ false) → position test xs ≡ Some j
+position_first test xs j x there passes none =
+    let within : j < length xs = slice_get_within xs j x there in
+    position_is test xs j
+    (position_or_len_is test xs j x (omega arith)
+    (λ i below. none i (get_or xs i x) below (slice_get-get_or xs i x (omega arith)))
+    (λ _. ap test (some_same (sym (slice_get-get_or xs j x within) ∙ there)) ∙ passes))
+    within
+
+-- none passes
+left_fails : (a b : Bool) → (a || b) ≡ false → a ≡ false
+left_fails true b e = e
+left_fails false b e = refl
+
+right_fails : (a b : Bool) → (a || b) ≡ false → b ≡ false
+right_fails true b e = absurd (true≢false e)
+right_fails false b e = e
+
+pub any_none : {A : Type 0} (test : A → Bool) (xs : List A) (i : ℕ) (x : A) → list_any test xs ≡ false → slice_get xs i ≡ Some x → test x ≡ false
+any_none test [] i x none e = absurd (none_some e)
+any_none test (y ∷ xs) zero x none e = ap test (sym (some_same e)) ∙ left_fails (test y) (list_any test xs) none
+any_none test (y ∷ xs) (suc i) x none e = any_none test xs i x (right_fails (test y) (list_any test xs) none) e
+
+no_position : {A : Type 0} (test : A → Bool) (xs : List A) (n : ℕ) → n ≡ length xs → cond (nat_lt n (length xs)) (Some n) None ≡ None
+no_position test xs n e = rw e (ap (λ (b : Bool). cond b (Some (length xs)) None) (le-ltb (length xs) (length xs) (omega arith)))
+
+pub position_none : {A : Type 0} (test : A → Bool) (xs : List A) → list_any test xs ≡ false → position test xs ≡ None
+position_none test [] none = refl
+position_none test (y ∷ xs) none =
+    no_position test (y ∷ xs) (position_or_len test (y ∷ xs))
+    (position_or_len_is test (y ∷ xs) (length (y ∷ xs)) y (omega arith)
+    (λ i below. any_none test (y ∷ xs) i (get_or (y ∷ xs) i y) none (slice_get-get_or (y ∷ xs) i y below))
+    (λ none. absurd (omega arith)))
+
+-- one passes
+either_true : (a : Bool) {b : Bool} → b ≡ true → (a || b) ≡ true
+either_true true e = refl
+either_true false e = e
+
+pub any_at : {A : Type 0} (test : A → Bool) (xs : List A) (i : ℕ) (x : A) → slice_get xs i ≡ Some x → test x ≡ true → list_any test xs ≡ true
+any_at test [] i x e passes = absurd (none_some e)
+any_at test (y ∷ xs) zero x e passes = ap (λ (b : Bool). b || list_any test xs) (ap test (some_same e) ∙ passes)
+any_at test (y ∷ xs) (suc i) x e passes = either_true (test y) (any_at test xs i x e passes)
+
+-- an element that is at a number, and passes
+pub record PassesAt {A : Type 0} (test : A → Bool) (xs : List A) : Type 0 where
+  pub at : ℕ
+  pub found : A
+  pub there : slice_get xs at ≡ Some found
+  pub passes : test found ≡ true
+
+one_further : {A : Type 0} (test : A → Bool) (y : A) (xs : List A) → PassesAt test xs → PassesAt test (y ∷ xs)
+one_further test y xs one = record { at = suc one.at; found = one.found; there = one.there; passes = one.passes }
+
+here_or_further : {A : Type 0} (test : A → Bool) (y : A) (xs : List A) (here : Bool) → test y ≡ here → (here || list_any test xs) ≡ true
+    → (list_any test xs ≡ true → PassesAt test xs) → PassesAt test (y ∷ xs)
+here_or_further test y xs true e any further = record { at = 0; found = y; there = refl; passes = e }
+here_or_further test y xs false e any further = one_further test y xs (further any)
+
+pub any_found : {A : Type 0} (test : A → Bool) (xs : List A) → list_any test xs ≡ true → PassesAt test xs
+any_found test [] e = absurd (true≢false (sym e))
+any_found test (y ∷ xs) e = here_or_further test y xs (test y) refl e (any_found test xs)
+
+-- the number that is in an option
+number_in : (o : Option ℕ) (c : ℕ) → is_number o c ≡ true → o ≡ Some c
+number_in None c e = absurd (true≢false (sym e))
+number_in (Some d) c e = ap Some (eqb-true d c e)
+
+is_number-own : (o : Option ℕ) (c : ℕ) → o ≡ Some c → is_number o c ≡ true
+is_number-own o c e = ap (λ (x : Option ℕ). is_number x c) e ∙ eq-eqb c c refl
+
+-- a level of no conversation is of none
+pub not_of : {C : Type 0} {levels : List (Level C)} {j d : ℕ} {level : Level C} → slice_get levels j ≡ Some level → level.facts.conversation ≡ None → IsLevelOf d levels j → ⊥
+not_of {C} there alone at =
+    none_some (sym alone ∙ (ap (λ (l : Level C). l.facts.conversation) (some_same (sym there ∙ at.there)) ∙ at.of_it))
+
+module _ {C : Type 0} where
+  -- a level of a conversation passes the test of it
+  pub of_passes : (c : ℕ) (level : Level C) → level.facts.conversation ≡ Some c → is_of c level ≡ true
+  of_passes c level e = is_number-own level.facts.conversation c e
+
+  pub passes_of : (c : ℕ) (level : Level C) → is_of c level ≡ true → level.facts.conversation ≡ Some c
+  passes_of c level e = number_in level.facts.conversation c e
+
+  -- who has a level of a conversation is inside it
+  pub level_inside : (c : ℕ) (levels : List (Level C)) (i : ℕ) → IsLevelOf c levels i → list_any (is_of c) levels ≡ true
+  level_inside c levels i at = any_at (is_of c) levels i at.level at.there (of_passes c at.level at.of_it)
+
+  pub inside_level : (c : ℕ) (levels : List (Level C)) → list_any (is_of c) levels ≡ true → (i : ℕ) × IsLevelOf c levels i
+  inside_level c levels any =
+      let one : PassesAt (is_of c) levels = any_found (is_of c) levels any in
+      (one.at, record { level = one.found; there = one.there; of_it = passes_of c one.found one.passes })
+
+  -- two levels at one number are one
+  pub same_conversation : {c d : ℕ} {levels : List (Level C)} {i : ℕ} → IsLevelOf c levels i → IsLevelOf d levels i → c ≡ d
+  same_conversation one other =
+      let same : one.level ≡ other.level = some_same (sym one.there ∙ other.there) in
+      some_same (sym one.of_it ∙ (ap (λ (l : Level C). l.facts.conversation) same ∙ other.of_it))
+
+-- a level of no conversation is none of a conversation
+conversation_out_at : {C : Type 0} (levels : List (Level C)) (i j d : ℕ) (level : Level C) → slice_get levels j ≡ Some level → level.facts.conversation ≡ None
+    → IsLevelOf d levels i → j ≤ i → (j < i → ⊥) → (j ≡ i) ⊎ (j ≡ i → ⊥) → ⊥
+conversation_out_at levels i j d level there alone at within further (inl same) = not_of there alone (subst (IsLevelOf d levels) (sym same) at)
+conversation_out_at levels i j d level there alone at within further (inr other) = further (omega arith)
+
+further_out : (i j : ℕ) → (j ≤ i → ⊥) → (i < j) ⊎ (j ≤ i) → i < j
+further_out i j never (inl below) = below
+further_out i j never (inr within) = absurd (never within)
+
+module _ {C : Type 0} (groups : List Membership) where
+  -- the number of a conversation's level
+  same_place_from : (levels levels' : List (Level C)) → AreNested groups levels → AreNested groups levels'
+      → (i j : ℕ) (parent : Option ℕ) → HasOutside parent levels i → HasOutside parent levels' j → i ≡ j
+  same_place_from levels levels' nested nested' i j None e e' = e ∙ sym e'
+  same_place_from levels levels' nested nested' zero j (Some d) none out' = absurd none
+  same_place_from levels levels' nested nested' (suc i) zero (Some d) out none = absurd none
+  same_place_from levels levels' nested nested' (suc i) (suc j) (Some d) out out' =
+      ap suc (same_place_from levels levels' nested nested' i j (parent_of (slice_get groups d)) (nested i d out) (nested' j d out'))
+
+  pub same_place : (levels levels' : List (Level C)) → AreNested groups levels → AreNested groups levels'
+      → (i j c : ℕ) → IsLevelOf c levels i → IsLevelOf c levels' j → i ≡ j
+  same_place levels levels' nested nested' i j c at at' =
+      same_place_from levels levels' nested nested' i j (parent_of (slice_get groups c)) (nested i c at) (nested' j c at')
+
+  -- what lies around it
+  same_at : (levels levels' : List (Level C)) (i j c e : ℕ) → IsLevelOf c levels i → IsLevelOf c levels' i → IsLevelOf e levels j → j ≤ i
+      → (j < i → IsLevelOf e levels' j) → (j ≡ i) ⊎ (j ≡ i → ⊥) → IsLevelOf e levels' j
+  same_at levels levels' i j c e at at' around within further (inl same) =
+      let one : c ≡ e = same_conversation at (subst (IsLevelOf e levels) same around) in
+      subst (λ (d : ℕ). IsLevelOf d levels' j) one (subst (IsLevelOf c levels') (sym same) at')
+  same_at levels levels' i j c e at at' around within further (inr other) = further (omega arith)
+
+  same_around_from : (levels levels' : List (Level C)) → AreNested groups levels → AreNested groups levels' → (i j e : ℕ)
+      → IsLevelOf e levels j → (parent : Option ℕ) → HasOutside parent levels i → HasOutside parent levels' i → j < i → IsLevelOf e levels' j
+  same_around_from levels levels' nested nested' zero j e around parent out out' within = absurd (omega arith)
+  same_around_from levels levels' nested nested' (suc i) j e around None out out' within = absurd (suc-ne-zero i out)
+  same_around_from levels levels' nested nested' (suc i) j e around (Some d) out out' within =
+      same_at levels levels' i j d e out out' around (omega arith)
+      (same_around_from levels levels' nested nested' i j e around (parent_of (slice_get groups d)) (nested i d out) (nested' i d out'))
+      (cases_eq j i)
+
+  pub same_around : (levels levels' : List (Level C)) → AreNested groups levels → AreNested groups levels' → (i j c e : ℕ)
+      → IsLevelOf c levels i → IsLevelOf c levels' i → IsLevelOf e levels j → j ≤ i → IsLevelOf e levels' j
+  same_around levels levels' nested nested' i j c e at at' around within =
+      same_at levels levels' i j c e at at' around within
+      (same_around_from levels levels' nested nested' i j e around (parent_of (slice_get groups c)) (nested i c at) (nested' i c at'))
+      (cases_eq j i)
+
+  -- no conversation's level stands further in than one of none
+  conversation_out_from : (levels : List (Level C)) → AreNested groups levels → (i j : ℕ) (level : Level C) → slice_get levels j ≡ Some level
+      → level.facts.conversation ≡ None → (parent : Option ℕ) → HasOutside parent levels i → j < i → ⊥
+  conversation_out_from levels nested zero j level there alone parent out within = omega arith
+  conversation_out_from levels nested (suc i) j level there alone None out within = suc-ne-zero i out
+  conversation_out_from levels nested (suc i) j level there alone (Some d) out within =
+      conversation_out_at levels i j d level there alone out (omega arith)
+      (conversation_out_from levels nested i j level there alone (parent_of (slice_get groups d)) (nested i d out))
+      (cases_eq j i)
+
+  pub conversation_out : (levels : List (Level C)) → AreNested groups levels → (i j c : ℕ) (level : Level C) → IsLevelOf c levels i
+      → slice_get levels j ≡ Some level → level.facts.conversation ≡ None → i < j
+  conversation_out levels nested i j c level at there alone =
+      further_out i j
+      (λ within. conversation_out_at levels i j c level there alone at within
+      (conversation_out_from levels nested i j level there alone (parent_of (slice_get groups c)) (nested i c at)) (cases_eq j i))
+      (cases_lt i j)
