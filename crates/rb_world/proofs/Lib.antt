@@ -11,6 +11,9 @@ pub mod StandingFacts
 pub mod Outcomes
 pub mod FewEvents
 pub mod PlaceFacts
+pub mod Cascade
+pub mod CascadeSteps
+pub mod CascadeEnds
 pub mod PlainInduction
 -- Related kinds: the laws, and that related worlds stay related and tell the same.
 pub mod Simulation
