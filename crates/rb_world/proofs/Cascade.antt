@@ -82,8 +82,8 @@ HaveFallen {S} {C} {M} c j v later = (r : ℕ) (q : Process S C) → slice_get v
     → (now : Process S C) × (slice_get later.processes r ≡ Some now) × (now.levels ≡ [])
 
 -- What a cascade comes to. No conversation was put back; or all that are inside one, the outermost of those that were put back,
--- go on to its next alternate; or they fail.
+-- go on to its next alternate; or they fail, and it lies in no other.
 pub data Ends {S C M : Type 0} (k : Kind S C M) (p : ℕ) (u : Process S C) (v : World S C M) (last : Option ℕ) (h : Happened S C M) : Type 0 where
   Alone : last ≡ None → ArePrivate h.1 → LeavesOthers p None v h.0 → KeepsTalks {M = M} u p h.0 → Ends k p u v last h
   AllBack : (c j : ℕ) → EndsIn c p h.1 → IsLevelOf c u.levels j → LeavesOthers p (Some c) v h.0 → AreBackAt k c j v h.0 → Ends k p u v last h
-  AllFallen : (c j : ℕ) → EndsIn c p h.1 → IsLevelOf c u.levels j → LeavesOthers p (Some c) v h.0 → HaveFallen c j v h.0 → Ends k p u v last h
+  AllFallen : (c j : ℕ) → EndsIn c p h.1 → IsLevelOf c u.levels j → j ≡ 0 → LeavesOthers p (Some c) v h.0 → HaveFallen c j v h.0 → Ends k p u v last h

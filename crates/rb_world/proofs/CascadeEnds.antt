@@ -9,7 +9,7 @@ use Rattle.rb_base.specs.declared.event.Event.TheVariants.{Reject, RejectAll}
 use Rattle.rb_world.specs.Kind.{Kind}
 use Rattle.rb_world.specs.World.{Level, Process, World, change_at, is_inside, is_of, levels_of, process_levels, with_each, with_process}
 use Rattle.rb_world.specs.Reject.{Happened, after_event, all_back, exhausted_next, fallen, fallen_inside, next_alternate, parent_of, private_next, put_back, raised, reject, reject_at, reject_either, together_next, where_inside}
-use Rattle.rb_world.specs.Nested.{AreNested, IsLevelOf}
+use Rattle.rb_world.specs.Nested.{AreNested, HasOutside, IsLevelOf}
 use Rattle.rb_world.proofs.TurnFacts.{all_broken, all_next, all_spent}
 use Rattle.rb_world.proofs.ListFacts.{none_some, slice_get-change_at, some_same}
 use Rattle.rb_world.proofs.PlaceFacts.{conversation_out, level_inside, not_of, slice_get-elsewhere}
@@ -35,13 +35,13 @@ module _ {S C M : Type 0} (k : Kind S C M) (p : ℕ) (u : Process S C) (v : Worl
       → Ends k p u v last (after_event (Reject p line alternate cause) h)
   after_private last line alternate cause h (Alone e private others keeps) = Alone e private others keeps
   after_private last line alternate cause h (AllBack c j events at others back) = AllBack c j (further (Reject p line alternate cause) events) at others back
-  after_private last line alternate cause h (AllFallen c j events at others fell) = AllFallen c j (further (Reject p line alternate cause) events) at others fell
+  after_private last line alternate cause h (AllFallen c j events at outermost others fell) = AllFallen c j (further (Reject p line alternate cause) events) at outermost others fell
 
   after_together : (last : Option ℕ) (d alternate : ℕ) (cause : Cause) (h : Happened S C M) → Ends k p u v (Some d) h
       → Ends k p u v last (after_event (RejectAll d alternate p cause) h)
   after_together last d alternate cause h (Alone e private others keeps) = absurd (none_some (sym e))
   after_together last d alternate cause h (AllBack c j events at others back) = AllBack c j (further (RejectAll d alternate p cause) events) at others back
-  after_together last d alternate cause h (AllFallen c j events at others fell) = AllFallen c j (further (RejectAll d alternate p cause) events) at others fell
+  after_together last d alternate cause h (AllFallen c j events at outermost others fell) = AllFallen c j (further (RejectAll d alternate p cause) events) at outermost others fell
 
 module _ {S C M : Type 0} (k : Kind S C M) (p : ℕ) (u : Process S C) (v : World S C M) (there : slice_get v.processes p ≡ Some u) (nested : AllNested k v) where
   -- no conversation was put back before a private level
@@ -149,6 +149,7 @@ module _ {S C M : Type 0} (k : Kind S C M) (p : ℕ) (u : Process S C) (v : Worl
       → Ends k p u v last (after_event (RejectAll c alternate p cause) (exhausted_next k parent c (all_back k c w) outer))
   exhausted_next-ends c j alternate cause last w outer come at rest None e =
       AllFallen c j (record { inner = []; alternate = alternate; cause = cause; is = refl }) at
+      (subst (λ (o : Option ℕ). HasOutside o u.levels j) e (nested p u there j c at))
       (outside_stays c j last w (fallen_inside k c) come at (λ q outside. ap (λ (inside : Bool). cond inside (fallen k Inner q) q) outside))
       (all_fall c j last w come at)
   exhausted_next-ends c j alternate cause last w outer come at rest (Some d) e =

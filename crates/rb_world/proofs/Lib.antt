@@ -14,6 +14,9 @@ pub mod PlaceFacts
 pub mod Cascade
 pub mod CascadeSteps
 pub mod CascadeEnds
+pub mod Together
+pub mod CountedTurns
+pub mod StaysInside
 pub mod PlainInduction
 -- Related kinds: the laws, and that related worlds stay related and tell the same.
 pub mod Simulation
