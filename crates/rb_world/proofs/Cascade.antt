@@ -59,8 +59,8 @@ LeavesOthers {S} {C} {M} p conversation v later = (r : ℕ) (q : Process S C) �
 
 -- who had a level of a conversation still has it
 abbrev pub KeepsTalks : {S C M : Type 0} → Process S C → ℕ → World S C M → Type 0
-KeepsTalks {S} {C} {M} u p later = (i c : ℕ) (at : IsLevelOf c u.levels i)
-    → (now : Process S C) × (slice_get later.processes p ≡ Some now) × (slice_get now.levels i ≡ Some at.level)
+KeepsTalks {S} {C} {M} u p later =
+    (now : Process S C) × (slice_get later.processes p ≡ Some now) × ((i c : ℕ) (at : IsLevelOf c u.levels i) → slice_get now.levels i ≡ Some at.level)
 
 -- a process was put back to its level number j, which goes on to its next alternate
 pub record IsBackAt {S C M : Type 0} (k : Kind S C M) (j : ℕ) (q : Process S C) (level : Level C) (now : Process S C) : Type 0 where

@@ -63,18 +63,21 @@ module _ {S C M : Type 0} (k : Kind S C M) (p : ℕ) (u : Process S C) (v : Worl
   falls-ends : (cause : Cause) (last : Option ℕ) (w : World S C M) → HasCome k p u v 0 last w → IsLast k.groups u.levels 0 last
       → Ends k p u v last (with_process p (fallen k cause) w, [])
   falls-ends cause last w come (NoneYet e none) =
-      Alone e tt (others_stay last 0 w (fallen k cause) come e) (λ i c at. absurd (none refl i c at))
+      let n : Now p 0 last p u w = come.each p u there in
+      Alone e tt (others_stay last 0 w (fallen k cause) come e)
+      (fallen k cause n.now, slice_get-change_at p (fallen k cause) w.processes ∙ ap (option_map (fallen k cause)) n.there, λ i c at. absurd (none refl i c at))
   falls-ends cause last w come (OneBefore c d i e left parent around) = absurd (suc-ne-zero i (sym left))
 
   -- a private level is put back
   private_keeps : (j : ℕ) (last : Option ℕ) (level : Level C) (w : World S C M) → HasCome k p u v (suc j) last w → slice_get u.levels j ≡ Some level
       → level.facts.conversation ≡ None → KeepsTalks {M = M} u p (with_process p (raised j) (with_process p (put_back k j) w))
-  private_keeps j last level w come here alone i c at =
+  private_keeps j last level w come here alone =
       let n : Now p (suc j) last p u w = come.each p u there in
-      let below : i < j = conversation_out k.groups u.levels (nested p u there) i j c level at here alone in
       (raised j (put_back k j n.now),
       slice_get-change_at p (raised j) (change_at p (put_back k j) w.processes)
       ∙ ap (option_map (raised j)) (slice_get-change_at p (put_back k j) w.processes ∙ ap (option_map (put_back k j)) n.there),
+      λ i c at.
+      let below : i < j = conversation_out k.groups u.levels (nested p u there) i j c level at here alone in
       slice_get-elsewhere j next_alternate (put_back k j n.now).levels i (λ e. absurd (omega arith))
       ∙ (put_back_outer k j n.now i (omega arith) ∙ (n.outer i (omega arith) ∙ at.there)))
 

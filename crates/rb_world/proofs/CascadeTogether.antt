@@ -28,6 +28,16 @@ there_is [] i below = absurd (omega arith)
 there_is (x ∷ xs) zero below = (x, refl)
 there_is (x ∷ xs) (suc i) below = there_is xs i (omega arith)
 
+-- who is inside e keeps the levels further out
+abbrev pub KeepOuter : {S C M : Type 0} → World S C M → ℕ → ℕ → World S C M → Type 0
+KeepOuter {S} {C} {M} v e j later = (r : ℕ) (q : Process S C) → slice_get v.processes r ≡ Some q → IsLevelOf e q.levels j
+    → (now : Process S C) × (slice_get later.processes r ≡ Some now) × ((i : ℕ) → i < j → slice_get now.levels i ≡ slice_get q.levels i)
+
+-- who is inside e is not inside c any more
+abbrev pub LeaveBoth : {S C M : Type 0} → World S C M → ℕ → ℕ → ℕ → World S C M → Type 0
+LeaveBoth {S} {C} {M} v c e j later = (r : ℕ) (q : Process S C) → slice_get v.processes r ≡ Some q → IsLevelOf e q.levels j
+    → (now : Process S C) × (slice_get later.processes r ≡ Some now) × (is_inside c now ≡ false)
+
 module _ {S C M : Type 0} (k : Kind S C M) (p : ℕ) (u : Process S C) (v : World S C M) (there : slice_get v.processes p ≡ Some u) (nested : AllNested k v) where
   -- somebody is inside c, or nobody is
   where_one : (c e j r i : ℕ) (q : Process S C) → IsLevelOf e u.levels j → slice_get v.processes r ≡ Some q → IsLevelOf c q.levels i
@@ -68,13 +78,8 @@ module _ {S C M : Type 0} (k : Kind S C M) (p : ℕ) (u : Process S C) (v : Worl
       let found : (n : ℕ) × IsLevelOf e q.levels n = inside_level e q.levels inside in
       subst (IsLevelOf e q.levels) (same_place k.groups q.levels u.levels (nested r q here) (nested p u there) found.0 j e found.1 at) found.1
 
-  -- who is inside e keeps the levels further out
-  abbrev pub KeepOuter : ℕ → ℕ → World S C M → Type 0
-  KeepOuter e j later = (r : ℕ) (q : Process S C) → slice_get v.processes r ≡ Some q → IsLevelOf e q.levels j
-      → (now : Process S C) × (slice_get later.processes r ≡ Some now) × ((i : ℕ) → i < j → slice_get now.levels i ≡ slice_get q.levels i)
-
-  -- so the levels of c are kept where none is as far in
-  apart_stays_at : (c e j r : ℕ) (q : Process S C) (later : World S C M) → IsLevelOf e u.levels j → LeavesOthers p (Some e) v later → KeepOuter e j later
+  -- the levels of c are kept where none is as far in
+  apart_stays_at : (c e j r : ℕ) (q : Process S C) (later : World S C M) → IsLevelOf e u.levels j → LeavesOthers p (Some e) v later → KeepOuter v e j later
       → ((r i : ℕ) (q : Process S C) → slice_get v.processes r ≡ Some q → IsLevelOf c q.levels i → IsLevelOf e q.levels j → i < j)
       → slice_get v.processes r ≡ Some q → (inside : Bool) → is_inside e q ≡ inside
       → (now : Process S C) × (slice_get later.processes r ≡ Some now) × Carries c q.levels now.levels
@@ -85,7 +90,7 @@ module _ {S C M : Type 0} (k : Kind S C M) (p : ℕ) (u : Process S C) (v : Worl
   apart_stays_at c e j r q later at others outer apart here false is =
       (q, others r q here (not_p e j r q at here is) is, carries_same c q.levels)
 
-  pub apart_stays : (c e j : ℕ) (later : World S C M) → IsLevelOf e u.levels j → LeavesOthers p (Some e) v later → KeepOuter e j later
+  pub apart_stays : (c e j : ℕ) (later : World S C M) → IsLevelOf e u.levels j → LeavesOthers p (Some e) v later → KeepOuter v e j later
       → ((r i : ℕ) (q : Process S C) → slice_get v.processes r ≡ Some q → IsLevelOf c q.levels i → IsLevelOf e q.levels j → i < j) → Keeps c v later
   apart_stays c e j later at others outer apart r q here =
       apart_stays_at c e j r q later at others outer apart here (is_inside e q) refl
@@ -102,11 +107,7 @@ module _ {S C M : Type 0} (k : Kind S C M) (p : ℕ) (u : Process S C) (v : Worl
   outside_both c e j r i q here own at within s x there' outside false is = is
 
   -- nobody is inside c any more, if nobody is who was inside e
-  abbrev pub LeaveBoth : ℕ → ℕ → ℕ → World S C M → Type 0
-  LeaveBoth c e j later = (r : ℕ) (q : Process S C) → slice_get v.processes r ≡ Some q → IsLevelOf e q.levels j
-      → (now : Process S C) × (slice_get later.processes r ≡ Some now) × (is_inside c now ≡ false)
-
-  left_at : (c e j r i : ℕ) (q : Process S C) (later : World S C M) → IsLevelOf e u.levels j → LeavesOthers p (Some e) v later → LeaveBoth c e j later
+  left_at : (c e j r i : ℕ) (q : Process S C) (later : World S C M) → IsLevelOf e u.levels j → LeavesOthers p (Some e) v later → LeaveBoth v c e j later
       → slice_get v.processes r ≡ Some q → IsLevelOf c q.levels i → IsLevelOf e q.levels j → j ≤ i
       → (s : ℕ) (x y : Process S C) → slice_get v.processes s ≡ Some x → slice_get later.processes s ≡ Some y → (inside : Bool) → is_inside e x ≡ inside
       → is_inside c y ≡ false
@@ -117,7 +118,7 @@ module _ {S C M : Type 0} (k : Kind S C M) (p : ℕ) (u : Process S C) (v : Worl
       ap (is_inside c) (some_same (sym after ∙ others s x before (not_p e j s x at before is) is))
       ∙ outside_both c e j r i q here own own' within s x before is (is_inside c x) refl
 
-  pub within_left : (c e j r i : ℕ) (q : Process S C) (later : World S C M) → IsLevelOf e u.levels j → LeavesOthers p (Some e) v later → LeaveBoth c e j later
+  pub within_left : (c e j r i : ℕ) (q : Process S C) (later : World S C M) → IsLevelOf e u.levels j → LeavesOthers p (Some e) v later → LeaveBoth v c e j later
       → slice_get v.processes r ≡ Some q → IsLevelOf c q.levels i → IsLevelOf e q.levels j → j ≤ i → length later.processes ≡ length v.processes → IsLeft c later
   within_left c e j r i q later at others leave here own own' within size s y after =
       let below : s < length later.processes = slice_get_within later.processes s y after in
