@@ -34,7 +34,7 @@ module _ {C : Type 0} where
   outside_used (Some d) levels zero none = absurd none
   outside_used (Some d) levels (suc j) out = used_level d levels j out
 
-  nested_used : (groups : List Membership) (levels : List (Level C)) → AreNested groups levels → AreNested groups (map one_used levels)
+  pub nested_used : (groups : List Membership) (levels : List (Level C)) → AreNested groups levels → AreNested groups (map one_used levels)
   nested_used groups levels nested i c at =
       outside_used (parent_of (slice_get groups c)) levels i (nested i c (level_used c levels i at))
 

@@ -18,6 +18,7 @@ pub mod Together
 pub mod CountedTurns
 pub mod CascadeTogether
 pub mod RejectTogether
+pub mod PassTogether
 pub mod StaysInside
 pub mod PlainInduction
 -- Related kinds: the laws, and that related worlds stay related and tell the same.
