@@ -19,6 +19,8 @@ pub mod CountedTurns
 pub mod CascadeTogether
 pub mod RejectTogether
 pub mod PassTogether
+pub mod LineTogether
+pub mod TurnTogether
 pub mod StaysInside
 pub mod PlainInduction
 -- Related kinds: the laws, and that related worlds stay related and tell the same.

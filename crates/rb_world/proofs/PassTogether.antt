@@ -53,17 +53,17 @@ all_pass test m [] all any = absurd (true≢false (sym any))
 all_pass test m (n ∷ members) all any = all_pass_at test m n members all (nat_eq m n) refl any (all_pass test m members)
 
 -- the innermost level is of the same conversation once it has used one turn more
-last_used : {C : Type 0} (c : ℕ) (levels : List (Level C)) → is_last_of c (last_of (map one_used levels)) ≡ is_last_of c (last_of levels)
+pub last_used : {C : Type 0} (c : ℕ) (levels : List (Level C)) → is_last_of c (last_of (map one_used levels)) ≡ is_last_of c (last_of levels)
 last_used c [] = refl
 last_used c (x ∷ []) = refl
 last_used c (x ∷ y ∷ levels) = last_used c (y ∷ levels)
 
 -- the conversation of a last level
-of_last : {C : Type 0} (c : ℕ) (last : Option (Level C)) (level : Level C) → is_last_of c last ≡ true → last ≡ Some level → level.facts.conversation ≡ Some c
+pub of_last : {C : Type 0} (c : ℕ) (last : Option (Level C)) (level : Level C) → is_last_of c last ≡ true → last ≡ Some level → level.facts.conversation ≡ Some c
 of_last c last level is e = passes_of c level (ap (is_last_of c) (sym e) ∙ is)
 
 -- what is found in a list of images
-map_found : {A : Type 0} (f : A → A) (xs : List A) (r : ℕ) (z : A) → slice_get (map f xs) r ≡ Some z → (y : A) × (slice_get xs r ≡ Some y) × (f y ≡ z)
+pub map_found : {A : Type 0} (f : A → A) (xs : List A) (r : ℕ) (z : A) → slice_get (map f xs) r ≡ Some z → (y : A) × (slice_get xs r ≡ Some y) × (f y ≡ z)
 map_found f [] r z e = absurd (none_some e)
 map_found f (x ∷ xs) zero z e = (x, refl, some_same e)
 map_found f (x ∷ xs) (suc r) z e = map_found f xs r z e
@@ -79,12 +79,12 @@ module _ {S C M : Type 0} (k : Kind S C M) where
       refl)
   leaves_carries c d y other false e i at = (at.level, at.there, refl)
 
-  leave_keeps : (c d : ℕ) (x : World S C M) → c ≢ d → Keeps c x (all_leave k d x)
+  pub leave_keeps : (c d : ℕ) (x : World S C M) → c ≢ d → Keeps c x (all_leave k d x)
   leave_keeps c d x other r y here =
       (leaves k d y, slice_get-map (leaves k d) x.processes r ∙ ap (option_map (leaves k d)) here, leaves_carries c d y other (stands_at d y) refl)
 
   -- a member that leaves is not inside any more
-  left_not_inside : (c : ℕ) (levels : List (Level C)) (level : Level C) → AreNested k.groups levels → last_of levels ≡ Some level → level.facts.conversation ≡ Some c
+  pub left_not_inside : (c : ℕ) (levels : List (Level C)) (level : Level C) → AreNested k.groups levels → last_of levels ≡ Some level → level.facts.conversation ≡ Some c
       → (inside : Bool) → list_any (is_of c) (without_last levels) ≡ inside → list_any (is_of c) (without_last levels) ≡ false
   left_not_inside c levels level nested last of_it true is =
       let found : (n : ℕ) × IsLevelOf c (without_last levels) n = inside_level c (without_last levels) is in
