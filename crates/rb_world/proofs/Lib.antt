@@ -31,3 +31,5 @@ pub mod ErasureInvariant
 pub mod ShownFacts
 pub mod SurvivorsGrow
 pub mod ReleasedLines
+pub mod LevelFacts
+pub mod GroundedFacts
