@@ -1,5 +1,6 @@
 -- Levels that come from others, with the same recovery points at the same numbers; and the place of a conversation's level.
-use Rattle.std.proofs.Common.{◌≡◌, ◌≤◌, ◌<◌, ◌+◌, ℕ, zero, suc, Bool, true, false, List, [], ◌∷◌, ◌++◌, length, map, option_map, position, slice_get, take, Option, Some, None, refl, sym, ap, ◌∙◌, subst, eqb-true, get_or, true≢false, add-one, arith}
+use Rattle.std.proofs.Common.{◌≡◌, ◌≤◌, ◌<◌, ◌+◌, ℕ, zero, suc, Bool, true, false, cond, not, ◌||◌, List, [], ◌∷◌, ◌++◌, length, map, option_map, position, slice_get, take, Option, Some, None, refl, sym, ap, ◌∙◌, subst, eqb-true, lt-ltb, get_or, true≢false, add-one, arith}
+use Rattle.std.specs.List.{list_any, position_or_len}
 use Rattle.std.proofs.lemmas.Option.{slice_get-map, slice_get-get_or}
 use Rattle.std.proofs.lemmas.List.Quantifiers.{position-Some}
 use Rattle.rb_world.specs.World.{Level, change_at, is_number, is_of, without_last}
@@ -40,6 +41,31 @@ get_more [] new zero y e = IsNew refl (some_same e)
 get_more [] new (suc i) y e = absurd (none_some e)
 get_more (x ∷ xs) new zero y e = IsOld e
 get_more (x ∷ xs) new (suc i) y e = one_further x xs new i y (get_more xs new i y e)
+
+-- who has a level that passes a test has a first one
+first_below : (here rest : Bool) (n len : ℕ) → (rest ≡ true → n < len) → (here || rest) ≡ true → cond (not here) (1 + n) 0 < suc len
+first_below true rest n len below e = omega arith
+first_below false rest n len below e = omega (arith, below e)
+
+any_below : {A : Type 0} (test : A → Bool) (xs : List A) → list_any test xs ≡ true → position_or_len test xs < length xs
+any_below test [] e = absurd (true≢false (sym e))
+any_below test (x ∷ xs) e =
+    first_below (test x) (list_any test xs) (position_or_len test xs) (length xs) (any_below test xs) e
+
+pub no_place : {A : Type 0} (test : A → Bool) (xs : List A) → list_any test xs ≡ true → position test xs ≡ None → ⊥
+no_place test xs any none =
+    some_none
+    (sym (ap (λ (b : Bool). cond b (Some (position_or_len test xs)) None) (lt-ltb (position_or_len test xs) (length xs) (any_below test xs any))) ∙ none)
+
+-- a list that begins, and its first element
+pub take_first : {A : Type 0} (xs : List A) (y : A) → slice_get xs 0 ≡ Some y → take 1 xs ≡ y ∷ []
+take_first [] y e = absurd (none_some e)
+take_first {A} (x ∷ xs) y e = ap (λ (z : A). z ∷ []) (some_same e)
+
+pub take_some : {A : Type 0} (j : ℕ) (xs : List A) (y : A) → slice_get xs j ≡ Some y → take (j + 1) xs ≡ [] → ⊥
+take_some j [] y e none = none_some e
+take_some {A} j (x ∷ xs) y e none =
+    some_none (ap (λ (zs : List A). slice_get zs 0) (sym (ap (λ (n : ℕ). take n (x ∷ xs)) (add-one j)) ∙ none))
 
 -- a level stands at number i of these, with this recovery point
 pub record ComesFrom {C : Type 0} (levels : List (Level C)) (i : ℕ) (copy : C) : Type 0 where

@@ -33,3 +33,5 @@ pub mod SurvivorsGrow
 pub mod ReleasedLines
 pub mod LevelFacts
 pub mod GroundedFacts
+pub mod GroundedWorlds
+pub mod Grounded
