@@ -35,3 +35,5 @@ pub mod LevelFacts
 pub mod GroundedFacts
 pub mod GroundedWorlds
 pub mod Grounded
+pub mod FreedShown
+pub mod ReleasesShown
