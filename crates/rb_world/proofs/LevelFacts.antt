@@ -1,5 +1,5 @@
 -- Levels that come from others, with the same recovery points at the same numbers; and the place of a conversation's level.
-use Rattle.std.proofs.Common.{◌≡◌, ◌≤◌, ◌<◌, ◌+◌, ℕ, zero, suc, Bool, true, false, cond, not, ◌||◌, List, [], ◌∷◌, ◌++◌, length, map, option_map, position, slice_get, take, Option, Some, None, refl, sym, ap, ◌∙◌, subst, eqb-true, lt-ltb, get_or, true≢false, add-one, arith}
+use Rattle.std.proofs.Common.{◌≡◌, ◌≤◌, ◌<◌, ◌+◌, ℕ, zero, suc, Bool, true, false, cond, not, ◌||◌, List, [], ◌∷◌, ◌++◌, length, map, option_map, position, slice_get, take, Option, Some, None, refl, sym, ap, ◌∙◌, subst, eq-eqb, eqb-true, lt-ltb, get_or, true≢false, add-one, arith}
 use Rattle.std.specs.List.{list_any, position_or_len}
 use Rattle.std.proofs.lemmas.Option.{slice_get-map, slice_get-get_or}
 use Rattle.std.proofs.lemmas.List.Quantifiers.{position-Some}
@@ -81,6 +81,10 @@ pub of_number : (o : Option ℕ) (c : ℕ) → is_number o c ≡ true → o ≡ 
 of_number None c e = absurd (true≢false (sym e))
 of_number (Some d) c e = ap Some (eqb-true d c e)
 
+or_true : (b : Bool) → (b || true) ≡ true
+or_true true = refl
+or_true false = refl
+
 module _ {C : Type 0} where
   pub from_same : (levels : List (Level C)) → AreFrom levels levels
   from_same levels i level e = record { level = level; there = e; same = refl }
@@ -115,3 +119,14 @@ module _ {C : Type 0} where
         there = slice_get-get_or (l ∷ levels) j l found.0;
         of_it = of_number (get_or (l ∷ levels) j l).facts.conversation c found.1;
       }
+
+  -- whoever has a level of a conversation is inside it
+  pub any_level : (c j : ℕ) (levels : List (Level C)) → IsLevelOf c levels j → list_any (is_of c) levels ≡ true
+  any_level c j [] at = absurd (none_some at.there)
+  any_level c zero (l ∷ levels) at =
+      ap (λ (o : Option ℕ). is_number o c || list_any (is_of c) levels)
+      (ap (λ (m : Level C). m.facts.conversation) (some_same at.there) ∙ at.of_it)
+      ∙ ap (λ (b : Bool). b || list_any (is_of c) levels) (eq-eqb c c refl)
+  any_level c (suc j) (l ∷ levels) at =
+      ap (λ (b : Bool). is_of c l || b) (any_level c j levels (record { level = at.level; there = at.there; of_it = at.of_it }))
+      ∙ or_true (is_of c l)

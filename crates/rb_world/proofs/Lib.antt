@@ -37,3 +37,5 @@ pub mod GroundedWorlds
 pub mod Grounded
 pub mod FreedShown
 pub mod ReleasesShown
+pub mod Erasure
+pub mod ReceiptsStand
