@@ -1,21 +1,20 @@
 -- Erasure: what survived a run, run alone, is never stuck, ends in the same states and releases the same lines. It is the cut in
 -- which every process is shown as it is, of the invariant over all cuts.
-use Rattle.std.proofs.Common.{◌≡◌, ◌≤◌, ◌+◌, ℕ, zero, suc, true, List, [], ◌∷◌, length, map, slice_get, Option, Some, None, refl, sym, ap, ap₂, ◌∙◌, subst, arith}
+use Rattle.std.proofs.Common.{◌≡◌, ◌+◌, ℕ, zero, suc, true, List, [], ◌∷◌, length, map, slice_get, Option, Some, None, refl, sym, ap, ap₂, ◌∙◌, subst, arith}
 use Rattle.std.proofs.lemmas.Option.{slice_get_past}
-use Rattle.rb_world.specs.Kind.{Kind, Ends}
 use Rattle.rb_world.specs.World.{Level, Process, World, settled}
 use Rattle.rb_world.specs.Turn.{Told, most_levels, opening, run}
 use Rattle.rb_world.specs.Plain.{Kept, Ended, insert_all, plain_run, survivors_from, survivors_of}
 use Rattle.rb_world.specs.Standing.{Each, IsShallow, is_failed}
-use Rattle.rb_world.specs.Erased.{Released, Rises, numbered, released_in}
+use Rattle.rb_world.specs.Erased.{Rises, numbered, released_in}
 use Rattle.rb_world.proofs.Invariant.{BothBetween, IsInvariantUnder, both_kept}
 use Rattle.rb_world.proofs.Induction.{run-keeps}
 use Rattle.rb_world.proofs.EachProcess.{KeepsEach, each_opening_run}
 use Rattle.rb_world.proofs.StandingFacts.{shallow_kept, status_at-whole}
-use Rattle.rb_world.proofs.ListFacts.{none_some, some_same}
+use Rattle.rb_world.proofs.ListFacts.{none_some}
 use Rattle.rb_world.proofs.Erasable.{Nothing, Parts, whole, plain, IsErasable}
 use Rattle.rb_world.proofs.Cuts.{shown_at, ShowsOne, Alive, Lost, Shows, IsConsistent}
-use Rattle.rb_world.proofs.ErasureInvariant.{kept_in, AreBefore, AreSent, IsErased, ShowsCut, AllShown, ErasedBefore, ErasedWithin, ErasedAfter, Grounded, GroundedBefore, GroundedDuring, GroundedAfter}
+use Rattle.rb_world.proofs.ErasureInvariant.{kept_in, AreSent, ShowsCut, AllShown, ErasedBefore, ErasedWithin, ErasedAfter, Grounded, GroundedBefore, GroundedDuring, GroundedAfter}
 use Rattle.rb_world.proofs.LevelFacts.{some_none}
 use Rattle.rb_world.proofs.Grounded.{grounded_kept, opening_grounded}
 use Rattle.rb_world.proofs.FreedShown.{IsImageAt, get_mapped}
@@ -96,7 +95,7 @@ module _ {S E P : Type 0} {x : Parts S E P} {Known : ℕ → Process S S → Typ
       let s : IsImageAt _ states ends.receiver receiver = get_mapped (λ s. settled (plain x) s []) states ends.receiver receiver at' in
       omega (
         arith,
-        ap (λ (v : Process S P). x.taken v.state c) (sym s.same) ∙ (laws.settles s.origin).mail.taken c ∙ opens.taken ends.receiver s.origin s.there c
+        ap (λ (v : Process S P). x.taken v.state c) (sym s.same) ∙ (laws.settles s.origin).mail.taken c ∙ opens.taken ends.receiver s.origin s.there c,
       )
 
   pub opening_erased : ErasedBefore x (opening (plain x) states tt) 1 [] (opening (whole x) states tt)

@@ -1,11 +1,11 @@
 -- The end of a turn in worlds that a cut shows: both sides release the same lines, and the cut is still shown.
-use Rattle.std.proofs.Common.{◌≡◌, ℕ, zero, suc, ◌+◌, Bool, true, false, List, [], ◌∷◌, length, map, option_map, slice_get, take, Option, Some, None, refl, sym, ap, ap₂, ◌∙◌, subst, add-one}
+use Rattle.std.proofs.Common.{◌≡◌, ℕ, zero, suc, ◌+◌, false, List, [], ◌∷◌, map, slice_get, take, Option, Some, None, refl, sym, ap, ap₂, ◌∙◌, subst, add-one}
 use Rattle.rb_world.specs.World.{Level, Process}
 use Rattle.rb_world.specs.Turn.{freed, lines_freed, state_freed}
-use Rattle.rb_world.specs.Standing.{Each, is_failed}
+use Rattle.rb_world.specs.Standing.{Each}
 use Rattle.rb_world.proofs.ListFacts.{none_some, some_same}
 use Rattle.rb_world.proofs.Erasable.{Parts, whole, plain, IsErasable}
-use Rattle.rb_world.proofs.Cuts.{plain_level, plain_levels, shown_at, shown, AreOwn, ShowsOne, Alive, Lost, Shows}
+use Rattle.rb_world.proofs.Cuts.{plain_levels, shown_at, AreOwn, ShowsOne, Alive, Lost, Shows}
 use Rattle.rb_world.proofs.ErasureInvariant.{IsGrounded, IsQuiet}
 use Rattle.rb_world.proofs.ShownFacts.{map_shown}
 

@@ -1,10 +1,10 @@
 -- The first invariant of erasure: every world of a run is grounded, where what is known of each process is kept, and the laws hold.
-use Rattle.std.proofs.Common.{◌≡◌, ℕ, zero, suc, true, List, [], ◌∷◌, ◌++◌, length, map, option_map, position, slice_get, Option, Some, refl, sym, ap, ◌∙◌, subst, true≢false, suc-ne-zero}
+use Rattle.std.proofs.Common.{◌≡◌, ℕ, List, [], ◌∷◌, length, map, option_map, position, slice_get, Option, Some, refl, sym, ap, ◌∙◌, subst, true≢false, suc-ne-zero}
 use Rattle.rb_world.specs.World.{Level, Process, World, change_at, is_of, settled, with_process}
-use Rattle.rb_world.specs.Reject.{all_back, first_again, fallen, parent_of, put_back, raised, reset_below, where_inside}
-use Rattle.rb_world.specs.Turn.{freed, leaves, one_used, opening, opening_talks, stands_now, turn_used}
+use Rattle.rb_world.specs.Reject.{all_back, fallen, parent_of, put_back, raised, where_inside}
+use Rattle.rb_world.specs.Turn.{freed, leaves, one_used, opening, stands_now, turn_used}
 use Rattle.rb_world.specs.Nested.{HasOutside}
-use Rattle.rb_world.proofs.TurnFacts.{RunsAt, MustFall}
+use Rattle.rb_world.proofs.TurnFacts.{RunsAt}
 use Rattle.rb_world.proofs.Invariant.{IsInvariant}
 use Rattle.rb_world.proofs.EachProcess.{KeepsEach, settled_each}
 use Rattle.rb_world.proofs.StandingFacts.{status_at-whole}

@@ -1,6 +1,6 @@
 -- What each change does to one process that is grounded: its recovery points' messages stay in order, the outermost one holds no line,
 -- and a failed process has no level and holds no line.
-use Rattle.std.proofs.Common.{◌≡◌, ◌≤◌, ◌<◌, ◌+◌, ℕ, ℤ, zero, suc, Bool, true, false, cond, List, [], ◌∷◌, ◌++◌, length, map, option_map, slice_get, take, Option, Some, None, refl, sym, ap, ◌∙◌, subst, true≢false, arith}
+use Rattle.std.proofs.Common.{◌≡◌, ◌≤◌, ◌+◌, ℕ, ℤ, Bool, true, false, cond, List, [], ◌∷◌, ◌++◌, map, option_map, slice_get, take, Option, Some, None, refl, sym, ap, ◌∙◌, subst, true≢false, arith}
 use Rattle.std.proofs.lemmas.Option.{slice_get_within}
 use Rattle.rb_base.specs.declared.event.Cause.{Cause}
 use Rattle.rb_world.specs.Kind.{Facts, Went, Held}

@@ -1,21 +1,19 @@
 -- What each change does to all processes and conversations of a grounded world.
-use Rattle.std.proofs.Common.{◌≡◌, ◌≤◌, ◌<◌, ◌+◌, ℕ, ℤ, zero, suc, Bool, true, false, cond, List, [], ◌∷◌, ◌++◌, length, map, option_map, position, slice_get, take, Option, Some, None, refl, sym, ap, ◌∙◌, subst, true≢false, arith}
-use Rattle.std.proofs.lemmas.Option.{slice_get-map}
+use Rattle.std.proofs.Common.{◌≡◌, ◌+◌, ℕ, zero, suc, Bool, true, false, cond, List, [], ◌∷◌, map, position, slice_get, Option, Some, None, refl, sym, ap, ◌∙◌, subst}
 use Rattle.rb_base.specs.declared.event.Cause.{Cause}
 use Rattle.rb_base.specs.declared.event.Cause.TheVariants.{Inner}
-use Rattle.rb_world.specs.World.{Level, Process, Talk, World, change_at, goes_on, is_inside, is_of, settled, with_process, without_last}
-use Rattle.rb_world.specs.Reject.{all_back, at_place, back_to, broken_talk, fallen, fallen_inside, first_again, next_talk, parent_of, put_back, raised, reset_below, reset_from, where_inside}
-use Rattle.rb_world.specs.Turn.{Told, freed, leaves, new_level, opening, opening_talks, one_used, stands_now, turn_used}
+use Rattle.rb_world.specs.World.{Level, Process, Talk, World, change_at, is_inside, is_of}
+use Rattle.rb_world.specs.Reject.{at_place, back_to, broken_talk, fallen, fallen_inside, first_again, next_talk, parent_of, put_back, raised, reset_below, reset_from, where_inside}
+use Rattle.rb_world.specs.Turn.{opening_talks, one_used}
 use Rattle.rb_world.specs.Standing.{Each}
 use Rattle.rb_world.specs.Nested.{HasOutside, IsLevelOf}
 use Rattle.rb_world.proofs.TurnFacts.{RunsAt, MustFall, NoLevelLeft, Barred}
-use Rattle.rb_world.proofs.Invariant.{IsInvariant}
-use Rattle.rb_world.proofs.EachProcess.{KeepsEach, settled_each}
-use Rattle.rb_world.proofs.ListFacts.{Each-change_at, Each-map, none_some, slice_get-change_at, some_same}
+use Rattle.rb_world.proofs.EachProcess.{KeepsEach}
+use Rattle.rb_world.proofs.ListFacts.{Each-change_at, Each-map, none_some, some_same}
 use Rattle.rb_world.proofs.Erasable.{Nothing, Parts, whole, IsErasable}
-use Rattle.rb_world.proofs.ErasureInvariant.{IsGrounded, IsQuiet, BreaksOutside, IsSpentOut, NoLevel, OneSpent, Grounded, GroundedWithin, StillGrounded, GroundedBefore, GroundedDuring, GroundedAfter}
+use Rattle.rb_world.proofs.ErasureInvariant.{IsGrounded, IsQuiet, BreaksOutside, IsSpentOut, NoLevel, OneSpent, GroundedWithin}
 use Rattle.rb_world.proofs.LevelFacts.{level_at_place, no_place, some_none, take_first, take_some}
-use Rattle.rb_world.proofs.GroundedFacts.{used-grounded, raised-grounded, back-grounded, goes-grounded, accepts-grounded, stands-grounded, leaves-grounded, opens-grounded, falls-grounded, freed-grounded, freed-quiet}
+use Rattle.rb_world.proofs.GroundedFacts.{raised-grounded, back-grounded, falls-grounded}
 
 -- what held of each before a change, and what holds of each after it
 pub Each-becomes : {A : Type 0} (P Q : ℕ → A → Type 0) (f : A → A) (xs : List A) → Each P xs

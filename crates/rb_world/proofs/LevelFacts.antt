@@ -1,7 +1,7 @@
 -- Levels that come from others, with the same recovery points at the same numbers; and the place of a conversation's level.
-use Rattle.std.proofs.Common.{◌≡◌, ◌≤◌, ◌<◌, ◌+◌, ℕ, zero, suc, Bool, true, false, cond, not, ◌||◌, List, [], ◌∷◌, ◌++◌, length, map, option_map, position, slice_get, take, Option, Some, None, refl, sym, ap, ◌∙◌, subst, eq-eqb, eqb-true, lt-ltb, get_or, true≢false, add-one, arith}
+use Rattle.std.proofs.Common.{◌≡◌, ◌<◌, ◌+◌, ℕ, zero, suc, Bool, true, false, cond, not, ◌||◌, List, [], ◌∷◌, ◌++◌, length, map, position, slice_get, take, Option, Some, None, refl, sym, ap, ◌∙◌, eq-eqb, eqb-true, lt-ltb, get_or, true≢false, add-one, arith}
 use Rattle.std.specs.List.{list_any, position_or_len}
-use Rattle.std.proofs.lemmas.Option.{slice_get-map, slice_get-get_or}
+use Rattle.std.proofs.lemmas.Option.{slice_get-get_or}
 use Rattle.std.proofs.lemmas.List.Quantifiers.{position-Some}
 use Rattle.rb_world.specs.World.{Level, change_at, is_number, is_of, without_last}
 use Rattle.rb_world.specs.Reject.{next_alternate}

@@ -1,20 +1,20 @@
 -- No receipt stands whose message was taken back: in every world of a run each number taken is at most the length of what the
 -- receiver can see. It is the cut in which the sender is shown at its first level that it does not share with the receiver; if that
 -- is a level of a conversation, everyone inside that conversation is shown at its level of it, and the receiver is not inside.
-use Rattle.std.proofs.Common.{◌≡◌, ◌≢◌, ◌≤◌, ◌<◌, ◌+◌, ℕ, zero, suc, nat_eq, Bool, true, false, cond, List, [], ◌∷◌, length, map, position, slice_get, unwrap_or, Option, Some, None, refl, sym, ap, ◌∙◌, subst, subst₂, true≢false, eq-eqb, ne_eqb, eqb-true, pred, suc-ne-zero, arith}
+use Rattle.std.proofs.Common.{◌≡◌, ◌≢◌, ◌≤◌, ℕ, zero, suc, nat_eq, Bool, true, false, cond, List, [], ◌∷◌, position, slice_get, unwrap_or, Option, Some, None, refl, sym, ap, ◌∙◌, subst, subst₂, true≢false, eq-eqb, ne_eqb, eqb-true, pred, suc-ne-zero, arith}
 use Rattle.rb_world.specs.Kind.{Ends, Membership}
-use Rattle.rb_world.specs.World.{Level, Process, World, is_number, is_of, is_shared, levels_of}
+use Rattle.rb_world.specs.World.{Level, Process, World, is_of, is_shared, levels_of}
 use Rattle.rb_world.specs.Channels.{seen_copy, seen_count}
 use Rattle.rb_world.specs.Reject.{parent_of}
 use Rattle.rb_world.specs.Turn.{Told, most_levels, opening, run}
-use Rattle.rb_world.specs.Standing.{Each, IsShallow, is_failed}
+use Rattle.rb_world.specs.Standing.{Each, IsShallow}
 use Rattle.rb_world.specs.Nested.{IsLevelOf, HasOutside, AreNested}
 use Rattle.rb_world.proofs.Invariant.{IsInvariantUnder}
 use Rattle.rb_world.proofs.EachProcess.{KeepsEach}
 use Rattle.rb_world.proofs.ListFacts.{none_some, some_same}
 use Rattle.rb_world.proofs.Erasable.{Nothing, Parts, whole, plain, IsErasable}
 use Rattle.rb_world.proofs.Cuts.{IsConsistent, ShowsOne, with_shown}
-use Rattle.rb_world.proofs.ErasureInvariant.{IsGrounded, Grounded, GroundedBefore, GroundedDuring, GroundedAfter, ShowsCut, ErasedBefore, ErasedWithin, ErasedAfter}
+use Rattle.rb_world.proofs.ErasureInvariant.{IsGrounded, GroundedBefore, GroundedDuring, GroundedAfter, ShowsCut, ErasedBefore, ErasedWithin, ErasedAfter}
 use Rattle.rb_world.proofs.ShownFacts.{IsShown, get_shown}
 use Rattle.rb_world.proofs.LevelFacts.{any_level, level_at_place, no_place, some_none}
 use Rattle.rb_world.proofs.Erasure.{OpensErasably, IsShownWhole, all_present, consistent_present, present, run_shown, state_at_level, state_present}
@@ -99,9 +99,9 @@ module _ {S E P : Type 0} {x : Parts S E P} {Known : ℕ → Process S S → Typ
   pub consistent_levels : (d : ℕ) → IsConsistent (at_levels_of d qs) qs
   consistent_levels d r other c j q q' e e' at at' =
       let same : c ≡ d = both_inside d r c q e (position (is_of d) q.levels) refl
-          (subst (IsLevelOf c q.levels) (shown_by d r q e (position (is_of d) q.levels) refl) at) in
+      (subst (IsLevelOf c q.levels) (shown_by d r q e (position (is_of d) q.levels) refl) at) in
       let here : at_levels_of d qs other ≡ j = shown_by d other q' e' (position (is_of d) q'.levels) refl
-          ∙ placed d other j q' e' (position (is_of d) q'.levels) refl (subst (λ (n : ℕ). IsLevelOf n q'.levels j) same at') in
+      ∙ placed d other j q' e' (position (is_of d) q'.levels) refl (subst (λ (n : ℕ). IsLevelOf n q'.levels j) same at') in
       omega (arith, here)
 
   -- The cut that shows one process at a private level, and all others as they are.
@@ -143,7 +143,7 @@ module _ {S E P : Type 0} {x : Parts S E P} {Known : ℕ → Process S S → Typ
         arith,
         cut.erased.sent c ends a.process b.process channel a.there b.there,
         ap (λ (t : S). x.sent t c) (sends a.process a.shows),
-        ap (λ (t : S). x.taken t c) (takes b.process b.shows)
+        ap (λ (t : S). x.taken t c) (takes b.process b.shows),
       )
 
   -- the receiver as it is
@@ -173,9 +173,9 @@ module _ {S E P : Type 0} {x : Parts S E P} {Known : ℕ → Process S S → Typ
   outside i d level at of_d apart (Some j) e =
       let m : IsLevelOf d receiver.levels j = level_at_place d j receiver.levels e in
       let same : j ≡ i = same_number x.groups receiver.levels sender.levels
-          (laws.nested ends.receiver receiver (shown.ground.each ends.receiver receiver there').known)
-          (laws.nested ends.sender sender (shown.ground.each ends.sender sender there).known)
-          j i d m (record { level = level; there = at; of_it = of_d }) in
+      (laws.nested ends.receiver receiver (shown.ground.each ends.receiver receiver there').known)
+      (laws.nested ends.sender sender (shown.ground.each ends.sender sender there).known)
+      j i d m (record { level = level; there = at; of_it = of_d }) in
       absurd (shared_same d level.facts.conversation m.level.facts.conversation of_d m.of_it
       (apart m.level (subst (λ (n : ℕ). slice_get receiver.levels n ≡ Some m.level) same m.there)))
 

@@ -1,5 +1,5 @@
 -- Released lines of lists of turns that are joined, and of turns that released nothing.
-use Rattle.std.proofs.Common.{◌≡◌, ℕ, suc, ◌+◌, List, [], ◌∷◌, ◌++◌, length, map, slice_get, Some, refl, sym, ap, ap₂, ◌∙◌, subst, append_assoc, append-nil, arith}
+use Rattle.std.proofs.Common.{◌≡◌, ℕ, suc, ◌+◌, List, [], ◌∷◌, ◌++◌, length, map, refl, sym, ap, ap₂, ◌∙◌, append_assoc, append-nil, arith}
 use Rattle.rb_world.specs.Turn.{Told}
 use Rattle.rb_world.specs.Standing.{Each}
 use Rattle.rb_world.specs.Erased.{Released, numbered, released_from, released_in}

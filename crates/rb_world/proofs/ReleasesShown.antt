@@ -1,18 +1,16 @@
 -- Erasure, the end of a turn: held lines are released, in the run and in the plain run alike, and every consistent cut is shown.
-use Rattle.std.proofs.Common.{◌≡◌, ◌≤◌, ◌<◌, ◌+◌, ℕ, suc, List, [], ◌∷◌, ◌++◌, length, map, option_map, slice_get, Some, refl, sym, ap, ap₂, ◌∙◌, subst, append-nil, length-append, arith}
+use Rattle.std.proofs.Common.{◌≡◌, ◌+◌, ℕ, List, [], ◌∷◌, ◌++◌, length, map, option_map, refl, sym, ap, ap₂, ◌∙◌, subst, append-nil, length-append, arith}
 use Rattle.std.proofs.lemmas.List.{length-map}
 use Rattle.std.proofs.lemmas.Option.{slice_get-map}
-use Rattle.rb_world.specs.Kind.{Ends}
 use Rattle.rb_world.specs.World.{Level, Process, World, change_at, with_each}
-use Rattle.rb_world.specs.Turn.{Moved, Told, finishes, freed, freed_lines, lines_freed, state_freed, told}
-use Rattle.rb_world.specs.Plain.{Kept, Ended, plain_moves, plain_run, plain_turn, plain_turned, survivors_of}
+use Rattle.rb_world.specs.Turn.{Told, freed, freed_lines, state_freed, told}
+use Rattle.rb_world.specs.Plain.{Kept, plain_run, plain_turned, survivors_of}
 use Rattle.rb_world.specs.Standing.{Each}
 use Rattle.rb_world.specs.Erased.{Released, Rises, numbered, released_from, released_in}
 use Rattle.rb_world.proofs.Invariant.{BothBetween, Releases}
-use Rattle.rb_world.proofs.ListFacts.{none_some, some_same}
 use Rattle.rb_world.proofs.Erasable.{Nothing, Parts, whole, plain, IsErasable}
 use Rattle.rb_world.proofs.Cuts.{IsConsistent, Shows}
-use Rattle.rb_world.proofs.ErasureInvariant.{IsGrounded, IsQuiet, kept_in, AreBefore, AreSent, IsErased, ShowsCut, KeepsTurn, ShowsAfter, StaysShown, TurnKept, ErasedBefore, ErasedAfter, GroundedAfter}
+use Rattle.rb_world.proofs.ErasureInvariant.{IsGrounded, IsQuiet, kept_in, AreBefore, AreSent, ShowsCut, KeepsTurn, ShowsAfter, StaysShown, TurnKept, ErasedBefore, ErasedAfter, GroundedAfter}
 use Rattle.rb_world.proofs.SurvivorsGrow.{before_grows, before_next, plain_run_more, rises_more, survivors_below, survivors_grow}
 use Rattle.rb_world.proofs.ReleasedLines.{released_from-none, released_in-more, released_next}
 use Rattle.rb_world.proofs.FreedShown.{IsImageAt, all_freed_same, all_freed_shown, all_lines_freed_none, all_lines_shown, get_mapped}
@@ -73,7 +71,7 @@ module _ {S E P : Type 0} {x : Parts S E P} {Known : ℕ → Process S S → Typ
         freed_sent s.origin.state s.origin.levels c,
         freed_taken r.origin.state r.origin.levels c,
         ap (λ (u : Process S P). x.sent u.state c) s.same,
-        ap (λ (u : Process S P). x.taken u.state c) r.same
+        ap (λ (u : Process S P). x.taken u.state c) r.same,
       )
 
   -- the newest kept turn, in the plain run and in its record

@@ -1,6 +1,6 @@
 -- A record that gains its newest turn: the survivors gain it at their end, their turns still rise, and the plain run goes on by one
 -- turn, with what is told of it.
-use Rattle.std.proofs.Common.{◌≡◌, ◌≤◌, ◌<◌, ◌+◌, ℕ, zero, suc, Bool, true, false, cond, List, [], ◌∷◌, ◌++◌, length, map, slice_get, Option, Some, None, refl, sym, ap, ap₂, ◌∙◌, subst, nat_lt, le-ltb, lt-ltb, arith}
+use Rattle.std.proofs.Common.{◌≡◌, ◌≤◌, ◌<◌, ◌+◌, ℕ, zero, suc, Bool, true, false, cond, List, [], ◌∷◌, ◌++◌, length, Option, Some, None, refl, ap, ◌∙◌, subst, nat_lt, le-ltb, lt-ltb, arith}
 use Rattle.rb_world.specs.Kind.{Kind}
 use Rattle.rb_world.specs.World.{World, change_at}
 use Rattle.rb_world.specs.Turn.{Told}
