@@ -21,6 +21,7 @@ get_mapped f (x ∷ xs) zero y e = record { origin = x; there = refl; same = som
 get_mapped f (x ∷ xs) (suc r) y e =
     let found = get_mapped f xs r y e in record { origin = found.origin; there = found.there; same = found.same }
 
+-- where nothing changes
 pub map_same : {A : Type 0} (f : A → A) (xs : List A) → Each (λ _ x. f x ≡ x) xs → map f xs ≡ xs
 map_same {A} f [] same = refl
 map_same {A} f (x ∷ xs) same = ap₂ (λ (y : A) (ys : List A). y ∷ ys) (same 0 x refl) (map_same f xs (λ r. same (suc r)))

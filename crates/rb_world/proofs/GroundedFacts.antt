@@ -119,6 +119,7 @@ module _ {S E P : Type 0} {x : Parts S E P} {Known : ℕ → Process S S → Typ
 
 -- The changes, one by one.
 module _ {S E P : Type 0} {x : Parts S E P} {Known : ℕ → Process S S → Type 0} (keeps : KeepsEach (whole x) Known) (laws : IsErasable x Known) where
+  -- a turn is counted, and a level goes on to its next alternate
   pub used-grounded : (r : ℕ) (q : Process S S) → IsGrounded x Known r q → IsGrounded x Known r (turn_used q)
   used-grounded r q h = grounded_same r (turn_used q) (keeps.counts r q h.known)
       (ordered_from x (turn_used q).levels q.levels q.state q.state (from_used q.levels) (front_same x q.state) (ordered h))
@@ -229,5 +230,6 @@ module _ {S E P : Type 0} {x : Parts S E P} {Known : ℕ → Process S S → Typ
       (released-ordered q.state q.levels (ordered h)) h.bare
       (λ e. released-lost q.state q.levels (h.bare e))
 
+  -- after it nobody without a level holds a line
   pub freed-quiet : (r : ℕ) (q : Process S S) → IsQuiet x r (freed (whole x) q)
   freed-quiet r q e = released-lost q.state q.levels e

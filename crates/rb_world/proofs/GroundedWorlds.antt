@@ -40,6 +40,7 @@ module _ {S E P : Type 0} (x : Parts S E P) where
   reset_each P below d (talk ∷ talks) first each (suc r) other e =
       reset_each (λ n. P (suc n)) below (d + 1) talks (λ n. first (suc n)) (λ n. each (suc n)) r other e
 
+  -- so it is where conversations below another, or one, begin again, go on, or break
   pub reset-breaks : (c : ℕ) (talks : List Talk) → BreaksOutside x talks → BreaksOutside x (reset_below x.groups c talks)
   reset-breaks c talks h = reset_each Breaks _ 0 talks (λ n talk one. one) h
 
@@ -53,6 +54,7 @@ module _ {S E P : Type 0} (x : Parts S E P) where
       → BreaksOutside x (change_at c broken_talk talks)
   broken-breaks c talks alone h = Each-change_at Breaks c broken_talk talks h (λ talk e broken. alone)
 
+  -- none is broken at the opening
   pub opening-breaks : (c : ℕ) (talk : Talk) (groups : List _) → slice_get (opening_talks groups) c ≡ Some talk → talk.is_broken ≡ false
   opening-breaks c talk [] e = absurd (none_some e)
   opening-breaks zero talk (g ∷ groups) e = ap (λ (t : Talk). t.is_broken) (sym (some_same e))
@@ -71,6 +73,7 @@ module _ {S E P : Type 0} (x : Parts S E P) where
   place-quiet r None q quiet = quiet
   place-quiet r (Some j) q quiet = back-quiet r j q quiet
 
+  -- who has no level after a turn was counted had none
   pub map_none : (levels : List (Level S)) → map one_used levels ≡ [] → levels ≡ []
   map_none [] e = refl
   map_none (l ∷ levels) e = absurd (some_none (ap (λ (ls : List (Level S)). slice_get ls 0) e))
@@ -84,6 +87,7 @@ module _ {S E P : Type 0} {x : Parts S E P} {Known : ℕ → Process S S → Typ
   abbrev pub EachGrounded : List (Process S S) → Type 0
   EachGrounded qs = Each (IsGrounded x Known) qs
 
+  -- one process gets a new state
   pub set-grounded : (p : ℕ) (q : Process S S) (qs : List (Process S S)) → EachGrounded qs → IsGrounded x Known p q → EachGrounded (change_at p (λ _. q) qs)
   set-grounded p q qs each new = Each-change_at (IsGrounded x Known) p (λ _. q) qs each (λ _ _. new)
 
@@ -91,6 +95,7 @@ module _ {S E P : Type 0} {x : Parts S E P} {Known : ℕ → Process S S → Typ
   place-grounded r None q h = h
   place-grounded r (Some j) q h = back-grounded keeps laws r j q h
 
+  -- all that are inside a conversation are put back, or raised
   pub all_back-grounded : (c : ℕ) (qs : List (Process S S)) → EachGrounded qs → EachGrounded (map (where_inside (put_back (whole x)) c) qs)
   all_back-grounded c qs each = Each-map (IsGrounded x Known) (where_inside (put_back (whole x)) c) qs each
       (λ r q _. place-grounded r (position (is_of c) q.levels) q)

@@ -21,6 +21,7 @@ get_take (suc n) [] i y e = absurd (none_some e)
 get_take (suc n) (x ∷ xs) zero y e = (omega arith, e)
 get_take (suc n) (x ∷ xs) (suc i) y e = let found = get_take n xs i y e in (omega (arith, found.0), found.1)
 
+-- and in a list without its last element
 pub get_without_last : {A : Type 0} (xs : List A) (i : ℕ) (y : A) → slice_get (without_last xs) i ≡ Some y → slice_get xs i ≡ Some y
 get_without_last [] i y e = absurd (none_some e)
 get_without_last (x ∷ []) i y e = absurd (none_some e)
@@ -36,6 +37,7 @@ one_further : {A : Type 0} (x : A) (xs : List A) (new : A) (i : ℕ) (y : A) →
 one_further x xs new i y (IsOld e) = IsOld e
 one_further x xs new i y (IsNew e same) = IsNew (ap suc e) same
 
+-- one of the old ones, or the new one
 pub get_more : {A : Type 0} (xs : List A) (new : A) (i : ℕ) (y : A) → slice_get (xs ++ new ∷ []) i ≡ Some y → IsOldOrNew xs new i y
 get_more [] new zero y e = IsNew refl (some_same e)
 get_more [] new (suc i) y e = absurd (none_some e)
@@ -52,6 +54,7 @@ any_below test [] e = absurd (true≢false (sym e))
 any_below test (x ∷ xs) e =
     first_below (test x) (list_any test xs) (position_or_len test xs) (length xs) (any_below test xs) e
 
+-- so its place is found
 pub no_place : {A : Type 0} (test : A → Bool) (xs : List A) → list_any test xs ≡ true → position test xs ≡ None → ⊥
 no_place test xs any none =
     some_none
@@ -62,6 +65,7 @@ pub take_first : {A : Type 0} (xs : List A) (y : A) → slice_get xs 0 ≡ Some 
 take_first [] y e = absurd (none_some e)
 take_first {A} (x ∷ xs) y e = ap (λ (z : A). z ∷ []) (some_same e)
 
+-- what has an element is not empty up to it
 pub take_some : {A : Type 0} (j : ℕ) (xs : List A) (y : A) → slice_get xs j ≡ Some y → take (j + 1) xs ≡ [] → ⊥
 take_some j [] y e none = none_some e
 take_some {A} j (x ∷ xs) y e none =
@@ -86,6 +90,7 @@ or_true true = refl
 or_true false = refl
 
 module _ {C : Type 0} where
+  -- so it is with the same levels, the first of them, all but the last, and levels that used a turn or are raised
   pub from_same : (levels : List (Level C)) → AreFrom levels levels
   from_same levels i level e = record { level = level; there = e; same = refl }
 

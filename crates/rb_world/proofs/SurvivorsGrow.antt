@@ -83,10 +83,6 @@ insert_all-grows t p a ((u, b) ∷ turns) others earlier below =
     ap (insert_kept one) (insert_all-grows t p a turns others (λ i. earlier (suc i)) below)
     ∙ insert_before_newest one newest (insert_all p turns others) (earlier zero (u, b) refl)
 
--- the kept turns of process p with one more
-abbrev pub one_more : ℕ → ℕ → List (ℕ × ℕ) → List (ℕ × ℕ)
-one_more t a list = list ++ (t, a) ∷ []
-
 survivors_from-grow : (t p a n : ℕ) (turns : List (List (ℕ × ℕ))) → AreBefore t turns → suc p ≤ length turns
     → survivors_from n (change_at p (λ list. list ++ (t, a) ∷ []) turns) ≡ survivors_from n turns ++ record { turn = t; process = n + p; alternate = a } ∷ []
 survivors_from-grow t p a n [] before here = absurd (omega (arith, here))
@@ -105,16 +101,17 @@ survivors_grow t p a turns before here =
     survivors_from-grow t p a 0 turns before here
     ∙ ap (λ (m : ℕ). survivors_of turns ++ record { turn = t; process = m; alternate = a } ∷ []) (omega arith)
 
--- with it, kept turns are before the next turn
 Each-more : {A : Type 0} (P : A → Type 0) (xs : List A) (y : A) → Each (λ _. P) xs → P y → Each (λ _. P) (xs ++ y ∷ [])
 Each-more P [] y each new zero x e = subst P (some_same e) new
 Each-more P [] y each new (suc i) x e = absurd (none_some e)
 Each-more P (x ∷ xs) y each new zero z e = each zero z e
 Each-more P (x ∷ xs) y each new (suc i) z e = Each-more P xs y (λ n. each (suc n)) new i z e
 
+-- kept turns are before the next turn
 pub before_next : (t : ℕ) (turns : List (List (ℕ × ℕ))) → AreBefore t turns → AreBefore (t + 1) turns
 before_next t turns before r list e i one e' = omega (arith, before r list e i one e')
 
+-- so are they with the newest one among them
 pub before_grows : (t p a : ℕ) (turns : List (List (ℕ × ℕ))) → AreBefore t turns → AreBefore (t + 1) (change_at p (λ list. list ++ (t, a) ∷ []) turns)
 before_grows t p a turns before =
     Each-change_at (λ r list. Each (λ i one. one.0 < t + 1) list) p (λ list. list ++ (t, a) ∷ []) turns (before_next t turns before)
