@@ -29,3 +29,13 @@ pub mod Erasable
 pub mod Cuts
 pub mod ErasureInvariant
 pub mod ShownFacts
+pub mod SurvivorsGrow
+pub mod ReleasedLines
+pub mod LevelFacts
+pub mod GroundedFacts
+pub mod GroundedWorlds
+pub mod Grounded
+pub mod FreedShown
+pub mod ReleasesShown
+pub mod Erasure
+pub mod ReceiptsStand
