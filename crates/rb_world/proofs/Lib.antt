@@ -29,3 +29,6 @@ pub mod Erasable
 pub mod Cuts
 pub mod ErasureInvariant
 pub mod ShownFacts
+-- A present process goes on in the plain run as it does in the run.
+pub mod PresentShown
+pub mod RoomShown
