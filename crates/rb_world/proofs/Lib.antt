@@ -32,3 +32,4 @@ pub mod ShownFacts
 -- A present process goes on in the plain run as it does in the run.
 pub mod PresentShown
 pub mod RoomShown
+pub mod SeenShown
