@@ -33,3 +33,4 @@ pub mod ShownFacts
 pub mod PresentShown
 pub mod RoomShown
 pub mod SeenShown
+pub mod ChannelsShown
