@@ -34,3 +34,4 @@ pub mod PresentShown
 pub mod RoomShown
 pub mod SeenShown
 pub mod ChannelsShown
+pub mod StepsShown
