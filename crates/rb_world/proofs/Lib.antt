@@ -35,3 +35,4 @@ pub mod RoomShown
 pub mod SeenShown
 pub mod ChannelsShown
 pub mod StepsShown
+pub mod OneChanged
