@@ -36,3 +36,4 @@ pub mod SeenShown
 pub mod ChannelsShown
 pub mod StepsShown
 pub mod OneChanged
+pub mod GoesShown
