@@ -2,14 +2,14 @@
 -- sent in the state in which the cut shows the sender. With the room of a present sender (RoomShown) that is all that a step
 -- asks of channels.
 -- All of it is this project's own.
-use Rattle.std.proofs.Common.{◌≡◌, ◌≤◌, ◌<◌, ℕ, ℤ, Bool, true, false, cond, List, length, slice_get, Option, Some, None, refl, sym, ap, ◌∙◌, subst, nat_lt, ltb-true, arith}
+use Rattle.std.proofs.Common.{◌≡◌, ◌≤◌, ◌<◌, ℕ, ℤ, Bool, true, false, cond, length, slice_get, Option, Some, None, refl, sym, ap, ◌∙◌, nat_lt, ltb-true, arith}
 use Rattle.std.proofs.lemmas.Option.{slice_get_within}
 use Rattle.rb_world.specs.Kind.{Ends}
-use Rattle.rb_world.specs.World.{Level, Process, World}
+use Rattle.rb_world.specs.World.{Process, World}
 use Rattle.rb_world.specs.Channels.{first_message, message_between, message_on, message_there, seen_copy, seen_count, seen_message}
 use Rattle.rb_world.proofs.ListFacts.{none_some}
 use Rattle.rb_world.proofs.Erasable.{IsErasable, Nothing, Parts, plain, whole}
-use Rattle.rb_world.proofs.Cuts.{IsConsistent, ShowsOne, plain_levels}
+use Rattle.rb_world.proofs.Cuts.{plain_levels}
 use Rattle.rb_world.proofs.ErasureInvariant.{IsGrounded}
 use Rattle.rb_world.proofs.ShownFacts.{get_showing}
 use Rattle.rb_world.proofs.PresentShown.{BothShown, IsPresent, as_is, both_shown, present_there}
@@ -36,7 +36,7 @@ module _ {S E P : Type 0} (x : Parts S E P) (Known : ℕ → Process S S → Typ
       → first_message (whole x) tt c s copy taken ≡ Some v → taken < x.sent s2 c
   first_less c s copy s2 point taken v sees e =
       let less : taken < seen_count (whole x) s copy c = ltb-true taken (seen_count (whole x) s copy c)
-          (is_there (nat_lt taken (seen_count (whole x) s copy c)) (seen_message (whole x) tt s copy c taken) v e) in
+      (is_there (nat_lt taken (seen_count (whole x) s copy c)) (seen_message (whole x) tt s copy c taken) v e) in
       omega (arith, less, sees.sent)
 
   between_same : (c n r : ℕ) (q : Process S S) (sender : Option (Process S S)) (other : Option (Process S P)) → BothShown x n sender other
@@ -81,10 +81,10 @@ module _ {S E P : Type 0} (x : Parts S E P) (Known : ℕ → Process S S → Typ
         let found = get_showing x f ends.sender w.processes v.processes sender here.shows there in
         let one : Process S S = found.process in
         let at : message_between (whole x) tt c (Some one) (Some q) ≡ Some value =
-            sym (ap (λ (o : Option (Process S S)). message_between (whole x) tt c o (Some q)) found.there)
-            ∙ (sym (ap (λ (o : Option (Process S S)). message_between (whole x) tt c (slice_get w.processes ends.sender) o)
-            (ap (slice_get w.processes) by ∙ here.there))
-            ∙ (sym (ap (message_on (whole x) w c) channel) ∙ message)) in
+        sym (ap (λ (o : Option (Process S S)). message_between (whole x) tt c o (Some q)) found.there)
+        ∙ (sym (ap (λ (o : Option (Process S S)). message_between (whole x) tt c (slice_get w.processes ends.sender) o)
+        (ap (slice_get w.processes) by ∙ here.there))
+        ∙ (sym (ap (message_on (whole x) w c) channel) ∙ message)) in
         first_less c one.state (seen_copy one.levels q.levels) sender.state (seen_copy sender.levels (plain_levels x q.levels)) (x.taken q.state c) value
         (sees_shown x Known laws c ends.sender (f ends.sender) one sender q.levels (here.grounded ends.sender one found.there)
         (apart_from_present ends.sender one found.there) found.shows) at

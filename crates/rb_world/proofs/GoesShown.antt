@@ -1,25 +1,27 @@
 -- A step that goes on keeps the invariant of erasure. A cut that shows the process at an older level sees nothing of the step;
 -- from any other the plain run does the same step.
+--
+-- Here what is known of a process has to be known after its step as well (`KeepsEach`): the law `runs` then tells that who has a level
+-- is not done, which a cut that shows an older level could not see.
 -- All of it is this project's own.
-use Rattle.std.proofs.Common.{◌≡◌, ◌⊎◌, ◌≤◌, ◌<◌, ◌+◌, ℕ, ℤ, suc, Bool, true, false, cond, List, [], ◌∷◌, ◌++◌, length, get_or, option_map, slice_get, Option, Some, None, refl, sym, ap, ◌∙◌, subst, inl, inr, nat_eq, eqb-true, arith, true≢false, le_trans, le_of_eq}
+use Rattle.std.proofs.Common.{◌≡◌, ◌⊎◌, ◌≤◌, ◌<◌, ℕ, ℤ, false, List, [], ◌∷◌, ◌++◌, length, get_or, option_map, slice_get, Option, Some, None, refl, sym, ap, ◌∙◌, subst, inl, inr, true≢false}
 use Rattle.std.proofs.lemmas.Option.{slice_get_cases, slice_get_within}
-use Rattle.rb_world.specs.Kind.{Ends, Kind, Want, NothingLeft, SendsOn, ReceivesOn, MayReceiveOn, Enters, Starts, Acts, Went}
-use Rattle.rb_world.specs.World.{Level, Status, Running, Process, World, change_at, goes_on, last_of, settled, status_at, with_process}
-use Rattle.rb_world.specs.Channels.{message_there}
+use Rattle.rb_world.specs.Kind.{Want, NothingLeft, SendsOn, ReceivesOn, MayReceiveOn, Enters, Starts, Acts, Went}
+use Rattle.rb_world.specs.World.{Level, Status, Running, Process, World, change_at, last_of, settled, status_at}
 use Rattle.rb_world.specs.Turn.{Told, copy_of, moved_to, took}
 use Rattle.rb_world.specs.Standing.{Each, is_failed}
-use Rattle.rb_world.proofs.TurnFacts.{IsReady, ToSend, ToReceive, ToReceiveIfThere, ToStart, ToAct, StepsAt}
+use Rattle.rb_world.proofs.TurnFacts.{StepsAt}
 use Rattle.rb_world.proofs.Invariant.{BothWithin, Goes}
 use Rattle.rb_world.proofs.EachProcess.{KeepsEach}
 use Rattle.rb_world.proofs.ListFacts.{Each-change_at, none_some, some_same}
-use Rattle.rb_world.proofs.Erasable.{IsErasable, Moves, Nothing, Parts, plain, receives_on, sends_by, takes_by, whole}
-use Rattle.rb_world.proofs.Cuts.{Alive, IsConsistent, Lost, Shows, ShowsOne, plain_levels, shown, shown_at}
-use Rattle.rb_world.proofs.ErasureInvariant.{AllShown, AreSent, ErasedAfter, ErasedWithin, Grounded, GroundedDuring, IsQuiet, KeepsTurn, ShowsAfter, ShowsCut, StaysShown, TurnKept}
+use Rattle.rb_world.proofs.Erasable.{IsErasable, Moves, Nothing, Parts, plain, whole}
+use Rattle.rb_world.proofs.Cuts.{Alive, IsConsistent, Lost, Shows, ShowsOne, plain_levels, shown_at}
+use Rattle.rb_world.proofs.ErasureInvariant.{AllShown, ErasedAfter, ErasedWithin, Grounded, GroundedDuring, IsQuiet, ShowsAfter, ShowsCut, StaysShown, TurnKept}
 use Rattle.rb_world.proofs.ShownFacts.{change_left_shown, change_shown}
 use Rattle.rb_world.proofs.PresentShown.{IsPresent, as_is, present_there, shown_present}
-use Rattle.rb_world.proofs.ChannelsShown.{taken_less}
 use Rattle.rb_world.proofs.StepsShown.{went_shown}
-use Rattle.rb_world.proofs.OneChanged.{consistent_before, kept_after, sent_after}
+use Rattle.rb_world.proofs.OneChanged.{consistent_before, kept_after}
+use Rattle.rb_world.proofs.MailShown.{sent_after_step}
 
 -- who goes on has not failed
 pub goes_on_well : (want : Want) → is_failed (status_at want) ≡ false
@@ -30,60 +32,6 @@ goes_on_well (MayReceiveOn c) = refl
 goes_on_well (Enters facts) = refl
 goes_on_well Starts = refl
 goes_on_well Acts = refl
-
-one_more : (b : Bool) (taken sent : ℕ) → taken ≤ sent → (b ≡ true → taken < sent) → taken + cond b 1 0 ≤ sent
-one_more true taken sent most less = omega (arith, less refl)
-one_more false taken sent most less = omega (arith, most)
-
-module _ {S E P : Type 0} (x : Parts S E P) (Known : ℕ → Process S S → Type 0) (laws : IsErasable x Known) where
-  module _ (f : ℕ → ℕ) (p : ℕ) (q : Process S S) (w : World S S Nothing) (v : World S P Nothing) (here : IsPresent x Known f p q w v) (before : AreSent x v) where
-    -- what a receipt takes was sent
-    takes_less : (c d : ℕ) (ends : Ends) (value : ℤ) (sender : Process S P) → receives_on (x.want q.state) ≡ Some c → message_there (whole x) w c ≡ Some value
-        → slice_get x.channels d ≡ Some ends → slice_get v.processes ends.sender ≡ Some sender → nat_eq c d ≡ true → x.taken q.state d < x.sent sender.state d
-    takes_less c d ends value sender wants message channel there same =
-        let e : c ≡ d = eqb-true c d same in
-        let channel_c : slice_get x.channels c ≡ Some ends = ap (slice_get x.channels) e ∙ channel in
-        subst (λ (n : ℕ). x.taken q.state n < x.sent sender.state n) e
-        (taken_less x Known laws f p q w v here c ends value sender channel_c
-        (laws.receives p q c ends (here.grounded p q here.there).known wants channel_c) message there)
-
-    takes_if_there : (c d : ℕ) (ends : Ends) (sender : Process S P) (message : Option ℤ) → receives_on (x.want q.state) ≡ Some c → message ≡ message_there (whole x) w c
-        → slice_get x.channels d ≡ Some ends → slice_get v.processes ends.sender ≡ Some sender → x.taken q.state d ≤ x.sent sender.state d
-        → x.taken q.state d + takes_by (MayReceiveOn c) message d ≤ x.sent sender.state d
-    takes_if_there c d ends sender None wants e channel there most = omega (arith, most)
-    takes_if_there c d ends sender (Some value) wants e channel there most =
-        one_more (nat_eq c d) (x.taken q.state d) (x.sent sender.state d) most
-        (takes_less c d ends value sender wants (sym e) channel there)
-
-    -- after a step, too, no more was taken than was sent
-    takes_within : (message : Option ℤ) → IsReady (whole x) q w message → (d : ℕ) (ends : Ends) (sender : Process S P) → slice_get x.channels d ≡ Some ends
-        → slice_get v.processes ends.sender ≡ Some sender → x.taken q.state d ≤ x.sent sender.state d
-        → x.taken q.state d + takes_by (x.want q.state) message d ≤ x.sent sender.state d
-    takes_within message (ToSend c wants room none) d ends sender channel there most =
-        subst (λ (want : Want). x.taken q.state d + takes_by want message d ≤ x.sent sender.state d) (sym wants) (omega (arith, most))
-    takes_within message (ToReceive c value wants found same) d ends sender channel there most =
-        subst (λ (want : Want). x.taken q.state d + takes_by want message d ≤ x.sent sender.state d) (sym wants)
-        (takes_if_there c d ends sender message (ap receives_on wants) (same ∙ sym found) channel there most)
-    takes_within message (ToReceiveIfThere c wants same) d ends sender channel there most =
-        subst (λ (want : Want). x.taken q.state d + takes_by want message d ≤ x.sent sender.state d) (sym wants)
-        (takes_if_there c d ends sender message (ap receives_on wants) same channel there most)
-    takes_within message (ToStart wants none) d ends sender channel there most =
-        subst (λ (want : Want). x.taken q.state d + takes_by want message d ≤ x.sent sender.state d) (sym wants) (omega (arith, most))
-    takes_within message (ToAct wants none) d ends sender channel there most =
-        subst (λ (want : Want). x.taken q.state d + takes_by want message d ≤ x.sent sender.state d) (sym wants) (omega (arith, most))
-
-    -- in the plain world after the step of a present process no more was taken than was sent
-    pub sent_after_step : (message : Option ℤ) (s next : S) (u : Process S P) → IsReady (whole x) q w message → Moves x message q.state s
-        → ((c : ℕ) → x.sent next c ≡ x.sent s c) → ((c : ℕ) → x.taken next c ≡ x.taken s c) → u.state ≡ next
-        → AreSent x (with_process p (λ _. u) v)
-    sent_after_step message s next u ready moves sent taken same =
-        sent_after x p (as_is x q) u v (present_there x Known f p q w v here) before
-        (λ c ends channel. subst (λ (one : S). x.sent q.state c ≤ x.sent one c) (sym same)
-        (le_trans (moves.front.shorter c) (le_of_eq (sym (sent c)))))
-        (λ c ends sender channel at is_sender. subst (λ (one : S). x.taken one c ≤ x.sent sender.state c) (sym same)
-        (le_trans (le_of_eq (taken c ∙ moves.taken c ends channel))
-        (takes_within message ready c ends sender channel is_sender
-        (before c ends sender (as_is x q) channel is_sender (ap (slice_get v.processes) at ∙ present_there x Known f p q w v here)))))
 
 module _ {S E P : Type 0} (x : Parts S E P) (Known : ℕ → Process S S → Type 0) (laws : IsErasable x Known) (keeps : KeepsEach (whole x) Known) (start : World S P Nothing) where
   module _ (t : ℕ) (past : List Told) (p : ℕ) (q : Process S S) (w : World S S Nothing) (alternate : ℕ) (message : Option ℤ) (s : S) (ground : Grounded x Known w) (all : AllShown x start t past w) (at : StepsAt (whole x) p q w alternate message) (step : x.step alternate (option_map x.environment (copy_of (last_of q.levels))) q.state message ≡ Went s tt) where
@@ -183,12 +131,12 @@ module _ {S E P : Type 0} (x : Parts S E P) (Known : ℕ → Process S S → Typ
 
     goes_one : (f : ℕ → ℕ) → IsConsistent f After.processes → ShowsAfter x start t past After f
     goes_one f consistent = by (slice_get_cases q.levels (f p)).1
-        where
-      by : ((level : Level S) × (f p < length q.levels) × (slice_get q.levels (f p) ≡ Some level) × (get_or q.levels (f p) level ≡ level)) ⊎ ((length q.levels ≤ f p) × (slice_get q.levels (f p) ≡ None))
-          → ShowsAfter x start t past After f
-      by (inl (level, _, there, _)) = older f level there (cut_before f consistent)
-      by (inr (past_all, _)) =
-          present f (consistent_before f p q Next w.processes at.acts.runs.there refl consistent) past_all (cut_before f consistent)
+      where
+        by : ((level : Level S) × (f p < length q.levels) × (slice_get q.levels (f p) ≡ Some level) × (get_or q.levels (f p) level ≡ level)) ⊎ ((length q.levels ≤ f p) × (slice_get q.levels (f p) ≡ None))
+            → ShowsAfter x start t past After f
+        by (inl (level, _, there, _)) = older f level there (cut_before f consistent)
+        by (inr (past_all, _)) =
+            present f (consistent_before f p q Next w.processes at.acts.runs.there refl consistent) past_all (cut_before f consistent)
 
   -- a step that goes on
   pub erased_goes : Goes (whole x) (BothWithin (GroundedDuring x Known) (ErasedWithin x start)) (ErasedAfter x start)

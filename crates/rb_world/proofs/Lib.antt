@@ -36,4 +36,5 @@ pub mod SeenShown
 pub mod ChannelsShown
 pub mod StepsShown
 pub mod OneChanged
+pub mod MailShown
 pub mod GoesShown

@@ -1,6 +1,6 @@
 -- Worlds in which one process was changed: its kept turns, what was sent and taken, and cuts that were consistent.
 -- All of it is this project's own.
-use Rattle.std.proofs.Common.{◌≡◌, ◌⊎◌, ◌≤◌, ℕ, zero, suc, List, [], ◌∷◌, ◌++◌, map, slice_get, Option, Some, None, refl, sym, ap, ◌∙◌, subst, inl, inr, le_trans, le_of_eq}
+use Rattle.std.proofs.Common.{◌≡◌, ◌⊎◌, ◌≤◌, ℕ, zero, suc, List, [], ◌∷◌, ◌++◌, map, slice_get, Some, refl, sym, ap, ◌∙◌, subst, inl, inr, le_trans, le_of_eq}
 use Rattle.rb_world.specs.Kind.{Ends}
 use Rattle.rb_world.specs.World.{Level, Process, World, change_at, with_process}
 use Rattle.rb_world.specs.Nested.{IsLevelOf}
@@ -17,10 +17,10 @@ replaced_get zero b (x ∷ xs) zero y e = inl (refl, sym (some_same e))
 replaced_get zero b (x ∷ xs) (suc r) y e = inr e
 replaced_get (suc p) b (x ∷ xs) zero y e = inr e
 replaced_get {A} (suc p) b (x ∷ xs) (suc r) y e = further (replaced_get p b xs r y e)
-    where
-  further : ((r ≡ p) × (y ≡ b)) ⊎ (slice_get xs r ≡ Some y) → ((suc r ≡ suc p) × (y ≡ b)) ⊎ (slice_get xs r ≡ Some y)
-  further (inl (same, new)) = inl (ap suc same, new)
-  further (inr old) = inr old
+  where
+    further : ((r ≡ p) × (y ≡ b)) ⊎ (slice_get xs r ≡ Some y) → ((suc r ≡ suc p) × (y ≡ b)) ⊎ (slice_get xs r ≡ Some y)
+    further (inl (same, new)) = inl (ap suc same, new)
+    further (inr old) = inr old
 
 -- a list that is mapped, with one element replaced
 map-replaced : {A B : Type 0} (g : A → B) (h : B → B) (p : ℕ) (a b : A) (xs : List A) → slice_get xs p ≡ Some a → g b ≡ h (g a)
@@ -63,18 +63,20 @@ module _ {S E P C : Type 0} (x : Parts S E P) where
       → AreSent x (with_process p (λ _. b) v)
   sent_after p a b v there before sends takes c ends sender receiver channel is_sender is_receiver =
       either (replaced_get p b v.processes ends.sender sender is_sender) (replaced_get p b v.processes ends.receiver receiver is_receiver)
-      where
-    new_sender : ends.sender ≡ p → sender ≡ b → x.sent a.state c ≤ x.sent sender.state c
-    new_sender at new = subst (λ (z : Process S C). x.sent a.state c ≤ x.sent z.state c) (sym new) (sends c ends channel)
-    new_receiver : (one : Process S C) → ends.receiver ≡ p → receiver ≡ b → slice_get v.processes ends.sender ≡ Some one → x.taken receiver.state c ≤ x.sent one.state c
-    new_receiver one at new old = subst (λ (z : Process S C). x.taken z.state c ≤ x.sent one.state c) (sym new) (takes c ends one channel at old)
-    either : ((ends.sender ≡ p) × (sender ≡ b)) ⊎ (slice_get v.processes ends.sender ≡ Some sender)
-        → ((ends.receiver ≡ p) × (receiver ≡ b)) ⊎ (slice_get v.processes ends.receiver ≡ Some receiver) → x.taken receiver.state c ≤ x.sent sender.state c
-    either (inr old) (inr old2) = before c ends sender receiver channel old old2
-    either (inr old) (inl (at, new)) = new_receiver sender at new old
-    either (inl (at, new)) (inr old) = le_trans (before c ends a receiver channel (ap (slice_get v.processes) at ∙ there) old) (new_sender at new)
-    either (inl (at, new)) (inl (at2, new2)) =
-        le_trans (new_receiver a at2 new2 (ap (slice_get v.processes) at ∙ there)) (new_sender at new)
+    where
+      new_sender : ends.sender ≡ p → sender ≡ b → x.sent a.state c ≤ x.sent sender.state c
+      new_sender at new = subst (λ (z : Process S C). x.sent a.state c ≤ x.sent z.state c) (sym new) (sends c ends channel)
+
+      new_receiver : (one : Process S C) → ends.receiver ≡ p → receiver ≡ b → slice_get v.processes ends.sender ≡ Some one → x.taken receiver.state c ≤ x.sent one.state c
+      new_receiver one at new old = subst (λ (z : Process S C). x.taken z.state c ≤ x.sent one.state c) (sym new) (takes c ends one channel at old)
+
+      either : ((ends.sender ≡ p) × (sender ≡ b)) ⊎ (slice_get v.processes ends.sender ≡ Some sender)
+          → ((ends.receiver ≡ p) × (receiver ≡ b)) ⊎ (slice_get v.processes ends.receiver ≡ Some receiver) → x.taken receiver.state c ≤ x.sent sender.state c
+      either (inr old) (inr old2) = before c ends sender receiver channel old old2
+      either (inr old) (inl (at, new)) = new_receiver sender at new old
+      either (inl (at, new)) (inr old) = le_trans (before c ends a receiver channel (ap (slice_get v.processes) at ∙ there) old) (new_sender at new)
+      either (inl (at, new)) (inl (at2, new2)) =
+          le_trans (new_receiver a at2 new2 (ap (slice_get v.processes) at ∙ there)) (new_sender at new)
 
   -- the same where the process has sent and taken what it had
   pub sent_same : (p : ℕ) (a b : Process S C) (v : World S C Nothing) → slice_get v.processes p ≡ Some a → AreSent x v → SameMail x a.state b.state

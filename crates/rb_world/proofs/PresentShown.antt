@@ -1,8 +1,8 @@
 -- A process that a cut shows as it is: what is known of it, of the world, and of the plain world that shows the cut.
 -- All of it is this project's own.
-use Rattle.std.proofs.Common.{◌≡◌, ◌≤◌, ℕ, zero, suc, Bool, true, false, List, [], ◌∷◌, length, slice_get, Option, Some, None, refl, sym, ap, ◌∙◌, subst, true≢false}
+use Rattle.std.proofs.Common.{◌≡◌, ◌≤◌, ℕ, zero, suc, false, List, [], ◌∷◌, length, slice_get, Option, Some, None, sym, ap, ◌∙◌, true≢false}
 use Rattle.std.proofs.lemmas.Option.{slice_get_past}
-use Rattle.rb_world.specs.World.{Level, Running, Process, World}
+use Rattle.rb_world.specs.World.{Running, Process, World}
 use Rattle.rb_world.specs.Standing.{Each, is_failed}
 use Rattle.rb_world.proofs.Erasable.{Nothing, Parts}
 use Rattle.rb_world.proofs.Cuts.{Alive, Lost, IsConsistent, Shows, ShowsOne, plain_levels, shown, shown_at}
@@ -30,6 +30,7 @@ pub record IsPresent {S E P : Type 0} (x : Parts S E P) (Known : ℕ → Process
   pub grounded : Each (IsGrounded x Known) w.processes
 
 module _ {S E P : Type 0} (x : Parts S E P) where
+  -- a process and who shows it are looked up together
   pub both_shown : (f : ℕ → ℕ) (r : ℕ) (qs : List (Process S S)) (us : List (Process S P)) → Shows x f qs us
       → BothShown x (f r) (slice_get qs r) (slice_get us r)
   both_shown f r [] [] shows = tt
@@ -42,6 +43,7 @@ module _ {S E P : Type 0} (x : Parts S E P) where
   pub shown_present : (n : ℕ) (q : Process S S) → length q.levels ≤ n → shown x n q ≡ as_is x q
   shown_present n q past = ap (shown_at x n q) (slice_get_past q.levels n past)
 
+  -- one that has not failed and has no level of that number is shown as it is
   pub present_one : (n : ℕ) (q : Process S S) (u : Process S P) → is_failed q.status ≡ false → length q.levels ≤ n → ShowsOne x n q u → u ≡ as_is x q
   present_one n q u well past (Alive alive e) = e ∙ shown_present n q past
   present_one n q u well past (Lost failed state line own) = absurd (true≢false (sym failed ∙ well))

@@ -1,14 +1,14 @@
 -- A present process has the same room to send in the world that a cut shows: room counts from the receiver's outermost recovery
 -- point, which every cut shows, or from its present state if it has none.
 -- All of it is this project's own.
-use Rattle.std.proofs.Common.{◌≡◌, ◌+◌, ℕ, zero, suc, Bool, true, List, [], ◌∷◌, take, slice_get, Option, Some, None, refl, sym, ap, ◌∙◌, subst, nat_lt, add-one}
+use Rattle.std.proofs.Common.{◌≡◌, ◌+◌, ℕ, suc, true, List, [], ◌∷◌, take, slice_get, Option, Some, None, refl, sym, ap, ◌∙◌, subst, nat_lt, add-one}
 use Rattle.rb_world.specs.Kind.{Ends}
 use Rattle.rb_world.specs.World.{Level, Process, World}
 use Rattle.rb_world.specs.Channels.{has_room, has_room_for, has_room_on, room_from}
 use Rattle.rb_world.specs.Standing.{is_failed}
 use Rattle.rb_world.proofs.ListFacts.{none_some}
 use Rattle.rb_world.proofs.Erasable.{IsErasable, Nothing, Parts, plain, whole}
-use Rattle.rb_world.proofs.Cuts.{Alive, AreOwn, Lost, ShowsOne, plain_levels, shown, shown_at}
+use Rattle.rb_world.proofs.Cuts.{Alive, AreOwn, Lost, ShowsOne, plain_levels, shown_at}
 use Rattle.rb_world.proofs.PresentShown.{BothShown, IsPresent, as_is, both_shown, present_there}
 
 module _ {S E P : Type 0} (x : Parts S E P) (Known : ℕ → Process S S → Type 0) (laws : IsErasable x Known) where

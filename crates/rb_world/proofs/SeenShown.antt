@@ -1,13 +1,13 @@
 -- What a present receiver sees of a sender that a cut shows: the sender's first level that it does not share with the receiver
 -- is at or outside the level at which the cut shows it, so as many messages are seen, and the same ones.
 -- All of it is this project's own.
-use Rattle.std.proofs.Common.{◌≡◌, ◌⊎◌, ◌≤◌, ◌<◌, ℕ, zero, suc, Bool, true, false, cond, List, [], ◌∷◌, take, option_map, slice_get, Option, Some, None, refl, sym, ap, ◌∙◌, subst, subst₂, inl, inr, nat_eq, eqb-true, add-one, arith, true≢false, le_refl}
-use Rattle.rb_world.specs.World.{Level, Process, World, is_shared}
+use Rattle.std.proofs.Common.{◌≡◌, ◌⊎◌, ◌≤◌, ◌<◌, ℕ, zero, suc, Bool, true, false, cond, List, [], ◌∷◌, take, option_map, slice_get, Option, Some, None, refl, sym, ap, ◌∙◌, subst, subst₂, inl, inr, eqb-true, add-one, arith, true≢false, le_refl}
+use Rattle.rb_world.specs.World.{Level, Process, is_shared}
 use Rattle.rb_world.specs.Channels.{seen_copy, seen_count, seen_message}
 use Rattle.rb_world.specs.Nested.{IsLevelOf}
-use Rattle.rb_world.proofs.ListFacts.{none_some, some_same}
-use Rattle.rb_world.proofs.Erasable.{IsErasable, IsFront, Nothing, Parts, plain, whole}
-use Rattle.rb_world.proofs.Cuts.{Alive, AreOwn, Lost, ShowsOne, plain_levels, shown, shown_at}
+use Rattle.rb_world.proofs.ListFacts.{none_some}
+use Rattle.rb_world.proofs.Erasable.{IsErasable, IsFront, Parts, plain, whole}
+use Rattle.rb_world.proofs.Cuts.{Alive, AreOwn, Lost, ShowsOne, plain_levels, shown_at}
 use Rattle.rb_world.proofs.ErasureInvariant.{IsGrounded}
 
 -- levels of one conversation, by the test
@@ -22,12 +22,12 @@ seen_place : {C : Type 0} (ls ms : List (Level C))
 seen_place [] ms = inl refl
 seen_place (l ∷ ls) [] = inr (0, l, refl, refl)
 seen_place {C} (l ∷ ls) (m ∷ ms) = further (is_shared l.facts.conversation m.facts.conversation) (seen_place ls ms)
-    where
-  further : (b : Bool) → (seen_copy ls ms ≡ None) ⊎ ((i : ℕ) × (level : Level C) × (slice_get ls i ≡ Some level) × (seen_copy ls ms ≡ Some level.copy))
-      → (cond b (seen_copy ls ms) (Some l.copy) ≡ None) ⊎ ((i : ℕ) × (level : Level C) × (slice_get (l ∷ ls) i ≡ Some level) × (cond b (seen_copy ls ms) (Some l.copy) ≡ Some level.copy))
-  further false rest = inr (0, l, refl, refl)
-  further true (inl e) = inl e
-  further true (inr (i, level, there, e)) = inr (suc i, level, there, e)
+  where
+    further : (b : Bool) → (seen_copy ls ms ≡ None) ⊎ ((i : ℕ) × (level : Level C) × (slice_get ls i ≡ Some level) × (seen_copy ls ms ≡ Some level.copy))
+        → (cond b (seen_copy ls ms) (Some l.copy) ≡ None) ⊎ ((i : ℕ) × (level : Level C) × (slice_get (l ∷ ls) i ≡ Some level) × (cond b (seen_copy ls ms) (Some l.copy) ≡ Some level.copy))
+    further false rest = inr (0, l, refl, refl)
+    further true (inl e) = inl e
+    further true (inr (i, level, there, e)) = inr (suc i, level, there, e)
 
 -- What is seen is the recovery point of a level at or outside number n, and so it is if the levels further in than n are not there.
 record IsSeenOutside {C : Type 0} (n : ℕ) (ls ms : List (Level C)) : Type 0 where
@@ -95,11 +95,11 @@ module _ {S E P : Type 0} (x : Parts S E P) (Known : ℕ → Process S S → Typ
   seen_plain [] ms = refl
   seen_plain (l ∷ ls) [] = refl
   seen_plain (l ∷ ls) (m ∷ ms) = further (is_shared l.facts.conversation m.facts.conversation) (seen_plain ls ms)
-      where
-    further : (b : Bool) → seen_copy (plain_levels x ls) (plain_levels x ms) ≡ option_map x.point (seen_copy ls ms)
-        → cond b (seen_copy (plain_levels x ls) (plain_levels x ms)) (Some (x.point l.copy)) ≡ option_map x.point (cond b (seen_copy ls ms) (Some l.copy))
-    further true e = e
-    further false e = refl
+    where
+      further : (b : Bool) → seen_copy (plain_levels x ls) (plain_levels x ms) ≡ option_map x.point (seen_copy ls ms)
+          → cond b (seen_copy (plain_levels x ls) (plain_levels x ms)) (Some (x.point l.copy)) ≡ option_map x.point (cond b (seen_copy ls ms) (Some l.copy))
+      further true e = e
+      further false e = refl
 
   sees_now : (c : ℕ) (s : S) → SeesSame x c s None s None
   sees_now c s = record { count = refl; same = λ i less. refl; sent = le_refl (x.sent s c) }
@@ -123,23 +123,23 @@ module _ {S E P : Type 0} (x : Parts S E P) (Known : ℕ → Process S S → Typ
   sees_own c s [] ms own = sees_now c s
   sees_own c s (l ∷ ls) [] own = sees_first c s l.copy own.0
   sees_own c s (l ∷ ls) (m ∷ ms) own = further (is_shared l.facts.conversation m.facts.conversation) (sees_own c s ls ms own.1)
-      where
-    further : (b : Bool) → SeesSame x c s None s (seen_copy ls ms) → SeesSame x c s None s (cond b (seen_copy ls ms) (Some l.copy))
-    further true rest = rest
-    further false rest = sees_first c s l.copy own.0
+    where
+      further : (b : Bool) → SeesSame x c s None s (seen_copy ls ms) → SeesSame x c s None s (cond b (seen_copy ls ms) (Some l.copy))
+      further true rest = rest
+      further false rest = sees_first c s l.copy own.0
 
   -- a sender that is shown as it is
   sees_all : (c r : ℕ) (q : Process S S) (ms : List (Level S)) → IsGrounded x Known r q
       → SeesSame x c q.state (seen_copy q.levels ms) q.state (seen_copy (plain_levels x q.levels) (plain_levels x ms))
   sees_all c r q ms ground =
       subst (SeesSame x c q.state (seen_copy q.levels ms) q.state) (sym (seen_plain q.levels ms)) (by (seen_place q.levels ms))
-      where
-    by : (seen_copy q.levels ms ≡ None) ⊎ ((i : ℕ) × (level : Level S) × (slice_get q.levels i ≡ Some level) × (seen_copy q.levels ms ≡ Some level.copy))
-        → SeesSame x c q.state (seen_copy q.levels ms) q.state (option_map x.point (seen_copy q.levels ms))
-    by (inl e) = subst (λ (o : Option S). SeesSame x c q.state o q.state (option_map x.point o)) (sym e) (sees_now c q.state)
-    by (inr (i, level, there, e)) =
-        subst (λ (o : Option S). SeesSame x c q.state o q.state (option_map x.point o)) (sym e)
-        (sees_copy c q.state level.copy q.state (ground.before_now i level there))
+    where
+      by : (seen_copy q.levels ms ≡ None) ⊎ ((i : ℕ) × (level : Level S) × (slice_get q.levels i ≡ Some level) × (seen_copy q.levels ms ≡ Some level.copy))
+          → SeesSame x c q.state (seen_copy q.levels ms) q.state (option_map x.point (seen_copy q.levels ms))
+      by (inl e) = subst (λ (o : Option S). SeesSame x c q.state o q.state (option_map x.point o)) (sym e) (sees_now c q.state)
+      by (inr (i, level, there, e)) =
+          subst (λ (o : Option S). SeesSame x c q.state o q.state (option_map x.point o)) (sym e)
+          (sees_copy c q.state level.copy q.state (ground.before_now i level there))
 
   -- a sender that is shown at an older level
   sees_cut : (c r n : ℕ) (q : Process S S) (level : Level S) (ms : List (Level S)) → IsGrounded x Known r q → slice_get q.levels n ≡ Some level

@@ -8,10 +8,10 @@
 --   held_shown : .. ≡ Held s → plain_moves .. ≡ Some (accepted (plain x) p (plain_levels x q.levels) (last_of (plain_levels x q.levels)) v (x.keep t alternate s, tt))
 --
 -- All of it is this project's own.
-use Rattle.std.proofs.Common.{◌≡◌, ◌≢◌, ◌≤◌, ◌<◌, ℕ, ℤ, Bool, true, false, cond, ◌&&◌, List, [], ◌∷◌, length, map, option_map, slice_get, Option, Some, None, refl, sym, ap, ◌∙◌, subst, nat_lt, nat_le, nat_eq, eq-eqb, lt-ltb, le-leb}
+use Rattle.std.proofs.Common.{◌≡◌, ◌≤◌, ℕ, ℤ, Bool, true, false, cond, ◌&&◌, List, [], ◌∷◌, map, option_map, slice_get, Option, Some, None, refl, sym, ap, ◌∙◌, nat_lt, nat_le, eq-eqb, lt-ltb, le-leb}
 use Rattle.std.proofs.lemmas.Bool.{and_from}
-use Rattle.rb_world.specs.Kind.{Ends, Want, SendsOn, ReceivesOn, MayReceiveOn, Starts, Acts, Stepped, Trapped, Went, Held}
-use Rattle.rb_world.specs.World.{Level, Running, Process, World, last_of}
+use Rattle.rb_world.specs.Kind.{Ends, Want, SendsOn, ReceivesOn, MayReceiveOn, Starts, Acts, Stepped, Went, Held}
+use Rattle.rb_world.specs.World.{Level, Process, World, last_of}
 use Rattle.rb_world.specs.Channels.{has_room, message_there}
 use Rattle.rb_world.specs.Turn.{Moved, accepted, copy_of, moved_to, took}
 use Rattle.rb_world.specs.Plain.{Kept, alternates_of, has_alternate, no_alternate, plain_acts, plain_moves, plain_receives, plain_runs, plain_stepped, plain_steps, when}
