@@ -32,7 +32,7 @@ said : {A : Type 0} (b : Bool) (a : Option A) → b ≡ true → when b a ≡ a
 said true a e = refl
 said false a e = cc
 
--- only a start is no acceptance test, and only an acceptance test holds
+-- what stands first is not both: a start, and one of the steps among which are acceptance tests
 starts_not : Acts ≡ Starts → ⊥
 starts_not e = cc
 
