@@ -39,3 +39,12 @@ pub mod FreedShown
 pub mod ReleasesShown
 pub mod Erasure
 pub mod ReceiptsStand
+-- A present process goes on in the plain run as it does in the run.
+pub mod PresentShown
+pub mod RoomShown
+pub mod SeenShown
+pub mod ChannelsShown
+pub mod StepsShown
+pub mod OneChanged
+pub mod MailShown
+pub mod GoesShown
