@@ -31,3 +31,4 @@ pub mod ErasureInvariant
 pub mod ShownFacts
 pub mod CutsElsewhere
 pub mod CutsAlike
+pub mod CutsGoBack
