@@ -32,3 +32,5 @@ pub mod ShownFacts
 pub mod CutsElsewhere
 pub mod CutsAlike
 pub mod CutsGoBack
+pub mod CutsPlaces
+pub mod NothingKept
