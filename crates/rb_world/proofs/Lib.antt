@@ -34,3 +34,4 @@ pub mod CutsAlike
 pub mod CutsGoBack
 pub mod CutsPlaces
 pub mod NothingKept
+pub mod CutsBreak
