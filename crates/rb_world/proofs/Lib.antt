@@ -35,3 +35,4 @@ pub mod CutsGoBack
 pub mod CutsPlaces
 pub mod NothingKept
 pub mod CutsBreak
+pub mod CutsFall
