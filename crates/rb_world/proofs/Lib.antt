@@ -36,3 +36,4 @@ pub mod CutsPlaces
 pub mod NothingKept
 pub mod CutsBreak
 pub mod CutsFall
+pub mod FallsAlone
