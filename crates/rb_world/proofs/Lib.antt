@@ -37,3 +37,4 @@ pub mod NothingKept
 pub mod CutsBreak
 pub mod CutsFall
 pub mod FallsAlone
+pub mod AwayKept

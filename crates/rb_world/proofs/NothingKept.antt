@@ -47,7 +47,8 @@ still_there : {A : Type 0} (xs : List A) (j : ℕ) (x : A) → slice_get xs j �
 still_there [] j x there e = none_some there
 still_there (y ∷ xs) j x there e = cc
 
-change_none : {A : Type 0} (j : ℕ) (f : A → A) (xs : List A) → change_at j f xs ≡ [] → xs ≡ []
+-- nothing comes of a change of no element
+pub change_none : {A : Type 0} (j : ℕ) (f : A → A) (xs : List A) → change_at j f xs ≡ [] → xs ≡ []
 change_none j f [] e = refl
 change_none zero f (x ∷ xs) e = absurd cc
 change_none (suc j) f (x ∷ xs) e = absurd cc
