@@ -38,3 +38,4 @@ pub mod CutsBreak
 pub mod CutsFall
 pub mod FallsAlone
 pub mod AwayKept
+pub mod ErasedUnder
