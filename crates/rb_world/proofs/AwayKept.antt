@@ -1,14 +1,16 @@
 -- Without a level a process stands at no line, and the last level that is left to it is private: the invariant is kept.
-use Rattle.std.proofs.Common.{◌≡◌, ◌≤◌, ◌<◌, ℕ, ◌+◌, zero, suc, Bool, true, false, cond, List, [], ◌∷◌, length, map, take, position, option_map, slice_get, Option, Some, None, refl, sym, ap, ◌∙◌, subst, arith, suc-ne-zero}
+use Rattle.std.proofs.Common.{◌≡◌, ℕ, ◌+◌, Bool, true, false, cond, List, [], ◌∷◌, length, map, take, position, option_map, slice_get, Option, Some, None, refl, sym, ap, ◌∙◌, subst, suc-ne-zero}
 use Rattle.std.proofs.lemmas.List.{length-map}
 use Rattle.rb_base.specs.declared.event.Cause.TheVariants.{Inner}
-use Rattle.rb_world.specs.World.{Level, Process, World, change_at, goes_on, is_inside, is_of, last_of, settled, with_process, without_last}
+use Rattle.rb_world.specs.Kind.{Kind}
+use Rattle.rb_world.specs.World.{Level, Process, World, change_at, is_inside, is_of, last_of, settled, without_last}
 use Rattle.rb_world.specs.Reject.{all_back, at_place, back_to, fallen, fallen_inside, next_alternate, parent_of, put_back, raised, where_inside}
 use Rattle.rb_world.specs.Standing.{Each}
-use Rattle.rb_world.specs.Nested.{IsLevelOf, HasOutside}
-use Rattle.rb_world.specs.Turn.{Told, freed, leaves, one_used, stands_at, stands_now, turn_used}
-use Rattle.rb_world.proofs.TurnFacts.{RunsAt, RejectsAt}
+use Rattle.rb_world.specs.Nested.{HasOutside}
+use Rattle.rb_world.specs.Turn.{freed, leaves, one_used, opening, stands_at, stands_now, turn_used}
+use Rattle.rb_world.proofs.TurnFacts.{RejectsAt}
 use Rattle.rb_world.proofs.Invariant.{IsInvariantUnder}
+use Rattle.rb_world.proofs.EachProcess.{settled_each}
 use Rattle.rb_world.proofs.Erasable.{Nothing, Parts, whole, IsErasable}
 use Rattle.rb_world.proofs.ErasureInvariant.{Grounded, GroundedBefore, GroundedDuring, GroundedAfter}
 use Rattle.rb_world.proofs.NothingKept.{change_none}
@@ -62,7 +64,7 @@ module _ {S E P : Type 0} (x : Parts S E P) where
       → slice_get (change_at p (put_back (whole x) j) w.processes) p ≡ Some q' → q'.levels ≡ last ∷ [] → last.facts.conversation ≡ None
   last_private p j q q' w level last rejects private none there one =
       let now : q' ≡ back_to (whole x) j q (Some level) =
-          who_changed p (put_back (whole x) j) w.processes q q' rejects.runs.there there ∙ ap (back_to (whole x) j q) rejects.place in
+      who_changed p (put_back (whole x) j) w.processes q q' rejects.runs.there there ∙ ap (back_to (whole x) j q) rejects.place in
       let same : last ≡ level = take_last j q.levels level last none rejects.place (ap (λ (z : Process S S). z.levels) (sym now) ∙ one) in
       ap (λ (l : Level S). l.facts.conversation) same ∙ private
 
@@ -85,9 +87,9 @@ module _ {S E P : Type 0} (x : Parts S E P) (Known : ℕ → Process S S → Typ
   away_kept = record {
     rests = λ t past w h. h.1;
     uses = λ t past p q w h runs. (
-        Each-change_at IsAway p (λ _. turn_used q) w.processes h.1 (λ _ _ none. h.1 p q runs.there (map_none one_used q.levels none)),
-        λ q' there. used_up p q q' w runs.there there,
-      );
+      Each-change_at IsAway p (λ _. turn_used q) w.processes h.1 (λ _ _ none. h.1 p q runs.there (map_none one_used q.levels none)),
+      λ q' there. used_up p q q' w runs.there there,
+    );
     overruns = λ t past p q w j h runs over. (h.1.0, λ q' there none. absurd (suc-ne-zero j none));
     waits = λ t past p q w h runs over. h.1.0;
     goes = λ t past p q w a v s m h at e. Each-change_at IsAway p _ w.processes h.1.0 (λ _ _ none. refl);
@@ -106,18 +108,22 @@ module _ {S E P : Type 0} (x : Parts S E P) (Known : ℕ → Process S S → Typ
         (Each-change_at IsAway p (put_back (whole x) j) w.processes h.1.0 (λ q' at. put_back_away x j q' (h.1.0 p q' at)))
         (λ q' at. raised_away x j q' (Each-change_at IsAway p (put_back (whole x) j) w.processes h.1.0 (λ z there. put_back_away x j z (h.1.0 p z there)) p q' at));
     is_spent = λ t past p q w j l h rejects private spent. (
-        Each-change_at IsAway p (put_back (whole x) j) w.processes h.1.0 (λ q' at. put_back_away x j q' (h.1.0 p q' at)),
-        λ q' there none last one. last_private x p j q q' w l last rejects private none there one,
-      );
+      Each-change_at IsAway p (put_back (whole x) j) w.processes h.1.0 (λ q' at. put_back_away x j q' (h.1.0 p q' at)),
+      λ q' there none last one. last_private x p j q q' w l last rejects private none there one,
+    );
     all_try_next = λ t past p q w j l c h rejects of_c more.
         each_inside_away x raised c (all_back (whole x) c w).processes (raised_away x)
         (each_inside_away x (put_back (whole x)) c w.processes (put_back_away x) h.1.0);
     all_are_spent = λ t past p q w j l c parent h rejects of_c spent within. (
-        each_inside_away x (put_back (whole x)) c w.processes (put_back_away x) h.1.0,
-        λ q' there none. absurd (not_outermost p j c parent q w l h.0.ground rejects of_c within none),
-      );
+      each_inside_away x (put_back (whole x)) c w.processes (put_back_away x) h.1.0,
+      λ q' there none. absurd (not_outermost p j c parent q w l h.0.ground rejects of_c within none),
+    );
     breaks = λ t past p q w j l c h rejects of_c spent outermost. Each-map IsAway (fallen_inside (whole x) c) (all_back (whole x) c w).processes
         (each_inside_away x (put_back (whole x)) c w.processes (put_back_away x) h.1.0) (λ r q' _. fallen_away x q' (is_inside c q'));
     is_gone = λ t past p q w j h runs gone. h.1.0;
     releases = λ t past w one h e. Each-map IsAway (freed (whole x)) w.processes h.1 (λ r q _ away. away);
   }
+
+-- at the opening nobody stands at a line
+pub away_opens : {S C M : Type 0} (k : Kind S C M) (states : List S) (m : M) → Each IsAway (opening k states m).processes
+away_opens k states m = settled_each k IsAway states (λ r s _ none. refl)

@@ -1,6 +1,6 @@
 -- What a cut does not see: which alternate a level tries, and how many turns it has used. Worlds that differ in nothing else
 -- show the same cuts.
-use Rattle.std.proofs.Common.{◌≡◌, ℕ, ◌+◌, zero, suc, false, List, [], ◌∷◌, map, take, option_map, slice_get, Option, Some, None, refl, sym, ap, ◌∙◌, subst}
+use Rattle.std.proofs.Common.{◌≡◌, ℕ, ◌+◌, false, List, [], ◌∷◌, map, take, option_map, slice_get, Option, Some, None, refl, sym, ap, ◌∙◌, subst}
 use Rattle.std.proofs.lemmas.List.{take-map}
 use Rattle.std.proofs.lemmas.Option.{slice_get-map}
 use Rattle.rb_world.specs.World.{Level, Process, World}
@@ -8,7 +8,7 @@ use Rattle.rb_world.specs.Standing.{is_failed}
 use Rattle.rb_world.specs.Nested.{IsLevelOf}
 use Rattle.rb_world.specs.Turn.{Told}
 use Rattle.rb_world.proofs.Erasable.{Nothing, Parts}
-use Rattle.rb_world.proofs.Cuts.{plain_levels, shown_at, shown, AreOwn, ShowsOne, Alive, Lost, IsConsistent}
+use Rattle.rb_world.proofs.Cuts.{plain_levels, shown_at, shown, AreOwn, ShowsOne, Alive, Lost}
 use Rattle.rb_world.proofs.ErasureInvariant.{ShowsCut, AllShown}
 use Rattle.rb_world.proofs.CutsElsewhere.{IsChanged, changed_there, shows_changed}
 use Rattle.rb_world.proofs.ListFacts.{none_some, some_same}
@@ -54,8 +54,8 @@ level_alike : {C : Type 0} (c i : ℕ) (levels others : List (Level C)) → map 
     → IsLevelOf c levels i → IsLevelOf c others i
 level_alike {C} c i levels others same at =
     let found = marked_there at.level (slice_get others i)
-        (sym (slice_get-map unmarked_level others i) ∙ (ap (λ (ls : List (Level C)). slice_get ls i) same
-        ∙ (slice_get-map unmarked_level levels i ∙ ap (option_map unmarked_level) at.there))) in
+    (sym (slice_get-map unmarked_level others i) ∙ (ap (λ (ls : List (Level C)). slice_get ls i) same
+    ∙ (slice_get-map unmarked_level levels i ∙ ap (option_map unmarked_level) at.there))) in
     record { level = found.0; there = found.1; of_it = ap (λ f. f.conversation) found.2 ∙ at.of_it }
 
 module _ {S E P : Type 0} (x : Parts S E P) (start : World S P Nothing) where
@@ -65,10 +65,10 @@ module _ {S E P : Type 0} (x : Parts S E P) (start : World S P Nothing) where
       → AllShown x start t past w → AllShown x start t past v
   all_shown_alike t past w v F changed alike all f consistent =
       let old : ShowsCut x start t past w f = all f
-          (λ r other c j q q' at there of_c of_other. consistent r other c j (F r q) (F other q')
-          (changed_there F w.processes v.processes r q changed at) (changed_there F w.processes v.processes other q' changed there)
-          (level_alike c (f r) q.levels (F r q).levels (ap (λ (z : Process S S). z.levels) (alike r q at)) of_c)
-          (level_alike c j q'.levels (F other q').levels (ap (λ (z : Process S S). z.levels) (alike other q' there)) of_other)) in
+      (λ r other c j q q' at there of_c of_other. consistent r other c j (F r q) (F other q')
+      (changed_there F w.processes v.processes r q changed at) (changed_there F w.processes v.processes other q' changed there)
+      (level_alike c (f r) q.levels (F r q).levels (ap (λ (z : Process S S). z.levels) (alike r q at)) of_c)
+      (level_alike c j q'.levels (F other q').levels (ap (λ (z : Process S S). z.levels) (alike other q' there)) of_other)) in
       record {
         world = old.world;
         shows = shows_changed x f f F w.processes v.processes old.world.processes changed

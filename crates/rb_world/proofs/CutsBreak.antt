@@ -1,21 +1,21 @@
 -- A conversation that lies in no other is broken, and all inside it fail. Each of them is shown at its outermost level before, and
 -- nothing was done in it; so the same plain world shows it as one that has failed.
-use Rattle.std.proofs.Common.{◌≡◌, ◌≤◌, ℕ, ◌+◌, zero, suc, Bool, true, false, cond, List, [], ◌∷◌, map, take, position, slice_get, Option, Some, None, refl, sym, ap, ◌∙◌, subst, arith, eqb-true, true≢false, ◌||◌}
+use Rattle.std.proofs.Common.{◌≡◌, ◌≤◌, ℕ, zero, suc, Bool, true, false, cond, List, [], ◌∷◌, map, take, position, slice_get, Option, Some, None, refl, sym, ap, ◌∙◌, subst, arith, ◌||◌}
 use Rattle.std.specs.List.{list_any}
 use Rattle.std.proofs.lemmas.Bool.{eq-eqb}
 use Rattle.rb_base.specs.declared.event.Cause.{Cause}
 use Rattle.rb_base.specs.declared.event.Cause.TheVariants.{Inner}
 use Rattle.rb_world.specs.Kind.{Membership}
 use Rattle.rb_world.specs.World.{Level, FailedWith, Process, World, is_number, is_of, is_inside}
-use Rattle.rb_world.specs.Reject.{all_back, at_place, back_to, fallen, fallen_inside, parent_of, put_back, where_inside}
+use Rattle.rb_world.specs.Reject.{at_place, back_to, fallen, fallen_inside, parent_of, put_back, where_inside}
 use Rattle.rb_world.specs.Standing.{Each, is_failed}
 use Rattle.rb_world.specs.Nested.{IsLevelOf, HasOutside, AreNested}
 use Rattle.rb_world.specs.Turn.{Told}
 use Rattle.rb_world.proofs.TurnFacts.{all_broken}
 use Rattle.rb_world.proofs.Invariant.{BothWithin, Breaks}
 use Rattle.rb_world.proofs.Erasable.{Nothing, Parts, whole, IsErasable}
-use Rattle.rb_world.proofs.Cuts.{plain_levels, shown_at, shown, AreOwn, ShowsOne, Alive, Lost, IsConsistent}
-use Rattle.rb_world.proofs.ErasureInvariant.{IsGrounded, IsQuiet, ShowsCut, AllShown, AllShownAfter, StaysShown, Grounded, GroundedDuring, ErasedWithin, ErasedAfter}
+use Rattle.rb_world.proofs.Cuts.{plain_levels, shown_at, AreOwn, ShowsOne, Alive, Lost, IsConsistent}
+use Rattle.rb_world.proofs.ErasureInvariant.{IsQuiet, ShowsCut, AllShown, Grounded, GroundedDuring, ErasedWithin, ErasedAfter}
 use Rattle.rb_world.proofs.CutsElsewhere.{IsChanged, Each-changed, changed_there, is_changed_each, is_changed_twice, shows_changed}
 use Rattle.rb_world.proofs.CutsGoBack.{IsUpTo}
 use Rattle.rb_world.proofs.CutsPlaces.{position_up_to, place_of, line_of, level_found, found_up_to, one_conversation}
@@ -60,7 +60,7 @@ module _ {S E P : Type 0} (x : Parts S E P) where
   -- it is shown as it was at its outermost level
   pub shows_lost : (n : ℕ) (q : Process S S) (u : Process S P) (cause : Cause) (level : Level S) → slice_get q.levels 0 ≡ Some level
       → (is_failed q.status ≡ true → q.levels ≡ []) → ShowsOne x 0 q u → ShowsOne x n (lost_at cause level) u
-  shows_lost n q u cause level there bare (Alive whole_ is) =
+  shows_lost n q u cause level there bare (Alive sound is) =
       let now : u ≡ shown_at x 0 q (Some level) = is ∙ ap (shown_at x 0 q) there in
       Lost refl (ap (λ (z : Process S P). z.state) now) (ap (λ (z : Process S P). z.at_line) now)
       (subst (λ (z : Process S P). AreOwn x level.copy z.levels) (sym now) (own_first x q.levels level there))
@@ -164,7 +164,7 @@ module _ {S E P : Type 0} (x : Parts S E P) (Known : ℕ → Process S S → Typ
       let qs' : List (Process S S) = (all_broken (whole x) c w).processes in
       let nested : Each (λ r q. AreNested x.groups q.levels) w.processes = λ r q at. laws.nested r q (ground.each r q at).known in
       let old : ShowsCut x start t past w (bottom_cut x c none f w.processes qs') =
-          all (bottom_cut x c none f w.processes qs') (consistent_bottom x c none f w.processes qs' (broken_changed c w.processes) nested consistent) in
+      all (bottom_cut x c none f w.processes qs') (consistent_bottom x c none f w.processes qs' (broken_changed c w.processes) nested consistent) in
       record {
         world = old.world;
         shows = shows_changed x (bottom_cut x c none f w.processes qs') f (breaks_in x c) w.processes qs' old.world.processes (broken_changed c w.processes)
@@ -175,12 +175,11 @@ module _ {S E P : Type 0} (x : Parts S E P) (Known : ℕ → Process S S → Typ
 
   pub erased_breaks : Breaks (whole x) (BothWithin (GroundedDuring x Known) (ErasedWithin x start)) (ErasedAfter x start)
   erased_breaks t past p q w j level c h rejects of_c spent none =
-      let ground : Grounded x Known w = h.0.ground in
-      (
+      let ground : Grounded x Known w = h.0.ground in (
         h.1.0,
         stays_shown x Known start t past (all_broken (whole x) c w)
-        (Each-changed (IsQuiet x) (breaks_in x c) w.processes (all_broken (whole x) c w).processes (broken_changed c w.processes)
-        (λ r q' at. quiet_broken x c r q' (laws.nested r q' (ground.each r q' at).known) none (ground.each r q' at).outermost (ground.quiet r q' at)
-        (position (is_of c) q'.levels) refl))
-        (all_shown_broken t past w c ground none h.1.1),
+            (Each-changed (IsQuiet x) (breaks_in x c) w.processes (all_broken (whole x) c w).processes (broken_changed c w.processes)
+            (λ r q' at. quiet_broken x c r q' (laws.nested r q' (ground.each r q' at).known) none (ground.each r q' at).outermost (ground.quiet r q' at)
+            (position (is_of c) q'.levels) refl))
+            (all_shown_broken t past w c ground none h.1.1),
       )

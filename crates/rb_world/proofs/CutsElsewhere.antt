@@ -1,5 +1,5 @@
 -- Worlds whose processes were changed one by one: what is looked up there, and that the same plain world shows another cut.
-use Rattle.std.proofs.Common.{◌≡◌, ℕ, zero, suc, pred, nat_eq, Bool, true, false, cond, List, [], ◌∷◌, map, option_map, slice_get, Option, Some, None, refl, sym, ap, ◌∙◌, subst, suc-ne-zero, eqb-true}
+use Rattle.std.proofs.Common.{◌≡◌, ℕ, zero, suc, nat_eq, Bool, true, false, cond, List, [], ◌∷◌, map, option_map, slice_get, Option, Some, None, refl, sym, ap, ◌∙◌, subst, eqb-true}
 use Rattle.std.proofs.lemmas.Bool.{eqb-false}
 use Rattle.std.proofs.lemmas.Option.{slice_get-map}
 use Rattle.rb_world.specs.World.{Process, change_at}

@@ -1,20 +1,17 @@
 -- A process fails. It has no level and stands at no line, or one private level that was put back: so it is shown at number 0
 -- before, and in all its marks by its own state after.
-use Rattle.std.proofs.Common.{◌≡◌, ◌≤◌, ℕ, ◌+◌, zero, suc, Bool, true, false, cond, nat_eq, List, length, [], ◌∷◌, slice_get, Option, Some, None, refl, sym, ap, ◌∙◌, subst, arith, eqb-true, true≢false}
+use Rattle.std.proofs.Common.{◌≡◌, ◌≤◌, ℕ, ◌+◌, Bool, true, false, cond, nat_eq, List, length, [], ◌∷◌, slice_get, Some, None, refl, sym, ap, ◌∙◌, subst, arith, eqb-true}
 use Rattle.rb_base.specs.declared.event.Cause.{Cause}
-use Rattle.rb_world.specs.Kind.{Facts}
 use Rattle.rb_world.specs.World.{Level, FailedWith, Process, World, change_at, with_process}
 use Rattle.rb_world.specs.Reject.{fallen}
-use Rattle.rb_world.specs.Standing.{Each, is_failed}
+use Rattle.rb_world.specs.Standing.{is_failed}
 use Rattle.rb_world.specs.Nested.{IsLevelOf}
 use Rattle.rb_world.specs.Turn.{Told}
-use Rattle.rb_world.proofs.TurnFacts.{RunsAt, MustFall, NoLevelLeft, Barred}
-use Rattle.rb_world.proofs.Invariant.{BothWithin, Falls}
-use Rattle.rb_world.proofs.Erasable.{Nothing, Parts, whole, IsErasable}
-use Rattle.rb_world.proofs.Cuts.{plain_levels, shown_at, shown, AreOwn, ShowsOne, Alive, Lost, IsConsistent, with_shown}
-use Rattle.rb_world.proofs.ErasureInvariant.{IsGrounded, IsQuiet, IsSpentOut, NoLevel, OneSpent, ShowsCut, AllShown, Grounded, GroundedWithin, GroundedDuring, ErasedWithin, ErasedAfter}
-use Rattle.rb_world.proofs.CutsElsewhere.{IsChanged, changed_there, is_changed_at, only_at, shows_changed}
-use Rattle.rb_world.proofs.CutsBreak.{lost_at, shows_lost}
+use Rattle.rb_world.proofs.Erasable.{Nothing, Parts, whole}
+use Rattle.rb_world.proofs.Cuts.{plain_levels, shown_at, AreOwn, ShowsOne, Alive, Lost, IsConsistent, with_shown}
+use Rattle.rb_world.proofs.ErasureInvariant.{IsQuiet, ShowsCut, AllShown, Grounded, ErasedAfter}
+use Rattle.rb_world.proofs.CutsElsewhere.{changed_there, is_changed_at, only_at, shows_changed}
+use Rattle.rb_world.proofs.CutsBreak.{shows_lost}
 use Rattle.rb_world.proofs.NothingKept.{stays_shown}
 use Rattle.rb_world.proofs.ListFacts.{none_some, some_same, Each-change_at}
 
@@ -30,7 +27,7 @@ module _ {S E P : Type 0} (x : Parts S E P) where
   shows_fallen n q u cause (Spent level one put private) bare shows =
       subst (λ (s : S). ShowsOne x n (record { state = s; levels = []; at_line = false; status = FailedWith cause }) u) (sym put)
       (shows_lost x n q u cause level (ap (λ (ls : List (Level S)). slice_get ls 0) one) bare shows)
-  shows_fallen n q u cause (Bare none away) bare (Alive whole_ is) =
+  shows_fallen n q u cause (Bare none away) bare (Alive sound is) =
       let now : u ≡ shown_at x 0 q None = is ∙ ap (shown_at x 0 q) (ap (λ (ls : List (Level S)). slice_get ls 0) none) in
       Lost refl (ap (λ (z : Process S P). z.state) now) (ap (λ (z : Process S P). z.at_line) now ∙ away)
       (subst (λ (z : Process S P). AreOwn x q.state z.levels) (sym now) (subst (λ (ls : List (Level S)). AreOwn x q.state (plain_levels x ls)) (sym none) tt))
@@ -86,7 +83,7 @@ module _ {S E P : Type 0} (x : Parts S E P) (Known : ℕ → Process S S → Typ
       → slice_get w.processes p ≡ Some q → MayFall q → AllShown x start t past w → AllShown x start t past (with_process p (fallen (whole x) cause) w)
   all_shown_fallen t past p q w cause ground there may all f consistent =
       let old : ShowsCut x start t past w (with_shown f p 0) =
-          all (with_shown f p 0) (consistent_fall x p cause q f w.processes there may consistent) in
+      all (with_shown f p 0) (consistent_fall x p cause q f w.processes there may consistent) in
       record {
         world = old.world;
         shows = shows_changed x (with_shown f p 0) f (only_at p (fallen (whole x) cause)) w.processes (change_at p (fallen (whole x) cause) w.processes) old.world.processes
@@ -102,7 +99,7 @@ module _ {S E P : Type 0} (x : Parts S E P) (Known : ℕ → Process S S → Typ
   erased_falls_of t past p q w cause ground there may erased = (
     erased.0,
     stays_shown x Known start t past (with_process p (fallen (whole x) cause) w)
-    (Each-change_at (IsQuiet x) p (fallen (whole x) cause) w.processes ground.quiet
-    (λ a at. quiet_fallen x p a cause (subst MayFall (some_same (sym there ∙ at)) may) (ground.each p a at).outermost (ground.quiet p a at)))
-    (all_shown_fallen t past p q w cause ground there may erased.1),
+        (Each-change_at (IsQuiet x) p (fallen (whole x) cause) w.processes ground.quiet
+        (λ a at. quiet_fallen x p a cause (subst MayFall (some_same (sym there ∙ at)) may) (ground.each p a at).outermost (ground.quiet p a at)))
+        (all_shown_fallen t past p q w cause ground there may erased.1),
   )

@@ -1,6 +1,6 @@
 -- Processes are put back, and nothing is kept of it: a cut of the world after is one of the world before, in which each that was
 -- put back is shown no further in than at the level that was put back.
-use Rattle.std.proofs.Common.{◌≡◌, ◌≤◌, ◌<◌, ◌⊎◌, ℕ, ◌+◌, zero, suc, min, Bool, true, false, nat_le, List, [], ◌∷◌, length, take, option_map, slice_get, Option, Some, None, refl, sym, ap, ◌∙◌, subst, arith, add-one, leb-false, length-take, true≢false}
+use Rattle.std.proofs.Common.{◌≡◌, ◌≤◌, ◌<◌, ℕ, ◌+◌, zero, suc, min, Bool, true, false, nat_le, List, [], ◌∷◌, length, take, slice_get, Option, Some, None, refl, sym, ap, ◌∙◌, subst, arith, leb-false, length-take}
 use Rattle.std.proofs.lemmas.Bool.{leb-true}
 use Rattle.std.proofs.lemmas.Option.{slice_get_past, slice_get_within}
 use Rattle.std.proofs.Math.Nat.{min-eq_left}
@@ -10,10 +10,10 @@ use Rattle.rb_world.specs.Standing.{Each, is_failed}
 use Rattle.rb_world.specs.Nested.{IsLevelOf}
 use Rattle.rb_world.specs.Turn.{Told}
 use Rattle.rb_world.proofs.Erasable.{Nothing, Parts, whole}
-use Rattle.rb_world.proofs.Cuts.{plain_levels, shown_at, shown, AreOwn, ShowsOne, Alive, Lost, IsConsistent}
+use Rattle.rb_world.proofs.Cuts.{plain_levels, shown_at, shown, ShowsOne, Alive, Lost, IsConsistent}
 use Rattle.rb_world.proofs.ErasureInvariant.{ShowsCut, AllShown}
 use Rattle.rb_world.proofs.CutsElsewhere.{IsChanged, changed_there, shows_changed}
-use Rattle.rb_world.proofs.ListFacts.{none_some, some_same}
+use Rattle.rb_world.proofs.ListFacts.{none_some}
 
 -- a number in a cut, and no further in than a place
 abbrev pub no_further_than : Option ℕ → ℕ → ℕ
@@ -78,7 +78,7 @@ module _ {S E P : Type 0} (x : Parts S E P) where
   -- a process that is put back is shown as it was at a level no further in
   shows_put_back : (n j : ℕ) (q : Process S S) (u : Process S P) (level : Level S) → slice_get q.levels j ≡ Some level → (is_failed q.status ≡ true → q.levels ≡ [])
       → ShowsOne x (min n j) q u → ShowsOne x n (back_to (whole x) j q (Some level)) u
-  shows_put_back n j q u level there bare (Alive whole_ is) = Alive whole_ (is ∙ sym (shown_back n j q level there (nat_le n j) refl))
+  shows_put_back n j q u level there bare (Alive sound is) = Alive sound (is ∙ sym (shown_back n j q level there (nat_le n j) refl))
   shows_put_back n j q u level there bare (Lost failed is away own) =
       absurd (none_some (sym (ap (λ (ls : List (Level S)). slice_get ls j) (bare failed)) ∙ there))
 

@@ -1,6 +1,6 @@
 -- Where processes go back to: one of them alone to a private level, or all that are inside a conversation, each to its level of it.
 use Rattle.std.proofs.Common.{◌≡◌, ◌≤◌, ◌<◌, ◌⊎◌, inl, inr, ℕ, ◌+◌, zero, suc, Bool, true, false, cond, not, nat_eq, nat_lt, List, [], ◌∷◌, length, map, position, option_map, slice_get, get_or, Option, Some, None, refl, sym, ap, ◌∙◌, subst, arith, eqb-true, ltb-true, true≢false}
-use Rattle.std.specs.List.{position_or_len, list_any}
+use Rattle.std.specs.List.{position_or_len}
 use Rattle.std.proofs.lemmas.Bool.{eq-eqb, lt-ltb}
 use Rattle.std.proofs.lemmas.Option.{cond_some, slice_get_cases, slice_get_within}
 use Rattle.std.proofs.lemmas.List.Quantifiers.{position-Some}
@@ -76,10 +76,10 @@ first_up_to test (y ∷ xs) zero x there holds =
     let now : test y ≡ true = ap test (some_same there) ∙ holds in
     subst (λ (b : Bool). cond (not b) (1 + position_or_len test xs) 0 ≤ 0) (sym now) (omega arith)
 first_up_to test (y ∷ xs) (suc i) x there holds = first_later test xs i (test y) (first_up_to test xs i x there holds)
- where
-  first_later : {A : Type 0} (test : A → Bool) (xs : List A) (i : ℕ) (now : Bool) → position_or_len test xs ≤ i → cond (not now) (1 + position_or_len test xs) 0 ≤ suc i
-  first_later test xs i true few = omega arith
-  first_later test xs i false few = omega (arith, few)
+  where
+    first_later : {A : Type 0} (test : A → Bool) (xs : List A) (i : ℕ) (now : Bool) → position_or_len test xs ≤ i → cond (not now) (1 + position_or_len test xs) 0 ≤ suc i
+    first_later test xs i true few = omega arith
+    first_later test xs i false few = omega (arith, few)
 
 pub position_up_to : {A : Type 0} (test : A → Bool) (xs : List A) (i : ℕ) (x : A) → slice_get xs i ≡ Some x → test x ≡ true → IsUpTo (position test xs) i
 position_up_to test xs i x there holds =

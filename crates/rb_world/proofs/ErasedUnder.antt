@@ -1,12 +1,13 @@
 -- The laws of erasure put together: those in which nothing is kept, with those in which a turn is kept as premises, under the
 -- ground and under what falls need beside it.
-use Rattle.std.proofs.Common.{◌≡◌, ℕ, suc, List}
+use Rattle.std.proofs.Common.{ℕ}
 use Rattle.rb_world.specs.World.{Process, World}
-use Rattle.rb_world.proofs.Invariant.{BothBetween, BothWithin, Goes, Opens, Accepts, Stands, Leaves, Releases, IsInvariantUnder}
+use Rattle.rb_world.proofs.Invariant.{BothBetween, BothWithin, Goes, Opens, Accepts, Stands, Leaves, Releases, IsInvariant, IsInvariantUnder, both_kept}
 use Rattle.rb_world.proofs.Erasable.{Nothing, Parts, whole, IsErasable}
 use Rattle.rb_world.proofs.ErasureInvariant.{GroundedBefore, GroundedDuring, GroundedAfter, ErasedBefore, ErasedWithin, ErasedAfter}
 use Rattle.rb_world.proofs.NothingKept.{erased_rests, erased_uses, erased_overruns, erased_waits, erased_is_gone, erased_tries_next, erased_is_spent, erased_all_try_next, erased_all_are_spent}
 use Rattle.rb_world.proofs.CutsBreak.{erased_breaks}
+use Rattle.rb_world.proofs.AwayKept.{away_kept}
 use Rattle.rb_world.proofs.FallsAlone.{AwayBetween, AwayWithin, erased_falls}
 
 module _ {S E P : Type 0} (x : Parts S E P) (Known : ℕ → Process S S → Type 0) (laws : IsErasable x Known) (start : World S P Nothing) where
@@ -38,3 +39,11 @@ module _ {S E P : Type 0} (x : Parts S E P) (Known : ℕ → Process S S → Typ
     is_gone = λ t past p q w j h r e. erased_is_gone x Known start t past p q w j (h.0.0, h.1) r e;
     releases = λ t past w o h e. releases t past w o (h.0.0, h.1) e;
   }
+
+  -- and so the whole invariant, from that of the ground
+  pub erased_and_grounded : IsInvariant (whole x) (GroundedBefore x Known) (GroundedDuring x Known) (GroundedAfter x Known)
+      → IsInvariantUnder (whole x) (BothBetween (GroundedBefore x Known) AwayBetween) (BothWithin (GroundedDuring x Known) AwayWithin) (BothBetween (GroundedAfter x Known) AwayBetween)
+      (ErasedBefore x start) (ErasedWithin x start) (ErasedAfter x start)
+      → IsInvariant (whole x) (BothBetween (BothBetween (GroundedBefore x Known) AwayBetween) (ErasedBefore x start))
+      (BothWithin (BothWithin (GroundedDuring x Known) AwayWithin) (ErasedWithin x start)) (BothBetween (BothBetween (GroundedAfter x Known) AwayBetween) (ErasedAfter x start))
+  erased_and_grounded ground erased = both_kept (both_kept ground (away_kept x Known laws)) erased

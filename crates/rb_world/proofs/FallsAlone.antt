@@ -1,20 +1,14 @@
 -- What is to be known of a process that fails, beside the ground of erasure: without a level it stands at no line, and the last
 -- level that is left to it is private. It is an invariant of its own, under that ground.
-use Rattle.std.proofs.Common.{◌≡◌, ◌≤◌, ◌<◌, ℕ, ℤ, ◌+◌, zero, suc, Bool, true, false, cond, List, [], ◌∷◌, ◌++◌, length, map, take, position, slice_get, Option, Some, None, refl, sym, ap, ◌∙◌, subst, arith, true≢false, suc-ne-zero}
+use Rattle.std.proofs.Common.{◌≡◌, ℕ, false, [], ◌∷◌, slice_get, Some, None}
 use Rattle.rb_base.specs.declared.event.Cause.{Cause}
-use Rattle.rb_base.specs.declared.event.Cause.TheVariants.{Inner}
-use Rattle.rb_world.specs.Kind.{Facts, Kind}
-use Rattle.rb_world.specs.World.{Level, Process, World, goes_on, is_inside, is_of, last_of, settled, with_process, without_last}
-use Rattle.rb_world.specs.Reject.{all_back, at_place, back_to, fallen, fallen_inside, parent_of, put_back, raised, where_inside}
+use Rattle.rb_world.specs.World.{Level, Process, World}
 use Rattle.rb_world.specs.Standing.{Each}
-use Rattle.rb_world.specs.Nested.{IsLevelOf, HasOutside}
-use Rattle.rb_world.specs.Turn.{Told, copy_of, freed, leaves, new_level, stands_at, stands_now, turn_used}
-use Rattle.rb_world.proofs.TurnFacts.{RunsAt, RejectsAt, StepsAt, MustFall, NoLevelLeft, Barred}
-use Rattle.rb_world.proofs.Invariant.{Between, Within, BothWithin, Falls, IsInvariantUnder}
+use Rattle.rb_world.proofs.TurnFacts.{MustFall, NoLevelLeft, Barred}
+use Rattle.rb_world.proofs.Invariant.{Between, Within, BothWithin, Falls}
 use Rattle.rb_world.proofs.Erasable.{Nothing, Parts, whole, IsErasable}
-use Rattle.rb_world.proofs.ErasureInvariant.{IsSpentOut, NoLevel, OneSpent, Grounded, GroundedWithin, GroundedBefore, GroundedDuring, GroundedAfter, ErasedWithin, ErasedAfter}
+use Rattle.rb_world.proofs.ErasureInvariant.{IsSpentOut, NoLevel, OneSpent, GroundedWithin, GroundedDuring, ErasedWithin, ErasedAfter}
 use Rattle.rb_world.proofs.CutsFall.{MayFall, Bare, Spent, erased_falls_of}
-use Rattle.rb_world.proofs.ListFacts.{none_some, some_same, Each-change_at, Each-map}
 
 -- without a level a process stands at no line
 abbrev pub IsAway : {S C : Type 0} → ℕ → Process S C → Type 0
@@ -36,10 +30,10 @@ module _ {S E P : Type 0} (x : Parts S E P) (Known : ℕ → Process S S → Typ
   pub may_fall : (p left : ℕ) (q : Process S S) (w : World S S Nothing) (cause : Cause) → GroundedWithin x Known p left w → slice_get w.processes p ≡ Some q
       → IsAway p q → IsLastPrivate left q → MustFall (whole x) q w left cause → MayFall q
   may_fall p left q w cause ground there away private (NoLevelLeft none) = spent_falls (ground.spent q there none)
-   where
-    spent_falls : IsSpentOut q → MayFall q
-    spent_falls (NoLevel bare) = Bare bare (away bare)
-    spent_falls (OneSpent level one put) = Spent level one put (private none level one)
+    where
+      spent_falls : IsSpentOut q → MayFall q
+      spent_falls (NoLevel bare) = Bare bare (away bare)
+      spent_falls (OneSpent level one put) = Spent level one put (private none level one)
   may_fall p left q w cause ground there away private (Barred facts c talk wants of_c at broken is) =
       let bare : q.levels ≡ [] = laws.outermost p q facts c (ground.ground.each p q there).known wants of_c (ground.ground.talks c talk at broken) in
       Bare bare (away bare)

@@ -29,6 +29,7 @@ pub mod Erasable
 pub mod Cuts
 pub mod ErasureInvariant
 pub mod ShownFacts
+-- The laws in which nothing is kept: what a cut does not see, what goes back, and who fails.
 pub mod CutsElsewhere
 pub mod CutsAlike
 pub mod CutsGoBack

@@ -1,11 +1,11 @@
 -- The laws of erasure in which nothing is kept: the same plain worlds show the cuts of the world after. Who rests or waits, counts a
 -- turn, or goes back, alone or with all that are inside a conversation.
-use Rattle.std.proofs.Common.{◌≡◌, ℕ, ◌+◌, zero, suc, Bool, true, false, cond, nat_eq, List, [], ◌∷◌, length, map, take, position, slice_get, Option, Some, None, refl, sym, ap, ◌∙◌, subst, add-one, eqb-true}
+use Rattle.std.proofs.Common.{◌≡◌, ℕ, zero, suc, Bool, true, false, cond, nat_eq, List, [], ◌∷◌, map, take, position, slice_get, Option, Some, None, refl, sym, ap, ◌∙◌, subst, add-one, eqb-true}
 use Rattle.rb_world.specs.World.{Level, Process, World, change_at, is_of, with_process}
 use Rattle.rb_world.specs.Reject.{all_back, at_place, back_to, next_alternate, put_back, raised, where_inside}
 use Rattle.rb_world.specs.Standing.{Each}
 use Rattle.rb_world.specs.Turn.{Told, one_used, turn_used}
-use Rattle.rb_world.proofs.TurnFacts.{RunsAt, RejectsAt, all_next, all_spent}
+use Rattle.rb_world.proofs.TurnFacts.{RejectsAt, all_next, all_spent}
 use Rattle.rb_world.proofs.Invariant.{BothBetween, BothWithin, Rests, Uses, Overruns, Waits, IsGone, TriesNext, IsSpent, AllTryNext, AllSpent}
 use Rattle.rb_world.proofs.Erasable.{Nothing, Parts, whole}
 use Rattle.rb_world.proofs.ErasureInvariant.{IsQuiet, AllShown, AllShownAfter, StaysShown, Grounded, GroundedBefore, GroundedDuring, ErasedBefore, ErasedWithin, ErasedAfter}
@@ -100,8 +100,8 @@ module _ {S E P : Type 0} (x : Parts S E P) (Known : ℕ → Process S S → Typ
   erased_uses t past p q w h runs = (
     h.1.0,
     all_shown_alike x start t past w (with_process p (λ _. turn_used q) w) (only_at p (λ _. turn_used q)) (is_changed_at p (λ _. turn_used q) w.processes)
-    (λ r q' at. only_alike p (λ _. turn_used q) r q' (nat_eq r p) refl
-    (λ same. turn_used_alike q ∙ ap unmarked (some_same (sym runs.there ∙ (ap (slice_get w.processes) (sym same) ∙ at))))) h.1.1,
+        (λ r q' at. only_alike p (λ _. turn_used q) r q' (nat_eq r p) refl
+        (λ same. turn_used_alike q ∙ ap unmarked (some_same (sym runs.there ∙ (ap (slice_get w.processes) (sym same) ∙ at))))) h.1.1,
   )
 
   -- a private level went back
@@ -121,31 +121,29 @@ module _ {S E P : Type 0} (x : Parts S E P) (Known : ℕ → Process S S → Typ
   erased_is_spent t past p q w j level h rejects private spent = (h.1.0, alone_back t past p q w j level h.0.ground rejects private h.1.1)
 
   pub erased_all_are_spent : AllSpent (whole x) (BothWithin (GroundedDuring x Known) (ErasedWithin x start)) (ErasedWithin x start)
-  erased_all_are_spent t past p q w j level c parent h rejects of_c spent within = 
+  erased_all_are_spent t past p q w j level c parent h rejects of_c spent within =
       (h.1.0, together_back t past c w (all_spent (whole x) c w) (together_changed x c w.processes) h.0.ground h.1.1)
 
   pub erased_tries_next : TriesNext (whole x) (BothWithin (GroundedDuring x Known) (ErasedWithin x start)) (ErasedAfter x start)
   erased_tries_next t past p q w j level h rejects private more =
-      let v : World S S Nothing = with_process p (put_back (whole x) j) w in
-      (
+      let v : World S S Nothing = with_process p (put_back (whole x) j) w in (
         h.1.0,
         stays_shown t past (with_process p (raised j) v)
-        (one_quiet x (raised j) p v.processes (λ q'. raised_quiet x p j q')
-        (one_quiet x (put_back (whole x) j) p w.processes (λ q'. put_back_quiet x p j q') h.0.ground.quiet))
-        (all_shown_alike x start t past v (with_process p (raised j) v) (only_at p (raised j)) (is_changed_at p (raised j) v.processes)
-        (λ r q' at. only_alike p (raised j) r q' (nat_eq r p) refl (λ same. raised_alike j q'))
-        (alone_back t past p q w j level h.0.ground rejects private h.1.1)),
+            (one_quiet x (raised j) p v.processes (λ q'. raised_quiet x p j q')
+            (one_quiet x (put_back (whole x) j) p w.processes (λ q'. put_back_quiet x p j q') h.0.ground.quiet))
+            (all_shown_alike x start t past v (with_process p (raised j) v) (only_at p (raised j)) (is_changed_at p (raised j) v.processes)
+            (λ r q' at. only_alike p (raised j) r q' (nat_eq r p) refl (λ same. raised_alike j q'))
+            (alone_back t past p q w j level h.0.ground rejects private h.1.1)),
       )
 
   pub erased_all_try_next : AllTryNext (whole x) (BothWithin (GroundedDuring x Known) (ErasedWithin x start)) (ErasedAfter x start)
   erased_all_try_next t past p q w j level c h rejects of_c more =
-      let v : World S S Nothing = all_back (whole x) c w in
-      (
+      let v : World S S Nothing = all_back (whole x) c w in (
         h.1.0,
         stays_shown t past (all_next (whole x) c w)
-        (inside_quiet x raised c v.processes (λ r i q'. raised_quiet x r i q')
-        (inside_quiet x (put_back (whole x)) c w.processes (λ r i q'. put_back_quiet x r i q') h.0.ground.quiet))
-        (all_shown_alike x start t past v (all_next (whole x) c w) (λ r. where_inside raised c) (is_changed_each (where_inside raised c) v.processes)
-        (λ r q' at. raised_at_alike (position (is_of c) q'.levels) q')
-        (together_back t past c w v (together_changed x c w.processes) h.0.ground h.1.1)),
+            (inside_quiet x raised c v.processes (λ r i q'. raised_quiet x r i q')
+            (inside_quiet x (put_back (whole x)) c w.processes (λ r i q'. put_back_quiet x r i q') h.0.ground.quiet))
+            (all_shown_alike x start t past v (all_next (whole x) c w) (λ r. where_inside raised c) (is_changed_each (where_inside raised c) v.processes)
+            (λ r q' at. raised_at_alike (position (is_of c) q'.levels) q')
+            (together_back t past c w v (together_changed x c w.processes) h.0.ground h.1.1)),
       )
