@@ -48,3 +48,14 @@ pub mod StepsShown
 pub mod OneChanged
 pub mod MailShown
 pub mod GoesShown
+-- The laws in which nothing is kept: what a cut does not see, what goes back, and who fails.
+pub mod CutsElsewhere
+pub mod CutsAlike
+pub mod CutsGoBack
+pub mod CutsPlaces
+pub mod NothingKept
+pub mod CutsBreak
+pub mod CutsFall
+pub mod FallsAlone
+pub mod AwayKept
+pub mod ErasedUnder
