@@ -29,3 +29,5 @@ pub mod Erasable
 pub mod Cuts
 pub mod ErasureInvariant
 pub mod ShownFacts
+pub mod UnderSlots
+pub mod SlotsKept
