@@ -11,56 +11,65 @@ use Rattle.rb_world.specs.Turn.{freed, new_level, one_used, stands_now, turn_use
 use Rattle.rb_world.proofs.ListFacts.{none_some, some_same}
 use Rattle.rb_world.proofs.Erasable.{Parts, whole, IsFront, SameMail, LeavesAlone}
 
--- no number taken, now or in a recovery point, lies below the number that room is counted from
-pub record TakesRise {S E P : Type 0} (x : Parts S E P) (q : Process S S) : Type 0 where
-  pub now : (c : ℕ) → room_from (whole x) q.state q.levels c ≤ x.taken q.state c
-  pub then : (i : ℕ) (level : Level S) (c : ℕ) → slice_get q.levels i ≡ Some level → room_from (whole x) q.state q.levels c ≤ x.taken level.copy c
+-- on channel c, no number taken, now or in a recovery point, lies below the number that room is counted from
+pub record TakesRise {S E P : Type 0} (x : Parts S E P) (c : ℕ) (q : Process S S) : Type 0 where
+  pub now : room_from (whole x) q.state q.levels c ≤ x.taken q.state c
+  pub then : (i : ℕ) (level : Level S) → slice_get q.levels i ≡ Some level → room_from (whole x) q.state q.levels c ≤ x.taken level.copy c
 
--- a change from q to q' that leaves all messages in their slots
-pub record KeepsSlots {S E P : Type 0} (x : Parts S E P) (q q' : Process S S) : Type 0 where
-  pub front : IsFront x q'.state q.state
-  pub later : (c : ℕ) → room_from (whole x) q.state q.levels c ≤ room_from (whole x) q'.state q'.levels c
-  pub rise : TakesRise x q'
+-- the messages of s on channel c are the first of those of t
+pub record IsFrontOn {S E P : Type 0} (x : Parts S E P) (c : ℕ) (s t : S) : Type 0 where
+  pub shorter : x.sent s c ≤ x.sent t c
+  pub same : (n : ℕ) → n < x.sent s c → x.message t c n ≡ x.message s c n
 
-module _ {S E P : Type 0} (x : Parts S E P) where
-  pub same_front : (s t : S) → SameMail x s t → IsFront x t s
+-- a change from q to q' that leaves all messages of channel c in their slots
+pub record KeepsSlots {S E P : Type 0} (x : Parts S E P) (c : ℕ) (q q' : Process S S) : Type 0 where
+  pub front : IsFrontOn x c q'.state q.state
+  pub later : room_from (whole x) q.state q.levels c ≤ room_from (whole x) q'.state q'.levels c
+  pub rise : TakesRise x c q'
+
+-- the same of one channel
+pub front_on : {S E P : Type 0} (x : Parts S E P) (c : ℕ) (s t : S) → IsFront x s t → IsFrontOn x c s t
+front_on x c s t front = record { shorter = front.shorter c; same = front.same c }
+
+module _ {S E P : Type 0} (x : Parts S E P) (c : ℕ) where
+  pub same_front : (s t : S) → SameMail x s t → IsFrontOn x c t s
   same_front s t mail = record {
-    shorter = λ c. omega (arith, mail.sent c);
-    same = λ c n less. sym (mail.messages c n);
+    shorter = omega (arith, mail.sent c);
+    same = λ n less. sym (mail.messages c n);
   }
 
-  pub own_front : (s : S) → IsFront x s s
-  own_front s = record { shorter = λ c. omega arith; same = λ c n less. refl }
+  pub own_front : (s : S) → IsFrontOn x c s s
+  own_front s = record { shorter = omega arith; same = λ n less. refl }
 
   -- a new state over the same levels
-  room_over : (s t : S) (levels : List (Level S)) (c : ℕ) → x.taken s c ≤ x.taken t c → room_from (whole x) s levels c ≤ room_from (whole x) t levels c
-  room_over s t [] c more = more
-  room_over s t (l ∷ ls) c more = omega arith
+  room_over : (s t : S) (levels : List (Level S)) → x.taken s c ≤ x.taken t c → room_from (whole x) s levels c ≤ room_from (whole x) t levels c
+  room_over s t [] more = more
+  room_over s t (l ∷ ls) more = omega arith
 
-  now_over : (s t : S) (levels : List (Level S)) (c : ℕ) → x.taken s c ≤ x.taken t c → room_from (whole x) s levels c ≤ x.taken s c → room_from (whole x) t levels c ≤ x.taken t c
-  now_over s t [] c more below = omega arith
-  now_over s t (l ∷ ls) c more below = omega (arith, more, below)
+  now_over : (s t : S) (levels : List (Level S)) → x.taken s c ≤ x.taken t c → room_from (whole x) s levels c ≤ x.taken s c → room_from (whole x) t levels c ≤ x.taken t c
+  now_over s t [] more below = omega arith
+  now_over s t (l ∷ ls) more below = omega (arith, more, below)
 
-  then_over : (s t : S) (levels : List (Level S)) (c n : ℕ) (level : Level S) (i : ℕ) → slice_get levels i ≡ Some level → room_from (whole x) s levels c ≤ n → room_from (whole x) t levels c ≤ n
-  then_over s t [] c n level i e below = absurd (none_some e)
-  then_over s t (l ∷ ls) c n level i e below = below
+  then_over : (s t : S) (levels : List (Level S)) (n : ℕ) (level : Level S) (i : ℕ) → slice_get levels i ≡ Some level → room_from (whole x) s levels c ≤ n → room_from (whole x) t levels c ≤ n
+  then_over s t [] n level i e below = absurd (none_some e)
+  then_over s t (l ∷ ls) n level i e below = below
 
-  pub moved_keeps : (q : Process S S) (t : S) (line : Bool) (status : Status) → TakesRise x q → IsFront x t q.state → ((c : ℕ) → x.taken q.state c ≤ x.taken t c)
-      → KeepsSlots x q (record { state = t; levels = q.levels; at_line = line; status = status })
+  pub moved_keeps : (q : Process S S) (t : S) (line : Bool) (status : Status) → TakesRise x c q → IsFrontOn x c t q.state → x.taken q.state c ≤ x.taken t c
+      → KeepsSlots x c q (record { state = t; levels = q.levels; at_line = line; status = status })
   moved_keeps q t line status rise front more = record {
     front = front;
-    later = λ c. room_over q.state t q.levels c (more c);
+    later = room_over q.state t q.levels more;
     rise = record {
-      now = λ c. now_over q.state t q.levels c (more c) (rise.now c);
-      then = λ i level c e. then_over q.state t q.levels c (x.taken level.copy c) level i e (rise.then i level c e);
+      now = now_over q.state t q.levels more rise.now;
+      then = λ i level e. then_over q.state t q.levels (x.taken level.copy c) level i e (rise.then i level e);
     };
   }
 
   -- levels changed one by one, with the same recovery points
-  room_same_points : (s : S) (f : Level S → Level S) (same : (l : Level S) → (f l).copy ≡ l.copy) (levels : List (Level S)) (c : ℕ)
+  room_same_points : (s : S) (f : Level S → Level S) (same : (l : Level S) → (f l).copy ≡ l.copy) (levels : List (Level S))
       → room_from (whole x) s (map f levels) c ≡ room_from (whole x) s levels c
-  room_same_points s f same [] c = refl
-  room_same_points s f same (l ∷ ls) c = ap (λ (y : S). x.taken y c) (same l)
+  room_same_points s f same [] = refl
+  room_same_points s f same (l ∷ ls) = ap (λ (y : S). x.taken y c) (same l)
 
   point_of_mapped : (f : Level S → Level S) (same : (l : Level S) → (f l).copy ≡ l.copy) (levels : List (Level S)) (i : ℕ) (level : Level S)
       → slice_get (map f levels) i ≡ Some level → (old : Level S) × (slice_get levels i ≡ Some old) × (level.copy ≡ old.copy)
@@ -68,24 +77,24 @@ module _ {S E P : Type 0} (x : Parts S E P) where
   point_of_mapped f same (l ∷ ls) zero level e = (l, refl, ap (λ (y : Level S). y.copy) (sym (some_same e)) ∙ same l)
   point_of_mapped f same (l ∷ ls) (suc i) level e = point_of_mapped f same ls i level e
 
-  pub used_keeps : (q : Process S S) → TakesRise x q → KeepsSlots x q (turn_used q)
+  pub used_keeps : (q : Process S S) → TakesRise x c q → KeepsSlots x c q (turn_used q)
   used_keeps q rise = record {
     front = own_front q.state;
-    later = λ c. omega (arith, room_same_points q.state one_used (λ l. refl) q.levels c);
+    later = omega (arith, room_same_points q.state one_used (λ l. refl) q.levels);
     rise = record {
-      now = λ c. omega (arith, room_same_points q.state one_used (λ l. refl) q.levels c, rise.now c);
-      then = λ i level c e.
+      now = omega (arith, room_same_points q.state one_used (λ l. refl) q.levels, rise.now);
+      then = λ i level e.
           let old = point_of_mapped one_used (λ l. refl) q.levels i level e in
           subst (λ (y : S). room_from (whole x) q.state (map one_used q.levels) c ≤ x.taken y c) (sym old.2)
-          (omega (arith, room_same_points q.state one_used (λ l. refl) q.levels c, rise.then i old.0 c old.1));
+          (omega (arith, room_same_points q.state one_used (λ l. refl) q.levels, rise.then i old.0 old.1));
     };
   }
 
   -- the level whose alternate rises keeps its point
-  room_raised : (s : S) (j : ℕ) (levels : List (Level S)) (c : ℕ) → room_from (whole x) s (change_at j next_alternate levels) c ≡ room_from (whole x) s levels c
-  room_raised s j [] c = refl
-  room_raised s zero (l ∷ ls) c = refl
-  room_raised s (suc j) (l ∷ ls) c = refl
+  room_raised : (s : S) (j : ℕ) (levels : List (Level S)) → room_from (whole x) s (change_at j next_alternate levels) c ≡ room_from (whole x) s levels c
+  room_raised s j [] = refl
+  room_raised s zero (l ∷ ls) = refl
+  room_raised s (suc j) (l ∷ ls) = refl
 
   point_of_raised : (j : ℕ) (levels : List (Level S)) (i : ℕ) (level : Level S)
       → slice_get (change_at j next_alternate levels) i ≡ Some level → (old : Level S) × (slice_get levels i ≡ Some old) × (level.copy ≡ old.copy)
@@ -95,44 +104,44 @@ module _ {S E P : Type 0} (x : Parts S E P) where
   point_of_raised (suc j) (l ∷ ls) zero level e = (l, refl, ap (λ (y : Level S). y.copy) (sym (some_same e)))
   point_of_raised (suc j) (l ∷ ls) (suc i) level e = point_of_raised j ls i level e
 
-  pub raised_keeps : (j : ℕ) (q : Process S S) → TakesRise x q → KeepsSlots x q (raised j q)
+  pub raised_keeps : (j : ℕ) (q : Process S S) → TakesRise x c q → KeepsSlots x c q (raised j q)
   raised_keeps j q rise = record {
     front = own_front q.state;
-    later = λ c. omega (arith, room_raised q.state j q.levels c);
+    later = omega (arith, room_raised q.state j q.levels);
     rise = record {
-      now = λ c. omega (arith, room_raised q.state j q.levels c, rise.now c);
-      then = λ i level c e.
+      now = omega (arith, room_raised q.state j q.levels, rise.now);
+      then = λ i level e.
           let old = point_of_raised j q.levels i level e in
           subst (λ (y : S). room_from (whole x) q.state (change_at j next_alternate q.levels) c ≤ x.taken y c) (sym old.2)
-          (omega (arith, room_raised q.state j q.levels c, rise.then i old.0 c old.1));
+          (omega (arith, room_raised q.state j q.levels, rise.then i old.0 old.1));
     };
   }
 
   -- a new level inside all others
-  room_opened : (s t : S) (levels : List (Level S)) (level : Level S) (c : ℕ) → x.taken level.copy c ≡ x.taken s c
+  room_opened : (s t : S) (levels : List (Level S)) (level : Level S) → x.taken level.copy c ≡ x.taken s c
       → room_from (whole x) t (levels ++ level ∷ []) c ≡ room_from (whole x) s levels c
-  room_opened s t [] level c same = same
-  room_opened s t (l ∷ ls) level c same = refl
+  room_opened s t [] level same = same
+  room_opened s t (l ∷ ls) level same = refl
 
-  then_opened : (levels : List (Level S)) (new : Level S) (n c : ℕ) → n ≤ x.taken new.copy c → ((i : ℕ) (level : Level S) → slice_get levels i ≡ Some level → n ≤ x.taken level.copy c)
+  then_opened : (levels : List (Level S)) (new : Level S) (n : ℕ) → n ≤ x.taken new.copy c → ((i : ℕ) (level : Level S) → slice_get levels i ≡ Some level → n ≤ x.taken level.copy c)
       → (i : ℕ) (level : Level S) → slice_get (levels ++ new ∷ []) i ≡ Some level → n ≤ x.taken level.copy c
-  then_opened [] new n c last below zero level e = subst (λ (y : Level S). n ≤ x.taken y.copy c) (some_same e) last
-  then_opened [] new n c last below (suc i) level e = absurd (none_some e)
-  then_opened (l ∷ ls) new n c last below zero level e = below zero level e
-  then_opened (l ∷ ls) new n c last below (suc i) level e = then_opened ls new n c last (λ k y h. below (suc k) y h) i level e
+  then_opened [] new n last below zero level e = subst (λ (y : Level S). n ≤ x.taken y.copy c) (some_same e) last
+  then_opened [] new n last below (suc i) level e = absurd (none_some e)
+  then_opened (l ∷ ls) new n last below zero level e = below zero level e
+  then_opened (l ∷ ls) new n last below (suc i) level e = then_opened ls new n last (λ k y h. below (suc k) y h) i level e
 
-  pub opened_keeps : (q : Process S S) (t : S) (level : Level S) (line : Bool) (status : Status) → TakesRise x q → SameMail x q.state t → level.copy ≡ t
-      → KeepsSlots x q (record { state = t; levels = q.levels ++ level ∷ []; at_line = line; status = status })
+  pub opened_keeps : (q : Process S S) (t : S) (level : Level S) (line : Bool) (status : Status) → TakesRise x c q → SameMail x q.state t → level.copy ≡ t
+      → KeepsSlots x c q (record { state = t; levels = q.levels ++ level ∷ []; at_line = line; status = status })
   opened_keeps q t level line status rise mail point =
-      let same : (c : ℕ) → x.taken level.copy c ≡ x.taken q.state c = λ c. ap (λ (y : S). x.taken y c) point ∙ mail.taken c in
-      let room : (c : ℕ) → room_from (whole x) t (q.levels ++ level ∷ []) c ≡ room_from (whole x) q.state q.levels c = λ c. room_opened q.state t q.levels level c (same c) in
+      let same : x.taken level.copy c ≡ x.taken q.state c = ap (λ (y : S). x.taken y c) point ∙ mail.taken c in
+      let room : room_from (whole x) t (q.levels ++ level ∷ []) c ≡ room_from (whole x) q.state q.levels c = room_opened q.state t q.levels level same in
       record {
         front = same_front q.state t mail;
-        later = λ c. omega (arith, room c);
+        later = omega (arith, room);
         rise = record {
-          now = λ c. omega (arith, room c, rise.now c, mail.taken c);
-          then = λ i one c e. then_opened q.levels level (room_from (whole x) t (q.levels ++ level ∷ []) c) c (omega (arith, room c, rise.now c, same c))
-              (λ k y h. omega (arith, room c, rise.then k y c h)) i one e;
+          now = omega (arith, room, rise.now, mail.taken c);
+          then = λ i one e. then_opened q.levels level (room_from (whole x) t (q.levels ++ level ∷ []) c) (omega (arith, room, rise.now, same))
+              (λ k y h. omega (arith, room, rise.then k y h)) i one e;
         };
       }
 
@@ -143,46 +152,46 @@ module _ {S E P : Type 0} (x : Parts S E P) where
   then_left (l ∷ m ∷ ls) zero level e = e
   then_left (l ∷ m ∷ ls) (suc i) level e = then_left (m ∷ ls) i level e
 
-  room_left : (s t : S) (levels : List (Level S)) (c : ℕ) → x.taken t c ≡ x.taken s c → room_from (whole x) s levels c ≤ x.taken s c
+  room_left : (s t : S) (levels : List (Level S)) → x.taken t c ≡ x.taken s c → room_from (whole x) s levels c ≤ x.taken s c
       → (room_from (whole x) s levels c ≤ room_from (whole x) t (without_last levels) c) × (room_from (whole x) t (without_last levels) c ≤ x.taken t c)
-  room_left s t [] c same below = (omega (arith, same), omega arith)
-  room_left s t (l ∷ []) c same below = (omega (arith, same, below), omega arith)
-  room_left s t (l ∷ m ∷ ls) c same below = (omega arith, omega (arith, same, below))
+  room_left s t [] same below = (omega (arith, same), omega arith)
+  room_left s t (l ∷ []) same below = (omega (arith, same, below), omega arith)
+  room_left s t (l ∷ m ∷ ls) same below = (omega arith, omega (arith, same, below))
 
-  then_room : (s t : S) (levels : List (Level S)) (c n i : ℕ) (level : Level S) → slice_get (without_last levels) i ≡ Some level → room_from (whole x) s levels c ≤ n
+  then_room : (s t : S) (levels : List (Level S)) (n i : ℕ) (level : Level S) → slice_get (without_last levels) i ≡ Some level → room_from (whole x) s levels c ≤ n
       → room_from (whole x) t (without_last levels) c ≤ n
-  then_room s t [] c n i level e below = absurd (none_some e)
-  then_room s t (l ∷ []) c n i level e below = absurd (none_some e)
-  then_room s t (l ∷ m ∷ ls) c n i level e below = below
+  then_room s t [] n i level e below = absurd (none_some e)
+  then_room s t (l ∷ []) n i level e below = absurd (none_some e)
+  then_room s t (l ∷ m ∷ ls) n i level e below = below
 
-  pub left_keeps : (q : Process S S) (t : S) (line : Bool) (status : Status) → TakesRise x q → SameMail x q.state t
-      → KeepsSlots x q (record { state = t; levels = without_last q.levels; at_line = line; status = status })
+  pub left_keeps : (q : Process S S) (t : S) (line : Bool) (status : Status) → TakesRise x c q → SameMail x q.state t
+      → KeepsSlots x c q (record { state = t; levels = without_last q.levels; at_line = line; status = status })
   left_keeps q t line status rise mail = record {
     front = same_front q.state t mail;
-    later = λ c. (room_left q.state t q.levels c (mail.taken c) (rise.now c)).0;
+    later = (room_left q.state t q.levels (mail.taken c) rise.now).0;
     rise = record {
-      now = λ c. (room_left q.state t q.levels c (mail.taken c) (rise.now c)).1;
-      then = λ i level c e. then_room q.state t q.levels c (x.taken level.copy c) i level e (rise.then i level c (then_left q.levels i level e));
+      now = (room_left q.state t q.levels (mail.taken c) rise.now).1;
+      then = λ i level e. then_room q.state t q.levels (x.taken level.copy c) i level e (rise.then i level (then_left q.levels i level e));
     };
   }
 
-  pub fallen_keeps : (cause : Cause) (q : Process S S) → TakesRise x q → KeepsSlots x q (fallen (whole x) cause q)
+  pub fallen_keeps : (cause : Cause) (q : Process S S) → TakesRise x c q → KeepsSlots x c q (fallen (whole x) cause q)
   fallen_keeps cause q rise = record {
     front = own_front q.state;
     later = rise.now;
-    rise = record { now = λ c. omega arith; then = λ i level c e. absurd (none_some e) };
+    rise = record { now = omega arith; then = λ i level e. absurd (none_some e) };
   }
 
   -- the levels up to one are left
-  room_first : (s t : S) (j : ℕ) (levels : List (Level S)) (c : ℕ) (level : Level S) → slice_get levels j ≡ Some level
+  room_first : (s t : S) (j : ℕ) (levels : List (Level S)) (level : Level S) → slice_get levels j ≡ Some level
       → room_from (whole x) t (take (suc j) levels) c ≡ room_from (whole x) s levels c
-  room_first s t j [] c level e = absurd (none_some e)
-  room_first s t j (l ∷ ls) c level e = refl
+  room_first s t j [] level e = absurd (none_some e)
+  room_first s t j (l ∷ ls) level e = refl
 
-  room_back : (s t : S) (j : ℕ) (levels : List (Level S)) (c : ℕ) (level : Level S) → slice_get levels j ≡ Some level
+  room_back : (s t : S) (j : ℕ) (levels : List (Level S)) (level : Level S) → slice_get levels j ≡ Some level
       → room_from (whole x) t (take (j + 1) levels) c ≡ room_from (whole x) s levels c
-  room_back s t j levels c level e =
-      subst (λ (n : ℕ). room_from (whole x) t (take n levels) c ≡ room_from (whole x) s levels c) (sym (add-one j)) (room_first s t j levels c level e)
+  room_back s t j levels level e =
+      subst (λ (n : ℕ). room_from (whole x) t (take n levels) c ≡ room_from (whole x) s levels c) (sym (add-one j)) (room_first s t j levels level e)
 
   then_back : (j : ℕ) (levels : List (Level S)) (i : ℕ) (level : Level S) → slice_get (take j levels) i ≡ Some level → slice_get levels i ≡ Some level
   then_back zero levels i level e = absurd (none_some e)
@@ -190,32 +199,32 @@ module _ {S E P : Type 0} (x : Parts S E P) where
   then_back (suc j) (l ∷ ls) zero level e = e
   then_back (suc j) (l ∷ ls) (suc i) level e = then_back j ls i level e
 
-  back_keeps : (j : ℕ) (q : Process S S) (level : Option (Level S)) → slice_get q.levels j ≡ level → TakesRise x q
-      → ((i : ℕ) (one : Level S) → slice_get q.levels i ≡ Some one → IsFront x one.copy q.state) → KeepsSlots x q (back_to (whole x) j q level)
-  back_keeps j q None e rise before = record { front = own_front q.state; later = λ c. omega arith; rise = rise }
+  back_keeps : (j : ℕ) (q : Process S S) (level : Option (Level S)) → slice_get q.levels j ≡ level → TakesRise x c q
+      → ((i : ℕ) (one : Level S) → slice_get q.levels i ≡ Some one → IsFront x one.copy q.state) → KeepsSlots x c q (back_to (whole x) j q level)
+  back_keeps j q None e rise before = record { front = own_front q.state; later = omega arith; rise = rise }
   back_keeps j q (Some level) e rise before = record {
-    front = before j level e;
-    later = λ c. omega (arith, room_back q.state level.copy j q.levels c level e);
+    front = front_on x c level.copy q.state (before j level e);
+    later = omega (arith, room_back q.state level.copy j q.levels level e);
     rise = record {
-      now = λ c. omega (arith, room_back q.state level.copy j q.levels c level e, rise.then j level c e);
-      then = λ i one c h. omega (arith, room_back q.state level.copy j q.levels c level e, rise.then i one c (then_back (j + 1) q.levels i one h));
+      now = omega (arith, room_back q.state level.copy j q.levels level e, rise.then j level e);
+      then = λ i one h. omega (arith, room_back q.state level.copy j q.levels level e, rise.then i one (then_back (j + 1) q.levels i one h));
     };
   }
 
-  pub put_back_keeps : (j : ℕ) (q : Process S S) → TakesRise x q
-      → ((i : ℕ) (one : Level S) → slice_get q.levels i ≡ Some one → IsFront x one.copy q.state) → KeepsSlots x q (put_back (whole x) j q)
+  pub put_back_keeps : (j : ℕ) (q : Process S S) → TakesRise x c q
+      → ((i : ℕ) (one : Level S) → slice_get q.levels i ≡ Some one → IsFront x one.copy q.state) → KeepsSlots x c q (put_back (whole x) j q)
   put_back_keeps j q rise before = back_keeps j q (slice_get q.levels j) refl rise before
 
   -- one change after another
-  pub both_keep : (q r s : Process S S) → KeepsSlots x q r → KeepsSlots x r s → KeepsSlots x q s
+  pub both_keep : (q r s : Process S S) → KeepsSlots x c q r → KeepsSlots x c r s → KeepsSlots x c q s
   both_keep q r s one other = record {
     front = record {
-      shorter = λ c. omega (arith, one.front.shorter c, other.front.shorter c);
-      same = λ c n less. one.front.same c n (omega (arith, less, other.front.shorter c)) ∙ other.front.same c n less;
+      shorter = omega (arith, one.front.shorter, other.front.shorter);
+      same = λ n less. one.front.same n (omega (arith, less, other.front.shorter)) ∙ other.front.same n less;
     };
-    later = λ c. omega (arith, one.later c, other.later c);
+    later = omega (arith, one.later, other.later);
     rise = other.rise;
   }
 
-  pub stays_keeps : (q : Process S S) → TakesRise x q → KeepsSlots x q q
-  stays_keeps q rise = record { front = own_front q.state; later = λ c. omega arith; rise = rise }
+  pub stays_keeps : (q : Process S S) → TakesRise x c q → KeepsSlots x c q q
+  stays_keeps q rise = record { front = own_front q.state; later = omega arith; rise = rise }
