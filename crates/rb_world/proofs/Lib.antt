@@ -31,3 +31,4 @@ pub mod ErasureInvariant
 pub mod ShownFacts
 pub mod UnderSlots
 pub mod SlotsKept
+pub mod SlotsRead
