@@ -32,3 +32,5 @@ pub mod ShownFacts
 pub mod UnderSlots
 pub mod SlotsKept
 pub mod SlotsRead
+pub mod SlotsHold
+pub mod SlotsSteps

@@ -42,7 +42,7 @@ module _ {S E P : Type 0} (x : Parts S E P) (c : ℕ) where
   own_front s = record { shorter = omega arith; same = λ n less. refl }
 
   -- a new state over the same levels
-  room_over : (s t : S) (levels : List (Level S)) → x.taken s c ≤ x.taken t c → room_from (whole x) s levels c ≤ room_from (whole x) t levels c
+  pub room_over : (s t : S) (levels : List (Level S)) → x.taken s c ≤ x.taken t c → room_from (whole x) s levels c ≤ room_from (whole x) t levels c
   room_over s t [] more = more
   room_over s t (l ∷ ls) more = omega arith
 
@@ -54,15 +54,19 @@ module _ {S E P : Type 0} (x : Parts S E P) (c : ℕ) where
   then_over s t [] n level i e below = absurd (none_some e)
   then_over s t (l ∷ ls) n level i e below = below
 
+  pub moved_rises : (q : Process S S) (t : S) (line : Bool) (status : Status) → TakesRise x c q → x.taken q.state c ≤ x.taken t c
+      → TakesRise x c (record { state = t; levels = q.levels; at_line = line; status = status })
+  moved_rises q t line status rise more = record {
+    now = now_over q.state t q.levels more rise.now;
+    then = λ i level e. then_over q.state t q.levels (x.taken level.copy c) level i e (rise.then i level e);
+  }
+
   pub moved_keeps : (q : Process S S) (t : S) (line : Bool) (status : Status) → TakesRise x c q → IsFrontOn x c t q.state → x.taken q.state c ≤ x.taken t c
       → KeepsSlots x c q (record { state = t; levels = q.levels; at_line = line; status = status })
   moved_keeps q t line status rise front more = record {
     front = front;
     later = room_over q.state t q.levels more;
-    rise = record {
-      now = now_over q.state t q.levels more rise.now;
-      then = λ i level e. then_over q.state t q.levels (x.taken level.copy c) level i e (rise.then i level e);
-    };
+    rise = moved_rises q t line status rise more;
   }
 
   -- levels changed one by one, with the same recovery points
