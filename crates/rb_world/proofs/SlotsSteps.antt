@@ -117,3 +117,35 @@ module _ {S E P : Type 0} (x : Parts S E P) (Known : ℕ → Process S S → Typ
         ∙ lies.lie n (omega (arith, later, from)) less
         ∙ sym (moves.front.same c n less)
         ∙ sym ((kept_mail t alternate s).messages c n)
+
+    -- the last of the messages was sent by process p
+    pub sent_holds : (p : ℕ) (w : World S S (Nothing × Slots)) → HoldsOn x c ends w → slice_get w.processes p ≡ Some q → w.memory.1 ≡ slots → ends.sender ≡ p
+        → has_room (whole x) (bare w) c ≡ true → HoldsOn x c ends (with_memory (tt, new_slots) (with_process p (λ _. after) w))
+    sent_holds p w holds there same by room = record {
+      rise = λ r a e.
+          let come = comes_changed (λ a b. TakesRise x c a → TakesRise x c b) p (λ _. after) w.processes (λ n b _ h. h) (λ b here h. moved_rises x c q after.state false status
+              (subst (λ (z : Process S S). TakesRise x c z) (some_same (sym here ∙ there)) h) taken_after) r a e in
+          come.keeps (holds.rise r come.old come.there);
+      sized = record {
+        values = slice_set sized.values (sent_now % size_on x.channels c) (x.message s c sent_now);
+        there = put_sized x.channels slots c sent_now (x.message s c sent_now) sized.values sized.there;
+        many = length-set sized.values (sent_now % size_on x.channels c) (x.message s c sent_now) ∙ sized.many;
+      };
+      lie = λ a b here other.
+          let come = comes_changed (λ d e. room_from (whole x) d.state d.levels c ≤ room_from (whole x) e.state e.levels c) p (λ _. after) w.processes (λ n d _. omega arith)
+              (λ d e. subst (λ (z : Process S S). room_from (whole x) z.state z.levels c ≤ room_from (whole x) after.state after.levels c) (some_same (sym there ∙ e))
+              (room_over x c q.state after.state q.levels taken_after)) ends.receiver b other in
+          let sender_there : slice_get w.processes ends.sender ≡ Some q = subst (λ (n : ℕ). slice_get w.processes n ≡ Some q) (sym by) there in
+          let roomy : sent_now < ends.size + room_from (whole x) come.old.state come.old.levels c = has_room_left (bare w) q come.old sender_there come.there room in
+          subst (λ (z : Process S S). LieInSlots (whole x) tt new_slots c ends z b)
+          (some_same (sym (slice_get-change_at p (λ _. after) w.processes ∙ ap (option_map (λ _. after)) there) ∙ subst (λ (n : ℕ). slice_get (with_process p (λ _. after) w).processes n ≡ Some a) by here))
+          (record {
+            fit = omega (arith, sent_after, roomy, come.keeps);
+            lie = λ n from below. lie_here come.old b roomy come.keeps
+                (subst (λ (z : Slots). LieInSlots (whole x) tt z c ends q come.old) same (holds.lie q come.old sender_there come.there))
+                n from below (nat_eq n sent_now) refl;
+          });
+    }
+      where
+        taken_after : x.taken q.state c ≤ x.taken after.state c
+        taken_after = omega (arith, (kept_mail t alternate s).taken c, moves.taken c ends declared)
