@@ -34,3 +34,5 @@ pub mod SlotsKept
 pub mod SlotsRead
 pub mod SlotsHold
 pub mod SlotsSteps
+pub mod SlotsStand
+pub mod SlotsInvariant

@@ -18,12 +18,12 @@ use Rattle.rb_world.proofs.SlotsKept.{TakesRise, IsFrontOn, KeepsSlots, moved_ke
 use Rattle.rb_world.proofs.SlotsHold.{AreSized, Comes, comes_changed, HoldsOn, Keeping, holds_on}
 
 -- the slots after a step that went on
-abbrev SlotsOf : {S C M : Type 0} → Kind S C M → S → Slots → Stepped S (M × Slots) → Type 0
+abbrev pub SlotsOf : {S C M : Type 0} → Kind S C M → S → Slots → Stepped S (M × Slots) → Type 0
 SlotsOf k s slots (Trapped cause) = Unit {0}
 SlotsOf k s slots (Went later m) = m.1 ≡ slots_after k m.0 (k.want s) s later slots
 SlotsOf k s slots (Held later) = Unit {0}
 
-slots_of : {S C M : Type 0} (k : Kind S C M) (s : S) (slots : Slots) (one : Stepped S M) → SlotsOf k s slots (stepped_with_slots k s slots one)
+pub slots_of : {S C M : Type 0} (k : Kind S C M) (s : S) (slots : Slots) (one : Stepped S M) → SlotsOf k s slots (stepped_with_slots k s slots one)
 slots_of k s slots (Trapped cause) = tt
 slots_of k s slots (Went later m) = refl
 slots_of k s slots (Held later) = tt
@@ -32,7 +32,7 @@ slots_of k s slots (Held later) = tt
 wants_send : {c d : ℕ} → SendsOn c ≡ SendsOn d → c ≡ d
 wants_send e = cc
 
-room_for : {S C M : Type 0} (k : Kind S C M) (q : Process S C) (w : World S C M) (message : Option ℤ) (c : ℕ) → IsReady k q w message → k.want q.state ≡ SendsOn c → has_room k w c ≡ true
+pub room_for : {S C M : Type 0} (k : Kind S C M) (q : Process S C) (w : World S C M) (message : Option ℤ) (c : ℕ) → IsReady k q w message → k.want q.state ≡ SendsOn c → has_room k w c ≡ true
 room_for k q w message c (ToSend d wants room none) e = subst (λ (n : ℕ). has_room k w n ≡ true) (wants_send (sym wants ∙ e)) room
 room_for k q w message c (ToReceive d v wants there is) e = cc
 room_for k q w message c (ToReceiveIfThere d wants is) e = cc
@@ -41,10 +41,10 @@ room_for k q w message c (ToAct wants none) e = cc
 
 module _ {S E P : Type 0} (x : Parts S E P) (Known : ℕ → Process S S → Type 0) (laws : IsErasable x Known) (c : ℕ) (ends : Ends) (declared : slice_get x.channels c ≡ Some ends) where
   -- what becomes of a state that is kept and settles
-  abbrev kept_state : ℕ → ℕ → S → S
+  abbrev pub kept_state : ℕ → ℕ → S → S
   kept_state t alternate s = x.settle (x.keep t alternate s)
 
-  kept_mail : (t alternate : ℕ) (s : S) → SameMail x s (kept_state t alternate s)
+  pub kept_mail : (t alternate : ℕ) (s : S) → SameMail x s (kept_state t alternate s)
   kept_mail t alternate s =
       let one = laws.keeps_mail t alternate s in
       let other = (laws.settles (x.keep t alternate s)).mail in
@@ -62,7 +62,7 @@ module _ {S E P : Type 0} (x : Parts S E P) (Known : ℕ → Process S S → Typ
       (λ a e. subst (λ (b : Process S S). Keeping x c ends b q') (some_same (sym there ∙ e)) keeps))
 
   -- a step that sends nothing on the channel
-  unsent : (t alternate : ℕ) (message : Option ℤ) (q : Process S S) (s : S) (status : Status) → Moves x message q.state s → sends_by (x.want q.state) c ≡ 0
+  pub unsent : (t alternate : ℕ) (message : Option ℤ) (q : Process S S) (s : S) (status : Status) → Moves x message q.state s → sends_by (x.want q.state) c ≡ 0
       → Keeping x c ends q (record { state = kept_state t alternate s; levels = q.levels; at_line = false; status = status })
   unsent t alternate message q s status moves none rise =
       let mail = kept_mail t alternate s in

@@ -97,7 +97,7 @@ module _ {S C M : Type 0} (k : Kind S C M) where
   one-bare : (f g : Process S C → Process S C) → ((q : Process S C) → f q ≡ g q) → (p : ℕ) (w : World S C M) → with_process p f w ≡ with_process p g w
   one-bare f g same p w = ap (λ (h : Process S C → Process S C). with_process p h w) (λ i q. same q i)
 
-  all_back-bare : (c : ℕ) (w : World S C (M × Slots)) → bare (all_back (with_slots k) c w) ≡ all_back k c (bare w)
+  pub all_back-bare : (c : ℕ) (w : World S C (M × Slots)) → bare (all_back (with_slots k) c w) ≡ all_back k c (bare w)
   all_back-bare c w = ap (λ (v : World S C M). record { processes = v.processes; talks = (all_back k c (bare w)).talks; memory = w.memory.0 })
       (each-bare (where_inside (put_back (with_slots k)) c) (where_inside (put_back k) c) (λ q. at_place-bare (position (is_of c) q.levels) q) (bare w))
 
