@@ -59,3 +59,10 @@ pub mod CutsFall
 pub mod FallsAlone
 pub mod AwayKept
 pub mod ErasedUnder
+pub mod UnderSlots
+pub mod SlotsKept
+pub mod SlotsRead
+pub mod SlotsHold
+pub mod SlotsSteps
+pub mod SlotsStand
+pub mod SlotsInvariant
