@@ -10,6 +10,12 @@ use Rattle.rb_world.proofs.CutsBreak.{erased_breaks}
 use Rattle.rb_world.proofs.AwayKept.{away_kept}
 use Rattle.rb_world.proofs.FallsAlone.{AwayBetween, AwayWithin, erased_falls}
 
+-- what is shown under the ground and beside it
+abbrev pub ErasureIsKept : {S E P : Type 0} → Parts S E P → (ℕ → Process S S → Type 0) → World S P Nothing → Type 0
+ErasureIsKept x Known start = IsInvariantUnder (whole x)
+    (BothBetween (GroundedBefore x Known) AwayBetween) (BothWithin (GroundedDuring x Known) AwayWithin) (BothBetween (GroundedAfter x Known) AwayBetween)
+    (ErasedBefore x start) (ErasedWithin x start) (ErasedAfter x start)
+
 module _ {S E P : Type 0} (x : Parts S E P) (Known : ℕ → Process S S → Type 0) (laws : IsErasable x Known) (start : World S P Nothing) where
   -- all laws of erasure, from those in which a turn is kept
   pub erased_under : Goes (whole x) (BothWithin (GroundedDuring x Known) (ErasedWithin x start)) (ErasedAfter x start)
@@ -18,8 +24,7 @@ module _ {S E P : Type 0} (x : Parts S E P) (Known : ℕ → Process S S → Typ
       → Stands (whole x) (BothWithin (GroundedDuring x Known) (ErasedWithin x start)) (ErasedAfter x start)
       → Leaves (whole x) (BothWithin (GroundedDuring x Known) (ErasedWithin x start)) (ErasedAfter x start)
       → Releases (whole x) (BothBetween (GroundedAfter x Known) (ErasedAfter x start)) (ErasedBefore x start)
-      → IsInvariantUnder (whole x) (BothBetween (GroundedBefore x Known) AwayBetween) (BothWithin (GroundedDuring x Known) AwayWithin) (BothBetween (GroundedAfter x Known) AwayBetween)
-      (ErasedBefore x start) (ErasedWithin x start) (ErasedAfter x start)
+      → ErasureIsKept x Known start
   erased_under goes opens accepts stands leaves releases = record {
     rests = λ t past w h. erased_rests x Known start t past w (h.0.0, h.1);
     uses = λ t past p q w h r. erased_uses x Known start t past p q w (h.0.0, h.1) r;
@@ -42,8 +47,7 @@ module _ {S E P : Type 0} (x : Parts S E P) (Known : ℕ → Process S S → Typ
 
   -- and so the whole invariant, from that of the ground
   pub erased_and_grounded : IsInvariant (whole x) (GroundedBefore x Known) (GroundedDuring x Known) (GroundedAfter x Known)
-      → IsInvariantUnder (whole x) (BothBetween (GroundedBefore x Known) AwayBetween) (BothWithin (GroundedDuring x Known) AwayWithin) (BothBetween (GroundedAfter x Known) AwayBetween)
-      (ErasedBefore x start) (ErasedWithin x start) (ErasedAfter x start)
+      → ErasureIsKept x Known start
       → IsInvariant (whole x) (BothBetween (BothBetween (GroundedBefore x Known) AwayBetween) (ErasedBefore x start))
       (BothWithin (BothWithin (GroundedDuring x Known) AwayWithin) (ErasedWithin x start)) (BothBetween (BothBetween (GroundedAfter x Known) AwayBetween) (ErasedAfter x start))
   erased_and_grounded ground erased = both_kept (both_kept ground (away_kept x Known laws)) erased

@@ -7,7 +7,7 @@ use Rattle.rb_world.specs.Turn.{Told, most_levels, opening, run}
 use Rattle.rb_world.specs.Plain.{Kept, Ended, insert_all, plain_run, survivors_from, survivors_of}
 use Rattle.rb_world.specs.Standing.{Each, IsShallow, is_failed}
 use Rattle.rb_world.specs.Erased.{Rises, numbered, released_in}
-use Rattle.rb_world.proofs.Invariant.{BothBetween, IsInvariantUnder, both_kept}
+use Rattle.rb_world.proofs.Invariant.{BothBetween}
 use Rattle.rb_world.proofs.Induction.{run-keeps}
 use Rattle.rb_world.proofs.EachProcess.{KeepsEach, each_opening_run}
 use Rattle.rb_world.proofs.StandingFacts.{shallow_kept, status_at-whole}
@@ -18,6 +18,9 @@ use Rattle.rb_world.proofs.ErasureInvariant.{kept_in, AreSent, ShowsCut, AllShow
 use Rattle.rb_world.proofs.LevelFacts.{some_none}
 use Rattle.rb_world.proofs.Grounded.{grounded_kept, opening_grounded}
 use Rattle.rb_world.proofs.FreedShown.{IsImageAt, get_mapped}
+use Rattle.rb_world.proofs.AwayKept.{away_opens}
+use Rattle.rb_world.proofs.FallsAlone.{AwayBetween}
+use Rattle.rb_world.proofs.ErasedUnder.{ErasureIsKept, erased_and_grounded}
 
 -- opening states of which all is known, that kept no turn, hold no line, and took no message
 pub record OpensErasably {S E P : Type 0} (x : Parts S E P) (Known : ℕ → Process S S → Type 0) (states : List S) : Type 0 where
@@ -124,12 +127,11 @@ pub record IsShownWhole {S E P : Type 0} (x : Parts S E P) (Known : ℕ → Proc
   pub shallow : Each IsShallow w.processes
 
 module _ {S E P : Type 0} {x : Parts S E P} {Known : ℕ → Process S S → Type 0} (keeps : KeepsEach (whole x) Known) (laws : IsErasable x Known) {states : List S} (opens : OpensErasably x Known states)
-    (kept : IsInvariantUnder (whole x) (GroundedBefore x Known) (GroundedDuring x Known) (GroundedAfter x Known)
-    (ErasedBefore x (opening (plain x) states tt)) (ErasedWithin x (opening (plain x) states tt)) (ErasedAfter x (opening (plain x) states tt))) where
+    (kept : ErasureIsKept x Known (opening (plain x) states tt)) where
   run_both : (turns : List ℕ) → let end = run (whole x) 1 turns (opening (whole x) states tt) in
-      BothBetween (GroundedBefore x Known) (ErasedBefore x (opening (plain x) states tt)) (1 + length turns) end.1 end.0
-  run_both turns = run-keeps (both_kept (grounded_kept keeps laws) kept) 1 [] turns (opening (whole x) states tt) (
-    opening_grounded keeps laws states opens.known (λ r s e. (laws.settles s).held ∙ opens.held r s e),
+      BothBetween (BothBetween (GroundedBefore x Known) AwayBetween) (ErasedBefore x (opening (plain x) states tt)) (1 + length turns) end.1 end.0
+  run_both turns = run-keeps (erased_and_grounded x Known laws (opening (plain x) states tt) (grounded_kept keeps laws) kept) 1 [] turns (opening (whole x) states tt) (
+    (opening_grounded keeps laws states opens.known (λ r s e. (laws.settles s).held ∙ opens.held r s e), away_opens (whole x) states tt),
     opening_erased laws opens,
   )
 
@@ -138,7 +140,7 @@ module _ {S E P : Type 0} {x : Parts S E P} {Known : ℕ → Process S S → Typ
       IsShownWhole x Known (opening (plain x) states tt) end.1 end.0
   run_shown turns = record {
     turn = 1 + length turns;
-    ground = (run_both turns).0;
+    ground = (run_both turns).0.0;
     shown = (run_both turns).1.1;
     shallow = each_opening_run (shallow_kept (whole x)) turns states tt (λ r s _. omega arith);
   }

@@ -17,6 +17,7 @@ use Rattle.rb_world.proofs.Cuts.{IsConsistent, ShowsOne, with_shown}
 use Rattle.rb_world.proofs.ErasureInvariant.{IsGrounded, GroundedBefore, GroundedDuring, GroundedAfter, ShowsCut, ErasedBefore, ErasedWithin, ErasedAfter}
 use Rattle.rb_world.proofs.ShownFacts.{IsShown, get_shown}
 use Rattle.rb_world.proofs.LevelFacts.{any_level, level_at_place, no_place, some_none}
+use Rattle.rb_world.proofs.ErasedUnder.{ErasureIsKept}
 use Rattle.rb_world.proofs.Erasure.{OpensErasably, IsShownWhole, all_present, consistent_present, present, run_shown, state_at_level, state_present}
 
 -- Nested levels of one conversation have the same number, in one process or in two.
@@ -210,8 +211,7 @@ module _ {S E P : Type 0} {x : Parts S E P} {Known : ℕ → Process S S → Typ
 
 module _ {S E P : Type 0} {x : Parts S E P} {Known : ℕ → Process S S → Type 0} (keeps : KeepsEach (whole x) Known) (laws : IsErasable x Known) (two : AreBetweenTwo x.channels)
     {states : List S} (opens : OpensErasably x Known states)
-    (kept : IsInvariantUnder (whole x) (GroundedBefore x Known) (GroundedDuring x Known) (GroundedAfter x Known)
-    (ErasedBefore x (opening (plain x) states tt)) (ErasedWithin x (opening (plain x) states tt)) (ErasedAfter x (opening (plain x) states tt))) where
+    (kept : ErasureIsKept x Known (opening (plain x) states tt)) where
   -- No receipt stands whose message was taken back.
   pub no_receipt_taken_back : (turns : List ℕ) → AreSeen x (run (whole x) 1 turns (opening (whole x) states tt)).0
   no_receipt_taken_back turns c ends sender receiver channel there there' =
