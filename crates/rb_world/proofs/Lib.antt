@@ -66,3 +66,4 @@ pub mod SlotsHold
 pub mod SlotsSteps
 pub mod SlotsStand
 pub mod SlotsInvariant
+pub mod SlotsTheorem
