@@ -29,3 +29,4 @@ pub mod Erasable
 pub mod Cuts
 pub mod ErasureInvariant
 pub mod ShownFacts
+pub mod PresentShown
