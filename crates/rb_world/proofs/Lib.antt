@@ -30,3 +30,5 @@ pub mod Cuts
 pub mod ErasureInvariant
 pub mod ShownFacts
 pub mod PresentShown
+pub mod MailKept
+pub mod ConsistentCuts
