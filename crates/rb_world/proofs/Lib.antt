@@ -32,3 +32,5 @@ pub mod ShownFacts
 pub mod PresentShown
 pub mod MailKept
 pub mod ConsistentCuts
+pub mod TurnShown
+pub mod OpensShown

@@ -32,6 +32,20 @@ slice_get-there [] n h = absurd (not-suc-le-zero h)
 slice_get-there (x ∷ xs) zero h = (x, refl)
 slice_get-there (x ∷ xs) (suc n) h = slice_get-there xs n (le_of_suc-le-suc h)
 
+-- the element at the end of a list, and the list's length
+pub slice_get-end : {A : Type 0} (xs : List A) (y : A) → slice_get (xs ++ y ∷ []) (length xs) ≡ Some y
+slice_get-end [] y = refl
+slice_get-end (x ∷ xs) y = slice_get-end xs y
+
+pub length-end : {A : Type 0} (xs : List A) (y : A) → length (xs ++ y ∷ []) ≡ suc (length xs)
+length-end [] y = refl
+length-end (x ∷ xs) y = ap suc (length-end xs y)
+
+-- such a list is not empty
+pub end-not_empty : {A : Type 0} (xs : List A) (y : A) → xs ++ y ∷ [] ≡ [] → ⊥
+end-not_empty [] y e = cc
+end-not_empty (x ∷ xs) y e = cc
+
 module _ {S E P : Type 0} (x : Parts S E P) where
   -- a process as it is, as a plain run has it
   abbrev pub present : Process S S → Process S P
