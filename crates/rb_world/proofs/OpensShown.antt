@@ -4,7 +4,7 @@ use Rattle.std.proofs.Common.{◌≡◌, ◌≤◌, ◌<◌, ◌+◌, ℕ, suc, 
 use Rattle.std.proofs.lemmas.List.{length-map, map-append}
 use Rattle.std.proofs.lemmas.Option.{slice_get_within}
 use Rattle.rb_world.specs.Kind.{Facts, Want, Enters}
-use Rattle.rb_world.specs.World.{Level, Status, Running, Process, World, change_at, goes_on}
+use Rattle.rb_world.specs.World.{Level, Status, Running, Process, World, change_at, goes_on, with_process}
 use Rattle.rb_world.specs.Nested.{IsLevelOf}
 use Rattle.rb_world.specs.Standing.{Each}
 use Rattle.rb_world.specs.Turn.{Moved, Told, most_levels, new_level, open_at, opened}
@@ -13,12 +13,12 @@ use Rattle.rb_world.proofs.TurnFacts.{EntersAt}
 use Rattle.rb_world.proofs.ListFacts.{Each-change_at, some_same}
 use Rattle.rb_world.proofs.Invariant.{BothWithin, Opens}
 use Rattle.rb_world.proofs.EachProcess.{KeepsEach}
-use Rattle.rb_world.proofs.Erasable.{Nothing, Parts, whole, plain, IsErasable}
-use Rattle.rb_world.proofs.Cuts.{plain_level, plain_levels, shown, shown_at, ShowsOne, Shows, IsConsistent}
+use Rattle.rb_world.proofs.Erasable.{Nothing, Parts, whole, plain, IsErasable, SameMail}
+use Rattle.rb_world.proofs.Cuts.{plain_level, plain_levels, shown, ShowsOne, Alive, Shows, IsConsistent}
 use Rattle.rb_world.proofs.ErasureInvariant.{GroundedWithin, GroundedDuring, IsQuiet, KeepsTurn, ShowsCut, ShowsAfter, StaysShown, TurnKept, AllShown, ErasedWithin, ErasedAfter, kept_in}
-use Rattle.rb_world.proofs.ShownFacts.{change_shown, change_left_shown}
-use Rattle.rb_world.proofs.PresentShown.{present, present_there, shown_alike, shown_outside, shown_present, shown_older, slice_get-front, slice_get-end, length-end, end-not_empty}
-use Rattle.rb_world.proofs.MailKept.{map-change_at, mail_changed, mail_then, sent_kept}
+use Rattle.rb_world.proofs.PresentShown.{present, running_whole, shown_outside, shown_present, shown_older, slice_get-front, slice_get-end, length-end, end-not_empty}
+use Rattle.rb_world.proofs.MailKept.{mail_then}
+use Rattle.rb_world.proofs.TurnShown.{one_kept, one_unseen}
 use Rattle.rb_world.proofs.ConsistentCuts.{consistent_kept, levels_changed, level_within}
 
 module _ {S E P : Type 0} (x : Parts S E P) where
@@ -67,3 +67,62 @@ module _ {S E P : Type 0} (x : Parts S E P) where
   entered_plain t facts alternate q =
       ap (λ (ls : List (Level P)). record { state = entered t q; levels = ls; at_line = false; status = (inside_new t facts alternate q).status })
       (sym (map-append (plain_level x) q.levels (entering t facts alternate q ∷ [])))
+
+module _ {S E P : Type 0} (x : Parts S E P) (Known : ℕ → Process S S → Type 0) (laws : IsErasable x Known) (keeps : KeepsEach (whole x) Known) (start : World S P Nothing) where
+  -- who enters runs on, since it has a level
+  enters_running : (t p : ℕ) (q : Process S S) (w : World S S Nothing) (facts : Facts) (alternate : ℕ) → Known p q → EntersAt (whole x) p q w facts alternate
+      → (inside_new x t facts alternate q).status ≡ Running
+  enters_running t p q w facts alternate known at =
+      laws.runs p (inside_new x t facts alternate q) (length q.levels) (entering x t facts alternate q)
+      (keeps.opens t p q w facts alternate known at) (slice_get-end q.levels (entering x t facts alternate q))
+
+  -- an entry changes neither mail nor held lines, and its turn is kept
+  entered_mail : (t : ℕ) (s : S) → SameMail x s (x.keep t 0 (x.enter s))
+  entered_mail t s = mail_then x (laws.enters s).mail (laws.keeps_mail t 0 (x.enter s))
+
+  entered_kept : (t : ℕ) (s : S) → x.kept (x.keep t 0 (x.enter s)) ≡ x.kept s ++ (t, 0) ∷ []
+  entered_kept t s = laws.keeps t 0 (x.enter s) ∙ ap (λ (turns : List (ℕ × ℕ)). turns ++ (t, 0) ∷ []) (laws.enters s).kept
+
+  -- the old levels stay where they were
+  levels_stay : (t p : ℕ) (q : Process S S) (w : World S S Nothing) (facts : Facts) (alternate : ℕ) → slice_get w.processes p ≡ Some q
+      → (z : Process S S) → slice_get w.processes p ≡ Some z → (c i : ℕ) → IsLevelOf c z.levels i → IsLevelOf c (inside_new x t facts alternate q).levels i
+  levels_stay t p q w facts alternate there z e c i l =
+      let l' : IsLevelOf c q.levels i = subst (λ (a : Process S S). IsLevelOf c a.levels i) (some_same (sym e ∙ there)) l in
+      record {
+        level = l'.level;
+        there = slice_get-front q.levels (entering x t facts alternate q ∷ []) i (level_within c i q.levels l') ∙ l'.there;
+        of_it = l'.of_it;
+      }
+
+  opens_shown : (t : ℕ) (past : List Told) (p : ℕ) (q : Process S S) (w : World S S Nothing) (facts : Facts) (alternate : ℕ) (f : ℕ → ℕ)
+      → GroundedWithin x Known p (length q.levels) w → EntersAt (whole x) p q w facts alternate
+      → ShowsCut x start t past w f → (outside : Bool) → nat_lt (f p) (length q.levels) ≡ outside
+      → ShowsAfter x start t past (with_process p (λ _. inside_new x t facts alternate q) w) f
+  opens_shown t past p q w facts alternate f ground at old true e =
+      let runs = at.acts.runs in
+      let known : Known p q = (ground.ground.each p q runs.there).known in
+      let running = enters_running t p q w facts alternate known at in
+      one_unseen x start t past p w f q (inside_new x t facts alternate q) old ground.ground.quiet runs.there runs.running running
+      (shown_outside x (f p) q (inside_new x t facts alternate q) (entering x t facts alternate q ∷ []) (ltb-true (f p) (length q.levels) e) refl
+      (running ∙ sym runs.running))
+      (end-not_empty q.levels (entering x t facts alternate q))
+  opens_shown t past p q w facts alternate f ground at old false e =
+      let runs = at.acts.runs in
+      let known : Known p q = (ground.ground.each p q runs.there).known in
+      let running = enters_running t p q w facts alternate known at in
+      let here : length q.levels ≤ f p = ltb-false (f p) (length q.levels) e in
+      TurnKept (one_kept x start t past p 0 w old.world f f q (inside_new x t facts alternate q) (inside_plain x t facts q) old.erased old.shows
+      runs.there runs.running here (plain_enters x t p q old.world facts runs.running at.acts.away at.wants at.few)
+      (entered_mail t q.state) (entered_kept t q.state) (λ _ _. refl)
+      (Alive (running_whole x (inside_new x t facts alternate q) running)
+      (entered_plain x t facts alternate q ∙ sym (entered_shown x t p (f p) facts alternate q here (nat_lt (length q.levels) (f p)) refl))))
+
+  -- a block is entered
+  pub erased_opens : Opens (whole x) (BothWithin (GroundedDuring x Known) (ErasedWithin x start)) (ErasedAfter x start)
+  erased_opens t past p q w facts alternate h at = (
+    h.1.0,
+    λ f consistent. opens_shown t past p q w facts alternate f h.0 at
+    (h.1.1 f (consistent_kept f w.processes (change_at p (λ _. inside_new x t facts alternate q) w.processes)
+    (levels_changed p (inside_new x t facts alternate q) w.processes (levels_stay t p q w facts alternate at.acts.runs.there)) consistent))
+    (nat_lt (f p) (length q.levels)) refl,
+  )
