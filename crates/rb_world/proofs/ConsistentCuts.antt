@@ -1,5 +1,5 @@
 -- How consistency of a cut carries over from a new world to an old one.
-use Rattle.std.proofs.Common.{◌≡◌, ◌≢◌, ◌≤◌, ◌<◌, ℕ, zero, suc, nat_eq, cond, Bool, true, false, List, [], ◌∷◌, length, slice_get, Option, Some, None, refl, sym, ap, ◌∙◌, subst, eqb-true, arith}
+use Rattle.std.proofs.Common.{◌≡◌, ◌≢◌, ◌≤◌, ◌<◌, ℕ, zero, suc, nat_eq, cond, Bool, true, false, List, [], ◌∷◌, length, slice_get, Option, Some, None, refl, sym, ap, ◌∙◌, subst, eqb-true, eq-eqb, ne_eqb, arith}
 use Rattle.std.proofs.lemmas.Option.{slice_get_within}
 use Rattle.rb_world.specs.World.{Level, Process, change_at}
 use Rattle.rb_world.specs.Nested.{IsLevelOf}
@@ -62,3 +62,10 @@ present_consistent {S} f p n qs consistent whole outside r other c j q q' e e' l
 
     there_at : {a b : ℕ} (z : Process S S) → slice_get qs a ≡ Some z → a ≡ b → slice_get qs b ≡ Some z
     there_at z h same = subst (λ (m : ℕ). slice_get qs m ≡ Some z) same h
+
+-- that cut shows p at this number, and the others as before
+pub shown_here : (f : ℕ → ℕ) (p n : ℕ) → with_shown f p n p ≡ n
+shown_here f p n = ap (λ (b : Bool). cond b n (f p)) (eq-eqb p p refl)
+
+pub shown_elsewhere : (f : ℕ → ℕ) (p n r : ℕ) → r ≢ p → with_shown f p n r ≡ f r
+shown_elsewhere f p n r ne = ap (λ (b : Bool). cond b n (f r)) (ne_eqb r p ne)

@@ -34,3 +34,6 @@ pub mod MailKept
 pub mod ConsistentCuts
 pub mod TurnShown
 pub mod OpensShown
+pub mod LastLevels
+pub mod HoldsShown
+pub mod AcceptsShown

@@ -96,7 +96,7 @@ pub run-shallow : {S C M : Type 0} (k : Kind S C M) (t : ℕ) (turns : List ℕ)
 run-shallow k t turns w h = each_run (shallow_kept k) t turns w h
 
 -- who goes on has not failed
-status_at-whole : (want : Want) → is_failed (status_at want) ≡ false
+pub status_at-whole : (want : Want) → is_failed (status_at want) ≡ false
 status_at-whole NothingLeft = refl
 status_at-whole (SendsOn c) = refl
 status_at-whole (ReceivesOn c) = refl
