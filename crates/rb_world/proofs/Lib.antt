@@ -36,4 +36,5 @@ pub mod TurnShown
 pub mod OpensShown
 pub mod LastLevels
 pub mod HoldsShown
+pub mod LinesShown
 pub mod AcceptsShown

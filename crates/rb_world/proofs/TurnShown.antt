@@ -14,6 +14,14 @@ use Rattle.rb_world.proofs.PresentShown.{present, present_there, shown_alike}
 use Rattle.rb_world.proofs.MailKept.{map-change_at, mail_changed, sent_kept}
 
 module _ {S E P : Type 0} (x : Parts S E P) (start : World S P Nothing) where
+  -- process p alone changes on both sides, and the cuts differ at p alone
+  pub one_shows : (p : ℕ) (f g : ℕ → ℕ) (new : Process S S) (new' : Process S P) (qs : List (Process S S)) (us : List (Process S P))
+      → ((r : ℕ) → r ≢ p → g r ≡ f r) → ShowsOne x (f p) new new' → Shows x g qs us
+      → Shows x f (change_at p (λ _. new) qs) (change_at p (λ _. new') us)
+  one_shows p f g new new' qs us others one shows =
+      change_shown x g f p (λ _. new) (λ _. new') qs us
+      (λ r a u ne _ _ h. subst (λ (n : ℕ). ShowsOne x n a u) (others r ne) h) (λ _ _ _ _ _. one) shows
+
   -- Process p, which the cut g shows as it is, has a turn in which it alone changes, to `new`; the plain run does the same, to `new'`, and
   -- the cut f shows that.
   pub one_kept : (t : ℕ) (past : List Told) (p alternate : ℕ) (w : World S S Nothing) (v : World S P Nothing) (f g : ℕ → ℕ) (q new : Process S S) (new' : Process S P)
@@ -32,8 +40,7 @@ module _ {S E P : Type 0} (x : Parts S E P) (start : World S P Nothing) where
         alternate = alternate;
         moved = took (with_process p (λ _. new') v);
         moves = ap (plain_moves (plain x) (record { turn = t; process = p; alternate = alternate }) v) there' ∙ moves;
-        shows = change_shown x g f p (λ _. new) (λ _. new') w.processes v.processes
-            (λ r a u ne _ _ h. subst (λ (n : ℕ). ShowsOne x n a u) (others r ne) h) (λ _ _ _ _ _. one) shows;
+        shows = one_shows p f g new new' w.processes v.processes others one shows;
         keeps = map-change_at (λ (a : Process S P). x.kept a.state) p new' (λ turns. turns ++ (t, alternate) ∷ []) v.processes (present x q) there' kept;
         here = slice_get_within v.processes p (present x q) there';
         sent = sent_kept x v (with_process p (λ _. new') v) (mail_changed x p (present x q) new' v.processes there' mail) erased.sent;
