@@ -37,4 +37,5 @@ pub mod OpensShown
 pub mod LastLevels
 pub mod HoldsShown
 pub mod LinesShown
+pub mod StandsShown
 pub mod AcceptsShown
