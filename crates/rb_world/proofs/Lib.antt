@@ -38,4 +38,5 @@ pub mod LastLevels
 pub mod HoldsShown
 pub mod LinesShown
 pub mod StandsShown
+pub mod NestedSame
 pub mod AcceptsShown
