@@ -39,4 +39,5 @@ pub mod HoldsShown
 pub mod LinesShown
 pub mod StandsShown
 pub mod NestedSame
+pub mod LeavingCuts
 pub mod AcceptsShown
