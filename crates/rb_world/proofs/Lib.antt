@@ -40,4 +40,5 @@ pub mod LinesShown
 pub mod StandsShown
 pub mod NestedSame
 pub mod LeavingCuts
+pub mod LeavingTogether
 pub mod AcceptsShown
