@@ -41,4 +41,5 @@ pub mod StandsShown
 pub mod NestedSame
 pub mod LeavingCuts
 pub mod LeavingTogether
+pub mod LeavesUnseen
 pub mod AcceptsShown

@@ -47,6 +47,11 @@ module _ {S E P : Type 0} (x : Parts S E P) where
   pub last_not_bare : (q : Process S S) (level : Level S) → last_of q.levels ≡ Some level → q.levels ≡ [] → ⊥
   last_not_bare q level last bare = none_some (ap (λ (ls : List (Level S)). last_of ls) (sym bare) ∙ last)
 
+  -- its levels stay as they are
+  pub same_levels : (t p alternate : ℕ) (s : S) (q : Process S S) (w : World S S Nothing) → slice_get w.processes p ≡ Some q
+      → (z : Process S S) → slice_get w.processes p ≡ Some z → (c i : ℕ) → IsLevelOf c z.levels i → IsLevelOf c (at_line_now t alternate s q).levels i
+  same_levels t p alternate s q w there z e c i l = subst (λ (a : Process S S). IsLevelOf c a.levels i) (some_same (sym e ∙ there)) l
+
   -- where not all stand
   not_all_pass : (c : ℕ) (v : World S P Nothing) (all : Bool) → all_stand (plain x) c v ≡ all → (all ≡ true → ⊥) → at_test_line (plain x) c v ≡ took v
   not_all_pass c v true e never = absurd (never refl)
@@ -82,17 +87,12 @@ module _ {S E P : Type 0} (x : Parts S E P) (Known : ℕ → Process S S → Typ
       (held_mail x Known laws t p alternate q w s held) (held_kept x Known laws t p alternate q w s held) (λ _ _. refl)
       (line_shown x t alternate (f p) s q here))
 
-  -- levels stay as they are
-  same_levels : (t p alternate : ℕ) (s : S) (q : Process S S) (w : World S S Nothing) → slice_get w.processes p ≡ Some q
-      → (z : Process S S) → slice_get w.processes p ≡ Some z → (c i : ℕ) → IsLevelOf c z.levels i → IsLevelOf c (at_line_now x t alternate s q).levels i
-  same_levels t p alternate s q w there z e c i l = subst (λ (a : Process S S). IsLevelOf c a.levels i) (some_same (sym e ∙ there)) l
-
   -- a member comes to stand at the line, and another is not there yet
   pub erased_stands : Stands (whole x) (BothWithin (GroundedDuring x Known) (ErasedWithin x start)) (ErasedAfter x start)
   erased_stands t past p q w alternate message s level c h at e last of_c not_all = (
     h.1.0,
     λ f consistent. stands_kept t past p q w alternate message s level c f h.0
     (h.1.1 f (consistent_kept f w.processes (change_at p (λ _. at_line_now x t alternate s q) w.processes)
-    (levels_changed p (at_line_now x t alternate s q) w.processes (same_levels t p alternate s q w at.acts.runs.there)) consistent))
+    (levels_changed p (at_line_now x t alternate s q) w.processes (same_levels x t p alternate s q w at.acts.runs.there)) consistent))
     at e last of_c not_all (nat_lt (f p) (length q.levels)) refl,
   )

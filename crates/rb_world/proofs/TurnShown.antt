@@ -46,7 +46,16 @@ module _ {S E P : Type 0} (x : Parts S E P) (start : World S P Nothing) where
         sent = sent_kept x v (with_process p (λ _. new') v) (mail_changed x p (present x q) new' v.processes there' mail) erased.sent;
       }
 
-  -- Process p, which runs before and after, alone changes, and the cut shows the same of it. It has a level, so it has nothing to release.
+  -- process p, which runs before and after, alone changes, and the cut shows the same of it
+  pub one_same : (p : ℕ) (f : ℕ → ℕ) (q new : Process S S) (qs : List (Process S S)) (us : List (Process S P)) → slice_get qs p ≡ Some q
+      → q.status ≡ Running → new.status ≡ Running → shown x (f p) new ≡ shown x (f p) q → Shows x f qs us
+      → Shows x f (change_at p (λ _. new) qs) us
+  one_same p f q new qs us there running running' same shows =
+      change_left_shown x f f p (λ _. new) qs us (λ _ _ _ _ _ _ h. h)
+      (λ z u e _ h. shown_alike x (f p) (f p) q new u running running' same
+      (subst (λ (a : Process S S). ShowsOne x (f p) a u) (some_same (sym e ∙ there)) h)) shows
+
+  -- The same at the end of a turn. It has a level, so it has nothing to release.
   pub one_unseen : (t : ℕ) (past : List Told) (p : ℕ) (w : World S S Nothing) (f : ℕ → ℕ) (q new : Process S S)
       → ShowsCut x start t past w f → Each (IsQuiet x) w.processes → slice_get w.processes p ≡ Some q
       → q.status ≡ Running → new.status ≡ Running → shown x (f p) new ≡ shown x (f p) q → (new.levels ≡ [] → ⊥)
@@ -55,8 +64,6 @@ module _ {S E P : Type 0} (x : Parts S E P) (start : World S P Nothing) where
       StaysShown (Each-change_at (IsQuiet x) p (λ _. new) w.processes quiet (λ _ _ bare. absurd (not_bare bare)))
       (record {
         world = old.world;
-        shows = change_left_shown x f f p (λ _. new) w.processes old.world.processes (λ _ _ _ _ _ _ h. h)
-            (λ z u e _ h. shown_alike x (f p) (f p) q new u running running' same
-            (subst (λ (a : Process S S). ShowsOne x (f p) a u) (some_same (sym e ∙ there)) h)) old.shows;
+        shows = one_same p f q new w.processes old.world.processes there running running' same old.shows;
         erased = old.erased;
       })
