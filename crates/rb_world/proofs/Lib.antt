@@ -42,4 +42,5 @@ pub mod NestedSame
 pub mod LeavingCuts
 pub mod LeavingTogether
 pub mod LeavesUnseen
+pub mod LeavesKept
 pub mod AcceptsShown
