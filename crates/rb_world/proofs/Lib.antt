@@ -43,4 +43,5 @@ pub mod LeavingCuts
 pub mod LeavingTogether
 pub mod LeavesUnseen
 pub mod LeavesKept
+pub mod LeavesShown
 pub mod AcceptsShown
