@@ -1,27 +1,25 @@
--- A private acceptance test that held, and a member that comes to a line which others have not reached. A cut that shows p
--- further out does not see it, and in any other the plain run does the same.
-use Rattle.std.proofs.Common.{◌≡◌, ◌≢◌, ◌⊎◌, ◌≤◌, ◌<◌, ◌+◌, ℕ, ℤ, suc, Bool, true, false, cond, nat_eq, nat_lt, List, [], ◌∷◌, ◌++◌, length, map, slice_get, Option, Some, None, refl, sym, ap, ◌∙◌, subst, inl, inr, ltb-true, ltb-false, arith, le_of_eq, lt_of_lt_of_le, not-suc-le-zero}
+-- A private acceptance test that held, and its level goes. A cut that shows p further out does not see it; in any other p is
+-- shown as it is before and after, and the plain run does the same.
+use Rattle.std.proofs.Common.{◌≡◌, ◌⊎◌, ◌≤◌, ◌<◌, ℕ, ℤ, Bool, true, false, nat_lt, List, [], ◌∷◌, length, slice_get, Option, Some, None, refl, sym, ap, ◌∙◌, subst, inl, inr, ltb-true, ltb-false, le_of_eq, lt_of_lt_of_le, not-suc-le-zero}
 use Rattle.std.specs.Option.{option_map}
 use Rattle.rb_world.specs.Kind.{Held}
 use Rattle.rb_world.specs.World.{Level, Running, Process, World, change_at, last_of, settled, with_process, without_last}
 use Rattle.rb_world.specs.Nested.{IsLevelOf}
-use Rattle.rb_world.specs.Standing.{is_failed}
 use Rattle.rb_world.specs.Turn.{Told, accepted, accepted_at, copy_of, took}
-use Rattle.rb_world.specs.Plain.{plain_moves}
 use Rattle.rb_world.proofs.TurnFacts.{StepsAt}
 use Rattle.rb_world.proofs.ListFacts.{none_some, some_same}
 use Rattle.rb_world.proofs.StandingFacts.{status_at-whole}
 use Rattle.rb_world.proofs.Invariant.{BothWithin, Accepts}
 use Rattle.rb_world.proofs.EachProcess.{KeepsEach}
-use Rattle.rb_world.proofs.Erasable.{Nothing, Parts, whole, plain, IsErasable, SameMail}
-use Rattle.rb_world.proofs.Cuts.{plain_level, plain_levels, shown, ShowsOne, Alive, IsConsistent, with_shown}
-use Rattle.rb_world.proofs.ErasureInvariant.{GroundedWithin, GroundedDuring, ShowsCut, ShowsAfter, TurnKept, AllShown, ErasedWithin, ErasedAfter}
-use Rattle.rb_world.proofs.PresentShown.{present, shown_outside, shown_present, last_stands_last, slice_get-there}
+use Rattle.rb_world.proofs.Erasable.{Nothing, Parts, whole, plain, IsErasable}
+use Rattle.rb_world.proofs.Cuts.{plain_level, plain_levels, shown, Alive, IsConsistent, with_shown}
+use Rattle.rb_world.proofs.ErasureInvariant.{GroundedWithin, GroundedDuring, ShowsAfter, TurnKept, AllShown, ErasedWithin, ErasedAfter}
+use Rattle.rb_world.proofs.PresentShown.{shown_outside, shown_present, last_stands_last, slice_get-there}
 use Rattle.rb_world.proofs.MailKept.{mail_then}
 use Rattle.rb_world.proofs.ConsistentCuts.{consistent_kept, levels_changed, level_within, present_consistent, shown_here, shown_elsewhere}
 use Rattle.rb_world.proofs.TurnShown.{one_kept, one_unseen}
-use Rattle.rb_world.proofs.LastLevels.{last_of-map, without_last-map, length-with_last, last_or_before}
-use Rattle.rb_world.proofs.HoldsShown.{HeldAt, held_at, held_kept, held_mail, plain_holds}
+use Rattle.rb_world.proofs.LastLevels.{last_of-map, without_last-map, last_or_before}
+use Rattle.rb_world.proofs.HoldsShown.{held_at, held_kept, held_mail, plain_holds}
 
 module _ {S E P : Type 0} (x : Parts S E P) where
   -- p once its innermost level was accepted
@@ -92,8 +90,8 @@ module _ {S E P : Type 0} (x : Parts S E P) (Known : ℕ → Process S S → Typ
       let g : ℕ → ℕ = with_shown f p (length q.levels) in
       let same : (z : Process S S) → slice_get w.processes p ≡ Some z → z ≡ q = λ z there. some_same (sym there ∙ runs.there) in
       let shows = old g (present_consistent f p (length q.levels) w.processes consistent
-          (λ z there. le_of_eq (ap (λ (a : Process S S). length a.levels) (same z there)))
-          (λ z c j there l. lt_of_lt_of_le (level_within c j (without_last q.levels) (others_stay t alternate s p q w level runs.there last alone z there c j l)) here)) in
+      (λ z there. le_of_eq (ap (λ (a : Process S S). length a.levels) (same z there)))
+      (λ z c j there l. lt_of_lt_of_le (level_within c j (without_last q.levels) (others_stay t alternate s p q w level runs.there last alone z there c j l)) here)) in
       TurnKept (one_kept x start t past p alternate w shows.world f g q (accepting x t alternate s q) (accepting_plain x t alternate s q) shows.erased shows.shows
       runs.there runs.running (le_of_eq (sym (shown_here f p (length q.levels))))
       (plain_holds x Known laws t p alternate q w shows.world s runs.running at.acts.away held ∙ ap Some (accepted_plain x t p alternate q shows.world s level last alone))
@@ -106,7 +104,7 @@ module _ {S E P : Type 0} (x : Parts S E P) (Known : ℕ → Process S S → Typ
   erased_accepts t past p q w alternate message s level h at e last alone = (
     h.1.0,
     λ f consistent. accepts_shown t past p q w alternate message s level f h.0 h.1.1 at e last alone
-    (consistent_kept f w.processes (change_at p (λ _. accepting x t alternate s q) w.processes)
-    (levels_changed p (accepting x t alternate s q) w.processes (others_stay t alternate s p q w level at.acts.runs.there last alone)) consistent)
-    (nat_lt (f p) (length (without_last q.levels))) refl,
+        (consistent_kept f w.processes (change_at p (λ _. accepting x t alternate s q) w.processes)
+        (levels_changed p (accepting x t alternate s q) w.processes (others_stay t alternate s p q w level at.acts.runs.there last alone)) consistent)
+        (nat_lt (f p) (length (without_last q.levels))) refl,
   )

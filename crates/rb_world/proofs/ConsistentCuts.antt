@@ -1,10 +1,10 @@
 -- How consistency of a cut carries over from a new world to an old one.
-use Rattle.std.proofs.Common.{◌≡◌, ◌≢◌, ◌≤◌, ◌<◌, ℕ, zero, suc, nat_eq, cond, Bool, true, false, List, [], ◌∷◌, length, slice_get, Option, Some, None, refl, sym, ap, ◌∙◌, subst, eqb-true, eq-eqb, ne_eqb, arith}
+use Rattle.std.proofs.Common.{◌≡◌, ◌≢◌, ◌≤◌, ◌<◌, ℕ, zero, suc, nat_eq, cond, Bool, true, false, List, [], ◌∷◌, length, slice_get, Some, refl, sym, ap, subst, eqb-true, eq-eqb, ne_eqb, arith}
 use Rattle.std.proofs.lemmas.Option.{slice_get_within}
 use Rattle.rb_world.specs.World.{Level, Process, change_at}
 use Rattle.rb_world.specs.Nested.{IsLevelOf}
 use Rattle.rb_world.proofs.Cuts.{IsConsistent, with_shown}
-use Rattle.rb_world.proofs.ListFacts.{none_some, some_same}
+use Rattle.rb_world.proofs.ListFacts.{none_some}
 
 -- process q, number r of an old world, has in the new one all the levels of conversations that it had
 pub record HasLevels {S : Type 0} (r : ℕ) (q : Process S S) (qs : List (Process S S)) : Type 0 where
@@ -51,7 +51,7 @@ pub present_consistent : {S : Type 0} (f : ℕ → ℕ) (p n : ℕ) (qs : List (
     → IsConsistent (with_shown f p n) qs
 present_consistent {S} f p n qs consistent whole outside r other c j q q' e e' l l' =
     let l0 : IsLevelOf c q.levels (f r) = cut_here f p n r (nat_eq r p) refl (λ (m : ℕ). IsLevelOf c q.levels m → IsLevelOf c q.levels (f r))
-        (λ same at. absurd (none_below (level_within c n q.levels at) (whole q (there_at q e (eqb-true r p same))))) (λ _ at. at) l in
+    (λ same at. absurd (none_below (level_within c n q.levels at) (whole q (there_at q e (eqb-true r p same))))) (λ _ at. at) l in
     cut_here f p n other (nat_eq other p) refl (λ (m : ℕ). m ≤ j)
     (λ same. absurd (none_below (outside q' c j (there_at q' e' (eqb-true other p same)) l')
     (subst (λ (m : ℕ). f m ≤ j) (eqb-true other p same) (consistent r other c j q q' e e' l0 l'))))

@@ -1,7 +1,7 @@
 -- An acceptance test that held: what is known of the step, and that the plain run makes it too.
-use Rattle.std.proofs.Common.{◌≡◌, ℕ, ℤ, Bool, true, false, true≢false, cond, nat_eq, List, ◌∷◌, ◌++◌, [], map, Option, Some, None, refl, sym, ap, ◌∙◌, subst}
+use Rattle.std.proofs.Common.{◌≡◌, ℕ, ℤ, Bool, true, false, true≢false, cond, nat_eq, List, ◌∷◌, ◌++◌, [], Option, Some, None, refl, sym, ap, ◌∙◌, subst}
 use Rattle.std.specs.Option.{option_map}
-use Rattle.rb_world.specs.Kind.{Kind, Facts, Want, NothingLeft, SendsOn, ReceivesOn, MayReceiveOn, Enters, Starts, Acts, Held}
+use Rattle.rb_world.specs.Kind.{Kind, Want, NothingLeft, SendsOn, ReceivesOn, MayReceiveOn, Enters, Starts, Acts, Held}
 use Rattle.rb_world.specs.World.{Level, Running, Process, World, last_of}
 use Rattle.rb_world.specs.Turn.{accepted, copy_of}
 use Rattle.rb_world.specs.Plain.{Kept, plain_acts, plain_moves, plain_runs, plain_stepped, plain_steps, when}

@@ -1,5 +1,5 @@
 -- The innermost level: in a plain run, and when it goes.
-use Rattle.std.proofs.Common.{◌≡◌, ◌⊎◌, ◌<◌, ◌≤◌, ◌+◌, ℕ, suc, Bool, true, false, nat_lt, List, [], ◌∷◌, ◌++◌, length, map, slice_get, Option, Some, None, refl, sym, ap, ◌∙◌, subst, inl, inr, ltb-true, ltb-false, arith}
+use Rattle.std.proofs.Common.{◌≡◌, ◌⊎◌, ◌<◌, ℕ, suc, Bool, true, false, nat_lt, List, [], ◌∷◌, length, map, slice_get, Some, refl, sym, ap, ◌∙◌, inl, inr, ltb-true, ltb-false, arith}
 use Rattle.std.specs.Option.{option_map}
 use Rattle.std.proofs.lemmas.Option.{slice_get_within}
 use Rattle.rb_world.specs.World.{Level, last_of, without_last}
@@ -43,5 +43,7 @@ last_or_before c i levels last e l true h = inr (record {
 })
 last_or_before {S} c i levels last e l false h =
     let at : i ≡ length (without_last levels) = omega (arith, slice_get_within levels i l.level l.there, length-with_last levels last e, ltb-false i (length (without_last levels)) h) in
-    inl (at,
-    ap (λ (a : Level S). a.facts.conversation) (some_same (sym (slice_get-last levels last e) ∙ ap (slice_get levels) (sym at) ∙ l.there)) ∙ l.of_it)
+    inl (
+      at,
+      ap (λ (a : Level S). a.facts.conversation) (some_same (sym (slice_get-last levels last e) ∙ ap (slice_get levels) (sym at) ∙ l.there)) ∙ l.of_it,
+    )

@@ -1,14 +1,14 @@
 -- All members leave a conversation, and the cut shows each of them as it is: they leave in the plain run too.
-use Rattle.std.proofs.Common.{◌≡◌, ◌≤◌, ◌<◌, ℕ, suc, Bool, true, false, true≢false, cond, List, [], ◌∷◌, ◌++◌, length, map, slice_get, Option, Some, None, refl, sym, ap, ◌∙◌, subst, arith, suc-le-suc, le_trans, le_of_eq}
+use Rattle.std.proofs.Common.{◌≡◌, ◌≤◌, ℕ, Bool, true, false, true≢false, cond, List, length, map, slice_get, Option, Some, None, refl, sym, ap, ◌∙◌, subst, suc-le-suc, le_trans, le_of_eq}
 use Rattle.std.specs.List.{list_all}
 use Rattle.rb_base.specs.declared.event.Event.TheVariants.{Pass}
-use Rattle.rb_world.specs.World.{Level, Running, Process, World, change_at, settled, talk_at, without_last}
+use Rattle.rb_world.specs.World.{Level, Process, World, settled, talk_at, without_last}
 use Rattle.rb_world.specs.Standing.{Each}
 use Rattle.rb_world.specs.Turn.{all_leave, all_stand, alternate_of, at_test_line, leaves, members_of, passed, stands_at, stands_there, took}
 use Rattle.rb_world.proofs.StandingFacts.{status_at-whole}
 use Rattle.rb_world.proofs.Erasable.{Nothing, Parts, whole, plain, IsErasable, SameMail}
-use Rattle.rb_world.proofs.Cuts.{plain_level, plain_levels, shown, ShowsOne, Alive, Shows}
-use Rattle.rb_world.proofs.ShownFacts.{IsShown, get_shown, map_shown}
+use Rattle.rb_world.proofs.Cuts.{plain_level, ShowsOne, Alive, Shows}
+use Rattle.rb_world.proofs.ShownFacts.{get_shown, map_shown}
 use Rattle.rb_world.proofs.PresentShown.{present, running_whole, shown_alive, shown_present}
 use Rattle.rb_world.proofs.MailKept.{same_mail}
 use Rattle.rb_world.proofs.LastLevels.{length-with_last, without_last-map}

@@ -1,11 +1,11 @@
 -- The last member's test held, and all leave the conversation together (Randell 1975): the plain run does the same, or the cut sees
 -- nothing of it.
-use Rattle.std.proofs.Common.{◌≡◌, ◌≢◌, ◌≤◌, ◌<◌, ℕ, ℤ, suc, Bool, true, false, nat_eq, nat_lt, List, [], ◌∷◌, ◌++◌, length, map, slice_get, Option, Some, None, refl, sym, ap, ◌∙◌, subst, eq-eqb, ltb-true, ltb-false, arith, append-nil, suc-le-suc, le_trans, le_of_eq, lt_of_lt_of_le}
+use Rattle.std.proofs.Common.{◌≡◌, ◌≤◌, ◌<◌, ℕ, ℤ, Bool, true, false, nat_lt, List, [], ◌∷◌, ◌++◌, length, map, slice_get, Option, Some, refl, sym, ap, ◌∙◌, eq-eqb, ltb-true, ltb-false, arith, append-nil, suc-le-suc, le_trans, le_of_eq}
 use Rattle.std.specs.Option.{option_map}
 use Rattle.std.proofs.lemmas.Option.{slice_get_within}
 use Rattle.rb_base.specs.declared.event.Event.TheVariants.{Pass}
 use Rattle.rb_world.specs.Kind.{Held}
-use Rattle.rb_world.specs.World.{Level, Running, Process, World, change_at, is_number, last_of, talk_at, with_process, without_last}
+use Rattle.rb_world.specs.World.{Level, Process, World, is_number, last_of, talk_at, with_process, without_last}
 use Rattle.rb_world.specs.Standing.{Each}
 use Rattle.rb_world.specs.Turn.{Told, all_leave, all_stand, alternate_of, copy_of, is_last_of, leaves, passed, stands_at}
 use Rattle.rb_world.specs.Plain.{plain_moves}
@@ -14,7 +14,7 @@ use Rattle.rb_world.proofs.ListFacts.{Each-change_at, slice_get-change_at}
 use Rattle.rb_world.proofs.Invariant.{BothWithin, Leaves}
 use Rattle.rb_world.proofs.EachProcess.{KeepsEach}
 use Rattle.rb_world.proofs.Erasable.{Nothing, Parts, whole, plain, IsErasable}
-use Rattle.rb_world.proofs.Cuts.{Shows, IsConsistent, shown}
+use Rattle.rb_world.proofs.Cuts.{Shows, IsConsistent}
 use Rattle.rb_world.proofs.ErasureInvariant.{GroundedWithin, GroundedDuring, IsErased, IsQuiet, KeepsTurn, ShowsAfter, StaysShown, TurnKept, AllShown, ErasedWithin, ErasedAfter}
 use Rattle.rb_world.proofs.PresentShown.{present, present_there, shown_outside}
 use Rattle.rb_world.proofs.MailKept.{map-change_at, map-unseen, mail_both, mail_changed, mail_mapped, sent_kept}
@@ -115,14 +115,14 @@ module _ {S E P : Type 0} (x : Parts S E P) (Known : ℕ → Process S S → Typ
         all_here : length (without_last q.levels) ≤ f p → ShowsAfter x start t past (all_leave (whole x) c at_line) f
         all_here h =
             let here : (r : ℕ) (z : Process S S) → StandsThere c r at_line.processes z → length (without_last z.levels) ≤ f r =
-                λ r z two. all_present x Known laws c at_line.processes known_at_line f consistent p (at_line_now x t alternate s q) here_at_line h r z two
-                (nat_lt (f r) (length (without_last z.levels))) refl in
+            λ r z two. all_present x Known laws c at_line.processes known_at_line f consistent p (at_line_now x t alternate s q) here_at_line h r z two
+            (nat_lt (f r) (length (without_last z.levels))) refl in
             let g : ℕ → ℕ = before_leaving c at_line.processes f in
             let shows = old g (before_line g (present_before x Known laws c at_line.processes known_at_line f consistent here all)) in
             let here' : length q.levels ≤ g p = le_trans (le_of_eq (length-with_last q.levels level last)) (le_trans (suc-le-suc h)
-                (le_of_eq (sym (leaving_at c p at_line.processes f (at_line_now x t alternate s q) true here_at_line.there here_at_line.stands)))) in
+            (le_of_eq (sym (leaving_at c p at_line.processes f (at_line_now x t alternate s q) true here_at_line.there here_at_line.stands)))) in
             let line = one_shows x start p g g (at_line_now x t alternate s q) (present x (at_line_now x t alternate s q)) w.processes shows.world.processes
-                (λ _ _. refl) (line_shown x t alternate (g p) s q here') shows.shows in
+            (λ _ _. refl) (line_shown x t alternate (g p) s q here') shows.shows in
             TurnKept (turn_kept f g shows.world shows.erased shows.shows here'
             (all_stand_plainly x Known laws c at_line.processes known_at_line f here (line_plain x t p alternate s q shows.world) line all)
             (kept_leaves x Known laws c at_line.processes known_at_line f here (line_plain x t p alternate s q shows.world).processes line))
@@ -136,5 +136,5 @@ module _ {S E P : Type 0} (x : Parts S E P) (Known : ℕ → Process S S → Typ
   erased_leaves t past p q w alternate message s level c h at e last of_c all = (
     h.1.0,
     λ f consistent. leaves_shown t past p q w alternate message s level c h.0 h.1.1 at e last of_c all f consistent
-    (nat_lt (f p) (length (without_last q.levels))) refl,
+        (nat_lt (f p) (length (without_last q.levels))) refl,
   )

@@ -1,11 +1,11 @@
 -- All members leave a conversation, and the cut shows each of them further out: nothing of it is seen.
-use Rattle.std.proofs.Common.{◌≡◌, ◌≤◌, ◌<◌, ℕ, ℤ, Bool, true, false, cond, List, [], ◌∷◌, length, map, slice_get, Option, Some, None, refl, sym, ap, ◌∙◌, subst, not-suc-le-zero}
-use Rattle.rb_world.specs.World.{Level, Running, Process, World, settled, without_last}
+use Rattle.std.proofs.Common.{◌≡◌, ◌<◌, ℕ, Bool, true, false, List, [], ◌∷◌, length, map, slice_get, Some, refl, sym, ◌∙◌, subst, not-suc-le-zero}
+use Rattle.rb_world.specs.World.{Level, Running, Process, settled, without_last}
 use Rattle.rb_world.specs.Standing.{Each}
 use Rattle.rb_world.specs.Turn.{leaves, stands_at}
 use Rattle.rb_world.proofs.ListFacts.{Each-map}
 use Rattle.rb_world.proofs.EachProcess.{KeepsEach}
-use Rattle.rb_world.proofs.Erasable.{Nothing, Parts, whole, IsErasable}
+use Rattle.rb_world.proofs.Erasable.{Parts, whole, IsErasable}
 use Rattle.rb_world.proofs.Cuts.{ShowsOne, Shows}
 use Rattle.rb_world.proofs.ErasureInvariant.{IsQuiet}
 use Rattle.rb_world.proofs.ShownFacts.{map_left_shown}

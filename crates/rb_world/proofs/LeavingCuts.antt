@@ -1,20 +1,15 @@
 -- All members leave a conversation together: a cut of the new world shows all of them as they are, or each at a level that is
 -- further out; and the cuts of the old world that serve these are consistent.
-use Rattle.std.proofs.Common.{◌≡◌, ◌⊎◌, ◌≤◌, ◌<◌, ℕ, zero, suc, nat_eq, nat_lt, Bool, true, false, true≢false, cond, ◌&&◌, List, [], ◌∷◌, length, map, slice_get, Option, Some, None, refl, sym, ap, ◌∙◌, subst, inl, inr, eqb-true, ltb-true, ltb-false, arith}
+use Rattle.std.proofs.Common.{◌≡◌, ◌⊎◌, ◌≤◌, ℕ, nat_lt, Bool, true, false, true≢false, cond, List, length, map, slice_get, Option, Some, None, refl, sym, ap, ◌∙◌, subst, inl, inr, eqb-true}
 use Rattle.std.specs.Option.{option_map}
-use Rattle.std.specs.List.{list_all, list_any}
 use Rattle.std.proofs.lemmas.Option.{slice_get-map}
 use Rattle.rb_world.specs.World.{Level, Process, is_number, last_of, settled, without_last}
-use Rattle.rb_world.specs.Nested.{IsLevelOf, AreNested}
-use Rattle.rb_world.specs.Standing.{Each}
-use Rattle.rb_world.specs.Turn.{is_last_of, leaves, members_of, stands_at, stands_there}
-use Rattle.rb_world.proofs.ListFacts.{none_some, some_same, second_holds}
-use Rattle.rb_world.proofs.Erasable.{Nothing, Parts, whole, IsErasable}
+use Rattle.rb_world.specs.Nested.{IsLevelOf}
+use Rattle.rb_world.specs.Turn.{is_last_of, leaves, stands_at}
+use Rattle.rb_world.proofs.ListFacts.{some_same, second_holds}
+use Rattle.rb_world.proofs.Erasable.{Parts, whole}
 use Rattle.rb_world.proofs.Cuts.{IsConsistent}
-use Rattle.rb_world.proofs.ConsistentCuts.{level_within}
-use Rattle.rb_world.proofs.LastLevels.{last_or_before, length-with_last, slice_get-last}
-use Rattle.rb_world.proofs.LinesShown.{list_all_member}
-use Rattle.rb_world.proofs.NestedSame.{SharesLevel, same_number, shares_level}
+use Rattle.rb_world.proofs.LastLevels.{last_or_before, slice_get-last}
 
 -- who stands at the line of c has a level of c as its innermost one
 pub record StandsLast {S : Type 0} (c : ℕ) (z : Process S S) : Type 0 where

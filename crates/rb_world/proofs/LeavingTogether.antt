@@ -1,17 +1,17 @@
 -- A cut of the world after all members left a conversation: it shows all of them as they are, or each at an older copy.
-use Rattle.std.proofs.Common.{◌≡◌, ◌⊎◌, ◌≤◌, ◌<◌, ℕ, zero, suc, nat_eq, nat_lt, Bool, true, false, true≢false, cond, List, [], ◌∷◌, length, map, slice_get, Option, Some, None, refl, sym, ap, ◌∙◌, subst, inl, inr, ltb-true, ltb-false, le_of_eq, le_trans, lt_irrefl, lt_of_le_of_lt, lt_of_lt_of_le, arith}
-use Rattle.std.specs.List.{list_all, list_any}
-use Rattle.rb_world.specs.World.{Level, Process, without_last}
-use Rattle.rb_world.specs.Nested.{IsLevelOf, AreNested}
+use Rattle.std.proofs.Common.{◌≡◌, ◌⊎◌, ◌≤◌, ◌<◌, ℕ, suc, nat_lt, Bool, true, false, true≢false, cond, List, length, map, slice_get, Some, refl, sym, ap, ◌∙◌, subst, inl, inr, ltb-true, ltb-false, le_of_eq, le_trans, lt_irrefl, lt_of_le_of_lt, lt_of_lt_of_le, arith}
+use Rattle.std.specs.List.{list_all}
+use Rattle.rb_world.specs.World.{Process, without_last}
+use Rattle.rb_world.specs.Nested.{IsLevelOf}
 use Rattle.rb_world.specs.Standing.{Each}
 use Rattle.rb_world.specs.Turn.{leaves, members_of, stands_at, stands_there}
-use Rattle.rb_world.proofs.Erasable.{Nothing, Parts, whole, IsErasable}
+use Rattle.rb_world.proofs.Erasable.{Parts, whole, IsErasable}
 use Rattle.rb_world.proofs.Cuts.{IsConsistent}
 use Rattle.rb_world.proofs.ConsistentCuts.{level_within}
 use Rattle.rb_world.proofs.LastLevels.{length-with_last, slice_get-without_last}
 use Rattle.rb_world.proofs.LinesShown.{list_all_member}
-use Rattle.rb_world.proofs.NestedSame.{SharesLevel, same_number, shares_level}
-use Rattle.rb_world.proofs.LeavingCuts.{stands_last, level_at_line, level_before, leaves_not, leaves_goes, consistent_left, left_level, stayed_level}
+use Rattle.rb_world.proofs.NestedSame.{same_number, shares_level}
+use Rattle.rb_world.proofs.LeavingCuts.{stands_last, level_at_line, level_before, consistent_left, left_level, stayed_level}
 
 -- who stands at the line, and at what number its level is
 pub record StandsThere {S : Type 0} (c r : ℕ) (qs : List (Process S S)) (z : Process S S) : Type 0 where
@@ -47,7 +47,7 @@ module _ {S E P : Type 0} (x : Parts S E P) (Known : ℕ → Process S S → Typ
         → f r < length (without_last z.levels) → f other ≤ f r
     leave_together r other z z' one two h =
         let shared = shares_level x.groups z.levels z'.levels (laws.nested r z (known r z one.there)) (laws.nested other z' (known other z' two.there)) c
-            (length (without_last z.levels)) (length (without_last z'.levels)) (f r) (level_at_line c z one.stands) (level_at_line c z' two.stands) h in
+        (length (without_last z.levels)) (length (without_last z'.levels)) (f r) (level_at_line c z one.stands) (level_at_line c z' two.stands) h in
         let h' : f r < length (without_last z'.levels) = lt_of_lt_of_le h (le_of_eq (same_depth r other z z' one two)) in
         consistent_left x c f qs consistent r other shared.conversation (f r) z z' one.there two.there
         (left_level x c shared.conversation (f r) z one.stands (outside_left c shared.conversation (f r) z one.stands shared.one h))

@@ -1,12 +1,12 @@
 -- Test lines in a world that a cut shows: who stands there stands in the world too, and all stand there only if all do.
-use Rattle.std.proofs.Common.{◌≡◌, ℕ, zero, suc, nat_eq, Bool, true, false, true≢false, ◌&&◌, ◌||◌, List, [], ◌∷◌, map, slice_get, Option, Some, None, refl, sym, ap, ap₂, ◌∙◌, subst, eqb-true}
+use Rattle.std.proofs.Common.{◌≡◌, ℕ, nat_eq, Bool, true, false, true≢false, ◌&&◌, ◌||◌, List, [], ◌∷◌, slice_get, Option, Some, None, refl, sym, ap, ap₂, ◌∙◌, eqb-true}
 use Rattle.std.specs.Option.{option_map}
 use Rattle.std.specs.List.{list_all, list_any}
 use Rattle.rb_world.specs.World.{Level, Process, World, last_of}
 use Rattle.rb_world.specs.Turn.{all_stand, is_last_of, members_of, stands_at, stands_there}
 use Rattle.rb_world.proofs.ListFacts.{first_holds, second_holds}
 use Rattle.rb_world.proofs.Erasable.{Nothing, Parts, whole, plain}
-use Rattle.rb_world.proofs.Cuts.{plain_level, plain_levels, shown_at, shown, ShowsOne, Alive, Lost, Shows}
+use Rattle.rb_world.proofs.Cuts.{plain_level, shown_at, ShowsOne, Alive, Lost, Shows}
 use Rattle.rb_world.proofs.ShownFacts.{get_showing}
 use Rattle.rb_world.proofs.PresentShown.{present}
 use Rattle.rb_world.proofs.LastLevels.{last_of-map}

@@ -1,9 +1,8 @@
 -- What a change of some processes leaves alone in a world: the kept turns, but those of one process, and that no more was
 -- taken than was sent.
-use Rattle.std.proofs.Common.{◌≡◌, ◌≤◌, ℕ, zero, suc, List, [], ◌∷◌, ◌++◌, map, slice_get, Option, Some, None, refl, sym, ap, ap₂, ◌∙◌, subst, subst₂}
-use Rattle.rb_world.specs.Kind.{Ends}
+use Rattle.std.proofs.Common.{◌≡◌, ◌≤◌, ℕ, zero, suc, List, [], ◌∷◌, map, slice_get, Some, refl, sym, ap, ap₂, ◌∙◌, subst, subst₂}
 use Rattle.rb_world.specs.World.{Process, World, change_at}
-use Rattle.rb_world.proofs.Erasable.{Nothing, Parts, SameMail, LeavesAlone}
+use Rattle.rb_world.proofs.Erasable.{Nothing, Parts, SameMail}
 use Rattle.rb_world.proofs.ErasureInvariant.{AreSent}
 use Rattle.rb_world.proofs.ListFacts.{none_some, some_same}
 

@@ -1,6 +1,6 @@
 -- Nesting gives the chain of parents: two processes with a level of one conversation have it at the same number, and further
 -- out they have, number by number, levels of the same conversations (Randell 1975).
-use Rattle.std.proofs.Common.{◌≡◌, ◌<◌, ℕ, zero, suc, Bool, true, false, nat_lt, List, [], ◌∷◌, slice_get, Option, Some, None, refl, sym, ap, ◌∙◌, subst, suc-ne-zero, not-suc-le-zero, ltb-true, ltb-false, arith}
+use Rattle.std.proofs.Common.{◌≡◌, ◌<◌, ℕ, zero, suc, Bool, true, false, nat_lt, List, slice_get, Option, Some, None, refl, sym, ap, ◌∙◌, subst, suc-ne-zero, not-suc-le-zero, ltb-true, ltb-false, arith}
 use Rattle.rb_world.specs.Kind.{Membership}
 use Rattle.rb_world.specs.World.{Level}
 use Rattle.rb_world.specs.Reject.{parent_of}

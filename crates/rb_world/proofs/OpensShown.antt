@@ -1,21 +1,19 @@
 -- An entry: a cut that shows p further out does not see it, and in any other the plain run enters too. Then p is shown at its
 -- new level or in the present, which are the same.
-use Rattle.std.proofs.Common.{◌≡◌, ◌≤◌, ◌<◌, ◌+◌, ℕ, suc, Bool, true, false, cond, nat_eq, nat_lt, List, [], ◌∷◌, ◌++◌, length, map, slice_get, Option, Some, None, refl, sym, ap, ap₂, ◌∙◌, subst, ltb-true, ltb-false, lt-ltb, arith, take_all}
+use Rattle.std.proofs.Common.{◌≡◌, ◌≤◌, ◌<◌, ◌+◌, ℕ, Bool, true, false, cond, nat_lt, List, [], ◌∷◌, ◌++◌, length, slice_get, Some, None, refl, sym, ap, ◌∙◌, subst, ltb-true, ltb-false, lt-ltb, arith, take_all}
 use Rattle.std.proofs.lemmas.List.{length-map, map-append}
-use Rattle.std.proofs.lemmas.Option.{slice_get_within}
-use Rattle.rb_world.specs.Kind.{Facts, Want, Enters}
-use Rattle.rb_world.specs.World.{Level, Status, Running, Process, World, change_at, goes_on, with_process}
+use Rattle.rb_world.specs.Kind.{Facts, Enters}
+use Rattle.rb_world.specs.World.{Level, Running, Process, World, change_at, goes_on, with_process}
 use Rattle.rb_world.specs.Nested.{IsLevelOf}
-use Rattle.rb_world.specs.Standing.{Each}
-use Rattle.rb_world.specs.Turn.{Moved, Told, most_levels, new_level, open_at, opened}
+use Rattle.rb_world.specs.Turn.{Told, most_levels, new_level, open_at}
 use Rattle.rb_world.specs.Plain.{Kept, plain_acts, plain_moves, plain_runs, when}
 use Rattle.rb_world.proofs.TurnFacts.{EntersAt}
-use Rattle.rb_world.proofs.ListFacts.{Each-change_at, some_same}
+use Rattle.rb_world.proofs.ListFacts.{some_same}
 use Rattle.rb_world.proofs.Invariant.{BothWithin, Opens}
 use Rattle.rb_world.proofs.EachProcess.{KeepsEach}
 use Rattle.rb_world.proofs.Erasable.{Nothing, Parts, whole, plain, IsErasable, SameMail}
-use Rattle.rb_world.proofs.Cuts.{plain_level, plain_levels, shown, ShowsOne, Alive, Shows, IsConsistent}
-use Rattle.rb_world.proofs.ErasureInvariant.{GroundedWithin, GroundedDuring, IsQuiet, KeepsTurn, ShowsCut, ShowsAfter, StaysShown, TurnKept, AllShown, ErasedWithin, ErasedAfter, kept_in}
+use Rattle.rb_world.proofs.Cuts.{plain_level, plain_levels, shown, Alive}
+use Rattle.rb_world.proofs.ErasureInvariant.{GroundedWithin, GroundedDuring, ShowsCut, ShowsAfter, TurnKept, ErasedWithin, ErasedAfter}
 use Rattle.rb_world.proofs.PresentShown.{present, running_whole, shown_outside, shown_present, shown_older, slice_get-front, slice_get-end, length-end, end-not_empty}
 use Rattle.rb_world.proofs.MailKept.{mail_then}
 use Rattle.rb_world.proofs.TurnShown.{one_kept, one_unseen}
@@ -122,7 +120,7 @@ module _ {S E P : Type 0} (x : Parts S E P) (Known : ℕ → Process S S → Typ
   erased_opens t past p q w facts alternate h at = (
     h.1.0,
     λ f consistent. opens_shown t past p q w facts alternate f h.0 at
-    (h.1.1 f (consistent_kept f w.processes (change_at p (λ _. inside_new x t facts alternate q) w.processes)
-    (levels_changed p (inside_new x t facts alternate q) w.processes (levels_stay t p q w facts alternate at.acts.runs.there)) consistent))
-    (nat_lt (f p) (length q.levels)) refl,
+        (h.1.1 f (consistent_kept f w.processes (change_at p (λ _. inside_new x t facts alternate q) w.processes)
+        (levels_changed p (inside_new x t facts alternate q) w.processes (levels_stay t p q w facts alternate at.acts.runs.there)) consistent))
+        (nat_lt (f p) (length q.levels)) refl,
   )

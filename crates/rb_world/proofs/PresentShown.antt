@@ -1,10 +1,10 @@
 -- A process that a cut shows as it is, or at an older recovery point; and what stays shown when levels are added inside, or go.
-use Rattle.std.proofs.Common.{◌≡◌, ◌≤◌, ◌<◌, ◌+◌, ℕ, zero, suc, Bool, true, false, List, [], ◌∷◌, ◌++◌, length, map, take, slice_get, Option, Some, None, refl, sym, ap, ap₂, ◌∙◌, subst, add-one, arith, not-suc-le-zero, le_of_suc-le-suc, true≢false}
+use Rattle.std.proofs.Common.{◌≡◌, ◌≤◌, ◌<◌, ◌+◌, ℕ, zero, suc, false, List, [], ◌∷◌, ◌++◌, length, take, slice_get, Some, refl, sym, ap, ap₂, ◌∙◌, arith, not-suc-le-zero, le_of_suc-le-suc, true≢false}
 use Rattle.std.proofs.lemmas.Option.{slice_get_past}
 use Rattle.rb_world.specs.World.{Level, Status, Running, Process, last_of, without_last}
 use Rattle.rb_world.specs.Standing.{is_failed}
 use Rattle.rb_world.proofs.Erasable.{Parts}
-use Rattle.rb_world.proofs.Cuts.{plain_level, plain_levels, shown_at, shown, ShowsOne, Alive, Lost, Shows}
+use Rattle.rb_world.proofs.Cuts.{plain_levels, shown_at, shown, ShowsOne, Alive, Lost, Shows}
 use Rattle.rb_world.proofs.ListFacts.{none_some}
 use Rattle.rb_world.proofs.ShownFacts.{IsShown, get_shown}
 

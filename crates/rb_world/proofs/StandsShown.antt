@@ -1,17 +1,17 @@
 -- A member comes to a line which others have not reached. A cut that shows it further out does not see it; in any other the
 -- plain run does the same, and not all stand there either.
-use Rattle.std.proofs.Common.{◌≡◌, ◌≤◌, ◌<◌, ℕ, ℤ, Bool, true, false, true≢false, cond, nat_lt, List, [], ◌∷◌, ◌++◌, length, slice_get, Option, Some, None, refl, sym, ap, ◌∙◌, subst, ltb-true, ltb-false, append-nil, not-suc-le-zero}
+use Rattle.std.proofs.Common.{◌≡◌, ◌≤◌, ℕ, ℤ, Bool, true, false, true≢false, cond, nat_lt, List, [], length, slice_get, Option, Some, refl, sym, ap, ◌∙◌, subst, ltb-true, ltb-false, append-nil}
 use Rattle.std.specs.Option.{option_map}
 use Rattle.rb_base.specs.declared.event.Event.TheVariants.{Pass}
 use Rattle.rb_world.specs.Kind.{Held}
-use Rattle.rb_world.specs.World.{Level, Running, Process, World, change_at, last_of, talk_at, with_process}
+use Rattle.rb_world.specs.World.{Level, Process, World, change_at, last_of, talk_at, with_process}
 use Rattle.rb_world.specs.Nested.{IsLevelOf}
 use Rattle.rb_world.specs.Turn.{Told, accepted, accepted_at, all_leave, all_stand, alternate_of, at_test_line, copy_of, passed, stands_now, took}
 use Rattle.rb_world.proofs.TurnFacts.{StepsAt}
 use Rattle.rb_world.proofs.ListFacts.{none_some, some_same}
 use Rattle.rb_world.proofs.Invariant.{BothWithin, Stands}
 use Rattle.rb_world.proofs.Erasable.{Nothing, Parts, whole, plain, IsErasable}
-use Rattle.rb_world.proofs.Cuts.{plain_level, plain_levels, shown, ShowsOne, Alive, IsConsistent}
+use Rattle.rb_world.proofs.Cuts.{plain_level, plain_levels, ShowsOne, Alive}
 use Rattle.rb_world.proofs.ErasureInvariant.{GroundedWithin, GroundedDuring, ShowsCut, ShowsAfter, TurnKept, ErasedWithin, ErasedAfter}
 use Rattle.rb_world.proofs.PresentShown.{present, shown_outside, shown_present}
 use Rattle.rb_world.proofs.ConsistentCuts.{consistent_kept, levels_changed}
@@ -77,7 +77,7 @@ module _ {S E P : Type 0} (x : Parts S E P) (Known : ℕ → Process S S → Typ
       let here : length q.levels ≤ f p = ltb-false (f p) (length q.levels) h in
       let v : World S P Nothing = old.world in
       let shows = one_shows x start p f f (at_line_now x t alternate s q) (present x (at_line_now x t alternate s q)) w.processes v.processes (λ _ _. refl)
-          (line_shown x t alternate (f p) s q here) old.shows in
+      (line_shown x t alternate (f p) s q here) old.shows in
       TurnKept (one_kept x start t past p alternate w v f f q (at_line_now x t alternate s q) (present x (at_line_now x t alternate s q)) old.erased old.shows
       runs.there runs.running here
       (plain_holds x Known laws t p alternate q w v s runs.running at.acts.away held
@@ -92,7 +92,7 @@ module _ {S E P : Type 0} (x : Parts S E P) (Known : ℕ → Process S S → Typ
   erased_stands t past p q w alternate message s level c h at e last of_c not_all = (
     h.1.0,
     λ f consistent. stands_kept t past p q w alternate message s level c f h.0
-    (h.1.1 f (consistent_kept f w.processes (change_at p (λ _. at_line_now x t alternate s q) w.processes)
-    (levels_changed p (at_line_now x t alternate s q) w.processes (same_levels x t p alternate s q w at.acts.runs.there)) consistent))
-    at e last of_c not_all (nat_lt (f p) (length q.levels)) refl,
+        (h.1.1 f (consistent_kept f w.processes (change_at p (λ _. at_line_now x t alternate s q) w.processes)
+        (levels_changed p (at_line_now x t alternate s q) w.processes (same_levels x t p alternate s q w at.acts.runs.there)) consistent))
+        at e last of_c not_all (nat_lt (f p) (length q.levels)) refl,
   )

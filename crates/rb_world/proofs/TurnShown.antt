@@ -1,14 +1,14 @@
 -- A turn that changes one process: it is kept by the plain run too, or the cut does not see it.
-use Rattle.std.proofs.Common.{◌≡◌, ◌≢◌, ◌≤◌, ◌<◌, ℕ, suc, true, List, [], ◌∷◌, ◌++◌, length, map, slice_get, Option, Some, refl, sym, ap, ◌∙◌, subst, subst₂}
+use Rattle.std.proofs.Common.{◌≡◌, ◌≢◌, ◌≤◌, ℕ, List, [], ◌∷◌, ◌++◌, length, slice_get, Some, sym, ap, ◌∙◌, subst}
 use Rattle.std.proofs.lemmas.Option.{slice_get_within}
 use Rattle.rb_world.specs.World.{Running, Process, World, change_at, with_process}
 use Rattle.rb_world.specs.Turn.{Told, took}
 use Rattle.rb_world.specs.Plain.{plain_moves}
 use Rattle.rb_world.specs.Standing.{Each}
 use Rattle.rb_world.proofs.ListFacts.{Each-change_at, some_same}
-use Rattle.rb_world.proofs.Erasable.{Nothing, Parts, whole, plain, SameMail}
+use Rattle.rb_world.proofs.Erasable.{Nothing, Parts, plain, SameMail}
 use Rattle.rb_world.proofs.Cuts.{ShowsOne, Shows, shown}
-use Rattle.rb_world.proofs.ErasureInvariant.{Grounded, IsErased, IsQuiet, KeepsTurn, ShowsCut, ShowsAfter, StaysShown}
+use Rattle.rb_world.proofs.ErasureInvariant.{IsErased, IsQuiet, KeepsTurn, ShowsCut, ShowsAfter, StaysShown}
 use Rattle.rb_world.proofs.ShownFacts.{change_shown, change_left_shown}
 use Rattle.rb_world.proofs.PresentShown.{present, present_there, shown_alike}
 use Rattle.rb_world.proofs.MailKept.{map-change_at, mail_changed, sent_kept}
