@@ -44,7 +44,7 @@ cut_here : (f : ℕ → ℕ) (p n r : ℕ) (same : Bool) → nat_eq r p ≡ same
 cut_here f p n r true e P here away = subst (λ (b : Bool). P (cond b n (f r))) (sym e) (here refl)
 cut_here f p n r false e P here away = subst (λ (b : Bool). P (cond b n (f r))) (sym e) (away refl)
 
--- p may be shown as it is where no level of a conversation of it lies at or inside its number
+-- p may be shown as it is, where each level of a conversation that it has lies outside the number at which the cut shows it
 pub present_consistent : {S : Type 0} (f : ℕ → ℕ) (p n : ℕ) (qs : List (Process S S)) → IsConsistent f qs
     → ((q : Process S S) → slice_get qs p ≡ Some q → length q.levels ≤ n)
     → ((q : Process S S) (c j : ℕ) → slice_get qs p ≡ Some q → IsLevelOf c q.levels j → j < f p)
@@ -63,9 +63,10 @@ present_consistent {S} f p n qs consistent whole outside r other c j q q' e e' l
     there_at : {a b : ℕ} (z : Process S S) → slice_get qs a ≡ Some z → a ≡ b → slice_get qs b ≡ Some z
     there_at z h same = subst (λ (m : ℕ). slice_get qs m ≡ Some z) same h
 
--- that cut shows p at this number, and the others as before
+-- that cut shows p at this number
 pub shown_here : (f : ℕ → ℕ) (p n : ℕ) → with_shown f p n p ≡ n
 shown_here f p n = ap (λ (b : Bool). cond b n (f p)) (eq-eqb p p refl)
 
+-- and the others as before
 pub shown_elsewhere : (f : ℕ → ℕ) (p n r : ℕ) → r ≢ p → with_shown f p n r ≡ f r
 shown_elsewhere f p n r ne = ap (λ (b : Bool). cond b n (f r)) (ne_eqb r p ne)

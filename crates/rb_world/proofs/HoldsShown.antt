@@ -48,6 +48,7 @@ module _ {S E P : Type 0} (x : Parts S E P) (Known : ℕ → Process S S → Typ
     pub held : x.step alternate (option_map x.environment (copy_of (last_of q.levels))) q.state None ≡ Held s
     pub alone : LeavesAlone x q.state s
 
+  -- so it is of every step that came to a test which held
   pub held_at : (p : ℕ) (q : Process S S) (w : World S S Nothing) (alternate : ℕ) (message : Option ℤ) (s : S) → Known p q
       → StepsAt (whole x) p q w alternate message
       → x.step alternate (option_map x.environment (copy_of (last_of q.levels))) q.state message ≡ Held s
@@ -78,10 +79,11 @@ module _ {S E P : Type 0} (x : Parts S E P) (Known : ℕ → Process S S → Typ
       (ap (λ (level : Option (Level P)). option_map x.point_environment (copy_of level)) (last_of-map (plain_level x) q.levels)
       ∙ environment_shown x (last_of q.levels) laws.point_environment) ∙ at.held)
 
-  -- the test changed neither mail nor held lines, and its turn is kept
+  -- the test changed no mail
   pub held_mail : (t p alternate : ℕ) (q : Process S S) (w : World S S Nothing) (s : S) → HeldAt p q w alternate s → SameMail x q.state (x.keep t alternate s)
   held_mail t p alternate q w s at = mail_then x at.alone.mail (laws.keeps_mail t alternate s)
 
+  -- the kept turns are those before, and this one
   pub held_kept : (t p alternate : ℕ) (q : Process S S) (w : World S S Nothing) (s : S) → HeldAt p q w alternate s
       → x.kept (x.keep t alternate s) ≡ x.kept q.state ++ (t, alternate) ∷ []
   held_kept t p alternate q w s at = laws.keeps t alternate s ∙ ap (λ (turns : List (ℕ × ℕ)). turns ++ (t, alternate) ∷ []) at.alone.kept

@@ -7,11 +7,13 @@ use Rattle.rb_world.specs.Nested.{IsLevelOf}
 use Rattle.rb_world.proofs.ListFacts.{some_same}
 use Rattle.rb_world.proofs.PresentShown.{last_stands_last, length-end, slice_get-end, slice_get-front}
 
+-- the last element of a list that was mapped
 pub last_of-map : {A B : Type 0} (f : A → B) (xs : List A) → last_of (map f xs) ≡ option_map f (last_of xs)
 last_of-map f [] = refl
 last_of-map f (x ∷ []) = refl
 last_of-map f (x ∷ y ∷ ys) = last_of-map f (y ∷ ys)
 
+-- and what stands before it
 pub without_last-map : {A B : Type 0} (f : A → B) (xs : List A) → without_last (map f xs) ≡ map f (without_last xs)
 without_last-map f [] = refl
 without_last-map f (x ∷ []) = refl

@@ -25,11 +25,12 @@ module _ {S E P : Type 0} (x : Parts S E P) (c : ℕ) where
   plain_leaves_not : (u : Process S P) → stands_at c u ≡ false → leaves (plain x) c u ≡ u
   plain_leaves_not u e = ap (λ (b : Bool). cond b (settled (plain x) u.state (without_last u.levels)) u) e
 
-  -- to leave changes neither mail nor kept turns
+  -- to leave changes no mail
   pub leaves_mail : ((s : S) → SameMail x s (x.settle s)) → (u : Process S P) → (stands : Bool) → stands_at c u ≡ stands → SameMail x u.state (leaves (plain x) c u).state
   leaves_mail settles u true e = subst (λ (a : Process S P). SameMail x u.state a.state) (sym (plain_leaves_goes u e)) (settles u.state)
   leaves_mail settles u false e = subst (λ (a : Process S P). SameMail x u.state a.state) (sym (plain_leaves_not u e)) (same_mail x u.state)
 
+  -- and no kept turns
   pub leaves_kept : ((s : S) → x.kept (x.settle s) ≡ x.kept s) → (u : Process S P) → (stands : Bool) → stands_at c u ≡ stands
       → x.kept (leaves (plain x) c u).state ≡ x.kept u.state
   leaves_kept settles u true e = ap (λ (a : Process S P). x.kept a.state) (plain_leaves_goes u e) ∙ settles u.state
@@ -78,6 +79,7 @@ module _ {S E P : Type 0} (x : Parts S E P) (Known : ℕ → Process S S → Typ
   one_kept_leaves r z u e shows false stands =
       stayer_shown x c (f r) z u stands (subst (λ (n : ℕ). ShowsOne x n z u) (leaving_at c r qs f z false e stands) shows) (stands_at c u) refl
 
+  -- so once all have left on both sides, the cut is shown
   pub kept_leaves : (us : List (Process S P)) → Shows x (before_leaving c qs f) qs us
       → Shows x f (map (leaves (whole x) c) qs) (map (leaves (plain x) c) us)
   kept_leaves us shows =

@@ -25,6 +25,7 @@ last_stands : {S : Type 0} (c : ℕ) (z : Process S S) (last : Option (Level S))
 last_stands c z None e here = absurd (true≢false (sym here))
 last_stands c z (Some last) e here = record { last = last; is_last = e; of_it = same_conversation c last.facts.conversation here }
 
+-- so it is of all who stand there
 pub stands_last : {S : Type 0} (c : ℕ) (z : Process S S) → stands_at c z ≡ true → StandsLast c z
 stands_last c z stands = last_stands c z (last_of z.levels) refl (second_holds z.at_line (is_last_of c (last_of z.levels)) stands)
 
@@ -46,10 +47,11 @@ level_before c d i z stands l =
     either (inr h) = inr h
 
 module _ {S E P : Type 0} (x : Parts S E P) (c : ℕ) where
-  -- who does not stand stays, and who stands goes on without its level
+  -- who does not stand stays
   pub leaves_not : (z : Process S S) → stands_at c z ≡ false → leaves (whole x) c z ≡ z
   leaves_not z e = ap (λ (b : Bool). cond b (settled (whole x) z.state (without_last z.levels)) z) e
 
+  -- and who stands goes on without its level
   pub leaves_goes : (z : Process S S) → stands_at c z ≡ true → leaves (whole x) c z ≡ settled (whole x) z.state (without_last z.levels)
   leaves_goes z e = ap (λ (b : Bool). cond b (settled (whole x) z.state (without_last z.levels)) z) e
 
@@ -66,5 +68,6 @@ module _ {S E P : Type 0} (x : Parts S E P) (c : ℕ) where
   pub left_level : (d i : ℕ) (z : Process S S) → stands_at c z ≡ true → IsLevelOf d (without_last z.levels) i → IsLevelOf d (leaves (whole x) c z).levels i
   left_level d i z stands l = subst (λ (a : Process S S). IsLevelOf d a.levels i) (sym (leaves_goes z stands)) l
 
+  -- a level of one that stays
   pub stayed_level : (d i : ℕ) (z : Process S S) → stands_at c z ≡ false → IsLevelOf d z.levels i → IsLevelOf d (leaves (whole x) c z).levels i
   stayed_level d i z stands l = subst (λ (a : Process S S). IsLevelOf d a.levels i) (sym (leaves_not z stands)) l

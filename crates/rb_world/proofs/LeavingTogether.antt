@@ -13,7 +13,7 @@ use Rattle.rb_world.proofs.LinesShown.{list_all_member}
 use Rattle.rb_world.proofs.NestedSame.{same_number, shares_level}
 use Rattle.rb_world.proofs.LeavingCuts.{stands_last, level_at_line, level_before, consistent_left, left_level, stayed_level}
 
--- who stands at the line, and at what number its level is
+-- process z, number r, stands at the line of c
 pub record StandsThere {S : Type 0} (c r : ℕ) (qs : List (Process S S)) (z : Process S S) : Type 0 where
   pub there : slice_get qs r ≡ Some z
   pub stands : stands_at c z ≡ true
@@ -29,6 +29,7 @@ outside_left c d i z stands l h =
 abbrev pub before_leaving : {S : Type 0} → ℕ → List (Process S S) → (ℕ → ℕ) → ℕ → ℕ
 before_leaving c qs f r = cond (stands_there c (slice_get qs r)) (suc (f r)) (f r)
 
+-- its number for one process, by whether it stands
 pub leaving_at : {S : Type 0} (c r : ℕ) (qs : List (Process S S)) (f : ℕ → ℕ) (z : Process S S) (stands : Bool) → slice_get qs r ≡ Some z → stands_at c z ≡ stands
     → before_leaving c qs f r ≡ cond stands (suc (f r)) (f r)
 leaving_at c r qs f z stands there e = ap (λ (b : Bool). cond b (suc (f r)) (f r)) (ap (stands_there c) there ∙ e)
@@ -67,7 +68,7 @@ module _ {S E P : Type 0} (x : Parts S E P) (Known : ℕ → Process S S → Typ
         absurd (lt_irrefl (length (without_last q.levels)) (lt_of_le_of_lt h (all_older r z two (ltb-true (f r) (length (without_last z.levels)) e) p q at)))
     all_present p q at h r z two false e = ltb-false (f r) (length (without_last z.levels)) e
 
-    -- all at older copies: the cut was consistent before they left
+    -- all at older copies
     module _ (older : (r : ℕ) (z : Process S S) → StandsThere c r qs z → f r < length (without_last z.levels)) where
       -- the level at which a process is shown is still there
       shown_left : (d r : ℕ) (z : Process S S) → slice_get qs r ≡ Some z → IsLevelOf d z.levels (f r) → (stands : Bool) → stands_at c z ≡ stands
@@ -85,6 +86,7 @@ module _ {S E P : Type 0} (x : Parts S E P) (Known : ℕ → Process S S → Typ
           either (inr h) = inr (left_level x c d j z' stands h)
       reaches_left d j other z' e l false stands = inr (stayed_level x c d j z' stands l)
 
+      -- the cut was consistent before they left
       pub older_consistent : IsConsistent f qs
       older_consistent r other d j z z' e e' l l' = either (reaches_left d j other z' e' l' (stands_at c z') refl)
         where
@@ -92,7 +94,7 @@ module _ {S E P : Type 0} (x : Parts S E P) (Known : ℕ → Process S S → Typ
           either (inl h) = h
           either (inr h) = consistent_left x c f qs consistent r other d j z z' e e' (shown_left d r z e l (stands_at c z) refl) h
 
-    -- all as they are: so they were before, each at the number after
+    -- all as they are
     module _ (here : (r : ℕ) (z : Process S S) → StandsThere c r qs z → length (without_last z.levels) ≤ f r)
         (all : list_all (λ m. stands_there c (slice_get qs m)) (members_of (slice_get x.groups c)) ≡ true) where
       -- who is inside c stands
@@ -128,6 +130,7 @@ module _ {S E P : Type 0} (x : Parts S E P) (Known : ℕ → Process S S → Typ
       reaches d j r other z z' e e' away l l' false stands =
           consistent_left x c f qs consistent r other d j z z' e e' (stayed_level x c d (f r) z away l) (stayed_level x c d j z' stands l')
 
+      -- the cut that shows them as they were is consistent before they left
       pub present_before : IsConsistent (before_leaving c qs f) qs
       present_before r other d j z z' e e' l l' =
           let away = not_older d r z e l (stands_at c z) refl in

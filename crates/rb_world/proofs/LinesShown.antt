@@ -41,6 +41,7 @@ module _ {S E P : Type 0} (x : Parts S E P) where
   stands_shown_at n c q None e = sym (present_stands c q) ∙ e
   stands_shown_at n c q (Some level) e = absurd (true≢false (sym e))
 
+  -- the same of a process that the cut shows in any way
   pub stands_shown : (n c : ℕ) (q : Process S S) (u : Process S P) → ShowsOne x n q u → stands_at c u ≡ true → stands_at c q ≡ true
   stands_shown n c q u (Alive whole same) e = stands_shown_at n c q (slice_get q.levels n) (ap (stands_at c) (sym same) ∙ e)
   stands_shown n c q u (Lost failed state line own) e =

@@ -42,9 +42,7 @@ module _ {S E P : Type 0} (x : Parts S E P) where
   abbrev pub KeepsMail : {C : Type 0} → List (Process S C) → List (Process S C) → Type 0
   KeepsMail {C} us vs = (r : ℕ) (u : Process S C) → slice_get vs r ≡ Some u → HasMail r u us
 
-  pub mail_unchanged : {C : Type 0} (us : List (Process S C)) → KeepsMail us us
-  mail_unchanged us r u e = record { process = u; there = e; mail = same_mail u.state }
-
+  -- one process changes
   pub mail_changed : {C : Type 0} (p : ℕ) (old new : Process S C) (us : List (Process S C)) → slice_get us p ≡ Some old → SameMail x old.state new.state
       → KeepsMail us (change_at p (λ _. new) us)
   mail_changed p old new [] e mail r v there = absurd (none_some there)
@@ -59,6 +57,7 @@ module _ {S E P : Type 0} (x : Parts S E P) where
       let found = mail_changed p old new us e mail r v there in
       record { process = found.process; there = found.there; mail = found.mail }
 
+  -- every process changes
   pub mail_mapped : {C : Type 0} (F : Process S C → Process S C) (us : List (Process S C)) → ((u : Process S C) → SameMail x u.state (F u).state)
       → KeepsMail us (map F us)
   mail_mapped F [] mail r v there = absurd (none_some there)
@@ -71,6 +70,7 @@ module _ {S E P : Type 0} (x : Parts S E P) where
       let found = mail_mapped F us mail r v there in
       record { process = found.process; there = found.there; mail = found.mail }
 
+  -- one change after another
   pub mail_both : {C : Type 0} (us vs ws : List (Process S C)) → KeepsMail us vs → KeepsMail vs ws → KeepsMail us ws
   mail_both us vs ws one other r w there =
       let later = other r w there in

@@ -32,11 +32,12 @@ slice_get-there [] n h = absurd (not-suc-le-zero h)
 slice_get-there (x ∷ xs) zero h = (x, refl)
 slice_get-there (x ∷ xs) (suc n) h = slice_get-there xs n (le_of_suc-le-suc h)
 
--- the element at the end of a list, and the list's length
+-- the element at the end of a list
 pub slice_get-end : {A : Type 0} (xs : List A) (y : A) → slice_get (xs ++ y ∷ []) (length xs) ≡ Some y
 slice_get-end [] y = refl
 slice_get-end (x ∷ xs) y = slice_get-end xs y
 
+-- one more than before
 pub length-end : {A : Type 0} (xs : List A) (y : A) → length (xs ++ y ∷ []) ≡ suc (length xs)
 length-end [] y = refl
 length-end (x ∷ xs) y = ap suc (length-end xs y)
@@ -59,6 +60,7 @@ module _ {S E P : Type 0} (x : Parts S E P) where
   abbrev pub older : ℕ → Status → List (Level S) → Level S → Process S P
   older n status levels level = record { state = level.copy; levels = plain_levels x (take (n + 1) levels); at_line = false; status = status }
 
+  -- at the number of a level it is shown at that level's recovery point
   pub shown_older : (n : ℕ) (q : Process S S) (level : Level S) → slice_get q.levels n ≡ Some level → shown x n q ≡ older n q.status q.levels level
   shown_older n q level e = ap (shown_at x n q) e
 
