@@ -14,7 +14,7 @@ use Rattle.rb_world.proofs.EachProcess.{KeepsEach}
 use Rattle.rb_world.proofs.Erasable.{Nothing, Parts, whole, plain, IsErasable}
 use Rattle.rb_world.proofs.Cuts.{plain_level, plain_levels, shown, Alive, IsConsistent, with_shown}
 use Rattle.rb_world.proofs.ErasureInvariant.{GroundedWithin, GroundedDuring, ShowsAfter, TurnKept, AllShown, ErasedWithin, ErasedAfter}
-use Rattle.rb_world.proofs.PresentShown.{shown_outside, shown_present, last_stands_last, slice_get-there}
+use Rattle.rb_world.proofs.ShownOlder.{shown_outside, shown_present, last_stands_last, slice_get-there}
 use Rattle.rb_world.proofs.MailKept.{mail_then}
 use Rattle.rb_world.proofs.ConsistentCuts.{consistent_kept, levels_changed, level_within, present_consistent, shown_here, shown_elsewhere}
 use Rattle.rb_world.proofs.TurnShown.{one_kept, one_unseen}

@@ -8,7 +8,7 @@ use Rattle.rb_world.specs.Plain.{Kept, plain_acts, plain_moves, plain_runs, plai
 use Rattle.rb_world.proofs.TurnFacts.{IsReady, ToSend, ToReceive, ToReceiveIfThere, ToStart, ToAct, StepsAt, alternate_for}
 use Rattle.rb_world.proofs.Erasable.{Nothing, Parts, whole, plain, IsErasable, LeavesAlone, SameMail}
 use Rattle.rb_world.proofs.Cuts.{plain_level, plain_levels}
-use Rattle.rb_world.proofs.PresentShown.{present}
+use Rattle.rb_world.proofs.ShownOlder.{present}
 use Rattle.rb_world.proofs.MailKept.{mail_then}
 use Rattle.rb_world.proofs.LastLevels.{last_of-map}
 

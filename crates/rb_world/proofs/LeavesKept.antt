@@ -9,7 +9,7 @@ use Rattle.rb_world.proofs.StandingFacts.{status_at-whole}
 use Rattle.rb_world.proofs.Erasable.{Nothing, Parts, whole, plain, IsErasable, SameMail}
 use Rattle.rb_world.proofs.Cuts.{plain_level, ShowsOne, Alive, Shows}
 use Rattle.rb_world.proofs.ShownFacts.{get_shown, map_shown}
-use Rattle.rb_world.proofs.PresentShown.{present, running_whole, shown_alive, shown_present}
+use Rattle.rb_world.proofs.ShownOlder.{present, running_whole, shown_alive, shown_present}
 use Rattle.rb_world.proofs.MailKept.{same_mail}
 use Rattle.rb_world.proofs.LastLevels.{length-with_last, without_last-map}
 use Rattle.rb_world.proofs.LinesShown.{list_all_implied, present_stands, stands_shown}

@@ -16,7 +16,7 @@ use Rattle.rb_world.proofs.EachProcess.{KeepsEach}
 use Rattle.rb_world.proofs.Erasable.{Nothing, Parts, whole, plain, IsErasable}
 use Rattle.rb_world.proofs.Cuts.{Shows, IsConsistent}
 use Rattle.rb_world.proofs.ErasureInvariant.{GroundedWithin, GroundedDuring, IsErased, IsQuiet, KeepsTurn, ShowsAfter, StaysShown, TurnKept, AllShown, ErasedWithin, ErasedAfter}
-use Rattle.rb_world.proofs.PresentShown.{present, present_there, shown_outside}
+use Rattle.rb_world.proofs.ShownOlder.{present, present_there, shown_outside}
 use Rattle.rb_world.proofs.MailKept.{map-change_at, map-unseen, mail_both, mail_changed, mail_mapped, sent_kept}
 use Rattle.rb_world.proofs.ConsistentCuts.{consistent_kept, levels_changed}
 use Rattle.rb_world.proofs.TurnShown.{one_same, one_shows}

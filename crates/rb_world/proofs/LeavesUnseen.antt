@@ -9,7 +9,7 @@ use Rattle.rb_world.proofs.Erasable.{Parts, whole, IsErasable}
 use Rattle.rb_world.proofs.Cuts.{ShowsOne, Shows}
 use Rattle.rb_world.proofs.ErasureInvariant.{IsQuiet}
 use Rattle.rb_world.proofs.ShownFacts.{map_left_shown}
-use Rattle.rb_world.proofs.PresentShown.{last_stands_last, shown_alike, shown_outside, slice_get-there}
+use Rattle.rb_world.proofs.ShownOlder.{last_stands_last, shown_alike, shown_outside, slice_get-there}
 use Rattle.rb_world.proofs.LeavingCuts.{stands_last, level_at_line, leaves_not, leaves_goes}
 use Rattle.rb_world.proofs.LeavingTogether.{StandsThere}
 

@@ -30,7 +30,7 @@ pub mod Cuts
 pub mod ErasureInvariant
 pub mod ShownFacts
 -- Erasure, the turns that a plain run keeps: what a cut shows of one process, and what a change leaves alone.
-pub mod PresentShown
+pub mod ShownOlder
 pub mod MailKept
 pub mod ConsistentCuts
 pub mod TurnShown

@@ -8,7 +8,7 @@ use Rattle.rb_world.proofs.ListFacts.{first_holds, second_holds}
 use Rattle.rb_world.proofs.Erasable.{Nothing, Parts, whole, plain}
 use Rattle.rb_world.proofs.Cuts.{plain_level, shown_at, ShowsOne, Alive, Lost, Shows}
 use Rattle.rb_world.proofs.ShownFacts.{get_showing}
-use Rattle.rb_world.proofs.PresentShown.{present}
+use Rattle.rb_world.proofs.ShownOlder.{present}
 use Rattle.rb_world.proofs.LastLevels.{last_of-map}
 
 -- one test of all members implies another

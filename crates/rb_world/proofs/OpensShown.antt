@@ -14,7 +14,7 @@ use Rattle.rb_world.proofs.EachProcess.{KeepsEach}
 use Rattle.rb_world.proofs.Erasable.{Nothing, Parts, whole, plain, IsErasable, SameMail}
 use Rattle.rb_world.proofs.Cuts.{plain_level, plain_levels, shown, Alive}
 use Rattle.rb_world.proofs.ErasureInvariant.{GroundedWithin, GroundedDuring, ShowsCut, ShowsAfter, TurnKept, ErasedWithin, ErasedAfter}
-use Rattle.rb_world.proofs.PresentShown.{present, running_whole, shown_outside, shown_present, shown_older, slice_get-front, slice_get-end, length-end, end-not_empty}
+use Rattle.rb_world.proofs.ShownOlder.{present, running_whole, shown_outside, shown_present, shown_older, slice_get-front, slice_get-end, length-end, end-not_empty}
 use Rattle.rb_world.proofs.MailKept.{mail_then}
 use Rattle.rb_world.proofs.TurnShown.{one_kept, one_unseen}
 use Rattle.rb_world.proofs.ConsistentCuts.{consistent_kept, levels_changed, level_within}

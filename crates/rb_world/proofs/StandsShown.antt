@@ -13,7 +13,7 @@ use Rattle.rb_world.proofs.Invariant.{BothWithin, Stands}
 use Rattle.rb_world.proofs.Erasable.{Nothing, Parts, whole, plain, IsErasable}
 use Rattle.rb_world.proofs.Cuts.{plain_level, plain_levels, ShowsOne, Alive}
 use Rattle.rb_world.proofs.ErasureInvariant.{GroundedWithin, GroundedDuring, ShowsCut, ShowsAfter, TurnKept, ErasedWithin, ErasedAfter}
-use Rattle.rb_world.proofs.PresentShown.{present, shown_outside, shown_present}
+use Rattle.rb_world.proofs.ShownOlder.{present, shown_outside, shown_present}
 use Rattle.rb_world.proofs.ConsistentCuts.{consistent_kept, levels_changed}
 use Rattle.rb_world.proofs.TurnShown.{one_kept, one_shows, one_unseen}
 use Rattle.rb_world.proofs.LastLevels.{last_of-map}

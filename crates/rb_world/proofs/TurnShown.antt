@@ -10,7 +10,7 @@ use Rattle.rb_world.proofs.Erasable.{Nothing, Parts, plain, SameMail}
 use Rattle.rb_world.proofs.Cuts.{ShowsOne, Shows, shown}
 use Rattle.rb_world.proofs.ErasureInvariant.{IsErased, IsQuiet, KeepsTurn, ShowsCut, ShowsAfter, StaysShown}
 use Rattle.rb_world.proofs.ShownFacts.{change_shown, change_left_shown}
-use Rattle.rb_world.proofs.PresentShown.{present, present_there, shown_alike}
+use Rattle.rb_world.proofs.ShownOlder.{present, present_there, shown_alike}
 use Rattle.rb_world.proofs.MailKept.{map-change_at, mail_changed, sent_kept}
 
 module _ {S E P : Type 0} (x : Parts S E P) (start : World S P Nothing) where
