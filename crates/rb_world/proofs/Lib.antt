@@ -86,3 +86,5 @@ pub mod LeavingTogether
 pub mod LeavesUnseen
 pub mod LeavesKept
 pub mod LeavesShown
+-- Erasure put together.
+pub mod ErasureTheorem
