@@ -71,7 +71,7 @@ module _ {S C M : Type 0} (k : Kind S C M) where
     accepts = λ q level s m runs last alone. omega arith;
     stands = λ q s m runs. omega arith;
     passes = λ q level c alternate s m runs last of_c all. omega arith;
-    barred = λ q facts c talk runs wants of_c at broken. omega arith;
+    barred = λ q facts c talk runs away wants of_c at broken. omega arith;
     rejects = λ q n cause runs within none.
         omega (arith, reject-few p n cause (with_process p (λ _. turn_used q) w), shallow_used p q w shallow runs);
   }

@@ -37,7 +37,7 @@ pub record Outcomes {S C M : Type 0} (k : Kind S C M) (p : ℕ) (w : World S C M
       → all_stand k c (come_to_stand p (turn_used q).levels (counted p q w) (s, m)) ≡ true
       → P (passed (Pass c alternate) (all_leave k c (come_to_stand p (turn_used q).levels (counted p q w) (s, m))))
   pub barred : (q : Process S C) (facts : Facts) (c : ℕ) (talk : Talk) → RunsAt p q w
-      → k.want q.state ≡ Enters facts → facts.conversation ≡ Some c → talk_at w c ≡ Some talk → talk.is_broken ≡ true
+      → q.at_line ≡ false → k.want q.state ≡ Enters facts → facts.conversation ≡ Some c → talk_at w c ≡ Some talk → talk.is_broken ≡ true
       → P (undone (with_process p (fallen k Broken) (counted p q w), []))
   pub rejects : (q : Process S C) (n : ℕ) (cause : Cause) → RunsAt p q w
       → n ≤ length (turn_used q).levels → (n ≡ 0 → length (turn_used q).levels ≡ 0)
@@ -106,43 +106,43 @@ module _ {S C M : Type 0} {k : Kind S C M} {p : ℕ} {w : World S C M} {P : Move
   open-comes t q facts alternate runs =
       let sm : S × M = k.keep t 0 (k.enter q.state) w.memory in laws.entered q facts alternate sm.0 sm.1 runs
 
-  join-comes : (t : ℕ) (q : Process S C) (facts : Facts) (c : ℕ) → RunsAt p q w → k.want q.state ≡ Enters facts
+  join-comes : (t : ℕ) (q : Process S C) (facts : Facts) (c : ℕ) → RunsAt p q w → q.at_line ≡ false → k.want q.state ≡ Enters facts
       → facts.conversation ≡ Some c → (talk : Talk) → talk_at w c ≡ Some talk → (broken : Bool) → talk.is_broken ≡ broken
       → P (join k t p facts (turn_used q) (counted p q w) (Some (record { alternate = talk.alternate; is_broken = broken })))
-  join-comes t q facts c runs wants of_c talk at true broken = laws.barred q facts c talk runs wants of_c at broken
-  join-comes t q facts c runs wants of_c talk at false broken = open-comes t q facts talk.alternate runs
+  join-comes t q facts c runs away wants of_c talk at true broken = laws.barred q facts c talk runs away wants of_c at broken
+  join-comes t q facts c runs away wants of_c talk at false broken = open-comes t q facts talk.alternate runs
 
-  join_some-comes : (t : ℕ) (q : Process S C) (facts : Facts) (c : ℕ) → RunsAt p q w → k.want q.state ≡ Enters facts
+  join_some-comes : (t : ℕ) (q : Process S C) (facts : Facts) (c : ℕ) → RunsAt p q w → q.at_line ≡ false → k.want q.state ≡ Enters facts
       → facts.conversation ≡ Some c → (talk : Option Talk) → talk_at w c ≡ talk → P (join k t p facts (turn_used q) (counted p q w) talk)
-  join_some-comes t q facts c runs wants of_c None at = laws.waited q runs
-  join_some-comes t q facts c runs wants of_c (Some talk) at = join-comes t q facts c runs wants of_c talk at talk.is_broken refl
+  join_some-comes t q facts c runs away wants of_c None at = laws.waited q runs
+  join_some-comes t q facts c runs away wants of_c (Some talk) at = join-comes t q facts c runs away wants of_c talk at talk.is_broken refl
 
-  enter_either-comes : (t : ℕ) (q : Process S C) (facts : Facts) → RunsAt p q w → k.want q.state ≡ Enters facts
+  enter_either-comes : (t : ℕ) (q : Process S C) (facts : Facts) → RunsAt p q w → q.at_line ≡ false → k.want q.state ≡ Enters facts
       → (conversation : Option ℕ) → facts.conversation ≡ conversation
       → P (enter_either k t p facts conversation (turn_used q) (counted p q w))
-  enter_either-comes t q facts runs wants None e = open-comes t q facts 1 runs
-  enter_either-comes t q facts runs wants (Some c) e = join_some-comes t q facts c runs wants e (talk_at w c) refl
+  enter_either-comes t q facts runs away wants None e = open-comes t q facts 1 runs
+  enter_either-comes t q facts runs away wants (Some c) e = join_some-comes t q facts c runs away wants e (talk_at w c) refl
 
-  enters-comes : (t : ℕ) (q : Process S C) (facts : Facts) → RunsAt p q w → k.want q.state ≡ Enters facts → (full : Bool)
+  enters-comes : (t : ℕ) (q : Process S C) (facts : Facts) → RunsAt p q w → q.at_line ≡ false → k.want q.state ≡ Enters facts → (full : Bool)
       → P (cond full (trapped k p Depth (counted p q w)) (enter_either k t p facts facts.conversation (turn_used q) (counted p q w)))
-  enters-comes t q facts runs wants true = trapped-comes q Depth runs
-  enters-comes t q facts runs wants false = enter_either-comes t q facts runs wants facts.conversation refl
+  enters-comes t q facts runs away wants true = trapped-comes q Depth runs
+  enters-comes t q facts runs away wants false = enter_either-comes t q facts runs away wants facts.conversation refl
 
   -- what stands first decides
-  acts-comes : (t : ℕ) (q : Process S C) → RunsAt p q w → (want : Want) → k.want q.state ≡ want
+  acts-comes : (t : ℕ) (q : Process S C) → RunsAt p q w → q.at_line ≡ false → (want : Want) → k.want q.state ≡ want
       → P (acts k t p (turn_used q) (counted p q w) want)
-  acts-comes t q runs NothingLeft e = laws.rested q runs
-  acts-comes t q runs (SendsOn c) e = sends-comes t q runs (has_room k (counted p q w) c)
-  acts-comes t q runs (ReceivesOn c) e = receives-comes t q runs (message_there k (counted p q w) c)
-  acts-comes t q runs (MayReceiveOn c) e = steps-comes t q 0 (message_there k (counted p q w) c) runs
-  acts-comes t q runs (Enters facts) e = enters-comes t q facts runs e (nat_le most_levels (length (turn_used q).levels))
-  acts-comes t q runs Starts e = steps-comes t q (tried_at (last_of (turn_used q).levels)) None runs
-  acts-comes t q runs Acts e = steps-comes t q 0 None runs
+  acts-comes t q runs away NothingLeft e = laws.rested q runs
+  acts-comes t q runs away (SendsOn c) e = sends-comes t q runs (has_room k (counted p q w) c)
+  acts-comes t q runs away (ReceivesOn c) e = receives-comes t q runs (message_there k (counted p q w) c)
+  acts-comes t q runs away (MayReceiveOn c) e = steps-comes t q 0 (message_there k (counted p q w) c) runs
+  acts-comes t q runs away (Enters facts) e = enters-comes t q facts runs away e (nat_le most_levels (length (turn_used q).levels))
+  acts-comes t q runs away Starts e = steps-comes t q (tried_at (last_of (turn_used q).levels)) None runs
+  acts-comes t q runs away Acts e = steps-comes t q 0 None runs
 
-  at_line-comes : (t : ℕ) (q : Process S C) → RunsAt p q w → (line : Bool)
+  at_line-comes : (t : ℕ) (q : Process S C) → RunsAt p q w → (line : Bool) → q.at_line ≡ line
       → P (cond line (waits (counted p q w)) (acts k t p (turn_used q) (counted p q w) (k.want q.state)))
-  at_line-comes t q runs true = laws.waited q runs
-  at_line-comes t q runs false = acts-comes t q runs (k.want q.state) refl
+  at_line-comes t q runs true e = laws.waited q runs
+  at_line-comes t q runs false e = acts-comes t q runs e (k.want q.state) refl
 
   over-comes : (q : Process S C) (j : ℕ) → RunsAt p q w → position is_over (turn_used q).levels ≡ Some j
       → P (undone (reject k p (suc j) Overrun (counted p q w)))
@@ -154,7 +154,7 @@ module _ {S C M : Type 0} {k : Kind S C M} {p : ℕ} {w : World S C M} {P : Move
       → P (bounded k t p (turn_used q) (counted p q w) over)
   bounded-comes t q runs (Some j) e =
       subst (λ (n : ℕ). P (undone (reject k p n Overrun (counted p q w)))) (sym (add-one j)) (over-comes q j runs e)
-  bounded-comes t q runs None e = at_line-comes t q runs q.at_line
+  bounded-comes t q runs None e = at_line-comes t q runs q.at_line refl
 
   by_status-comes : (t : ℕ) (q : Process S C) → slice_get w.processes p ≡ Some q → (status : Status) → q.status ≡ status
       → P (by_status k t p q w status)

@@ -77,7 +77,7 @@ module _ {S C M : Type 0} (k : Kind S C M) (p : ℕ) (w : World S C M) where
     accepts = λ q level s m runs last alone e. absurd (not_took e);
     stands = λ q s m runs e. absurd (not_took e);
     passes = λ q level c alternate s m runs last of_c all e. absurd (not_took e);
-    barred = λ q facts c talk runs wants of_c at broken e. record {
+    barred = λ q facts c talk runs away wants of_c at broken e. record {
       conversation = None;
       outermost = tt;
       no_pass = refl;

@@ -11,13 +11,13 @@ use Rattle.rb_world.specs.Standing.{Each}
 use Rattle.rb_world.specs.Nested.{IsLevelOf}
 use Rattle.rb_world.proofs.Cascade.{AllNested, EndsIn}
 
--- What is known before a turn: levels are nested, and are those of members; who enters a conversation that lies in no other has no
--- level; a conversation that is broken lies in no other; no lines are left to be released.
+-- What is known before a turn: levels are nested, and are those of members; who stands at no line and enters a conversation that
+-- lies in no other has no level; a conversation that is broken lies in no other; no lines are left to be released.
 pub record IsOrdered {S C M : Type 0} (k : Kind S C M) (w : World S C M) : Type 0 where
   pub nested : AllNested k w
   pub members : (r i c : ℕ) (q : Process S C) → slice_get w.processes r ≡ Some q → IsLevelOf c q.levels i
       → list_any (nat_eq r) (members_of (slice_get k.groups c)) ≡ true
-  pub outermost : (r c : ℕ) (q : Process S C) (facts : Facts) → slice_get w.processes r ≡ Some q → k.want q.state ≡ Enters facts
+  pub outermost : (r c : ℕ) (q : Process S C) (facts : Facts) → slice_get w.processes r ≡ Some q → q.at_line ≡ false → k.want q.state ≡ Enters facts
       → facts.conversation ≡ Some c → parent_of (slice_get k.groups c) ≡ None → q.levels ≡ []
   pub broken : Each (λ c talk. talk.is_broken ≡ true → parent_of (slice_get k.groups c) ≡ None) w.talks
   pub quiet : (r : ℕ) (q : Process S C) → slice_get w.processes r ≡ Some q → freed k q ≡ q

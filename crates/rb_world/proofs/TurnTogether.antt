@@ -49,10 +49,10 @@ module _ {S C M : Type 0} (k : Kind S C M) (c p : ℕ) (w : World S C M) (ordere
       keeps_on c w (counted p q w) (with_process p (λ _. now) (counted p q w)) (counted_keeps c p q w runs)
       (own_keeps c p (turn_used q) (λ _. now) (counted p q w) (counted_there k p q w runs) carries)
 
-  barred_stays : (q : Process S C) (facts : Facts) (d : ℕ) (talk : Talk) → RunsAt p q w → k.want q.state ≡ Enters facts → facts.conversation ≡ Some d
+  barred_stays : (q : Process S C) (facts : Facts) (d : ℕ) (talk : Talk) → RunsAt p q w → q.at_line ≡ false → k.want q.state ≡ Enters facts → facts.conversation ≡ Some d
       → talk_at w d ≡ Some talk → talk.is_broken ≡ true → Keeps c w (with_process p (fallen k Broken) (counted p q w))
-  barred_stays q facts d talk runs wants of_d at broken =
-      let bare : q.levels ≡ [] = ordered.outermost p d q facts runs.there wants of_d (ordered.broken d talk at broken) in
+  barred_stays q facts d talk runs away wants of_d at broken =
+      let bare : q.levels ≡ [] = ordered.outermost p d q facts runs.there away wants of_d (ordered.broken d talk at broken) in
       keeps_on c w (counted p q w) (with_process p (fallen k Broken) (counted p q w)) (counted_keeps c p q w runs)
       (own_keeps c p (turn_used q) (fallen k Broken) (counted p q w) (counted_there k p q w runs) (carries_none c (map one_used q.levels) [] (ap (map one_used) bare)))
 
@@ -70,7 +70,7 @@ module _ {S C M : Type 0} (k : Kind S C M) (c p : ℕ) (w : World S C M) (ordere
     accepts = λ q level s m runs last alone size. AllStay (own_stays q _ runs (carries_accepted c (turn_used q).levels level last alone));
     stands = λ q s m runs size. AllStay (own_stays q _ runs (carries_same c (turn_used q).levels));
     passes = λ q level d alternate s m runs last of_d all size. pass_together k p q w runs ordered s m c d alternate level last of_d all;
-    barred = λ q facts d talk runs wants of_d at broken size. AllStay (barred_stays q facts d talk runs wants of_d at broken);
+    barred = λ q facts d talk runs away wants of_d at broken size. AllStay (barred_stays q facts d talk runs away wants of_d at broken);
     rejects = λ q n cause runs within none size.
         reject_together k c p q w runs ordered.nested (reject k p n cause (counted p q w))
         (size ∙ sym (length-change_at p (λ _. turn_used q) w.processes))
