@@ -103,3 +103,5 @@ pub mod LeavesKept
 pub mod LeavesShown
 -- Erasure put together.
 pub mod ErasureTheorem
+-- Worlds of runs are ordered, so rejections stay inside and members go together.
+pub mod OrderedRuns

@@ -6,15 +6,13 @@ use Rattle.std.proofs.lemmas.Option.{slice_get_within}
 use Rattle.rb_world.specs.Kind.{Kind}
 use Rattle.rb_world.specs.World.{Level, Process, World, is_inside, is_of}
 use Rattle.rb_world.specs.Reject.{Happened, next_alternate}
-use Rattle.rb_world.specs.Turn.{turn_used, undone}
+use Rattle.rb_world.specs.Turn.{undone}
 use Rattle.rb_world.specs.Nested.{IsLevelOf}
-use Rattle.rb_world.proofs.TurnFacts.{RunsAt}
 use Rattle.rb_world.proofs.ListFacts.{some_same}
 use Rattle.rb_world.proofs.PlaceFacts.{inside_level, same_place}
-use Rattle.rb_world.proofs.Outcomes.{counted}
 use Rattle.rb_world.proofs.Cascade.{AllBack, AllFallen, AllNested, Alone, AreBackAt, EndsIn, Ends, HaveFallen, IsBackAt, KeepsTalks, LeavesOthers}
 use Rattle.rb_world.proofs.Together.{AllGoBack, AllGoOut, AllStay, AreBack, Carries, IsBack, IsLeft, Keeps, Together, unused}
-use Rattle.rb_world.proofs.CountedTurns.{carries_same, counted_keeps, counted_nested, counted_there, keeps_on}
+use Rattle.rb_world.proofs.CountedTurns.{carries_same, keeps_on}
 use Rattle.rb_world.proofs.CascadeTogether.{Apart, KeepOuter, LeaveBoth, Where, Within, apart_stays, where_is, within_left}
 
 -- a process that was put back to a level is inside no other conversation that was as far in
@@ -76,14 +74,15 @@ module _ {S C M : Type 0} (k : Kind S C M) (p : ℕ) (u : Process S C) (v : Worl
         away = one.2.away;
       })
 
-module _ {S C M : Type 0} (k : Kind S C M) (c p : ℕ) (q : Process S C) (w : World S C M) (runs : RunsAt p q w) (nested : AllNested k w) where
-  -- who is back at a level since the turn was counted is back at the level that it had before
-  back_before : (later : World S C M) → AreBack k c (counted p q w) later → AreBack k c w later
+-- p was u in the world v in which the cascade began, and every level of the world w before that is a level there
+module _ {S C M : Type 0} (k : Kind S C M) (c p : ℕ) (u : Process S C) (v w : World S C M) (there : slice_get v.processes p ≡ Some u) (nested : AllNested k v) (kept : Keeps c w v) where
+  -- who is back at a level of the one is back at its level of the other
+  back_before : (later : World S C M) → AreBack k c v later → AreBack k c w later
   back_before later back r i x here at =
-      let kept : (now : Process S C) × (slice_get (counted p q w).processes r ≡ Some now) × Carries c x.levels now.levels = counted_keeps c p q w runs r x here in
-      let own : (level : Level C) × (slice_get kept.0.levels i ≡ Some level) × (unused level ≡ unused at.level) = kept.2 i at in
+      let before : (now : Process S C) × (slice_get v.processes r ≡ Some now) × Carries c x.levels now.levels = kept r x here in
+      let own : (level : Level C) × (slice_get before.0.levels i ≡ Some level) × (unused level ≡ unused at.level) = before.2 i at in
       let one : (now : Process S C) × (slice_get later.processes r ≡ Some now) × IsBack k i own.0 now =
-          back r i kept.0 kept.1 (record { level = own.0; there = own.1; of_it = ap (λ (l : Level C). l.facts.conversation) own.2 ∙ at.of_it }) in
+          back r i before.0 before.1 (record { level = own.0; there = own.1; of_it = ap (λ (l : Level C). l.facts.conversation) own.2 ∙ at.of_it }) in
       (one.0, one.1, record {
         innermost = one.2.innermost;
         next = one.2.next ∙ ap (λ (l : Level C). Some (next_alternate l)) own.2;
@@ -93,58 +92,58 @@ module _ {S C M : Type 0} (k : Kind S C M) (c p : ℕ) (q : Process S C) (w : Wo
       })
 
   -- p alone was rejected
-  alone_stays_at : (later : World S C M) → LeavesOthers p None (counted p q w) later → KeepsTalks {M = M} (turn_used q) p later
-      → (r : ℕ) (x : Process S C) → slice_get (counted p q w).processes r ≡ Some x → (r ≡ p) ⊎ (r ≡ p → ⊥)
+  alone_stays_at : (later : World S C M) → LeavesOthers p None v later → KeepsTalks {M = M} u p later
+      → (r : ℕ) (x : Process S C) → slice_get v.processes r ≡ Some x → (r ≡ p) ⊎ (r ≡ p → ⊥)
       → (now : Process S C) × (slice_get later.processes r ≡ Some now) × Carries c x.levels now.levels
   alone_stays_at later others keeps r x here (inl same) =
-      let own : turn_used q ≡ x = some_same (sym (counted_there k p q w runs) ∙ (ap (slice_get (counted p q w).processes) (sym same) ∙ here)) in
+      let own : u ≡ x = some_same (sym there ∙ (ap (slice_get v.processes) (sym same) ∙ here)) in
       (keeps.0, ap (slice_get later.processes) same ∙ keeps.1,
       subst (λ (y : Process S C). Carries c y.levels keeps.0.levels) own (λ i at. (at.level, keeps.2 i c at, refl)))
   alone_stays_at later others keeps r x here (inr other) = (x, others r x here other tt, carries_same c x.levels)
 
   -- a conversation was put back, or has failed
-  back_within : (e j r i : ℕ) (x : Process S C) (h : Happened S C M) → EndsIn e p h.1 → IsLevelOf e (turn_used q).levels j → LeavesOthers p (Some e) (counted p q w) h.0
-      → AreBackAt k e j (counted p q w) h.0 → length h.0.processes ≡ length (counted p q w).processes
-      → slice_get (counted p q w).processes r ≡ Some x → IsLevelOf c x.levels i → IsLevelOf e x.levels j → j ≤ i
+  back_within : (e j r i : ℕ) (x : Process S C) (h : Happened S C M) → EndsIn e p h.1 → IsLevelOf e u.levels j → LeavesOthers p (Some e) v h.0
+      → AreBackAt k e j v h.0 → length h.0.processes ≡ length v.processes
+      → slice_get v.processes r ≡ Some x → IsLevelOf c x.levels i → IsLevelOf e x.levels j → j ≤ i
       → (c ≡ e) ⊎ (c ≡ e → ⊥) → Together k c p w (undone h)
   back_within e j r i x h events at others back size here own own' within (inl same) =
       AllGoBack (subst (λ (d : ℕ). EndsIn d p h.1) (sym same) events)
       (back_before h.0
-      (all_back_at k p (turn_used q) (counted p q w) (counted_there k p q w runs) (counted_nested k p q w runs nested) c e j h.0 at same back))
+      (all_back_at k p u v there nested c e j h.0 at same back))
   back_within e j r i x h events at others back size here own own' within (inr other) =
       AllGoOut e events
-      (within_left k p (turn_used q) (counted p q w) (counted_there k p q w runs) (counted_nested k p q w runs nested) c e j r i x h.0 at others
-      (back_leave k p (turn_used q) (counted p q w) (counted_there k p q w runs) (counted_nested k p q w runs nested) c e j r i x h.0 back other here own within)
+      (within_left k p u v there nested c e j r i x h.0 at others
+      (back_leave k p u v there nested c e j r i x h.0 back other here own within)
       here own own' within size)
 
-  back_together : (e j : ℕ) (h : Happened S C M) → EndsIn e p h.1 → IsLevelOf e (turn_used q).levels j → LeavesOthers p (Some e) (counted p q w) h.0
-      → AreBackAt k e j (counted p q w) h.0 → length h.0.processes ≡ length (counted p q w).processes → Where c e j (counted p q w) → Together k c p w (undone h)
+  back_together : (e j : ℕ) (h : Happened S C M) → EndsIn e p h.1 → IsLevelOf e u.levels j → LeavesOthers p (Some e) v h.0
+      → AreBackAt k e j v h.0 → length h.0.processes ≡ length v.processes → Where c e j v → Together k c p w (undone h)
   back_together e j h events at others back size (Apart apart) =
-      AllStay (keeps_on c w (counted p q w) h.0 (counted_keeps c p q w runs)
-      (apart_stays k p (turn_used q) (counted p q w) (counted_there k p q w runs) (counted_nested k p q w runs nested) c e j h.0 at others
-      (back_outer k p (turn_used q) (counted p q w) (counted_there k p q w runs) (counted_nested k p q w runs nested) e j h.0 back) apart))
+      AllStay (keeps_on c w v h.0 kept
+      (apart_stays k p u v there nested c e j h.0 at others
+      (back_outer k p u v there nested e j h.0 back) apart))
   back_together e j h events at others back size (Within r i x here own own' within) =
       back_within e j r i x h events at others back size here own own' within (cases_eq c e)
 
-  fallen_together : (e j : ℕ) (h : Happened S C M) → EndsIn e p h.1 → IsLevelOf e (turn_used q).levels j → j ≡ 0 → LeavesOthers p (Some e) (counted p q w) h.0
-      → HaveFallen e j (counted p q w) h.0 → length h.0.processes ≡ length (counted p q w).processes → Where c e j (counted p q w) → Together k c p w (undone h)
+  fallen_together : (e j : ℕ) (h : Happened S C M) → EndsIn e p h.1 → IsLevelOf e u.levels j → j ≡ 0 → LeavesOthers p (Some e) v h.0
+      → HaveFallen e j v h.0 → length h.0.processes ≡ length v.processes → Where c e j v → Together k c p w (undone h)
   fallen_together e j h events at outermost others fell size (Apart apart) =
-      AllStay (keeps_on c w (counted p q w) h.0 (counted_keeps c p q w runs)
-      (apart_stays k p (turn_used q) (counted p q w) (counted_there k p q w runs) (counted_nested k p q w runs nested) c e j h.0 at others
-      (fallen_outer k p (turn_used q) (counted p q w) (counted_there k p q w runs) (counted_nested k p q w runs nested) e j h.0 outermost fell) apart))
+      AllStay (keeps_on c w v h.0 kept
+      (apart_stays k p u v there nested c e j h.0 at others
+      (fallen_outer k p u v there nested e j h.0 outermost fell) apart))
   fallen_together e j h events at outermost others fell size (Within r i x here own own' within) =
       AllGoOut e events
-      (within_left k p (turn_used q) (counted p q w) (counted_there k p q w runs) (counted_nested k p q w runs nested) c e j r i x h.0 at others
-      (fallen_leave k p (turn_used q) (counted p q w) (counted_there k p q w runs) (counted_nested k p q w runs nested) c e j h.0 fell) here own own' within size)
+      (within_left k p u v there nested c e j r i x h.0 at others
+      (fallen_leave k p u v there nested c e j h.0 fell) here own own' within size)
 
   -- what a cascade comes to
-  pub reject_together : (h : Happened S C M) → length h.0.processes ≡ length (counted p q w).processes → Ends k p (turn_used q) (counted p q w) None h
+  pub reject_together : (h : Happened S C M) → length h.0.processes ≡ length v.processes → Ends k p u v None h
       → Together k c p w (undone h)
   reject_together h size (Alone none private others keeps) =
-      AllStay (keeps_on c w (counted p q w) h.0 (counted_keeps c p q w runs) (λ r x here. alone_stays_at h.0 others keeps r x here (cases_eq r p)))
+      AllStay (keeps_on c w v h.0 kept (λ r x here. alone_stays_at h.0 others keeps r x here (cases_eq r p)))
   reject_together h size (AllBack e j events at others back) =
       back_together e j h events at others back size
-      (where_is k p (turn_used q) (counted p q w) (counted_there k p q w runs) (counted_nested k p q w runs nested) c e j at)
+      (where_is k p u v there nested c e j at)
   reject_together h size (AllFallen e j events at outermost others fell) =
       fallen_together e j h events at outermost others fell size
-      (where_is k p (turn_used q) (counted p q w) (counted_there k p q w runs) (counted_nested k p q w runs nested) c e j at)
+      (where_is k p u v there nested c e j at)

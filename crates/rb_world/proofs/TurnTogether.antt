@@ -72,7 +72,8 @@ module _ {S C M : Type 0} (k : Kind S C M) (c p : ℕ) (w : World S C M) (ordere
     passes = λ q level d alternate s m runs last of_d all size. pass_together k p q w runs ordered s m c d alternate level last of_d all;
     barred = λ q facts d talk runs away wants of_d at broken size. AllStay (barred_stays q facts d talk runs away wants of_d at broken);
     rejects = λ q n cause runs within none size.
-        reject_together k c p q w runs ordered.nested (reject k p n cause (counted p q w))
+        reject_together k c p (turn_used q) (counted p q w) w (counted_there k p q w runs) (counted_nested k p q w runs ordered.nested) (counted_keeps c p q w runs)
+        (reject k p n cause (counted p q w))
         (size ∙ sym (length-change_at p (λ _. turn_used q) w.processes))
         (reject-ends k p (turn_used q) (counted p q w) (counted_there k p q w runs) (counted_nested k p q w runs ordered.nested) n cause within none);
   }
