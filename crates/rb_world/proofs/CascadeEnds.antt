@@ -1,17 +1,16 @@
 -- What a cascade of rejections comes to: by induction over the levels that are left, with what was put back so far.
-use Rattle.std.proofs.Common.{◌≡◌, ◌≢◌, ◌⊎◌, inl, inr, ◌<◌, ◌≤◌, ◌+◌, ℕ, zero, suc, pred, Bool, true, false, cond, List, [], ◌∷◌, ◌++◌, length, map, option_map, position, slice_get, Option, Some, None, refl, sym, ap, ◌∙◌, subst, true≢false, nat_lt, suc-ne-zero, arith}
-use Rattle.std.proofs.lemmas.Bool.{cases_eq}
+use Rattle.std.proofs.Common.{◌≡◌, ◌<◌, ◌≤◌, ℕ, zero, suc, pred, Bool, true, false, cond, List, [], ◌∷◌, length, map, option_map, slice_get, Option, Some, None, refl, sym, ap, ◌∙◌, subst, true≢false, nat_lt, suc-ne-zero, arith}
 use Rattle.std.proofs.lemmas.Option.{slice_get-map, slice_get_within}
 use Rattle.rb_base.specs.declared.event.Cause.{Cause}
 use Rattle.rb_base.specs.declared.event.Cause.TheVariants.{Inner}
 use Rattle.rb_base.specs.declared.event.Event.{Event}
 use Rattle.rb_base.specs.declared.event.Event.TheVariants.{Reject, RejectAll}
 use Rattle.rb_world.specs.Kind.{Kind}
-use Rattle.rb_world.specs.World.{Level, Process, World, change_at, is_inside, is_of, levels_of, process_levels, with_each, with_process}
+use Rattle.rb_world.specs.World.{Level, Process, World, change_at, is_inside, levels_of, process_levels, with_each, with_process}
 use Rattle.rb_world.specs.Reject.{Happened, after_event, all_back, exhausted_next, fallen, fallen_inside, next_alternate, parent_of, private_next, put_back, raised, reject, reject_at, reject_either, together_next, where_inside}
 use Rattle.rb_world.specs.Nested.{AreNested, HasOutside, IsLevelOf}
 use Rattle.rb_world.proofs.TurnFacts.{all_broken, all_next, all_spent}
-use Rattle.rb_world.proofs.ListFacts.{none_some, slice_get-change_at, some_same}
+use Rattle.rb_world.proofs.ListFacts.{none_some, slice_get-change_at}
 use Rattle.rb_world.proofs.PlaceFacts.{conversation_out, level_inside, not_of, slice_get-elsewhere}
 use Rattle.rb_world.proofs.Cascade.{AllBack, AllFallen, AllNested, Alone, AreBackAt, EndsIn, Ends, HasCome, HaveFallen, IsLast, IsOutsideOf, KeepsTalks, LeavesOthers, NoneYet, Now, OneBefore}
 use Rattle.rb_world.proofs.CascadeSteps.{InsideIt, OutsideIt, Place, changed_inside, inside_parent, is_back, place, place_found, private_come, put_back_outer, stays_outside, together_come}
@@ -72,14 +71,15 @@ module _ {S C M : Type 0} (k : Kind S C M) (p : ℕ) (u : Process S C) (v : Worl
   private_keeps : (j : ℕ) (last : Option ℕ) (level : Level C) (w : World S C M) → HasCome k p u v (suc j) last w → slice_get u.levels j ≡ Some level
       → level.facts.conversation ≡ None → KeepsTalks {M = M} u p (with_process p (raised j) (with_process p (put_back k j) w))
   private_keeps j last level w come here alone =
-      let n : Now p (suc j) last p u w = come.each p u there in
-      (raised j (put_back k j n.now),
-      slice_get-change_at p (raised j) (change_at p (put_back k j) w.processes)
-      ∙ ap (option_map (raised j)) (slice_get-change_at p (put_back k j) w.processes ∙ ap (option_map (put_back k j)) n.there),
-      λ i c at.
-      let below : i < j = conversation_out k.groups u.levels (nested p u there) i j c level at here alone in
-      slice_get-elsewhere j next_alternate (put_back k j n.now).levels i (λ e. absurd (omega arith))
-      ∙ (put_back_outer k j n.now i (omega arith) ∙ (n.outer i (omega arith) ∙ at.there)))
+      let n : Now p (suc j) last p u w = come.each p u there in (
+        raised j (put_back k j n.now),
+        slice_get-change_at p (raised j) (change_at p (put_back k j) w.processes)
+            ∙ ap (option_map (raised j)) (slice_get-change_at p (put_back k j) w.processes ∙ ap (option_map (put_back k j)) n.there),
+        λ i c at.
+            let below : i < j = conversation_out k.groups u.levels (nested p u there) i j c level at here alone in
+            slice_get-elsewhere j next_alternate (put_back k j n.now).levels i (λ e. absurd (omega arith))
+            ∙ (put_back_outer k j n.now i (omega arith) ∙ (n.outer i (omega arith) ∙ at.there)),
+      )
 
   private_next-ends : (j : ℕ) (last : Option ℕ) (level : Level C) (w : World S C M) (outer : World S C M → Happened S C M)
       → HasCome k p u v (suc j) last w → slice_get u.levels j ≡ Some level → level.facts.conversation ≡ None
@@ -122,13 +122,14 @@ module _ {S C M : Type 0} (k : Kind S C M) (p : ℕ) (u : Process S C) (v : Worl
   all_go_back : (c j : ℕ) (last : Option ℕ) (w : World S C M) → HasCome k p u v (suc j) last w → IsLevelOf c u.levels j → AreBackAt k c j v (all_next k c w)
   all_go_back c j last w come at r q here own =
       let n : Now p (suc j) last r q w = come.each r q here in
-      let back : Process S C = put_back k j n.now in
-      (raised j back,
-      twice (where_inside (put_back k) c) (where_inside raised c) w.processes r n.there
-      ∙ ap Some (ap (where_inside raised c) (inside_back c j r last q w (nested r q here) own n)
-      ∙ changed_inside raised c j back (place_found k.groups c j q.levels back.levels (nested r q here) own
-      (λ i below. put_back_outer k j n.now i below ∙ n.outer i below))),
-      is_back k j q n.now own.level own.there n.outer)
+      let back : Process S C = put_back k j n.now in (
+        raised j back,
+        twice (where_inside (put_back k) c) (where_inside raised c) w.processes r n.there
+            ∙ ap Some (ap (where_inside raised c) (inside_back c j r last q w (nested r q here) own n)
+            ∙ changed_inside raised c j back (place_found k.groups c j q.levels back.levels (nested r q here) own
+            (λ i below. put_back_outer k j n.now i below ∙ n.outer i below))),
+        is_back k j q n.now own.level own.there n.outer,
+      )
 
   -- or fail
   all_fall : (c j : ℕ) (last : Option ℕ) (w : World S C M) → HasCome k p u v (suc j) last w → IsLevelOf c u.levels j → HaveFallen c j v (all_broken k c w)
@@ -139,11 +140,12 @@ module _ {S C M : Type 0} (k : Kind S C M) (p : ℕ) (u : Process S C) (v : Worl
         level = own.level;
         there = put_back_outer k j n.now j (omega arith) ∙ (n.outer j (omega arith) ∙ own.there);
         of_it = own.of_it;
-      }) in
-      (fallen k Inner back,
-      twice (where_inside (put_back k) c) (fallen_inside k c) w.processes r n.there
-      ∙ ap Some (ap (fallen_inside k c) (inside_back c j r last q w (nested r q here) own n) ∙ ap (λ (b : Bool). cond b (fallen k Inner back) back) inside),
-      refl)
+      }) in (
+        fallen k Inner back,
+        twice (where_inside (put_back k) c) (fallen_inside k c) w.processes r n.there
+            ∙ ap Some (ap (fallen_inside k c) (inside_back c j r last q w (nested r q here) own n) ∙ ap (λ (b : Bool). cond b (fallen k Inner back) back) inside),
+        refl,
+      )
 
   exhausted_next-ends : (c j alternate : ℕ) (cause : Cause) (last : Option ℕ) (w : World S C M) (outer : World S C M → Happened S C M)
       → HasCome k p u v (suc j) last w → IsLevelOf c u.levels j

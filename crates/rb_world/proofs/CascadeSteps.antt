@@ -1,10 +1,10 @@
 -- One step of a cascade: what becomes of each process when a level of p, or a conversation, is put back.
-use Rattle.std.proofs.Common.{◌≡◌, ◌≢◌, ◌⊎◌, inl, inr, ◌<◌, ◌+◌, ℕ, zero, suc, pred, Bool, true, false, List, [], ◌∷◌, length, map, option_map, position, slice_get, take, Option, Some, None, refl, sym, ap, ◌∙◌, subst, true≢false, add-one, suc-ne-zero, arith}
+use Rattle.std.proofs.Common.{◌≡◌, ◌≢◌, ◌⊎◌, inl, inr, ◌<◌, ◌+◌, ℕ, zero, suc, pred, Bool, true, false, List, length, option_map, position, slice_get, take, Option, Some, None, refl, sym, ap, ◌∙◌, subst, true≢false, add-one, arith}
 use Rattle.std.proofs.lemmas.Bool.{cases_eq}
 use Rattle.std.proofs.lemmas.Option.{slice_get-map}
 use Rattle.rb_world.specs.Kind.{Kind, Membership}
 use Rattle.rb_world.specs.World.{Level, Process, World, change_at, is_inside, is_of, with_process}
-use Rattle.rb_world.specs.Reject.{all_back, at_place, back_to, next_alternate, parent_of, put_back, raised, where_inside}
+use Rattle.rb_world.specs.Reject.{at_place, back_to, next_alternate, parent_of, put_back, raised, where_inside}
 use Rattle.rb_world.specs.Nested.{AreNested, HasOutside, IsLevelOf}
 use Rattle.rb_world.proofs.TurnFacts.{all_spent}
 use Rattle.rb_world.proofs.ListFacts.{length-change_at, slice_get-change_at, some_same}
@@ -97,8 +97,8 @@ module _ {S C M : Type 0} (k : Kind S C M) (p : ℕ) (u : Process S C) (v : Worl
       InsideIt (subst (IsLevelOf c q.levels) (same_place k.groups q.levels u.levels (nested r q here) (nested p u there) found.0 j c found.1 at) found.1) n.outer
   place_of c j r last q w is at here n false e =
       let other : r ≢ p = λ (same : r ≡ p).
-          let own : u ≡ q = some_same (sym there ∙ (ap (slice_get v.processes) (sym same) ∙ here)) in
-          true≢false (sym (level_inside c u.levels j at) ∙ (ap (is_inside c) own ∙ e)) in
+      let own : u ≡ q = some_same (sym there ∙ (ap (slice_get v.processes) (sym same) ∙ here)) in
+      true≢false (sym (level_inside c u.levels j at) ∙ (ap (is_inside c) own ∙ e)) in
       OutsideIt e other (n.same other (outside_last c j last q is at (nested r q here) e))
 
   pub place : (c j r : ℕ) (last : Option ℕ) (q : Process S C) (w : World S C M) → IsLast k.groups u.levels (suc j) last → IsLevelOf c u.levels j

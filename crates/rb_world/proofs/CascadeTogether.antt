@@ -1,20 +1,16 @@
 -- What becomes of the levels of a conversation in a cascade of rejections: of all that are inside at once.
-use Rattle.std.proofs.Common.{◌≡◌, ◌≢◌, ◌⊎◌, inl, inr, ◌<◌, ◌≤◌, ◌+◌, ℕ, zero, suc, Bool, true, false, List, [], ◌∷◌, length, slice_get, Option, Some, None, refl, sym, ap, ◌∙◌, subst, true≢false, arith}
+use Rattle.std.proofs.Common.{◌≡◌, ◌≢◌, ◌⊎◌, inl, inr, ◌<◌, ◌≤◌, ℕ, zero, suc, Bool, true, false, List, [], ◌∷◌, length, slice_get, Some, refl, sym, ap, ◌∙◌, subst, true≢false, arith}
 use Rattle.std.specs.List.{list_any}
-use Rattle.std.proofs.lemmas.Bool.{cases_eq, cases_lt}
+use Rattle.std.proofs.lemmas.Bool.{cases_lt}
 use Rattle.std.proofs.lemmas.Option.{slice_get_within}
 use Rattle.rb_world.specs.Kind.{Kind}
-use Rattle.rb_world.specs.World.{Level, Process, World, is_inside, is_of}
-use Rattle.rb_world.specs.Reject.{Happened, next_alternate}
-use Rattle.rb_world.specs.Turn.{turn_used, undone}
+use Rattle.rb_world.specs.World.{Process, World, is_inside}
 use Rattle.rb_world.specs.Nested.{IsLevelOf}
-use Rattle.rb_world.proofs.TurnFacts.{RunsAt}
-use Rattle.rb_world.proofs.ListFacts.{none_some, some_same}
+use Rattle.rb_world.proofs.ListFacts.{some_same}
 use Rattle.rb_world.proofs.PlaceFacts.{PassesAt, any_found, any_none, inside_level, level_inside, same_around, same_place}
-use Rattle.rb_world.proofs.Outcomes.{counted}
-use Rattle.rb_world.proofs.Cascade.{AllBack, AllFallen, AllNested, Alone, AreBackAt, EndsIn, Ends, HaveFallen, IsBackAt, KeepsTalks, LeavesOthers}
-use Rattle.rb_world.proofs.Together.{AllGoBack, AllGoOut, AllStay, AreBack, Carries, IsBack, IsLeft, Keeps, Together, unused}
-use Rattle.rb_world.proofs.CountedTurns.{carries_same, counted_keeps, counted_nested, counted_there, keeps_on}
+use Rattle.rb_world.proofs.Cascade.{AllNested, LeavesOthers}
+use Rattle.rb_world.proofs.Together.{Carries, IsLeft, Keeps}
+use Rattle.rb_world.proofs.CountedTurns.{carries_same}
 
 -- where the levels of conversation c stand, and the levels number j of conversation e: none is as far in, or somebody's is, and
 -- that one is inside both
@@ -52,7 +48,7 @@ module _ {S C M : Type 0} (k : Kind S C M) (p : ℕ) (u : Process S C) (v : Worl
       Apart (λ s i' x e' own' at'.
       let same : i' ≡ i = same_place k.groups x.levels q.levels (nested s x e') (nested r q here) i' i c own' own in
       let around : IsLevelOf e q.levels j =
-          same_around k.groups x.levels q.levels (nested s x e') (nested r q here) i j c e (subst (IsLevelOf c x.levels) same own') own at' within in
+      same_around k.groups x.levels q.levels (nested s x e') (nested r q here) i j c e (subst (IsLevelOf c x.levels) same own') own at' within in
       absurd (true≢false (sym (level_inside e q.levels j around) ∙ is)))
 
   where_any : (c e j : ℕ) → IsLevelOf e u.levels j → (any : Bool) → list_any (is_inside c) v.processes ≡ any → Where c e j v
@@ -102,7 +98,7 @@ module _ {S C M : Type 0} (k : Kind S C M) (p : ℕ) (u : Process S C) (v : Worl
       let found : (n : ℕ) × IsLevelOf c x.levels n = inside_level c x.levels is in
       let same : found.0 ≡ i = same_place k.groups x.levels q.levels (nested s x there') (nested r q here) found.0 i c found.1 own in
       let around : IsLevelOf e x.levels j =
-          same_around k.groups q.levels x.levels (nested r q here) (nested s x there') i j c e own (subst (IsLevelOf c x.levels) same found.1) at within in
+      same_around k.groups q.levels x.levels (nested r q here) (nested s x there') i j c e own (subst (IsLevelOf c x.levels) same found.1) at within in
       absurd (true≢false (sym (level_inside e x.levels j around) ∙ outside))
   outside_both c e j r i q here own at within s x there' outside false is = is
 

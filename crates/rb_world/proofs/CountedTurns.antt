@@ -46,7 +46,7 @@ module _ {C : Type 0} where
   carries_on c levels later last first next i at =
       let one : (level : Level C) × (slice_get later i ≡ Some level) × (unused level ≡ unused at.level) = first i at in
       let other : (level : Level C) × (slice_get last i ≡ Some level) × (unused level ≡ unused one.0) =
-          next i (record { level = one.0; there = one.1; of_it = ap (λ (l : Level C). l.facts.conversation) one.2 ∙ at.of_it }) in
+      next i (record { level = one.0; there = one.1; of_it = ap (λ (l : Level C). l.facts.conversation) one.2 ∙ at.of_it }) in
       (other.0, other.1, other.2 ∙ one.2)
 
   pub carries_used : (c : ℕ) (levels : List (Level C)) → Carries c levels (map one_used levels)
@@ -84,9 +84,11 @@ own_keeps_at : {S C M : Type 0} (c p : ℕ) (q : Process S C) (f : Process S C �
     → (r : ℕ) (x : Process S C) → slice_get w.processes r ≡ Some x → (r ≡ p) ⊎ (r ≡ p → ⊥)
     → (now : Process S C) × (slice_get (change_at p f w.processes) r ≡ Some now) × Carries c x.levels now.levels
 own_keeps_at {S} {C} {M} c p q f w there carries r x e (inl same) =
-    let own : q ≡ x = some_same (sym there ∙ (ap (slice_get w.processes) (sym same) ∙ e)) in
-    (f q, ap (slice_get (change_at p f w.processes)) same ∙ (slice_get-change_at p f w.processes ∙ ap (option_map f) there),
-    subst (λ (y : Process S C). Carries c y.levels (f q).levels) own carries)
+    let own : q ≡ x = some_same (sym there ∙ (ap (slice_get w.processes) (sym same) ∙ e)) in (
+      f q,
+      ap (slice_get (change_at p f w.processes)) same ∙ (slice_get-change_at p f w.processes ∙ ap (option_map f) there),
+      subst (λ (y : Process S C). Carries c y.levels (f q).levels) own carries,
+    )
 own_keeps_at c p q f w there carries r x e (inr other) = (x, slice_get-elsewhere p f w.processes r other ∙ e, carries_same c x.levels)
 
 pub own_keeps : {S C M : Type 0} (c p : ℕ) (q : Process S C) (f : Process S C → Process S C) (w : World S C M) → slice_get w.processes p ≡ Some q

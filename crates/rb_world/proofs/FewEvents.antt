@@ -1,12 +1,12 @@
 -- A turn makes at most 32 rejections, and tells at most one event more of each process: a cascade rejects each open level at most
 -- once, a pass comes only without a rejection, and a process is told as failed or as done, but not as both.
-use Rattle.std.proofs.Common.{◌≡◌, ◌≤◌, ℕ, ◌+◌, zero, suc, Bool, true, false, cond, List, [], ◌∷◌, ◌++◌, length, map, slice_get, Option, Some, None, refl, sym, ap, ◌∙◌, nat_lt, append-nil, arith, length-append}
+use Rattle.std.proofs.Common.{◌≡◌, ◌≤◌, ℕ, ◌+◌, zero, suc, Bool, true, false, cond, List, [], ◌∷◌, ◌++◌, length, slice_get, Option, Some, None, refl, sym, ap, ◌∙◌, nat_lt, append-nil, arith, length-append}
 use Rattle.std.specs.List.{filter}
 use Rattle.std.proofs.lemmas.List.{length-map}
 use Rattle.rb_base.specs.declared.event.Cause.{Cause}
 use Rattle.rb_base.specs.declared.event.Cause.TheVariants.{Inner}
 use Rattle.rb_base.specs.declared.event.Event.{Event}
-use Rattle.rb_base.specs.declared.event.Event.TheVariants.{Error, Pass, Done}
+use Rattle.rb_base.specs.declared.event.Event.TheVariants.{Error, Done}
 use Rattle.rb_world.specs.Kind.{Kind}
 use Rattle.rb_world.specs.World.{Level, Status, Running, Finished, FailedWith, Process, World, process_levels}
 use Rattle.rb_world.specs.Reject.{Happened, all_back, exhausted_next, parent_of, private_next, put_back, reject, reject_at, reject_either, together_next}
@@ -93,10 +93,13 @@ each_told : {S C : Type 0} (p : ℕ) (before after : List (Process S C))
 each_told p [] after = omega arith
 each_told p (q ∷ qs) [] = omega arith
 each_told p (q ∷ qs) (r ∷ rs) =
-    omega
-    (arith, one_told p q.status r.status, each_told (p + 1) qs rs,
-    length-append (error_at p q.status r.status) (compared error_at (p + 1) qs rs),
-    length-append (done_at p q.status r.status) (compared done_at (p + 1) qs rs))
+    omega (
+      arith,
+      one_told p q.status r.status,
+      each_told (p + 1) qs rs,
+      length-append (error_at p q.status r.status) (compared error_at (p + 1) qs rs),
+      length-append (done_at p q.status r.status) (compared done_at (p + 1) qs rs),
+    )
 
 -- a test that fails for each event of a list finds none, also in front of others
 abbrev Fails : (Event → Bool) → List Event → Type 0
@@ -153,11 +156,15 @@ module _ {test : Event → Bool} (is : IsOfRejections test) where
         let errors : List Event = compared error_at 0 before.processes moved.world.processes in
         let completions : List Event = compared done_at 0 before.processes moved.world.processes in
         let none : filter test completions ≡ [] =
-            ap (filter test) (sym (append-nil completions)) ∙ filter-none test completions [] (compared_fails done_at done_fails 0 before.processes moved.world.processes) in
-        omega
-        (arith, few, filter-at_most test moved.rejections (errors ++ (moved.passes ++ completions)),
-        ap length (filter-none test errors (moved.passes ++ completions) (compared_fails error_at error_fails 0 before.processes moved.world.processes)),
-        filter-at_most test moved.passes completions, ap length none)
+        ap (filter test) (sym (append-nil completions)) ∙ filter-none test completions [] (compared_fails done_at done_fails 0 before.processes moved.world.processes) in
+        omega (
+          arith,
+          few,
+          filter-at_most test moved.rejections (errors ++ (moved.passes ++ completions)),
+          ap length (filter-none test errors (moved.passes ++ completions) (compared_fails error_at error_fails 0 before.processes moved.world.processes)),
+          filter-at_most test moved.passes completions,
+          ap length none,
+        )
 
     -- a turn makes no more rejections than the most levels
     pub turn-few_rejections : (t p : ℕ) (w : World S C M) → Each IsShallow w.processes
@@ -169,9 +176,14 @@ module _ {S C M : Type 0} (k : Kind S C M) where
   few_told before moved few =
       let errors : List Event = compared error_at 0 before.processes moved.world.processes in
       let completions : List Event = compared done_at 0 before.processes moved.world.processes in
-      omega
-      (arith, few, each_told 0 before.processes moved.world.processes, length-append moved.rejections (errors ++ (moved.passes ++ completions)),
-      length-append errors (moved.passes ++ completions), length-append moved.passes completions)
+      omega (
+        arith,
+        few,
+        each_told 0 before.processes moved.world.processes,
+        length-append moved.rejections (errors ++ (moved.passes ++ completions)),
+        length-append errors (moved.passes ++ completions),
+        length-append moved.passes completions,
+      )
 
   -- beside them a turn tells at most one event of each process
   pub turn-few : (t p : ℕ) (w : World S C M) → Each IsShallow w.processes → length (turn k t p w).1.events ≤ most_levels + length w.processes

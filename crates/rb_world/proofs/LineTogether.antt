@@ -1,19 +1,19 @@
 -- At a passed test line all members stand, all of them leave, and none is inside any more.
-use Rattle.std.proofs.Common.{◌≡◌, ◌≢◌, ◌⊎◌, inl, inr, ℕ, suc, nat_eq, Bool, true, false, cond, List, [], ◌∷◌, map, option_map, slice_get, Option, Some, None, refl, sym, ap, ◌∙◌, subst, true≢false}
+use Rattle.std.proofs.Common.{◌≡◌, ◌≢◌, ◌⊎◌, inl, inr, ℕ, nat_eq, Bool, true, false, cond, List, option_map, slice_get, Option, Some, None, refl, sym, ap, ◌∙◌, subst, true≢false}
 use Rattle.std.specs.List.{list_any}
 use Rattle.std.proofs.lemmas.Bool.{cases_eq}
 use Rattle.rb_base.specs.declared.event.Event.TheVariants.{Pass}
 use Rattle.rb_world.specs.Kind.{Kind}
-use Rattle.rb_world.specs.World.{Level, Process, World, is_inside, is_of, last_of, levels_of, process_levels, settled, without_last}
+use Rattle.rb_world.specs.World.{Level, Process, World, is_inside, is_of, last_of, levels_of, settled, without_last}
 use Rattle.rb_world.specs.Turn.{all_leave, all_stand, is_last_of, leaves, members_of, passed, stands_at, stands_now, stands_there, turn_used}
 use Rattle.rb_world.specs.Nested.{AreNested, IsLevelOf}
 use Rattle.rb_world.proofs.TurnFacts.{RunsAt, come_to_stand}
 use Rattle.rb_world.proofs.ListFacts.{second_holds, slice_get-change_at, some_same}
 use Rattle.rb_world.proofs.PlaceFacts.{inside_level, of_passes, passes_of, slice_get-elsewhere}
 use Rattle.rb_world.proofs.Outcomes.{counted}
-use Rattle.rb_world.proofs.Together.{AllPass, AllStay, HaveCome, IsLeft, IsOrdered, Keeps, Together}
+use Rattle.rb_world.proofs.Together.{AllPass, AllStay, HaveCome, IsLeft, IsOrdered, Together}
 use Rattle.rb_world.proofs.CountedTurns.{carries_same, counted_keeps, counted_other, counted_there, keeps_on, level_used, nested_used, own_keeps}
-use Rattle.rb_world.proofs.PassTogether.{LastAt, all_pass, last_at, last_used, leave_keeps, left_not_inside, map_found, of_last}
+use Rattle.rb_world.proofs.PassTogether.{LastAt, all_pass, last_at, last_used, leave_keeps, left_not_inside, map_found}
 
 module _ {S C M : Type 0} (k : Kind S C M) (p : ℕ) (q : Process S C) (w : World S C M) (runs : RunsAt p q w) (ordered : IsOrdered k w) (s : S) (m : M) where
   -- the world in which p came to the line
@@ -55,7 +55,7 @@ module _ {S C M : Type 0} (k : Kind S C M) (p : ℕ) (q : Process S C) (w : Worl
   not_standing c r y all here away true is =
       let found : (n : ℕ) × IsLevelOf c y.levels n = inside_level c y.levels is in
       let there : stands_there c (slice_get Stood.processes r) ≡ true =
-          all_pass (λ n. stands_there c (slice_get Stood.processes n)) r (members_of (slice_get k.groups c)) all (stood_member c r found.0 y here found.1) in
+      all_pass (λ n. stands_there c (slice_get Stood.processes n)) r (members_of (slice_get k.groups c)) all (stood_member c r found.0 y here found.1) in
       absurd (true≢false (sym there ∙ (ap (stands_there c) here ∙ away)))
   not_standing c r y all here away false is = is
 

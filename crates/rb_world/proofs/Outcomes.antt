@@ -1,7 +1,6 @@
 -- What a turn comes to, with its rejections and its pass. There are ten outcomes, each with what is known there; what holds of
 -- each of them holds of every turn.
-use Rattle.std.proofs.Common.{◌≡◌, ◌≤◌, ◌<◌, ℕ, ℤ, suc, Bool, true, false, cond, List, [], ◌∷◌, length, map, option_map, position, slice_get, Option, Some, None, refl, sym, ap, ◌∙◌, subst, nat_le, add-one, suc-ne-zero, arith}
-use Rattle.std.proofs.lemmas.List.{length-map}
+use Rattle.std.proofs.Common.{◌≡◌, ◌≤◌, ◌<◌, ℕ, ℤ, suc, Bool, true, false, cond, List, [], ◌∷◌, length, option_map, position, slice_get, Option, Some, None, refl, sym, ap, ◌∙◌, subst, nat_le, add-one, suc-ne-zero, arith}
 use Rattle.std.proofs.lemmas.List.Quantifiers.{position-Some}
 use Rattle.rb_base.specs.declared.event.Cause.{Cause}
 use Rattle.rb_base.specs.declared.event.Cause.TheVariants.{Broken, Depth, Overrun}
@@ -10,7 +9,7 @@ use Rattle.rb_world.specs.Kind.{Facts, Kind, Want, NothingLeft, SendsOn, Receive
 use Rattle.rb_world.specs.World.{Level, Status, Running, Finished, FailedWith, Process, Talk, World, last_of, levels_of, talk_at, with_process}
 use Rattle.rb_world.specs.Channels.{has_room, message_there}
 use Rattle.rb_world.specs.Reject.{fallen, reject}
-use Rattle.rb_world.specs.Turn.{Moved, accepted, accepted_at, acts, alternate_of, all_leave, all_stand, bounded, by_status, copy_of, enter_either, idles, is_over, join, most_levels, move, moved_to, moves, one_used, opened, passed, receives, runs, stepped, steps, took, trapped, tried_at, turn_used, undone, waits}
+use Rattle.rb_world.specs.Turn.{Moved, accepted, accepted_at, acts, alternate_of, all_leave, all_stand, bounded, by_status, copy_of, enter_either, idles, is_over, join, most_levels, move, moved_to, moves, opened, passed, receives, runs, stepped, steps, took, trapped, tried_at, turn_used, undone, waits}
 use Rattle.rb_world.proofs.TurnFacts.{RunsAt, come_to_stand, left_alone}
 use Rattle.rb_world.proofs.ListFacts.{none_some, slice_get-change_at}
 

@@ -1,19 +1,14 @@
 -- A turn in which the test line of a conversation is passed: all its members leave it together, and nobody leaves another.
-use Rattle.std.proofs.Common.{◌≡◌, ◌≢◌, ◌⊎◌, inl, inr, ◌<◌, ℕ, zero, suc, nat_eq, Bool, true, false, cond, ◌&&◌, ◌||◌, List, [], ◌∷◌, length, map, option_map, slice_get, Option, Some, None, refl, sym, ap, ◌∙◌, subst, eqb-true, true≢false, arith}
+use Rattle.std.proofs.Common.{◌≡◌, ◌≢◌, ◌<◌, ℕ, zero, suc, nat_eq, Bool, true, false, cond, ◌&&◌, ◌||◌, List, [], ◌∷◌, map, option_map, slice_get, Option, Some, refl, sym, ap, ◌∙◌, eqb-true, true≢false, arith}
 use Rattle.std.specs.List.{list_any, list_all}
-use Rattle.std.proofs.lemmas.Bool.{cases_eq}
 use Rattle.std.proofs.lemmas.Option.{slice_get-map}
-use Rattle.rb_base.specs.declared.event.Event.TheVariants.{Pass}
 use Rattle.rb_world.specs.Kind.{Kind}
-use Rattle.rb_world.specs.World.{Level, Process, World, change_at, is_inside, is_of, last_of, levels_of, process_levels, settled, with_process, without_last}
-use Rattle.rb_world.specs.Turn.{all_leave, all_stand, is_last_of, leaves, members_of, one_used, passed, stands_at, stands_now, stands_there, turn_used}
+use Rattle.rb_world.specs.World.{Level, Process, World, is_of, last_of, settled, without_last}
+use Rattle.rb_world.specs.Turn.{all_leave, is_last_of, leaves, one_used, stands_at}
 use Rattle.rb_world.specs.Nested.{AreNested, IsLevelOf}
-use Rattle.rb_world.proofs.TurnFacts.{RunsAt, come_to_stand}
-use Rattle.rb_world.proofs.ListFacts.{first_holds, none_some, second_holds, slice_get-change_at, some_same}
-use Rattle.rb_world.proofs.PlaceFacts.{inside_level, of_passes, passes_of, same_place, slice_get-elsewhere}
-use Rattle.rb_world.proofs.Outcomes.{counted}
-use Rattle.rb_world.proofs.Together.{AllPass, AllStay, Carries, HaveCome, IsLeft, IsOrdered, Keeps, Together}
-use Rattle.rb_world.proofs.CountedTurns.{carries_same, counted_keeps, counted_other, counted_there, keeps_on, level_used, nested_used, own_keeps}
+use Rattle.rb_world.proofs.ListFacts.{first_holds, none_some, second_holds, some_same}
+use Rattle.rb_world.proofs.PlaceFacts.{inside_level, passes_of, same_place}
+use Rattle.rb_world.proofs.Together.{Carries, Keeps}
 
 -- where the last element of a list stands, beyond all others
 pub record LastAt {A : Type 0} (xs : List A) (x : A) : Type 0 where
@@ -72,11 +67,12 @@ map_found f (x ∷ xs) (suc r) z e = map_found f xs r z e
 module _ {S C M : Type 0} (k : Kind S C M) where
   leaves_carries : (c d : ℕ) (y : Process S C) → c ≢ d → (there : Bool) → stands_at d y ≡ there
       → Carries c y.levels (cond there (settled k (k.accept y.state) (without_last y.levels)) y).levels
-  leaves_carries c d y other true e i at =
-      (at.level,
-      kept_without_last y.levels i at.level at.there
-      (λ last. other (some_same (sym at.of_it ∙ of_last d (last_of y.levels) at.level (second_holds y.at_line (is_last_of d (last_of y.levels)) e) last))),
-      refl)
+  leaves_carries c d y other true e i at = (
+    at.level,
+    kept_without_last y.levels i at.level at.there
+        (λ last. other (some_same (sym at.of_it ∙ of_last d (last_of y.levels) at.level (second_holds y.at_line (is_last_of d (last_of y.levels)) e) last))),
+    refl,
+  )
   leaves_carries c d y other false e i at = (at.level, at.there, refl)
 
   pub leave_keeps : (c d : ℕ) (x : World S C M) → c ≢ d → Keeps c x (all_leave k d x)
@@ -91,6 +87,6 @@ module _ {S C M : Type 0} (k : Kind S C M) where
       let end : LastAt levels level = last_at levels level last in
       let before : (found.0 < end.at) × (slice_get levels found.0 ≡ Some found.1.level) = end.before found.0 found.1.level found.1.there in
       let same : found.0 ≡ end.at = same_place k.groups levels levels nested nested found.0 end.at c
-          (record { level = found.1.level; there = before.1; of_it = found.1.of_it }) (record { level = level; there = end.there; of_it = of_it }) in
+      (record { level = found.1.level; there = before.1; of_it = found.1.of_it }) (record { level = level; there = end.there; of_it = of_it }) in
       absurd (omega (arith, before.0))
   left_not_inside c levels level nested last of_it false is = is

@@ -1,6 +1,6 @@
 -- Where a conversation's level stands among nested levels: at one number, which is the same in every process that has it, and just
 -- inside the same conversations in each of them.
-use Rattle.std.proofs.Common.{◌≡◌, ◌≢◌, ◌⊎◌, inl, inr, ◌<◌, ◌≤◌, ◌+◌, ℕ, zero, suc, Bool, true, false, cond, ◌||◌, nat_lt, List, [], ◌∷◌, length, map, option_map, position, slice_get, take, get_or, Option, Some, None, refl, sym, ap, ◌∙◌, subst, eqb-true, eq-eqb, lt-ltb, le-ltb, true≢false, add-one, suc-ne-zero, arith}
+use Rattle.std.proofs.Common.{◌≡◌, ◌≢◌, ◌⊎◌, inl, inr, ◌<◌, ◌≤◌, ℕ, zero, suc, Bool, true, false, cond, ◌||◌, nat_lt, List, [], ◌∷◌, length, position, slice_get, take, get_or, Option, Some, None, refl, sym, ap, ◌∙◌, subst, eqb-true, eq-eqb, lt-ltb, le-ltb, true≢false, suc-ne-zero, arith}
 use Rattle.std.proofs.lemmas.Bool.{cases_eq, cases_lt}
 use Rattle.std.specs.List.{list_any, position_or_len}
 use Rattle.std.proofs.lemmas.Option.{slice_get-get_or, slice_get_within}

@@ -1,5 +1,5 @@
 -- A turn that ends in a cascade of rejections: the levels of each conversation stay, or are put back together, or go together.
-use Rattle.std.proofs.Common.{◌≡◌, ◌≢◌, ◌⊎◌, inl, inr, ◌<◌, ◌≤◌, ◌+◌, ℕ, zero, suc, Bool, true, false, List, [], ◌∷◌, length, slice_get, Option, Some, None, refl, sym, ap, ◌∙◌, subst, true≢false, arith}
+use Rattle.std.proofs.Common.{◌≡◌, ◌≢◌, ◌⊎◌, inl, inr, ◌<◌, ◌≤◌, ℕ, suc, Bool, true, false, [], length, slice_get, Some, None, refl, sym, ap, ◌∙◌, subst, arith}
 use Rattle.std.specs.List.{list_any}
 use Rattle.std.proofs.lemmas.Bool.{cases_eq, cases_lt}
 use Rattle.std.proofs.lemmas.Option.{slice_get_within}
@@ -11,7 +11,7 @@ use Rattle.rb_world.specs.Nested.{IsLevelOf}
 use Rattle.rb_world.proofs.ListFacts.{some_same}
 use Rattle.rb_world.proofs.PlaceFacts.{inside_level, same_place}
 use Rattle.rb_world.proofs.Cascade.{AllBack, AllFallen, AllNested, Alone, AreBackAt, EndsIn, Ends, HaveFallen, IsBackAt, KeepsTalks, LeavesOthers}
-use Rattle.rb_world.proofs.Together.{AllGoBack, AllGoOut, AllStay, AreBack, Carries, IsBack, IsLeft, Keeps, Together, unused}
+use Rattle.rb_world.proofs.Together.{AllGoBack, AllGoOut, AllStay, AreBack, Carries, IsBack, Keeps, Together, unused}
 use Rattle.rb_world.proofs.CountedTurns.{carries_same, keeps_on}
 use Rattle.rb_world.proofs.CascadeTogether.{Apart, KeepOuter, LeaveBoth, Where, Within, apart_stays, where_is, within_left}
 
@@ -49,10 +49,12 @@ module _ {S C M : Type 0} (k : Kind S C M) (p : ℕ) (u : Process S C) (v : Worl
   back_leave : (c e j s i : ℕ) (x : Process S C) (later : World S C M) → AreBackAt k e j v later → c ≢ e
       → slice_get v.processes s ≡ Some x → IsLevelOf c x.levels i → j ≤ i → LeaveBoth v c e j later
   back_leave c e j s i x later back other here within as_far r q here' own =
-      let one : (now : Process S C) × (slice_get later.processes r ≡ Some now) × IsBackAt k j q own.level now = back r q here' own in
-      (one.0, one.1,
-      not_inside k c e i j q one.0 own one.2 other as_far
-      (λ m at. same_place k.groups q.levels x.levels (nested r q here') (nested s x here) m i c at within) (is_inside c one.0) refl)
+      let one : (now : Process S C) × (slice_get later.processes r ≡ Some now) × IsBackAt k j q own.level now = back r q here' own in (
+        one.0,
+        one.1,
+        not_inside k c e i j q one.0 own one.2 other as_far
+            (λ m at. same_place k.groups q.levels x.levels (nested r q here') (nested s x here) m i c at within) (is_inside c one.0) refl,
+      )
 
   fallen_leave : (c e j : ℕ) (later : World S C M) → HaveFallen e j v later → LeaveBoth v c e j later
   fallen_leave c e j later fell r q here own =
@@ -63,16 +65,19 @@ module _ {S C M : Type 0} (k : Kind S C M) (p : ℕ) (u : Process S C) (v : Worl
   all_back_at : (c e j : ℕ) (later : World S C M) → IsLevelOf e u.levels j → c ≡ e → AreBackAt k e j v later → AreBack k c v later
   all_back_at c e j later at same back r i q here own =
       let place : i ≡ j =
-          same_place k.groups q.levels u.levels (nested r q here) (nested p u there) i j c own (subst (λ (d : ℕ). IsLevelOf d u.levels j) (sym same) at) in
+      same_place k.groups q.levels u.levels (nested r q here) (nested p u there) i j c own (subst (λ (d : ℕ). IsLevelOf d u.levels j) (sym same) at) in
       let level : IsLevelOf e q.levels j = record { level = own.level; there = ap (slice_get q.levels) (sym place) ∙ own.there; of_it = own.of_it ∙ ap Some same } in
-      let one : (now : Process S C) × (slice_get later.processes r ≡ Some now) × IsBackAt k j q own.level now = back r q here level in
-      (one.0, one.1, record {
-        innermost = one.2.innermost ∙ ap suc (sym place);
-        next = ap (slice_get one.0.levels) place ∙ one.2.next;
-        left = one.2.left;
-        state = one.2.state;
-        away = one.2.away;
-      })
+      let one : (now : Process S C) × (slice_get later.processes r ≡ Some now) × IsBackAt k j q own.level now = back r q here level in (
+        one.0,
+        one.1,
+        record {
+          innermost = one.2.innermost ∙ ap suc (sym place);
+          next = ap (slice_get one.0.levels) place ∙ one.2.next;
+          left = one.2.left;
+          state = one.2.state;
+          away = one.2.away;
+        },
+      )
 
 -- p was u in the world v in which the cascade began, and every level of the world w before that is a level there
 module _ {S C M : Type 0} (k : Kind S C M) (c p : ℕ) (u : Process S C) (v w : World S C M) (there : slice_get v.processes p ≡ Some u) (nested : AllNested k v) (kept : Keeps c w v) where
@@ -82,23 +87,28 @@ module _ {S C M : Type 0} (k : Kind S C M) (c p : ℕ) (u : Process S C) (v w : 
       let before : (now : Process S C) × (slice_get v.processes r ≡ Some now) × Carries c x.levels now.levels = kept r x here in
       let own : (level : Level C) × (slice_get before.0.levels i ≡ Some level) × (unused level ≡ unused at.level) = before.2 i at in
       let one : (now : Process S C) × (slice_get later.processes r ≡ Some now) × IsBack k i own.0 now =
-          back r i before.0 before.1 (record { level = own.0; there = own.1; of_it = ap (λ (l : Level C). l.facts.conversation) own.2 ∙ at.of_it }) in
-      (one.0, one.1, record {
-        innermost = one.2.innermost;
-        next = one.2.next ∙ ap (λ (l : Level C). Some (next_alternate l)) own.2;
-        left = one.2.left;
-        state = one.2.state ∙ ap (λ (l : Level C). k.restore one.2.left l.copy) own.2;
-        away = one.2.away;
-      })
+      back r i before.0 before.1 (record { level = own.0; there = own.1; of_it = ap (λ (l : Level C). l.facts.conversation) own.2 ∙ at.of_it }) in (
+        one.0,
+        one.1,
+        record {
+          innermost = one.2.innermost;
+          next = one.2.next ∙ ap (λ (l : Level C). Some (next_alternate l)) own.2;
+          left = one.2.left;
+          state = one.2.state ∙ ap (λ (l : Level C). k.restore one.2.left l.copy) own.2;
+          away = one.2.away;
+        },
+      )
 
   -- p alone was rejected
   alone_stays_at : (later : World S C M) → LeavesOthers p None v later → KeepsTalks {M = M} u p later
       → (r : ℕ) (x : Process S C) → slice_get v.processes r ≡ Some x → (r ≡ p) ⊎ (r ≡ p → ⊥)
       → (now : Process S C) × (slice_get later.processes r ≡ Some now) × Carries c x.levels now.levels
   alone_stays_at later others keeps r x here (inl same) =
-      let own : u ≡ x = some_same (sym there ∙ (ap (slice_get v.processes) (sym same) ∙ here)) in
-      (keeps.0, ap (slice_get later.processes) same ∙ keeps.1,
-      subst (λ (y : Process S C). Carries c y.levels keeps.0.levels) own (λ i at. (at.level, keeps.2 i c at, refl)))
+      let own : u ≡ x = some_same (sym there ∙ (ap (slice_get v.processes) (sym same) ∙ here)) in (
+        keeps.0,
+        ap (slice_get later.processes) same ∙ keeps.1,
+        subst (λ (y : Process S C). Carries c y.levels keeps.0.levels) own (λ i at. (at.level, keeps.2 i c at, refl)),
+      )
   alone_stays_at later others keeps r x here (inr other) = (x, others r x here other tt, carries_same c x.levels)
 
   -- a conversation was put back, or has failed

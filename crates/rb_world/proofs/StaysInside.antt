@@ -1,9 +1,8 @@
 -- A turn that is undone changes no other process than those inside the outermost conversation that it rejects.
-use Rattle.std.proofs.Common.{◌≡◌, ◌≢◌, ℕ, List, [], ◌∷◌, map, option_map, slice_get, Option, Some, None, refl, sym, ap, ◌∙◌}
+use Rattle.std.proofs.Common.{◌≡◌, ℕ, List, [], option_map, Option, Some, None, refl, ap, ◌∙◌}
 use Rattle.std.proofs.lemmas.Option.{slice_get-map}
 use Rattle.rb_base.specs.declared.event.Cause.TheVariants.{Broken}
 use Rattle.rb_base.specs.declared.event.Event.{Event}
-use Rattle.rb_base.specs.declared.event.TurnKind.{TurnKind}
 use Rattle.rb_base.specs.declared.event.TurnKind.TheVariants.{Idle, Wait, Took, Undone}
 use Rattle.rb_world.specs.Kind.{Kind}
 use Rattle.rb_world.specs.World.{Process, World}
@@ -12,7 +11,7 @@ use Rattle.rb_world.specs.Turn.{Moved, freed, move, turn, turn_used, undone}
 use Rattle.rb_world.proofs.TurnFacts.{RunsAt}
 use Rattle.rb_world.proofs.PlaceFacts.{slice_get-elsewhere}
 use Rattle.rb_world.proofs.Outcomes.{Outcomes, counted, move-comes}
-use Rattle.rb_world.proofs.Cascade.{AllBack, AllFallen, AllNested, Alone, ArePrivate, EndsIn, Ends, IsOutsideOf, LeavesOthers}
+use Rattle.rb_world.proofs.Cascade.{AllBack, AllFallen, AllNested, Alone, ArePrivate, EndsIn, Ends, LeavesOthers}
 use Rattle.rb_world.proofs.CascadeEnds.{reject-ends}
 use Rattle.rb_world.proofs.CountedTurns.{counted_nested, counted_other, counted_there}
 use Rattle.rb_world.proofs.Together.{IsOrdered}

@@ -1,10 +1,10 @@
 -- What is known of a world before a turn in which levels are nested, and what then becomes of the levels of a conversation in the
 -- turn: of all that are inside at once.
-use Rattle.std.specs.Prelude.{◌≡◌, ◌≢◌, ◌<◌, ℕ, suc, nat_eq, Bool, true, false, List, [], ◌∷◌, length, slice_get, Option, Some, None}
+use Rattle.std.specs.Prelude.{◌≡◌, ◌≢◌, ℕ, suc, nat_eq, true, false, List, [], ◌∷◌, length, slice_get, Some, None}
 use Rattle.std.specs.List.{list_any}
 use Rattle.rb_base.specs.declared.event.Event.TheVariants.{Pass}
 use Rattle.rb_world.specs.Kind.{Facts, Kind, Enters}
-use Rattle.rb_world.specs.World.{Level, Process, Talk, World, is_inside, last_of, process_levels}
+use Rattle.rb_world.specs.World.{Level, Process, World, is_inside, last_of, process_levels}
 use Rattle.rb_world.specs.Reject.{next_alternate, parent_of}
 use Rattle.rb_world.specs.Turn.{Moved, freed, is_last_of, members_of, stands_there}
 use Rattle.rb_world.specs.Standing.{Each}

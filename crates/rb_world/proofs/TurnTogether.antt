@@ -1,14 +1,12 @@
 -- In every turn, for every conversation, those inside it keep their levels, or pass its test line together, or go back together, or
 -- go out together.
-use Rattle.std.proofs.Common.{◌≡◌, ◌≢◌, ◌⊎◌, inl, inr, ℕ, zero, suc, Bool, true, false, cond, List, [], ◌∷◌, ◌++◌, length, map, option_map, slice_get, Option, Some, None, refl, sym, ap, ◌∙◌, subst, true≢false}
+use Rattle.std.proofs.Common.{◌≡◌, ℕ, zero, suc, true, false, List, [], ◌∷◌, ◌++◌, length, map, slice_get, Some, None, refl, sym, ap, ◌∙◌}
 use Rattle.rb_base.specs.declared.event.Cause.TheVariants.{Broken}
 use Rattle.rb_world.specs.Kind.{Enters, Facts, Kind}
-use Rattle.rb_world.specs.World.{Level, Process, Talk, World, is_inside, is_of, last_of, talk_at, with_each, with_process, without_last}
+use Rattle.rb_world.specs.World.{Level, Process, Talk, World, last_of, talk_at, with_process, without_last}
 use Rattle.rb_world.specs.Reject.{fallen, reject}
-use Rattle.rb_world.specs.Turn.{Moved, freed, move, new_level, one_used, turn, turn_used}
+use Rattle.rb_world.specs.Turn.{Moved, move, new_level, one_used, turn_used}
 use Rattle.rb_world.specs.Standing.{HasSize}
-use Rattle.rb_world.specs.Nested.{IsLevelOf}
-use Rattle.rb_world.proofs.Invariant.{Between, Within}
 use Rattle.rb_world.proofs.Induction.{move-keeps}
 use Rattle.rb_world.proofs.StandingFacts.{size_kept}
 use Rattle.rb_world.proofs.TurnFacts.{RunsAt}
@@ -16,7 +14,7 @@ use Rattle.rb_world.proofs.ListFacts.{length-change_at, none_some, some_same}
 use Rattle.rb_world.proofs.Outcomes.{Outcomes, counted, move-comes}
 use Rattle.rb_world.proofs.CascadeEnds.{reject-ends}
 use Rattle.rb_world.proofs.Together.{AllStay, Carries, IsOrdered, Keeps, Together}
-use Rattle.rb_world.proofs.CountedTurns.{carries_same, carries_used, counted_keeps, counted_nested, counted_there, keeps_on, own_keeps}
+use Rattle.rb_world.proofs.CountedTurns.{carries_same, counted_keeps, counted_nested, counted_there, keeps_on, own_keeps}
 use Rattle.rb_world.proofs.RejectTogether.{reject_together}
 use Rattle.rb_world.proofs.PassTogether.{kept_without_last}
 use Rattle.rb_world.proofs.LineTogether.{pass_together}
@@ -33,10 +31,11 @@ module _ {C : Type 0} where
 
   -- and so does a private level that goes
   carries_accepted : (c : ℕ) (levels : List (Level C)) (level : Level C) → last_of levels ≡ Some level → level.facts.conversation ≡ None → Carries c levels (without_last levels)
-  carries_accepted c levels level last alone i at =
-      (at.level,
-      kept_without_last levels i at.level at.there (λ e. none_some (sym alone ∙ (ap (λ (l : Level C). l.facts.conversation) (some_same (sym last ∙ e)) ∙ at.of_it))),
-      refl)
+  carries_accepted c levels level last alone i at = (
+    at.level,
+    kept_without_last levels i at.level at.there (λ e. none_some (sym alone ∙ (ap (λ (l : Level C). l.facts.conversation) (some_same (sym last ∙ e)) ∙ at.of_it))),
+    refl,
+  )
 
   -- nothing is to be kept of no levels
   carries_none : (c : ℕ) (levels later : List (Level C)) → levels ≡ [] → Carries c levels later
@@ -82,5 +81,5 @@ module _ {S C M : Type 0} (k : Kind S C M) (c p : ℕ) (w : World S C M) (ordere
   pub move-together : (t : ℕ) → Together k c p w (move k t p w)
   move-together t =
       let size : HasSize (length w.processes) (length w.talks) (move k t p w).world =
-          move-keeps (size_kept k (length w.processes) (length w.talks)) t [] p w (record { of_processes = refl; of_talks = refl }) in
+      move-keeps (size_kept k (length w.processes) (length w.talks)) t [] p w (record { of_processes = refl; of_talks = refl }) in
       move-comes together_outcomes t size.of_processes
