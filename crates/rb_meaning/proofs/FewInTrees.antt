@@ -17,8 +17,9 @@ is_of_rejections = record { errors = λ p cause. refl; completions = λ p. refl 
 pub few_events : FewEvents
 few_events tree turns p =
     let stands : IsStanding (tree_kind tree) (opening_states tree 0 tree.processes) (run_of tree turns).0 =
-        standing (tree_kind tree) turns (opening_states tree 0 tree.processes) tt in
+    standing (tree_kind tree) turns (opening_states tree 0 tree.processes) tt in
     let few : length (next_turn tree turns p).1.events ≤ 32 + length (run_of tree turns).0.processes =
-        turn-few (tree_kind tree) (length turns + 1) p (run_of tree turns).0 stands.shallow in
-    (turn-few_rejections is_of_rejections (tree_kind tree) (length turns + 1) p (run_of tree turns).0 stands.shallow,
-    λ small. omega (arith, few, stands.size.of_processes, length-opening_states tree 0 tree.processes))
+    turn-few (tree_kind tree) (length turns + 1) p (run_of tree turns).0 stands.shallow in (
+      turn-few_rejections is_of_rejections (tree_kind tree) (length turns + 1) p (run_of tree turns).0 stands.shallow,
+      λ small. omega (arith, few, stands.size.of_processes, length-opening_states tree 0 tree.processes),
+    )

@@ -1,12 +1,12 @@
 -- A turn of a nested program that is undone changes no other process than those inside the outermost conversation that it rejects.
-use Rattle.std.proofs.Common.{◌≡◌, ℕ, ◌+◌, List, [], ◌∷◌, ◌++◌, length, Option, Some, None, refl, sym, ap, ◌∙◌, subst}
+use Rattle.std.proofs.Common.{◌≡◌, ℕ, ◌+◌, List, [], ◌∷◌, ◌++◌, length, Option, Some, None, refl, ap, ◌∙◌, subst}
 use Rattle.rb_base.specs.declared.event.Event.{Event}
 use Rattle.rb_base.specs.declared.event.Event.TheVariants.{Reject, RejectAll, Error, Pass, Done}
 use Rattle.rb_syntax.specs.Tree.{Tree}
 use Rattle.rb_world.specs.Kind.{Kind}
 use Rattle.rb_world.specs.World.{Status, Running, Finished, FailedWith, Process, World}
 use Rattle.rb_world.specs.Turn.{Moved, compared, done_at, error_at, move, told}
-use Rattle.rb_world.proofs.Cascade.{ArePrivate, EndsIn, IsOutsideOf}
+use Rattle.rb_world.proofs.Cascade.{ArePrivate, IsOutsideOf}
 use Rattle.rb_world.proofs.StaysInside.{IsOutermost, StaysInside, move-stays, turn-stays}
 use Rattle.rb_world.proofs.Together.{IsOrdered}
 use Rattle.rb_meaning.specs.State.{State}
@@ -93,6 +93,6 @@ rejections_stay_inside ordered tree nested turns p r q undone here other outside
     let well : IsOrdered (tree_kind tree) w = ordered tree nested turns in
     let stays : StaysInside p w moved = move-stays (tree_kind tree) p w (length turns + 1) well.nested undone in
     let same : outermost_rejected (told (tree_kind tree) w moved).events ≡ stays.conversation =
-        told_rejects (tree_kind tree) w moved stays.no_pass ∙ outermost_is p stays.conversation moved.rejections stays.outermost in
+    told_rejects (tree_kind tree) w moved stays.no_pass ∙ outermost_is p stays.conversation moved.rejections stays.outermost in
     turn-stays (tree_kind tree) p w (length turns + 1) well stays r q here other
     (outside_of stays.conversation q (subst (λ (o : Option ℕ). IsOutside o q) same outside))

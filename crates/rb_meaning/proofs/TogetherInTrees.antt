@@ -1,22 +1,21 @@
 -- In every turn of a nested program, for every conversation, those inside it keep their levels, or pass its test line together, or go
 -- back together, or go out together.
-use Rattle.std.proofs.Common.{◌≡◌, ℕ, zero, suc, ◌+◌, List, [], ◌∷◌, ◌++◌, length, map, option_map, slice_get, Option, Some, None, refl, sym, ap, ◌∙◌, subst}
+use Rattle.std.proofs.Common.{◌≡◌, ℕ, zero, suc, ◌+◌, List, [], ◌∷◌, ◌++◌, length, option_map, slice_get, Some, refl, sym, ap, ◌∙◌, subst}
 use Rattle.std.proofs.lemmas.Option.{slice_get-map}
-use Rattle.rb_base.specs.declared.event.Cause.{Cause}
 use Rattle.rb_base.specs.declared.event.Event.{Event}
 use Rattle.rb_base.specs.declared.event.Event.TheVariants.{Pass, RejectAll}
 use Rattle.rb_syntax.specs.Tree.{Tree}
-use Rattle.rb_world.specs.World.{Level, Process, World, is_inside}
-use Rattle.rb_world.specs.Turn.{Moved, compared, done_at, error_at, finishes, freed, move, state_freed, told}
+use Rattle.rb_world.specs.World.{Level, Process, is_inside}
+use Rattle.rb_world.specs.Turn.{Moved, compared, done_at, error_at, finishes, freed, move, state_freed}
 use Rattle.rb_world.proofs.ListFacts.{none_some}
 use Rattle.rb_world.proofs.Cascade.{EndsIn}
 use Rattle.rb_world.proofs.PassTogether.{map_found}
-use Rattle.rb_world.proofs.Together.{AllGoBack, AllGoOut, AllPass, AllStay, AreBack, Carries, HaveCome, IsBack, IsLeft, IsOrdered, Keeps, Together, unused}
+use Rattle.rb_world.proofs.Together.{AllGoBack, AllGoOut, AllPass, AllStay, AreBack, Carries, IsBack, IsLeft, Keeps, Together, unused}
 use Rattle.rb_world.proofs.TurnTogether.{move-together}
 use Rattle.rb_meaning.specs.State.{State}
 use Rattle.rb_meaning.specs.Step.{Nothing}
 use Rattle.rb_meaning.specs.Meaning.{TreeWorld, run_of, tree_kind}
-use Rattle.rb_meaning.specs.Laws.{AllCome, ArePutBack, BackTogether, GoTogether, HasLevel, IsAmong, IsEmpty, IsPutBack, IsSameLevel, KeepTheirLevels, OutTogether, PassTogether, PassedTogether, Stay}
+use Rattle.rb_meaning.specs.Laws.{ArePutBack, BackTogether, GoTogether, IsAmong, IsEmpty, KeepTheirLevels, OutTogether, PassTogether, PassedTogether, Stay}
 use Rattle.rb_meaning.proofs.InsideTrees.{RunsAreOrdered}
 
 -- an event among some is among more
@@ -48,30 +47,35 @@ module _ (tree : Tree) (c p : ℕ) (w : TreeWorld) (moved : Moved State State No
   keep_levels keeps r i q level has of_c =
       let kept : (now : Process State State) × (slice_get moved.world.processes r ≡ Some now) × Carries c q.levels now.levels = keeps r q has.there in
       let one : (l : Level State) × (slice_get kept.0.levels i ≡ Some l) × (unused l ≡ unused level) =
-          kept.2 i (record { level = level; there = has.level_there; of_it = of_c }) in
-      (freed (tree_kind tree) kept.0, one.0,
-      record { there = later_there r kept.0 kept.1; level_there = one.1 },
-      record {
-        facts = ap (λ (l : Level State). l.facts) one.2;
-        alternate = ap (λ (l : Level State). l.alternate) one.2;
-        copy = ap (λ (l : Level State). l.copy) one.2;
-      })
+      kept.2 i (record { level = level; there = has.level_there; of_it = of_c }) in (
+        freed (tree_kind tree) kept.0,
+        one.0,
+        record { there = later_there r kept.0 kept.1; level_there = one.1 },
+        record {
+          facts = ap (λ (l : Level State). l.facts) one.2;
+          alternate = ap (λ (l : Level State). l.alternate) one.2;
+          copy = ap (λ (l : Level State). l.copy) one.2;
+        },
+      )
 
   put_back : AreBack (tree_kind tree) c w moved.world → ArePutBack c w Later
   put_back back r i q level has of_c =
       let one : (now : Process State State) × (slice_get moved.world.processes r ≡ Some now) × IsBack (tree_kind tree) i level now =
-          back r i q has.there (record { level = level; there = has.level_there; of_it = of_c }) in
-      (freed (tree_kind tree) one.0, later_there r one.0 one.1, record {
-        innermost = one.2.innermost;
-        next = one.2.next;
-        state = state_stays tree one.0.state one.0.levels i one.2.next ∙ one.2.state;
-        away = one.2.away;
-      })
+      back r i q has.there (record { level = level; there = has.level_there; of_it = of_c }) in (
+        freed (tree_kind tree) one.0,
+        later_there r one.0 one.1,
+        record {
+          innermost = one.2.innermost;
+          next = one.2.next;
+          state = state_stays tree one.0.state one.0.levels i one.2.next ∙ one.2.state;
+          away = one.2.away;
+        },
+      )
 
   is_empty : IsLeft c moved.world → IsEmpty c Later
   is_empty left r q e =
       let found : (now : Process State State) × (slice_get moved.world.processes r ≡ Some now) × (freed (tree_kind tree) now ≡ q) =
-          map_found (freed (tree_kind tree)) moved.world.processes r q e in
+      map_found (freed (tree_kind tree)) moved.world.processes r q e in
       ap (is_inside c) (sym found.2) ∙ left r found.0 found.1
 
   -- the errors and completions that are told, and all that is told after the rejections
