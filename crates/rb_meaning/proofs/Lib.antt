@@ -1,0 +1,2 @@
+-- Nesting: what is left of a nested program's text keeps the rules, through every step.
+pub mod Clear
