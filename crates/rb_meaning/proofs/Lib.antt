@@ -1,2 +1,3 @@
 -- Nesting: what is left of a nested program's text keeps the rules, through every step.
 pub mod Clear
+pub mod StepsKeep
