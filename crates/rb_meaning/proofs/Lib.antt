@@ -1,3 +1,4 @@
 -- Nesting: what is left of a nested program's text keeps the rules, through every step.
 pub mod Clear
 pub mod StepsKeep
+pub mod FromInside
