@@ -2,3 +2,5 @@
 pub mod Clear
 pub mod StepsKeep
 pub mod FromInside
+pub mod Points
+pub mod Known

@@ -1,0 +1,28 @@
+-- What is known of each process of a run of a nested program.
+-- All of it is this project's own.
+use Rattle.std.proofs.Common.{◌≡◌, ℕ, ◌+◌, zero, suc, Bool, true, false, List, [], ◌∷◌, ◌++◌, length, map, take, slice_get, Option, Some, None, refl, sym, ap, ◌∙◌, subst}
+use Rattle.rb_syntax.specs.Tree.{RecoveryBlock, Tree}
+use Rattle.rb_world.specs.Kind.{Facts}
+use Rattle.rb_world.specs.World.{Level, Status, Running, Process, without_last}
+use Rattle.rb_world.specs.Standing.{is_failed}
+use Rattle.rb_meaning.specs.State.{State}
+use Rattle.rb_meaning.proofs.FromInside.{onto}
+use Rattle.rb_meaning.proofs.Points.{ArePoints, IsOwn, facts_in, facts_left}
+
+-- at a test line the innermost level's test is no more left
+abbrev pub with_test : {A : Type 0} → Bool → List A → List A
+with_test true levels = without_last levels
+with_test false levels = levels
+
+-- who has a level runs
+abbrev pub RunsInside : List (Level State) → Status → Type 0
+RunsInside [] status = Unit {0}
+RunsInside (level ∷ levels) status = status ≡ Running
+
+-- What is left of it keeps the rules, in its state and in its recovery points; unless it failed, the blocks that are left are
+-- those of its levels; and who has a level runs.
+pub record Known (tree : Tree) (p : ℕ) (q : Process State State) : Type 0 where
+  pub own : IsOwn tree p q.state
+  pub points : ArePoints tree p [] q.levels
+  pub left : is_failed q.status ≡ false → facts_left tree q.state.items ≡ onto [] (with_test q.at_line (facts_in q.levels))
+  pub inside : RunsInside q.levels q.status
