@@ -4,3 +4,5 @@ pub mod StepsKeep
 pub mod FromInside
 pub mod Points
 pub mod Known
+pub mod KnownFacts
+pub mod KnownKept
