@@ -6,3 +6,4 @@ pub mod Points
 pub mod Known
 pub mod KnownFacts
 pub mod KnownKept
+pub mod NestedProgram
