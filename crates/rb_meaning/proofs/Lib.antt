@@ -7,3 +7,5 @@ pub mod Known
 pub mod KnownFacts
 pub mod KnownKept
 pub mod NestedProgram
+pub mod JoinsWell
+pub mod LevelsNest
