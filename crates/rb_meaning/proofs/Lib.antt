@@ -9,3 +9,4 @@ pub mod KnownKept
 pub mod NestedProgram
 pub mod JoinsWell
 pub mod LevelsNest
+pub mod Mail
