@@ -10,3 +10,5 @@ pub mod NestedProgram
 pub mod JoinsWell
 pub mod LevelsNest
 pub mod Mail
+pub mod StepsPost
+pub mod TreeParts

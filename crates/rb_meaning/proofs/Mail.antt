@@ -31,7 +31,7 @@ slice_get-elsewhere (suc d) zero f (x ∷ xs) apart = refl
 slice_get-elsewhere (suc d) (suc c) f (x ∷ xs) apart = slice_get-elsewhere d c f xs (λ e. apart (ap suc e))
 
 -- what a list has at a number at which another list of its length has something
-also_there : {A B : Type 0} (ys : List A) (xs : List B) (c : ℕ) (a : A) → length xs ≡ length ys → slice_get ys c ≡ Some a
+pub also_there : {A B : Type 0} (ys : List A) (xs : List B) (c : ℕ) (a : A) → length xs ≡ length ys → slice_get ys c ≡ Some a
     → (x : B) × (slice_get xs c ≡ Some x)
 also_there [] xs c a e at = absurd (none_some at)
 also_there (b ∷ ys) [] c a e at = absurd cc
@@ -39,7 +39,7 @@ also_there (b ∷ ys) (x ∷ xs) zero a e at = (x, refl)
 also_there (b ∷ ys) (x ∷ xs) (suc c) a e at = also_there ys xs c a (omega (arith, e)) at
 
 -- a value that is sent joins one list, and the old list is the front of the new
-front_of_sent : (d c : ℕ) (v : ℤ) (xs : List (List ℤ)) → (rest : List ℤ) × (list_on (change_at d (λ values. values ++ v ∷ []) xs) c ≡ list_on xs c ++ rest)
+pub front_of_sent : (d c : ℕ) (v : ℤ) (xs : List (List ℤ)) → (rest : List ℤ) × (list_on (change_at d (λ values. values ++ v ∷ []) xs) c ≡ list_on xs c ++ rest)
 front_of_sent d c v [] = ([], refl)
 front_of_sent zero zero v (x ∷ xs) = (v ∷ [], refl)
 front_of_sent zero (suc c) v (x ∷ xs) = ([], sym (append-nil (list_on xs c)))
@@ -52,7 +52,7 @@ slice_get-front (x ∷ xs) rest zero below = refl
 slice_get-front (x ∷ xs) rest (suc n) below = slice_get-front xs rest n (omega arith)
 
 -- how many values each list has
-sent_here : (same : Bool) (d c : ℕ) (v : ℤ) (xs : List (List ℤ)) (x : List ℤ) → nat_eq d c ≡ same → slice_get xs c ≡ Some x
+pub sent_here : (same : Bool) (d c : ℕ) (v : ℤ) (xs : List (List ℤ)) (x : List ℤ) → nat_eq d c ≡ same → slice_get xs c ≡ Some x
     → length (list_on (change_at d (λ values. values ++ v ∷ []) xs) c) ≡ length (list_on xs c) + cond same 1 0
 sent_here true d c v xs x e at =
     ap (λ n. length (list_on (change_at n (λ values. values ++ v ∷ []) xs) c)) (eqb-true d c e)
@@ -65,7 +65,7 @@ sent_here false d c v xs x e at =
     ∙ sym (add-zero (length (list_on xs c)))
 
 -- how many values were taken from each channel
-taken_here : (same : Bool) (d c : ℕ) (xs : List ℕ) (x : ℕ) → nat_eq d c ≡ same → slice_get xs c ≡ Some x
+pub taken_here : (same : Bool) (d c : ℕ) (xs : List ℕ) (x : ℕ) → nat_eq d c ≡ same → slice_get xs c ≡ Some x
     → unwrap_or (slice_get (change_at d (λ n. n + 1) xs) c) 0 ≡ unwrap_or (slice_get xs c) 0 + cond same 1 0
 taken_here true d c xs x e at =
     ap (λ n. unwrap_or (slice_get (change_at n (λ n. n + 1) xs) c) 0) (eqb-true d c e)
