@@ -96,7 +96,7 @@ pub run-shallow : {S C M : Type 0} (k : Kind S C M) (t : ℕ) (turns : List ℕ)
 run-shallow k t turns w h = each_run (shallow_kept k) t turns w h
 
 -- who goes on has not failed
-status_at-whole : (want : Want) → is_failed (status_at want) ≡ false
+pub status_at-whole : (want : Want) → is_failed (status_at want) ≡ false
 status_at-whole NothingLeft = refl
 status_at-whole (SendsOn c) = refl
 status_at-whole (ReceivesOn c) = refl
@@ -111,7 +111,7 @@ whole_bare want levels e = absurd (true≢false (sym e ∙ status_at-whole want)
 take_none : {A : Type 0} (n : ℕ) → take {A = A} (n + 1) [] ≡ []
 take_none n = rw add-one
 
-back_to-bare : {S C M : Type 0} (k : Kind S C M) (j : ℕ) (q : Process S C) (level : Option (Level C)) → IsBareIfFailed 0 q → IsBareIfFailed 0 (back_to k j q level)
+pub back_to-bare : {S C M : Type 0} (k : Kind S C M) (j : ℕ) (q : Process S C) (level : Option (Level C)) → IsBareIfFailed 0 q → IsBareIfFailed 0 (back_to k j q level)
 back_to-bare k j q None h = h
 back_to-bare k j q (Some level) h = λ e. ap (take (j + 1)) (h e) ∙ take_none j
 

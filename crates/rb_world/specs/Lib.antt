@@ -8,4 +8,5 @@ pub mod Text
 pub mod Samples
 pub mod Standing
 pub mod Nested
+pub mod Slots
 pub mod Erased
