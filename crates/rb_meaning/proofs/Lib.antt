@@ -12,3 +12,5 @@ pub mod LevelsNest
 pub mod Mail
 pub mod StepsPost
 pub mod TreeParts
+pub mod Ends
+pub mod StartsAndEntries
