@@ -14,3 +14,4 @@ pub mod StepsPost
 pub mod TreeParts
 pub mod Ends
 pub mod StartsAndEntries
+pub mod TreeErasable

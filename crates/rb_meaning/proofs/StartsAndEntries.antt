@@ -1,14 +1,15 @@
 -- A start that goes on has an alternate of its level's block, and who enters a conversation that lies in no other has no level.
--- Both are said of a process that runs away from every test line: one that failed has no level, whatever is left of its text,
--- and at a test line what stands first lies outside the innermost level.
+-- Both are said of a process that stands at no test line, since there what stands first lies outside the innermost level; and
+-- the first of one that runs, since one that failed has no level, whatever is left of its text.
 -- All of it is this project's own.
-use Rattle.std.proofs.Common.{◌≡◌, ◌≤◌, ◌+◌, ℕ, ℤ, zero, suc, Bool, true, false, List, [], ◌∷◌, map, slice_get, Option, Some, None, Result, Ok, Err, refl, sym, ap, ◌∙◌, subst, arith}
+use Rattle.std.proofs.Common.{◌≡◌, ◌≤◌, ◌+◌, ℕ, ℤ, zero, suc, Bool, true, false, List, [], ◌∷◌, map, slice_get, Option, Some, None, Result, Ok, Err, refl, sym, ap, ◌∙◌, subst, arith, true≢false}
 use Rattle.rb_base.specs.declared.event.Cause.{Cause}
 use Rattle.rb_syntax.specs.Tree.{Command, Assignment, Printing, Sending, Receiving, Conditional, Loop, Invocation, Failure, Recovering, Body, Otherwise, NoElse, Else, RecoveryBlock, Recovers, Alternates, NoAlternate, Alternate, Tree}
 use Rattle.rb_world.specs.Kind.{Facts, Starts, Enters, Went, Stepped}
-use Rattle.rb_world.specs.World.{Level, Running, Process, last_of}
+use Rattle.rb_world.specs.World.{Level, Status, Running, Process, last_of}
 use Rattle.rb_world.specs.Reject.{parent_of}
 use Rattle.rb_world.specs.Plain.{alternates_of}
+use Rattle.rb_world.specs.Standing.{is_failed}
 use Rattle.rb_world.proofs.ListFacts.{heads_same, none_some}
 use Rattle.rb_meaning.specs.Environment.{Environment}
 use Rattle.rb_meaning.specs.State.{Item, Perform, StartOf, TestOf, EndBlock, EndCall, State}
@@ -17,7 +18,7 @@ use Rattle.rb_meaning.specs.Step.{alternate_number, alternates_in, goes, starts_
 use Rattle.rb_meaning.proofs.Clear.{AreClear}
 use Rattle.rb_meaning.proofs.FromInside.{onto, onto-some}
 use Rattle.rb_meaning.proofs.Points.{StartsFirst, facts_in, facts_left}
-use Rattle.rb_meaning.proofs.Known.{Known}
+use Rattle.rb_meaning.proofs.Known.{Known, RunsInside, with_test}
 use Rattle.rb_meaning.proofs.KnownFacts.{entered_block, left_away}
 use Rattle.rb_meaning.proofs.JoinsWell.{BeginWith, around_join, joins_well}
 
@@ -79,10 +80,15 @@ no_levels : (levels : List (Level State)) → [] ≡ onto [] (facts_in levels) �
 no_levels [] e = refl
 no_levels (level ∷ levels) e = absurd (onto-some level.facts [] (facts_in levels) e)
 
-module _ (tree : Tree) (p : ℕ) (q : Process State State) (known : Known tree p q) (running : q.status ≡ Running) (away : q.at_line ≡ false) where
-  pub starts_there : (alternate : ℕ) (prior : Option Environment) (message : Option ℤ) (s : State) → wants_first tree q.state.items ≡ Starts
+-- who has failed has no level
+failed_bare : (levels : List (Level State)) (status : Status) → RunsInside levels status → is_failed status ≡ true → levels ≡ []
+failed_bare [] status inside failed = refl
+failed_bare (level ∷ levels) status inside failed = absurd (true≢false (sym failed ∙ ap is_failed inside))
+
+module _ (tree : Tree) (p : ℕ) (q : Process State State) (known : Known tree p q) (away : q.at_line ≡ false) where
+  pub starts_there : (alternate : ℕ) (prior : Option Environment) (message : Option ℤ) (s : State) → q.status ≡ Running → wants_first tree q.state.items ≡ Starts
       → step tree alternate prior q.state message ≡ Went s tt → (1 ≤ alternate) × (alternate ≤ alternates_of (last_of q.levels))
-  starts_there alternate prior message s w went =
+  starts_there alternate prior message s running w went =
       let first = start_first tree q.state.items w in
       let chosen = alternate_number alternate (alternates_in first.block) in
       let left : facts_of tree first.block ∷ facts_left tree first.rest ≡ onto [] (facts_in q.levels) =
@@ -91,12 +97,21 @@ module _ (tree : Tree) (p : ℕ) (q : Process State State) (known : Known tree p
       (start_there tree alternate first.block first.rest q.state s chosen refl
       (ap (step_items tree alternate prior q.state message) (sym first.is) ∙ went))
 
-  pub outermost_alone : (facts : Facts) (c : ℕ) → wants_first tree q.state.items ≡ Enters facts → facts.conversation ≡ Some c
-      → parent_of (slice_get (groups_of tree) c) ≡ None → q.levels ≡ []
-  outermost_alone facts c w of_c alone =
+  -- no block is left around the entry of a conversation that lies in no other
+  none_around : (facts : Facts) (c : ℕ) → wants_first tree q.state.items ≡ Enters facts → facts.conversation ≡ Some c
+      → parent_of (slice_get (groups_of tree) c) ≡ None → facts_left tree q.state.items ≡ []
+  none_around facts c w of_c alone =
       let entry = entered_block tree q.state.items facts w in
       let clear = subst (λ (items : List Item). AreClear tree p items) entry.is known.own.clear in
       let well = joins_well tree p c entry.rest entry.block clear.0 (ap (λ (f : Facts). f.conversation) entry.facts_are ∙ of_c) in
-      let none : facts_left tree entry.rest ≡ [] =
-          subst (λ (parent : Option ℕ). BeginWith parent (facts_left tree entry.rest)) alone (around_join tree p c entry.rest well) in
-      no_levels q.levels (sym none ∙ ap (facts_left tree) (sym entry.is) ∙ left_away tree p q known running away)
+      ap (facts_left tree) entry.is
+      ∙ subst (λ (parent : Option ℕ). BeginWith parent (facts_left tree entry.rest)) alone (around_join tree p c entry.rest well)
+
+  bare_if : (failed : Bool) → is_failed q.status ≡ failed → facts_left tree q.state.items ≡ [] → q.levels ≡ []
+  bare_if true e none = failed_bare q.levels q.status known.inside e
+  bare_if false e none =
+      no_levels q.levels (sym none ∙ known.left e ∙ ap (λ line. onto [] (with_test line (facts_in q.levels))) away)
+
+  pub outermost_alone : (facts : Facts) (c : ℕ) → wants_first tree q.state.items ≡ Enters facts → facts.conversation ≡ Some c
+      → parent_of (slice_get (groups_of tree) c) ≡ None → q.levels ≡ []
+  outermost_alone facts c w of_c alone = bare_if (is_failed q.status) refl (none_around facts c w of_c alone)
