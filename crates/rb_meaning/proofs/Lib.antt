@@ -14,3 +14,5 @@ pub mod StepsPost
 pub mod TreeParts
 pub mod Ends
 pub mod StartsAndEntries
+-- The laws of the meaning.
+pub mod TreeLaws

@@ -2,10 +2,9 @@
 -- Both are said of a process that runs away from every test line: one that failed has no level, whatever is left of its text,
 -- and at a test line what stands first lies outside the innermost level.
 -- All of it is this project's own.
-use Rattle.std.proofs.Common.{◌≡◌, ◌≤◌, ◌+◌, ℕ, ℤ, zero, suc, Bool, true, false, List, [], ◌∷◌, map, slice_get, Option, Some, None, Result, Ok, Err, refl, sym, ap, ◌∙◌, subst, arith}
-use Rattle.rb_base.specs.declared.event.Cause.{Cause}
+use Rattle.std.proofs.Common.{◌≡◌, ◌≤◌, ℕ, ℤ, zero, suc, false, List, [], ◌∷◌, slice_get, Option, Some, None, refl, sym, ap, ◌∙◌, subst, arith}
 use Rattle.rb_syntax.specs.Tree.{Command, Assignment, Printing, Sending, Receiving, Conditional, Loop, Invocation, Failure, Recovering, Body, Otherwise, NoElse, Else, RecoveryBlock, Recovers, Alternates, NoAlternate, Alternate, Tree}
-use Rattle.rb_world.specs.Kind.{Facts, Starts, Enters, Went, Stepped}
+use Rattle.rb_world.specs.Kind.{Facts, Starts, Enters, Went}
 use Rattle.rb_world.specs.World.{Level, Running, Process, last_of}
 use Rattle.rb_world.specs.Reject.{parent_of}
 use Rattle.rb_world.specs.Plain.{alternates_of}
@@ -86,7 +85,7 @@ module _ (tree : Tree) (p : ℕ) (q : Process State State) (known : Known tree p
       let first = start_first tree q.state.items w in
       let chosen = alternate_number alternate (alternates_in first.block) in
       let left : facts_of tree first.block ∷ facts_left tree first.rest ≡ onto [] (facts_in q.levels) =
-          ap (facts_left tree) (sym first.is) ∙ left_away tree p q known running away in
+      ap (facts_left tree) (sym first.is) ∙ left_away tree p q known running away in
       subst (λ (n : ℕ). (1 ≤ alternate) × (alternate ≤ n)) (sym (innermost_facts q.levels (facts_of tree first.block) (facts_left tree first.rest) left))
       (start_there tree alternate first.block first.rest q.state s chosen refl
       (ap (step_items tree alternate prior q.state message) (sym first.is) ∙ went))
@@ -98,5 +97,5 @@ module _ (tree : Tree) (p : ℕ) (q : Process State State) (known : Known tree p
       let clear = subst (λ (items : List Item). AreClear tree p items) entry.is known.own.clear in
       let well = joins_well tree p c entry.rest entry.block clear.0 (ap (λ (f : Facts). f.conversation) entry.facts_are ∙ of_c) in
       let none : facts_left tree entry.rest ≡ [] =
-          subst (λ (parent : Option ℕ). BeginWith parent (facts_left tree entry.rest)) alone (around_join tree p c entry.rest well) in
+      subst (λ (parent : Option ℕ). BeginWith parent (facts_left tree entry.rest)) alone (around_join tree p c entry.rest well) in
       no_levels q.levels (sym none ∙ ap (facts_left tree) (sym entry.is) ∙ left_away tree p q known running away)
