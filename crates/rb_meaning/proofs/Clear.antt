@@ -5,11 +5,10 @@
 use Rattle.std.proofs.Common.{◌≡◌, ℕ, Bool, true, false, ◌&&◌, List, [], ◌∷◌, ◌++◌, map, Option, refl, sym, ap, ◌∙◌, subst, true≢false}
 use Rattle.std.specs.List.{list_all}
 use Rattle.std.proofs.lemmas.List.Folds.{list_all-append}
-use Rattle.rb_syntax.specs.Tree.{Identifier, Command, Commands, NoCommand, Then, RecoveryBlock, Recovers, Tree}
+use Rattle.rb_syntax.specs.Tree.{Identifier, Commands, NoCommand, Then, RecoveryBlock, Recovers, Tree}
 use Rattle.rb_world.proofs.ListFacts.{first_holds, second_holds}
 use Rattle.rb_meaning.specs.Environment.{Environment, pop_frame, pop_call}
 use Rattle.rb_meaning.specs.State.{Item, Perform, StartOf, TestOf, EndBlock, EndCall, performed, settle_items}
-use Rattle.rb_meaning.specs.Step.{entered, entered_items}
 use Rattle.rb_meaning.specs.Nesting.{Spot, Use, uses_in, uses_in_block, uses_in_command, keeps_n1, keeps_n2, keeps_n4, keeps_n9}
 use Rattle.rb_meaning.specs.Laws.{blocks_left}
 
@@ -85,7 +84,8 @@ clear_performed tree p (Then first commands) rest kept clear = (
   subst (λ (spot : Spot). AreKept tree (uses_in_command spot first)) (sym (spot_performed p commands rest))
       (kept_first tree (uses_in_command (spot_before p rest) first) (uses_in (spot_before p rest) commands) kept),
   clear_performed tree p commands rest
-      (kept_second tree (uses_in_command (spot_before p rest) first) (uses_in (spot_before p rest) commands) kept) clear)
+      (kept_second tree (uses_in_command (spot_before p rest) first) (uses_in (spot_before p rest) commands) kept) clear,
+)
 
 -- Settling takes ends away, and no block that is left.
 pub clear_settled : (tree : Tree) (p : ℕ) (items : List Item) (env : Environment) → AreClear tree p items → AreClear tree p (settle_items items env).0

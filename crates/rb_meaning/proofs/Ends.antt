@@ -1,15 +1,15 @@
 -- Who sends on a channel is its sender, and who receives from it is its receiver: of what stands first, by the rules of nesting.
 -- All of it is this project's own.
-use Rattle.std.proofs.Common.{◌≡◌, ℕ, nat_eq, Bool, true, false, ◌&&◌, List, [], ◌∷◌, ◌++◌, slice_get, Option, Some, None, refl, sym, ap, ◌∙◌, subst, true≢false}
+use Rattle.std.proofs.Common.{◌≡◌, ℕ, true, ◌&&◌, List, [], ◌∷◌, slice_get, Option, Some, ap, ◌∙◌, subst}
 use Rattle.std.proofs.lemmas.Bool.{eqb-true}
-use Rattle.rb_syntax.specs.Tree.{Identifier, Command, Assignment, Printing, Sending, Receiving, Conditional, Loop, Invocation, Failure, Recovering, Otherwise, NoElse, Else, Tree}
+use Rattle.rb_syntax.specs.Tree.{Command, Assignment, Printing, Sending, Receiving, Conditional, Loop, Invocation, Failure, Recovering, Otherwise, NoElse, Else, Tree}
 use Rattle.rb_world.specs.Kind.{Ends, SendsOn}
 use Rattle.rb_world.proofs.Erasable.{receives_on}
 use Rattle.rb_world.proofs.ListFacts.{first_holds, none_some, second_holds, some_same}
 use Rattle.rb_meaning.specs.State.{Item, Perform, StartOf, TestOf, EndBlock, EndCall}
 use Rattle.rb_meaning.specs.Groups.{channel_number, channels_of}
 use Rattle.rb_meaning.specs.Step.{wants, wants_first, wants_receipt}
-use Rattle.rb_meaning.specs.Nesting.{Receives, Sends, Spot, Use, is_end, keeps_n1, keeps_n2, keeps_n4, keeps_n9, uses_in_otherwise}
+use Rattle.rb_meaning.specs.Nesting.{Receives, Sends, Use, is_end, keeps_n1, keeps_n2, keeps_n4, keeps_n9, uses_in_otherwise}
 use Rattle.rb_meaning.proofs.Clear.{AreClear, AreKept, IsClear, keeps_rules, kept_first, spot_before}
 
 -- the rule on ends, of one use

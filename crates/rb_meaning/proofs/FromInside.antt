@@ -1,8 +1,8 @@
 -- Lists turned round, element by element: what is kept from the outside in, as it is seen from the inside out.
 -- All of it is this project's own.
-use Rattle.std.proofs.Common.{◌≡◌, ℕ, zero, suc, Bool, true, false, List, [], ◌∷◌, ◌++◌, map, reverse, take, refl, sym, ap, ◌∙◌, append_assoc}
+use Rattle.std.proofs.Common.{◌≡◌, List, [], ◌∷◌, ◌++◌, reverse, refl, sym, ap, ◌∙◌, append_assoc}
 use Rattle.std.proofs.lemmas.List.{reverse-append, reverse-reverse, append-nil}
-use Rattle.rb_world.specs.World.{without_last, change_at}
+use Rattle.rb_world.specs.World.{without_last}
 use Rattle.rb_world.proofs.ListFacts.{tails_same}
 
 -- the elements of xs from the last to the first, and then the others

@@ -1,7 +1,7 @@
 -- What the rules of nesting say where a conversation is joined: no call is open there, its process is a member, and the
 -- recovery block right around it is a `converse` for the parent, or there is none where the conversation has no parent.
 -- Conversations nest as Randell (1975) has it; all else is this project's own.
-use Rattle.std.proofs.Common.{◌≡◌, ℕ, zero, suc, nat_eq, Bool, true, false, not, ◌&&◌, List, [], ◌∷◌, ◌++◌, map, slice_get, Option, Some, None, refl, sym, ap, ◌∙◌, subst, true≢false}
+use Rattle.std.proofs.Common.{◌≡◌, ℕ, Bool, true, false, not, ◌&&◌, List, [], ◌∷◌, map, slice_get, Option, Some, None, refl, sym, ap, subst, true≢false}
 use Rattle.std.proofs.lemmas.Bool.{eqb-true}
 use Rattle.std.specs.List.{list_all}
 use Rattle.rb_syntax.specs.Tree.{Identifier, RecoveryBlock, Recovers, Tree}
@@ -30,10 +30,11 @@ rules_of_use : (tree : Tree) (one : Use) → AreKept tree (one ∷ [])
     → (keeps_n1 tree one ≡ true) × (keeps_n2 tree one ≡ true) × (keeps_n4 tree one ≡ true)
 rules_of_use tree one kept =
     let all : keeps_rules tree one ≡ true = first_holds (keeps_rules tree one) true kept in
-    let others = second_holds (keeps_n1 tree one) (keeps_n2 tree one && (keeps_n4 tree one && keeps_n9 tree one)) all in
-    (first_holds (keeps_n1 tree one) (keeps_n2 tree one && (keeps_n4 tree one && keeps_n9 tree one)) all,
-    first_holds (keeps_n2 tree one) (keeps_n4 tree one && keeps_n9 tree one) others,
-    first_holds (keeps_n4 tree one) (keeps_n9 tree one) (second_holds (keeps_n2 tree one) (keeps_n4 tree one && keeps_n9 tree one) others))
+    let others = second_holds (keeps_n1 tree one) (keeps_n2 tree one && (keeps_n4 tree one && keeps_n9 tree one)) all in (
+      first_holds (keeps_n1 tree one) (keeps_n2 tree one && (keeps_n4 tree one && keeps_n9 tree one)) all,
+      first_holds (keeps_n2 tree one) (keeps_n4 tree one && keeps_n9 tree one) others,
+      first_holds (keeps_n4 tree one) (keeps_n9 tree one) (second_holds (keeps_n2 tree one) (keeps_n4 tree one && keeps_n9 tree one) others),
+    )
 
 join_kept : (tree : Tree) (p : ℕ) (rest : List Item) (name : Identifier) → AreKept tree (joined (Some name) (spot_before p rest))
     → JoinsWell tree p (conversation_number tree name.text) rest

@@ -1,18 +1,13 @@
 -- What is known of each process of a run of a nested program.
 -- All of it is this project's own.
-use Rattle.std.proofs.Common.{◌≡◌, ℕ, ◌+◌, zero, suc, Bool, true, false, List, [], ◌∷◌, ◌++◌, length, map, take, slice_get, Option, Some, None, refl, sym, ap, ◌∙◌, subst}
-use Rattle.rb_syntax.specs.Tree.{RecoveryBlock, Tree}
-use Rattle.rb_world.specs.Kind.{Facts}
-use Rattle.rb_world.specs.World.{Level, Status, Running, Process, without_last}
+use Rattle.std.proofs.Common.{◌≡◌, ℕ, false, List, [], ◌∷◌}
+use Rattle.rb_syntax.specs.Tree.{Tree}
+use Rattle.rb_world.specs.World.{Level, Status, Running, Process}
 use Rattle.rb_world.specs.Standing.{is_failed}
 use Rattle.rb_meaning.specs.State.{State}
+use Rattle.rb_meaning.specs.LevelsLeft.{with_test}
 use Rattle.rb_meaning.proofs.FromInside.{onto}
 use Rattle.rb_meaning.proofs.Points.{ArePoints, IsOwn, facts_in, facts_left}
-
--- at a test line the innermost level's test is no more left
-abbrev pub with_test : {A : Type 0} → Bool → List A → List A
-with_test true levels = without_last levels
-with_test false levels = levels
 
 -- who has a level runs
 abbrev pub RunsInside : List (Level State) → Status → Type 0

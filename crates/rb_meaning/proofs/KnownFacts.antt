@@ -1,27 +1,23 @@
 -- What is known of a process, under the changes that turns are made of: who has a level runs; the block that is entered; text
 -- that settles, and turns that are kept.
 -- All of it is this project's own.
-use Rattle.std.proofs.Common.{◌≡◌, ℕ, ◌+◌, zero, suc, Bool, true, false, cond, ◌&&◌, List, [], ◌∷◌, ◌++◌, length, map, take, slice_get, Option, Some, None, refl, sym, ap, ◌∙◌, subst, true≢false, add-one}
-use Rattle.rb_base.specs.declared.event.Cause.{Cause}
+use Rattle.std.proofs.Common.{◌≡◌, ℕ, true, false, List, [], ◌∷◌, map, slice_get, Some, refl, sym, ap, ◌∙◌, subst, true≢false}
 use Rattle.rb_syntax.specs.Tree.{Command, Assignment, Printing, Sending, Receiving, Conditional, Loop, Invocation, Failure, Recovering, Otherwise, NoElse, Else, RecoveryBlock, Tree}
-use Rattle.rb_world.specs.Kind.{Facts, Want, Enters, Starts, Acts, Went, Held}
+use Rattle.rb_world.specs.Kind.{Facts, Enters}
 use Rattle.rb_world.specs.World.{Level, Status, Running, Process, goes_on, last_of, settled, status_at, without_last}
-use Rattle.rb_world.specs.Reject.{back_to, fallen, put_back, raised}
-use Rattle.rb_world.specs.Turn.{is_last_of, new_level, stands_now, state_freed, turn_used}
+use Rattle.rb_world.specs.Turn.{is_last_of}
 use Rattle.rb_world.specs.Standing.{is_failed}
-use Rattle.rb_world.proofs.EachProcess.{KeepsEach}
-use Rattle.rb_world.proofs.ImageRuns.{front-map, more-map}
-use Rattle.rb_world.proofs.ListFacts.{first_holds, none_some, second_holds}
-use Rattle.rb_meaning.specs.State.{Item, Perform, StartOf, TestOf, EndBlock, EndCall, State, settle, settle_items, with_kept}
-use Rattle.rb_meaning.specs.Step.{enter, entered_items, step_items, wants, wants_first, wants_receipt}
+use Rattle.rb_world.proofs.ListFacts.{none_some}
+use Rattle.rb_meaning.specs.State.{Item, Perform, StartOf, TestOf, EndBlock, EndCall, State, settle, with_kept}
+use Rattle.rb_meaning.specs.Step.{enter, entered_items, wants, wants_first, wants_receipt}
 use Rattle.rb_meaning.specs.Groups.{channel_number, facts_of}
-use Rattle.rb_meaning.specs.Meaning.{environment_of, tree_kind}
-use Rattle.rb_meaning.specs.Laws.{blocks_left}
+use Rattle.rb_meaning.specs.Meaning.{tree_kind}
+use Rattle.rb_meaning.specs.LevelsLeft.{with_test}
 use Rattle.rb_meaning.proofs.Clear.{AreClear, blocks_settled, clear_settled}
-use Rattle.rb_meaning.proofs.StepsKeep.{Continues, HasClearProcedures, Passes, StepsTo, steps_keep}
-use Rattle.rb_meaning.proofs.FromInside.{onto, onto-front, onto-more, onto-some}
-use Rattle.rb_meaning.proofs.Points.{ArePoints, IsOwn, IsPoint, facts_in, facts_left, facts_raised, facts_used, point_at, points_front, points_more, points_raised, points_taken, points_used}
-use Rattle.rb_meaning.proofs.Known.{Known, RunsInside, with_test}
+use Rattle.rb_meaning.proofs.StepsKeep.{Continues}
+use Rattle.rb_meaning.proofs.FromInside.{onto, onto-front, onto-some}
+use Rattle.rb_meaning.proofs.Points.{ArePoints, IsOwn, facts_in, facts_left}
+use Rattle.rb_meaning.proofs.Known.{Known, RunsInside}
 
 -- who may act runs
 receipt_runs : (c : ℕ) (otherwise : Otherwise) → status_at (wants_receipt c otherwise) ≡ Running

@@ -1,28 +1,26 @@
 -- What is known of each process of a run of a nested program stays true in every turn.
 -- All of it is this project's own.
-use Rattle.std.proofs.Common.{◌≡◌, ℕ, ℤ, ◌+◌, zero, suc, Bool, true, false, List, [], ◌∷◌, ◌++◌, length, map, take, slice_get, Option, Some, None, refl, sym, ap, ◌∙◌, subst, true≢false, add-one}
-use Rattle.rb_base.specs.declared.event.Cause.{Cause}
-use Rattle.rb_syntax.specs.Tree.{RecoveryBlock, Tree}
+use Rattle.std.proofs.Common.{◌≡◌, ℕ, ℤ, ◌+◌, suc, true, List, [], ◌∷◌, ◌++◌, map, take, slice_get, Option, Some, None, refl, sym, ap, ◌∙◌, subst, true≢false, add-one}
+use Rattle.rb_syntax.specs.Tree.{Tree}
 use Rattle.rb_world.specs.Kind.{Facts, Went, Held}
-use Rattle.rb_world.specs.World.{Level, change_at, Status, Running, Process, World, goes_on, last_of, settled, without_last}
-use Rattle.rb_world.specs.Reject.{back_to, fallen, next_alternate, put_back, raised}
-use Rattle.rb_world.specs.Turn.{copy_of, freed, one_used, is_last_of, new_level, stands_at, stands_now, state_freed, turn_used}
+use Rattle.rb_world.specs.World.{Level, change_at, Status, Running, Process, goes_on, last_of, settled, without_last}
+use Rattle.rb_world.specs.Reject.{back_to, next_alternate}
+use Rattle.rb_world.specs.Turn.{copy_of, one_used, is_last_of, new_level, state_freed}
 use Rattle.rb_world.specs.Standing.{is_failed}
-use Rattle.rb_world.proofs.TurnFacts.{StepsAt, EntersAt}
 use Rattle.rb_world.proofs.EachProcess.{KeepsEach}
 use Rattle.rb_world.proofs.ImageRuns.{front-map, more-map}
 use Rattle.rb_world.proofs.ListFacts.{first_holds, second_holds}
-use Rattle.rb_meaning.specs.State.{State, settle, with_kept}
-use Rattle.rb_meaning.specs.Step.{Nothing, Result_of_step, enter, entered_items, step_items, wants_first}
+use Rattle.rb_meaning.specs.State.{State, with_kept}
+use Rattle.rb_meaning.specs.Step.{Nothing, Result_of_step, enter, entered_items, step_items}
 use Rattle.rb_meaning.specs.Groups.{facts_of}
 use Rattle.rb_meaning.specs.Meaning.{environment_of, tree_kind}
 use Rattle.rb_meaning.specs.Laws.{blocks_left}
+use Rattle.rb_meaning.specs.LevelsLeft.{with_test}
 use Rattle.rb_meaning.proofs.StepsKeep.{Continues, HasClearProcedures, Passes, StepsTo, steps_keep}
 use Rattle.rb_meaning.proofs.FromInside.{onto, onto-more}
 use Rattle.rb_meaning.proofs.Points.{ArePoints, IsOwn, IsPoint, StartsFirst, facts_in, facts_left, facts_raised, facts_used, point_at, points_front, points_more, points_raised, points_taken, points_used}
-use Rattle.rb_meaning.proofs.Known.{Known, RunsInside, with_test}
+use Rattle.rb_meaning.proofs.Known.{Known, RunsInside}
 use Rattle.rb_meaning.proofs.KnownFacts.{IsEntered, entered_block, front_left, inside_running, known_goes, known_settled, left_away, left_entered, own_continues, own_entered, own_kept, running_inside, running_last}
-
 
 module _ (tree : Tree) (procedures : (p : ℕ) → HasClearProcedures tree p) where
   -- a step that went on

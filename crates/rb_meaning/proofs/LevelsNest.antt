@@ -1,13 +1,13 @@
 -- The levels of each process of a run of a nested program are nested, and are those of members.
 -- Conversations nest as Randell (1975) has it; all else is this project's own.
-use Rattle.std.proofs.Common.{◌≡◌, ℕ, zero, suc, Bool, true, false, List, [], ◌∷◌, map, reverse, take, slice_get, Option, Some, None, refl, sym, ap, ◌∙◌, subst, true≢false}
-use Rattle.rb_syntax.specs.Tree.{RecoveryBlock, Tree}
+use Rattle.std.proofs.Common.{◌≡◌, ℕ, zero, suc, true, List, [], ◌∷◌, take, slice_get, Option, Some, None, refl, sym, ap, ◌∙◌, subst}
+use Rattle.rb_syntax.specs.Tree.{Tree}
 use Rattle.rb_world.specs.Kind.{Facts}
-use Rattle.rb_world.specs.World.{Level, Process}
+use Rattle.rb_world.specs.World.{Level}
 use Rattle.rb_world.specs.Reject.{parent_of}
 use Rattle.rb_world.specs.Nested.{AreNested, HasOutside, IsLevelOf}
 use Rattle.rb_world.proofs.ListFacts.{heads_same, none_some, some_same, tails_same}
-use Rattle.rb_meaning.specs.State.{Item, StartOf, State}
+use Rattle.rb_meaning.specs.State.{Item, State}
 use Rattle.rb_meaning.specs.Groups.{facts_of, groups_of}
 use Rattle.rb_meaning.specs.Nesting.{is_member, members_in}
 use Rattle.rb_meaning.proofs.Clear.{AreClear}
@@ -53,7 +53,7 @@ module _ (tree : Tree) (p : ℕ) where
   level_joined levels c i points at =
       point_joined c at.level.facts (onto [] (facts_in (take i levels))) at.level.copy
       (subst (λ (facts : List Facts). IsPoint tree p facts at.level.copy) (facts_at [] levels i at.level at.there)
-          (point_at tree p [] i levels at.level points at.there)) at.of_it
+      (point_at tree p [] i levels at.level points at.there)) at.of_it
 
   outside_none : (levels : List (Level State)) (i : ℕ) (level : Level State) → slice_get levels i ≡ Some level → onto [] (facts_in (take i levels)) ≡ [] → i ≡ 0
   outside_none levels zero level at e = refl

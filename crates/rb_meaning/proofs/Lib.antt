@@ -15,3 +15,5 @@ pub mod TreeParts
 pub mod Ends
 pub mod StartsAndEntries
 pub mod TreeErasable
+-- The laws of the meaning.
+pub mod TreeLaws

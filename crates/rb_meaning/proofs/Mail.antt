@@ -1,16 +1,13 @@
 -- What a step may do to a process's mail: nothing, one value sent, or one taken. So a step moves a state as erasure asks.
 -- All of it is this project's own.
-use Rattle.std.proofs.Common.{◌≡◌, ◌<◌, ◌≤◌, ◌+◌, ℕ, ℤ, zero, suc, pos, nat_eq, Bool, true, false, cond, List, [], ◌∷◌, ◌++◌, length, map, option_map, slice_get, unwrap_or, Option, Some, None, refl, sym, ap, ◌∙◌, subst, arith, length-append, add-zero}
-use Rattle.std.proofs.lemmas.List.{append-nil, length-map}
+use Rattle.std.proofs.Common.{◌≡◌, ◌<◌, ◌+◌, ℕ, ℤ, zero, suc, nat_eq, Bool, true, false, cond, List, [], ◌∷◌, ◌++◌, length, option_map, slice_get, unwrap_or, Option, Some, refl, sym, ap, ◌∙◌, arith, length-append, add-zero}
+use Rattle.std.proofs.lemmas.List.{append-nil}
 use Rattle.std.proofs.lemmas.Bool.{eqb-true, eqb-false}
-use Rattle.rb_syntax.specs.Tree.{Tree}
-use Rattle.rb_world.specs.Kind.{Ends, Want, NothingLeft, SendsOn, ReceivesOn, MayReceiveOn, Enters, Starts, Acts}
+use Rattle.rb_world.specs.Kind.{Want, SendsOn}
 use Rattle.rb_world.specs.World.{change_at}
-use Rattle.rb_world.proofs.Erasable.{receives_on, sends_by, takes_by, takes_if}
+use Rattle.rb_world.proofs.Erasable.{receives_on, sends_by, takes_by}
 use Rattle.rb_world.proofs.ListFacts.{none_some, slice_get-change_at}
 use Rattle.rb_meaning.specs.State.{State}
-use Rattle.rb_meaning.specs.Groups.{channels_of}
-use Rattle.rb_meaning.specs.Meaning.{message_number, sent_on, taken_on}
 
 -- what a step that goes on does to mail, by what stood first and the message that it was given
 pub data Posts (want : Want) (message : Option ℤ) (s t : State) : Type 0 where

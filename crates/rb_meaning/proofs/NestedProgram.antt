@@ -1,7 +1,7 @@
 -- What the rules of nesting say of a whole program, said of each of its processes: its own statements keep them, and so do
 -- its procedures. So what is known of a process holds at the opening.
 -- All of it is this project's own.
-use Rattle.std.proofs.Common.{◌≡◌, ℕ, ◌+◌, zero, suc, Bool, true, false, cond, ◌&&◌, List, [], ◌∷◌, ◌++◌, map, replicate, slice_get, Option, Some, None, refl, sym, ap, ◌∙◌, subst, arith}
+use Rattle.std.proofs.Common.{◌≡◌, ℕ, ◌+◌, zero, suc, Bool, true, false, cond, ◌&&◌, List, [], ◌∷◌, ◌++◌, map, slice_get, Option, Some, None, refl, sym, ap, ◌∙◌, subst, arith}
 use Rattle.std.proofs.lemmas.List.{length-replicate}
 use Rattle.std.specs.List.{list_all}
 use Rattle.rb_syntax.specs.Tree.{ProcedureDeclaration, ProcessDeclaration, Tree}
@@ -9,10 +9,10 @@ use Rattle.rb_world.specs.World.{settled}
 use Rattle.rb_world.proofs.ListFacts.{first_holds, none_some, second_holds, some_same}
 use Rattle.rb_meaning.specs.Environment.{same_name}
 use Rattle.rb_meaning.specs.State.{State}
-use Rattle.rb_meaning.specs.Groups.{facts_of, procedure_among, procedure_named, procedures_of}
+use Rattle.rb_meaning.specs.Groups.{facts_of, procedure_among, procedures_of}
 use Rattle.rb_meaning.specs.Meaning.{opening_state, opening_states, tree_kind}
-use Rattle.rb_meaning.specs.Nesting.{IsNested, Use, keeps_n1, keeps_n2, keeps_n4, keeps_n9, outside, uses_in, uses_in_body, uses_in_procedures, uses_in_processes, uses_of}
-use Rattle.rb_meaning.proofs.Clear.{AreKept, blocks_performed, clear_performed, keeps_rules, kept_first, kept_second}
+use Rattle.rb_meaning.specs.Nesting.{IsNested, keeps_n1, keeps_n2, keeps_n4, keeps_n9, outside, uses_in, uses_in_body, uses_in_procedures, uses_in_processes, uses_of}
+use Rattle.rb_meaning.proofs.Clear.{AreKept, blocks_performed, clear_performed, kept_first, kept_second}
 use Rattle.rb_meaning.proofs.StepsKeep.{HasClearProcedures}
 use Rattle.rb_meaning.proofs.Known.{Known}
 use Rattle.rb_meaning.proofs.KnownFacts.{known_settled}
@@ -58,7 +58,7 @@ processes_kept tree p zero n (one ∷ processes) process e kept at =
 processes_kept tree p (suc r) n (one ∷ processes) process e kept at =
     processes_kept tree (p + 1) r n processes process (omega (arith, e))
     (kept_second tree (uses_in (outside p false) one.commands) (uses_in_processes (p + 1) processes)
-        (kept_second tree (uses_in_procedures p one.procedures) (uses_in (outside p false) one.commands ++ uses_in_processes (p + 1) processes) kept)) at
+    (kept_second tree (uses_in_procedures p one.procedures) (uses_in (outside p false) one.commands ++ uses_in_processes (p + 1) processes) kept)) at
 
 pub process_kept : (tree : Tree) → IsNested tree → (n : ℕ) (process : ProcessDeclaration) → slice_get tree.processes n ≡ Some process → IsProcessKept tree n process
 process_kept tree nested n process at = processes_kept tree 0 n n tree.processes process (omega arith) (uses_kept tree nested) at

@@ -15,10 +15,11 @@ use Rattle.rb_meaning.specs.Environment.{Environment}
 use Rattle.rb_meaning.specs.State.{Item, Perform, StartOf, TestOf, EndBlock, EndCall, State}
 use Rattle.rb_meaning.specs.Groups.{channel_number, count_alternates, facts_of, groups_of}
 use Rattle.rb_meaning.specs.Step.{alternate_number, alternates_in, goes, starts_body, step, step_items, wants, wants_first, wants_receipt}
+use Rattle.rb_meaning.specs.LevelsLeft.{with_test}
 use Rattle.rb_meaning.proofs.Clear.{AreClear}
 use Rattle.rb_meaning.proofs.FromInside.{onto, onto-some}
 use Rattle.rb_meaning.proofs.Points.{StartsFirst, facts_in, facts_left}
-use Rattle.rb_meaning.proofs.Known.{Known, RunsInside, with_test}
+use Rattle.rb_meaning.proofs.Known.{Known, RunsInside}
 use Rattle.rb_meaning.proofs.KnownFacts.{entered_block, left_away}
 use Rattle.rb_meaning.proofs.JoinsWell.{BeginWith, around_join, joins_well}
 
@@ -92,7 +93,7 @@ module _ (tree : Tree) (p : ℕ) (q : Process State State) (known : Known tree p
       let first = start_first tree q.state.items w in
       let chosen = alternate_number alternate (alternates_in first.block) in
       let left : facts_of tree first.block ∷ facts_left tree first.rest ≡ onto [] (facts_in q.levels) =
-          ap (facts_left tree) (sym first.is) ∙ left_away tree p q known running away in
+      ap (facts_left tree) (sym first.is) ∙ left_away tree p q known running away in
       subst (λ (n : ℕ). (1 ≤ alternate) × (alternate ≤ n)) (sym (innermost_facts q.levels (facts_of tree first.block) (facts_left tree first.rest) left))
       (start_there tree alternate first.block first.rest q.state s chosen refl
       (ap (step_items tree alternate prior q.state message) (sym first.is) ∙ went))

@@ -4,18 +4,17 @@
 use Rattle.std.proofs.Common.{◌≡◌, ℕ, ℤ, zero, suc, Bool, true, false, cond, List, [], ◌∷◌, ◌++◌, length, Option, Some, None, Result, Ok, Err, refl, sym, ap, ◌∙◌, subst}
 use Rattle.rb_base.specs.declared.event.Cause.{Cause}
 use Rattle.rb_base.specs.declared.event.Cause.TheVariants.{Test}
-use Rattle.rb_syntax.specs.Tree.{Expression, Reference, Command, Assignment, Printing, Sending, Receiving, Conditional, Loop, Invocation, Failure, Recovering, Commands, Body, Scope, Otherwise, NoElse, Else, RecoveryBlock, Recovers, Alternates, NoAlternate, Alternate, ProcedureDeclaration, Tree}
-use Rattle.rb_world.specs.Kind.{Stepped, Trapped, Went, Held}
-use Rattle.rb_world.specs.World.{change_at}
+use Rattle.rb_syntax.specs.Tree.{Expression, Reference, Command, Assignment, Printing, Sending, Receiving, Conditional, Loop, Invocation, Failure, Recovering, Body, Scope, Otherwise, NoElse, Else, RecoveryBlock, Recovers, Alternates, NoAlternate, Alternate, ProcedureDeclaration, Tree}
+use Rattle.rb_world.specs.Kind.{Trapped, Went, Held}
 use Rattle.rb_world.proofs.ListFacts.{length-change_at, none_some, some_same}
 use Rattle.rb_meaning.specs.Environment.{Environment, push_call, push_frame, frame_of}
 use Rattle.rb_meaning.specs.Value.{Outcome, and_then, is_zero, value}
-use Rattle.rb_meaning.specs.State.{Item, Perform, StartOf, TestOf, EndBlock, EndCall, State, performed, continue_with, with_environment, with_held, with_sent, with_taken}
+use Rattle.rb_meaning.specs.State.{Item, Perform, StartOf, TestOf, EndBlock, EndCall, State, performed, continue_with, with_environment, with_held}
 use Rattle.rb_meaning.specs.Groups.{channel_number, procedure_named}
-use Rattle.rb_meaning.specs.Step.{Nothing, Result_of_step, goes, most_held, most_words, most_calls, held_bytes, open_calls, bound_to, variables_of, commands_of, present_value, place_in, put_at, line_from, values_in, assigned, prints, held_with, sends, takes, within_words, pushes, pushes_else, chooses, repeats, calls_with, invokes, receives, performs, starts_body, alternate_number, alternates_in, judged, former, test_in, step_items, step}
-use Rattle.rb_meaning.specs.Nesting.{Spot, Receives, inside, joined, outside, uses_in, uses_in_alternates, uses_in_block, uses_in_body, uses_in_command, uses_in_otherwise}
+use Rattle.rb_meaning.specs.Step.{Result_of_step, goes, bound_to, variables_of, commands_of, present_value, place_in, line_from, values_in, assigned, prints, sends, takes, within_words, pushes, pushes_else, chooses, repeats, calls_with, receives, performs, starts_body, alternate_number, alternates_in, judged, former, test_in, step_items}
+use Rattle.rb_meaning.specs.Nesting.{Spot, Receives, inside, joined, outside, uses_in, uses_in_alternates, uses_in_block, uses_in_body, uses_in_otherwise}
 use Rattle.rb_meaning.specs.Laws.{blocks_left}
-use Rattle.rb_meaning.proofs.Clear.{AreClear, AreKept, IsClear, conversation_named, spot_before, kept_first, kept_second, clear_performed, blocks_performed}
+use Rattle.rb_meaning.proofs.Clear.{AreClear, AreKept, IsClear, spot_before, kept_first, kept_second, clear_performed, blocks_performed}
 
 -- a step that goes on ends in a state of which P holds
 abbrev pub EndsIn : (State → Type 0) → Result State Cause → Type 0
@@ -139,9 +138,9 @@ module _ (tree : Tree) (p : ℕ) where
   chooses_ends body otherwise rest s v kept clear =
       either_ends (Continues tree p (blocks_left rest) s) (is_zero v) (pushes_else tree.edition otherwise rest s) (pushes tree.edition body rest s)
       (pushes_else_ends tree.edition otherwise rest s
-          (kept_second tree (uses_in_body (spot_before p rest) body) (uses_in_otherwise (spot_before p rest) otherwise) kept) clear)
+      (kept_second tree (uses_in_body (spot_before p rest) body) (uses_in_otherwise (spot_before p rest) otherwise) kept) clear)
       (pushes_ends tree.edition body rest s
-          (kept_first tree (uses_in_body (spot_before p rest) body) (uses_in_otherwise (spot_before p rest) otherwise) kept) clear)
+      (kept_first tree (uses_in_body (spot_before p rest) body) (uses_in_otherwise (spot_before p rest) otherwise) kept) clear)
 
   repeats_ends : (test : Expression) (body : Body) (rest : List Item) (s : State) (v : ℤ) → AreKept tree (uses_in_body (spot_before p rest) body)
       → AreClear tree p rest → EndsIn (Continues tree p (blocks_left rest) s) (repeats tree.edition test body rest s v)

@@ -1,14 +1,14 @@
 -- Trees as erasure asks for them: their parts, from which come the meaning's kind and the plain run's.
 -- All of it is this project's own.
-use Rattle.std.proofs.Common.{◌≡◌, ◌<◌, ◌≤◌, ◌+◌, ℕ, ℤ, pos, nat_eq, cond, List, [], ◌∷◌, ◌++◌, length, map, slice_get, unwrap_or, Option, Some, None, refl, sym, ap, ◌∙◌, arith, length-append, add-zero}
+use Rattle.std.proofs.Common.{◌≡◌, ◌+◌, ℕ, ℤ, pos, nat_eq, cond, List, [], ◌∷◌, ◌++◌, length, slice_get, unwrap_or, Option, Some, refl, sym, ap, ◌∙◌, arith, length-append, add-zero}
 use Rattle.std.proofs.lemmas.List.{append-nil, length-map}
 use Rattle.rb_syntax.specs.Tree.{Tree}
-use Rattle.rb_world.specs.Kind.{Ends, Kind, Want, NothingLeft, SendsOn, ReceivesOn, MayReceiveOn, Enters, Starts, Acts}
+use Rattle.rb_world.specs.Kind.{Want, NothingLeft, SendsOn, ReceivesOn, MayReceiveOn, Enters, Starts, Acts}
 use Rattle.rb_world.proofs.Erasable.{IsFront, Moves, Parts, plain, receives_on, sends_by, takes_by, takes_if, whole}
 use Rattle.rb_world.proofs.ListFacts.{none_some, some_same}
 use Rattle.rb_meaning.specs.Environment.{Environment}
 use Rattle.rb_meaning.specs.State.{State, settle, with_held, with_kept}
-use Rattle.rb_meaning.specs.Step.{Nothing, enter, step, wants_first}
+use Rattle.rb_meaning.specs.Step.{enter, step, wants_first}
 use Rattle.rb_meaning.specs.Groups.{channels_of, ends_of, groups_of}
 use Rattle.rb_meaning.specs.Meaning.{message_number, sent_on, taken_on, tree_kind}
 use Rattle.rb_meaning.specs.PlainRun.{EntryPoint, entry_point, plain_kind}
@@ -69,7 +69,7 @@ module _ (tree : Tree) (message : Option ℤ) (s t : State) where
   front_by fronts = record {
     shorter = λ c.
         let e : length (list_on t.sent c) ≡ length (list_on s.sent c) + length (fronts c).0 =
-            ap length (fronts c).1 ∙ length-append (list_on s.sent c) (fronts c).0 in
+        ap length (fronts c).1 ∙ length-append (list_on s.sent c) (fronts c).0 in
         omega (arith, e);
     same = λ c n below.
         ap (λ xs. unwrap_or (slice_get xs n) (pos 0)) (fronts c).1

@@ -7,4 +7,5 @@ pub mod Nesting
 pub mod Meaning
 pub mod PlainRun
 pub mod Laws
+pub mod LevelsLeft
 pub mod Rows
