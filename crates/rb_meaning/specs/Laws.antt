@@ -8,11 +8,12 @@ use Rattle.rb_base.specs.declared.event.Event.{Event}
 use Rattle.rb_base.specs.declared.event.Event.TheVariants.{Reject, RejectAll, Error, Pass, Done}
 use Rattle.rb_base.specs.declared.event.TurnKind.TheVariants.{Undone}
 use Rattle.rb_syntax.specs.Tree.{RecoveryBlock, Tree}
-use Rattle.rb_world.specs.Kind.{Ends}
-use Rattle.rb_world.specs.World.{Level, Process, is_inside, last_of, process_levels}
+use Rattle.rb_world.specs.Kind.{Ends, Kind}
+use Rattle.rb_world.specs.World.{Level, Process, World, is_inside, last_of, process_levels}
 use Rattle.rb_world.specs.Channels.{seen_copy, seen_count}
 use Rattle.rb_world.specs.Reject.{next_alternate}
-use Rattle.rb_world.specs.Turn.{Told, is_last_of, stands_there, turn}
+use Rattle.rb_world.specs.Turn.{Told, is_last_of, opening, run, stands_there, turn}
+use Rattle.rb_world.specs.Slots.{Slots, AllLieInSlots, from_slots, with_slots, zero_slots}
 use Rattle.rb_world.specs.Plain.{Ended}
 use Rattle.rb_world.specs.Standing.{is_failed}
 use Rattle.rb_world.specs.Nested.{AreNested}
@@ -20,7 +21,8 @@ use Rattle.rb_world.specs.Erased.{Rises, numbered, released_in}
 use Rattle.rb_world.specs.Text.{outs_text, values_text}
 use Rattle.rb_meaning.specs.State.{Item, Perform, StartOf, TestOf, EndBlock, EndCall, State}
 use Rattle.rb_meaning.specs.Groups.{channels_of, facts_of, groups_of}
-use Rattle.rb_meaning.specs.Meaning.{TreeWorld, final_of, naming_of, run_of, states_of, survivors, taken_on, tree_kind}
+use Rattle.rb_meaning.specs.Step.{Nothing}
+use Rattle.rb_meaning.specs.Meaning.{TreeWorld, final_of, opening_states, naming_of, run_of, states_of, survivors, taken_on, tree_kind}
 use Rattle.rb_meaning.specs.PlainRun.{PlainWorld, plain_of, plain_text}
 use Rattle.rb_meaning.specs.Nesting.{IsNested, is_member, members_in}
 
@@ -168,3 +170,29 @@ abbrev pub FewEvents : Type 0
 FewEvents = (tree : Tree) (turns : List ℕ) (p : ℕ)
     → (length (filter is_rejection (next_turn tree turns p).1.events) ≤ 32)
     × (length tree.processes ≤ 64 → length (next_turn tree turns p).1.events ≤ 96)
+
+-- the opening of a program with a slot for each message that its channels have room for
+abbrev pub SlotWorld : Type 0
+SlotWorld = World State State (Nothing × Slots)
+
+abbrev pub slot_opening : Tree → Kind State State (Nothing × Slots) → SlotWorld
+slot_opening tree k = opening k (opening_states tree 0 tree.processes) (tt, zero_slots (channels_of tree))
+
+-- a run of the meaning with slots beside its lists, and one that reads messages from them
+abbrev pub run_with_slots : Tree → List ℕ → SlotWorld × List Told
+run_with_slots tree turns = run (with_slots (tree_kind tree)) 1 turns (slot_opening tree (with_slots (tree_kind tree)))
+
+abbrev pub run_from_slots : Tree → List ℕ → SlotWorld × List Told
+run_from_slots tree turns = run (from_slots (tree_kind tree)) 1 turns (slot_opening tree (from_slots (tree_kind tree)))
+
+-- Slots beside the messages change nothing that is told.
+abbrev pub SlotsAreUnseen : Type 0
+SlotsAreUnseen = (tree : Tree) (turns : List ℕ) → (run_of tree turns).1 ≡ (run_with_slots tree turns).1
+
+-- In every world each message that may still be asked for lies in its slot.
+abbrev pub SlotsHoldMessages : Type 0
+SlotsHoldMessages = (tree : Tree) → IsNested tree → (turns : List ℕ) → AllLieInSlots (tree_kind tree) (run_with_slots tree turns).0
+
+-- So a run that reads messages from their slots is the same.
+abbrev pub SlotsAreRead : Type 0
+SlotsAreRead = (tree : Tree) → IsNested tree → (turns : List ℕ) → run_from_slots tree turns ≡ run_with_slots tree turns

@@ -175,7 +175,11 @@ abbrev pub keeps_n10 : Tree → Use → Bool
 keeps_n10 tree one = if_speaks one.deed
     (speaks_inside tree (innermost one.spot.around) (slice_get (channels_of tree) (channel_number tree one.name.text)))
 
--- a program in which every use keeps the rules
+-- N12: a channel leads from one process to another.
+abbrev pub keeps_n12 : Ends → Bool
+keeps_n12 ends = not (nat_eq ends.sender ends.receiver)
+
+-- a program in which every use, and every channel, keeps the rules
 pub record IsNested (tree : Tree) : Type 0 where
   pub n1 : list_all (keeps_n1 tree) (uses_of tree) ≡ true
   pub n2 : list_all (keeps_n2 tree) (uses_of tree) ≡ true
@@ -183,3 +187,4 @@ pub record IsNested (tree : Tree) : Type 0 where
   pub n8 : list_all (keeps_n8 tree) (uses_of tree) ≡ true
   pub n9 : list_all (keeps_n9 tree) (uses_of tree) ≡ true
   pub n10 : list_all (keeps_n10 tree) (uses_of tree) ≡ true
+  pub n12 : list_all keeps_n12 (channels_of tree) ≡ true

@@ -66,3 +66,25 @@ pub mod SlotsHold
 pub mod SlotsSteps
 pub mod SlotsStand
 pub mod SlotsInvariant
+pub mod SlotsTheorem
+-- Erasure, the turns that a plain run keeps: what a cut shows of one process, and what a change leaves alone.
+pub mod ShownOlder
+pub mod MailKept
+pub mod ConsistentCuts
+pub mod TurnShown
+-- Entries, private acceptances, and members that come to a test line.
+pub mod OpensShown
+pub mod LastLevels
+pub mod HoldsShown
+pub mod AcceptsShown
+pub mod LinesShown
+pub mod StandsShown
+-- All members leave a conversation together.
+pub mod NestedSame
+pub mod LeavingCuts
+pub mod LeavingTogether
+pub mod LeavesUnseen
+pub mod LeavesKept
+pub mod LeavesShown
+-- Erasure put together.
+pub mod ErasureTheorem
