@@ -17,3 +17,5 @@ pub mod StartsAndEntries
 pub mod TreeErasable
 -- The laws of the meaning.
 pub mod TreeLaws
+pub mod TreeErasure
+pub mod ErasedText
