@@ -79,6 +79,7 @@ no_levels [] e = refl
 no_levels (level ∷ levels) e = absurd (onto-some level.facts [] (facts_in levels) e)
 
 module _ (tree : Tree) (p : ℕ) (q : Process State State) (known : Known tree p q) (running : q.status ≡ Running) (away : q.at_line ≡ false) where
+  -- the alternate that it starts is one of its level's block
   pub starts_there : (alternate : ℕ) (prior : Option Environment) (message : Option ℤ) (s : State) → wants_first tree q.state.items ≡ Starts
       → step tree alternate prior q.state message ≡ Went s tt → (1 ≤ alternate) × (alternate ≤ alternates_of (last_of q.levels))
   starts_there alternate prior message s w went =
@@ -90,6 +91,7 @@ module _ (tree : Tree) (p : ℕ) (q : Process State State) (known : Known tree p
       (start_there tree alternate first.block first.rest q.state s chosen refl
       (ap (step_items tree alternate prior q.state message) (sym first.is) ∙ went))
 
+  -- who enters such a conversation has no level
   pub outermost_alone : (facts : Facts) (c : ℕ) → wants_first tree q.state.items ≡ Enters facts → facts.conversation ≡ Some c
       → parent_of (slice_get (groups_of tree) c) ≡ None → q.levels ≡ []
   outermost_alone facts c w of_c alone =
