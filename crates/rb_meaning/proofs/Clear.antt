@@ -64,6 +64,7 @@ pub kept_first : (tree : Tree) (xs ys : List Use) → AreKept tree (xs ++ ys) �
 kept_first tree xs ys e =
     first_holds (list_all (keeps_rules tree) xs) (list_all (keeps_rules tree) ys) (sym (list_all-append (keeps_rules tree) xs ys) ∙ e)
 
+-- the uses of the second part
 pub kept_second : (tree : Tree) (xs ys : List Use) → AreKept tree (xs ++ ys) → AreKept tree ys
 kept_second tree xs ys e =
     second_holds (list_all (keeps_rules tree) xs) (list_all (keeps_rules tree) ys) (sym (list_all-append (keeps_rules tree) xs ys) ∙ e)
@@ -73,10 +74,12 @@ pub spot_performed : (p : ℕ) (commands : Commands) (rest : List Item) → spot
 spot_performed p NoCommand rest = refl
 spot_performed p (Then first commands) rest = spot_performed p commands rest
 
+-- they leave the same blocks
 pub blocks_performed : (commands : Commands) (rest : List Item) → blocks_left (performed commands rest) ≡ blocks_left rest
 blocks_performed NoCommand rest = refl
 blocks_performed (Then first commands) rest = blocks_performed commands rest
 
+-- they keep the rules, and so does what was left
 pub clear_performed : (tree : Tree) (p : ℕ) (commands : Commands) (rest : List Item) → AreKept tree (uses_in (spot_before p rest) commands)
     → AreClear tree p rest → AreClear tree p (performed commands rest)
 clear_performed tree p NoCommand rest kept clear = clear
@@ -96,6 +99,7 @@ clear_settled tree p (TestOf block ∷ items) env clear = clear
 clear_settled tree p (EndBlock ∷ items) env clear = clear_settled tree p items (pop_frame env) clear.1
 clear_settled tree p (EndCall ∷ items) env clear = clear_settled tree p items (pop_call env) clear.1
 
+-- the blocks that are left stay
 pub blocks_settled : (items : List Item) (env : Environment) → blocks_left (settle_items items env).0 ≡ blocks_left items
 blocks_settled [] env = refl
 blocks_settled (Perform command ∷ items) env = refl

@@ -47,6 +47,7 @@ module _ (tree : Tree) (p : ℕ) where
   command_sends c ends rest Failure clear w at = absurd cc
   command_sends c ends rest (Recovering block) clear w at = absurd cc
 
+  -- of what stands first, the sender
   pub first_sends : (c : ℕ) (ends : Ends) (items : List Item) → AreClear tree p items → wants_first tree items ≡ SendsOn c
       → slice_get (channels_of tree) c ≡ Some ends → ends.sender ≡ p
   first_sends c ends [] clear w at = absurd cc
@@ -76,6 +77,7 @@ module _ (tree : Tree) (p : ℕ) where
   command_receives c ends rest Failure clear w at = absurd (none_some w)
   command_receives c ends rest (Recovering block) clear w at = absurd (none_some w)
 
+  -- and the receiver
   pub first_receives : (c : ℕ) (ends : Ends) (items : List Item) → AreClear tree p items → receives_on (wants_first tree items) ≡ Some c
       → slice_get (channels_of tree) c ≡ Some ends → ends.receiver ≡ p
   first_receives c ends [] clear w at = absurd (none_some w)

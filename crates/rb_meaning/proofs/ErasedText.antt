@@ -52,5 +52,6 @@ text_of_erased tree turns erased =
         (outs_released names erased.lines ∙ ap (flat_map (released_line names)) erased.released ∙ sym (outs_released names (numbered 1 (run_of tree turns).1)))
         (ap (values_by tree) erased.states)
 
+-- so the text of the plain run is that of what was released, and of the values
 pub erasure_in_text : ErasureInText
 erasure_in_text tree nested turns = text_of_erased tree turns (erasure tree nested turns)

@@ -10,6 +10,7 @@ abbrev pub onto : {A : Type 0} → List A → List A → List A
 onto others [] = others
 onto others (x ∷ xs) = onto (x ∷ others) xs
 
+-- one more at the end comes first
 pub onto-more : {A : Type 0} (others xs : List A) (y : A) → onto others (xs ++ y ∷ []) ≡ y ∷ onto others xs
 onto-more others [] y = refl
 onto-more others (x ∷ xs) y = onto-more (x ∷ others) xs y
@@ -25,6 +26,7 @@ pub onto-some : {A : Type 0} (x : A) (others xs : List A) → [] ≡ onto (x ∷
 onto-some x others [] e = cc
 onto-some x others (y ∷ xs) e = onto-some y (x ∷ others) xs e
 
+-- it is the reverse
 pub onto-reverse : {A : Type 0} (others xs : List A) → onto others xs ≡ reverse xs ++ others
 onto-reverse others [] = refl
 onto-reverse others (x ∷ xs) =

@@ -45,15 +45,18 @@ inside_left tree (level ∷ levels) (TestOf block ∷ items) e = refl
 inside_left tree (level ∷ levels) (EndBlock ∷ items) e = refl
 inside_left tree (level ∷ levels) (EndCall ∷ items) e = refl
 
+-- who runs may have levels
 pub inside_running : (levels : List (Level State)) (status : Status) → status ≡ Running → RunsInside levels status
 inside_running [] status e = tt
 inside_running (level ∷ levels) status e = e
 
+-- who has level number j runs
 pub running_inside : (levels : List (Level State)) (status : Status) (j : ℕ) (level : Level State) → RunsInside levels status
     → slice_get levels j ≡ Some level → status ≡ Running
 running_inside [] status j level inside e = absurd (none_some e)
 running_inside (l ∷ levels) status j level inside e = inside
 
+-- who has an innermost level of conversation c runs
 pub running_last : (levels : List (Level State)) (status : Status) (c : ℕ) → RunsInside levels status → is_last_of c (last_of levels) ≡ true → status ≡ Running
 running_last [] status c inside e = absurd (true≢false (sym e))
 running_last (level ∷ levels) status c inside e = inside
@@ -86,6 +89,7 @@ entered_command tree (Invocation procedure arguments) rest facts w = absurd cc
 entered_command tree Failure rest facts w = absurd cc
 entered_command tree (Recovering block) rest facts w = record { block = block; rest = rest; is = refl; facts_are = cc }
 
+-- what stands first where a block is entered
 pub entered_block : (tree : Tree) (items : List Item) (facts : Facts) → wants_first tree items ≡ Enters facts → IsEntered tree items facts
 entered_block tree [] facts w = absurd cc
 entered_block tree (Perform command ∷ rest) facts w = entered_command tree command rest facts w
@@ -95,6 +99,7 @@ entered_block tree (EndBlock ∷ rest) facts w = absurd cc
 entered_block tree (EndCall ∷ rest) facts w = absurd cc
 
 module _ (tree : Tree) (p : ℕ) where
+  -- settling keeps a state of process p
   pub own_settled : (s : State) → IsOwn tree p s → IsOwn tree p (settle s)
   own_settled s own = record {
     process = own.process;
@@ -103,6 +108,7 @@ module _ (tree : Tree) (p : ℕ) where
     taken = own.taken;
   }
 
+  -- and so does a step
   pub own_continues : (blocks : List RecoveryBlock) (s t : State) → IsOwn tree p s → Continues tree p blocks s t → IsOwn tree p t
   own_continues blocks s t own next = record {
     process = next.process ∙ own.process;
@@ -111,6 +117,7 @@ module _ (tree : Tree) (p : ℕ) where
     taken = next.taken ∙ own.taken;
   }
 
+  -- and so does a turn that is kept
   pub own_kept : (kept : List (ℕ × ℕ)) (s : State) → IsOwn tree p s → IsOwn tree p (with_kept kept s)
   own_kept kept s own = record { process = own.process; clear = own.clear; sent = own.sent; taken = own.taken }
 
@@ -124,6 +131,7 @@ module _ (tree : Tree) (p : ℕ) where
     taken = own.taken;
   }
 
+  -- the block that is entered is left from then on
   pub left_entered : (items : List Item) (facts : Facts) → IsEntered tree items facts → facts_left tree (entered_items items) ≡ facts ∷ facts_left tree items
   left_entered items facts entry =
       ap (λ (xs : List Item). facts_left tree (entered_items xs)) entry.is
@@ -135,6 +143,7 @@ module _ (tree : Tree) (p : ℕ) where
       → facts_left tree s.items ≡ onto [] (facts_in levels) → Known tree p (goes_on (tree_kind tree) s levels)
   known_goes s levels own points e = record { own = own; points = points; left = λ _. e; inside = inside_left tree levels s.items e }
 
+  -- the same once ends of blocks and calls were taken away
   pub known_settled : (s : State) (levels : List (Level State)) → IsOwn tree p s → ArePoints tree p [] levels
       → facts_left tree s.items ≡ onto [] (facts_in levels) → Known tree p (settled (tree_kind tree) s levels)
   known_settled s levels own points e =

@@ -99,6 +99,7 @@ module _ (tree : Tree) (procedures : (p : ℕ) → HasClearProcedures tree p) wh
       ∙ ap (λ b. onto [] (with_test b (facts_in q.levels))) line
       ∙ ap (onto []) (front-map (λ (l : Level State). l.facts) q.levels))
 
+  -- all changes of a process keep what is known of it
   pub known_kept : KeepsEach (tree_kind tree) (Known tree)
   known_kept = record {
     counts = λ p q known. known_changed p q (map one_used q.levels) known (points_used tree p [] q.levels known.points) (facts_used q.levels);

@@ -76,12 +76,14 @@ module _ (tree : Tree) (p : ℕ) where
   has_outside None levels i level at begins = outside_none levels i level at begins
   has_outside (Some d) levels i level at begins = outside_some d levels i level at begins
 
+  -- each level of a conversation has its parent's level just outside it
   pub levels_nest : (levels : List (Level State)) → ArePoints tree p [] levels → AreNested (groups_of tree) levels
   levels_nest levels points i c at =
       let joined = level_joined levels c i points at in
       has_outside (parent_of (slice_get (groups_of tree) c)) levels i at.level at.there
       (subst (BeginWith (parent_of (slice_get (groups_of tree) c))) joined.left (around_join tree p c joined.rest joined.well))
 
+  -- a level of a conversation is a member's
   pub levels_of_members : (levels : List (Level State)) (i c : ℕ) → ArePoints tree p [] levels → IsLevelOf c levels i
       → is_member p (members_in tree c) ≡ true
   levels_of_members levels i c points at = (level_joined levels c i points at).well.member

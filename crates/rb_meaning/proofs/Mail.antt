@@ -43,6 +43,7 @@ front_of_sent zero (suc c) v (x ∷ xs) = ([], sym (append-nil (list_on xs c)))
 front_of_sent (suc d) zero v (x ∷ xs) = ([], sym (append-nil x))
 front_of_sent (suc d) (suc c) v (x ∷ xs) = front_of_sent d c v xs
 
+-- what the front of a list has, the list has
 pub slice_get-front : {A : Type 0} (xs rest : List A) (n : ℕ) → n < length xs → slice_get (xs ++ rest) n ≡ slice_get xs n
 slice_get-front [] rest n below = absurd (omega arith)
 slice_get-front (x ∷ xs) rest zero below = refl

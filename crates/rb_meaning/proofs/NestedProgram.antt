@@ -60,6 +60,7 @@ processes_kept tree p (suc r) n (one ∷ processes) process e kept at =
     (kept_second tree (uses_in (outside p false) one.commands) (uses_in_processes (p + 1) processes)
     (kept_second tree (uses_in_procedures p one.procedures) (uses_in (outside p false) one.commands ++ uses_in_processes (p + 1) processes) kept)) at
 
+-- each process of a nested program
 pub process_kept : (tree : Tree) → IsNested tree → (n : ℕ) (process : ProcessDeclaration) → slice_get tree.processes n ≡ Some process → IsProcessKept tree n process
 process_kept tree nested n process at = processes_kept tree 0 n n tree.processes process (omega arith) (uses_kept tree nested) at
 
@@ -85,6 +86,7 @@ found_kept tree nested n x procedure None at e = absurd (none_some e)
 found_kept tree nested n x procedure (Some process) at e =
     among_kept tree n x process.procedures procedure (process_kept tree nested n process at).procedures e
 
+-- the procedures of each process of a nested program
 pub procedures_kept : (tree : Tree) → IsNested tree → (p : ℕ) → HasClearProcedures tree p
 procedures_kept tree nested p x procedure e = found_kept tree nested p x procedure (slice_get tree.processes p) refl e
 
@@ -112,6 +114,7 @@ openings_known tree p zero n (process ∷ processes) s e each at =
 openings_known tree p (suc r) n (process ∷ processes) s e each at =
     openings_known tree (p + 1) r n processes s (omega (arith, e)) each at
 
+-- what is known of a process holds in the opening state
 pub known_opening : (tree : Tree) → IsNested tree → (r : ℕ) (s : State) → slice_get (opening_states tree 0 tree.processes) r ≡ Some s
     → Known tree r (settled (tree_kind tree) s [])
 known_opening tree nested r s at =

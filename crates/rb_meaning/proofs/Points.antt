@@ -51,16 +51,19 @@ pub facts_used : (levels : List (Level State)) → facts_in (map one_used levels
 facts_used [] = refl
 facts_used (level ∷ levels) = ap (λ x. level.facts ∷ x) (facts_used levels)
 
+-- the next alternate changes no facts
 pub facts_raised : (j : ℕ) (levels : List (Level State)) → facts_in (change_at j next_alternate levels) ≡ facts_in levels
 facts_raised j [] = refl
 facts_raised zero (level ∷ levels) = refl
 facts_raised (suc j) (level ∷ levels) = ap (λ x. level.facts ∷ x) (facts_raised j levels)
 
 module _ (tree : Tree) (p : ℕ) where
+  -- turns used leave recovery points as they are
   pub points_used : (outer : List Facts) (levels : List (Level State)) → ArePoints tree p outer levels → ArePoints tree p outer (map one_used levels)
   points_used outer [] points = tt
   points_used outer (level ∷ levels) points = (points.0, points_used (level.facts ∷ outer) levels points.1)
 
+  -- and so does the next alternate
   pub points_raised : (outer : List Facts) (j : ℕ) (levels : List (Level State)) → ArePoints tree p outer levels
       → ArePoints tree p outer (change_at j next_alternate levels)
   points_raised outer j [] points = tt

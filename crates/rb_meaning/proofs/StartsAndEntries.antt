@@ -87,6 +87,7 @@ failed_bare [] status inside failed = refl
 failed_bare (level ∷ levels) status inside failed = absurd (true≢false (sym failed ∙ ap is_failed inside))
 
 module _ (tree : Tree) (p : ℕ) (q : Process State State) (known : Known tree p q) (away : q.at_line ≡ false) where
+  -- the alternate that it starts is one of its level's block
   pub starts_there : (alternate : ℕ) (prior : Option Environment) (message : Option ℤ) (s : State) → q.status ≡ Running → wants_first tree q.state.items ≡ Starts
       → step tree alternate prior q.state message ≡ Went s tt → (1 ≤ alternate) × (alternate ≤ alternates_of (last_of q.levels))
   starts_there alternate prior message s running w went =
@@ -113,6 +114,7 @@ module _ (tree : Tree) (p : ℕ) (q : Process State State) (known : Known tree p
   bare_if false e none =
       no_levels q.levels (sym none ∙ known.left e ∙ ap (λ line. onto [] (with_test line (facts_in q.levels))) away)
 
+  -- who enters such a conversation has no level
   pub outermost_alone : (facts : Facts) (c : ℕ) → wants_first tree q.state.items ≡ Enters facts → facts.conversation ≡ Some c
       → parent_of (slice_get (groups_of tree) c) ≡ None → q.levels ≡ []
   outermost_alone facts c w of_c alone = bare_if (is_failed q.status) refl (none_around facts c w of_c alone)

@@ -27,14 +27,17 @@ StepsTo P Q (Trapped cause) = Unit {0}
 StepsTo P Q (Went s memory) = P s
 StepsTo P Q (Held s) = Q s
 
+-- a step that goes on from a value
 pub then_ends : {A : Type 0} (P : State → Type 0) (r : Result A Cause) (f : A → Result State Cause) → ((a : A) → EndsIn P (f a)) → EndsIn P (and_then r f)
 then_ends P (Ok a) f each = each a
 then_ends P (Err cause) f each = tt
 
+-- a step that is one of two
 pub either_ends : (P : State → Type 0) (test : Bool) (r r' : Result State Cause) → EndsIn P r → EndsIn P r' → EndsIn P (cond test r r')
 either_ends P true r r' h h' = h
 either_ends P false r r' h h' = h'
 
+-- a step that holds no test
 pub step_ends : (P Q : State → Type 0) (r : Result State Cause) → EndsIn P r → StepsTo P Q (goes r)
 step_ends P Q (Ok s) h = h
 step_ends P Q (Err cause) h = tt

@@ -56,6 +56,7 @@ module _ (tree : Tree) where
   passes_alone : (s t : State) → IsPassed (wants_first tree s.items) s t → LeavesAlone (parts_of tree) s t
   passes_alone s t passed = record { mail = mail_same s t passed.sent passed.taken; held = passed.held; kept = passed.kept }
 
+  -- all that erasure asks
   pub erasable : IsErasable (parts_of tree) (Known tree)
   erasable = record {
     point_environment = λ s. refl;

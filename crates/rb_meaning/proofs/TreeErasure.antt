@@ -52,6 +52,7 @@ opens_erasably tree nested = record {
 survivors_are : {C M : Type 0} (w : World State C M) → survivors_of (map (λ q. q.state.kept) w.processes) ≡ survivors w
 survivors_are w = ap survivors_of (sym (map-map (λ (s : State). s.kept) (λ (q : Process State _). q.state) w.processes))
 
+-- what survived a run, run alone, ends the same
 pub erasure : Erasure
 erasure tree nested turns =
     let w : TreeWorld = (run_of tree turns).0 in
@@ -79,6 +80,7 @@ between_two : (tree : Tree) → IsNested tree → AreBetweenTwo (channels_of tre
 between_two tree nested c ends at same =
     true≢false (sym (channel_kept (channels_of tree) c ends nested.n12 at) ∙ ap not (eq-eqb ends.sender ends.receiver (sym same)))
 
+-- a receiver has never taken more than it can see
 pub nothing_taken_back : NothingTakenBack
 nothing_taken_back tree nested turns c ends sender receiver channel there there' =
     receipts_stand (known_kept tree (procedures_kept tree nested)) (erasable tree) (between_two tree nested) (opens_erasably tree nested) turns

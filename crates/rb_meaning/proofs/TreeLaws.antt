@@ -27,6 +27,7 @@ facts_with_test : (line : Bool) (levels : List (Level State)) → facts_in (with
 facts_with_test true levels = sym (front-map (λ (level : Level State). level.facts) levels)
 facts_with_test false levels = refl
 
+-- the levels of every process of a run are nested, and are those of what is left
 pub levels_are_nested : LevelsNest
 levels_are_nested tree nested turns r q at =
     let known = run_known tree nested turns r q at in (

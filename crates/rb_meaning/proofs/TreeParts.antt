@@ -37,9 +37,11 @@ parts_of tree = record {
   point_taken = λ point c. unwrap_or (slice_get point.taken c) 0;
 }
 
+-- the kind with whole recovery points is the meaning's
 pub whole_parts : (tree : Tree) → whole (parts_of tree) ≡ tree_kind tree
 whole_parts tree = refl
 
+-- the plain kind is that of plain runs
 pub plain_parts : (tree : Tree) → plain (parts_of tree) ≡ plain_kind tree
 plain_parts tree = refl
 
