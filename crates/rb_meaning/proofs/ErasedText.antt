@@ -1,20 +1,17 @@
 -- Erasure in text: the lines of a plain run tell what was released, and its values what the states are.
 -- All of it is this project's own.
-use Rattle.std.proofs.Common.{◌≡◌, ℕ, ◌+◌, List, [], ◌∷◌, ◌++◌, map, codes, decimal, Result, Ok, Err, refl, sym, ap, ap₂, ◌∙◌}
+use Rattle.std.proofs.Common.{◌≡◌, ℕ, ◌+◌, List, [], ◌∷◌, ◌++◌, map, codes, decimal, Ok, refl, sym, ap, ap₂, ◌∙◌}
 use Rattle.std.specs.List.{flat_map}
 use Rattle.std.proofs.lemmas.List.Folds.{flat_map-map}
 use Rattle.std.proofs.lemmas.List.Concat.{flat_map-append}
 use Rattle.rb_syntax.specs.Tree.{Tree}
-use Rattle.rb_world.specs.World.{World}
 use Rattle.rb_world.specs.Turn.{Told}
-use Rattle.rb_world.specs.Plain.{Ended}
 use Rattle.rb_world.specs.Erased.{Released, numbered, released_from, released_in}
 use Rattle.rb_world.specs.Text.{Naming, channel_lines, line_of, out_lines, outs_text, process_word, value_lines, values_text}
 use Rattle.rb_meaning.specs.Environment.{global_words}
 use Rattle.rb_meaning.specs.State.{State}
 use Rattle.rb_meaning.specs.Groups.{channels_of}
-use Rattle.rb_meaning.specs.Meaning.{count_sent, count_taken, final_of, naming_of, run_of, states_of, survivors}
-use Rattle.rb_meaning.specs.Nesting.{IsNested}
+use Rattle.rb_meaning.specs.Meaning.{count_sent, count_taken, final_of, naming_of, run_of, survivors}
 use Rattle.rb_meaning.specs.PlainRun.{plain_of, plain_text_at}
 use Rattle.rb_meaning.specs.Laws.{ErasureInText, IsErased}
 use Rattle.rb_meaning.proofs.TreeErasure.{erasure}
@@ -49,8 +46,8 @@ text_of_erased tree turns erased =
     let names : Naming = naming_of tree in
     ap (plain_text_at tree) erased.ran
     ∙ ap₂ (λ (a b : List ℕ). Ok (a ++ b))
-        (outs_released names erased.lines ∙ ap (flat_map (released_line names)) erased.released ∙ sym (outs_released names (numbered 1 (run_of tree turns).1)))
-        (ap (values_by tree) erased.states)
+    (outs_released names erased.lines ∙ ap (flat_map (released_line names)) erased.released ∙ sym (outs_released names (numbered 1 (run_of tree turns).1)))
+    (ap (values_by tree) erased.states)
 
 -- so the text of the plain run is that of what was released, and of the values
 pub erasure_in_text : ErasureInText

@@ -2,10 +2,9 @@
 -- Both are said of a process that stands at no test line, since there what stands first lies outside the innermost level; and
 -- the first of one that runs, since one that failed has no level, whatever is left of its text.
 -- All of it is this project's own.
-use Rattle.std.proofs.Common.{◌≡◌, ◌≤◌, ◌+◌, ℕ, ℤ, zero, suc, Bool, true, false, List, [], ◌∷◌, map, slice_get, Option, Some, None, Result, Ok, Err, refl, sym, ap, ◌∙◌, subst, arith, true≢false}
-use Rattle.rb_base.specs.declared.event.Cause.{Cause}
+use Rattle.std.proofs.Common.{◌≡◌, ◌≤◌, ℕ, ℤ, zero, suc, Bool, true, false, List, [], ◌∷◌, slice_get, Option, Some, None, refl, sym, ap, ◌∙◌, subst, arith, true≢false}
 use Rattle.rb_syntax.specs.Tree.{Command, Assignment, Printing, Sending, Receiving, Conditional, Loop, Invocation, Failure, Recovering, Body, Otherwise, NoElse, Else, RecoveryBlock, Recovers, Alternates, NoAlternate, Alternate, Tree}
-use Rattle.rb_world.specs.Kind.{Facts, Starts, Enters, Went, Stepped}
+use Rattle.rb_world.specs.Kind.{Facts, Starts, Enters, Went}
 use Rattle.rb_world.specs.World.{Level, Status, Running, Process, last_of}
 use Rattle.rb_world.specs.Reject.{parent_of}
 use Rattle.rb_world.specs.Plain.{alternates_of}

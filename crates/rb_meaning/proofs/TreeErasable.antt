@@ -1,14 +1,14 @@
 -- Trees meet what erasure asks of a kind of process state.
 -- All of it is this project's own.
-use Rattle.std.proofs.Common.{◌≡◌, ◌≤◌, ℕ, zero, suc, ℤ, pos, Bool, true, false, List, [], ◌∷◌, ◌++◌, length, map, option_map, slice_get, unwrap_or, Option, Some, None, refl, sym, ap, ◌∙◌, subst, true≢false}
+use Rattle.std.proofs.Common.{◌≡◌, ℕ, zero, suc, ℤ, pos, List, [], ◌∷◌, length, map, slice_get, unwrap_or, Option, refl, sym, ap, subst}
 use Rattle.rb_syntax.specs.Tree.{Tree}
-use Rattle.rb_world.specs.Kind.{Acts, Went, Held}
-use Rattle.rb_world.specs.World.{Level, Process, World, last_of}
+use Rattle.rb_world.specs.Kind.{Went, Held}
+use Rattle.rb_world.specs.World.{last_of}
 use Rattle.rb_world.specs.Turn.{copy_of}
-use Rattle.rb_world.proofs.Erasable.{IsErasable, LeavesAlone, Moves, SameMail, Nothing}
+use Rattle.rb_world.proofs.Erasable.{IsErasable, LeavesAlone, SameMail}
 use Rattle.rb_meaning.specs.Environment.{Environment}
 use Rattle.rb_meaning.specs.State.{State, settle, with_held}
-use Rattle.rb_meaning.specs.Step.{Result_of_step, enter, step, step_items, wants_first}
+use Rattle.rb_meaning.specs.Step.{Result_of_step, enter, step, wants_first}
 use Rattle.rb_meaning.specs.Meaning.{environment_of}
 use Rattle.rb_meaning.proofs.Ends.{first_receives, first_sends}
 use Rattle.rb_meaning.proofs.Known.{Known}

@@ -1,25 +1,24 @@
 -- Erasure for trees: what survived a run of a nested program, run alone, ends the same; and no receipt stands whose message was
 -- taken back.
 -- All of it is this project's own.
-use Rattle.std.proofs.Common.{◌≡◌, ◌≤◌, ◌≢◌, ◌+◌, ℕ, zero, suc, nat_eq, Bool, true, false, not, List, [], ◌∷◌, map, replicate, slice_get, unwrap_or, Option, Some, None, refl, sym, ap, ◌∙◌, subst, true≢false}
+use Rattle.std.proofs.Common.{◌≡◌, ◌+◌, ℕ, zero, suc, true, not, List, [], ◌∷◌, map, replicate, slice_get, unwrap_or, Some, refl, sym, ap, ◌∙◌, subst, true≢false}
 use Rattle.std.proofs.lemmas.Bool.{eq-eqb}
 use Rattle.std.proofs.lemmas.Simd.{map-map}
 use Rattle.std.specs.List.{list_all}
 use Rattle.rb_syntax.specs.Tree.{ProcessDeclaration, Tree}
 use Rattle.rb_world.specs.Kind.{Ends}
 use Rattle.rb_world.specs.World.{Process, World}
-use Rattle.rb_world.specs.Turn.{Told, opening}
-use Rattle.rb_world.specs.Plain.{Ended, PlainEnd, plain_run, survivors_of}
+use Rattle.rb_world.specs.Turn.{opening}
+use Rattle.rb_world.specs.Plain.{Ended, plain_run, survivors_of}
 use Rattle.rb_world.specs.Erased.{Rises}
 use Rattle.rb_world.proofs.Erasure.{OpensErasably, RunsAlone}
 use Rattle.rb_world.proofs.ErasureTheorem.{receipts_stand, survivors_run_alone}
 use Rattle.rb_world.proofs.ListFacts.{first_holds, none_some, second_holds, some_same}
-use Rattle.rb_world.proofs.ReceiptsStand.{AreBetweenTwo, AreSeen}
+use Rattle.rb_world.proofs.ReceiptsStand.{AreBetweenTwo}
 use Rattle.rb_meaning.specs.State.{State}
-use Rattle.rb_meaning.specs.Step.{Nothing}
 use Rattle.rb_meaning.specs.Groups.{channels_of}
-use Rattle.rb_meaning.specs.Meaning.{TreeWorld, opening_state, opening_states, run_of, states_of, survivors, taken_on}
-use Rattle.rb_meaning.specs.PlainRun.{EntryPoint, plain_kind}
+use Rattle.rb_meaning.specs.Meaning.{TreeWorld, opening_state, opening_states, run_of, survivors, taken_on}
+use Rattle.rb_meaning.specs.PlainRun.{plain_kind}
 use Rattle.rb_meaning.specs.Nesting.{IsNested, keeps_n12}
 use Rattle.rb_meaning.specs.Laws.{Erasure, NothingTakenBack}
 use Rattle.rb_meaning.proofs.Known.{Known}
@@ -57,7 +56,7 @@ pub erasure : Erasure
 erasure tree nested turns =
     let w : TreeWorld = (run_of tree turns).0 in
     let alone : RunsAlone (parts_of tree) (opening_states tree 0 tree.processes) (run_of tree turns).1 w =
-        survivors_run_alone (known_kept tree (procedures_kept tree nested)) (erasable tree) (opens_erasably tree nested) turns in
+    survivors_run_alone (known_kept tree (procedures_kept tree nested)) (erasable tree) (opens_erasably tree nested) turns in
     record {
       world = alone.world;
       lines = alone.lines;
