@@ -5,7 +5,7 @@ use Rattle.rb_syntax.specs.Tree.{Tree}
 use Rattle.rb_world.specs.World.{Level, Status, Running, Process}
 use Rattle.rb_world.specs.Standing.{is_failed}
 use Rattle.rb_meaning.specs.State.{State}
-use Rattle.rb_meaning.specs.LevelsLeft.{with_test}
+use Rattle.rb_meaning.specs.Laws.{with_test}
 use Rattle.rb_meaning.proofs.FromInside.{onto}
 use Rattle.rb_meaning.proofs.Points.{ArePoints, IsOwn, facts_in, facts_left}
 

@@ -12,7 +12,7 @@ use Rattle.rb_meaning.specs.State.{Item, Perform, StartOf, TestOf, EndBlock, End
 use Rattle.rb_meaning.specs.Step.{enter, entered_items, wants, wants_first, wants_receipt}
 use Rattle.rb_meaning.specs.Groups.{channel_number, facts_of}
 use Rattle.rb_meaning.specs.Meaning.{tree_kind}
-use Rattle.rb_meaning.specs.LevelsLeft.{with_test}
+use Rattle.rb_meaning.specs.Laws.{with_test}
 use Rattle.rb_meaning.proofs.Clear.{AreClear, blocks_settled, clear_settled}
 use Rattle.rb_meaning.proofs.StepsKeep.{Continues}
 use Rattle.rb_meaning.proofs.FromInside.{onto, onto-front, onto-some}

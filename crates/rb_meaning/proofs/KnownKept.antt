@@ -15,7 +15,7 @@ use Rattle.rb_meaning.specs.Step.{Nothing, Result_of_step, enter, entered_items,
 use Rattle.rb_meaning.specs.Groups.{facts_of}
 use Rattle.rb_meaning.specs.Meaning.{environment_of, tree_kind}
 use Rattle.rb_meaning.specs.Laws.{blocks_left}
-use Rattle.rb_meaning.specs.LevelsLeft.{with_test}
+use Rattle.rb_meaning.specs.Laws.{with_test}
 use Rattle.rb_meaning.proofs.StepsKeep.{Continues, HasClearProcedures, Passes, StepsTo, steps_keep}
 use Rattle.rb_meaning.proofs.FromInside.{onto, onto-more}
 use Rattle.rb_meaning.proofs.Points.{ArePoints, IsOwn, IsPoint, StartsFirst, facts_in, facts_left, facts_raised, facts_used, point_at, points_front, points_more, points_raised, points_taken, points_used}

@@ -14,7 +14,7 @@ use Rattle.rb_meaning.specs.Environment.{Environment}
 use Rattle.rb_meaning.specs.State.{Item, Perform, StartOf, TestOf, EndBlock, EndCall, State}
 use Rattle.rb_meaning.specs.Groups.{channel_number, count_alternates, facts_of, groups_of}
 use Rattle.rb_meaning.specs.Step.{alternate_number, alternates_in, goes, starts_body, step, step_items, wants, wants_first, wants_receipt}
-use Rattle.rb_meaning.specs.LevelsLeft.{with_test}
+use Rattle.rb_meaning.specs.Laws.{with_test}
 use Rattle.rb_meaning.proofs.Clear.{AreClear}
 use Rattle.rb_meaning.proofs.FromInside.{onto, onto-some}
 use Rattle.rb_meaning.proofs.Points.{StartsFirst, facts_in, facts_left}

@@ -9,7 +9,7 @@ use Rattle.rb_meaning.specs.State.{State}
 use Rattle.rb_meaning.specs.Meaning.{opening_states}
 use Rattle.rb_meaning.specs.Nesting.{IsNested}
 use Rattle.rb_meaning.specs.Laws.{IsIn}
-use Rattle.rb_meaning.specs.LevelsLeft.{LevelsNest, with_test}
+use Rattle.rb_meaning.specs.Laws.{LevelsAreNested, with_test}
 use Rattle.rb_meaning.proofs.FromInside.{onto-twice}
 use Rattle.rb_meaning.proofs.Known.{Known}
 use Rattle.rb_meaning.proofs.KnownKept.{known_kept}
@@ -28,7 +28,7 @@ facts_with_test true levels = sym (front-map (λ (level : Level State). level.fa
 facts_with_test false levels = refl
 
 -- the levels of every process of a run are nested, and are those of what is left
-pub levels_are_nested : LevelsNest
+pub levels_are_nested : LevelsAreNested
 levels_are_nested tree nested turns r q at =
     let known = run_known tree nested turns r q at in (
       levels_nest tree r q.levels known.points,

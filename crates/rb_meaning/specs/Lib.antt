@@ -7,5 +7,4 @@ pub mod Nesting
 pub mod Meaning
 pub mod PlainRun
 pub mod Laws
-pub mod LevelsLeft
 pub mod Rows
