@@ -9,7 +9,7 @@ use Rattle.rb_base.specs.declared.event.Event.TheVariants.{Reject, RejectAll, Er
 use Rattle.rb_base.specs.declared.event.TurnKind.TheVariants.{Undone}
 use Rattle.rb_syntax.specs.Tree.{RecoveryBlock, Tree}
 use Rattle.rb_world.specs.Kind.{Ends, Kind}
-use Rattle.rb_world.specs.World.{Level, Process, World, is_inside, last_of, process_levels}
+use Rattle.rb_world.specs.World.{Level, Process, World, is_inside, last_of, process_levels, without_last}
 use Rattle.rb_world.specs.Channels.{seen_copy, seen_count}
 use Rattle.rb_world.specs.Reject.{next_alternate}
 use Rattle.rb_world.specs.Turn.{Told, is_last_of, opening, run, stands_there, turn}
@@ -35,15 +35,21 @@ blocks_left (TestOf block ∷ items) = block ∷ blocks_left items
 blocks_left (EndBlock ∷ items) = blocks_left items
 blocks_left (EndCall ∷ items) = blocks_left items
 
--- each start or test that is left has its level, and each level has its start or test
+-- at a test line the test of the innermost level was passed, and is no more left
+abbrev pub with_test : {A : Type 0} → Bool → List A → List A
+with_test true levels = without_last levels
+with_test false levels = levels
+
+-- each start or test that is left has its level, and each level whose test is left has its start or test
 abbrev pub HasItsLevels : Tree → Process State State → Type 0
-HasItsLevels tree q = map (λ level. level.facts) q.levels ≡ reverse (map (facts_of tree) (blocks_left q.state.items))
+HasItsLevels tree q = map (λ level. level.facts) (with_test q.at_line q.levels) ≡ reverse (map (facts_of tree) (blocks_left q.state.items))
 
 -- process number r of a world of a run
 abbrev pub IsIn : Tree → List ℕ → ℕ → Process State State → Type 0
 IsIn tree turns r q = slice_get (run_of tree turns).0.processes r ≡ Some q
 
--- Levels are nested: a level of a conversation has its parent's level just outside it.
+-- Levels are nested: a level of a conversation has its parent's level just outside it. And unless the process has failed, its
+-- levels are those of what is left.
 abbrev pub LevelsAreNested : Type 0
 LevelsAreNested = (tree : Tree) → IsNested tree → (turns : List ℕ) (r : ℕ) (q : Process State State) → IsIn tree turns r q
     → AreNested (groups_of tree) q.levels × (is_failed q.status ≡ false → HasItsLevels tree q)

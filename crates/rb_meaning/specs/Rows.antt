@@ -6,3 +6,4 @@ pub mod Values
 pub mod Messages
 pub mod Conversations
 pub mod Survivors
+pub mod Nested

@@ -2,5 +2,6 @@
 // Definitions stand in specs/, and their laws in proofs/; no code is run from here.
 #![tactic(auto)]
 
+pub mod laws;
 pub mod rows;
 pub mod together;

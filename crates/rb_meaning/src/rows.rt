@@ -6,6 +6,7 @@ ghost use Rattle.rb_meaning.specs.Rows.Limits.{TrapsInTurn, OpenCalls, CallsBefo
 ghost use Rattle.rb_meaning.specs.Rows.Values.{ShortCircuit, Division, Comparisons, IndexFirst, Scopes, Arguments, Choices, Quantified, LongRange, LongestRange, StopsEarly};
 ghost use Rattle.rb_meaning.specs.Rows.Messages.{PrivateMessage, SlotNotFree, SlotLeftOpen, RoomOutside, SeenOutside, ReceivedAgain, TwoChannels, MaybeReceived, MaybeReceivedElement, IndexOfReceipt, WaitFirst, EndOfWait};
 ghost use Rattle.rb_meaning.specs.Rows.Conversations.{OneConversation, LateMember, NestedConversation, BrokenConversation, BrokenForThree, OverrunAtTheLine, ExhaustedInside, UndoneInside, FirstAgain, FirstAgainFurther, FewerInside, PrivateInside, NotYetInside, FullChannelInside};
+ghost use Rattle.rb_meaning.specs.Rows.Nested.{ConversationIsNested, ConversationInConversationIsNested, PrivateMessageIsNested, ConverseInEnsureIsNotNested};
 ghost use Rattle.rb_meaning.specs.Rows.Survivors.{SurvivorsOfOneRejection, SurvivorsOfExhausted, SurvivorsOfAPrivateMessage, SurvivorsOfAConversation, SurvivorsOfMaybeReceived, PlainOneRejection, PlainExhausted, PlainPrivateMessage, PlainConversation, PlainNestedConversation, PlainMaybeReceived, PlainFullChannelInside, PlainNotYetInside, PlainFewerInside, PlainRecord, PlainLeftOpen, StuckAtTest, StuckWithoutAlternate, StuckWithAThirdAlternate, StuckWithAnAlternate, StuckWhenDone, StuckAtAWait, StuckAtATrap, StuckWithoutRoom, StuckAtTheLine};
 
 /// Recovery blocks of one process.
@@ -115,4 +116,12 @@ pub fn survivors()
     ensures stuck_at_a_trap { StuckAtATrap }
     ensures stuck_without_room { StuckWithoutRoom }
     ensures stuck_at_the_line { StuckAtTheLine }
+{}
+
+/// Programs that keep the rules of nesting, and one that does not.
+pub fn nested_rows()
+    ensures conversation { ConversationIsNested }
+    ensures conversation_in_conversation { ConversationInConversationIsNested }
+    ensures private_message { PrivateMessageIsNested }
+    ensures converse_in_ensure { ConverseInEnsureIsNotNested }
 {}

@@ -1,6 +1,6 @@
 -- What erasure asks of a kind of process state. The parts of a kind are given once; from them come the kind whose recovery
 -- points are whole states, and the plain kind, whose points hold lengths, numbers and the environment at entry.
-use Rattle.std.specs.Prelude.{◌≡◌, ◌<◌, ◌≤◌, ◌+◌, ℕ, ℤ, nat_eq, Bool, true, cond, List, [], ◌∷◌, ◌++◌, slice_get, Option, Some, None}
+use Rattle.std.specs.Prelude.{◌≡◌, ◌<◌, ◌≤◌, ◌+◌, ℕ, ℤ, nat_eq, Bool, true, false, cond, List, [], ◌∷◌, ◌++◌, slice_get, Option, Some, None}
 use Rattle.std.specs.Option.{option_map}
 use Rattle.std.specs.List.{list_any}
 use Rattle.rb_world.specs.Kind.{Ends, Facts, Kind, Membership, Want, NothingLeft, SendsOn, ReceivesOn, MayReceiveOn, Enters, Starts, Acts, Stepped, Trapped, Went, Held}
@@ -168,9 +168,9 @@ pub record IsErasable {S E P : Type 0} (x : Parts S E P) (Known : ℕ → Proces
   -- a test is no receipt, and no start
   pub holds_acting : (p : ℕ) (q : Process S S) (alternate : ℕ) (point : Option E) (message : Option ℤ) (s : S) → Known p q
       → x.step alternate point q.state message ≡ Held s → x.want q.state ≡ Acts
-  -- a start that goes on has an alternate of its block
+  -- a start that goes on, of who runs and stands at no line, has an alternate of its block
   pub starts : (p : ℕ) (q : Process S S) (alternate : ℕ) (point : Option E) (message : Option ℤ) (s : S) → Known p q
-      → x.want q.state ≡ Starts → x.step alternate point q.state message ≡ Went s tt
+      → q.status ≡ Running → q.at_line ≡ false → x.want q.state ≡ Starts → x.step alternate point q.state message ≡ Went s tt
       → (1 ≤ alternate) × (alternate ≤ alternates_of (last_of q.levels))
   -- channels are used by their ends
   pub sends : (p : ℕ) (q : Process S S) (c : ℕ) (ends : Ends) → Known p q → x.want q.state ≡ SendsOn c → slice_get x.channels c ≡ Some ends → ends.sender ≡ p
@@ -178,8 +178,8 @@ pub record IsErasable {S E P : Type 0} (x : Parts S E P) (Known : ℕ → Proces
   -- levels are nested, and are those of members
   pub nested : (p : ℕ) (q : Process S S) → Known p q → AreNested x.groups q.levels
   pub is_member : (p : ℕ) (q : Process S S) (i c : ℕ) → Known p q → IsLevelOf c q.levels i → list_any (nat_eq p) (members_of (slice_get x.groups c)) ≡ true
-  -- who enters a conversation that lies in no other has no level
-  pub outermost : (p : ℕ) (q : Process S S) (facts : Facts) (c : ℕ) → Known p q → x.want q.state ≡ Enters facts → facts.conversation ≡ Some c
+  -- who stands at no line and enters a conversation that lies in no other has no level
+  pub outermost : (p : ℕ) (q : Process S S) (facts : Facts) (c : ℕ) → Known p q → q.at_line ≡ false → x.want q.state ≡ Enters facts → facts.conversation ≡ Some c
       → parent_of (slice_get x.groups c) ≡ None → q.levels ≡ []
   -- who has a level runs
   pub runs : (p : ℕ) (q : Process S S) (i : ℕ) (level : Level S) → Known p q → slice_get q.levels i ≡ Some level → q.status ≡ Running

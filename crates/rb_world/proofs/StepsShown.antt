@@ -130,7 +130,7 @@ module _ {S E P : Type 0} (x : Parts S E P) where
       went_shown step =
           moves_shown f p q w v here t alternate message (Went s tt) step at
           (λ wants. alternate_given f p q w v here t alternate message (Went s tt) step
-          (laws.starts p q alternate (option_map x.environment (copy_of (last_of q.levels))) message s (here.grounded p q here.there).known wants step))
+          (laws.starts p q alternate (option_map x.environment (copy_of (last_of q.levels))) message s (here.grounded p q here.there).known at.acts.runs.running at.acts.away wants step))
 
       -- an acceptance test that holds does so in the plain run too
       pub held_shown : x.step alternate (option_map x.environment (copy_of (last_of q.levels))) q.state message ≡ Held s

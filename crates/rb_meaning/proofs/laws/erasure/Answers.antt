@@ -1,0 +1,5 @@
+use Rattle.rb_meaning.proofs.laws.erasure.Goals as goal
+use Rattle.rb_meaning.proofs.TreeErasure.{erasure}
+
+pub returns : goal.returns
+returns c = erasure
