@@ -12,12 +12,8 @@ use Rattle.rb_world.proofs.Together.{IsOrdered}
 use Rattle.rb_meaning.specs.State.{State}
 use Rattle.rb_meaning.specs.Step.{Nothing}
 use Rattle.rb_meaning.specs.Meaning.{TreeWorld, run_of, tree_kind}
-use Rattle.rb_meaning.specs.Nesting.{IsNested}
 use Rattle.rb_meaning.specs.Laws.{IsOutside, RejectionsStayInside, further_out, outermost_rejected}
-
--- every world of a run of a nested program is ordered
-abbrev pub RunsAreOrdered : Type 0
-RunsAreOrdered = (tree : Tree) → IsNested tree → (turns : List ℕ) → IsOrdered (tree_kind tree) (run_of tree turns).0
+use Rattle.rb_meaning.proofs.OrderedTrees.{runs_ordered}
 
 -- events that reject no conversation change nothing behind others
 rejected_before : (events others : List Event) → outermost_rejected others ≡ None → outermost_rejected (events ++ others) ≡ outermost_rejected events
@@ -86,11 +82,12 @@ outside_of : (conversation : Option ℕ) (q : Process State State) → IsOutside
 outside_of None q outside = tt
 outside_of (Some c) q outside = outside
 
-pub rejections_stay_inside : RunsAreOrdered → RejectionsStayInside
-rejections_stay_inside ordered tree nested turns p r q undone here other outside =
+-- an undone turn leaves everyone else alone
+pub rejections_stay_inside : RejectionsStayInside
+rejections_stay_inside tree nested turns p r q undone here other outside =
     let w : TreeWorld = (run_of tree turns).0 in
     let moved : Moved State State Nothing = move (tree_kind tree) (length turns + 1) p w in
-    let well : IsOrdered (tree_kind tree) w = ordered tree nested turns in
+    let well : IsOrdered (tree_kind tree) w = runs_ordered tree nested turns in
     let stays : StaysInside p w moved = move-stays (tree_kind tree) p w (length turns + 1) well.nested undone in
     let same : outermost_rejected (told (tree_kind tree) w moved).events ≡ stays.conversation =
     told_rejects (tree_kind tree) w moved stays.no_pass ∙ outermost_is p stays.conversation moved.rejections stays.outermost in

@@ -21,5 +21,6 @@ pub mod TreeErasure
 pub mod ErasedText
 -- What a turn rejects and tells: few events, whom a rejection leaves alone, and that members go together.
 pub mod FewInTrees
+pub mod OrderedTrees
 pub mod InsideTrees
 pub mod TogetherInTrees

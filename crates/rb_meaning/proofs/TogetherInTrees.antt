@@ -16,7 +16,7 @@ use Rattle.rb_meaning.specs.State.{State}
 use Rattle.rb_meaning.specs.Step.{Nothing}
 use Rattle.rb_meaning.specs.Meaning.{TreeWorld, run_of, tree_kind}
 use Rattle.rb_meaning.specs.Laws.{ArePutBack, BackTogether, GoTogether, IsAmong, IsEmpty, KeepTheirLevels, OutTogether, PassTogether, PassedTogether, Stay}
-use Rattle.rb_meaning.proofs.InsideTrees.{RunsAreOrdered}
+use Rattle.rb_meaning.proofs.OrderedTrees.{runs_ordered}
 
 -- an event among some is among more
 among_first : (event : Event) (events others : List Event) → IsAmong event events → IsAmong event (events ++ others)
@@ -108,7 +108,8 @@ module _ (tree : Tree) (c p : ℕ) (w : TreeWorld) (moved : Moved State State No
   go_together (AllGoBack ends back) = BackTogether ends.alternate ends.cause (end_told c ends) (put_back back)
   go_together (AllGoOut outer ends left) = OutTogether outer ends.alternate ends.cause (end_told outer ends) (is_empty left)
 
-pub passed_together : RunsAreOrdered → PassedTogether
-passed_together ordered tree nested turns c p =
+-- members pass the test line together, and go back together
+pub passed_together : PassedTogether
+passed_together tree nested turns c p =
     go_together tree c p (run_of tree turns).0 (move (tree_kind tree) (length turns + 1) p (run_of tree turns).0)
-    (move-together (tree_kind tree) c p (run_of tree turns).0 (ordered tree nested turns) (length turns + 1))
+    (move-together (tree_kind tree) c p (run_of tree turns).0 (runs_ordered tree nested turns) (length turns + 1))

@@ -39,7 +39,8 @@ none_taken zero c = refl
 none_taken (suc n) zero = refl
 none_taken (suc n) (suc c) = none_taken n c
 
-opens_erasably : (tree : Tree) → IsNested tree → OpensErasably (parts_of tree) (Known tree) (opening_states tree 0 tree.processes)
+-- what is known of the opening states of a nested program
+pub opens_erasably : (tree : Tree) → IsNested tree → OpensErasably (parts_of tree) (Known tree) (opening_states tree 0 tree.processes)
 opens_erasably tree nested = record {
   known = known_opening tree nested;
   kept = each_opening tree (λ s. s.kept ≡ []) (λ n process. refl) 0 tree.processes;

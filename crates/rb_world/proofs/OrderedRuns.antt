@@ -12,12 +12,7 @@ use Rattle.rb_world.proofs.Grounded.{grounded_kept, opening_grounded}
 use Rattle.rb_world.proofs.Erasure.{OpensErasably}
 use Rattle.rb_world.proofs.Together.{IsOrdered}
 
--- who stands at no line and enters a conversation that lies in no other has no level
-abbrev pub EntersOutermost : {S E P : Type 0} → Parts S E P → (ℕ → Process S S → Type 0) → Type 0
-EntersOutermost {S} x Known = (p : ℕ) (q : Process S S) (facts : Facts) (c : ℕ) → Known p q → q.at_line ≡ false → x.want q.state ≡ Enters facts
-    → facts.conversation ≡ Some c → parent_of (slice_get x.groups c) ≡ None → q.levels ≡ []
-
-module _ {S E P : Type 0} {x : Parts S E P} {Known : ℕ → Process S S → Type 0} (keeps : KeepsEach (whole x) Known) (laws : IsErasable x Known) (enters : EntersOutermost x Known) where
+module _ {S E P : Type 0} {x : Parts S E P} {Known : ℕ → Process S S → Type 0} (keeps : KeepsEach (whole x) Known) (laws : IsErasable x Known) where
   -- who holds no line is as it was once lines were released
   nothing_freed : (s : S) (levels : List (Level S)) (line : Bool) (status : Status) → (levels ≡ [] → x.held s ≡ [])
       → freed (whole x) (record { state = s; levels = levels; at_line = line; status = status }) ≡ record { state = s; levels = levels; at_line = line; status = status }
@@ -29,7 +24,7 @@ module _ {S E P : Type 0} {x : Parts S E P} {Known : ℕ → Process S S → Typ
   grounded_ordered w ground = record {
     nested = λ r q e. laws.nested r q (ground.each r q e).known;
     members = λ r i c q e at. laws.is_member r q i c (ground.each r q e).known at;
-    outermost = λ r c q facts e away wants of_c alone. enters r q facts c (ground.each r q e).known away wants of_c alone;
+    outermost = λ r c q facts e away wants of_c alone. laws.outermost r q facts c (ground.each r q e).known away wants of_c alone;
     broken = ground.talks;
     quiet = λ r q e. nothing_freed q.state q.levels q.at_line q.status (ground.quiet r q e);
   }

@@ -1,0 +1,5 @@
+use Rattle.rb_meaning.proofs.InsideTrees.{rejections_stay_inside as stay}
+use Rattle.rb_meaning.proofs.together.rejections_stay_inside.Goals as goal
+
+pub returns : goal.returns
+returns c = stay
