@@ -18,4 +18,5 @@ pub mod TreeErasable
 -- The laws of the meaning.
 pub mod TreeLaws
 pub mod TreeErasure
+pub mod TreeSlots
 pub mod ErasedText
