@@ -18,6 +18,7 @@ pub mod TreeErasable
 -- The laws of the meaning.
 pub mod TreeLaws
 pub mod TreeErasure
+pub mod TreeSlots
 pub mod ErasedText
 -- What a turn rejects and tells: few events, whom a rejection leaves alone, and that members go together.
 pub mod FewInTrees

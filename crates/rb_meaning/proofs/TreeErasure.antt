@@ -28,7 +28,7 @@ use Rattle.rb_meaning.proofs.TreeErasable.{erasable}
 use Rattle.rb_meaning.proofs.TreeParts.{parts_of}
 
 -- what is true of each opening state
-each_opening : (tree : Tree) (P : State → Type 0) → ((n : ℕ) (process : ProcessDeclaration) → P (opening_state tree n process))
+pub each_opening : (tree : Tree) (P : State → Type 0) → ((n : ℕ) (process : ProcessDeclaration) → P (opening_state tree n process))
     → (p : ℕ) (processes : List ProcessDeclaration) (r : ℕ) (s : State) → slice_get (opening_states tree p processes) r ≡ Some s → P s
 each_opening tree P one p [] r s e = absurd (none_some e)
 each_opening tree P one p (process ∷ processes) zero s e = subst P (some_same e) (one p process)
