@@ -10,8 +10,9 @@ use Rattle.rb_world.specs.World.{Level, Process, World, change_at, is_inside, le
 use Rattle.rb_world.specs.Reject.{Happened, after_event, all_back, exhausted_next, fallen, fallen_inside, next_alternate, parent_of, private_next, put_back, raised, reject, reject_at, reject_either, together_next, where_inside}
 use Rattle.rb_world.specs.Nested.{AreNested, HasOutside, IsLevelOf}
 use Rattle.rb_world.proofs.TurnFacts.{all_broken, all_next, all_spent}
-use Rattle.rb_world.proofs.ListFacts.{none_some, slice_get-change_at}
-use Rattle.rb_world.proofs.PlaceFacts.{conversation_out, level_inside, not_of, slice_get-elsewhere}
+use Rattle.rb_world.proofs.ListFacts.{none_some, slice_get-change_at, slice_get-change_other}
+use Rattle.rb_world.proofs.LevelFacts.{any_level}
+use Rattle.rb_world.proofs.PlaceFacts.{conversation_out, not_of}
 use Rattle.rb_world.proofs.Cascade.{AllBack, AllFallen, AllNested, Alone, AreBackAt, EndsIn, Ends, HasCome, HaveFallen, IsLast, IsOutsideOf, KeepsTalks, LeavesOthers, NoneYet, Now, OneBefore}
 use Rattle.rb_world.proofs.CascadeSteps.{InsideIt, OutsideIt, Place, changed_inside, inside_parent, is_back, place, place_found, private_come, put_back_outer, stays_outside, together_come}
 
@@ -55,7 +56,7 @@ module _ {S C M : Type 0} (k : Kind S C M) (p : ℕ) (u : Process S C) (v : Worl
       → LeavesOthers p None v (with_process p f w)
   others_stay last left w f come none r q here other outside =
       let n : Now p left last r q w = come.each r q here in
-      slice_get-elsewhere p f w.processes r other
+      slice_get-change_other p f w.processes r other
       ∙ (n.there ∙ ap Some (n.same other (subst (λ (o : Option ℕ). IsOutsideOf o q) (sym none) tt)))
 
   -- no level is left
@@ -77,7 +78,7 @@ module _ {S C M : Type 0} (k : Kind S C M) (p : ℕ) (u : Process S C) (v : Worl
             ∙ ap (option_map (raised j)) (slice_get-change_at p (put_back k j) w.processes ∙ ap (option_map (put_back k j)) n.there),
         λ i c at.
             let below : i < j = conversation_out k.groups u.levels (nested p u there) i j c level at here alone in
-            slice_get-elsewhere j next_alternate (put_back k j n.now).levels i (λ e. absurd (omega arith))
+            slice_get-change_other j next_alternate (put_back k j n.now).levels i (λ e. absurd (omega arith))
             ∙ (put_back_outer k j n.now i (omega arith) ∙ (n.outer i (omega arith) ∙ at.there)),
       )
 
@@ -88,7 +89,7 @@ module _ {S C M : Type 0} (k : Kind S C M) (p : ℕ) (u : Process S C) (v : Worl
   private_next-ends j last level w outer come here alone rest true =
       let none : last ≡ None = none_before j last level come.last_is here alone in
       Alone none tt
-      (λ r q at other outside. slice_get-elsewhere p (raised j) (change_at p (put_back k j) w.processes) r other
+      (λ r q at other outside. slice_get-change_other p (raised j) (change_at p (put_back k j) w.processes) r other
       ∙ others_stay last (suc j) w (put_back k j) come none r q at other outside)
       (private_keeps j last level w come here alone)
   private_next-ends j last level w outer come here alone rest false =
@@ -101,7 +102,7 @@ module _ {S C M : Type 0} (k : Kind S C M) (p : ℕ) (u : Process S C) (v : Worl
   outside_stays_at : (c j r : ℕ) (last : Option ℕ) (q : Process S C) (w : World S C M) (f : Process S C → Process S C)
       → (n : Now p (suc j) last r q w) → Place c j p r q n.now → ((q : Process S C) → is_inside c q ≡ false → f q ≡ q) → is_inside c q ≡ false
       → slice_get (map f (map (where_inside (put_back k) c) w.processes)) r ≡ Some q
-  outside_stays_at c j r last q w f n (InsideIt at agree) same outside = absurd (true≢false (sym (level_inside c q.levels j at) ∙ outside))
+  outside_stays_at c j r last q w f n (InsideIt at agree) same outside = absurd (true≢false (sym (any_level c j q.levels at) ∙ outside))
   outside_stays_at c j r last q w f n (OutsideIt e other now) same outside =
       twice (where_inside (put_back k) c) f w.processes r n.there
       ∙ ap Some (ap f (ap (where_inside (put_back k) c) now ∙ stays_outside (put_back k) c q outside) ∙ same q outside)
@@ -136,7 +137,7 @@ module _ {S C M : Type 0} (k : Kind S C M) (p : ℕ) (u : Process S C) (v : Worl
   all_fall c j last w come at r q here own =
       let n : Now p (suc j) last r q w = come.each r q here in
       let back : Process S C = put_back k j n.now in
-      let inside : is_inside c back ≡ true = level_inside c back.levels j (record {
+      let inside : is_inside c back ≡ true = any_level c j back.levels (record {
         level = own.level;
         there = put_back_outer k j n.now j (omega arith) ∙ (n.outer j (omega arith) ∙ own.there);
         of_it = own.of_it;

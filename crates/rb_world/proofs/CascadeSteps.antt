@@ -7,15 +7,17 @@ use Rattle.rb_world.specs.World.{Level, Process, World, change_at, is_inside, is
 use Rattle.rb_world.specs.Reject.{at_place, back_to, next_alternate, parent_of, put_back, raised, where_inside}
 use Rattle.rb_world.specs.Nested.{AreNested, HasOutside, IsLevelOf}
 use Rattle.rb_world.proofs.TurnFacts.{all_spent}
-use Rattle.rb_world.proofs.ListFacts.{length-change_at, slice_get-change_at, some_same}
-use Rattle.rb_world.proofs.PlaceFacts.{inside_level, length-take_to, level_inside, of_passes, passes_of, position_first, position_none, same_conversation, same_place, slice_get-elsewhere, slice_get-take}
+use Rattle.rb_world.proofs.ListFacts.{length-change_at, slice_get-change_at, some_same, slice_get-change_other}
+use Rattle.rb_world.proofs.NestedSame.{same_number}
+use Rattle.rb_world.proofs.LevelFacts.{any_level, one_conversation}
+use Rattle.rb_world.proofs.PlaceFacts.{inside_level, length-take_to, of_passes, passes_of, position_first, position_none, slice_get-take}
 use Rattle.rb_world.proofs.Cascade.{AllNested, HasCome, IsBackAt, IsLast, IsOutsideOf, NoneYet, Now, OneBefore}
 
 -- levels that agree with nested ones as far as a conversation's level have it as their first of the conversation
 not_before : {C : Type 0} (groups : List Membership) (c i j : ℕ) (levels : List (Level C)) (level : Level C) → AreNested groups levels → IsLevelOf c levels j
     → i < j → slice_get levels i ≡ Some level → (of_it : Bool) → is_of c level ≡ of_it → is_of c level ≡ false
 not_before groups c i j levels level nested at below there true e =
-    let same : i ≡ j = same_place groups levels levels nested nested i j c (record { level = level; there = there; of_it = passes_of c level e }) at in
+    let same : i ≡ j = same_number groups levels levels nested nested c i j (record { level = level; there = there; of_it = passes_of c level e }) at in
     absurd (omega arith)
 not_before groups c i j levels level nested at below there false e = e
 
@@ -43,7 +45,7 @@ is_back {S} {C} {M} k j q now level there agree =
     subst (λ (o : Option (Level C)). IsBackAt k j q level (raised j (back_to k j now o))) (sym here)
     (record {
       innermost = length-change_at j next_alternate (take (j + 1) now.levels) ∙ (ap (λ (n : ℕ). length (take n now.levels)) (add-one j) ∙ length-take_to j now.levels here);
-      outer = λ i below. slice_get-elsewhere j next_alternate (take (j + 1) now.levels) i (λ e. absurd (omega arith)) ∙ (slice_get-take (j + 1) now.levels i (omega arith) ∙ agree i (omega arith));
+      outer = λ i below. slice_get-change_other j next_alternate (take (j + 1) now.levels) i (λ e. absurd (omega arith)) ∙ (slice_get-take (j + 1) now.levels i (omega arith) ∙ agree i (omega arith));
       next = slice_get-change_at j next_alternate (take (j + 1) now.levels) ∙ ap (option_map next_alternate) (slice_get-take (j + 1) now.levels j (omega arith) ∙ here);
       left = k.cut (j + 1) now.state;
       state = refl;
@@ -79,14 +81,14 @@ module _ {S C M : Type 0} (k : Kind S C M) (p : ℕ) (u : Process S C) (v : Worl
   not_inside_last c d j q levels parent outside true e =
       let at : (i : ℕ) × IsLevelOf c q.levels i = inside_level c q.levels e in
       let around : (i : ℕ) × (at.0 ≡ suc i) × IsLevelOf d q.levels i = inside_parent k.groups q.levels at.0 c d levels at.1 parent in
-      absurd (true≢false (sym (level_inside d q.levels around.0 around.2) ∙ outside))
+      absurd (true≢false (sym (any_level d around.0 q.levels around.2) ∙ outside))
   not_inside_last c d j q levels parent outside false e = e
 
   outside_last : (c j : ℕ) (last : Option ℕ) (q : Process S C) → IsLast k.groups u.levels (suc j) last → IsLevelOf c u.levels j → AreNested k.groups q.levels
       → is_inside c q ≡ false → IsOutsideOf last q
   outside_last c j last q (NoneYet e none) at levels outside = subst (λ (o : Option ℕ). IsOutsideOf o q) (sym e) tt
   outside_last c j last q (OneBefore b d i e left parent around) at levels outside =
-      let same : d ≡ c = same_conversation (subst (λ (n : ℕ). IsLevelOf d u.levels n) (sym (ap pred left)) around) at in
+      let same : d ≡ c = one_conversation d c j u.levels (subst (λ (n : ℕ). IsLevelOf d u.levels n) (sym (ap pred left)) around) at in
       subst (λ (o : Option ℕ). IsOutsideOf o q) (sym e)
       (not_inside_last b c j q levels (parent ∙ ap Some same) outside (is_inside b q) refl)
 
@@ -94,11 +96,11 @@ module _ {S C M : Type 0} (k : Kind S C M) (p : ℕ) (u : Process S C) (v : Worl
       → slice_get v.processes r ≡ Some q → (n : Now p (suc j) last r q w) → (inside : Bool) → is_inside c q ≡ inside → Place c j p r q n.now
   place_of c j r last q w is at here n true e =
       let found : (i : ℕ) × IsLevelOf c q.levels i = inside_level c q.levels e in
-      InsideIt (subst (IsLevelOf c q.levels) (same_place k.groups q.levels u.levels (nested r q here) (nested p u there) found.0 j c found.1 at) found.1) n.outer
+      InsideIt (subst (IsLevelOf c q.levels) (same_number k.groups q.levels u.levels (nested r q here) (nested p u there) c found.0 j found.1 at) found.1) n.outer
   place_of c j r last q w is at here n false e =
       let other : r ≢ p = λ (same : r ≡ p).
       let own : u ≡ q = some_same (sym there ∙ (ap (slice_get v.processes) (sym same) ∙ here)) in
-      true≢false (sym (level_inside c u.levels j at) ∙ (ap (is_inside c) own ∙ e)) in
+      true≢false (sym (any_level c j u.levels at) ∙ (ap (is_inside c) own ∙ e)) in
       OutsideIt e other (n.same other (outside_last c j last q is at (nested r q here) e))
 
   pub place : (c j r : ℕ) (last : Option ℕ) (q : Process S C) (w : World S C M) → IsLast k.groups u.levels (suc j) last → IsLevelOf c u.levels j
@@ -117,7 +119,7 @@ module _ {S C M : Type 0} (k : Kind S C M) (p : ℕ) (u : Process S C) (v : Worl
   }
   private_now j r last q w n (inr other) = record {
     now = n.now;
-    there = slice_get-elsewhere p (put_back k j) w.processes r other ∙ n.there;
+    there = slice_get-change_other p (put_back k j) w.processes r other ∙ n.there;
     outer = λ i below. n.outer i (omega arith);
     same = n.same;
   }
@@ -137,7 +139,7 @@ module _ {S C M : Type 0} (k : Kind S C M) (p : ℕ) (u : Process S C) (v : Worl
     there = slice_get-map (where_inside (put_back k) c) w.processes r ∙ ap (option_map (where_inside (put_back k) c)) n.there;
     outer = λ i below. ap (λ (x : Process S C). slice_get x.levels i) (changed_inside (put_back k) c j n.now (place_found k.groups c j q.levels n.now.levels (nested r q here) at agree))
         ∙ (put_back_outer k j n.now i (omega arith) ∙ n.outer i (omega arith));
-    same = λ _ outside. absurd (true≢false (sym (level_inside c q.levels j at) ∙ outside));
+    same = λ _ outside. absurd (true≢false (sym (any_level c j q.levels at) ∙ outside));
   }
   together_now c j r last q w here n (OutsideIt outside other same) = record {
     now = n.now;

@@ -7,7 +7,9 @@ use Rattle.rb_world.specs.Kind.{Kind}
 use Rattle.rb_world.specs.World.{Process, World, is_inside}
 use Rattle.rb_world.specs.Nested.{IsLevelOf}
 use Rattle.rb_world.proofs.ListFacts.{some_same}
-use Rattle.rb_world.proofs.PlaceFacts.{PassesAt, any_found, any_none, inside_level, level_inside, same_around, same_place}
+use Rattle.rb_world.proofs.NestedSame.{same_number}
+use Rattle.rb_world.proofs.LevelFacts.{any_level}
+use Rattle.rb_world.proofs.PlaceFacts.{PassesAt, any_found, any_none, inside_level, same_around}
 use Rattle.rb_world.proofs.Cascade.{AllNested, LeavesOthers}
 use Rattle.rb_world.proofs.Together.{Carries, IsLeft, Keeps}
 use Rattle.rb_world.proofs.CountedTurns.{carries_same}
@@ -39,17 +41,17 @@ module _ {S C M : Type 0} (k : Kind S C M) (p : ℕ) (u : Process S C) (v : Worl
   where_one : (c e j r i : ℕ) (q : Process S C) → IsLevelOf e u.levels j → slice_get v.processes r ≡ Some q → IsLevelOf c q.levels i
       → (i < j) ⊎ (j ≤ i) → (inside : Bool) → is_inside e q ≡ inside → Where c e j v
   where_one c e j r i q at here own (inl below) inside is =
-      Apart (λ s i' x e' own' at'. let same : i' ≡ i = same_place k.groups x.levels q.levels (nested s x e') (nested r q here) i' i c own' own in omega arith)
+      Apart (λ s i' x e' own' at'. let same : i' ≡ i = same_number k.groups x.levels q.levels (nested s x e') (nested r q here) c i' i own' own in omega arith)
   where_one c e j r i q at here own (inr within) true is =
       let found : (n : ℕ) × IsLevelOf e q.levels n = inside_level e q.levels is in
       Within r i q here own
-      (subst (IsLevelOf e q.levels) (same_place k.groups q.levels u.levels (nested r q here) (nested p u there) found.0 j e found.1 at) found.1) within
+      (subst (IsLevelOf e q.levels) (same_number k.groups q.levels u.levels (nested r q here) (nested p u there) e found.0 j found.1 at) found.1) within
   where_one c e j r i q at here own (inr within) false is =
       Apart (λ s i' x e' own' at'.
-      let same : i' ≡ i = same_place k.groups x.levels q.levels (nested s x e') (nested r q here) i' i c own' own in
+      let same : i' ≡ i = same_number k.groups x.levels q.levels (nested s x e') (nested r q here) c i' i own' own in
       let around : IsLevelOf e q.levels j =
       same_around k.groups x.levels q.levels (nested s x e') (nested r q here) i j c e (subst (IsLevelOf c x.levels) same own') own at' within in
-      absurd (true≢false (sym (level_inside e q.levels j around) ∙ is)))
+      absurd (true≢false (sym (any_level e j q.levels around) ∙ is)))
 
   where_any : (c e j : ℕ) → IsLevelOf e u.levels j → (any : Bool) → list_any (is_inside c) v.processes ≡ any → Where c e j v
   where_any c e j at true is =
@@ -57,7 +59,7 @@ module _ {S C M : Type 0} (k : Kind S C M) (p : ℕ) (u : Process S C) (v : Worl
       let own : (i : ℕ) × IsLevelOf c one.found.levels i = inside_level c one.found.levels one.passes in
       where_one c e j one.at own.0 one.found at one.there own.1 (cases_lt own.0 j) (is_inside e one.found) refl
   where_any c e j at false is =
-      Apart (λ r i q here own at'. absurd (true≢false (sym (level_inside c q.levels i own) ∙ any_none (is_inside c) v.processes r q is here)))
+      Apart (λ r i q here own at'. absurd (true≢false (sym (any_level c i q.levels own) ∙ any_none (is_inside c) v.processes r q is here)))
 
   pub where_is : (c e j : ℕ) → IsLevelOf e u.levels j → Where c e j v
   where_is c e j at = where_any c e j at (list_any (is_inside c) v.processes) refl
@@ -66,13 +68,13 @@ module _ {S C M : Type 0} (k : Kind S C M) (p : ℕ) (u : Process S C) (v : Worl
   not_p : (e j r : ℕ) (q : Process S C) → IsLevelOf e u.levels j → slice_get v.processes r ≡ Some q → is_inside e q ≡ false → r ≢ p
   not_p e j r q at here outside same =
       let own : u ≡ q = some_same (sym there ∙ (ap (slice_get v.processes) (sym same) ∙ here)) in
-      true≢false (sym (level_inside e u.levels j at) ∙ (ap (is_inside e) own ∙ outside))
+      true≢false (sym (any_level e j u.levels at) ∙ (ap (is_inside e) own ∙ outside))
 
   -- the level of e that is at its place
   at_place_of : (e j r : ℕ) (q : Process S C) → IsLevelOf e u.levels j → slice_get v.processes r ≡ Some q → is_inside e q ≡ true → IsLevelOf e q.levels j
   at_place_of e j r q at here inside =
       let found : (n : ℕ) × IsLevelOf e q.levels n = inside_level e q.levels inside in
-      subst (IsLevelOf e q.levels) (same_place k.groups q.levels u.levels (nested r q here) (nested p u there) found.0 j e found.1 at) found.1
+      subst (IsLevelOf e q.levels) (same_number k.groups q.levels u.levels (nested r q here) (nested p u there) e found.0 j found.1 at) found.1
 
   -- the levels of c are kept where none is as far in
   apart_stays_at : (c e j r : ℕ) (q : Process S C) (later : World S C M) → IsLevelOf e u.levels j → LeavesOthers p (Some e) v later → KeepOuter v e j later
@@ -96,10 +98,10 @@ module _ {S C M : Type 0} (k : Kind S C M) (p : ℕ) (u : Process S C) (v : Worl
       → (s : ℕ) (x : Process S C) → slice_get v.processes s ≡ Some x → is_inside e x ≡ false → (inside : Bool) → is_inside c x ≡ inside → is_inside c x ≡ false
   outside_both c e j r i q here own at within s x there' outside true is =
       let found : (n : ℕ) × IsLevelOf c x.levels n = inside_level c x.levels is in
-      let same : found.0 ≡ i = same_place k.groups x.levels q.levels (nested s x there') (nested r q here) found.0 i c found.1 own in
+      let same : found.0 ≡ i = same_number k.groups x.levels q.levels (nested s x there') (nested r q here) c found.0 i found.1 own in
       let around : IsLevelOf e x.levels j =
       same_around k.groups q.levels x.levels (nested r q here) (nested s x there') i j c e own (subst (IsLevelOf c x.levels) same found.1) at within in
-      absurd (true≢false (sym (level_inside e x.levels j around) ∙ outside))
+      absurd (true≢false (sym (any_level e j x.levels around) ∙ outside))
   outside_both c e j r i q here own at within s x there' outside false is = is
 
   -- nobody is inside c any more, if nobody is who was inside e

@@ -7,8 +7,8 @@ use Rattle.rb_world.specs.Reject.{parent_of}
 use Rattle.rb_world.specs.Turn.{one_used, turn_used}
 use Rattle.rb_world.specs.Nested.{AreNested, HasOutside, IsLevelOf}
 use Rattle.rb_world.proofs.TurnFacts.{RunsAt}
-use Rattle.rb_world.proofs.ListFacts.{none_some, slice_get-change_at, some_same}
-use Rattle.rb_world.proofs.PlaceFacts.{slice_get-elsewhere}
+use Rattle.rb_world.proofs.ListFacts.{none_some, slice_get-change_at, some_same, slice_get-change_other}
+
 use Rattle.rb_world.proofs.Outcomes.{counted}
 use Rattle.rb_world.proofs.Cascade.{AllNested}
 use Rattle.rb_world.proofs.Together.{Carries, Keeps, unused}
@@ -60,7 +60,7 @@ module _ {S C M : Type 0} (k : Kind S C M) (p : ℕ) (q : Process S C) (w : Worl
   counted_there = slice_get-change_at p (λ _. turn_used q) w.processes ∙ ap (option_map (λ _. turn_used q)) runs.there
 
   pub counted_other : (r : ℕ) → r ≢ p → slice_get (counted p q w).processes r ≡ slice_get w.processes r
-  counted_other r other = slice_get-elsewhere p (λ _. turn_used q) w.processes r other
+  counted_other r other = slice_get-change_other p (λ _. turn_used q) w.processes r other
 
   -- it has nested levels too
   counted_nested_at : AllNested k w → (r : ℕ) (x : Process S C) → slice_get (counted p q w).processes r ≡ Some x → (r ≡ p) ⊎ (r ≡ p → ⊥) → AreNested k.groups x.levels
@@ -89,7 +89,7 @@ own_keeps_at {S} {C} {M} c p q f w there carries r x e (inl same) =
       ap (slice_get (change_at p f w.processes)) same ∙ (slice_get-change_at p f w.processes ∙ ap (option_map f) there),
       subst (λ (y : Process S C). Carries c y.levels (f q).levels) own carries,
     )
-own_keeps_at c p q f w there carries r x e (inr other) = (x, slice_get-elsewhere p f w.processes r other ∙ e, carries_same c x.levels)
+own_keeps_at c p q f w there carries r x e (inr other) = (x, slice_get-change_other p f w.processes r other ∙ e, carries_same c x.levels)
 
 pub own_keeps : {S C M : Type 0} (c p : ℕ) (q : Process S C) (f : Process S C → Process S C) (w : World S C M) → slice_get w.processes p ≡ Some q
     → Carries c q.levels (f q).levels → Keeps c w (with_process p f w)

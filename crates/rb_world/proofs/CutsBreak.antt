@@ -18,7 +18,8 @@ use Rattle.rb_world.proofs.Cuts.{plain_levels, shown_at, AreOwn, ShowsOne, Alive
 use Rattle.rb_world.proofs.ErasureInvariant.{IsQuiet, ShowsCut, AllShown, Grounded, GroundedDuring, ErasedWithin, ErasedAfter}
 use Rattle.rb_world.proofs.CutsElsewhere.{IsChanged, Each-changed, changed_there, is_changed_each, is_changed_twice, shows_changed}
 use Rattle.rb_world.proofs.CutsGoBack.{IsUpTo}
-use Rattle.rb_world.proofs.CutsPlaces.{position_up_to, place_of, line_of, level_found, found_up_to, one_conversation}
+use Rattle.rb_world.proofs.CutsPlaces.{position_up_to, place_of, line_of, level_found, found_up_to}
+use Rattle.rb_world.proofs.LevelFacts.{one_conversation}
 use Rattle.rb_world.proofs.NothingKept.{stays_shown}
 use Rattle.rb_world.proofs.ListFacts.{none_some, some_same}
 

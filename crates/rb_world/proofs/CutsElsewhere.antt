@@ -6,7 +6,7 @@ use Rattle.rb_world.specs.World.{Process, change_at}
 use Rattle.rb_world.specs.Standing.{Each}
 use Rattle.rb_world.proofs.Erasable.{Parts}
 use Rattle.rb_world.proofs.Cuts.{ShowsOne, Shows}
-use Rattle.rb_world.proofs.ListFacts.{none_some, some_same, slice_get-change_at}
+use Rattle.rb_world.proofs.ListFacts.{none_some, some_same, slice_get-change_at, slice_get-change_other}
 
 -- each element became what F says at its number
 abbrev pub IsChanged : {A : Type 0} → (ℕ → A → A) → List A → List A → Type 0
@@ -15,14 +15,6 @@ IsChanged {A} F xs ys = (r : ℕ) → slice_get ys r ≡ option_map (F r) (slice
 -- what a change at one place does, by the number
 abbrev pub only_at : {A : Type 0} → ℕ → (A → A) → ℕ → A → A
 only_at p f r x = cond (nat_eq r p) (f x) x
-
--- what is looked up elsewhere than where the change was made
-pub slice_get-change_other : {A : Type 0} (p : ℕ) (f : A → A) (xs : List A) (r : ℕ) → (r ≡ p → ⊥) → slice_get (change_at p f xs) r ≡ slice_get xs r
-slice_get-change_other p f [] r ne = refl
-slice_get-change_other zero f (x ∷ xs) zero ne = absurd (ne refl)
-slice_get-change_other zero f (x ∷ xs) (suc r) ne = refl
-slice_get-change_other (suc p) f (x ∷ xs) zero ne = refl
-slice_get-change_other (suc p) f (x ∷ xs) (suc r) ne = slice_get-change_other p f xs r (λ e. ne (ap suc e))
 
 same_option : {A : Type 0} (o : Option A) → o ≡ option_map (λ x. x) o
 same_option None = refl

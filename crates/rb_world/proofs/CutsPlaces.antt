@@ -11,6 +11,7 @@ use Rattle.rb_world.proofs.TurnFacts.{RejectsAt}
 use Rattle.rb_world.proofs.Erasable.{Nothing, Parts, whole}
 use Rattle.rb_world.proofs.CutsElsewhere.{IsChanged, is_changed_at, is_changed_each}
 use Rattle.rb_world.proofs.CutsGoBack.{IsUpTo, back_at, AreLine}
+use Rattle.rb_world.proofs.LevelFacts.{of_number, one_conversation}
 use Rattle.rb_world.proofs.ListFacts.{none_some, some_same}
 
 -- process p alone goes back to level j
@@ -87,25 +88,16 @@ position_up_to test xs i x there holds =
     subst (λ (b : Bool). IsUpTo (cond b (Some (position_or_len test xs)) None) i)
     (sym (lt-ltb (position_or_len test xs) (length xs) (omega (arith, few, slice_get_within xs i x there)))) few
 
-of_number : (c : ℕ) (o : Option ℕ) → is_number o c ≡ true → o ≡ Some c
-of_number c None e = absurd (true≢false (sym e))
-of_number c (Some d) e = ap Some (eqb-true d c e)
-
 -- a level that the test finds is one of the conversation
 pub level_found : {C : Type 0} (c : ℕ) (levels : List (Level C)) (i : ℕ) → position (is_of c) levels ≡ Some i → IsLevelOf c levels i
 level_found c levels i e =
     let found = found_at (is_of c) levels i e in
-    record { level = found.0; there = found.1; of_it = of_number c found.0.facts.conversation found.2 }
+    record { level = found.0; there = found.1; of_it = of_number found.0.facts.conversation c found.2 }
 
 -- a level of the conversation is found, or one further out
 pub found_up_to : {C : Type 0} (c : ℕ) (levels : List (Level C)) (i : ℕ) → IsLevelOf c levels i → IsUpTo (position (is_of c) levels) i
 found_up_to c levels i at =
     position_up_to (is_of c) levels i at.level at.there (ap (λ (o : Option ℕ). is_number o c) at.of_it ∙ eq-eqb c c refl)
-
--- two conversations of one level are one
-pub one_conversation : {C : Type 0} (c d i : ℕ) (levels : List (Level C)) → IsLevelOf c levels i → IsLevelOf d levels i → c ≡ d
-one_conversation {C} c d i levels one other =
-    some_same (sym one.of_it ∙ (ap (λ (l : Level C). l.facts.conversation) (some_same (sym one.there ∙ other.there)) ∙ other.of_it))
 
 inside_by : {S E P : Type 0} (x : Parts S E P) (c : ℕ) (o : Option (Process S S))
     → option_map (where_inside (put_back (whole x)) c) o ≡ option_map (at_place (put_back (whole x)) (place_of c o)) o

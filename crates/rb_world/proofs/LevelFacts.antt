@@ -135,3 +135,8 @@ module _ {C : Type 0} where
   any_level c (suc j) (l ∷ levels) at =
       ap (λ (b : Bool). is_of c l || b) (any_level c j levels (record { level = at.level; there = at.there; of_it = at.of_it }))
       ∙ or_true (is_of c l)
+
+-- two conversations of one level are one
+pub one_conversation : {C : Type 0} (c d i : ℕ) (levels : List (Level C)) → IsLevelOf c levels i → IsLevelOf d levels i → c ≡ d
+one_conversation {C} c d i levels one other =
+    some_same (sym one.of_it ∙ (ap (λ (l : Level C). l.facts.conversation) (some_same (sym one.there ∙ other.there)) ∙ other.of_it))

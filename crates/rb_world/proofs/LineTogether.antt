@@ -8,8 +8,8 @@ use Rattle.rb_world.specs.World.{Level, Process, World, is_inside, is_of, last_o
 use Rattle.rb_world.specs.Turn.{all_leave, all_stand, is_last_of, leaves, members_of, passed, stands_at, stands_now, stands_there, turn_used}
 use Rattle.rb_world.specs.Nested.{AreNested, IsLevelOf}
 use Rattle.rb_world.proofs.TurnFacts.{RunsAt, come_to_stand}
-use Rattle.rb_world.proofs.ListFacts.{second_holds, slice_get-change_at, some_same}
-use Rattle.rb_world.proofs.PlaceFacts.{inside_level, of_passes, passes_of, slice_get-elsewhere}
+use Rattle.rb_world.proofs.ListFacts.{second_holds, slice_get-change_at, some_same, slice_get-change_other}
+use Rattle.rb_world.proofs.PlaceFacts.{inside_level, of_passes, passes_of}
 use Rattle.rb_world.proofs.Outcomes.{counted}
 use Rattle.rb_world.proofs.Together.{AllPass, AllStay, HaveCome, IsLeft, IsOrdered, Together}
 use Rattle.rb_world.proofs.CountedTurns.{carries_same, counted_keeps, counted_other, counted_there, keeps_on, level_used, nested_used, own_keeps}
@@ -27,7 +27,7 @@ module _ {S C M : Type 0} (k : Kind S C M) (p : ℕ) (q : Process S C) (w : Worl
 
   stood_other : (r : ℕ) → r ≢ p → slice_get Stood.processes r ≡ slice_get w.processes r
   stood_other r other =
-      slice_get-elsewhere p (λ _. stands_now s (turn_used q).levels) (counted p q w).processes r other ∙ counted_other k p q w runs r other
+      slice_get-change_other p (λ _. stands_now s (turn_used q).levels) (counted p q w).processes r other ∙ counted_other k p q w runs r other
 
   -- what holds of the levels of each process before the turn holds there
   stood_each_at : (P : ℕ → List (Level C) → Type 0) → ((r : ℕ) (y : Process S C) → slice_get w.processes r ≡ Some y → P r y.levels) → P p (turn_used q).levels

@@ -9,6 +9,14 @@ slice_get-change_at p f [] = refl
 slice_get-change_at zero f (x ∷ xs) = refl
 slice_get-change_at (suc p) f (x ∷ xs) = slice_get-change_at p f xs
 
+-- what is looked up elsewhere than where the change was made
+pub slice_get-change_other : {A : Type 0} (p : ℕ) (f : A → A) (xs : List A) (r : ℕ) → (r ≡ p → ⊥) → slice_get (change_at p f xs) r ≡ slice_get xs r
+slice_get-change_other p f [] r ne = refl
+slice_get-change_other zero f (x ∷ xs) zero ne = absurd (ne refl)
+slice_get-change_other zero f (x ∷ xs) (suc r) ne = refl
+slice_get-change_other (suc p) f (x ∷ xs) zero ne = refl
+slice_get-change_other (suc p) f (x ∷ xs) (suc r) ne = slice_get-change_other p f xs r (λ e. ne (ap suc e))
+
 -- what a Some holds
 pub some_same : {A : Type 0} {x y : A} → Some x ≡ Some y → x ≡ y
 some_same {A} {x} e = ap (λ (o : Option A). unwrap_or o x) e

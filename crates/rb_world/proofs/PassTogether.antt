@@ -7,7 +7,8 @@ use Rattle.rb_world.specs.World.{Level, Process, World, is_of, last_of, settled,
 use Rattle.rb_world.specs.Turn.{all_leave, is_last_of, leaves, one_used, stands_at}
 use Rattle.rb_world.specs.Nested.{AreNested, IsLevelOf}
 use Rattle.rb_world.proofs.ListFacts.{first_holds, none_some, second_holds, some_same}
-use Rattle.rb_world.proofs.PlaceFacts.{inside_level, passes_of, same_place}
+use Rattle.rb_world.proofs.NestedSame.{same_number}
+use Rattle.rb_world.proofs.PlaceFacts.{inside_level, passes_of}
 use Rattle.rb_world.proofs.Together.{Carries, Keeps}
 
 -- where the last element of a list stands, beyond all others
@@ -86,7 +87,6 @@ module _ {S C M : Type 0} (k : Kind S C M) where
       let found : (n : ℕ) × IsLevelOf c (without_last levels) n = inside_level c (without_last levels) is in
       let end : LastAt levels level = last_at levels level last in
       let before : (found.0 < end.at) × (slice_get levels found.0 ≡ Some found.1.level) = end.before found.0 found.1.level found.1.there in
-      let same : found.0 ≡ end.at = same_place k.groups levels levels nested nested found.0 end.at c
-      (record { level = found.1.level; there = before.1; of_it = found.1.of_it }) (record { level = level; there = end.there; of_it = of_it }) in
+      let same : found.0 ≡ end.at = same_number k.groups levels levels nested nested c found.0 end.at (record { level = found.1.level; there = before.1; of_it = found.1.of_it }) (record { level = level; there = end.there; of_it = of_it }) in
       absurd (omega (arith, before.0))
   left_not_inside c levels level nested last of_it false is = is

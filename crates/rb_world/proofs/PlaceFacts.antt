@@ -9,6 +9,8 @@ use Rattle.rb_world.specs.Kind.{Membership}
 use Rattle.rb_world.specs.World.{Level, change_at, is_number, is_of}
 use Rattle.rb_world.specs.Reject.{parent_of}
 use Rattle.rb_world.specs.Nested.{AreNested, HasOutside, IsLevelOf}
+use Rattle.rb_world.proofs.LevelFacts.{of_number, one_conversation}
+use Rattle.rb_world.proofs.NestedSame.{SharesLevel, shares_level}
 use Rattle.rb_world.proofs.ListFacts.{none_some, some_same}
 
 -- what is looked up below the end of a list's first elements
@@ -17,14 +19,6 @@ slice_get-take zero xs i below = absurd (omega arith)
 slice_get-take (suc n) [] i below = refl
 slice_get-take (suc n) (x ∷ xs) zero below = refl
 slice_get-take (suc n) (x ∷ xs) (suc i) below = slice_get-take n xs i (omega arith)
-
--- and elsewhere than where a change was made
-pub slice_get-elsewhere : {A : Type 0} (p : ℕ) (f : A → A) (xs : List A) (i : ℕ) → i ≢ p → slice_get (change_at p f xs) i ≡ slice_get xs i
-slice_get-elsewhere p f [] i other = refl
-slice_get-elsewhere zero f (x ∷ xs) zero other = absurd (other refl)
-slice_get-elsewhere zero f (x ∷ xs) (suc i) other = refl
-slice_get-elsewhere (suc p) f (x ∷ xs) zero other = refl
-slice_get-elsewhere (suc p) f (x ∷ xs) (suc i) other = slice_get-elsewhere p f xs i (λ e. other (ap suc e))
 
 -- the first elements up to one that is there
 pub length-take_to : {A : Type 0} (j : ℕ) (xs : List A) {x : A} → slice_get xs j ≡ Some x → length (take (suc j) xs) ≡ suc j
@@ -72,16 +66,6 @@ position_none test (y ∷ xs) none =
     (λ i below. any_none test (y ∷ xs) i (get_or (y ∷ xs) i y) none (slice_get-get_or (y ∷ xs) i y below))
     (λ none. absurd (omega arith)))
 
--- one passes
-either_true : (a : Bool) {b : Bool} → b ≡ true → (a || b) ≡ true
-either_true true e = refl
-either_true false e = e
-
-pub any_at : {A : Type 0} (test : A → Bool) (xs : List A) (i : ℕ) (x : A) → slice_get xs i ≡ Some x → test x ≡ true → list_any test xs ≡ true
-any_at test [] i x e passes = absurd (none_some e)
-any_at test (y ∷ xs) zero x e passes = ap (λ (b : Bool). b || list_any test xs) (ap test (some_same e) ∙ passes)
-any_at test (y ∷ xs) (suc i) x e passes = either_true (test y) (any_at test xs i x e passes)
-
 -- an element that is at a number, and passes
 pub record PassesAt {A : Type 0} (test : A → Bool) (xs : List A) : Type 0 where
   pub at : ℕ
@@ -101,11 +85,6 @@ pub any_found : {A : Type 0} (test : A → Bool) (xs : List A) → list_any test
 any_found test [] e = absurd (true≢false (sym e))
 any_found test (y ∷ xs) e = here_or_further test y xs (test y) refl e (any_found test xs)
 
--- the number that is in an option
-number_in : (o : Option ℕ) (c : ℕ) → is_number o c ≡ true → o ≡ Some c
-number_in None c e = absurd (true≢false (sym e))
-number_in (Some d) c e = ap Some (eqb-true d c e)
-
 is_number-own : (o : Option ℕ) (c : ℕ) → o ≡ Some c → is_number o c ≡ true
 is_number-own o c e = ap (λ (x : Option ℕ). is_number x c) e ∙ eq-eqb c c refl
 
@@ -120,22 +99,13 @@ module _ {C : Type 0} where
   of_passes c level e = is_number-own level.facts.conversation c e
 
   pub passes_of : (c : ℕ) (level : Level C) → is_of c level ≡ true → level.facts.conversation ≡ Some c
-  passes_of c level e = number_in level.facts.conversation c e
+  passes_of c level e = of_number level.facts.conversation c e
 
-  -- who has a level of a conversation is inside it
-  pub level_inside : (c : ℕ) (levels : List (Level C)) (i : ℕ) → IsLevelOf c levels i → list_any (is_of c) levels ≡ true
-  level_inside c levels i at = any_at (is_of c) levels i at.level at.there (of_passes c at.level at.of_it)
-
+  -- who is inside a conversation has a level of it
   pub inside_level : (c : ℕ) (levels : List (Level C)) → list_any (is_of c) levels ≡ true → (i : ℕ) × IsLevelOf c levels i
   inside_level c levels any =
       let one : PassesAt (is_of c) levels = any_found (is_of c) levels any in
       (one.at, record { level = one.found; there = one.there; of_it = passes_of c one.found one.passes })
-
-  -- two levels at one number are one
-  pub same_conversation : {c d : ℕ} {levels : List (Level C)} {i : ℕ} → IsLevelOf c levels i → IsLevelOf d levels i → c ≡ d
-  same_conversation one other =
-      let same : one.level ≡ other.level = some_same (sym one.there ∙ other.there) in
-      some_same (sym one.of_it ∙ (ap (λ (l : Level C). l.facts.conversation) same ∙ other.of_it))
 
 -- a level of no conversation is none of a conversation
 conversation_out_at : {C : Type 0} (levels : List (Level C)) (i j d : ℕ) (level : Level C) → slice_get levels j ≡ Some level → level.facts.conversation ≡ None
@@ -148,43 +118,20 @@ further_out i j never (inl below) = below
 further_out i j never (inr within) = absurd (never within)
 
 module _ {C : Type 0} (groups : List Membership) where
-  -- the number of a conversation's level
-  same_place_from : (levels levels' : List (Level C)) → AreNested groups levels → AreNested groups levels'
-      → (i j : ℕ) (parent : Option ℕ) → HasOutside parent levels i → HasOutside parent levels' j → i ≡ j
-  same_place_from levels levels' nested nested' i j None e e' = e ∙ sym e'
-  same_place_from levels levels' nested nested' zero j (Some d) none out' = absurd none
-  same_place_from levels levels' nested nested' (suc i) zero (Some d) out none = absurd none
-  same_place_from levels levels' nested nested' (suc i) (suc j) (Some d) out out' =
-      ap suc (same_place_from levels levels' nested nested' i j (parent_of (slice_get groups d)) (nested i d out) (nested' j d out'))
-
-  pub same_place : (levels levels' : List (Level C)) → AreNested groups levels → AreNested groups levels'
-      → (i j c : ℕ) → IsLevelOf c levels i → IsLevelOf c levels' j → i ≡ j
-  same_place levels levels' nested nested' i j c at at' =
-      same_place_from levels levels' nested nested' i j (parent_of (slice_get groups c)) (nested i c at) (nested' j c at')
-
-  -- what lies around it
-  same_at : (levels levels' : List (Level C)) (i j c e : ℕ) → IsLevelOf c levels i → IsLevelOf c levels' i → IsLevelOf e levels j → j ≤ i
-      → (j < i → IsLevelOf e levels' j) → (j ≡ i) ⊎ (j ≡ i → ⊥) → IsLevelOf e levels' j
-  same_at levels levels' i j c e at at' around within further (inl same) =
-      let one : c ≡ e = same_conversation at (subst (IsLevelOf e levels) same around) in
+  -- what lies around a conversation's level
+  same_around_at : (levels levels' : List (Level C)) → AreNested groups levels → AreNested groups levels' → (i j c e : ℕ)
+      → IsLevelOf c levels i → IsLevelOf c levels' i → IsLevelOf e levels j → j ≤ i → (j ≡ i) ⊎ (j ≡ i → ⊥) → IsLevelOf e levels' j
+  same_around_at levels levels' nested nested' i j c e at at' around within (inl same) =
+      let one : c ≡ e = one_conversation c e i levels at (subst (IsLevelOf e levels) same around) in
       subst (λ (d : ℕ). IsLevelOf d levels' j) one (subst (IsLevelOf c levels') (sym same) at')
-  same_at levels levels' i j c e at at' around within further (inr other) = further (omega arith)
-
-  same_around_from : (levels levels' : List (Level C)) → AreNested groups levels → AreNested groups levels' → (i j e : ℕ)
-      → IsLevelOf e levels j → (parent : Option ℕ) → HasOutside parent levels i → HasOutside parent levels' i → j < i → IsLevelOf e levels' j
-  same_around_from levels levels' nested nested' zero j e around parent out out' within = absurd (omega arith)
-  same_around_from levels levels' nested nested' (suc i) j e around None out out' within = absurd (suc-ne-zero i out)
-  same_around_from levels levels' nested nested' (suc i) j e around (Some d) out out' within =
-      same_at levels levels' i j d e out out' around (omega arith)
-      (same_around_from levels levels' nested nested' i j e around (parent_of (slice_get groups d)) (nested i d out) (nested' i d out'))
-      (cases_eq j i)
+  same_around_at levels levels' nested nested' i j c e at at' around within (inr other) =
+      let shared : SharesLevel levels levels' j = shares_level groups levels levels' nested nested' c i i j at at' (omega arith) in
+      subst (λ (d : ℕ). IsLevelOf d levels' j) (one_conversation shared.conversation e j levels shared.one around) shared.other
 
   pub same_around : (levels levels' : List (Level C)) → AreNested groups levels → AreNested groups levels' → (i j c e : ℕ)
       → IsLevelOf c levels i → IsLevelOf c levels' i → IsLevelOf e levels j → j ≤ i → IsLevelOf e levels' j
   same_around levels levels' nested nested' i j c e at at' around within =
-      same_at levels levels' i j c e at at' around within
-      (same_around_from levels levels' nested nested' i j e around (parent_of (slice_get groups c)) (nested i c at) (nested' i c at'))
-      (cases_eq j i)
+      same_around_at levels levels' nested nested' i j c e at at' around within (cases_eq j i)
 
   -- no conversation's level stands further in than one of none
   conversation_out_from : (levels : List (Level C)) → AreNested groups levels → (i j : ℕ) (level : Level C) → slice_get levels j ≡ Some level

@@ -9,7 +9,8 @@ use Rattle.rb_world.specs.Reject.{Happened, next_alternate}
 use Rattle.rb_world.specs.Turn.{undone}
 use Rattle.rb_world.specs.Nested.{IsLevelOf}
 use Rattle.rb_world.proofs.ListFacts.{some_same}
-use Rattle.rb_world.proofs.PlaceFacts.{inside_level, same_place}
+use Rattle.rb_world.proofs.NestedSame.{same_number}
+use Rattle.rb_world.proofs.PlaceFacts.{inside_level}
 use Rattle.rb_world.proofs.Cascade.{AllBack, AllFallen, AllNested, Alone, AreBackAt, EndsIn, Ends, HaveFallen, IsBackAt, KeepsTalks, LeavesOthers}
 use Rattle.rb_world.proofs.Together.{AllGoBack, AllGoOut, AllStay, AreBack, Carries, IsBack, Keeps, Together, unused}
 use Rattle.rb_world.proofs.CountedTurns.{carries_same, keeps_on}
@@ -53,7 +54,7 @@ module _ {S C M : Type 0} (k : Kind S C M) (p : ℕ) (u : Process S C) (v : Worl
         one.0,
         one.1,
         not_inside k c e i j q one.0 own one.2 other as_far
-            (λ m at. same_place k.groups q.levels x.levels (nested r q here') (nested s x here) m i c at within) (is_inside c one.0) refl,
+            (λ m at. same_number k.groups q.levels x.levels (nested r q here') (nested s x here) c m i at within) (is_inside c one.0) refl,
       )
 
   fallen_leave : (c e j : ℕ) (later : World S C M) → HaveFallen e j v later → LeaveBoth v c e j later
@@ -65,7 +66,7 @@ module _ {S C M : Type 0} (k : Kind S C M) (p : ℕ) (u : Process S C) (v : Worl
   all_back_at : (c e j : ℕ) (later : World S C M) → IsLevelOf e u.levels j → c ≡ e → AreBackAt k e j v later → AreBack k c v later
   all_back_at c e j later at same back r i q here own =
       let place : i ≡ j =
-      same_place k.groups q.levels u.levels (nested r q here) (nested p u there) i j c own (subst (λ (d : ℕ). IsLevelOf d u.levels j) (sym same) at) in
+      same_number k.groups q.levels u.levels (nested r q here) (nested p u there) c i j own (subst (λ (d : ℕ). IsLevelOf d u.levels j) (sym same) at) in
       let level : IsLevelOf e q.levels j = record { level = own.level; there = ap (slice_get q.levels) (sym place) ∙ own.there; of_it = own.of_it ∙ ap Some same } in
       let one : (now : Process S C) × (slice_get later.processes r ≡ Some now) × IsBackAt k j q own.level now = back r q here level in (
         one.0,

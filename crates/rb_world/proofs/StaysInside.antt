@@ -9,7 +9,7 @@ use Rattle.rb_world.specs.World.{Process, World}
 use Rattle.rb_world.specs.Reject.{Happened, fallen, reject}
 use Rattle.rb_world.specs.Turn.{Moved, freed, move, turn, turn_used, undone}
 use Rattle.rb_world.proofs.TurnFacts.{RunsAt}
-use Rattle.rb_world.proofs.PlaceFacts.{slice_get-elsewhere}
+use Rattle.rb_world.proofs.ListFacts.{slice_get-change_other}
 use Rattle.rb_world.proofs.Outcomes.{Outcomes, counted, move-comes}
 use Rattle.rb_world.proofs.Cascade.{AllBack, AllFallen, AllNested, Alone, ArePrivate, EndsIn, Ends, LeavesOthers}
 use Rattle.rb_world.proofs.CascadeEnds.{reject-ends}
@@ -81,7 +81,7 @@ module _ {S C M : Type 0} (k : Kind S C M) (p : ℕ) (w : World S C M) where
       outermost = tt;
       no_pass = refl;
       others = λ r x there other outside.
-          slice_get-elsewhere p (fallen k Broken) (counted p q w).processes r other ∙ (counted_other k p q w runs r other ∙ there);
+          slice_get-change_other p (fallen k Broken) (counted p q w).processes r other ∙ (counted_other k p q w runs r other ∙ there);
     };
     rejects = λ q n cause runs within none e.
         cascade_stays q (reject k p n cause (counted p q w)) runs
