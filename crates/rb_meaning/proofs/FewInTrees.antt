@@ -14,6 +14,7 @@ length-opening_states tree p (process ∷ processes) = ap suc (length-opening_st
 is_of_rejections : IsOfRejections is_rejection
 is_of_rejections = record { errors = λ p cause. refl; completions = λ p. refl }
 
+-- a turn makes at most 32 rejections, and of at most 64 processes it tells at most 96 events
 pub few_events : FewEvents
 few_events tree turns p =
     let stands : IsStanding (tree_kind tree) (opening_states tree 0 tree.processes) (run_of tree turns).0 =

@@ -21,6 +21,7 @@ not_before groups c i j levels level nested at below there true e =
     absurd (omega arith)
 not_before groups c i j levels level nested at below there false e = e
 
+-- so the first level of the conversation there is the one at that number
 pub place_found : {C : Type 0} (groups : List Membership) (c j : ℕ) (levels xs : List (Level C)) → AreNested groups levels → IsLevelOf c levels j
     → ((i : ℕ) → i < suc j → slice_get xs i ≡ slice_get levels i) → position (is_of c) xs ≡ Some j
 place_found groups c j levels xs nested at agree =
@@ -33,6 +34,7 @@ back_to_outer : {S C M : Type 0} (k : Kind S C M) (j : ℕ) (q : Process S C) (l
 back_to_outer k j q None i below = refl
 back_to_outer k j q (Some level) i below = slice_get-take (j + 1) q.levels i (omega arith)
 
+-- the same of a process that is put back to a level number
 pub put_back_outer : {S C M : Type 0} (k : Kind S C M) (j : ℕ) (q : Process S C) (i : ℕ) → i < suc j
     → slice_get (put_back k j q).levels i ≡ slice_get q.levels i
 put_back_outer k j q i below = back_to_outer k j q (slice_get q.levels j) i below
@@ -56,6 +58,7 @@ is_back {S} {C} {M} k j q now level there agree =
 pub changed_inside : {S C : Type 0} (f : ℕ → Process S C → Process S C) (c j : ℕ) (q : Process S C) → position (is_of c) q.levels ≡ Some j → where_inside f c q ≡ f j q
 changed_inside f c j q e = ap (λ (o : Option ℕ). at_place f o q) e
 
+-- who is not inside the conversation stays
 pub stays_outside : {S C : Type 0} (f : ℕ → Process S C → Process S C) (c : ℕ) (q : Process S C) → is_inside c q ≡ false → where_inside f c q ≡ q
 stays_outside f c q e = ap (λ (o : Option ℕ). at_place f o q) (position_none (is_of c) q.levels e)
 
@@ -103,6 +106,7 @@ module _ {S C M : Type 0} (k : Kind S C M) (p : ℕ) (u : Process S C) (v : Worl
       true≢false (sym (any_level c j u.levels at) ∙ (ap (is_inside c) own ∙ e)) in
       OutsideIt e other (n.same other (outside_last c j last q is at (nested r q here) e))
 
+  -- every process is inside the conversation of p's level, at the same number, or outside it and as it was
   pub place : (c j r : ℕ) (last : Option ℕ) (q : Process S C) (w : World S C M) → IsLast k.groups u.levels (suc j) last → IsLevelOf c u.levels j
       → slice_get v.processes r ≡ Some q → (n : Now p (suc j) last r q w) → Place c j p r q n.now
   place c j r last q w is at here n = place_of c j r last q w is at here n (is_inside c q) refl
@@ -124,6 +128,7 @@ module _ {S C M : Type 0} (k : Kind S C M) (p : ℕ) (u : Process S C) (v : Worl
     same = n.same;
   }
 
+  -- so the cascade has come to the next level out
   pub private_come : (j : ℕ) (last : Option ℕ) (w : World S C M) → HasCome k p u v (suc j) last w → IsLast k.groups u.levels j last
       → HasCome k p u v j last (with_process p (put_back k j) w)
   private_come j last w come is = record {
@@ -149,6 +154,7 @@ module _ {S C M : Type 0} (k : Kind S C M) (p : ℕ) (u : Process S C) (v : Worl
     same = λ _ _. same;
   }
 
+  -- so the cascade has come to the next level out, which is of the conversation right around
   pub together_come : (c j : ℕ) (last : Option ℕ) (w : World S C M) → HasCome k p u v (suc j) last w → IsLevelOf c u.levels j
       → IsLast k.groups u.levels j (Some c) → HasCome k p u v j (Some c) (all_spent k c w)
   together_come c j last w come at is = record {

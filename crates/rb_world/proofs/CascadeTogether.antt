@@ -61,6 +61,7 @@ module _ {S C M : Type 0} (k : Kind S C M) (p : ℕ) (u : Process S C) (v : Worl
   where_any c e j at false is =
       Apart (λ r i q here own at'. absurd (true≢false (sym (any_level c i q.levels own) ∙ any_none (is_inside c) v.processes r q is here)))
 
+  -- one of the two holds
   pub where_is : (c e j : ℕ) → IsLevelOf e u.levels j → Where c e j v
   where_is c e j at = where_any c e j at (list_any (is_inside c) v.processes) refl
 
@@ -88,6 +89,7 @@ module _ {S C M : Type 0} (k : Kind S C M) (p : ℕ) (u : Process S C) (v : Worl
   apart_stays_at c e j r q later at others outer apart here false is =
       (q, others r q here (not_p e j r q at here is) is, carries_same c q.levels)
 
+  -- so they are kept of all
   pub apart_stays : (c e j : ℕ) (later : World S C M) → IsLevelOf e u.levels j → LeavesOthers p (Some e) v later → KeepOuter v e j later
       → ((r i : ℕ) (q : Process S C) → slice_get v.processes r ≡ Some q → IsLevelOf c q.levels i → IsLevelOf e q.levels j → i < j) → Keeps c v later
   apart_stays c e j later at others outer apart r q here =
@@ -116,6 +118,7 @@ module _ {S C M : Type 0} (k : Kind S C M) (p : ℕ) (u : Process S C) (v : Worl
       ap (is_inside c) (some_same (sym after ∙ others s x before (not_p e j s x at before is) is))
       ∙ outside_both c e j r i q here own own' within s x before is (is_inside c x) refl
 
+  -- the same of all that are in the world after it
   pub within_left : (c e j r i : ℕ) (q : Process S C) (later : World S C M) → IsLevelOf e u.levels j → LeavesOthers p (Some e) v later → LeaveBoth v c e j later
       → slice_get v.processes r ≡ Some q → IsLevelOf c q.levels i → IsLevelOf e q.levels j → j ≤ i → length later.processes ≡ length v.processes → IsLeft c later
   within_left c e j r i q later at others leave here own own' within size s y after =

@@ -8,7 +8,6 @@ use Rattle.rb_world.specs.Turn.{one_used, turn_used}
 use Rattle.rb_world.specs.Nested.{AreNested, HasOutside, IsLevelOf}
 use Rattle.rb_world.proofs.TurnFacts.{RunsAt}
 use Rattle.rb_world.proofs.ListFacts.{none_some, slice_get-change_at, some_same, slice_get-change_other}
-
 use Rattle.rb_world.proofs.Outcomes.{counted}
 use Rattle.rb_world.proofs.Cascade.{AllNested}
 use Rattle.rb_world.proofs.Together.{Carries, Keeps, unused}
@@ -22,6 +21,7 @@ module _ {C : Type 0} where
       let further : IsLevelOf c (map one_used levels) i = used_level c levels i (record { level = at.level; there = at.there; of_it = at.of_it }) in
       record { level = further.level; there = further.there; of_it = further.of_it }
 
+  -- and it was before
   pub level_used : (c : ℕ) (levels : List (Level C)) (i : ℕ) → IsLevelOf c (map one_used levels) i → IsLevelOf c levels i
   level_used c [] i at = absurd (none_some at.there)
   level_used c (l ∷ levels) zero at = record { level = l; there = refl; of_it = ap (λ (x : Level C). x.facts.conversation) (some_same at.there) ∙ at.of_it }
@@ -34,6 +34,7 @@ module _ {C : Type 0} where
   outside_used (Some d) levels zero none = absurd none
   outside_used (Some d) levels (suc j) out = used_level d levels j out
 
+  -- so levels that have used one turn more are nested
   pub nested_used : (groups : List Membership) (levels : List (Level C)) → AreNested groups levels → AreNested groups (map one_used levels)
   nested_used groups levels nested i c at =
       outside_used (parent_of (slice_get groups c)) levels i (nested i c (level_used c levels i at))
@@ -42,6 +43,7 @@ module _ {C : Type 0} where
   pub carries_same : (c : ℕ) (levels : List (Level C)) → Carries c levels levels
   carries_same c levels i at = (at.level, at.there, refl)
 
+  -- a conversation's level that is carried twice is carried
   pub carries_on : (c : ℕ) (levels later last : List (Level C)) → Carries c levels later → Carries c later last → Carries c levels last
   carries_on c levels later last first next i at =
       let one : (level : Level C) × (slice_get later i ≡ Some level) × (unused level ≡ unused at.level) = first i at in
@@ -49,6 +51,7 @@ module _ {C : Type 0} where
       next i (record { level = one.0; there = one.1; of_it = ap (λ (l : Level C). l.facts.conversation) one.2 ∙ at.of_it }) in
       (other.0, other.1, other.2 ∙ one.2)
 
+  -- levels that have used one turn more carry those of each conversation
   pub carries_used : (c : ℕ) (levels : List (Level C)) → Carries c levels (map one_used levels)
   carries_used c [] i at = absurd (none_some at.there)
   carries_used c (l ∷ levels) zero at = (one_used l, refl, ap unused (some_same at.there))
@@ -59,6 +62,7 @@ module _ {S C M : Type 0} (k : Kind S C M) (p : ℕ) (q : Process S C) (w : Worl
   pub counted_there : slice_get (counted p q w).processes p ≡ Some (turn_used q)
   counted_there = slice_get-change_at p (λ _. turn_used q) w.processes ∙ ap (option_map (λ _. turn_used q)) runs.there
 
+  -- every other process is as it was
   pub counted_other : (r : ℕ) → r ≢ p → slice_get (counted p q w).processes r ≡ slice_get w.processes r
   counted_other r other = slice_get-change_other p (λ _. turn_used q) w.processes r other
 
@@ -69,6 +73,7 @@ module _ {S C M : Type 0} (k : Kind S C M) (p : ℕ) (q : Process S C) (w : Worl
       subst (λ (y : Process S C). AreNested k.groups y.levels) own (nested_used k.groups q.levels (nested p q runs.there))
   counted_nested_at nested r x e (inr other) = nested r x (sym (counted_other r other) ∙ e)
 
+  -- so all levels are nested there
   pub counted_nested : AllNested k w → AllNested k (counted p q w)
   counted_nested nested r x e = counted_nested_at nested r x e (cases_eq r p)
 
@@ -91,6 +96,7 @@ own_keeps_at {S} {C} {M} c p q f w there carries r x e (inl same) =
     )
 own_keeps_at c p q f w there carries r x e (inr other) = (x, slice_get-change_other p f w.processes r other ∙ e, carries_same c x.levels)
 
+-- who is inside a conversation keeps its level where p alone was changed, and keeps its own
 pub own_keeps : {S C M : Type 0} (c p : ℕ) (q : Process S C) (f : Process S C → Process S C) (w : World S C M) → slice_get w.processes p ≡ Some q
     → Carries c q.levels (f q).levels → Keeps c w (with_process p f w)
 own_keeps c p q f w there carries r x e = own_keeps_at c p q f w there carries r x e (cases_eq r p)

@@ -102,6 +102,7 @@ module _ {S C M : Type 0} (k : Kind S C M) (p : ℕ) (q : Process S C) (w : Worl
       (own_keeps c p (turn_used q) (λ _. stands_now s (turn_used q).levels) (counted p q w) (counted_there k p q w runs) (carries_same c (turn_used q).levels))
       (leave_keeps k c d Stood other)))
 
+  -- what a passed test line does to the levels of each conversation
   pub pass_together : (c d alternate : ℕ) (level : Level C) → last_of (turn_used q).levels ≡ Some level → level.facts.conversation ≡ Some d → all_stand k d Stood ≡ true
       → Together k c p w (passed (Pass d alternate) (all_leave k d Stood))
   pass_together c d alternate level last of_d all = pass_together_at c d alternate level last of_d all (cases_eq c d)

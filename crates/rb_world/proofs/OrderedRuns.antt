@@ -1,8 +1,6 @@
 -- Every world of a run of an erasable kind is ordered: it is grounded, and so its levels are nested and are those of members.
-use Rattle.std.proofs.Common.{◌≡◌, ℕ, Bool, false, List, [], ◌∷◌, slice_get, Some, None, refl, ap, ◌∙◌}
-use Rattle.rb_world.specs.Kind.{Facts, Enters}
+use Rattle.std.proofs.Common.{◌≡◌, ℕ, Bool, List, [], ◌∷◌, refl, ap, ◌∙◌}
 use Rattle.rb_world.specs.World.{Level, Process, Status, World}
-use Rattle.rb_world.specs.Reject.{parent_of}
 use Rattle.rb_world.specs.Turn.{freed, opening, run}
 use Rattle.rb_world.proofs.Induction.{run-keeps}
 use Rattle.rb_world.proofs.EachProcess.{KeepsEach}

@@ -25,6 +25,7 @@ before_further y z xs x last (suc n) v e = let one : (n < last.at) × (slice_get
 one_last_further : {A : Type 0} (y z : A) (xs : List A) (x : A) → LastAt (z ∷ xs) x → LastAt (y ∷ z ∷ xs) x
 one_last_further y z xs x last = record { at = suc last.at; there = last.there; before = before_further y z xs x last }
 
+-- a list that has a last element has it at a number
 pub last_at : {A : Type 0} (xs : List A) (x : A) → last_of xs ≡ Some x → LastAt xs x
 last_at [] x e = absurd (none_some e)
 last_at (y ∷ []) x e = record { at = 0; there = e; before = λ n z none. absurd (none_some none) }
@@ -44,6 +45,7 @@ all_pass_at : (test : ℕ → Bool) (m n : ℕ) (members : List ℕ) → (test n
 all_pass_at test m n members all true e any further = ap test (eqb-true m n e) ∙ first_holds (test n) (list_all test members) all
 all_pass_at test m n members all false e any further = further (second_holds (test n) (list_all test members) all) any
 
+-- the same of a whole list
 pub all_pass : (test : ℕ → Bool) (m : ℕ) (members : List ℕ) → list_all test members ≡ true → list_any (nat_eq m) members ≡ true → test m ≡ true
 all_pass test m [] all any = absurd (true≢false (sym any))
 all_pass test m (n ∷ members) all any = all_pass_at test m n members all (nat_eq m n) refl any (all_pass test m members)
@@ -76,6 +78,7 @@ module _ {S C M : Type 0} (k : Kind S C M) where
   )
   leaves_carries c d y other false e i at = (at.level, at.there, refl)
 
+  -- so all levels of another conversation are kept where the members of one leave
   pub leave_keeps : (c d : ℕ) (x : World S C M) → c ≢ d → Keeps c x (all_leave k d x)
   leave_keeps c d x other r y here =
       (leaves k d y, slice_get-map (leaves k d) x.processes r ∙ ap (option_map (leaves k d)) here, leaves_carries c d y other (stands_at d y) refl)

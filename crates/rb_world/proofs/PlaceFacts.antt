@@ -1,12 +1,12 @@
 -- Where a conversation's level stands among nested levels: at one number, which is the same in every process that has it, and just
 -- inside the same conversations in each of them.
-use Rattle.std.proofs.Common.{◌≡◌, ◌≢◌, ◌⊎◌, inl, inr, ◌<◌, ◌≤◌, ℕ, zero, suc, Bool, true, false, cond, ◌||◌, nat_lt, List, [], ◌∷◌, length, position, slice_get, take, get_or, Option, Some, None, refl, sym, ap, ◌∙◌, subst, eqb-true, eq-eqb, lt-ltb, le-ltb, true≢false, suc-ne-zero, arith}
+use Rattle.std.proofs.Common.{◌≡◌, ◌⊎◌, inl, inr, ◌<◌, ◌≤◌, ℕ, zero, suc, Bool, true, false, cond, ◌||◌, nat_lt, List, [], ◌∷◌, length, position, slice_get, take, get_or, Option, Some, None, refl, sym, ap, ◌∙◌, subst, eq-eqb, lt-ltb, le-ltb, true≢false, suc-ne-zero, arith}
 use Rattle.std.proofs.lemmas.Bool.{cases_eq, cases_lt}
 use Rattle.std.specs.List.{list_any, position_or_len}
 use Rattle.std.proofs.lemmas.Option.{slice_get-get_or, slice_get_within}
 use Rattle.std.proofs.lemmas.List.Sums.{position_or_len_is}
 use Rattle.rb_world.specs.Kind.{Membership}
-use Rattle.rb_world.specs.World.{Level, change_at, is_number, is_of}
+use Rattle.rb_world.specs.World.{Level, is_number, is_of}
 use Rattle.rb_world.specs.Reject.{parent_of}
 use Rattle.rb_world.specs.Nested.{AreNested, HasOutside, IsLevelOf}
 use Rattle.rb_world.proofs.LevelFacts.{of_number, one_conversation}
@@ -31,6 +31,7 @@ position_is : {A : Type 0} (test : A → Bool) (xs : List A) (j : ℕ) → posit
 position_is test xs j e within =
     ap (λ (b : Bool). cond b (Some (position_or_len test xs)) None) (lt-ltb (position_or_len test xs) (length xs) (omega arith)) ∙ ap Some e
 
+-- the place of an element that passes, where none before it does
 pub position_first : {A : Type 0} (test : A → Bool) (xs : List A) (j : ℕ) (x : A) → slice_get xs j ≡ Some x → test x ≡ true
     → ((i : ℕ) (y : A) → i < j → slice_get xs i ≡ Some y → test y ≡ false) → position test xs ≡ Some j
 position_first test xs j x there passes none =
@@ -50,6 +51,7 @@ right_fails : (a b : Bool) → (a || b) ≡ false → b ≡ false
 right_fails true b e = absurd (true≢false e)
 right_fails false b e = e
 
+-- where none passes, the one at a number does not
 pub any_none : {A : Type 0} (test : A → Bool) (xs : List A) (i : ℕ) (x : A) → list_any test xs ≡ false → slice_get xs i ≡ Some x → test x ≡ false
 any_none test [] i x none e = absurd (none_some e)
 any_none test (y ∷ xs) zero x none e = ap test (sym (some_same e)) ∙ left_fails (test y) (list_any test xs) none
@@ -58,6 +60,7 @@ any_none test (y ∷ xs) (suc i) x none e = any_none test xs i x (right_fails (t
 no_position : {A : Type 0} (test : A → Bool) (xs : List A) (n : ℕ) → n ≡ length xs → cond (nat_lt n (length xs)) (Some n) None ≡ None
 no_position test xs n e = rw e (ap (λ (b : Bool). cond b (Some (length xs)) None) (le-ltb (length xs) (length xs) (omega arith)))
 
+-- and there is no first place
 pub position_none : {A : Type 0} (test : A → Bool) (xs : List A) → list_any test xs ≡ false → position test xs ≡ None
 position_none test [] none = refl
 position_none test (y ∷ xs) none =
@@ -81,6 +84,7 @@ here_or_further : {A : Type 0} (test : A → Bool) (y : A) (xs : List A) (here :
 here_or_further test y xs true e any further = record { at = 0; found = y; there = refl; passes = e }
 here_or_further test y xs false e any further = one_further test y xs (further any)
 
+-- where one passes, it stands at a number
 pub any_found : {A : Type 0} (test : A → Bool) (xs : List A) → list_any test xs ≡ true → PassesAt test xs
 any_found test [] e = absurd (true≢false (sym e))
 any_found test (y ∷ xs) e = here_or_further test y xs (test y) refl e (any_found test xs)
@@ -98,6 +102,7 @@ module _ {C : Type 0} where
   pub of_passes : (c : ℕ) (level : Level C) → level.facts.conversation ≡ Some c → is_of c level ≡ true
   of_passes c level e = is_number-own level.facts.conversation c e
 
+  -- and what passes it is a level of the conversation
   pub passes_of : (c : ℕ) (level : Level C) → is_of c level ≡ true → level.facts.conversation ≡ Some c
   passes_of c level e = of_number level.facts.conversation c e
 
@@ -128,6 +133,7 @@ module _ {C : Type 0} (groups : List Membership) where
       let shared : SharesLevel levels levels' j = shares_level groups levels levels' nested nested' c i i j at at' (omega arith) in
       subst (λ (d : ℕ). IsLevelOf d levels' j) (one_conversation shared.conversation e j levels shared.one around) shared.other
 
+  -- a conversation around that of a level, in one list, is around it in every other that has such a level
   pub same_around : (levels levels' : List (Level C)) → AreNested groups levels → AreNested groups levels' → (i j c e : ℕ)
       → IsLevelOf c levels i → IsLevelOf c levels' i → IsLevelOf e levels j → j ≤ i → IsLevelOf e levels' j
   same_around levels levels' nested nested' i j c e at at' around within =
@@ -143,6 +149,7 @@ module _ {C : Type 0} (groups : List Membership) where
       (conversation_out_from levels nested i j level there alone (parent_of (slice_get groups d)) (nested i d out))
       (cases_eq j i)
 
+  -- so a conversation's level stands further out than each level of none
   pub conversation_out : (levels : List (Level C)) → AreNested groups levels → (i j c : ℕ) (level : Level C) → IsLevelOf c levels i
       → slice_get levels j ≡ Some level → level.facts.conversation ≡ None → i < j
   conversation_out levels nested i j c level at there alone =
