@@ -34,16 +34,17 @@ state_stays tree s [] i e = absurd (none_some e)
 state_stays tree s (l ∷ levels) i e = refl
 
 module _ (tree : Tree) (c p : ℕ) (w : TreeWorld) (moved : Moved State State Nothing) where
-  abbrev Later : TreeWorld
-  Later = (finishes (tree_kind tree) w moved).0
+  -- the world once lines were released, and all that is told of the turn
+  abbrev world_after : TreeWorld
+  world_after = (finishes (tree_kind tree) w moved).0
 
-  abbrev Events : List Event
-  Events = (finishes (tree_kind tree) w moved).1.events
+  abbrev told_events : List Event
+  told_events = (finishes (tree_kind tree) w moved).1.events
 
-  later_there : (r : ℕ) (now : Process State State) → slice_get moved.world.processes r ≡ Some now → slice_get Later.processes r ≡ Some (freed (tree_kind tree) now)
+  later_there : (r : ℕ) (now : Process State State) → slice_get moved.world.processes r ≡ Some now → slice_get world_after.processes r ≡ Some (freed (tree_kind tree) now)
   later_there r now e = slice_get-map (freed (tree_kind tree)) moved.world.processes r ∙ ap (option_map (freed (tree_kind tree))) e
 
-  keep_levels : Keeps c w moved.world → KeepTheirLevels c w Later
+  keep_levels : Keeps c w moved.world → KeepTheirLevels c w world_after
   keep_levels keeps r i q level has of_c =
       let kept : (now : Process State State) × (slice_get moved.world.processes r ≡ Some now) × Carries c q.levels now.levels = keeps r q has.there in
       let one : (l : Level State) × (slice_get kept.0.levels i ≡ Some l) × (unused l ≡ unused level) =
@@ -58,7 +59,7 @@ module _ (tree : Tree) (c p : ℕ) (w : TreeWorld) (moved : Moved State State No
         },
       )
 
-  put_back : AreBack (tree_kind tree) c w moved.world → ArePutBack c w Later
+  put_back : AreBack (tree_kind tree) c w moved.world → ArePutBack c w world_after
   put_back back r i q level has of_c =
       let one : (now : Process State State) × (slice_get moved.world.processes r ≡ Some now) × IsBack (tree_kind tree) i level now =
       back r i q has.there (record { level = level; there = has.level_there; of_it = of_c }) in (
@@ -72,36 +73,36 @@ module _ (tree : Tree) (c p : ℕ) (w : TreeWorld) (moved : Moved State State No
         },
       )
 
-  is_empty : IsLeft c moved.world → IsEmpty c Later
+  is_empty : IsLeft c moved.world → IsEmpty c world_after
   is_empty left r q e =
       let found : (now : Process State State) × (slice_get moved.world.processes r ≡ Some now) × (freed (tree_kind tree) now ≡ q) =
       map_found (freed (tree_kind tree)) moved.world.processes r q e in
       ap (is_inside c) (sym found.2) ∙ left r found.0 found.1
 
   -- the errors and completions that are told, and all that is told after the rejections
-  abbrev Errors : List Event
-  Errors = compared error_at 0 w.processes moved.world.processes
+  abbrev told_errors : List Event
+  told_errors = compared error_at 0 w.processes moved.world.processes
 
-  abbrev Completions : List Event
-  Completions = compared done_at 0 w.processes moved.world.processes
+  abbrev told_completions : List Event
+  told_completions = compared done_at 0 w.processes moved.world.processes
 
-  abbrev Others : List Event
-  Others = Errors ++ (moved.passes ++ Completions)
+  abbrev told_then : List Event
+  told_then = told_errors ++ (moved.passes ++ told_completions)
 
   -- what ends the rejections is told
-  end_told : (d : ℕ) (ends : EndsIn d p moved.rejections) → IsAmong (RejectAll d ends.alternate p ends.cause) Events
+  end_told : (d : ℕ) (ends : EndsIn d p moved.rejections) → IsAmong (RejectAll d ends.alternate p ends.cause) told_events
   end_told d ends =
       let last : Event = RejectAll d ends.alternate p ends.cause in
-      among_first last moved.rejections Others
+      among_first last moved.rejections told_then
       (subst (IsAmong last) (sym ends.is) (among_rest last ends.inner (last ∷ []) (0, refl)))
 
-  pass_told : (alternate : ℕ) → moved.passes ≡ Pass c alternate ∷ [] → IsAmong (Pass c alternate) Events
+  pass_told : (alternate : ℕ) → moved.passes ≡ Pass c alternate ∷ [] → IsAmong (Pass c alternate) told_events
   pass_told alternate is =
-      among_rest (Pass c alternate) moved.rejections Others
-      (among_rest (Pass c alternate) Errors (moved.passes ++ Completions)
-      (among_first (Pass c alternate) moved.passes Completions (subst (IsAmong (Pass c alternate)) (sym is) (0, refl))))
+      among_rest (Pass c alternate) moved.rejections told_then
+      (among_rest (Pass c alternate) told_errors (moved.passes ++ told_completions)
+      (among_first (Pass c alternate) moved.passes told_completions (subst (IsAmong (Pass c alternate)) (sym is) (0, refl))))
 
-  go_together : Together (tree_kind tree) c p w moved → GoTogether tree c p w Later Events
+  go_together : Together (tree_kind tree) c p w moved → GoTogether tree c p w world_after told_events
   go_together (AllStay keeps) = Stay (keep_levels keeps)
   go_together (AllPass alternate is come left) =
       PassTogether alternate (pass_told alternate is) (record { others = come.others; member = come.member; here = come.here }) (is_empty left)

@@ -14,8 +14,8 @@ use Rattle.rb_world.proofs.Cascade.{AllNested, LeavesOthers}
 use Rattle.rb_world.proofs.Together.{Carries, IsLeft, Keeps}
 use Rattle.rb_world.proofs.CountedTurns.{carries_same}
 
--- where the levels of conversation c stand, and the levels number j of conversation e: none is as far in, or somebody's is, and
--- that one is inside both
+-- Where the levels of conversation c stand, and the levels number j of conversation e: in each process with both, that of c is
+-- further out; or one has both, and that of c is as far in.
 pub data Where {S C M : Type 0} (c e j : ℕ) (v : World S C M) : Type 0 where
   Apart : ((r i : ℕ) (q : Process S C) → slice_get v.processes r ≡ Some q → IsLevelOf c q.levels i → IsLevelOf e q.levels j → i < j) → Where c e j v
   Within : (r i : ℕ) (q : Process S C) → slice_get v.processes r ≡ Some q → IsLevelOf c q.levels i → IsLevelOf e q.levels j → j ≤ i → Where c e j v
