@@ -4,7 +4,7 @@ use Rattle.std.proofs.Common.{◌≡◌, ℕ, true, ◌&&◌, List, [], ◌∷�
 use Rattle.std.proofs.lemmas.Bool.{eqb-true}
 use Rattle.rb_syntax.specs.Tree.{Command, Assignment, Printing, Sending, Receiving, Conditional, Loop, Invocation, Failure, Recovering, Otherwise, NoElse, Else, Tree}
 use Rattle.rb_world.specs.Kind.{Ends, SendsOn}
-use Rattle.rb_world.proofs.Erasable.{receives_on}
+use Rattle.rb_world.proofs.Erasing.Erasable.{receives_on}
 use Rattle.rb_world.proofs.ListFacts.{first_holds, none_some, second_holds, some_same}
 use Rattle.rb_meaning.specs.State.{Item, Perform, StartOf, TestOf, EndBlock, EndCall}
 use Rattle.rb_meaning.specs.Groups.{channel_number, channels_of}

@@ -3,7 +3,7 @@ use Rattle.std.proofs.Common.{◌≡◌, ◌≤◌, ℕ, ◌+◌, suc, List, [],
 use Rattle.rb_syntax.specs.Tree.{ProcessDeclaration, Tree}
 use Rattle.rb_world.specs.Standing.{IsStanding}
 use Rattle.rb_world.proofs.StandingFacts.{standing}
-use Rattle.rb_world.proofs.FewEvents.{IsOfRejections, turn-few, turn-few_rejections}
+use Rattle.rb_world.proofs.Members.FewEvents.{IsOfRejections, turn-few, turn-few_rejections}
 use Rattle.rb_meaning.specs.Meaning.{opening_states, run_of, tree_kind}
 use Rattle.rb_meaning.specs.Laws.{FewEvents, is_rejection, next_turn}
 

@@ -5,9 +5,9 @@ use Rattle.rb_base.specs.declared.event.Event.TheVariants.{Reject, RejectAll, Er
 use Rattle.rb_world.specs.Kind.{Kind}
 use Rattle.rb_world.specs.World.{Status, Running, Finished, FailedWith, Process, World}
 use Rattle.rb_world.specs.Turn.{Moved, compared, done_at, error_at, move, told}
-use Rattle.rb_world.proofs.Cascade.{ArePrivate, IsOutsideOf}
-use Rattle.rb_world.proofs.StaysInside.{IsOutermost, StaysInside, move-stays, turn-stays}
-use Rattle.rb_world.proofs.Together.{IsOrdered}
+use Rattle.rb_world.proofs.Members.Cascade.{ArePrivate, IsOutsideOf}
+use Rattle.rb_world.proofs.Members.StaysInside.{IsOutermost, StaysInside, move-stays, turn-stays}
+use Rattle.rb_world.proofs.Members.Together.{IsOrdered}
 use Rattle.rb_meaning.specs.State.{State}
 use Rattle.rb_meaning.specs.Step.{Nothing}
 use Rattle.rb_meaning.specs.Meaning.{TreeWorld, run_of, tree_kind}

@@ -8,7 +8,8 @@ use Rattle.rb_world.specs.Reject.{back_to, next_alternate}
 use Rattle.rb_world.specs.Turn.{copy_of, one_used, is_last_of, new_level, state_freed}
 use Rattle.rb_world.specs.Standing.{is_failed}
 use Rattle.rb_world.proofs.EachProcess.{KeepsEach}
-use Rattle.rb_world.proofs.ImageRuns.{front-map, more-map}
+use Rattle.rb_world.proofs.ImageRuns.{more-map}
+use Rattle.rb_world.proofs.LastLevels.{without_last-map}
 use Rattle.rb_world.proofs.ListFacts.{first_holds, second_holds}
 use Rattle.rb_meaning.specs.State.{State, with_kept}
 use Rattle.rb_meaning.specs.Step.{Nothing, Result_of_step, enter, entered_items, step_items}
@@ -97,7 +98,7 @@ module _ (tree : Tree) (procedures : (p : ℕ) → HasClearProcedures tree p) wh
       known_settled tree p q.state (without_last q.levels) known.own (points_front tree p [] q.levels known.points)
       (known.left (ap is_failed (running_last q.levels q.status c known.inside last))
       ∙ ap (λ b. onto [] (with_test b (facts_in q.levels))) line
-      ∙ ap (onto []) (front-map (λ (l : Level State). l.facts) q.levels))
+      ∙ ap (onto []) (without_last-map (λ (l : Level State). l.facts) q.levels))
 
   -- all changes of a process keep what is known of it
   pub known_kept : KeepsEach (tree_kind tree) (Known tree)
@@ -119,7 +120,7 @@ module _ (tree : Tree) (procedures : (p : ℕ) → HasClearProcedures tree p) wh
         known_settled tree p (with_kept (s.kept ++ (t, alternate) ∷ []) s) (without_last q.levels)
         (own_kept tree p (s.kept ++ (t, alternate) ∷ []) s (own_continues tree p (blocks_left s.items) q.state s known.own passes.continues))
         (points_front tree p [] q.levels known.points)
-        (left_held p q s passes (left_away tree p q known at.acts.runs.running at.acts.away) ∙ ap (onto []) (front-map (λ (l : Level State). l.facts) q.levels));
+        (left_held p q s passes (left_away tree p q known at.acts.runs.running at.acts.away) ∙ ap (onto []) (without_last-map (λ (l : Level State). l.facts) q.levels));
     stands = λ t p q w alternate message s known at e.
         let passes = held p q alternate message s known e in
         record {

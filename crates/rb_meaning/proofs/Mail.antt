@@ -5,7 +5,7 @@ use Rattle.std.proofs.lemmas.List.{append-nil}
 use Rattle.std.proofs.lemmas.Bool.{eqb-true, eqb-false}
 use Rattle.rb_world.specs.Kind.{Want, SendsOn}
 use Rattle.rb_world.specs.World.{change_at}
-use Rattle.rb_world.proofs.Erasable.{receives_on, sends_by, takes_by}
+use Rattle.rb_world.proofs.Erasing.Erasable.{receives_on, sends_by, takes_by}
 use Rattle.rb_world.proofs.ListFacts.{none_some, slice_get-change_at}
 use Rattle.rb_meaning.specs.State.{State}
 

@@ -1,8 +1,8 @@
 -- Every world of a run of a nested program is ordered: levels are nested, and are those of members, and no line is left to release.
 use Rattle.std.proofs.Common.{ℕ, List}
 use Rattle.rb_syntax.specs.Tree.{Tree}
-use Rattle.rb_world.proofs.OrderedRuns.{run_ordered}
-use Rattle.rb_world.proofs.Together.{IsOrdered}
+use Rattle.rb_world.proofs.Members.OrderedRuns.{run_ordered}
+use Rattle.rb_world.proofs.Members.Together.{IsOrdered}
 use Rattle.rb_meaning.specs.Meaning.{run_of, tree_kind}
 use Rattle.rb_meaning.specs.Nesting.{IsNested}
 use Rattle.rb_meaning.proofs.KnownKept.{known_kept}

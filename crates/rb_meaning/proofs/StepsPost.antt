@@ -5,7 +5,7 @@ use Rattle.rb_base.specs.declared.event.Cause.{Cause}
 use Rattle.rb_base.specs.declared.event.Cause.TheVariants.{Test}
 use Rattle.rb_syntax.specs.Tree.{Reference, PrintItem, Command, Assignment, Printing, Sending, Receiving, Conditional, Loop, Invocation, Failure, Recovering, Body, Scope, Otherwise, NoElse, Else, RecoveryBlock, ProcedureDeclaration, Tree}
 use Rattle.rb_world.specs.Kind.{Trapped, Held, Want, Acts}
-use Rattle.rb_world.proofs.Erasable.{receives_on, sends_by, takes_by}
+use Rattle.rb_world.proofs.Erasing.Erasable.{receives_on, sends_by, takes_by}
 use Rattle.rb_meaning.specs.Environment.{Environment, push_call, push_frame, frame_of}
 use Rattle.rb_meaning.specs.Value.{Outcome, is_zero, value}
 use Rattle.rb_meaning.specs.State.{Item, Perform, StartOf, TestOf, EndBlock, EndCall, State, performed, continue_with, with_environment, with_held}

@@ -8,10 +8,10 @@ use Rattle.rb_syntax.specs.Tree.{Tree}
 use Rattle.rb_world.specs.World.{Level, Process, is_inside}
 use Rattle.rb_world.specs.Turn.{Moved, compared, done_at, error_at, finishes, freed, move, state_freed}
 use Rattle.rb_world.proofs.ListFacts.{none_some}
-use Rattle.rb_world.proofs.Cascade.{EndsIn}
-use Rattle.rb_world.proofs.PassTogether.{map_found}
-use Rattle.rb_world.proofs.Together.{AllGoBack, AllGoOut, AllPass, AllStay, AreBack, Carries, IsBack, IsLeft, Keeps, Together, unused}
-use Rattle.rb_world.proofs.TurnTogether.{move-together}
+use Rattle.rb_world.proofs.Members.Cascade.{EndsIn}
+use Rattle.rb_world.proofs.Members.PassTogether.{map_found}
+use Rattle.rb_world.proofs.Members.Together.{AllGoBack, AllGoOut, AllPass, AllStay, AreBack, Carries, IsBack, IsLeft, Keeps, Together, unused}
+use Rattle.rb_world.proofs.Members.TurnTogether.{move-together}
 use Rattle.rb_meaning.specs.State.{State}
 use Rattle.rb_meaning.specs.Step.{Nothing}
 use Rattle.rb_meaning.specs.Meaning.{TreeWorld, run_of, tree_kind}

@@ -5,7 +5,7 @@ use Rattle.rb_syntax.specs.Tree.{Tree}
 use Rattle.rb_world.specs.Kind.{Went, Held}
 use Rattle.rb_world.specs.World.{last_of}
 use Rattle.rb_world.specs.Turn.{copy_of}
-use Rattle.rb_world.proofs.Erasable.{IsErasable, LeavesAlone, SameMail}
+use Rattle.rb_world.proofs.Erasing.Erasable.{IsErasable, LeavesAlone, SameMail}
 use Rattle.rb_meaning.specs.Environment.{Environment}
 use Rattle.rb_meaning.specs.State.{State, settle, with_held}
 use Rattle.rb_meaning.specs.Step.{Result_of_step, enter, step, wants_first}

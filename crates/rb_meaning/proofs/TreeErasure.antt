@@ -11,10 +11,10 @@ use Rattle.rb_world.specs.World.{Process, World}
 use Rattle.rb_world.specs.Turn.{opening}
 use Rattle.rb_world.specs.Plain.{Ended, plain_run, survivors_of}
 use Rattle.rb_world.specs.Erased.{Rises}
-use Rattle.rb_world.proofs.Erasure.{OpensErasably, RunsAlone}
-use Rattle.rb_world.proofs.ErasureTheorem.{receipts_stand, survivors_run_alone}
+use Rattle.rb_world.proofs.Erasing.Erasure.{OpensErasably, RunsAlone}
+use Rattle.rb_world.proofs.Erasing.ErasureTheorem.{receipts_stand, survivors_run_alone}
 use Rattle.rb_world.proofs.ListFacts.{first_holds, none_some, second_holds, some_same}
-use Rattle.rb_world.proofs.ReceiptsStand.{AreBetweenTwo}
+use Rattle.rb_world.proofs.Erasing.ReceiptsStand.{AreBetweenTwo}
 use Rattle.rb_meaning.specs.State.{State}
 use Rattle.rb_meaning.specs.Groups.{channels_of}
 use Rattle.rb_meaning.specs.Meaning.{TreeWorld, opening_state, opening_states, run_of, survivors, taken_on}

@@ -4,7 +4,7 @@ use Rattle.std.proofs.Common.{◌≡◌, ℕ, Bool, true, false, List, refl, sym
 use Rattle.rb_syntax.specs.Tree.{Tree}
 use Rattle.rb_world.specs.World.{Level, Process}
 use Rattle.rb_world.proofs.EachProcess.{each_opening_run}
-use Rattle.rb_world.proofs.ImageRuns.{front-map}
+use Rattle.rb_world.proofs.LastLevels.{without_last-map}
 use Rattle.rb_meaning.specs.State.{State}
 use Rattle.rb_meaning.specs.Meaning.{opening_states}
 use Rattle.rb_meaning.specs.Nesting.{IsNested}
@@ -24,7 +24,7 @@ run_known tree nested turns r q at =
     (λ n s e. known_opening tree nested n s e) r q at
 
 facts_with_test : (line : Bool) (levels : List (Level State)) → facts_in (with_test line levels) ≡ with_test line (facts_in levels)
-facts_with_test true levels = sym (front-map (λ (level : Level State). level.facts) levels)
+facts_with_test true levels = sym (without_last-map (λ (level : Level State). level.facts) levels)
 facts_with_test false levels = refl
 
 -- the levels of every process of a run are nested, and are those of what is left

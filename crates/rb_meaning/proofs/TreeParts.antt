@@ -4,7 +4,7 @@ use Rattle.std.proofs.Common.{◌≡◌, ◌+◌, ℕ, ℤ, pos, nat_eq, cond, L
 use Rattle.std.proofs.lemmas.List.{append-nil, length-map}
 use Rattle.rb_syntax.specs.Tree.{Tree}
 use Rattle.rb_world.specs.Kind.{Want, NothingLeft, SendsOn, ReceivesOn, MayReceiveOn, Enters, Starts, Acts}
-use Rattle.rb_world.proofs.Erasable.{IsFront, Moves, Parts, plain, receives_on, sends_by, takes_by, takes_if, whole}
+use Rattle.rb_world.proofs.Erasing.Erasable.{IsFront, Moves, Parts, plain, receives_on, sends_by, takes_by, takes_if, whole}
 use Rattle.rb_world.proofs.ListFacts.{none_some, some_same}
 use Rattle.rb_meaning.specs.Environment.{Environment}
 use Rattle.rb_meaning.specs.State.{State, settle, with_held, with_kept}

@@ -3,7 +3,7 @@
 use Rattle.std.proofs.Common.{◌≡◌, ℕ, ℤ, zero, suc, List, [], length, replicate, slice_get, unwrap_or, refl}
 use Rattle.rb_syntax.specs.Tree.{Tree}
 use Rattle.rb_world.specs.Slots.{zero_slots}
-use Rattle.rb_world.proofs.SlotsTheorem.{OpensWithSlots, slots_read, slots_stand, slots_unseen}
+use Rattle.rb_world.proofs.Slots.SlotsTheorem.{OpensWithSlots, slots_read, slots_stand, slots_unseen}
 use Rattle.rb_meaning.specs.Groups.{channels_of}
 use Rattle.rb_meaning.specs.Meaning.{opening_states, sent_on, tree_kind}
 use Rattle.rb_meaning.specs.Nesting.{IsNested}

@@ -7,6 +7,7 @@ use Rattle.rb_world.specs.Kind.{Kind, Stepped, Trapped, Went, Held}
 use Rattle.rb_world.specs.World.{Level, Process, World, last_of, without_last}
 use Rattle.rb_world.specs.Turn.{Told, opening, run, turn}
 use Rattle.rb_world.specs.Plain.{Kept, PlainEnd, Ended, StuckAt, plain_run, plain_turn}
+use Rattle.rb_world.proofs.LastLevels.{last_of-map, without_last-map}
 use Rattle.rb_world.proofs.ListFacts.{heads_same, some_same, tails_same}
 use Rattle.rb_world.proofs.Simulation.{Shared, Related, nothing_known, copies_of, StillMeets, StepsMeet, IsPlainSimulation, IsSimulation}
 use Rattle.rb_world.proofs.MarksMeet.{OptionsMeet, SameMarks}
@@ -23,16 +24,6 @@ pub record IsImageOf {S C M T D N : Type 0} (on_state : S → T) (on_copy : C �
   pub state : on_state s ≡ u
 
 -- functions of all elements
-last-map : {C D : Type 0} (f : C → D) (cs : List C) → last_of (map f cs) ≡ option_map f (last_of cs)
-last-map f [] = refl
-last-map f (c ∷ []) = refl
-last-map f (c ∷ d ∷ cs) = last-map f (d ∷ cs)
-
-pub front-map : {C D : Type 0} (f : C → D) (cs : List C) → without_last (map f cs) ≡ map f (without_last cs)
-front-map f [] = refl
-front-map f (c ∷ []) = refl
-front-map f (c ∷ d ∷ cs) = ap (λ x. f c ∷ x) (front-map f (d ∷ cs))
-
 pub take-map : {C D : Type 0} (f : C → D) (n : ℕ) (cs : List C) → take n (map f cs) ≡ map f (take n cs)
 take-map f zero cs = refl
 take-map f (suc n) [] = refl
@@ -139,7 +130,7 @@ module _ {S C M T D N : Type 0} {k : Kind S C M} {l : Kind T D N} {on_state : S 
       (k.step alternate (last_of cs) s message w.memory) (l.step alternate (last_of (map on_copy cs)) (on_state s) message (on_memory w.memory))
   step_meets_image t p alternate message w cs s =
       subst (StepsMeet k l (Memories on_memory) (Imaged on_state on_copy on_memory) t p alternate w (on_memory w.memory) cs (map on_copy cs) (k.step alternate (last_of cs) s message w.memory))
-      (sym (ap (λ (c : Option D). l.step alternate c (on_state s) message (on_memory w.memory)) (last-map on_copy cs)
+      (sym (ap (λ (c : Option D). l.step alternate c (on_state s) message (on_memory w.memory)) (last_of-map on_copy cs)
       ∙ image.step alternate (last_of cs) s message w.memory))
       (steps_meet_image t p alternate w cs (k.step alternate (last_of cs) s message w.memory))
 
@@ -186,7 +177,7 @@ module _ {S C M T D N : Type 0} {k : Kind S C M} {l : Kind T D N} {on_state : S 
         (enter_meets_image t p w (copies_of q.levels) q.state);
     leave = λ m n cs s ds u e. record {
       memory = e.memory;
-      copies = sym (front-map on_copy cs) ∙ ap without_last e.copies;
+      copies = sym (without_last-map on_copy cs) ∙ ap without_last e.copies;
       state = sym (image.settle (k.accept s)) ∙ ap l.settle (sym (image.accept s) ∙ ap l.accept e.state);
     };
     held = λ line m n s u e. sym (image.held s) ∙ ap l.held e.state;

@@ -13,7 +13,8 @@ use Rattle.rb_world.proofs.RunsMeet.{OpeningsMeet, keeps_nothing, opening_meets,
 use Rattle.rb_world.proofs.PlainRunsMeet.{EndsMeet, keeps_nothing_plain, plain_run_meets}
 use Rattle.rb_world.proofs.StandingFacts.{standing}
 use Rattle.rb_world.proofs.Image.{IsImage, stepped_image}
-use Rattle.rb_world.proofs.ImageRuns.{opening_run-image, copy_there, take-map, front-map, more-map}
+use Rattle.rb_world.proofs.ImageRuns.{opening_run-image, copy_there, take-map, more-map}
+use Rattle.rb_world.proofs.LastLevels.{without_last-map}
 
 -- Counting.
 forgets_count : (deeds : List Deed) (s : Doing) (n : ℕ) → do_first deeds s (tt {0}) ≡ stepped_image (λ x. x) (λ _. tt {0}) (do_first deeds s n)
@@ -182,7 +183,7 @@ module _ (groups : List Membership) where
             others = λ r x es v _ _ both. both;
           });
       leave = λ m n cs s ds u e. record {
-        marks = sym (front-map marked cs) ∙ ap without_last e.marks;
+        marks = sym (without_last-map marked cs) ∙ ap without_last e.marks;
         same = e.same;
         chain = chain_less cs s.lines e.chain;
       };

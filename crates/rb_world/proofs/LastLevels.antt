@@ -5,7 +5,7 @@ use Rattle.std.proofs.lemmas.Option.{slice_get_within}
 use Rattle.rb_world.specs.World.{Level, last_of, without_last}
 use Rattle.rb_world.specs.Nested.{IsLevelOf}
 use Rattle.rb_world.proofs.ListFacts.{some_same}
-use Rattle.rb_world.proofs.ShownOlder.{last_stands_last, length-end, slice_get-end, slice_get-front}
+use Rattle.rb_world.proofs.ListFacts.{last_stands_last, length-end, slice_get-end, slice_get-front}
 
 -- the last element of a list that was mapped
 pub last_of-map : {A B : Type 0} (f : A → B) (xs : List A) → last_of (map f xs) ≡ option_map f (last_of xs)

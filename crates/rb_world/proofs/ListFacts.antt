@@ -1,6 +1,6 @@
 -- Small facts of lists with one element changed, of options and of tests.
-use Rattle.std.proofs.Common.{◌≡◌, ◌≤◌, ℕ, zero, suc, List, [], ◌∷◌, length, map, option_map, slice_get, unwrap_or, Option, Some, None, refl, sym, ap, subst, arith, Bool, true, false, ◌&&◌, true≢false}
-use Rattle.rb_world.specs.World.{change_at, without_last}
+use Rattle.std.proofs.Common.{◌≡◌, ◌≤◌, ◌<◌, ◌++◌, ℕ, zero, suc, List, [], ◌∷◌, length, map, take, option_map, slice_get, unwrap_or, Option, Some, None, refl, sym, ap, subst, arith, Bool, true, false, ◌&&◌, true≢false, not-suc-le-zero, le_of_suc-le-suc}
+use Rattle.rb_world.specs.World.{change_at, last_of, without_last}
 use Rattle.rb_world.specs.Standing.{Each}
 
 -- what is looked up where the change was made
@@ -66,3 +66,42 @@ first_holds false b e = e
 pub second_holds : (a b : Bool) → (a && b) ≡ true → b ≡ true
 second_holds true b e = e
 second_holds false b e = absurd (true≢false (sym e))
+
+-- what is looked up in the front of a longer list
+pub slice_get-front : {A : Type 0} (xs ys : List A) (n : ℕ) → n < length xs → slice_get (xs ++ ys) n ≡ slice_get xs n
+slice_get-front [] ys n h = absurd (not-suc-le-zero h)
+slice_get-front (x ∷ xs) ys zero h = refl
+slice_get-front (x ∷ xs) ys (suc n) h = slice_get-front xs ys n (le_of_suc-le-suc h)
+
+-- what is taken of the front of a longer list
+pub take-front : {A : Type 0} (xs ys : List A) (n : ℕ) → n ≤ length xs → take n (xs ++ ys) ≡ take n xs
+take-front {A} xs ys zero h = refl
+take-front {A} [] ys (suc n) h = absurd (not-suc-le-zero h)
+take-front {A} (x ∷ xs) ys (suc n) h = ap (λ (zs : List A). x ∷ zs) (take-front xs ys n (le_of_suc-le-suc h))
+
+-- a list is what stands before its last element, and that element
+pub last_stands_last : {A : Type 0} (xs : List A) (x : A) → last_of xs ≡ Some x → xs ≡ without_last xs ++ x ∷ []
+last_stands_last {A} [] x e = absurd (none_some e)
+last_stands_last {A} (y ∷ []) x e = cc
+last_stands_last {A} (y ∷ z ∷ zs) x e = ap (λ (ys : List A). y ∷ ys) (last_stands_last (z ∷ zs) x e)
+
+-- there is an element at each number below the length
+pub slice_get-there : {A : Type 0} (xs : List A) (n : ℕ) → n < length xs → (y : A) × (slice_get xs n ≡ Some y)
+slice_get-there [] n h = absurd (not-suc-le-zero h)
+slice_get-there (x ∷ xs) zero h = (x, refl)
+slice_get-there (x ∷ xs) (suc n) h = slice_get-there xs n (le_of_suc-le-suc h)
+
+-- the element at the end of a list
+pub slice_get-end : {A : Type 0} (xs : List A) (y : A) → slice_get (xs ++ y ∷ []) (length xs) ≡ Some y
+slice_get-end [] y = refl
+slice_get-end (x ∷ xs) y = slice_get-end xs y
+
+-- one more than before
+pub length-end : {A : Type 0} (xs : List A) (y : A) → length (xs ++ y ∷ []) ≡ suc (length xs)
+length-end [] y = refl
+length-end (x ∷ xs) y = ap suc (length-end xs y)
+
+-- such a list is not empty
+pub end-not_empty : {A : Type 0} (xs : List A) (y : A) → xs ++ y ∷ [] ≡ [] → ⊥
+end-not_empty [] y e = cc
+end-not_empty (x ∷ xs) y e = cc
