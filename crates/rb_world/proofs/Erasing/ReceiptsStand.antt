@@ -1,6 +1,6 @@
--- No receipt stands whose message was taken back: in every world of a run each number taken is at most the length of what the
--- receiver can see. It is the cut in which the sender is shown at its first level that it does not share with the receiver; if that
--- is a level of a conversation, everyone inside that conversation is shown at its level of it, and the receiver is not inside.
+-- A receipt is never left without its message: nobody has taken more from a channel than it can see there. Show the sender at
+-- its first level that it does not share with the receiver; if that is a level of a conversation, show everyone inside that
+-- conversation at its level of it, and the receiver is not inside. The numbers of this cut say so.
 use Rattle.std.proofs.Common.{◌≡◌, ◌≢◌, ◌≤◌, ℕ, zero, suc, nat_eq, Bool, true, false, cond, List, [], ◌∷◌, position, slice_get, unwrap_or, Option, Some, None, refl, sym, ap, ◌∙◌, subst, subst₂, true≢false, eq-eqb, ne_eqb, eqb-true, arith}
 use Rattle.rb_world.specs.Kind.{Ends}
 use Rattle.rb_world.specs.World.{Level, Process, World, is_of, is_shared, levels_of}
