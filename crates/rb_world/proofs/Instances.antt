@@ -1,12 +1,14 @@
 -- The general laws at the small kinds: counting steps changes nothing that is told; nor does it to copy the number of held
 -- lines in place of the lines. The second needs the copies together with the state: each copy's lines are the front of the
 -- next one's, and the innermost one's of the state's.
-use Rattle.std.proofs.Common.{◌≡◌, ℕ, ◌+◌, zero, suc, Bool, true, false, List, [], ◌∷◌, ◌++◌, length, map, slice_get, take, Some, refl, sym, ap, ap₂, ◌∙◌, subst, subst₂, append_assoc, append-nil, map-id}
+use Rattle.std.proofs.Common.{◌≡◌, ◌≤◌, ◌<◌, ℕ, ◌+◌, ltb, lt-ltb, le-ltb, arith, cond, not, None, position, zero, suc, Bool, true, false, List, [], ◌∷◌, ◌++◌, length, map, slice_get, take, Some, refl, sym, ap, ap₂, ◌∙◌, subst, subst₂, append_assoc, append-nil, map-id}
+use Rattle.std.specs.List.{position_or_len}
 use Rattle.rb_world.specs.Kind.{Membership}
-use Rattle.rb_world.specs.World.{World, without_last}
-use Rattle.rb_world.specs.Turn.{Told, opening}
+use Rattle.rb_world.specs.World.{Level, Process, Running, World, with_process, without_last}
+use Rattle.rb_world.specs.Turn.{Told, bounded, is_over, moves, one_used, opening, turn_used}
+use Rattle.rb_world.specs.Standing.{Each}
 use Rattle.rb_world.specs.Plain.{PlainEnd, Ended, StuckAt}
-use Rattle.rb_world.specs.Samples.{CountsAreUnseen, MarksAreUnseen, MarksAreUnseenInRecords, CountedRunsStand, Deed, Prints, EntersAt, Begins, Ends, GivesUp, Doing, Marked, back_to_mark, copies_marks, copies_whole, counts_steps, do_first, entered, first_want, marked, print_line, told_of_end, told_of_run, with_deeds, without_lines}
+use Rattle.rb_world.specs.Samples.{CountsAreUnseen, MarksAreUnseen, MarksAreUnseenInRecords, CountedRunsStand, OutermostIsRejected, Deed, Prints, EntersAt, Begins, Ends, GivesUp, Doing, Marked, back_to_mark, copies_marks, copies_whole, counts_steps, do_first, entered, first_want, marked, print_line, told_of_end, told_of_run, with_deeds, without_lines}
 use Rattle.rb_world.proofs.ListFacts.{none_some, some_same}
 use Rattle.rb_world.proofs.Simulation.{Shared, Related, nothing_known, copies_of, StillMeets, StepsMeet, IsSimulation}
 use Rattle.rb_world.proofs.RunsMeet.{OpeningsMeet, keeps_nothing, opening_meets, opening_run_meets}
@@ -223,3 +225,36 @@ marks_tell_same_plainly groups turns states =
 -- every run of the counting kind stands
 pub counted_runs_stand : CountedRunsStand
 counted_runs_stand groups turns states n = standing (counts_steps groups) turns states n
+
+-- Bounds: the first level from the outside that has no turn left is found.
+abbrev HasTurnLeft : ℕ → Level Doing → Type 0
+HasTurnLeft r level = level.used < level.facts.bound
+
+abbrev Levels : Type 0
+Levels = List (Level Doing)
+
+first_over : (outside : Levels) (over : Level Doing) (inside : Levels) → Each HasTurnLeft outside → over.facts.bound ≤ over.used
+    → position_or_len is_over (map one_used (outside ++ over ∷ inside)) ≡ length outside
+first_over [] over inside left spent =
+    ap (λ (b : Bool). cond (not b) (1 + position_or_len is_over (map one_used inside)) 0) (lt-ltb over.facts.bound (over.used + 1) (omega (arith, spent)))
+first_over (level ∷ outside) over inside left spent =
+    let rest : ℕ = position_or_len is_over (map one_used (outside ++ over ∷ inside)) in
+    ap (λ (b : Bool). cond (not b) (1 + rest) 0) (le-ltb level.facts.bound (level.used + 1) (omega (arith, left 0 level refl)))
+    ∙ omega (arith, first_over outside over inside (λ r. left (suc r)) spent)
+
+stands_before : (outside : Levels) (over : Level Doing) (inside : Levels) → length outside < length (map one_used (outside ++ over ∷ inside))
+stands_before [] over inside = omega arith
+stands_before (level ∷ outside) over inside = omega (arith, stands_before outside over inside)
+
+over_at : (outside : Levels) (over : Level Doing) (inside : Levels) → Each HasTurnLeft outside → over.facts.bound ≤ over.used
+    → position is_over (map one_used (outside ++ over ∷ inside)) ≡ Some (length outside)
+over_at outside over inside left spent =
+    ap (λ (n : ℕ). cond (ltb n (length (map one_used (outside ++ over ∷ inside)))) (Some n) None) (first_over outside over inside left spent)
+    ∙ ap (λ (b : Bool). cond b (Some (length outside)) None)
+    (lt-ltb (length outside) (length (map one_used (outside ++ over ∷ inside))) (stands_before outside over inside))
+
+pub outermost_goes : OutermostIsRejected
+outermost_goes groups t p w s outside over inside at_line there left spent =
+    let q : Process Doing Doing = record { state = s; levels = outside ++ over ∷ inside; at_line = at_line; status = Running } in
+    ap (moves (copies_whole groups) t p w) there
+    ∙ ap (bounded (copies_whole groups) t p (turn_used q) (with_process p (λ _. turn_used q) w)) (over_at outside over inside left spent)

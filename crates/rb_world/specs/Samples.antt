@@ -2,13 +2,14 @@
 -- their order and prints lines. One kind copies all at an entry; one counts steps in its memory beside that; and one copies
 -- the number of held lines alone, and cuts them when a copy is put back.
 -- All of it is this project's own.
-use Rattle.std.specs.Prelude.{◌≡◌, ℕ, ℤ, ◌+◌, List, [], ◌∷◌, ◌++◌, length, take, Option, Some, None}
-use Rattle.rb_base.specs.declared.event.Cause.TheVariants.{Fail}
+use Rattle.std.specs.Prelude.{◌≡◌, ◌≤◌, ◌<◌, ℕ, ℤ, ◌+◌, Bool, List, [], ◌∷◌, ◌++◌, length, slice_get, take, Option, Some, None}
+use Rattle.rb_base.specs.declared.event.Cause.TheVariants.{Fail, Overrun}
 use Rattle.rb_world.specs.Kind.{Facts, Kind, Membership, Want, NothingLeft, Enters, Starts, Acts, Stepped, Trapped, Went, Held}
-use Rattle.rb_world.specs.World.{World}
-use Rattle.rb_world.specs.Turn.{Told, opening, run}
+use Rattle.rb_world.specs.World.{World, Level, Running, with_process}
+use Rattle.rb_world.specs.Reject.{reject}
+use Rattle.rb_world.specs.Turn.{Told, move, opening, run, turn_used, undone}
 use Rattle.rb_world.specs.Plain.{Kept, PlainEnd, Ended, StuckAt, plain_run}
-use Rattle.rb_world.specs.Standing.{IsStanding}
+use Rattle.rb_world.specs.Standing.{Each, IsStanding}
 
 -- a deed: to print a line, enter a recovery block, start an alternate, end it, or give up
 pub data Deed : Type 0 where
@@ -167,3 +168,16 @@ abbrev pub CountedRunsStand : Type 0
 CountedRunsStand =
     (groups : List Membership) (turns : List ℕ) (states : List Doing) (n : ℕ)
     → IsStanding (counts_steps groups) states (world_of_run (counts_steps groups) turns states n)
+
+-- Of the levels of a process that are beyond their bounds, a turn rejects the outermost: every level outside it has a turn
+-- left, it has none, and of the levels inside it nothing is asked.
+abbrev pub OutermostIsRejected : Type 0
+OutermostIsRejected =
+    (groups : List Membership) (t p : ℕ) (w : World Doing Doing (Unit {0}))
+    (s : Doing) (outside : List (Level Doing)) (over : Level Doing) (inside : List (Level Doing)) (at_line : Bool)
+    → slice_get w.processes p ≡ Some (record { state = s; levels = outside ++ over ∷ inside; at_line = at_line; status = Running })
+    → Each (λ _ level. level.used < level.facts.bound) outside
+    → over.facts.bound ≤ over.used
+    → move (copies_whole groups) t p w
+    ≡ undone (reject (copies_whole groups) p (length outside + 1) Overrun
+    (with_process p (λ _. turn_used (record { state = s; levels = outside ++ over ∷ inside; at_line = at_line; status = Running })) w))

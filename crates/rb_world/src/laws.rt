@@ -1,4 +1,4 @@
-ghost use Rattle.rb_world.specs.Samples.{CountsAreUnseen, MarksAreUnseen, MarksAreUnseenInRecords, CountedRunsStand};
+ghost use Rattle.rb_world.specs.Samples.{CountsAreUnseen, MarksAreUnseen, MarksAreUnseenInRecords, CountedRunsStand, OutermostIsRejected};
 
 /// Images of worlds, at a small kind of process state: steps that are counted beside it change nothing that is told.
 #[tactic(auto, using(crate::proofs::Instances::counting_tells_same))]
@@ -22,4 +22,9 @@ pub fn marks_are_unseen_in_records()
 /// failed has none.
 pub fn counted_runs_stand()
     ensures { CountedRunsStand }
+{}
+
+/// Bounds, at a small kind: of the levels of a process that have no turn left, the next turn rejects the outermost.
+pub fn outermost_is_rejected()
+    ensures { OutermostIsRejected }
 {}

@@ -6,4 +6,5 @@ mod laws;
 
 pub use laws::{
     counted_runs_stand, counts_are_unseen, marks_are_unseen, marks_are_unseen_in_records,
+    outermost_is_rejected,
 };
