@@ -2,14 +2,15 @@
 use Rattle.std.proofs.Common.{◌≡◌, ℕ, Bool, true, false, cond, List, [], ◌∷◌, Option, Some, None, refl, subst}
 use Rattle.rb_lex.specs.Tokens.{Lexeme}
 use Rattle.rb_parse.specs.declared.terminal.Terminal.{Terminal}
-use Rattle.rb_parse.specs.Grammar.{Point, AProgram, Derives, DerivesTree, start_of}
+use Rattle.rb_parse.specs.Grammar.{Point, Derives, DerivesTree, start_of}
 use Rattle.rb_parse.specs.Machine.{Outcome, Accepted, Refused, fits, names_after, blocks_after, called, finish, step, onward, read, run, whole}
 use Rattle.rb_parse.specs.Parts.{Part}
 use Rattle.rb_parse.specs.Plans.{Value, Seen, Plan, Done, Token, Call, bind}
 use Rattle.rb_parse.specs.Table.{Start, start, empty}
 use Rattle.rb_parse.specs.Terminals.{terminal_of}
 use Rattle.rb_parse.proofs.Ahead.{fits-true}
-use Rattle.rb_parse.proofs.Sound.{phrase, Follows, follows_bind, Forms, Without, Passes, advanced, start_sound, empty_sound}
+use Rattle.rb_parse.proofs.Sound.{Follows, follows_bind, Forms, Passes, advanced}
+use Rattle.rb_parse.proofs.ProgramSound.{Without, start_sound, empty_sound}
 use Rattle.rb_parse.proofs.Reaching.{seen_from}
 use Rattle.rb_syntax.specs.Tree.{Tree}
 
@@ -22,10 +23,10 @@ module _ (Q : Tree → Point → Type 0) (first : Option Terminal) (token : Lexe
       subst (λ plan. Follows Q plan b) same (q token b (advanced (subst (λ x. Passes x token a b) is passes)))
   taken terminal f later false t q h = absurd cc
 
-  entered : (part : Part) (begun : Start (Value part)) (without : Option (Value part)) (k : Value part → Plan Tree) (later : Plan Tree) → Forms part begun token a b → Without part without a → Follows Q (Call part k) a → ((v : Value part) → Derives (phrase part v) a a → step first (seen_from token a) (k v) ≡ Some later → Follows Q later b) → called begun without (λ f. Some (bind (f (seen_from token a)) k)) (λ v. step first (seen_from token a) (k v)) None ≡ Some later → Follows Q later b
+  entered : (part : Part) (begun : Start (Value part)) (without : Option (Value part)) (k : Value part → Plan Tree) (later : Plan Tree) → Forms part begun token a b → Without part without a → Follows Q (Call part k) a → ((v : Value part) → Derives part v a a → step first (seen_from token a) (k v) ≡ Some later → Follows Q later b) → called begun without (λ f. Some (bind (f (seen_from token a)) k)) (λ v. step first (seen_from token a) (k v)) None ≡ Some later → Follows Q later b
   entered part (Some f) without k later s d q rest h =
       let same : bind (f (seen_from token a)) k ≡ later = cc in
-      subst (λ plan. Follows Q plan b) same (follows_bind (λ v c. Derives (phrase part v) a c) Q (f (seen_from token a)) k b s (λ v c w. q v c w))
+      subst (λ plan. Follows Q plan b) same (follows_bind (λ v c. Derives part v a c) Q (f (seen_from token a)) k b s (λ v c w. q v c w))
   entered part None (Some v) k later s d q rest h = rest v d h
   entered part None None k later s d q rest h = absurd cc
 
@@ -44,7 +45,7 @@ module _ (Q : Tree → Point → Type 0) (tree : Tree) where
   accepted_done : (v : Tree) (a : Point) → a.left ≡ [] → Q v a → Accepted v ≡ Accepted tree → Ends
   accepted_done v a e q h = let same : v ≡ tree = cc in (a, e, subst (λ w. Q w a) same q)
 
-  passed_end : (part : Part) (without : Option (Value part)) (k : Value part → Plan Tree) (a : Point) → Without part without a → ((v : Value part) → Derives (phrase part v) a a → finish (k v) ≡ Accepted tree → Ends) → called None without (λ f. Refused []) (λ v. finish (k v)) (Refused []) ≡ Accepted tree → Ends
+  passed_end : (part : Part) (without : Option (Value part)) (k : Value part → Plan Tree) (a : Point) → Without part without a → ((v : Value part) → Derives part v a a → finish (k v) ≡ Accepted tree → Ends) → called None without (λ f. Refused []) (λ v. finish (k v)) (Refused []) ≡ Accepted tree → Ends
   passed_end part None k a d rest h = absurd cc
   passed_end part (Some v) k a d rest h = rest v d h
 
@@ -73,5 +74,5 @@ module _ (Q : Tree → Point → Type 0) (tree : Tree) where
 -- an accepted list of tokens derives the tree
 pub accepted_derives : (tokens : List Lexeme) (tree : Tree) → run whole (start_of tokens) ≡ Accepted tree → DerivesTree tree tokens
 accepted_derives tokens tree h =
-    let ends = accepted (λ v c. Derives (AProgram v) (start_of tokens) c) tree tokens 0 0 whole (λ v c d. d) h in
+    let ends = accepted (λ v c. Derives Part.Program v (start_of tokens) c) tree tokens 0 0 whole (λ v c d. d) h in
     record { end = ends.0; whole = ends.1; derived = ends.2 }

@@ -1,29 +1,33 @@
 -- The token ahead of a cursor, and the tokens that its lexer has left.
-use Rattle.std.proofs.Common.{◌≡◌, ℕ, zero, suc, ◌+◌, ◌<◌, ◌≤◌, Bool, true, false, List, [], ◌∷◌, length, Option, Some, None, Ok, refl, ap, sym, ◌∙◌, arith, Err}
+use Rattle.std.proofs.Common.{◌≡◌, ℕ, zero, suc, nat_lt, ◌+◌, ◌<◌, ◌≤◌, Bool, true, false, cond, List, [], ◌∷◌, length, Option, Some, None, Ok, refl, ap, sym, ◌∙◌, arith, Err}
+use Rattle.std.proofs.lemmas.Bool.{lt-ltb, le-ltb}
 use denote.Enum.Bare.{same_true}
 use Rattle.rb_base.specs.declared.place.Place.{Place}
 use Rattle.rb_base.specs.declared.fault.SourceFault.{SourceFault}
 use Rattle.rb_lex.specs.declared.token.Token.{Token}
 use Rattle.rb_lex.specs.Reader.{Reader, lexeme_of, Answers}
-use Rattle.rb_lex.specs.Tokens.{Lexeme, Next, End, Found, Refused, AtEnd, next_from, is_second}
+use Rattle.rb_lex.specs.Tokens.{Lexeme, Next, End, Found, Refused, AtEnd, AtFault, next_from, is_second}
 use Rattle.rb_lex.specs.Bytes.{first_place}
-use Rattle.rb_lex.specs.TokenList.{token_and, tokens_within, tokens_left, ending_left, ending_from, tokens_of, ending_of}
+use Rattle.rb_lex.specs.TokenList.{token_and, tokens_within, tokens_left, ending_left, ending_from}
 use Rattle.rb_lex.proofs.Answered.{answers_first, answers_end, answers_fault}
 use Rattle.rb_parse.specs.contracts.terminal.Terminal.{the_type}
 use Rattle.rb_parse.specs.declared.stop.Stop.TheVariants as stops
 use Rattle.rb_parse.specs.declared.terminal.Terminal.{Terminal}
 use Rattle.rb_parse.specs.declared.terminal.Terminal.TheVariants as terminals
+use Rattle.rb_parse.specs.Allowed.{is_too_deep, too_deep, allowed, ending_allowed, allowed_of, ending_allowed_of}
+use Rattle.rb_parse.specs.Brackets.{most_open, open_after}
 use Rattle.rb_parse.specs.Grammar.{Point, start_of}
 use Rattle.rb_parse.specs.Machine.{fits, look, names_after, blocks_after, Advances}
-use Rattle.rb_parse.specs.Reading.{Position, position_of, tokens_ahead, terminal_ahead, by_form, by_token, IsNotTaken, IsSound}
+use Rattle.rb_parse.specs.Terminals.{terminal_of}
+use Rattle.rb_parse.specs.Reading.{Position, position_before, position_of, tokens_ahead, terminal_ahead, by_form, by_token, IsNotTaken, IsSound}
 
 pub fits-true : (first : Option Terminal) (terminal : Terminal) → fits first terminal ≡ true → first ≡ Some terminal
 fits-true None terminal e = absurd cc
 fits-true (Some first) terminal e = ap Some (same_true the_type tt first terminal e)
 
-looks_ahead : (ahead : Option Token) (others : List Lexeme) → terminal_ahead ahead ≡ look (tokens_ahead ahead others)
-looks_ahead None others = refl
-looks_ahead (Some token) others = refl
+looks_ahead : (ahead : Option Token) (others : List Lexeme) (n : ℕ) → terminal_ahead ahead ≡ look (allowed n (tokens_ahead ahead others))
+looks_ahead None others n = refl
+looks_ahead (Some token) others n = refl
 
 -- the token that comes next and those after it are those that were left
 pub next_tokens : (old new : Reader) (ahead : Option Token) → Answers old (Ok ahead) new → tokens_ahead ahead (tokens_left new) ≡ tokens_left old
@@ -59,85 +63,148 @@ blocks_after-le : (first : Option Terminal) (blocks : ℕ) → blocks_after firs
 blocks_after-le (Some terminals.Ensure) blocks = omega arith
 blocks_after-le _ blocks = omega arith
 
--- a cursor before the first token stands there
-pub begins : (source : List ℕ) (lexer after : Reader) (ahead : Option Token) → lexer ≡ record { second = is_second source; place = first_place; left = source } → Answers lexer (Ok ahead) after → position_of ahead after 0 0 ≡ record { point = start_of (tokens_of source); ending = ending_of source }
-begins source lexer after ahead e a =
-    ap (λ left. let p : Position = record { point = start_of left; ending = ending_left after } in p) (next_tokens lexer after ahead a)
-    ∙ ap (λ ending. let p : Position = record { point = start_of (tokens_left lexer); ending = ending } in p) (next_ending lexer after ahead a)
-    ∙ ap (λ r. let p : Position = record { point = start_of (tokens_left r); ending = ending_left r } in p) e
+-- where a reader answered that nothing comes next, it stands at the end
+pub next_end : (old new : Reader) (ahead : Option Token) → Answers old (Ok ahead) new → ahead ≡ None → ending_left new ≡ AtEnd new.place
+next_end old new None a e = ended_at new.second new.place new.left a.1
+next_end old new (Some token) a e = absurd cc
 
-pub begins_sound : (old new : Reader) (ahead : Option Token) → Answers old (Ok ahead) new → length old.left ≤ 1048576 → (terminal : Option Terminal) → terminal ≡ terminal_ahead ahead → IsSound terminal (position_of ahead new 0 0)
+if_any-le : (none : Bool) (rest : List Lexeme) (n : ℕ) → length rest ≤ n → length (cond none [] rest) ≤ n
+if_any-le true rest n h = omega arith
+if_any-le false rest n h = h
+
+-- no more are given than there are
+allowed-le : (n : ℕ) (tokens : List Lexeme) → length (allowed n tokens) ≤ length tokens
+allowed-le n [] = omega arith
+allowed-le n (token ∷ tokens) =
+    let m = open_after (terminal_of token) n in
+    omega (arith, if_any-le (is_too_deep n token) (allowed m tokens) (length tokens) (allowed-le m tokens))
+
+-- a cursor before the first token stands there
+pub begins : (source : List ℕ) (lexer after : Reader) (ahead : Option Token) → lexer ≡ record { second = is_second source; place = first_place; left = source } → Answers lexer (Ok ahead) after → position_of ahead after 0 0 0 ≡ record { point = start_of (allowed_of source); ending = ending_allowed_of source }
+begins source lexer after ahead e a =
+    ap (λ left. position_before left (ending_left after) 0 0 0) (next_tokens lexer after ahead a)
+    ∙ ap (λ ending. position_before (tokens_left lexer) ending 0 0 0) (next_ending lexer after ahead a)
+    ∙ ap (λ r. position_before (tokens_left r) (ending_left r) 0 0 0) e
+
+pub begins_sound : (old new : Reader) (ahead : Option Token) → Answers old (Ok ahead) new → length old.left ≤ 1048576 → (terminal : Option Terminal) → terminal ≡ terminal_ahead ahead → IsSound terminal ahead new 0 (position_of ahead new 0 0 0)
 begins_sound old new ahead a few terminal e =
-    let shorter : length (tokens_ahead ahead (tokens_left new)) ≤ 1048576 =
-    omega (arith, ap length (next_tokens old new ahead a), few_tokens old) in
+    let tokens = tokens_ahead ahead (tokens_left new) in
+    let shorter : length (allowed 0 tokens) ≤ 1048576 =
+    omega (arith, ap length (next_tokens old new ahead a), few_tokens old, allowed-le 0 tokens) in
     record {
-      looks = e ∙ looks_ahead ahead (tokens_left new);
+      looks = e ∙ looks_ahead ahead (tokens_left new) 0;
+      ended = next_end old new ahead a;
+      brackets_fit = omega arith;
       names_fit = omega arith;
       blocks_fit = omega arith;
     }
 
 -- what stands first is another
-pub misses : (terminal : Terminal) (first : Option Terminal) (held : Option Token) (lexer : Reader) (names blocks : ℕ) (old : Position) → position_of held lexer names blocks ≡ old → IsSound first (position_of held lexer names blocks) → fits first terminal ≡ false → IsNotTaken terminal old old stops.Form
-misses terminal first held lexer names blocks old at sound e =
+pub misses : (terminal : Terminal) (first : Option Terminal) (held : Option Token) (lexer : Reader) (names blocks brackets : ℕ) (old : Position) → position_of held lexer names blocks brackets ≡ old → IsSound first held lexer brackets (position_of held lexer names blocks brackets) → fits first terminal ≡ false → IsNotTaken terminal old old stops.Form
+misses terminal first held lexer names blocks brackets old at sound e =
     by_form (record {
       other = ap (λ x. fits (look x.point.left) terminal) (sym at) ∙ ap (λ x. fits x terminal) (sym sound.looks) ∙ e;
       stays = refl;
     })
 
-none_fits : (terminal : Terminal) (first : Option Terminal) (held : Option Token) (lexer : Reader) (names blocks : ℕ) → IsSound first (position_of held lexer names blocks) → held ≡ None → fits first terminal ≡ false
-none_fits terminal first held lexer names blocks sound e =
-    ap (λ x. fits x terminal) (sound.looks ∙ ap (λ x. look (tokens_ahead x (tokens_left lexer))) e)
+none_fits : (terminal : Terminal) (first : Option Terminal) (held : Option Token) (lexer : Reader) (names blocks brackets : ℕ) → IsSound first held lexer brackets (position_of held lexer names blocks brackets) → held ≡ None → fits first terminal ≡ false
+none_fits terminal first held lexer names blocks brackets sound e =
+    ap (λ x. fits x terminal) (sound.looks ∙ ap (λ x. look (allowed brackets (tokens_ahead x (tokens_left lexer)))) e)
 
 -- nothing stands first
-pub misses_all : (terminal : Terminal) (first : Option Terminal) (held : Option Token) (lexer : Reader) (names blocks : ℕ) (old : Position) → position_of held lexer names blocks ≡ old → IsSound first (position_of held lexer names blocks) → held ≡ None → IsNotTaken terminal old old stops.Form
-misses_all terminal first held lexer names blocks old at sound e =
-    misses terminal first held lexer names blocks old at sound (none_fits terminal first held lexer names blocks sound e)
+pub misses_all : (terminal : Terminal) (first : Option Terminal) (held : Option Token) (lexer : Reader) (names blocks brackets : ℕ) (old : Position) → position_of held lexer names blocks brackets ≡ old → IsSound first held lexer brackets (position_of held lexer names blocks brackets) → held ≡ None → IsNotTaken terminal old old stops.Form
+misses_all terminal first held lexer names blocks brackets old at sound e =
+    misses terminal first held lexer names blocks brackets old at sound (none_fits terminal first held lexer names blocks brackets sound e)
 
-module _ (token : Token) (held ahead : Option Token) (terminal : Terminal) (first : Option Terminal) (lexer after : Reader) (names blocks : ℕ) (sound : IsSound first (position_of held lexer names blocks)) (holds : held ≡ Some token) (answers : Answers lexer (Ok ahead) after) where
-  next_left : tokens_ahead held (tokens_left lexer) ≡ lexeme_of token ∷ tokens_ahead ahead (tokens_left after)
-  next_left =
-      ap (λ x. tokens_ahead x (tokens_left lexer)) holds ∙ ap (λ left. lexeme_of token ∷ left) (sym (next_tokens lexer after ahead answers))
+-- a token that fits stands first
+module _ (token : Token) (held : Option Token) (terminal : Terminal) (first : Option Terminal) (lexer : Reader) (names blocks brackets : ℕ) (old : Position) (at : position_of held lexer names blocks brackets ≡ old) (sound : IsSound first held lexer brackets (position_of held lexer names blocks brackets)) (holds : held ≡ Some token) (fit : fits first terminal ≡ true) where
+  is : terminal_of (lexeme_of token) ≡ Some terminal
+  is =
+      ap (λ x. look (allowed brackets (tokens_ahead x (tokens_left lexer)))) (sym holds) ∙ sym sound.looks ∙ fits-true first terminal fit
 
-  -- a token was taken
-  pub advances : (old : Position) → position_of held lexer names blocks ≡ old → fits first terminal ≡ true → (later_names later_blocks : ℕ) → later_names ≡ names_after (Some terminal) names → later_blocks ≡ blocks_after (Some terminal) blocks → Advances terminal (lexeme_of token) old.point (position_of ahead after later_names later_blocks).point
-  advances old at e later_names later_blocks n b = record {
-    stands = ap (λ x. x.point.left) (sym at) ∙ next_left;
-    is = ap look (sym next_left) ∙ sym sound.looks ∙ fits-true first terminal e;
-    names = n ∙ ap (λ x. names_after (Some terminal) x.point.names) at;
-    blocks = b ∙ ap (λ x. blocks_after (Some terminal) x.point.blocks) at;
-  }
+  -- the tokens left, and their ending, by whether too many brackets are open with it
+  left_by : (deep : Bool) → is_too_deep brackets (lexeme_of token) ≡ deep → old.point.left ≡ lexeme_of token ∷ cond deep [] (allowed (open_after (Some terminal) brackets) (tokens_left lexer))
+  left_by deep e =
+      ap (λ x. x.point.left) (sym at)
+      ∙ ap (λ x. allowed brackets (tokens_ahead x (tokens_left lexer))) holds
+      ∙ ap (λ x. lexeme_of token ∷ cond x [] (allowed (open_after (terminal_of (lexeme_of token)) brackets) (tokens_left lexer))) e
+      ∙ ap (λ x. lexeme_of token ∷ cond deep [] (allowed (open_after x brackets) (tokens_left lexer))) is
 
-  -- and the cursor stands after it
-  pub advances_sound : (later : Option Terminal) (later_names later_blocks : ℕ) → later ≡ terminal_ahead ahead → later_names ≡ names_after (Some terminal) names → later_blocks ≡ blocks_after (Some terminal) blocks → IsSound later (position_of ahead after later_names later_blocks)
-  advances_sound later later_names later_blocks e n b = record {
-    looks = e ∙ looks_ahead ahead (tokens_left after);
-    names_fit = omega (arith, sound.names_fit, names_after-le (Some terminal) names, ap length next_left);
-    blocks_fit = omega (arith, sound.blocks_fit, blocks_after-le (Some terminal) blocks, ap length next_left);
-  }
+  ending_by : (deep : Bool) → is_too_deep brackets (lexeme_of token) ≡ deep → old.ending ≡ cond deep (AtFault (too_deep (lexeme_of token))) (ending_allowed (open_after (Some terminal) brackets) (tokens_left lexer) (ending_left lexer))
+  ending_by deep e =
+      ap (λ x. x.ending) (sym at)
+      ∙ ap (λ x. ending_allowed brackets (tokens_ahead x (tokens_left lexer)) (ending_left lexer)) holds
+      ∙ ap (λ x. cond x (AtFault (too_deep (lexeme_of token))) (ending_allowed (open_after (terminal_of (lexeme_of token)) brackets) (tokens_left lexer) (ending_left lexer))) e
+      ∙ ap (λ x. cond deep (AtFault (too_deep (lexeme_of token))) (ending_allowed (open_after x brackets) (tokens_left lexer) (ending_left lexer))) is
 
-  -- one token less is left
-  pub shorter : (old : Position) → position_of held lexer names blocks ≡ old → length (tokens_ahead ahead (tokens_left after)) < length old.point.left
-  shorter old at = omega (arith, ap length next_left, ap (λ x. length x.point.left) at)
+  -- it is the last one, and this fault follows
+  stops_behind : (fault : SourceFault) (new : Position) → old.point.left ≡ lexeme_of token ∷ [] → old.ending ≡ AtFault fault → IsNotTaken terminal old new (stops.Token fault)
+  stops_behind fault new last ends =
+      let later : Point = record {
+        left = [];
+        names = names_after (Some terminal) old.point.names;
+        blocks = blocks_after (Some terminal) old.point.blocks;
+      } in
+      by_token fault ends (record {
+        token = lexeme_of token;
+        after = later;
+        takes = record { stands = last; is = is; names = refl; blocks = refl };
+        ended = refl;
+      })
 
--- the last token was taken, and a fault follows
-pub ends_by_fault : (token : Token) (held : Option Token) (terminal : Terminal) (first : Option Terminal) (lexer after : Reader) (names blocks : ℕ) (fault : SourceFault) (old new : Position) → IsSound first (position_of held lexer names blocks) → held ≡ Some token → position_of held lexer names blocks ≡ old → fits first terminal ≡ true → Answers lexer (Err fault) after → IsNotTaken terminal old new (stops.Token fault)
-ends_by_fault token held terminal first lexer after names blocks fault old new sound holds at e answers =
-    let faulty = answers_fault lexer after fault answers in
-    let left : tokens_ahead held (tokens_left lexer) ≡ lexeme_of token ∷ [] =
-    ap (λ x. tokens_ahead x (tokens_left lexer)) holds ∙ ap (λ others. lexeme_of token ∷ others) faulty.0 in
-    let later : Point = record {
-      left = [];
-      names = names_after (Some terminal) old.point.names;
-      blocks = blocks_after (Some terminal) old.point.blocks;
-    } in
-    by_token fault (ap (λ x. x.ending) (sym at) ∙ faulty.1) (record {
-      token = lexeme_of token;
-      after = later;
-      takes = record {
-        stands = ap (λ x. x.point.left) (sym at) ∙ left;
-        is = ap look (sym left) ∙ sym sound.looks ∙ fits-true first terminal e;
-        names = refl;
-        blocks = refl;
-      };
-      ended = refl;
-    })
+  -- too many brackets are open with it
+  pub stops_deep : (new : Position) (later_brackets : ℕ) → later_brackets ≡ open_after (Some terminal) brackets → most_open < later_brackets → IsNotTaken terminal old new (stops.Token (too_deep (lexeme_of token)))
+  stops_deep new later_brackets b deep =
+      let e : is_too_deep brackets (lexeme_of token) ≡ true =
+      ap (λ x. nat_lt most_open (open_after x brackets)) is ∙ ap (λ x. nat_lt most_open x) (sym b) ∙ lt-ltb most_open later_brackets deep in
+      stops_behind (too_deep (lexeme_of token)) new (left_by true e) (ending_by true e)
+
+  module _ (later_brackets : ℕ) (b : later_brackets ≡ open_after (Some terminal) brackets) (few : later_brackets ≤ most_open) where
+    shallow : is_too_deep brackets (lexeme_of token) ≡ false
+    shallow = ap (λ x. nat_lt most_open (open_after x brackets)) is ∙ ap (λ x. nat_lt most_open x) (sym b) ∙ le-ltb most_open later_brackets few
+
+    -- a fault follows
+    pub stops_faulty : (fault : SourceFault) (after : Reader) (new : Position) → Answers lexer (Err fault) after → IsNotTaken terminal old new (stops.Token fault)
+    stops_faulty fault after new answers =
+        let faulty = answers_fault lexer after fault answers in
+        stops_behind fault new (left_by false shallow ∙ ap (λ left. lexeme_of token ∷ allowed (open_after (Some terminal) brackets) left) faulty.0) (ending_by false shallow ∙ ap (λ left. ending_allowed (open_after (Some terminal) brackets) left (ending_left lexer)) faulty.0 ∙ faulty.1)
+
+    module _ (ahead : Option Token) (after : Reader) (answers : Answers lexer (Ok ahead) after) where
+      next_left : old.point.left ≡ lexeme_of token ∷ allowed later_brackets (tokens_ahead ahead (tokens_left after))
+      next_left =
+          left_by false shallow
+          ∙ ap (λ n. lexeme_of token ∷ allowed n (tokens_left lexer)) (sym b)
+          ∙ ap (λ left. lexeme_of token ∷ allowed later_brackets left) (sym (next_tokens lexer after ahead answers))
+
+      -- it was taken
+      pub advances : (later_names later_blocks : ℕ) → later_names ≡ names_after (Some terminal) names → later_blocks ≡ blocks_after (Some terminal) blocks → Advances terminal (lexeme_of token) old.point (position_of ahead after later_names later_blocks later_brackets).point
+      advances later_names later_blocks n m = record {
+        stands = next_left;
+        is = is;
+        names = n ∙ ap (λ x. names_after (Some terminal) x.point.names) at;
+        blocks = m ∙ ap (λ x. blocks_after (Some terminal) x.point.blocks) at;
+      }
+
+      -- the tokens still end as they did
+      pub same_ending : (position_of ahead after names blocks later_brackets).ending ≡ old.ending
+      same_ending =
+          ap (λ left. ending_allowed later_brackets left (ending_left after)) (next_tokens lexer after ahead answers)
+          ∙ ap (λ ending. ending_allowed later_brackets (tokens_left lexer) ending) (next_ending lexer after ahead answers)
+          ∙ ap (λ n. ending_allowed n (tokens_left lexer) (ending_left lexer)) b
+          ∙ sym (ending_by false shallow)
+
+      -- one token less is left
+      pub shorter : length (allowed later_brackets (tokens_ahead ahead (tokens_left after))) < length old.point.left
+      shorter = omega (arith, ap length next_left)
+
+      -- and the cursor stands after it
+      pub advances_sound : (later : Option Terminal) (later_names later_blocks : ℕ) → later ≡ terminal_ahead ahead → later_names ≡ names_after (Some terminal) names → later_blocks ≡ blocks_after (Some terminal) blocks → IsSound later ahead after later_brackets (position_of ahead after later_names later_blocks later_brackets)
+      advances_sound later later_names later_blocks e n m =
+          let fewer = ap length (ap (λ x. x.point.left) at ∙ next_left) in
+          record {
+            looks = e ∙ looks_ahead ahead (tokens_left after) later_brackets;
+            ended = next_end lexer after ahead answers;
+            brackets_fit = few;
+            names_fit = omega (arith, sound.names_fit, names_after-le (Some terminal) names, fewer);
+            blocks_fit = omega (arith, sound.blocks_fit, blocks_after-le (Some terminal) blocks, fewer);
+          }

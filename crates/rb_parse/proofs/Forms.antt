@@ -1,117 +1,108 @@
--- What the table says of what stands first, one fact for each choice that the code makes.
-use Rattle.std.proofs.Common.{◌≡◌, ℕ, true, false, List, [], ◌∷◌, Option, Some, None, refl, sym, ap, ◌∙◌}
+-- What the table says of what stands first, one fact for each choice among forms that the code makes.
+use Rattle.std.proofs.Common.{◌≡◌, true, false, Option, Some, None, refl, ap}
 use Rattle.std.specs.Option.{is_some}
-use denote.Enum.Bare.{true_same}
-use Rattle.rb_base.specs.declared.place.Place.{Place}
-use Rattle.rb_lex.specs.Tokens.{Lexeme}
-use Rattle.rb_parse.specs.contracts.terminal.Terminal.{the_type}
+use Rattle.rb_parse.specs.declared.edition.Edition.{Edition}
+use Rattle.rb_parse.specs.declared.edition.Edition.TheVariants as editions
 use Rattle.rb_parse.specs.declared.terminal.Terminal.{Terminal}
 use Rattle.rb_parse.specs.declared.terminal.Terminal.TheVariants as terminals
-use Rattle.rb_parse.specs.Grammar.{Point}
-use Rattle.rb_parse.specs.Machine.{Advances, fits, look, first_of, seen_at, place_of}
-use Rattle.rb_parse.specs.Parts.{Part}
-use Rattle.rb_parse.specs.Plans.{Seen, Plan, Done, Call}
-use Rattle.rb_parse.specs.Table.{Start, begin, variable_after, sum_after, expression_after, amount_after, items_after, assignment_after, statements_after, declarations_after, start_place, start_term, sum_operator, start_link, start_expression, start_item, start_more_items, start_statement, start_statements, start_declaration, start_declarations, start_process, start_program}
-use Rattle.rb_parse.proofs.Reaching.{Reaches, starts, begins, begins_here}
-use Rattle.rb_syntax.specs.declared.expression.Op.{Op}
-use Rattle.rb_syntax.specs.Tree.{Linked, PrintItem, Words}
+use Rattle.rb_parse.specs.ExpressionTable.{Start, begin, nothing_after, variable_after, literal_after, start_number, start_place, start_atom, start_factor, start_comparison, start_negation, start_disjunction, start_expression, quantified_after}
+use Rattle.rb_parse.specs.Machine.{fits}
+use Rattle.rb_parse.specs.Operators.{quantifier}
+use Rattle.rb_parse.specs.Plans.{Seen, Plan}
+use Rattle.rb_syntax.specs.declared.expression.Quantifier.{Quantifier}
+use Rattle.rb_syntax.specs.declared.expression.Quantifier.TheVariants as quantifiers
+use Rattle.rb_parse.specs.StatementTable.{amount_after, assignment_after, recovering_after, alternates_after, start_item, start_alternate, start_other_alternates, start_recovery, start_statement}
+use Rattle.rb_parse.specs.Table.{channels_after, conversations_after, start_channel, start_conversation, start_connections, start_unmarked, start_program}
 
-pub no_place : (first : Option Terminal) → fits first terminals.Name ≡ false → start_place first ≡ None
-no_place (Some terminals.Name) e = absurd cc
-no_place _ e = refl
+pub is_none : {A : Type 0} (o : Option A) → is_some o ≡ false → o ≡ None
+is_none None e = refl
+is_none (Some v) e = absurd cc
 
-pub term_place : (first : Option Terminal) → fits first terminals.Number ≡ false → start_term first ≡ begin (start_place first) variable_after
-term_place (Some terminals.Number) e = absurd cc
-term_place _ e = refl
-
--- a sum begins with a term
-pub sum_term : (a : Point) → Reaches Part.Sum a (Call Part.Term (sum_after (seen_at a))) a
-sum_term a = begins Part.Term a sum_after refl refl refl
-
-pub expression_sum : (a : Point) → Reaches Part.Expression a (Call Part.Sum (expression_after (seen_at a))) a
-expression_sum a = begins Part.Sum a expression_after refl refl refl
-
-fits_same : (first : Option Terminal) (terminal : Terminal) → first ≡ Some terminal → fits first terminal ≡ true
-fits_same first terminal e = ap (λ x. fits x terminal) e ∙ true_same the_type terminal terminal refl
-
--- the operator that was found does stand first
-pub operator_fits : {op : Op} {seen first : Option Terminal} {terminal : Terminal} (e : (sum_operator seen ≡ Some op) × (seen ≡ Some terminal)) → seen ≡ first → fits first terminal ≡ true
-operator_fits {first = first} {terminal = terminal} e same = fits_same first terminal (sym same ∙ e.1)
-
--- a link begins with its operator
-pub link_begun : {op : Op} {seen : Option Terminal} {terminal : Terminal} {token : Lexeme} {a b : Point} → (sum_operator seen ≡ Some op) × (seen ≡ Some terminal) → Advances terminal token a b → Reaches Part.MoreTerms a (Call Part.Term (λ right. Call Part.MoreTerms (λ links. Done (Linked op right links)))) b
-link_begun {op} {seen} {terminal} e h =
-    starts (λ operator. Call Part.Term (λ right. Call Part.MoreTerms (λ links. Done (Linked op right links)))) (ap start_link (ap sum_operator (sym e.1) ∙ e.0)) h
-
-pub no_declaration : (first : Option Terminal) → fits first terminals.Var ≡ false → start_declaration first ≡ None
-no_declaration (Some terminals.Var) e = absurd cc
-no_declaration _ e = refl
-
-pub some_declaration : (first : Option Terminal) → fits first terminals.Var ≡ true → is_some (start_declaration first) ≡ true
-some_declaration (Some terminals.Var) e = refl
-some_declaration _ e = absurd cc
-
--- declarations begin with a declaration, where one begins
-pub declarations_first : (a : Point) → fits (look a.left) terminals.Var ≡ true → Reaches Part.Declarations a (Call Part.Declaration (declarations_after (seen_at a))) a
-declarations_first a e =
-    begins_here Part.Declaration a declarations_after refl (some_declaration (look a.left) e)
-
-pub no_declarations : (first : Option Terminal) → fits first terminals.Var ≡ false → start_declarations first ≡ None
-no_declarations first e = ap (λ begun. begin begun declarations_after) (no_declaration first e)
-
--- statements begin with a statement, where one begins
-pub statements_first : (a : Point) → is_some (start_statement (look a.left)) ≡ true → Reaches Part.Statements a (Call Part.Statement (statements_after (seen_at a))) a
-statements_first a e = begins_here Part.Statement a statements_after refl e
-
-begin_none : {A B : Type 0} (begun : Start A) (rest : Seen → A → Plan B) → is_some begun ≡ false → begin begun rest ≡ None
+pub begin_none : {A B : Type 0} (begun : Start A) (rest : Seen → A → Plan B) → is_some begun ≡ false → begin begun rest ≡ None
 begin_none None rest e = refl
 begin_none (Some f) rest e = absurd cc
 
-pub no_statements : (first : Option Terminal) → is_some (start_statement first) ≡ false → start_statements first ≡ None
-no_statements first e = begin_none (start_statement first) statements_after e
+pub begin_some : {A B : Type 0} (begun : Start A) (rest : Seen → A → Plan B) → is_some begun ≡ true → is_some (begin begun rest) ≡ true
+begin_some None rest e = absurd cc
+begin_some (Some f) rest e = refl
 
-statement_place : (first : Option Terminal) → fits first terminals.Print ≡ false → start_statement first ≡ begin (start_place first) assignment_after
-statement_place (Some terminals.Print) e = absurd cc
-statement_place _ e = refl
+pub begin_still : {A B : Type 0} (begun : Start A) (rest : Seen → A → Plan B) → is_some begun ≡ false → is_some (begin begun rest) ≡ false
+begin_still None rest e = refl
+begin_still (Some f) rest e = absurd cc
 
--- a statement that is no `print` begins with a place
-pub assignment_place : (a : Point) → fits (look a.left) terminals.Print ≡ false → Reaches Part.Statement a (Call Part.Place (assignment_after (seen_at a))) a
-assignment_place a e = begins Part.Place a assignment_after (statement_place (look a.left) e) refl refl
+pub atom_place : (first : Option Terminal) → is_some (start_place first) ≡ true → start_atom first ≡ begin (start_place first) variable_after
+atom_place (Some terminals.Name) e = refl
+atom_place _ e = absurd cc
 
-pub items_first : (a : Point) → Reaches Part.Items a (Call Part.Item (items_after (seen_at a))) a
-items_first a = begins Part.Item a items_after refl refl refl
+pub atom_number : (first : Option Terminal) → is_some (start_number first) ≡ true → start_atom first ≡ begin (start_number first) literal_after
+atom_number (Some terminals.Number) e = refl
+atom_number (Some terminals.Two) e = refl
+atom_number _ e = absurd cc
 
-pub no_more_items : (first : Option Terminal) → fits first terminals.Comma ≡ false → start_more_items first ≡ None
-no_more_items (Some terminals.Comma) e = absurd cc
-no_more_items _ e = refl
+pub atom_literal : (first : Option Terminal) → fits first terminals.Name ≡ false → fits first terminals.Prior ≡ false → fits first terminals.OpenParen ≡ false → start_atom first ≡ begin (start_number first) literal_after
+atom_literal (Some terminals.Name) e f g = absurd cc
+atom_literal (Some terminals.Prior) e f g = absurd cc
+atom_literal (Some terminals.OpenParen) e f g = absurd cc
+atom_literal _ e f g = refl
 
--- a text, at its place
-abbrev pub text_at : Place → List ℕ → PrintItem
-text_at place text = record { place = place; what = Words text }
+-- a factor without its sign is an atom
+pub factor_atom : (first : Option Terminal) → fits first terminals.Minus ≡ false → start_factor first ≡ begin (start_atom first) nothing_after
+factor_atom (Some terminals.Minus) e = absurd cc
+factor_atom _ e = refl
 
-item_amount : (first : Option Terminal) → fits first terminals.Text ≡ false → start_item first ≡ begin (start_expression first) amount_after
+pub negation_comparison : (first : Option Terminal) → fits first terminals.Not ≡ false → start_negation first ≡ begin (start_comparison first) nothing_after
+negation_comparison (Some terminals.Not) e = absurd cc
+negation_comparison _ e = refl
+
+pub expression_chain : (first : Option Terminal) → quantifier first ≡ None → start_expression first ≡ begin (start_disjunction first) nothing_after
+expression_chain (Some terminals.Every) e = absurd cc
+expression_chain (Some terminals.Some) e = absurd cc
+expression_chain (Some terminals.Sum) e = absurd cc
+expression_chain _ e = refl
+
+pub item_amount : (first : Option Terminal) → fits first terminals.Text ≡ false → start_item first ≡ begin (start_expression first) amount_after
 item_amount (Some terminals.Text) e = absurd cc
 item_amount _ e = refl
 
--- an item that is no text is an expression
-pub item_expression : (a : Point) → fits (look a.left) terminals.Text ≡ false → Reaches Part.Item a (Call Part.Expression (amount_after (seen_at a))) a
-item_expression a e = begins Part.Expression a amount_after (item_amount (look a.left) e) refl refl
+pub statement_recovery : (edition : Edition) (first : Option Terminal) → is_some (start_recovery edition first) ≡ true → start_statement edition first ≡ begin (start_recovery edition first) recovering_after
+statement_recovery edition (Some terminals.Ensure) e = refl
+statement_recovery edition _ e = absurd cc
 
-pub place_first : (left : List Lexeme) (place : Place) → place_of left ≡ Some place → (first_of left).place ≡ place
-place_first [] place e = absurd cc
-place_first (token ∷ others) place e = cc
+pub statement_place : (edition : Edition) (first : Option Terminal) → is_some (start_place first) ≡ true → start_statement edition first ≡ begin (start_place first) assignment_after
+statement_place edition (Some terminals.Name) e = refl
+statement_place edition _ e = absurd cc
 
-nothing_first : (left : List Lexeme) → place_of left ≡ None → look left ≡ None
-nothing_first [] e = refl
-nothing_first (token ∷ others) e = absurd cc
+pub statement_assignment : (edition : Edition) (first : Option Terminal) → fits first terminals.Receive ≡ false → fits first terminals.If ≡ false → fits first terminals.While ≡ false → fits first terminals.Ensure ≡ false → fits first terminals.Converse ≡ false → fits first terminals.Print ≡ false → fits first terminals.Send ≡ false → fits first terminals.Call ≡ false → fits first terminals.Fail ≡ false → start_statement edition first ≡ begin (start_place first) assignment_after
+statement_assignment edition (Some terminals.Receive) a b c d e f g h i = absurd cc
+statement_assignment edition (Some terminals.If) a b c d e f g h i = absurd cc
+statement_assignment edition (Some terminals.While) a b c d e f g h i = absurd cc
+statement_assignment edition (Some terminals.Ensure) a b c d e f g h i = absurd cc
+statement_assignment edition (Some terminals.Converse) a b c d e f g h i = absurd cc
+statement_assignment edition (Some terminals.Print) a b c d e f g h i = absurd cc
+statement_assignment edition (Some terminals.Send) a b c d e f g h i = absurd cc
+statement_assignment edition (Some terminals.Call) a b c d e f g h i = absurd cc
+statement_assignment edition (Some terminals.Fail) a b c d e f g h i = absurd cc
+statement_assignment edition _ a b c d e f g h i = refl
 
-pub no_item : (left : List Lexeme) → place_of left ≡ None → start_item (look left) ≡ None
-no_item left e = ap start_item (nothing_first left e)
+pub other_alternate : (edition : Edition) (first : Option Terminal) → is_some (start_alternate edition first) ≡ true → start_other_alternates edition first ≡ begin (start_alternate edition first) (alternates_after edition)
+other_alternate edition (Some terminals.By) e = refl
+other_alternate edition _ e = absurd cc
 
-pub no_process : (first : Option Terminal) → fits first terminals.Process ≡ false → start_process first ≡ None
-no_process (Some terminals.Process) e = absurd cc
-no_process _ e = refl
+pub connections_channel : (first : Option Terminal) → is_some (start_channel first) ≡ true → start_connections first ≡ begin (start_channel first) channels_after
+connections_channel (Some terminals.Channel) e = refl
+connections_channel _ e = absurd cc
 
-pub no_program : (first : Option Terminal) → fits first terminals.Program ≡ false → start_program first ≡ None
-no_program (Some terminals.Program) e = absurd cc
-no_program _ e = refl
+pub connections_conversation : (first : Option Terminal) → is_some (start_conversation first) ≡ true → start_connections first ≡ begin (start_conversation first) conversations_after
+connections_conversation (Some terminals.Conversation) e = refl
+connections_conversation _ e = absurd cc
+
+pub program_unmarked : (first : Option Terminal) → fits first terminals.Edition ≡ false → start_program first ≡ begin (start_unmarked editions.First first) nothing_after
+program_unmarked (Some terminals.Edition) e = absurd cc
+program_unmarked _ e = refl
+
+-- the word of a quantified expression begins it
+pub quantified_begun : (terminal : Terminal) (kind : Quantifier) → quantifier (Some terminal) ≡ Some kind → start_expression (Some terminal) ≡ Some (quantified_after kind)
+quantified_begun terminals.Every kind e = let same : quantifiers.Every ≡ kind = cc in ap (λ k. Some (quantified_after k)) same
+quantified_begun terminals.Some kind e = let same : quantifiers.Any ≡ kind = cc in ap (λ k. Some (quantified_after k)) same
+quantified_begun terminals.Sum kind e = let same : quantifiers.Total ≡ kind = cc in ap (λ k. Some (quantified_after k)) same
+quantified_begun _ kind e = absurd cc

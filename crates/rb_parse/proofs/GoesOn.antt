@@ -4,7 +4,7 @@ use Rattle.std.proofs.lemmas.List.{append-nil}
 use Rattle.std.proofs.Common.{length-append, append_assoc}
 use Rattle.rb_lex.specs.Tokens.{Lexeme}
 use Rattle.rb_parse.specs.declared.terminal.Terminal.{Terminal}
-use Rattle.rb_parse.specs.Grammar.{Point, AProgram, Derives, DerivesTree, start_of}
+use Rattle.rb_parse.specs.Grammar.{Point, Derives, DerivesTree, start_of}
 use Rattle.rb_parse.specs.Laws.{GoesOn, FirstBadToken, EndsTooEarly}
 use Rattle.rb_parse.specs.Machine.{Outcome, Accepted, Refused, names_after, blocks_after, called, finish, step, onward, read, run, whole}
 use Rattle.rb_parse.specs.Parts.{Part}
@@ -14,7 +14,7 @@ use Rattle.rb_parse.specs.Table.{empty}
 use Rattle.rb_parse.specs.Terminals.{terminal_of}
 use Rattle.rb_parse.proofs.Accepted.{accepted_derives, stepped}
 use Rattle.rb_parse.proofs.Complete.{derived_accepted}
-use Rattle.rb_parse.proofs.Reaching.{seen_from}
+use Rattle.rb_parse.proofs.Reaching.{seen_from, unread, exhausts}
 use Rattle.rb_parse.proofs.Shortest.{from, completion, completed}
 use Rattle.rb_parse.proofs.Sound.{Follows}
 use Rattle.rb_syntax.specs.Tree.{Tree}
@@ -132,7 +132,7 @@ refused_at token after more names blocks plan h =
 goes_on : (before : List Lexeme) (later : Plan Tree) → remains before 0 0 whole ≡ Some later → GoesOn before
 goes_on before later e =
     let more = completion later (names_past before 0) (blocks_past before 0) in
-    let Q : Tree → Point → Type 0 = λ v c. Derives (AProgram v) (start_of (before ++ more)) c in
+    let Q : Tree → Point → Type 0 = λ v c. Derives Part.Program v (start_of (before ++ more)) c in
     let ends = completed Q later (names_past before 0) (blocks_past before 0) (follows_remains Q before 0 0 whole later more e (λ v c d. d)) in
     (more, ends.0, record { end = ends.1; whole = ends.2; derived = ends.3 })
 
@@ -177,3 +177,7 @@ exhausted_goes_on tokens x =
     let ends = refused_left x.end.left x.end.names x.end.blocks (bind x.plan (λ tree. Done tree)) left (sym there ∙ e) in
     none_left left (omega (arith, ap length (sym x.ended ∙ ends.1), length-append ends.0 left)) in
     goes_on_by tokens (run whole (start_of tokens)) refl none
+
+-- the empty text goes on
+pub nothing_goes_on : GoesOn []
+nothing_goes_on = exhausted_goes_on [] (exhausts (unread Part.Program (start_of [])) refl)

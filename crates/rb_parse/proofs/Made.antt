@@ -1,41 +1,58 @@
 -- Trees in memory, as the plan has them.
-use Rattle.std.proofs.Common.{◌≡◌, ℕ, List, [], ◌∷◌, map, sym, ◌∙◌}
+use Rattle.std.proofs.Common.{◌≡◌, ℕ, List, Option, None, Vec, sym, ap, ◌∙◌}
+use Rattle.std.specs.declared.alloc.Global.{Global}
+use Rattle.rb_base.specs.declared.place.Place.{Place}
 use Rattle.rb_lex.specs.Tokens.{Lexeme}
+use Rattle.rb_parse.specs.declared.edition.Edition.{Edition}
 use Rattle.rb_parse.specs.declared.terminal.Terminal.TheVariants as terminals
-use Rattle.rb_parse.specs.Grammar.{Point}
+use Rattle.rb_parse.specs.Grammar.{Point, edition_number}
 use Rattle.rb_parse.specs.Machine.{Advances}
-use Rattle.rb_parse.specs.Table.{program_of}
-use Rattle.rb_syntax.specs.declared.program.Channel.{Channel}
-use Rattle.rb_syntax.specs.declared.program.Conversation.{Conversation}
-use Rattle.rb_syntax.specs.declared.program.Procedure.{Procedure}
-use Rattle.rb_syntax.specs.declared.program.Process.{Process}
-use Rattle.rb_syntax.specs.Plain.{channel_declaration, conversation_declaration, procedure_declaration, process_declaration}
-use Rattle.rb_syntax.specs.Tree.{Identifier, Declaration, Commands, ProcessDeclaration, Tree}
+use Rattle.rb_parse.specs.Table.{tree_with}
+use Rattle.rb_syntax.proofs.Bridge.{recovery_layer, recovery_out}
+use Rattle.rb_syntax.specs.declared.expression.Expr.{Expr}
+use Rattle.rb_syntax.specs.declared.expression.Number.{Number}
+use Rattle.rb_syntax.specs.declared.statement.Block.{Block}
+use Rattle.rb_syntax.specs.declared.statement.Recovery.{roll-Recovery, out-roll-Recovery}
+use Rattle.rb_syntax.specs.Plain.{expression, recovery_block, alternates_of}
+use Rattle.rb_syntax.specs.Tree.{Recovers, Identifier, Declaration, Commands, Body, ChannelDeclaration, ConversationDeclaration, ProcedureDeclaration, ProcessDeclaration, Tree}
 
-abbrev pub process_of : Identifier → List Declaration → List Procedure → Commands → ProcessDeclaration
-process_of name variables procedures commands = record {
+abbrev pub variable_with : Option Number → Identifier → Declaration
+variable_with size name = record { name = name; size = size }
+
+abbrev pub channel_of : Number → Identifier → Identifier → Identifier → ChannelDeclaration
+channel_of size name sender receiver = record { name = name; sender = sender; receiver = receiver; size = size }
+
+abbrev pub conversation_of : List Identifier → Identifier → ConversationDeclaration
+conversation_of members name = record { name = name; members = members }
+
+abbrev pub procedure_of : List Identifier → Body → Identifier → ProcedureDeclaration
+procedure_of parameters body name = record { name = name; parameters = parameters; body = body }
+
+abbrev pub process_of : List Declaration → List ProcedureDeclaration → Commands → Identifier → ProcessDeclaration
+process_of variables procedures commands name = record {
   name = name;
   variables = variables;
-  procedures = map procedure_declaration procedures;
+  procedures = procedures;
   commands = commands;
 }
 
--- a process without procedures
-pub made_process : {held name : Identifier} {variables : List Declaration} {procedures : List Procedure} {commands : Commands} → name ≡ held → procedures ≡ [] → process_of held variables [] commands ≡ process_of name variables procedures commands
-made_process {variables = variables} {commands = commands} n p = λ j. process_of (sym n j) variables (sym p j) commands
-
-abbrev pub tree_of : Identifier → List Channel → List Conversation → List Process → ℕ → ℕ → Tree
-tree_of name channels conversations processes names blocks = record {
+abbrev pub tree_of : List ChannelDeclaration → List ConversationDeclaration → List ProcessDeclaration → Identifier → ℕ → ℕ → ℕ → Tree
+tree_of channels conversations processes name names blocks edition = record {
   name = name;
-  channels = map channel_declaration channels;
-  conversations = map conversation_declaration conversations;
-  processes = map process_declaration processes;
+  channels = channels;
+  conversations = conversations;
+  processes = processes;
   names = names;
   blocks = blocks;
-  edition = 1;
+  edition = edition;
 }
 
--- a program of one process, whose numbers are those after its last token
-pub made_program : {held name : Identifier} {channels : List Channel} {conversations : List Conversation} {processes : List Process} {names blocks : ℕ} {token : Lexeme} {a b : Point} (process : Process) → name ≡ held → channels ≡ [] → conversations ≡ [] → processes ≡ process ∷ [] → names ≡ b.names → blocks ≡ b.blocks → Advances terminals.Dot token a b → program_of held (process_declaration process) a.names a.blocks ≡ tree_of name channels conversations processes names blocks
-made_program process n c v p e f dot =
-    λ j. tree_of (sym n j) (sym c j) (sym v j) (sym p j) (sym (e ∙ dot.names) j) (sym (f ∙ dot.blocks) j)
+-- a program, whose numbers are those after its last token
+pub made_program : {held name : Identifier} {channels : List ChannelDeclaration} {conversations : List ConversationDeclaration} {processes : List ProcessDeclaration} {names blocks number : ℕ} {token : Lexeme} {a b : Point} (edition : Edition) → name ≡ held → names ≡ b.names → blocks ≡ b.blocks → number ≡ edition_number edition → Advances terminals.Dot token a b → tree_with edition held (channels, conversations) processes a.names a.blocks ≡ tree_of channels conversations processes name names blocks number
+made_program {channels = channels} {conversations = conversations} {processes = processes} edition n e f g dot =
+    λ j. tree_of channels conversations processes (sym n j) (sym (e ∙ dot.names) j) (sym (f ∙ dot.blocks) j) (sym g j)
+
+-- a recovery block in memory, without a conversation
+pub recovery_made : (number : ℕ) (place : Place) (test : Expr) (bound : Number) (alternates : Vec Block Global) → recovery_block (roll-Recovery record { number = number; conversation = None; place = place; test = test; bound = bound; alternates = alternates }) ≡ Recovers number None place (expression test) bound (alternates_of alternates.items)
+recovery_made number place test bound alternates =
+    recovery_out (roll-Recovery record { number = number; conversation = None; place = place; test = test; bound = bound; alternates = alternates }) ∙ ap recovery_layer (out-roll-Recovery record { number = number; conversation = None; place = place; test = test; bound = bound; alternates = alternates })

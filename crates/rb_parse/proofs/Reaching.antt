@@ -4,7 +4,8 @@ use Rattle.std.proofs.Common.{[], ◌≡◌, true, false, Some, None, Result, If
 use Rattle.std.specs.Result.{IsErrAnd}
 use Rattle.std.proofs.lemmas.Result.{err_from_is_err_and}
 use Rattle.std.specs.Option.{is_some}
-use Rattle.rb_lex.specs.Tokens.{Lexeme, Ending}
+use Rattle.rb_base.specs.declared.fault.SourceFault.{SourceFault}
+use Rattle.rb_lex.specs.Tokens.{Lexeme, Ending, AtFault}
 use Rattle.rb_parse.specs.declared.stop.Stop.{Stop}
 use Rattle.rb_parse.specs.declared.stop.Stop.TheVariants as stops
 use Rattle.rb_parse.specs.declared.terminal.Terminal.{Terminal}
@@ -137,6 +138,11 @@ pub exit_first : {T : Type 0} (part : Part) {terminal : Terminal} {before after 
 exit_first part f s none without r e same h =
     exit r e same (λ m. missed_first m (none m.other) without) (last_start f s) h
 
+-- of the first token of the only form of a part that is wanted
+pub exit_first_within : {T : Type 0} {part part_first : Part} {terminal : Terminal} {a : Point} {before after : Position} {f : Value part_first → Plan (Value part)} {old now : Ending} {given : Stop} (r : Result T Stop) → IsErrAnd r (λ stop. stop ≡ given) → now ≡ old → (g : Seen → Plan (Value part_first)) → start part_first (Some terminal) ≡ Some g → (fits (look before.point.left) terminal ≡ false → start part_first (look before.point.left) ≡ None) → empty part_first ≡ None → Reaches part a (Call part_first f) before.point → Stopped (Misses terminal before after) (TakesLast terminal before) now given → IfErr r (Stopped (Stops part a after.point) (Exhausts part a) old)
+exit_first_within r e same g s none without reached h =
+    exit r e same (λ m. stops_within reached (missed_first m (none m.other) without)) (λ l. exhausts_within reached (last_start g s l)) h
+
 pub exit_sure : {T : Type 0} {part : Part} {terminal : Terminal} {a : Point} (c : Point) {before after : Position} {old now : Ending} {given : Stop} (r : Result T Stop) → IsErrAnd r (λ stop. stop ≡ given) → now ≡ old → fits (look before.point.left) terminal ≡ true → (TakesLast terminal before → Exhausts part a) → Stopped (Misses terminal before after) (TakesLast terminal before) now given → IfErr r (Stopped (Stops part a c) (Exhausts part a) old)
 exit_sure c r e same sure last h = exit r e same (not_missed sure) last h
 
@@ -150,3 +156,10 @@ pub at_form : {P L : Type 0} {ending : Ending} {stop : Stop} → Stopped P L end
 at_form (by_form p) e = p
 at_form (by_token fault h l) e = absurd cc
 at_form by_memory e = absurd cc
+
+-- all tokens were taken, and this fault follows
+pub at_token : {P L : Type 0} {ending : Ending} {stop : Stop} (fault : SourceFault) → Stopped P L ending stop → stop ≡ stops.Token fault → (ending ≡ AtFault fault) × L
+at_token fault (by_form p) e = absurd cc
+at_token fault (by_token met h l) e =
+    let same : met ≡ fault = cc in (h ∙ ap AtFault same, l)
+at_token fault by_memory e = absurd cc

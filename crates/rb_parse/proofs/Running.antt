@@ -4,6 +4,8 @@ use Rattle.std.specs.Option.{is_some}
 use denote.Enum.Bare.{true_same}
 use Rattle.rb_lex.specs.Tokens.{Lexeme}
 use Rattle.rb_parse.specs.contracts.terminal.Terminal.{the_type}
+use Rattle.rb_parse.specs.declared.edition.Edition.TheVariants as editions
+use Rattle.rb_parse.specs.declared.level.Level.TheVariants as levels
 use Rattle.rb_parse.specs.declared.terminal.Terminal.{Terminal}
 use Rattle.rb_parse.specs.Grammar.{Point}
 use Rattle.rb_parse.specs.Machine.{Outcome, Accepted, Refused, fits, names_after, blocks_after, called, finish, step, onward, read, run, look, first_of, seen_at, Advances}
@@ -44,19 +46,55 @@ run_misses terminal (token ∷ others) names blocks e f =
 
 no_start : (part : Part) → start part None ≡ None
 no_start Part.Program = refl
-no_start Part.Process = refl
+no_start (Part.Unmarked edition) = refl
+no_start Part.Connections = refl
+no_start Part.Channel = refl
+no_start Part.Conversation = refl
+no_start Part.Names = refl
+no_start Part.MoreNames = refl
+no_start (Part.Process edition) = refl
+no_start (Part.Processes edition) = refl
+no_start (Part.MoreProcesses edition) = refl
+no_start (Part.Procedures edition) = refl
+no_start (Part.Procedure edition) = refl
+no_start Part.Parameters = refl
 no_start Part.Declarations = refl
 no_start Part.Declaration = refl
-no_start Part.Statements = refl
-no_start Part.Statement = refl
+no_start Part.Size = refl
+no_start (Part.Block edition) = refl
+no_start (Part.Statements edition) = refl
+no_start (Part.Statement edition) = refl
+no_start (Part.OptionalElse edition) = refl
+no_start (Part.ReceiptEnd editions.First) = refl
+no_start (Part.ReceiptEnd editions.Second) = refl
+no_start (Part.Recovery edition) = refl
+no_start (Part.Alternates edition) = refl
+no_start (Part.Alternate edition) = refl
+no_start (Part.OtherAlternates edition) = refl
 no_start Part.Items = refl
 no_start Part.MoreItems = refl
 no_start Part.Item = refl
+no_start Part.Arguments = refl
+no_start Part.Expressions = refl
+no_start Part.MoreExpressions = refl
 no_start Part.Expression = refl
-no_start Part.Sum = refl
-no_start Part.MoreTerms = refl
-no_start Part.Term = refl
+no_start (Part.Chain levels.Disjunction) = refl
+no_start (Part.Chain levels.Conjunction) = refl
+no_start (Part.Chain levels.Sum) = refl
+no_start (Part.Chain levels.Product) = refl
+no_start (Part.Links level) = refl
+no_start (Part.Operand levels.Disjunction) = refl
+no_start (Part.Operand levels.Conjunction) = refl
+no_start (Part.Operand levels.Sum) = refl
+no_start (Part.Operand levels.Product) = refl
+no_start Part.Negation = refl
+no_start Part.Comparison = refl
+no_start Part.Compared = refl
+no_start Part.Factor = refl
+no_start Part.Atom = refl
 no_start Part.Place = refl
+no_start Part.Subscript = refl
+no_start Part.Number = refl
 
 -- a plan after the first token
 abbrev past : List Lexeme → ℕ → ℕ → Plan Tree → Outcome

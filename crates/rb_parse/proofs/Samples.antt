@@ -17,6 +17,7 @@ mark text = record { kind = kinds.Mark; text = text; place = first_place }
 abbrev pub sample : Terminal → Lexeme
 sample terminals.Name = record { kind = kinds.Name; text = codes "x"; place = first_place }
 sample terminals.Number = record { kind = kinds.Number (pos 0); text = codes "0"; place = first_place }
+sample terminals.Two = record { kind = kinds.Number (pos 2); text = codes "2"; place = first_place }
 sample terminals.Text = record { kind = kinds.Text; text = 34 ∷ 34 ∷ []; place = first_place }
 sample terminals.All = word (codes "all")
 sample terminals.And = word (codes "and")

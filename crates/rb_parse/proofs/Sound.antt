@@ -1,41 +1,29 @@
--- What the machine accepts is derived: every form of the table is a row of the grammar.
-use Rattle.std.proofs.Common.{◌≡◌, ℕ, ℤ, ◌∷◌, Option, Some, None, refl, ap, subst}
+-- What the machine accepts is derived: every form of the table is a row of the grammar. Here the notions, and expressions.
+use Rattle.std.proofs.Common.{◌≡◌, ℕ, ℤ, ◌∷◌, Option, Some, None, refl, ap, subst, ◌∙◌}
 use Rattle.rb_lex.specs.declared.token.Kind.TheVariants as kinds
 use Rattle.rb_lex.specs.Tokens.{Lexeme}
+use Rattle.rb_parse.specs.declared.level.Level.{Level}
+use Rattle.rb_parse.specs.declared.level.Level.TheVariants as levels
 use Rattle.rb_parse.specs.declared.terminal.Terminal.{Terminal}
 use Rattle.rb_parse.specs.declared.terminal.Terminal.TheVariants as terminals
-use Rattle.rb_parse.specs.Grammar.{Point, Phrase, AProgram, AProcess, Declarations, ADeclaration, Statements, AStatement, Items, MoreItems, AnItem, AnExpression, ASum, MoreTerms, ATerm, APlace, Takes, TakesName, TakesNumber, TakesText, StandsAt, plus_row, minus_row, Derives, program_row, process_row, no_declaration_row, declarations_row, declaration_row, no_statement_row, statements_row, assignment_row, print_row, items_row, no_item_row, more_items_row, text_row, amount_row, expression_row, sum_row, no_term_row, more_terms_row, number_row, variable_row, place_row}
+use Rattle.rb_parse.specs.ExpressionTable.{Start, begin, nothing_after, name_of, value_of, number_of, variable_after, literal_after, chain_after, compared_after, quantified_after, start_number, start_subscript, start_place, start_atom, start_factor, start_link, start_product, start_product_operand, start_sum, start_sum_operand, start_compared, start_comparison, start_negation, start_conjunction, start_conjunction_operand, start_disjunction, start_disjunction_operand, start_operand, start_chain, start_expression}
+use Rattle.rb_parse.specs.Grammar.{Point, Takes, TakesAt, TakesName, TakesNumber, TakesQuantifier, Derives, expression_row, quantified_row, chain_row, links_row, disjunct_row, conjunct_row, term_row, factor_row, not_row, no_not_row, comparison_row, compared_row, minus_row, no_minus_row, literal_row, variable_row, prior_row, brackets_row, place_row, subscript_row, number_row}
 use Rattle.rb_parse.specs.Machine.{Advances, names_after, blocks_after}
+use Rattle.rb_parse.specs.Operators.{operator, comparison}
 use Rattle.rb_parse.specs.Parts.{Part}
 use Rattle.rb_parse.specs.Plans.{Value, Seen, Plan, Done, Token, Call, bind}
-use Rattle.rb_parse.specs.Table.{Start, begin, name_of, value_of, number_of, text_item, program_of, sum_operator, variable_after, sum_after, expression_after, amount_after, items_after, assignment_after, statements_after, declarations_after, start_place, start_term, start_link, start_sum, start_expression, start_item, start_items, start_more_items, start_statement, start_statements, start_declaration, start_declarations, start_process, start_program, start, empty}
 use Rattle.rb_parse.specs.Terminals.{terminal_of}
 use Rattle.rb_parse.proofs.Reaching.{seen_from}
-use Rattle.rb_parse.proofs.Spelled.{number_kind}
+use Rattle.rb_parse.proofs.Spelled.{number_kind, two_kind}
 use Rattle.rb_syntax.specs.declared.expression.Number.{Number}
-
--- a part with its value
-abbrev pub phrase : (part : Part) → Value part → Phrase
-phrase Part.Program v = AProgram v
-phrase Part.Process v = AProcess v
-phrase Part.Declarations v = Declarations v
-phrase Part.Declaration v = ADeclaration v
-phrase Part.Statements v = Statements v
-phrase Part.Statement v = AStatement v
-phrase Part.Items v = Items v
-phrase Part.MoreItems v = MoreItems v
-phrase Part.Item v = AnItem v
-phrase Part.Expression v = AnExpression v
-phrase Part.Sum v = ASum v
-phrase Part.MoreTerms v = MoreTerms v
-phrase Part.Term v = ATerm v
-phrase Part.Place v = APlace v
+use Rattle.rb_syntax.specs.declared.expression.Op.{Op}
+use Rattle.rb_syntax.specs.declared.expression.Quantifier.{Quantifier}
 
 -- whatever tokens and derived parts a plan is given, what it gives in the end has this property
 abbrev pub Follows : {A : Type 0} → (A → Point → Type 0) → Plan A → Point → Type 0
 Follows P (Done v) a = P v a
 Follows P (Token terminal f) a = (token : Lexeme) (b : Point) → Advances terminal token a b → Follows P (f (seen_from token a)) b
-Follows P (Call part f) a = (v : Value part) (b : Point) → Derives (phrase part v) a b → Follows P (f v) b
+Follows P (Call part f) a = (v : Value part) (b : Point) → Derives part v a b → Follows P (f v) b
 
 pub follows_bind : {A B : Type 0} (P : A → Point → Type 0) (Q : B → Point → Type 0) (plan : Plan A) (k : A → Plan B) (a : Point) → Follows P plan a → ((v : A) (b : Point) → P v b → Follows Q (k v) b) → Follows Q (bind plan k) a
 follows_bind P Q (Done v) k a h g = g v a h
@@ -54,7 +42,7 @@ begun_begin P Q token a b (Some f) rest h g =
     follows_bind P Q (f (seen_from token a)) (rest (seen_from token a)) b h g
 
 -- a fact of a number is one of an equal number
-ended : (P : ℕ → ℕ → Type 0) {names names_before blocks blocks_before : ℕ} → names ≡ names_before → blocks ≡ blocks_before → P names blocks → P names_before blocks_before
+pub ended : (P : ℕ → ℕ → Type 0) {names names_before blocks blocks_before : ℕ} → names ≡ names_before → blocks ≡ blocks_before → P names blocks → P names_before blocks_before
 ended P {names_before = names_before} {blocks = blocks} n m p =
     subst (λ x. P names_before x) m (subst (λ x. P x blocks) n p)
 
@@ -71,6 +59,16 @@ advanced h = record { stands = h.stands; is = h.is; names = h.names; blocks = h.
 pub plain : {terminal : Terminal} {token : Lexeme} {a b : Point} (h : Advances terminal token a b) → b.names ≡ a.names → b.blocks ≡ a.blocks → Takes terminal a b
 plain {token = token} h n m = record { token = token; stands = h.stands; fits = h.is; names = n; blocks = m }
 
+-- a token that is neither a name nor `ensure`
+pub passed : {terminal : Terminal} {token : Lexeme} {a b : Point} (h : Passes (Some terminal) token a b) → b.names ≡ a.names → b.blocks ≡ a.blocks → Takes terminal a b
+passed h n m = plain (advanced h) n m
+
+pub placed : {terminal : Terminal} {token : Lexeme} {a b : Point} (h : Passes (Some terminal) token a b) → b.names ≡ a.names → b.blocks ≡ a.blocks → TakesAt terminal token.place a b
+placed {token = token} h n m = record {
+  takes = record { token = token; stands = h.stands; fits = h.is; names = n; blocks = m };
+  is = refl;
+}
+
 pub named : {token : Lexeme} {a b : Point} (h : Advances terminals.Name token a b) → TakesName (name_of (seen_from token a)) a b
 named {token = token} h = record { token = token; stands = h.stands; fits = h.is; is = refl; names = h.names; blocks = h.blocks }
 
@@ -78,134 +76,148 @@ counted_number : (token : Lexeme) (value : ℤ) → token.kind ≡ kinds.Number 
 counted_number token value e =
     ap (λ kind. let n : Number = record { value = value_of kind; place = token.place } in n) e
 
-pub numbered : {token : Lexeme} {a b : Point} (h : Advances terminals.Number token a b) → TakesNumber (number_of token) a b
-numbered {token = token} h =
-    let number = number_kind token.kind token.text h.is in
-    record {
-      token = token;
-      value = number.0;
-      stands = h.stands;
-      fits = number.1;
-      is = counted_number token number.0 number.1;
-      names = h.names;
-      blocks = h.blocks;
-    }
-
-texted : {token : Lexeme} {a b : Point} (h : Advances terminals.Text token a b) → TakesText (text_item token) a b
-texted {token = token} h = record { token = token; stands = h.stands; fits = h.is; is = refl; names = h.names; blocks = h.blocks }
-
-stands_first : {first : Option Terminal} {token : Lexeme} {a b : Point} → Passes first token a b → StandsAt token.place a
-stands_first {token = token} {b = b} h = record { token = token; others = b.left; stands = h.stands; is = refl }
+pub counted : {token : Lexeme} {a b : Point} → (value : ℤ) × (token.kind ≡ kinds.Number value) → a.left ≡ token ∷ b.left → b.names ≡ a.names → b.blocks ≡ a.blocks → TakesNumber (number_of token) a b
+counted {token = token} number stands names blocks = record {
+  token = token;
+  value = number.0;
+  stands = stands;
+  fits = number.1;
+  is = counted_number token number.0 number.1;
+  names = names;
+  blocks = blocks;
+}
 
 -- each form of the table, by its row
 abbrev pub Forms : (part : Part) → Start (Value part) → Lexeme → Point → Point → Type 0
-Forms part begun token a b = Begun (λ v c. Derives (phrase part v) a c) token a b begun
+Forms part begun token a b = Begun (λ v c. Derives part v a c) token a b begun
+
+pub then_rest : (token : Lexeme) (a b : Point) (part part_first : Part) (begun : Start (Value part_first)) (rest : Seen → Value part_first → Plan (Value part)) → Forms part_first begun token a b → ((v : Value part_first) (c : Point) → Derives part_first v a c → Follows (λ w d. Derives part w a d) (rest (seen_from token a) v) c) → Forms part (begin begun rest) token a b
+then_rest token a b part part_first begun rest h g =
+    begun_begin (λ v c. Derives part_first v a c) (λ v c. Derives part v a c) token a b begun rest h g
+
+-- an operator is neither a name nor `ensure`
+pub operator_names : (terminal : Terminal) (level : Level) (op : Op) (n : ℕ) → operator (Some terminal) level ≡ Some op → names_after (Some terminal) n ≡ n
+operator_names terminals.Name level op n e = absurd cc
+operator_names _ level op n e = refl
+
+pub operator_blocks : (terminal : Terminal) (level : Level) (op : Op) (n : ℕ) → operator (Some terminal) level ≡ Some op → blocks_after (Some terminal) n ≡ n
+operator_blocks terminals.Ensure level op n e = absurd cc
+operator_blocks _ level op n e = refl
+
+pub comparison_names : (terminal : Terminal) (op : Op) (n : ℕ) → comparison (Some terminal) ≡ Some op → names_after (Some terminal) n ≡ n
+comparison_names terminals.Name op n e = absurd cc
+comparison_names _ op n e = refl
+
+pub comparison_blocks : (terminal : Terminal) (op : Op) (n : ℕ) → comparison (Some terminal) ≡ Some op → blocks_after (Some terminal) n ≡ n
+comparison_blocks terminals.Ensure op n e = absurd cc
+comparison_blocks _ op n e = refl
 
 module _ (token : Lexeme) (a b : Point) where
-  then_rest : (part part_first : Part) (begun : Start (Value part_first)) (rest : Seen → Value part_first → Plan (Value part)) → Forms part_first begun token a b → ((v : Value part_first) (c : Point) → Derives (phrase part_first v) a c → Follows (λ w d. Derives (phrase part w) a d) (rest (seen_from token a) v) c) → Forms part (begin begun rest) token a b
-  then_rest part part_first begun rest h g =
-      begun_begin (λ v c. Derives (phrase part_first v) a c) (λ v c. Derives (phrase part v) a c) token a b begun rest h g
+  pub number_sound : (first : Option Terminal) → Passes first token a b → Forms Part.Number (start_number first) token a b
+  number_sound (Some terminals.Number) h =
+      number_row (counted (number_kind token.kind token.text h.is) h.stands h.names h.blocks)
+  number_sound (Some terminals.Two) h =
+      number_row (counted (two_kind token.kind token.text h.is) h.stands h.names h.blocks)
+  number_sound _ h = tt
 
-  place_sound : (first : Option Terminal) → Passes first token a b → Forms Part.Place (start_place first) token a b
-  place_sound (Some terminals.Name) h = place_row (named (advanced h))
+  pub subscript_sound : (first : Option Terminal) → Passes first token a b → Forms Part.Subscript (start_subscript first) token a b
+  subscript_sound (Some terminals.OpenBracket) h =
+      λ index c i close d z. subscript_row (passed h h.names h.blocks) i (plain z z.names z.blocks)
+  subscript_sound _ h = tt
+
+  pub place_sound : (first : Option Terminal) → Passes first token a b → Forms Part.Place (start_place first) token a b
+  place_sound (Some terminals.Name) h = λ subscript c s. place_row (named (advanced h)) s
   place_sound _ h = tt
 
-  term_sound : (first : Option Terminal) → Passes first token a b → Forms Part.Term (start_term first) token a b
-  term_sound (Some terminals.Number) h = number_row (numbered (advanced h))
-  term_sound first h =
-      then_rest Part.Term Part.Place (start_place first) variable_after (place_sound first h) (λ v c d. variable_row d)
+  pub atom_sound : (first : Option Terminal) → Passes first token a b → Forms Part.Atom (start_atom first) token a b
+  atom_sound (Some terminals.Prior) h = λ place c p. prior_row (placed h h.names h.blocks) p
+  atom_sound (Some terminals.OpenParen) h =
+      λ value c e close d z. brackets_row (passed h h.names h.blocks) e (plain z z.names z.blocks)
+  atom_sound (Some terminals.Name) h =
+      then_rest token a b Part.Atom Part.Place (start_place (Some terminals.Name)) variable_after (place_sound (Some terminals.Name) h) (λ v c d. variable_row d)
+  atom_sound first h =
+      then_rest token a b Part.Atom Part.Number (start_number first) literal_after (number_sound first h) (λ v c d. literal_row d)
 
-  link_sound : (first : Option Terminal) → Passes first token a b → Forms Part.MoreTerms (start_link (sum_operator first)) token a b
-  link_sound (Some terminals.Plus) h =
-      λ right c r links d l. more_terms_row (plus_row (plain (advanced h) h.names h.blocks)) r l
-  link_sound (Some terminals.Minus) h =
-      λ right c r links d l. more_terms_row (minus_row (plain (advanced h) h.names h.blocks)) r l
-  link_sound _ h = tt
+  pub factor_sound : (first : Option Terminal) → Passes first token a b → Forms Part.Factor (start_factor first) token a b
+  factor_sound (Some terminals.Minus) h = λ operand c o. minus_row (passed h h.names h.blocks) o
+  factor_sound first h =
+      then_rest token a b Part.Factor Part.Atom (start_atom first) nothing_after (atom_sound first h) (λ v c d. no_minus_row d)
 
-  sum_sound : (first : Option Terminal) → Passes first token a b → Forms Part.Sum (start_sum first) token a b
-  sum_sound first h =
-      then_rest Part.Sum Part.Term (start_term first) sum_after (term_sound first h) (λ v c t links d l. sum_row t l)
+  link_found : (terminal : Terminal) (level : Level) (found : Option Op) → Passes (Some terminal) token a b → operator (Some terminal) level ≡ found → Forms (Part.Links level) (start_link level found) token a b
+  link_found terminal level None h e = tt
+  link_found terminal level (Some op) h e =
+      λ right c r links d l. links_row (record {
+        terminal = terminal;
+        is = e;
+        takes = passed h (h.names ∙ operator_names terminal level op a.names e) (h.blocks ∙ operator_blocks terminal level op a.blocks e);
+      }) r l
 
-  expression_sound : (first : Option Terminal) → Passes first token a b → Forms Part.Expression (start_expression first) token a b
+  pub link_sound : (level : Level) (first : Option Terminal) → Passes first token a b → Forms (Part.Links level) (start_link level (operator first level)) token a b
+  link_sound level None h = tt
+  link_sound level (Some terminal) h = link_found terminal level (operator (Some terminal) level) h refl
+
+  -- a chain, if its operand is one
+  chain_from : (level : Level) (first : Option Terminal) → Forms (Part.Operand level) (start_operand level first) token a b → Forms (Part.Chain level) (start_chain level first) token a b
+  chain_from level first h =
+      then_rest token a b (Part.Chain level) (Part.Operand level) (start_operand level first) (chain_after level) h (λ v c t links d l. chain_row t l)
+
+  product_operand_sound : (first : Option Terminal) → Passes first token a b → Forms (Part.Operand levels.Product) (start_product_operand first) token a b
+  product_operand_sound first h =
+      then_rest token a b (Part.Operand levels.Product) Part.Factor (start_factor first) nothing_after (factor_sound first h) (λ v c d. factor_row d)
+
+  sum_operand_sound : (first : Option Terminal) → Passes first token a b → Forms (Part.Operand levels.Sum) (start_sum_operand first) token a b
+  sum_operand_sound first h =
+      then_rest token a b (Part.Operand levels.Sum) (Part.Chain levels.Product) (start_product first) nothing_after (chain_from levels.Product first (product_operand_sound first h)) (λ v c d. term_row d)
+
+  compared_found : (terminal : Terminal) (found : Option Op) → Passes (Some terminal) token a b → comparison (Some terminal) ≡ found → Forms Part.Compared (start_compared found) token a b
+  compared_found terminal None h e = tt
+  compared_found terminal (Some op) h e =
+      λ right c r. compared_row (record {
+        terminal = terminal;
+        is = e;
+        takes = passed h (h.names ∙ comparison_names terminal op a.names e) (h.blocks ∙ comparison_blocks terminal op a.blocks e);
+      }) r
+
+  pub compared_sound : (first : Option Terminal) → Passes first token a b → Forms Part.Compared (start_compared (comparison first)) token a b
+  compared_sound None h = tt
+  compared_sound (Some terminal) h = compared_found terminal (comparison (Some terminal)) h refl
+
+  pub comparison_sound : (first : Option Terminal) → Passes first token a b → Forms Part.Comparison (start_comparison first) token a b
+  comparison_sound first h =
+      then_rest token a b Part.Comparison (Part.Chain levels.Sum) (start_sum first) compared_after (chain_from levels.Sum first (sum_operand_sound first h)) (λ v c t links d l. comparison_row t l)
+
+  pub negation_sound : (first : Option Terminal) → Passes first token a b → Forms Part.Negation (start_negation first) token a b
+  negation_sound (Some terminals.Not) h = λ operand c o. not_row (passed h h.names h.blocks) o
+  negation_sound first h =
+      then_rest token a b Part.Negation Part.Comparison (start_comparison first) nothing_after (comparison_sound first h) (λ v c d. no_not_row d)
+
+  conjunction_operand_sound : (first : Option Terminal) → Passes first token a b → Forms (Part.Operand levels.Conjunction) (start_conjunction_operand first) token a b
+  conjunction_operand_sound first h =
+      then_rest token a b (Part.Operand levels.Conjunction) Part.Negation (start_negation first) nothing_after (negation_sound first h) (λ v c d. conjunct_row d)
+
+  disjunction_operand_sound : (first : Option Terminal) → Passes first token a b → Forms (Part.Operand levels.Disjunction) (start_disjunction_operand first) token a b
+  disjunction_operand_sound first h =
+      then_rest token a b (Part.Operand levels.Disjunction) (Part.Chain levels.Conjunction) (start_conjunction first) nothing_after (chain_from levels.Conjunction first (conjunction_operand_sound first h)) (λ v c d. disjunct_row d)
+
+  pub operand_sound : (level : Level) (first : Option Terminal) → Passes first token a b → Forms (Part.Operand level) (start_operand level first) token a b
+  operand_sound levels.Disjunction first h = disjunction_operand_sound first h
+  operand_sound levels.Conjunction first h = conjunction_operand_sound first h
+  operand_sound levels.Sum first h = sum_operand_sound first h
+  operand_sound levels.Product first h = product_operand_sound first h
+
+  pub chain_sound : (level : Level) (first : Option Terminal) → Passes first token a b → Forms (Part.Chain level) (start_chain level first) token a b
+  chain_sound level first h = chain_from level first (operand_sound level first h)
+
+  quantified_sound : (kind : Quantifier) → TakesQuantifier kind token.place a b → Follows (λ v c. Derives Part.Expression v a c) (quantified_after kind (seen_from token a)) b
+  quantified_sound kind q =
+      λ name c n from d f low e l to g t high i u colon j x body k v. quantified_row q (named n) (plain f f.names f.blocks) l (plain t t.names t.blocks) u (plain x x.names x.blocks) v
+
+  pub expression_sound : (first : Option Terminal) → Passes first token a b → Forms Part.Expression (start_expression first) token a b
+  expression_sound (Some terminals.Every) h =
+      quantified_sound _ (record { terminal = terminals.Every; is = refl; takes = placed h h.names h.blocks })
+  expression_sound (Some terminals.Some) h =
+      quantified_sound _ (record { terminal = terminals.Some; is = refl; takes = placed h h.names h.blocks })
+  expression_sound (Some terminals.Sum) h =
+      quantified_sound _ (record { terminal = terminals.Sum; is = refl; takes = placed h h.names h.blocks })
   expression_sound first h =
-      then_rest Part.Expression Part.Sum (start_sum first) expression_after (sum_sound first h) (λ v c s. expression_row s)
-
-  item_sound : (first : Option Terminal) → Passes first token a b → Forms Part.Item (start_item first) token a b
-  item_sound (Some terminals.Text) h = text_row (texted (advanced h))
-  item_sound first h =
-      then_rest Part.Item Part.Expression (start_expression first) amount_after (expression_sound first h) (λ v c e. amount_row (stands_first h) e)
-
-  items_sound : (first : Option Terminal) → Passes first token a b → Forms Part.Items (start_items first) token a b
-  items_sound first h =
-      then_rest Part.Items Part.Item (start_item first) items_after (item_sound first h) (λ v c i others d m. items_row i m)
-
-  more_items_sound : (first : Option Terminal) → Passes first token a b → Forms Part.MoreItems (start_more_items first) token a b
-  more_items_sound (Some terminals.Comma) h =
-      λ item c i others d m. more_items_row (plain (advanced h) h.names h.blocks) i m
-  more_items_sound _ h = tt
-
-  statement_sound : (first : Option Terminal) → Passes first token a b → Forms Part.Statement (start_statement first) token a b
-  statement_sound (Some terminals.Print) h =
-      λ items c i semicolon d s. print_row (plain (advanced h) h.names h.blocks) i (plain s s.names s.blocks)
-  statement_sound first h =
-      then_rest Part.Statement Part.Place (start_place first) assignment_after (place_sound first h) (λ v c p becomes d t value e x semicolon f s. assignment_row p (plain t t.names t.blocks) x (plain s s.names s.blocks))
-
-  statements_sound : (first : Option Terminal) → Passes first token a b → Forms Part.Statements (start_statements first) token a b
-  statements_sound first h =
-      then_rest Part.Statements Part.Statement (start_statement first) statements_after (statement_sound first h) (λ v c s others d m. statements_row s m)
-
-  declaration_sound : (first : Option Terminal) → Passes first token a b → Forms Part.Declaration (start_declaration first) token a b
-  declaration_sound (Some terminals.Var) h =
-      λ name c n semicolon d s. declaration_row (plain (advanced h) h.names h.blocks) (named n) (plain s s.names s.blocks)
-  declaration_sound _ h = tt
-
-  declarations_sound : (first : Option Terminal) → Passes first token a b → Forms Part.Declarations (start_declarations first) token a b
-  declarations_sound first h =
-      then_rest Part.Declarations Part.Declaration (start_declaration first) declarations_after (declaration_sound first h) (λ v c s others d m. declarations_row s m)
-
-  process_sound : (first : Option Terminal) → Passes first token a b → Forms Part.Process (start_process first) token a b
-  process_sound (Some terminals.Process) h =
-      λ name c n open_brace d o variables e v commands f m close_brace g z. process_row (plain (advanced h) h.names h.blocks) (named n) (plain o o.names o.blocks) v m (plain z z.names z.blocks)
-  process_sound _ h = tt
-
-  program_sound : (first : Option Terminal) → Passes first token a b → Forms Part.Program (start_program first) token a b
-  program_sound (Some terminals.Program) h =
-      λ name c n semicolon d s process e p end f x dot g z. ended (λ names blocks. Derives (AProgram (program_of (name_of (seen_from name b)) process names blocks)) a g) z.names z.blocks (program_row (plain (advanced h) h.names h.blocks) (named n) (plain s s.names s.blocks) p (plain x x.names x.blocks) (plain z z.names z.blocks))
-  program_sound _ h = tt
-
-  pub start_sound : (part : Part) (first : Option Terminal) → Passes first token a b → Forms part (start part first) token a b
-  start_sound Part.Program first h = program_sound first h
-  start_sound Part.Process first h = process_sound first h
-  start_sound Part.Declarations first h = declarations_sound first h
-  start_sound Part.Declaration first h = declaration_sound first h
-  start_sound Part.Statements first h = statements_sound first h
-  start_sound Part.Statement first h = statement_sound first h
-  start_sound Part.Items first h = items_sound first h
-  start_sound Part.MoreItems first h = more_items_sound first h
-  start_sound Part.Item first h = item_sound first h
-  start_sound Part.Expression first h = expression_sound first h
-  start_sound Part.Sum first h = sum_sound first h
-  start_sound Part.MoreTerms first h = link_sound first h
-  start_sound Part.Term first h = term_sound first h
-  start_sound Part.Place first h = place_sound first h
-
--- and so is what a part without tokens gives
-abbrev pub Without : (part : Part) → Option (Value part) → Point → Type 0
-Without part None a = Unit {0}
-Without part (Some v) a = Derives (phrase part v) a a
-
-pub empty_sound : (part : Part) (a : Point) → Without part (empty part) a
-empty_sound Part.Declarations a = no_declaration_row
-empty_sound Part.Statements a = no_statement_row
-empty_sound Part.MoreItems a = no_item_row
-empty_sound Part.MoreTerms a = no_term_row
-empty_sound Part.Program a = tt
-empty_sound Part.Process a = tt
-empty_sound Part.Declaration a = tt
-empty_sound Part.Statement a = tt
-empty_sound Part.Items a = tt
-empty_sound Part.Item a = tt
-empty_sound Part.Expression a = tt
-empty_sound Part.Sum a = tt
-empty_sound Part.Term a = tt
-empty_sound Part.Place a = tt
+      then_rest token a b Part.Expression (Part.Chain levels.Disjunction) (start_disjunction first) nothing_after (chain_sound levels.Disjunction first h) (λ v c d. expression_row d)

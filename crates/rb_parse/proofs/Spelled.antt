@@ -25,7 +25,7 @@ spelled_all p text ((bytes, here) ∷ others) terminal h e =
     picked (pointwise nat_eq bytes text) here terminal p (spelled text others) both.0 (λ later. spelled_all p text others terminal both.1 later) e
 
 abbrev is_no_number : Terminal → Bool
-is_no_number terminal = not (is_same terminal terminals.Number)
+is_no_number terminal = not (is_same terminal terminals.Number) && not (is_same terminal terminals.Two)
 
 pub number_kind : (kind : Kind) (text : List ℕ) → terminal_of_kind kind text ≡ Some terminals.Number → (value : ℤ) × (kind ≡ kinds.Number value)
 number_kind kinds.Name text e = absurd cc
@@ -33,3 +33,10 @@ number_kind (kinds.Number value) text e = (value, refl)
 number_kind kinds.Text text e = absurd cc
 number_kind kinds.Word text e = absurd (let h = spelled_all is_no_number text words terminals.Number refl e in cc)
 number_kind kinds.Mark text e = absurd (let h = spelled_all is_no_number text marks terminals.Number refl e in cc)
+
+pub two_kind : (kind : Kind) (text : List ℕ) → terminal_of_kind kind text ≡ Some terminals.Two → (value : ℤ) × (kind ≡ kinds.Number value)
+two_kind kinds.Name text e = absurd cc
+two_kind (kinds.Number value) text e = (value, refl)
+two_kind kinds.Text text e = absurd cc
+two_kind kinds.Word text e = absurd (let h = spelled_all is_no_number text words terminals.Two refl e in cc)
+two_kind kinds.Mark text e = absurd (let h = spelled_all is_no_number text marks terminals.Two refl e in cc)

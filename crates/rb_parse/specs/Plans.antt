@@ -1,27 +1,10 @@
 -- Plans: what is still wanted of the tokens left, and the tree that comes of it. A plan is done, or wants a token of one
 -- terminal, or wants a part; what it wants next depends on what it was given.
-use Rattle.std.specs.Prelude.{ℕ, List}
+use Rattle.std.specs.Prelude.{ℕ}
 use Rattle.rb_lex.specs.Tokens.{Lexeme}
 use Rattle.rb_parse.specs.declared.terminal.Terminal.{Terminal}
 use Rattle.rb_parse.specs.Parts.{Part}
-use Rattle.rb_syntax.specs.Tree.{Expression, Reference, Links, Declaration, PrintItem, Command, Commands, ProcessDeclaration, Tree}
-
--- what a part gives
-abbrev pub Value : Part → Type 0
-Value Part.Program = Tree
-Value Part.Process = ProcessDeclaration
-Value Part.Declarations = List Declaration
-Value Part.Declaration = Declaration
-Value Part.Statements = Commands
-Value Part.Statement = Command
-Value Part.Items = List PrintItem
-Value Part.MoreItems = List PrintItem
-Value Part.Item = PrintItem
-Value Part.Expression = Expression
-Value Part.Sum = Expression
-Value Part.MoreTerms = Links
-Value Part.Term = Expression
-Value Part.Place = Reference
+pub use Rattle.rb_parse.specs.Values.{Value}
 
 -- a token, and how many names and recoveries came before it
 pub record Seen : Type 0 where

@@ -4,23 +4,18 @@ use Rattle.rb_lex.specs.declared.token.Token.{Token}
 use Rattle.rb_lex.specs.Reader.{Reader, lexeme_of}
 use Rattle.rb_lex.specs.Tokens.{Lexeme, Ending, AtEnd, AtFault}
 use Rattle.rb_lex.specs.TokenList.{tokens_left, ending_left}
-use Rattle.rb_base.specs.declared.fault.Refusal.{Refusal}
-use Rattle.rb_base.specs.declared.fault.Refusal.TheVariants.{Fault, Memory}
 use Rattle.rb_base.specs.declared.fault.SourceFault.{SourceFault}
 use Rattle.rb_base.specs.declared.place.Place.{Place}
-use Rattle.rb_parse.specs.declared.expressions.Operator.{Operator}
 use Rattle.rb_parse.specs.declared.stop.Stop.{Stop}
 use Rattle.rb_parse.specs.declared.stop.Stop.TheVariants as stops
 use Rattle.rb_parse.specs.declared.terminal.Terminal.{Terminal}
+use Rattle.rb_parse.specs.Allowed.{allowed, ending_allowed}
+use Rattle.rb_parse.specs.Brackets.{most_open}
 use Rattle.rb_parse.specs.Grammar.{Point}
-use Rattle.rb_parse.specs.Machine.{Outcome, Accepted, Refused, Advances, Stops, fits, look, run}
+use Rattle.rb_parse.specs.Machine.{Advances, Stops, fits, look, run}
 use Rattle.rb_parse.specs.Parts.{Part}
 use Rattle.rb_parse.specs.Plans.{Value, Plan, Call, bind}
-use Rattle.rb_parse.specs.Scoped.{is_scoped}
 use Rattle.rb_parse.specs.Terminals.{terminal_of}
-use Rattle.rb_syntax.specs.declared.expression.Op.{Op}
-use Rattle.rb_syntax.specs.declared.program.Program.{Program}
-use Rattle.rb_syntax.specs.Plain.{tree}
 use Rattle.rb_syntax.specs.Tree.{Tree}
 
 -- where a cursor stands: the point, and how its tokens end
@@ -33,12 +28,17 @@ abbrev pub tokens_ahead : Option Token → List Lexeme → List Lexeme
 tokens_ahead None others = []
 tokens_ahead (Some token) others = lexeme_of token ∷ others
 
--- where a cursor stands, with one token ahead of its reader
-abbrev pub position_of : Option Token → Reader → ℕ → ℕ → Position
-position_of ahead reader names blocks = record {
-  point = record { left = tokens_ahead ahead (tokens_left reader); names = names; blocks = blocks };
-  ending = ending_left reader;
+-- where a cursor stands before these tokens, with so many brackets open
+abbrev pub position_before : List Lexeme → Ending → ℕ → ℕ → ℕ → Position
+position_before tokens ending names blocks brackets = record {
+  point = record { left = allowed brackets tokens; names = names; blocks = blocks };
+  ending = ending_allowed brackets tokens ending;
 }
+
+-- where a cursor stands, with one token ahead of its reader
+abbrev pub position_of : Option Token → Reader → ℕ → ℕ → ℕ → Position
+position_of ahead reader names blocks brackets =
+    position_before (tokens_ahead ahead (tokens_left reader)) (ending_left reader) names blocks brackets
 
 -- what stands first does not fit, and nothing was taken
 pub record Misses (terminal : Terminal) (old new : Position) : Type 0 where
@@ -77,38 +77,26 @@ abbrev pub terminal_ahead : Option Token → Option Terminal
 terminal_ahead None = None
 terminal_ahead (Some token) = terminal_of (lexeme_of token)
 
--- A cursor knows what stands first. A source of at most 1,048,576 bytes has no more tokens, which bounds the counts.
-pub record IsSound (terminal : Option Terminal) (at : Position) : Type 0 where
+-- A cursor knows what stands first, and with nothing there its reader stands at the end. No bracket too many was taken. A
+-- source of at most 1,048,576 bytes has no more tokens, which bounds the counts.
+pub record IsSound (terminal : Option Terminal) (ahead : Option Token) (reader : Reader) (brackets : ℕ) (at : Position) : Type 0 where
   pub looks : terminal ≡ look at.point.left
+  pub ended : ahead ≡ None → ending_left reader ≡ AtEnd reader.place
+  pub brackets_fit : brackets ≤ most_open
   pub names_fit : at.point.names + length at.point.left ≤ 2 ^ 20
   pub blocks_fit : at.point.blocks + length at.point.left ≤ 2 ^ 20
-
--- An operator that the code found: that of what stands first, and which terminal this is.
-abbrev pub FindsOperator : Option Op → Option Terminal → Option Operator → Type 0
-FindsOperator here first None = here ≡ None
-FindsOperator here first (Some found) = (here ≡ Some found.op) × (first ≡ Some found.terminal)
 
 -- no token is left
 abbrev pub is_nothing : List Lexeme → Bool
 is_nothing [] = true
 is_nothing (token ∷ others) = false
 
--- how tokens end: with a fault or not
-abbrev pub EndsBy : Ending → Option SourceFault → Type 0
-EndsBy ending None = (at : Place) × (ending ≡ AtEnd at)
-EndsBy ending (Some fault) = ending ≡ AtFault fault
+-- the source itself ends there, if this is so
+abbrev pub EndsIf : Bool → Ending → Type 0
+EndsIf true ending = (at : Place) × (ending ≡ AtEnd at)
+EndsIf false ending = Unit {0}
 
--- what a reading of all tokens gave: a tree that is accepted, or none, and then they are refused
-abbrev pub Gives : Outcome → Option Program → Type 0
-Gives outcome None = (left : List Lexeme) × (outcome ≡ Refused left)
-Gives outcome (Some program) = outcome ≡ Accepted (tree program)
-
--- why no tree can be told
-abbrev pub IsNoReading : Ending → Refusal → Type 0
-IsNoReading ending (Fault fault) = ending ≡ AtFault fault
-IsNoReading ending Memory = Unit {0}
-
--- there is no tree, or it is not run so far
-abbrev pub IsNotRun : Option Program → Type 0
-IsNotRun None = Unit {0}
-IsNotRun (Some program) = is_scoped (tree program) ≡ false
+-- the place of what stands first, or where nothing is left that of the end
+abbrev pub IsPlaceOf : List Lexeme → Ending → Place → Type 0
+IsPlaceOf [] ending place = ending ≡ AtEnd place
+IsPlaceOf (token ∷ others) ending place = place ≡ token.place

@@ -1,6 +1,7 @@
 -- Terminals: what a token is to the grammar.
-use Rattle.std.specs.Prelude.{ℕ, nat_eq, cond, List, [], ◌∷◌, codes, Option, Some, None}
+use Rattle.std.specs.Prelude.{ℕ, ℤ, pos, nat_eq, cond, List, [], ◌∷◌, codes, Option, Some, None}
 use Rattle.std.specs.Cmp.Lexicographic.{pointwise}
+use Rattle.std.specs.Ordering.{int_eq}
 use Rattle.rb_lex.specs.declared.token.Kind.{Kind}
 use Rattle.rb_lex.specs.declared.token.Kind.TheVariants as kinds
 use Rattle.rb_lex.specs.Tokens.{Lexeme}
@@ -24,10 +25,14 @@ words = (codes "all", terminals.All) ∷ (codes "and", terminals.And) ∷ (codes
 abbrev pub marks : List Spelling
 marks = (codes ";", terminals.Semicolon) ∷ (codes ",", terminals.Comma) ∷ (codes ".", terminals.Dot) ∷ (codes ":", terminals.Colon) ∷ (codes "(", terminals.OpenParen) ∷ (codes ")", terminals.CloseParen) ∷ (codes "{", terminals.OpenBrace) ∷ (codes "}", terminals.CloseBrace) ∷ (codes "[", terminals.OpenBracket) ∷ (codes "]", terminals.CloseBracket) ∷ (codes ":=", terminals.Becomes) ∷ (codes "=", terminals.Equal) ∷ (codes "<>", terminals.Unequal) ∷ (codes "<", terminals.Less) ∷ (codes "<=", terminals.LessEqual) ∷ (codes ">", terminals.Greater) ∷ (codes ">=", terminals.GreaterEqual) ∷ (codes "+", terminals.Plus) ∷ (codes "-", terminals.Minus) ∷ (codes "*", terminals.Star) ∷ (codes "/", terminals.Slash) ∷ (codes "%", terminals.Percent) ∷ []
 
+-- two is a number of its own, since an edition asks for it
+abbrev pub number_terminal : ℤ → Terminal
+number_terminal value = cond (int_eq value (pos 2)) terminals.Two terminals.Number
+
 -- what a token is, by its kind and its bytes
 abbrev pub terminal_of_kind : Kind → List ℕ → Option Terminal
 terminal_of_kind kinds.Name text = Some terminals.Name
-terminal_of_kind (kinds.Number value) text = Some terminals.Number
+terminal_of_kind (kinds.Number value) text = Some (number_terminal value)
 terminal_of_kind kinds.Text text = Some terminals.Text
 terminal_of_kind kinds.Word text = spelled text words
 terminal_of_kind kinds.Mark text = spelled text marks

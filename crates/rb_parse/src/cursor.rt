@@ -1,21 +1,25 @@
-ghost use Rattle.std.specs.Prelude.{◌≡◌, ◌+◌, ◌^◌, ◌<◌, ◌≤◌, length, IfOk, IfErr, OnOk};
+ghost use Rattle.std.specs.Prelude.{◌≡◌, ◌+◌, ◌^◌, ◌<◌, ◌≤◌, length, [], IfOk, IfErr, OnOk};
 ghost use Rattle.rb_lex.specs.Reader.{lexeme_of};
 ghost use Rattle.rb_lex.specs.Tokens.{AtFault};
-ghost use Rattle.rb_lex.specs.TokenList.{tokens_of, ending_of, ending_left};
+ghost use Rattle.rb_lex.specs.TokenList.{tokens_of, ending_of};
+ghost use Rattle.rb_parse.specs.Allowed.{allowed_of, ending_allowed_of};
+ghost use Rattle.rb_parse.specs.Brackets.{most_open, open_after};
 ghost use Rattle.rb_parse.specs.Grammar.{TakesName, TakesNumber, start_of};
 ghost use Rattle.rb_parse.specs.Machine.{Advances, blocks_after, fits, look, names_after, place_of};
-ghost use Rattle.rb_parse.specs.Reading.{EndsBy, IsNotTaken, is_nothing, terminal_ahead};
+ghost use Rattle.rb_parse.specs.Reading.{EndsIf, IsNotTaken, IsPlaceOf, is_nothing, terminal_ahead};
 ghost use Rattle.rb_syntax.specs.Plain.{identifier};
 
 use crate::stop::Stop;
 use crate::terminal::Terminal;
-use rb_base::{Place, SourceFault};
+use rb_base::{FaultName, Place, SourceFault};
 use rb_lex::{Kind, Lexer, Token};
 use rb_syntax::{Name, Number};
 use std::marker::Model;
 
+const MOST_OPEN: u32 = 100;
+
 /// Stands before a token of a source, and knows which. Contracts see the tokens left, how they end, and how many
-/// names and recoveries came before.
+/// names and recoveries came before. A bracket with which too many are open is the last token, and a fault follows.
 #[derive(Debug, Drop)]
 pub(crate) struct Cursor<'a> {
     lexer: Lexer<'a>,
@@ -23,6 +27,7 @@ pub(crate) struct Cursor<'a> {
     terminal: Option<Terminal>,
     names: u32,
     recoveries: u32,
+    brackets: u32,
 }
 
 impl<'a> Model for Cursor<'a> {
@@ -30,17 +35,17 @@ impl<'a> Model for Cursor<'a> {
 
     ghost Value = { Position };
 
-    ghost view = { λ c. position_of c.ahead c.lexer c.names c.recoveries };
+    ghost view = { λ c. position_of c.ahead c.lexer c.names c.recoveries c.brackets };
 
-    ghost invariant = { λ c. IsSound c.terminal (position_of c.ahead c.lexer c.names c.recoveries) };
+    ghost invariant = { λ c. IsSound c.terminal c.ahead c.lexer c.brackets (position_of c.ahead c.lexer c.names c.recoveries c.brackets) };
 }
 
 impl<'a> Cursor<'a> {
     /// Stands before the first token.
     pub(crate) fn new(source: &'a [u8]) -> Result<Self, SourceFault>
         requires { length source.now ≤ 1048576 }
-        ensures ok { IfOk result (λ cursor. cursor ≡ record { point = start_of (tokens_of source.now); ending = ending_of source.now }) }
-        ensures err { IfErr result (λ fault. ending_of source.now ≡ AtFault fault) }
+        ensures ok { IfOk result (λ cursor. cursor ≡ record { point = start_of (allowed_of source.now); ending = ending_allowed_of source.now }) }
+        ensures err { IfErr result (λ fault. (tokens_of source.now ≡ []) × (ending_of source.now ≡ AtFault fault)) }
     {
         let mut lexer = Lexer::new(source);
         let ahead = lexer.next()?;
@@ -50,6 +55,7 @@ impl<'a> Cursor<'a> {
             ahead,
             names: 0,
             recoveries: 0,
+            brackets: 0,
         })
     }
 
@@ -74,6 +80,16 @@ impl<'a> Cursor<'a> {
         match self.ahead {
             Some(token) => Some(token.place),
             None => None,
+        }
+    }
+
+    /// The place of what stands first, or at the end that after the last byte.
+    pub(crate) fn here(&self) -> Place
+        ensures { IsPlaceOf self.now.point.left self.now.ending result }
+    {
+        match self.ahead {
+            Some(token) => token.place,
+            None => self.lexer.place(),
         }
     }
 
@@ -104,19 +120,20 @@ impl<'a> Cursor<'a> {
         if !fits(self.terminal, terminal) {
             return Err(Stop::Form);
         }
+        let brackets = open_after(terminal, self.brackets);
+        if brackets > MOST_OPEN {
+            return Err(Stop::Token(too_deep(token.place)));
+        }
         match self.lexer.next() {
             Ok(ahead) => {
                 self.names = names_after(terminal, self.names);
                 self.recoveries = blocks_after(terminal, self.recoveries);
+                self.brackets = brackets;
                 self.terminal = terminal_ahead(&ahead);
                 self.ahead = ahead;
                 Ok(token)
             }
-            Err(fault) => {
-                self.terminal = None;
-                self.ahead = None;
-                Err(Stop::Token(fault))
-            }
+            Err(fault) => Err(Stop::Token(fault)),
         }
     }
 
@@ -153,32 +170,12 @@ impl<'a> Cursor<'a> {
         })
     }
 
-    /// Whether no token is left.
+    /// Whether no token is left. Then the source ends there.
     pub(crate) fn is_at_end(&self) -> bool
-        ensures { result ≡ is_nothing self.now.point.left }
+        ensures nothing { result ≡ is_nothing self.now.point.left }
+        ensures ended { EndsIf result self.now.ending }
     {
         self.ahead.is_none()
-    }
-
-    /// The first fault among what is left, if there is one.
-    pub(crate) fn first_fault(self) -> Option<SourceFault>
-        ensures { EndsBy self.entry.ending result }
-    {
-        let Cursor { mut lexer, .. } = self;
-        first_fault(&mut lexer)
-    }
-}
-
-// Reads on to the end.
-fn first_fault(lexer: &mut Lexer<'_>) -> Option<SourceFault>
-    ensures { EndsBy (ending_left lexer.old) result }
-{
-    'tokens: loop {
-        match lexer.next() {
-            Ok(Some(_)) => {}
-            Ok(None) => return None,
-            Err(fault) => return Some(fault),
-        }
     }
 }
 
@@ -218,4 +215,24 @@ fn blocks_after(terminal: Terminal, blocks: u32) -> u32
         Terminal::Ensure => blocks + 1,
         _ => blocks,
     }
+}
+
+fn open_after(terminal: Terminal, brackets: u32) -> u32
+    requires { brackets ≤ most_open }
+    ensures { result ≡ open_after (Some terminal) brackets }
+{
+    match terminal {
+        Terminal::OpenParen | Terminal::OpenBrace | Terminal::OpenBracket => brackets + 1,
+        Terminal::CloseParen | Terminal::CloseBrace | Terminal::CloseBracket => {
+            brackets.saturating_sub(1)
+        }
+        _ => brackets,
+    }
+}
+
+fn too_deep(place: Place) -> SourceFault
+    ensures { result ≡ record { name = FaultName.Y2; place = place } }
+{
+    let name = FaultName::Y2;
+    SourceFault { name, place }
 }

@@ -2,61 +2,20 @@ ghost use Rattle.std.specs.Prelude.{◌≡◌, ◌≤◌, ◌<◌, length, map, 
 ghost use Rattle.rb_parse.specs.Machine.{Reads};
 ghost use Rattle.rb_parse.specs.Parts.{Part};
 ghost use Rattle.rb_parse.specs.Reading.{IsNotRead};
-ghost use Rattle.rb_syntax.specs.Plain.{declaration, process_declaration, tree};
+ghost use Rattle.rb_syntax.specs.Plain.{declaration, identifier};
 
 use crate::cursor::Cursor;
-use crate::statements::read_statements;
+use crate::numbers::read_number;
 use crate::stop::Stop;
 use crate::terminal::Terminal;
-use rb_syntax::{Process, Program, Var};
+use rb_syntax::{Name, Number, Var};
 use std::alloc::Global;
 
-/// Reads a whole program.
-pub(crate) fn read_program<'a>(alloc: Global, cursor: &mut Cursor<'a>) -> Result<Program<'a>, Stop>
-    ensures ok { IfOk result (λ program. Reads Part.Program (tree program) cursor.old.point cursor.new.point) }
-    ensures err { IfErr result (IsNotRead Part.Program cursor.old cursor.new) }
-    ensures ending { cursor.new.ending ≡ cursor.old.ending }
-{
-    cursor.take(Terminal::Program)?;
-    let name = cursor.take_name()?;
-    cursor.take(Terminal::Semicolon)?;
-    let process = read_process(alloc, cursor)?;
-    cursor.take(Terminal::End)?;
-    cursor.take(Terminal::Dot)?;
-    let mut processes = Vec::new(alloc);
-    processes.push(process)?;
-    Ok(Program {
-        name,
-        channels: Vec::new(alloc),
-        conversations: Vec::new(alloc),
-        processes,
-        names: cursor.names(),
-        blocks: cursor.recoveries(),
-        edition: 1,
-    })
-}
-
-fn read_process<'a>(alloc: Global, cursor: &mut Cursor<'a>) -> Result<Process<'a>, Stop>
-    ensures ok { IfOk result (λ process. Reads Part.Process (process_declaration process) cursor.old.point cursor.new.point) }
-    ensures err { IfErr result (IsNotRead Part.Process cursor.old cursor.new) }
-    ensures ending { cursor.new.ending ≡ cursor.old.ending }
-    ensures shorter { OnOk result (length cursor.new.point.left < length cursor.old.point.left) }
-{
-    cursor.take(Terminal::Process)?;
-    let name = cursor.take_name()?;
-    cursor.take(Terminal::OpenBrace)?;
-    let vars = read_declarations(alloc, cursor)?;
-    let body = read_statements(alloc, cursor)?;
-    cursor.take(Terminal::CloseBrace)?;
-    Ok(Process {
-        name,
-        vars,
-        procedures: Vec::new(alloc),
-        body,
-    })
-}
-
-fn read_declarations<'a>(alloc: Global, cursor: &mut Cursor<'a>) -> Result<Vec<Var<'a>>, Stop>
+/// Reads all declarations of variables that stand here.
+pub(crate) fn read_declarations<'a>(
+    alloc: Global,
+    cursor: &mut Cursor<'a>,
+) -> Result<Vec<Var<'a>>, Stop>
     ensures ok { IfOk result (λ vars. Reads Part.Declarations (map declaration vars.items) cursor.old.point cursor.new.point) }
     ensures err { IfErr result (IsNotRead Part.Declarations cursor.old cursor.new) }
     ensures ending { cursor.new.ending ≡ cursor.old.ending }
@@ -78,6 +37,59 @@ fn read_declaration<'a>(cursor: &mut Cursor<'a>) -> Result<Var<'a>, Stop>
 {
     cursor.take(Terminal::Var)?;
     let name = cursor.take_name()?;
+    let size = read_size(cursor)?;
     cursor.take(Terminal::Semicolon)?;
-    Ok(Var { name, size: None })
+    Ok(Var { name, size })
+}
+
+fn read_size<'a>(cursor: &mut Cursor<'a>) -> Result<Option<Number>, Stop>
+    ensures ok { IfOk result (λ size. Reads Part.Size (size) cursor.old.point cursor.new.point) }
+    ensures err { IfErr result (IsNotRead Part.Size cursor.old cursor.new) }
+    ensures ending { cursor.new.ending ≡ cursor.old.ending }
+    ensures shorter { OnOk result (length cursor.new.point.left ≤ length cursor.old.point.left) }
+{
+    if cursor.stands_at(Terminal::OpenBracket) {
+        cursor.take(Terminal::OpenBracket)?;
+        let size = read_number(cursor)?;
+        cursor.take(Terminal::CloseBracket)?;
+        Ok(Some(size))
+    } else {
+        Ok(None)
+    }
+}
+
+/// Reads names with commas between them.
+pub(crate) fn read_names<'a>(alloc: Global, cursor: &mut Cursor<'a>) -> Result<Vec<Name<'a>>, Stop>
+    ensures ok { IfOk result (λ names. Reads Part.Names (map identifier names.items) cursor.old.point cursor.new.point) }
+    ensures err { IfErr result (IsNotRead Part.Names cursor.old cursor.new) }
+    ensures ending { cursor.new.ending ≡ cursor.old.ending }
+    ensures shorter { OnOk result (length cursor.new.point.left < length cursor.old.point.left) }
+{
+    let mut names = Vec::new(alloc);
+    let first = cursor.take_name()?;
+    names.push(first)?;
+    'names: while cursor.stands_at(Terminal::Comma) {
+        cursor.take(Terminal::Comma)?;
+        let name = cursor.take_name()?;
+        names.push(name)?;
+    }
+    Ok(names)
+}
+
+/// Reads names with commas between them, if one stands here.
+pub(crate) fn read_parameters<'a>(
+    alloc: Global,
+    cursor: &mut Cursor<'a>,
+) -> Result<Vec<Name<'a>>, Stop>
+    ensures ok { IfOk result (λ names. Reads Part.Parameters (map identifier names.items) cursor.old.point cursor.new.point) }
+    ensures err { IfErr result (IsNotRead Part.Parameters cursor.old cursor.new) }
+    ensures ending { cursor.new.ending ≡ cursor.old.ending }
+    ensures shorter { OnOk result (length cursor.new.point.left ≤ length cursor.old.point.left) }
+{
+    if cursor.stands_at(Terminal::Name) {
+        let names = read_names(alloc, cursor)?;
+        Ok(names)
+    } else {
+        Ok(Vec::new(alloc))
+    }
 }

@@ -1,102 +1,205 @@
-ghost use Rattle.std.specs.Prelude.{◌≡◌, ◌≤◌, ◌<◌, length, IfOk, IfErr, OnOk};
+ghost use Rattle.std.specs.Prelude.{◌≡◌, ◌≤◌, ◌<◌, length, true, false, Some, IfOk, IfErr, OnOk};
+ghost use Rattle.rb_parse.specs.Finding.{FindsOperator, FindsQuantifier};
 ghost use Rattle.rb_parse.specs.Grammar.{chain};
-ghost use Rattle.rb_parse.specs.Machine.{Reads, look};
+ghost use Rattle.rb_parse.specs.Machine.{Reads, fits, look};
+ghost use Rattle.rb_parse.specs.Operators.{comparison, quantifier};
 ghost use Rattle.rb_parse.specs.Parts.{Part};
-ghost use Rattle.rb_parse.specs.Reading.{FindsOperator, IsNotRead};
-ghost use Rattle.rb_parse.specs.Table.{sum_operator};
-ghost use Rattle.rb_syntax.specs.Plain.{expression, links_of, reference};
+ghost use Rattle.rb_parse.specs.Reading.{IsNotRead};
+ghost use Rattle.rb_syntax.specs.Plain.{expression, links_of, reference, subscript};
 
 use crate::cursor::Cursor;
+use crate::level::Level;
+use crate::numbers::read_number;
+use crate::operators::{Operator, Word, find_comparison, find_operator, find_quantifier};
 use crate::stop::Stop;
 use crate::terminal::Terminal;
-use rb_syntax::{Expr, Link, Op, Target};
+use rb_syntax::{Expr, Link, Quantified, Target};
 use std::alloc::Global;
 
-/// Reads a variable's name.
-#[tactic(auto, using(rb_syntax::proofs::Bridge::trees))]
-pub(crate) fn read_place<'a>(cursor: &mut Cursor<'a>) -> Result<Target<'a>, Stop>
-    ensures ok { IfOk result (λ target. Reads Part.Place (reference target) cursor.old.point cursor.new.point) }
-    ensures err { IfErr result (IsNotRead Part.Place cursor.old cursor.new) }
-    ensures ending { cursor.new.ending ≡ cursor.old.ending }
-    ensures shorter { OnOk result (length cursor.new.point.left < length cursor.old.point.left) }
-{
-    let name = cursor.take_name()?;
-    Ok(Target { name, index: None })
-}
-
-/// Reads a number or a variable.
-pub(crate) fn read_term<'a>(cursor: &mut Cursor<'a>) -> Result<Expr<'a>, Stop>
-    ensures ok { IfOk result (λ value. Reads Part.Term (expression value) cursor.old.point cursor.new.point) }
-    ensures err { IfErr result (IsNotRead Part.Term cursor.old cursor.new) }
-    ensures ending { cursor.new.ending ≡ cursor.old.ending }
-    ensures shorter { OnOk result (length cursor.new.point.left < length cursor.old.point.left) }
-{
-    if cursor.stands_at(Terminal::Number) {
-        let number = cursor.take_number()?;
-        Ok(Expr::Number(number))
-    } else {
-        let target = read_place(cursor)?;
-        Ok(Expr::Value(target))
-    }
-}
-
-/// Reads terms joined by `+` and `-`.
-pub(crate) fn read_sum<'a>(alloc: Global, cursor: &mut Cursor<'a>) -> Result<Expr<'a>, Stop>
-    ensures ok { IfOk result (λ value. Reads Part.Sum (expression value) cursor.old.point cursor.new.point) }
-    ensures err { IfErr result (IsNotRead Part.Sum cursor.old cursor.new) }
-    ensures ending { cursor.new.ending ≡ cursor.old.ending }
-    ensures shorter { OnOk result (length cursor.new.point.left < length cursor.old.point.left) }
-{
-    let first = read_term(cursor)?;
-    let links = read_terms(alloc, cursor)?;
-    let value = chain(alloc, first, links)?;
-    Ok(value)
-}
-
-// Reads the operators after the first term, and their terms.
-fn read_terms<'a>(alloc: Global, cursor: &mut Cursor<'a>) -> Result<Vec<Link<'a>>, Stop>
-    ensures ok { IfOk result (λ links. Reads Part.MoreTerms (links_of links.items) cursor.old.point cursor.new.point) }
-    ensures err { IfErr result (IsNotRead Part.MoreTerms cursor.old cursor.new) }
-    ensures ending { cursor.new.ending ≡ cursor.old.ending }
-    ensures shorter { OnOk result (length cursor.new.point.left ≤ length cursor.old.point.left) }
-{
-    let mut links = Vec::new(alloc);
-    while let Some(Operator { terminal, op }) = sum_operator(cursor.look()) {
-        cursor.take(terminal)?;
-        let right = read_term(cursor)?;
-        links.push(Link { op, right })?;
-    }
-    Ok(links)
-}
-
 /// Reads an expression.
+#[cycle(expression)]
 pub(crate) fn read_expression<'a>(alloc: Global, cursor: &mut Cursor<'a>) -> Result<Expr<'a>, Stop>
     ensures ok { IfOk result (λ value. Reads Part.Expression (expression value) cursor.old.point cursor.new.point) }
     ensures err { IfErr result (IsNotRead Part.Expression cursor.old cursor.new) }
     ensures ending { cursor.new.ending ≡ cursor.old.ending }
     ensures shorter { OnOk result (length cursor.new.point.left < length cursor.old.point.left) }
 {
-    let sum = read_sum(alloc, cursor)?;
-    Ok(sum)
+    match find_quantifier(cursor.look()) {
+        Some(word) => read_quantified(alloc, cursor, word),
+        None => {
+            let value = read_chain(alloc, cursor, Level::Disjunction)?;
+            Ok(value)
+        }
+    }
 }
 
-// An operator, and the token that it is.
-#[derive(Clone, Copy, Debug)]
-struct Operator {
-    terminal: Terminal,
-    op: Op,
-}
-
-fn sum_operator(first: Option<Terminal>) -> Option<Operator>
-    ensures { FindsOperator (sum_operator first) first result }
+#[cycle(expression)]
+fn read_quantified<'a>(alloc: Global, cursor: &mut Cursor<'a>, word: Word) -> Result<Expr<'a>, Stop>
+    requires { FindsQuantifier (quantifier (look cursor.old.point.left)) (look cursor.old.point.left) (Some word) }
+    ensures ok { IfOk result (λ value. Reads Part.Expression (expression value) cursor.old.point cursor.new.point) }
+    ensures err { IfErr result (IsNotRead Part.Expression cursor.old cursor.new) }
+    ensures ending { cursor.new.ending ≡ cursor.old.ending }
+    ensures shorter { OnOk result (length cursor.new.point.left < length cursor.old.point.left) }
 {
-    let terminal = first?;
-    let op = match terminal {
-        Terminal::Plus => Op::Add,
-        Terminal::Minus => Op::Sub,
-        _ => return None,
-    };
-    Some(Operator { terminal, op })
+    let token = cursor.take(word.terminal)?;
+    let name = cursor.take_name()?;
+    cursor.take(Terminal::From)?;
+    let low = read_boxed(alloc, cursor, Level::Sum)?;
+    cursor.take(Terminal::To)?;
+    let high = read_boxed(alloc, cursor, Level::Sum)?;
+    cursor.take(Terminal::Colon)?;
+    let body = read_boxed(alloc, cursor, Level::Disjunction)?;
+    let (kind, place) = (word.kind, token.place);
+    Ok(Expr::Quantified(Quantified {
+        kind,
+        place,
+        name,
+        low,
+        high,
+        body,
+    }))
+}
+
+#[cycle(expression)]
+fn read_boxed<'a>(
+    alloc: Global,
+    cursor: &mut Cursor<'a>,
+    level: Level,
+) -> Result<Box<Expr<'a>>, Stop>
+    ensures ok { IfOk result (λ value. Reads (Part.Chain level) (expression value.value) cursor.old.point cursor.new.point) }
+    ensures err { IfErr result (IsNotRead (Part.Chain level) cursor.old cursor.new) }
+    ensures ending { cursor.new.ending ≡ cursor.old.ending }
+    ensures shorter { OnOk result (length cursor.new.point.left < length cursor.old.point.left) }
+{
+    let value = read_chain(alloc, cursor, level)?;
+    let held = Box::new(alloc, value)?;
+    Ok(held)
+}
+
+/// Reads operands of one level, with their operators.
+#[cycle(expression)]
+fn read_chain<'a>(alloc: Global, cursor: &mut Cursor<'a>, level: Level) -> Result<Expr<'a>, Stop>
+    ensures ok { IfOk result (λ value. Reads (Part.Chain level) (expression value) cursor.old.point cursor.new.point) }
+    ensures err { IfErr result (IsNotRead (Part.Chain level) cursor.old cursor.new) }
+    ensures ending { cursor.new.ending ≡ cursor.old.ending }
+    ensures shorter { OnOk result (length cursor.new.point.left < length cursor.old.point.left) }
+{
+    let first = read_operand(alloc, cursor, level)?;
+    let links = read_links(alloc, cursor, level)?;
+    let value = chain(alloc, first, links)?;
+    Ok(value)
+}
+
+#[cycle(expression)]
+fn read_links<'a>(
+    alloc: Global,
+    cursor: &mut Cursor<'a>,
+    level: Level,
+) -> Result<Vec<Link<'a>>, Stop>
+    ensures ok { IfOk result (λ links. Reads (Part.Links level) (links_of links.items) cursor.old.point cursor.new.point) }
+    ensures err { IfErr result (IsNotRead (Part.Links level) cursor.old cursor.new) }
+    ensures ending { cursor.new.ending ≡ cursor.old.ending }
+    ensures shorter { OnOk result (length cursor.new.point.left ≤ length cursor.old.point.left) }
+{
+    let mut links = Vec::new(alloc);
+    'links: while let Some(Operator { terminal, op }) = find_operator(cursor.look(), level) {
+        cursor.take(terminal)?;
+        let right = read_operand(alloc, cursor, level)?;
+        links.push(Link { op, right })?;
+    }
+    Ok(links)
+}
+
+#[cycle(expression)]
+fn read_operand<'a>(alloc: Global, cursor: &mut Cursor<'a>, level: Level) -> Result<Expr<'a>, Stop>
+    ensures ok { IfOk result (λ value. Reads (Part.Operand level) (expression value) cursor.old.point cursor.new.point) }
+    ensures err { IfErr result (IsNotRead (Part.Operand level) cursor.old cursor.new) }
+    ensures ending { cursor.new.ending ≡ cursor.old.ending }
+    ensures shorter { OnOk result (length cursor.new.point.left < length cursor.old.point.left) }
+{
+    match level {
+        Level::Disjunction => {
+            let conjunction = read_chain(alloc, cursor, Level::Conjunction)?;
+            Ok(conjunction)
+        }
+        Level::Conjunction => {
+            let negation = read_negation(alloc, cursor)?;
+            Ok(negation)
+        }
+        Level::Sum => {
+            let product = read_chain(alloc, cursor, Level::Product)?;
+            Ok(product)
+        }
+        Level::Product => {
+            let factor = read_factor(alloc, cursor)?;
+            Ok(factor)
+        }
+    }
+}
+
+#[cycle(expression)]
+#[tactic(auto, using(rb_syntax::proofs::Bridge::trees))]
+fn read_negation<'a>(alloc: Global, cursor: &mut Cursor<'a>) -> Result<Expr<'a>, Stop>
+    ensures ok { IfOk result (λ value. Reads Part.Negation (expression value) cursor.old.point cursor.new.point) }
+    ensures err { IfErr result (IsNotRead Part.Negation cursor.old cursor.new) }
+    ensures ending { cursor.new.ending ≡ cursor.old.ending }
+    ensures shorter { OnOk result (length cursor.new.point.left < length cursor.old.point.left) }
+{
+    if cursor.stands_at(Terminal::Not) {
+        cursor.take(Terminal::Not)?;
+        let operand = read_comparison(alloc, cursor)?;
+        let held = Box::new(alloc, operand)?;
+        Ok(Expr::Not(held))
+    } else {
+        let value = read_comparison(alloc, cursor)?;
+        Ok(value)
+    }
+}
+
+#[cycle(expression)]
+fn read_comparison<'a>(alloc: Global, cursor: &mut Cursor<'a>) -> Result<Expr<'a>, Stop>
+    ensures ok { IfOk result (λ value. Reads Part.Comparison (expression value) cursor.old.point cursor.new.point) }
+    ensures err { IfErr result (IsNotRead Part.Comparison cursor.old cursor.new) }
+    ensures ending { cursor.new.ending ≡ cursor.old.ending }
+    ensures shorter { OnOk result (length cursor.new.point.left < length cursor.old.point.left) }
+{
+    let left = read_chain(alloc, cursor, Level::Sum)?;
+    let links = read_compared(alloc, cursor)?;
+    let value = chain(alloc, left, links)?;
+    Ok(value)
+}
+
+#[cycle(expression)]
+fn read_compared<'a>(alloc: Global, cursor: &mut Cursor<'a>) -> Result<Vec<Link<'a>>, Stop>
+    ensures ok { IfOk result (λ links. Reads Part.Compared (links_of links.items) cursor.old.point cursor.new.point) }
+    ensures err { IfErr result (IsNotRead Part.Compared cursor.old cursor.new) }
+    ensures ending { cursor.new.ending ≡ cursor.old.ending }
+    ensures shorter { OnOk result (length cursor.new.point.left ≤ length cursor.old.point.left) }
+{
+    match find_comparison(cursor.look()) {
+        Some(operator) => read_right(alloc, cursor, operator),
+        None => Ok(Vec::new(alloc)),
+    }
+}
+
+#[cycle(expression)]
+fn read_right<'a>(
+    alloc: Global,
+    cursor: &mut Cursor<'a>,
+    operator: Operator,
+) -> Result<Vec<Link<'a>>, Stop>
+    requires { FindsOperator (comparison (look cursor.old.point.left)) (look cursor.old.point.left) (Some operator) }
+    ensures ok { IfOk result (λ links. Reads Part.Compared (links_of links.items) cursor.old.point cursor.new.point) }
+    ensures err { IfErr result (IsNotRead Part.Compared cursor.old cursor.new) }
+    ensures ending { cursor.new.ending ≡ cursor.old.ending }
+    ensures shorter { OnOk result (length cursor.new.point.left < length cursor.old.point.left) }
+{
+    cursor.take(operator.terminal)?;
+    let right = read_chain(alloc, cursor, Level::Sum)?;
+    let mut links = Vec::new(alloc);
+    let op = operator.op;
+    links.push(Link { op, right })?;
+    Ok(links)
 }
 
 // One operand leaves no node.
@@ -110,4 +213,115 @@ fn chain<'a>(alloc: Global, first: Expr<'a>, links: Vec<Link<'a>>) -> Result<Exp
     }
     let first = Box::new(alloc, first)?;
     Ok(Expr::Chain(first, links))
+}
+
+/// Reads an atom, or one with `-` before it.
+#[cycle(expression)]
+#[tactic(auto, using(rb_syntax::proofs::Bridge::trees))]
+fn read_factor<'a>(alloc: Global, cursor: &mut Cursor<'a>) -> Result<Expr<'a>, Stop>
+    ensures ok { IfOk result (λ value. Reads Part.Factor (expression value) cursor.old.point cursor.new.point) }
+    ensures err { IfErr result (IsNotRead Part.Factor cursor.old cursor.new) }
+    ensures ending { cursor.new.ending ≡ cursor.old.ending }
+    ensures shorter { OnOk result (length cursor.new.point.left < length cursor.old.point.left) }
+{
+    if cursor.stands_at(Terminal::Minus) {
+        cursor.take(Terminal::Minus)?;
+        let operand = read_atom(alloc, cursor)?;
+        let held = Box::new(alloc, operand)?;
+        Ok(Expr::Neg(held))
+    } else {
+        let value = read_atom(alloc, cursor)?;
+        Ok(value)
+    }
+}
+
+#[cycle(expression)]
+fn read_atom<'a>(alloc: Global, cursor: &mut Cursor<'a>) -> Result<Expr<'a>, Stop>
+    ensures ok { IfOk result (λ value. Reads Part.Atom (expression value) cursor.old.point cursor.new.point) }
+    ensures err { IfErr result (IsNotRead Part.Atom cursor.old cursor.new) }
+    ensures ending { cursor.new.ending ≡ cursor.old.ending }
+    ensures shorter { OnOk result (length cursor.new.point.left < length cursor.old.point.left) }
+{
+    if cursor.stands_at(Terminal::Name) {
+        let target = read_place(alloc, cursor)?;
+        Ok(Expr::Value(target))
+    } else if cursor.stands_at(Terminal::Prior) {
+        read_prior(alloc, cursor)
+    } else if cursor.stands_at(Terminal::OpenParen) {
+        read_brackets(alloc, cursor)
+    } else {
+        read_literal(cursor)
+    }
+}
+
+fn read_literal<'a>(cursor: &mut Cursor<'a>) -> Result<Expr<'a>, Stop>
+    requires no_name { fits (look cursor.old.point.left) Terminal.Name ≡ false }
+    requires no_prior { fits (look cursor.old.point.left) Terminal.Prior ≡ false }
+    requires no_open_paren { fits (look cursor.old.point.left) Terminal.OpenParen ≡ false }
+    ensures ok { IfOk result (λ value. Reads Part.Atom (expression value) cursor.old.point cursor.new.point) }
+    ensures err { IfErr result (IsNotRead Part.Atom cursor.old cursor.new) }
+    ensures ending { cursor.new.ending ≡ cursor.old.ending }
+    ensures shorter { OnOk result (length cursor.new.point.left < length cursor.old.point.left) }
+{
+    let number = read_number(cursor)?;
+    Ok(Expr::Number(number))
+}
+
+#[cycle(expression)]
+#[tactic(auto, using(rb_syntax::proofs::Bridge::trees))]
+fn read_prior<'a>(alloc: Global, cursor: &mut Cursor<'a>) -> Result<Expr<'a>, Stop>
+    requires { fits (look cursor.old.point.left) Terminal.Prior ≡ true }
+    ensures ok { IfOk result (λ value. Reads Part.Atom (expression value) cursor.old.point cursor.new.point) }
+    ensures err { IfErr result (IsNotRead Part.Atom cursor.old cursor.new) }
+    ensures ending { cursor.new.ending ≡ cursor.old.ending }
+    ensures shorter { OnOk result (length cursor.new.point.left < length cursor.old.point.left) }
+{
+    let token = cursor.take(Terminal::Prior)?;
+    let target = read_place(alloc, cursor)?;
+    Ok(Expr::Prior(token.place, target))
+}
+
+#[cycle(expression)]
+fn read_brackets<'a>(alloc: Global, cursor: &mut Cursor<'a>) -> Result<Expr<'a>, Stop>
+    requires { fits (look cursor.old.point.left) Terminal.OpenParen ≡ true }
+    ensures ok { IfOk result (λ value. Reads Part.Atom (expression value) cursor.old.point cursor.new.point) }
+    ensures err { IfErr result (IsNotRead Part.Atom cursor.old cursor.new) }
+    ensures ending { cursor.new.ending ≡ cursor.old.ending }
+    ensures shorter { OnOk result (length cursor.new.point.left < length cursor.old.point.left) }
+{
+    cursor.take(Terminal::OpenParen)?;
+    let value = read_expression(alloc, cursor)?;
+    cursor.take(Terminal::CloseParen)?;
+    Ok(value)
+}
+
+/// Reads a variable, or an element of an array.
+#[cycle(expression)]
+pub(crate) fn read_place<'a>(alloc: Global, cursor: &mut Cursor<'a>) -> Result<Target<'a>, Stop>
+    ensures ok { IfOk result (λ target. Reads Part.Place (reference target) cursor.old.point cursor.new.point) }
+    ensures err { IfErr result (IsNotRead Part.Place cursor.old cursor.new) }
+    ensures ending { cursor.new.ending ≡ cursor.old.ending }
+    ensures shorter { OnOk result (length cursor.new.point.left < length cursor.old.point.left) }
+{
+    let name = cursor.take_name()?;
+    let index = read_subscript(alloc, cursor)?;
+    Ok(Target { name, index })
+}
+
+#[cycle(expression)]
+fn read_subscript<'a>(alloc: Global, cursor: &mut Cursor<'a>) -> Result<Option<Box<Expr<'a>>>, Stop>
+    ensures ok { IfOk result (λ index. Reads Part.Subscript (subscript index) cursor.old.point cursor.new.point) }
+    ensures err { IfErr result (IsNotRead Part.Subscript cursor.old cursor.new) }
+    ensures ending { cursor.new.ending ≡ cursor.old.ending }
+    ensures shorter { OnOk result (length cursor.new.point.left ≤ length cursor.old.point.left) }
+{
+    if cursor.stands_at(Terminal::OpenBracket) {
+        cursor.take(Terminal::OpenBracket)?;
+        let index = read_expression(alloc, cursor)?;
+        cursor.take(Terminal::CloseBracket)?;
+        let held = Box::new(alloc, index)?;
+        Ok(Some(held))
+    } else {
+        Ok(None)
+    }
 }

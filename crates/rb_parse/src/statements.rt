@@ -1,125 +1,335 @@
-ghost use Rattle.std.specs.Prelude.{◌≡◌, ◌≤◌, ◌<◌, length, map, true, false, IfOk, IfErr, OnOk};
+ghost use Rattle.std.specs.Prelude.{◌≡◌, ◌≤◌, ◌<◌, length, true, IfOk, IfErr, OnOk};
 ghost use Rattle.std.specs.Option.{is_some};
-ghost use Rattle.rb_parse.specs.Grammar.{between_quotes};
+ghost use Rattle.rb_parse.specs.Finding.{may_not_wait};
+ghost use Rattle.rb_parse.specs.Grammar.{joined};
 ghost use Rattle.rb_parse.specs.Machine.{Reads, fits, look};
 ghost use Rattle.rb_parse.specs.Parts.{Part};
 ghost use Rattle.rb_parse.specs.Reading.{IsNotRead};
-ghost use Rattle.rb_parse.specs.Table.{start_statement};
-ghost use Rattle.rb_syntax.specs.Plain.{command, commands_of, print_item};
+ghost use Rattle.rb_parse.specs.StatementTable.{start_statement};
+ghost use Rattle.rb_syntax.specs.Plain.{alternates_of, body, command, commands_of, identifier, otherwise, recovery_block};
 
 use crate::cursor::Cursor;
+use crate::declarations::read_declarations;
+use crate::edition::Edition;
 use crate::expressions::{read_expression, read_place};
+use crate::numbers::read_number;
+use crate::simple_statements::read_simple;
 use crate::stop::Stop;
 use crate::terminal::Terminal;
-use rb_syntax::{Item, ItemKind, Statement};
+use rb_syntax::{Block, Name, Recovery, Statement};
 use std::alloc::Global;
 
 /// Reads all statements that stand here.
+#[cycle(statement)]
 pub(crate) fn read_statements<'a>(
     alloc: Global,
     cursor: &mut Cursor<'a>,
+    edition: Edition,
 ) -> Result<Vec<Statement<'a>>, Stop>
-    ensures ok { IfOk result (λ statements. Reads Part.Statements (commands_of statements.items) cursor.old.point cursor.new.point) }
-    ensures err { IfErr result (IsNotRead Part.Statements cursor.old cursor.new) }
+    ensures ok { IfOk result (λ statements. Reads (Part.Statements edition) (commands_of statements.items) cursor.old.point cursor.new.point) }
+    ensures err { IfErr result (IsNotRead (Part.Statements edition) cursor.old cursor.new) }
     ensures ending { cursor.new.ending ≡ cursor.old.ending }
     ensures shorter { OnOk result (length cursor.new.point.left ≤ length cursor.old.point.left) }
 {
     let mut statements = Vec::new(alloc);
     'statements: while begins_statement(cursor.look()) {
-        let statement = read_statement(alloc, cursor)?;
+        let statement = read_statement(alloc, cursor, edition)?;
         statements.push(statement)?;
     }
     Ok(statements)
 }
 
+// Both editions have the same statements.
 fn begins_statement(first: Option<Terminal>) -> bool
-    ensures { result ≡ is_some (start_statement first) }
+    ensures { result ≡ is_some (start_statement Edition.First first) }
 {
-    matches!(first, Some(Terminal::Name | Terminal::Print))
+    matches!(
+        first,
+        Some(Terminal::Name | Terminal::Print | Terminal::Send | Terminal::Receive | Terminal::If)
+    ) || matches!(
+        first,
+        Some(
+            Terminal::While
+                | Terminal::Call
+                | Terminal::Fail
+                | Terminal::Ensure
+                | Terminal::Converse
+        )
+    )
 }
 
-fn read_statement<'a>(alloc: Global, cursor: &mut Cursor<'a>) -> Result<Statement<'a>, Stop>
-    ensures ok { IfOk result (λ statement. Reads Part.Statement (command statement) cursor.old.point cursor.new.point) }
-    ensures err { IfErr result (IsNotRead Part.Statement cursor.old cursor.new) }
+#[cycle(statement)]
+fn read_statement<'a>(
+    alloc: Global,
+    cursor: &mut Cursor<'a>,
+    edition: Edition,
+) -> Result<Statement<'a>, Stop>
+    ensures ok { IfOk result (λ statement. Reads (Part.Statement edition) (command statement) cursor.old.point cursor.new.point) }
+    ensures err { IfErr result (IsNotRead (Part.Statement edition) cursor.old cursor.new) }
     ensures ending { cursor.new.ending ≡ cursor.old.ending }
     ensures shorter { OnOk result (length cursor.new.point.left < length cursor.old.point.left) }
 {
-    if cursor.stands_at(Terminal::Print) {
-        read_print(alloc, cursor)
+    if cursor.stands_at(Terminal::Receive) {
+        read_receive(alloc, cursor, edition)
+    } else if cursor.stands_at(Terminal::If) {
+        read_if(alloc, cursor, edition)
+    } else if cursor.stands_at(Terminal::While) {
+        read_while(alloc, cursor, edition)
+    } else if cursor.stands_at(Terminal::Ensure) {
+        read_recover(alloc, cursor, edition)
+    } else if cursor.stands_at(Terminal::Converse) {
+        read_converse(alloc, cursor, edition)
     } else {
-        read_assignment(alloc, cursor)
+        read_simple(alloc, cursor)
     }
 }
 
-fn read_assignment<'a>(alloc: Global, cursor: &mut Cursor<'a>) -> Result<Statement<'a>, Stop>
-    requires { fits (look cursor.old.point.left) Terminal.Print ≡ false }
-    ensures ok { IfOk result (λ statement. Reads Part.Statement (command statement) cursor.old.point cursor.new.point) }
-    ensures err { IfErr result (IsNotRead Part.Statement cursor.old cursor.new) }
+/// Reads a block.
+#[cycle(statement)]
+pub(crate) fn read_block<'a>(
+    alloc: Global,
+    cursor: &mut Cursor<'a>,
+    edition: Edition,
+) -> Result<Block<'a>, Stop>
+    ensures ok { IfOk result (λ block. Reads (Part.Block edition) (body block) cursor.old.point cursor.new.point) }
+    ensures err { IfErr result (IsNotRead (Part.Block edition) cursor.old cursor.new) }
     ensures ending { cursor.new.ending ≡ cursor.old.ending }
     ensures shorter { OnOk result (length cursor.new.point.left < length cursor.old.point.left) }
 {
-    let place = read_place(cursor)?;
-    cursor.take(Terminal::Becomes)?;
-    let value = read_expression(alloc, cursor)?;
-    cursor.take(Terminal::Semicolon)?;
-    Ok(Statement::Assign(place, value))
+    cursor.take(Terminal::OpenBrace)?;
+    let vars = read_declarations(alloc, cursor)?;
+    let body = read_statements(alloc, cursor, edition)?;
+    cursor.take(Terminal::CloseBrace)?;
+    Ok(Block { vars, body })
 }
 
-fn read_print<'a>(alloc: Global, cursor: &mut Cursor<'a>) -> Result<Statement<'a>, Stop>
-    requires { fits (look cursor.old.point.left) Terminal.Print ≡ true }
-    ensures ok { IfOk result (λ statement. Reads Part.Statement (command statement) cursor.old.point cursor.new.point) }
-    ensures err { IfErr result (IsNotRead Part.Statement cursor.old cursor.new) }
+#[cycle(statement)]
+#[tactic(auto, using(rb_syntax::proofs::Bridge::trees))]
+fn read_if<'a>(
+    alloc: Global,
+    cursor: &mut Cursor<'a>,
+    edition: Edition,
+) -> Result<Statement<'a>, Stop>
+    requires { fits (look cursor.old.point.left) Terminal.If ≡ true }
+    ensures ok { IfOk result (λ statement. Reads (Part.Statement edition) (command statement) cursor.old.point cursor.new.point) }
+    ensures err { IfErr result (IsNotRead (Part.Statement edition) cursor.old cursor.new) }
     ensures ending { cursor.new.ending ≡ cursor.old.ending }
     ensures shorter { OnOk result (length cursor.new.point.left < length cursor.old.point.left) }
 {
-    cursor.take(Terminal::Print)?;
-    let items = read_items(alloc, cursor)?;
-    cursor.take(Terminal::Semicolon)?;
-    Ok(Statement::Print(items))
+    cursor.take(Terminal::If)?;
+    let test = read_expression(alloc, cursor)?;
+    let block = read_block(alloc, cursor, edition)?;
+    let otherwise = read_else(alloc, cursor, edition)?;
+    Ok(Statement::If(test, block, otherwise))
 }
 
-fn read_items<'a>(alloc: Global, cursor: &mut Cursor<'a>) -> Result<Vec<Item<'a>>, Stop>
-    ensures ok { IfOk result (λ items. Reads Part.Items (map print_item items.items) cursor.old.point cursor.new.point) }
-    ensures err { IfErr result (IsNotRead Part.Items cursor.old cursor.new) }
+#[cycle(statement)]
+fn read_else<'a>(
+    alloc: Global,
+    cursor: &mut Cursor<'a>,
+    edition: Edition,
+) -> Result<Option<Block<'a>>, Stop>
+    ensures ok { IfOk result (λ block. Reads (Part.OptionalElse edition) (otherwise block) cursor.old.point cursor.new.point) }
+    ensures err { IfErr result (IsNotRead (Part.OptionalElse edition) cursor.old cursor.new) }
     ensures ending { cursor.new.ending ≡ cursor.old.ending }
-    ensures shorter { OnOk result (length cursor.new.point.left < length cursor.old.point.left) }
+    ensures shorter { OnOk result (length cursor.new.point.left ≤ length cursor.old.point.left) }
 {
-    let mut items = Vec::new(alloc);
-    let first = read_item(alloc, cursor)?;
-    items.push(first)?;
-    'items: while cursor.stands_at(Terminal::Comma) {
-        cursor.take(Terminal::Comma)?;
-        let item = read_item(alloc, cursor)?;
-        items.push(item)?;
-    }
-    Ok(items)
-}
-
-fn read_item<'a>(alloc: Global, cursor: &mut Cursor<'a>) -> Result<Item<'a>, Stop>
-    ensures ok { IfOk result (λ item. Reads Part.Item (print_item item) cursor.old.point cursor.new.point) }
-    ensures err { IfErr result (IsNotRead Part.Item cursor.old cursor.new) }
-    ensures ending { cursor.new.ending ≡ cursor.old.ending }
-    ensures shorter { OnOk result (length cursor.new.point.left < length cursor.old.point.left) }
-{
-    let Some(place) = cursor.place() else {
-        return Err(Stop::Form);
-    };
-    if cursor.stands_at(Terminal::Text) {
-        let token = cursor.take(Terminal::Text)?;
-        let what = ItemKind::Text(between_quotes(token.text));
-        Ok(Item { place, what })
+    if cursor.stands_at(Terminal::Else) {
+        cursor.take(Terminal::Else)?;
+        let block = read_block(alloc, cursor, edition)?;
+        Ok(Some(block))
     } else {
-        let value = read_expression(alloc, cursor)?;
-        let what = ItemKind::Value(value);
-        Ok(Item { place, what })
+        Ok(None)
     }
 }
 
-fn between_quotes(text: &[u8]) -> &[u8]
-    ensures { result.now ≡ between_quotes text.now }
+#[cycle(statement)]
+#[tactic(auto, using(rb_syntax::proofs::Bridge::trees))]
+fn read_while<'a>(
+    alloc: Global,
+    cursor: &mut Cursor<'a>,
+    edition: Edition,
+) -> Result<Statement<'a>, Stop>
+    requires { fits (look cursor.old.point.left) Terminal.While ≡ true }
+    ensures ok { IfOk result (λ statement. Reads (Part.Statement edition) (command statement) cursor.old.point cursor.new.point) }
+    ensures err { IfErr result (IsNotRead (Part.Statement edition) cursor.old cursor.new) }
+    ensures ending { cursor.new.ending ≡ cursor.old.ending }
+    ensures shorter { OnOk result (length cursor.new.point.left < length cursor.old.point.left) }
 {
-    match text {
-        [_, inner @ .., _] => inner,
-        _ => &[],
+    cursor.take(Terminal::While)?;
+    let test = read_expression(alloc, cursor)?;
+    let block = read_block(alloc, cursor, edition)?;
+    Ok(Statement::While(test, block))
+}
+
+#[cycle(statement)]
+#[tactic(auto, using(rb_syntax::proofs::Bridge::trees))]
+fn read_receive<'a>(
+    alloc: Global,
+    cursor: &mut Cursor<'a>,
+    edition: Edition,
+) -> Result<Statement<'a>, Stop>
+    requires { fits (look cursor.old.point.left) Terminal.Receive ≡ true }
+    ensures ok { IfOk result (λ statement. Reads (Part.Statement edition) (command statement) cursor.old.point cursor.new.point) }
+    ensures err { IfErr result (IsNotRead (Part.Statement edition) cursor.old cursor.new) }
+    ensures ending { cursor.new.ending ≡ cursor.old.ending }
+    ensures shorter { OnOk result (length cursor.new.point.left < length cursor.old.point.left) }
+{
+    cursor.take(Terminal::Receive)?;
+    let channel = cursor.take_name()?;
+    let place = read_place(alloc, cursor)?;
+    let otherwise = read_receipt_end(alloc, cursor, edition)?;
+    Ok(Statement::Receive(channel, place, otherwise))
+}
+
+#[cycle(statement)]
+fn read_receipt_end<'a>(
+    alloc: Global,
+    cursor: &mut Cursor<'a>,
+    edition: Edition,
+) -> Result<Option<Block<'a>>, Stop>
+    ensures ok { IfOk result (λ block. Reads (Part.ReceiptEnd edition) (otherwise block) cursor.old.point cursor.new.point) }
+    ensures err { IfErr result (IsNotRead (Part.ReceiptEnd edition) cursor.old cursor.new) }
+    ensures ending { cursor.new.ending ≡ cursor.old.ending }
+    ensures shorter { OnOk result (length cursor.new.point.left < length cursor.old.point.left) }
+{
+    if may_not_wait(edition, cursor.look()) {
+        cursor.take(Terminal::Else)?;
+        let block = read_block(alloc, cursor, Edition::Second)?;
+        Ok(Some(block))
+    } else {
+        cursor.take(Terminal::Semicolon)?;
+        Ok(None)
     }
+}
+
+// Whether a receipt goes on with a block here.
+fn may_not_wait(edition: Edition, first: Option<Terminal>) -> bool
+    ensures { result ≡ may_not_wait edition first }
+{
+    match edition {
+        Edition::First => false,
+        Edition::Second => matches!(first, Some(Terminal::Else)),
+    }
+}
+
+#[cycle(statement)]
+#[tactic(auto, using(rb_syntax::proofs::Bridge::trees))]
+fn read_recover<'a>(
+    alloc: Global,
+    cursor: &mut Cursor<'a>,
+    edition: Edition,
+) -> Result<Statement<'a>, Stop>
+    requires { fits (look cursor.old.point.left) Terminal.Ensure ≡ true }
+    ensures ok { IfOk result (λ statement. Reads (Part.Statement edition) (command statement) cursor.old.point cursor.new.point) }
+    ensures err { IfErr result (IsNotRead (Part.Statement edition) cursor.old cursor.new) }
+    ensures ending { cursor.new.ending ≡ cursor.old.ending }
+    ensures shorter { OnOk result (length cursor.new.point.left < length cursor.old.point.left) }
+{
+    let recovery = read_recovery(alloc, cursor, edition)?;
+    Ok(Statement::Recover(recovery))
+}
+
+#[cycle(statement)]
+#[tactic(auto, using(rb_syntax::proofs::Bridge::trees))]
+fn read_converse<'a>(
+    alloc: Global,
+    cursor: &mut Cursor<'a>,
+    edition: Edition,
+) -> Result<Statement<'a>, Stop>
+    requires { fits (look cursor.old.point.left) Terminal.Converse ≡ true }
+    ensures ok { IfOk result (λ statement. Reads (Part.Statement edition) (command statement) cursor.old.point cursor.new.point) }
+    ensures err { IfErr result (IsNotRead (Part.Statement edition) cursor.old cursor.new) }
+    ensures ending { cursor.new.ending ≡ cursor.old.ending }
+    ensures shorter { OnOk result (length cursor.new.point.left < length cursor.old.point.left) }
+{
+    cursor.take(Terminal::Converse)?;
+    let name = cursor.take_name()?;
+    let recovery = read_recovery(alloc, cursor, edition)?;
+    Ok(Statement::Recover(join(name, recovery)))
+}
+
+// A recovery in which a member takes part in a conversation.
+#[tactic(auto, using(rb_syntax::proofs::Bridge::trees))]
+fn join<'a>(name: Name<'a>, recovery: Recovery<'a>) -> Recovery<'a>
+    ensures { recovery_block result ≡ joined (identifier name.entry) (recovery_block recovery.entry) }
+{
+    Recovery {
+        number: recovery.number,
+        conversation: Some(name),
+        place: recovery.place,
+        test: recovery.test,
+        bound: recovery.bound,
+        alternates: recovery.alternates,
+    }
+}
+
+/// Reads a recovery block.
+#[cycle(statement)]
+#[tactic(auto, using(rb_syntax::proofs::Bridge::trees))]
+fn read_recovery<'a>(
+    alloc: Global,
+    cursor: &mut Cursor<'a>,
+    edition: Edition,
+) -> Result<Recovery<'a>, Stop>
+    ensures ok { IfOk result (λ recovery. Reads (Part.Recovery edition) (recovery_block recovery) cursor.old.point cursor.new.point) }
+    ensures err { IfErr result (IsNotRead (Part.Recovery edition) cursor.old cursor.new) }
+    ensures ending { cursor.new.ending ≡ cursor.old.ending }
+    ensures shorter { OnOk result (length cursor.new.point.left < length cursor.old.point.left) }
+{
+    let number = cursor.recoveries();
+    let token = cursor.take(Terminal::Ensure)?;
+    let test = read_expression(alloc, cursor)?;
+    cursor.take(Terminal::Within)?;
+    let bound = read_number(cursor)?;
+    let alternates = read_alternates(alloc, cursor, edition)?;
+    Ok(Recovery {
+        number,
+        conversation: None,
+        place: token.place,
+        test,
+        bound,
+        alternates,
+    })
+}
+
+#[cycle(statement)]
+fn read_alternates<'a>(
+    alloc: Global,
+    cursor: &mut Cursor<'a>,
+    edition: Edition,
+) -> Result<Vec<Block<'a>>, Stop>
+    ensures ok { IfOk result (λ alternates. Reads (Part.Alternates edition) (alternates_of alternates.items) cursor.old.point cursor.new.point) }
+    ensures err { IfErr result (IsNotRead (Part.Alternates edition) cursor.old cursor.new) }
+    ensures ending { cursor.new.ending ≡ cursor.old.ending }
+    ensures shorter { OnOk result (length cursor.new.point.left < length cursor.old.point.left) }
+{
+    let mut alternates = Vec::new(alloc);
+    let first = read_alternate(alloc, cursor, edition)?;
+    alternates.push(first)?;
+    'alternates: while cursor.stands_at(Terminal::By) {
+        let alternate = read_alternate(alloc, cursor, edition)?;
+        alternates.push(alternate)?;
+    }
+    cursor.take(Terminal::Error)?;
+    cursor.take(Terminal::Semicolon)?;
+    Ok(alternates)
+}
+
+/// Reads one alternate, with the `else` behind it.
+#[cycle(statement)]
+fn read_alternate<'a>(
+    alloc: Global,
+    cursor: &mut Cursor<'a>,
+    edition: Edition,
+) -> Result<Block<'a>, Stop>
+    ensures ok { IfOk result (λ block. Reads (Part.Alternate edition) (body block) cursor.old.point cursor.new.point) }
+    ensures err { IfErr result (IsNotRead (Part.Alternate edition) cursor.old cursor.new) }
+    ensures ending { cursor.new.ending ≡ cursor.old.ending }
+    ensures shorter { OnOk result (length cursor.new.point.left < length cursor.old.point.left) }
+{
+    cursor.take(Terminal::By)?;
+    let block = read_block(alloc, cursor, edition)?;
+    cursor.take(Terminal::Else)?;
+    Ok(block)
 }

@@ -4,7 +4,7 @@ use std::alloc::AllocFailed;
 /// Why the reading of a part stopped.
 #[derive(Clone, Copy, Debug)]
 pub(crate) enum Stop {
-    /// A token after the one that was taken has a fault.
+    /// The last token was taken, and this fault follows: the next token's own, or that of a bracket too many.
     Token(SourceFault),
     /// What stands first is no part of any form that was begun.
     Form,

@@ -10,6 +10,8 @@ use rb_lex::{Kind, Token};
 pub enum Terminal {
     Name,
     Number,
+    /// A number of the value 2, for which an edition asks.
+    Two,
     Text,
     All,
     And,
@@ -74,6 +76,7 @@ impl Terminal {
     {
         match token.kind {
             Kind::Name => Some(Terminal::Name),
+            Kind::Number(2) => Some(Terminal::Two),
             Kind::Number(_) => Some(Terminal::Number),
             Kind::Text => Some(Terminal::Text),
             Kind::Word => spelled(token.text, words()),

@@ -1,17 +1,18 @@
-use Rattle.std.proofs.Common.{◌≡◌, ap, sym, subst, ◌∙◌, ◌≤◌, length, IfErr}
+use Rattle.std.proofs.Common.{◌≡◌, [], ap, sym, subst, ◌∙◌, ◌≤◌, length, IfErr}
 use Rattle.std.proofs.lemmas.Result.{err_from_is_err_and}
 use Rattle.rb_lex.proofs.Answered.{answers_fault}
 use Rattle.rb_lex.specs.Tokens.{AtFault}
-use Rattle.rb_lex.specs.TokenList.{ending_of, ending_left}
+use Rattle.rb_lex.specs.TokenList.{tokens_of, tokens_left, ending_of, ending_left}
 use Rattle.rb_parse.proofs.Ahead.{begins, begins_sound}
 use Rattle.rb_parse.proofs.cursor.Cursor.new.Goals as goal
 
 pub returns-in_err-ahead-clause-err : goal.returns-in_err-ahead-clause-err
 returns-in_err-ahead-clause-err c =
     let p = err_from_is_err_and c.from_residual.result c.from_residual.ensures.1 in
-    let same : ending_of c.args.source.now ≡ AtFault c.in_err-ahead.field-0.0 =
-    ap (λ r. ending_left r) (sym c.new-lexer.ensures) ∙ (answers_fault c.new-lexer.result c.next.new.self c.in_err-ahead.field-0.0 c.in_err-ahead.ensures).1 in
-    subst (λ r. IfErr r (λ fault. ending_of c.args.source.now ≡ AtFault fault)) (sym p.1) (same ∙ ap AtFault (sym p.2))
+    let told = answers_fault c.new-lexer.result c.next.new.self c.in_err-ahead.field-0.0 c.in_err-ahead.ensures in
+    let none : tokens_of c.args.source.now ≡ [] = ap (λ r. tokens_left r) (sym c.new-lexer.ensures) ∙ told.0 in
+    let same : ending_of c.args.source.now ≡ AtFault c.in_err-ahead.field-0.0 = ap (λ r. ending_left r) (sym c.new-lexer.ensures) ∙ told.1 in
+    subst (λ r. IfErr r (λ fault. (tokens_of c.args.source.now ≡ []) × (ending_of c.args.source.now ≡ AtFault fault))) (sym p.1) (none, same ∙ ap AtFault (sym p.2))
 
 pub invariant_of-result : goal.invariant_of-result
 invariant_of-result c =

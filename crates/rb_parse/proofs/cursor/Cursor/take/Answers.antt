@@ -1,36 +1,45 @@
-use Rattle.std.proofs.Common.{ap, sym, ◌∙◌}
-use Rattle.rb_parse.proofs.Ahead.{misses, misses_all, advances, advances_sound, shorter, next_ending, ends_by_fault}
+use Rattle.std.proofs.Common.{sym, subst}
+use Rattle.rb_parse.proofs.Ahead.{misses, misses_all, advances, advances_sound, shorter, same_ending, stops_deep, stops_faulty}
+use Rattle.rb_parse.specs.Reading.{IsNotTaken}
+use Rattle.rb_parse.specs.declared.stop.Stop.TheVariants as stops
 use Rattle.rb_parse.proofs.cursor.Cursor.take.Goals as goal
 
 pub returns-in_default-clause-err : goal.returns-in_default-clause-err
 returns-in_default-clause-err c =
     let i = c.self.inside in
-    misses_all c.args.terminal i.terminal i.ahead i.lexer i.names i.recoveries c.args.self.now c.self.view_is c.self.invariant c.in_default.is
+    misses_all c.args.terminal i.terminal i.ahead i.lexer i.names i.recoveries i.brackets c.args.self.now c.self.view_is c.self.invariant c.in_default.is
 
 pub returns-then-not-fits-clause-err : goal.returns-then-not-fits-clause-err
 returns-then-not-fits-clause-err c =
     let i = c.self.inside in
-    misses c.args.terminal i.terminal i.ahead i.lexer i.names i.recoveries c.args.self.now c.self.view_is c.self.invariant (sym c.if-not-fits.ensures)
+    misses c.args.terminal i.terminal i.ahead i.lexer i.names i.recoveries i.brackets c.args.self.now c.self.view_is c.self.invariant (sym c.if-not-fits.ensures)
+
+pub returns-then-brackets-gt-MOST_OPEN-clause-err : goal.returns-then-brackets-gt-MOST_OPEN-clause-err
+returns-then-brackets-gt-MOST_OPEN-clause-err c =
+    let i = c.self.inside in
+    subst (λ fault. IsNotTaken c.args.terminal c.args.self.now c.args.self.now (stops.Token fault)) (sym c.too_deep.ensures) (stops_deep c.in-Some.token i.ahead c.args.terminal i.terminal i.lexer i.names i.recoveries i.brackets c.args.self.now c.self.view_is c.self.invariant c.in-Some.is (sym c.if-not-fits.ensures) c.args.self.now c.open_after-brackets.result c.open_after-brackets.ensures c.if-brackets-gt-MOST_OPEN.true)
 
 pub invariant_of-self : goal.invariant_of-self
 invariant_of-self c =
     let i = c.self.inside in
-    advances_sound c.in-Some.token i.ahead c.in-Ok.ahead c.args.terminal i.terminal i.lexer c.next.new.self i.names i.recoveries c.self.invariant c.in-Some.is (c.in-Ok.ensures) c.terminal_ahead-self-inside.result c.names_after-self-inside.result c.blocks_after-self-inside.result c.terminal_ahead-self-inside.ensures c.names_after-self-inside.ensures c.blocks_after-self-inside.ensures
+    advances_sound c.in-Some.token i.ahead c.args.terminal i.terminal i.lexer i.names i.recoveries i.brackets c.args.self.now c.self.view_is c.self.invariant c.in-Some.is (sym c.if-not-fits.ensures) c.open_after-brackets.result c.open_after-brackets.ensures c.if-brackets-gt-MOST_OPEN.false c.in-Ok.ahead c.next.new.self c.in-Ok.ensures c.terminal_ahead-self-inside.result c.names_after-self-inside.result c.blocks_after-self-inside.result c.terminal_ahead-self-inside.ensures c.names_after-self-inside.ensures c.blocks_after-self-inside.ensures
 
 pub returns-in-Ok-clause-ok : goal.returns-in-Ok-clause-ok
 returns-in-Ok-clause-ok c =
     let i = c.self.inside in
-    advances c.in-Some.token i.ahead c.in-Ok.ahead c.args.terminal i.terminal i.lexer c.next.new.self i.names i.recoveries c.self.invariant c.in-Some.is (c.in-Ok.ensures) c.args.self.now c.self.view_is (sym c.if-not-fits.ensures) c.names_after-self-inside.result c.blocks_after-self-inside.result c.names_after-self-inside.ensures c.blocks_after-self-inside.ensures
+    advances c.in-Some.token i.ahead c.args.terminal i.terminal i.lexer i.names i.recoveries i.brackets c.args.self.now c.self.view_is c.self.invariant c.in-Some.is (sym c.if-not-fits.ensures) c.open_after-brackets.result c.open_after-brackets.ensures c.if-brackets-gt-MOST_OPEN.false c.in-Ok.ahead c.next.new.self c.in-Ok.ensures c.names_after-self-inside.result c.blocks_after-self-inside.result c.names_after-self-inside.ensures c.blocks_after-self-inside.ensures
 
 pub returns-in-Ok-clause-ending : goal.returns-in-Ok-clause-ending
-returns-in-Ok-clause-ending c = next_ending c.self.inside.lexer c.next.new.self c.in-Ok.ahead c.in-Ok.ensures ∙ ap (λ p. p.ending) c.self.view_is
-
-pub returns-in-Err-clause-err : goal.returns-in-Err-clause-err
-returns-in-Err-clause-err c =
+returns-in-Ok-clause-ending c =
     let i = c.self.inside in
-    ends_by_fault c.in-Some.token i.ahead c.args.terminal i.terminal i.lexer c.next.new.self i.names i.recoveries c.in-Err.fault c.args.self.now _ c.self.invariant c.in-Some.is c.self.view_is (sym c.if-not-fits.ensures) c.in-Err.ensures
+    same_ending c.in-Some.token i.ahead c.args.terminal i.terminal i.lexer i.names i.recoveries i.brackets c.args.self.now c.self.view_is c.self.invariant c.in-Some.is (sym c.if-not-fits.ensures) c.open_after-brackets.result c.open_after-brackets.ensures c.if-brackets-gt-MOST_OPEN.false c.in-Ok.ahead c.next.new.self c.in-Ok.ensures
 
 pub returns-in-Ok-clause-shorter : goal.returns-in-Ok-clause-shorter
 returns-in-Ok-clause-shorter c =
     let i = c.self.inside in
-    shorter c.in-Some.token i.ahead c.in-Ok.ahead c.args.terminal i.terminal i.lexer c.next.new.self i.names i.recoveries c.self.invariant c.in-Some.is (c.in-Ok.ensures) c.args.self.now c.self.view_is
+    shorter c.in-Some.token i.ahead c.args.terminal i.terminal i.lexer i.names i.recoveries i.brackets c.args.self.now c.self.view_is c.self.invariant c.in-Some.is (sym c.if-not-fits.ensures) c.open_after-brackets.result c.open_after-brackets.ensures c.if-brackets-gt-MOST_OPEN.false c.in-Ok.ahead c.next.new.self c.in-Ok.ensures
+
+pub returns-in-Err-clause-err : goal.returns-in-Err-clause-err
+returns-in-Err-clause-err c =
+    let i = c.self.inside in
+    stops_faulty c.in-Some.token i.ahead c.args.terminal i.terminal i.lexer i.names i.recoveries i.brackets c.args.self.now c.self.view_is c.self.invariant c.in-Some.is (sym c.if-not-fits.ensures) c.open_after-brackets.result c.open_after-brackets.ensures c.if-brackets-gt-MOST_OPEN.false c.in-Err.fault c.next.new.self _ c.in-Err.ensures

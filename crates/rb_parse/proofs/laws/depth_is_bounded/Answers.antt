@@ -1,0 +1,5 @@
+use Rattle.rb_parse.proofs.Bounded.{depth_is_bounded}
+use Rattle.rb_parse.proofs.laws.depth_is_bounded.Goals as goal
+
+pub returns : goal.returns
+returns c = depth_is_bounded

@@ -1,0 +1,5 @@
+use Rattle.rb_parse.proofs.Deepest.{depth_is_reached}
+use Rattle.rb_parse.proofs.laws.depth_is_reached.Goals as goal
+
+pub returns : goal.returns
+returns c = depth_is_reached

@@ -1,0 +1,5 @@
+use Rattle.rb_parse.proofs.Numbered.{names_in_order}
+use Rattle.rb_parse.proofs.laws.names_in_order.Goals as goal
+
+pub returns : goal.returns
+returns c = names_in_order

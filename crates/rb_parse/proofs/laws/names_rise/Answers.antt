@@ -1,0 +1,5 @@
+use Rattle.rb_parse.proofs.Rising.{names_rise}
+use Rattle.rb_parse.proofs.laws.names_rise.Goals as goal
+
+pub returns : goal.returns
+returns c = names_rise

@@ -1,0 +1,5 @@
+use Rattle.rb_parse.proofs.Numbered.{recoveries_count_up}
+use Rattle.rb_parse.proofs.laws.recoveries_count_up.Goals as goal
+
+pub returns : goal.returns
+returns c = recoveries_count_up

@@ -1,0 +1,5 @@
+use Rattle.rb_parse.proofs.Numbered.{recoveries_in_order}
+use Rattle.rb_parse.proofs.laws.recoveries_in_order.Goals as goal
+
+pub returns : goal.returns
+returns c = recoveries_in_order

@@ -1,0 +1,5 @@
+use Rattle.rb_parse.proofs.Bounded.{trees_are_shallow}
+use Rattle.rb_parse.proofs.laws.trees_are_shallow.Goals as goal
+
+pub returns : goal.returns
+returns c = trees_are_shallow

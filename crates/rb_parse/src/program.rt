@@ -1,0 +1,158 @@
+ghost use Rattle.std.specs.Prelude.{◌≡◌, ◌≤◌, ◌<◌, length, map, IfOk, IfErr, OnOk};
+ghost use Rattle.rb_parse.specs.Grammar.{edition_number};
+ghost use Rattle.rb_parse.specs.Machine.{Reads};
+ghost use Rattle.rb_parse.specs.Parts.{Part};
+ghost use Rattle.rb_parse.specs.Reading.{IsNotRead};
+ghost use Rattle.rb_syntax.specs.Plain.{procedure_declaration, process_declaration, tree};
+
+use crate::connections::read_connections;
+use crate::cursor::Cursor;
+use crate::declarations::{read_declarations, read_parameters};
+use crate::edition::Edition;
+use crate::statements::{read_block, read_statements};
+use crate::stop::Stop;
+use crate::terminal::Terminal;
+use rb_syntax::{Procedure, Process, Program};
+use std::alloc::Global;
+
+/// Reads a whole program.
+pub(crate) fn read_program<'a>(alloc: Global, cursor: &mut Cursor<'a>) -> Result<Program<'a>, Stop>
+    ensures ok { IfOk result (λ program. Reads Part.Program (tree program) cursor.old.point cursor.new.point) }
+    ensures err { IfErr result (IsNotRead Part.Program cursor.old cursor.new) }
+    ensures ending { cursor.new.ending ≡ cursor.old.ending }
+    ensures shorter { OnOk result (length cursor.new.point.left < length cursor.old.point.left) }
+{
+    if cursor.stands_at(Terminal::Edition) {
+        cursor.take(Terminal::Edition)?;
+        cursor.take(Terminal::Two)?;
+        cursor.take(Terminal::Semicolon)?;
+        let second = read_unmarked(alloc, cursor, Edition::Second)?;
+        Ok(second)
+    } else {
+        let first = read_unmarked(alloc, cursor, Edition::First)?;
+        Ok(first)
+    }
+}
+
+fn read_unmarked<'a>(
+    alloc: Global,
+    cursor: &mut Cursor<'a>,
+    edition: Edition,
+) -> Result<Program<'a>, Stop>
+    ensures ok { IfOk result (λ program. Reads (Part.Unmarked edition) (tree program) cursor.old.point cursor.new.point) }
+    ensures err { IfErr result (IsNotRead (Part.Unmarked edition) cursor.old cursor.new) }
+    ensures ending { cursor.new.ending ≡ cursor.old.ending }
+    ensures shorter { OnOk result (length cursor.new.point.left < length cursor.old.point.left) }
+{
+    cursor.take(Terminal::Program)?;
+    let name = cursor.take_name()?;
+    cursor.take(Terminal::Semicolon)?;
+    let connections = read_connections(alloc, cursor)?;
+    let processes = read_processes(alloc, cursor, edition)?;
+    cursor.take(Terminal::End)?;
+    cursor.take(Terminal::Dot)?;
+    Ok(Program {
+        name,
+        channels: connections.channels,
+        conversations: connections.conversations,
+        processes,
+        names: cursor.names(),
+        blocks: cursor.recoveries(),
+        edition: number_of(edition),
+    })
+}
+
+fn number_of(edition: Edition) -> u32
+    ensures { result ≡ edition_number edition }
+{
+    match edition {
+        Edition::First => 1,
+        Edition::Second => 2,
+    }
+}
+
+fn read_processes<'a>(
+    alloc: Global,
+    cursor: &mut Cursor<'a>,
+    edition: Edition,
+) -> Result<Vec<Process<'a>>, Stop>
+    ensures ok { IfOk result (λ processes. Reads (Part.Processes edition) (map process_declaration processes.items) cursor.old.point cursor.new.point) }
+    ensures err { IfErr result (IsNotRead (Part.Processes edition) cursor.old cursor.new) }
+    ensures ending { cursor.new.ending ≡ cursor.old.ending }
+    ensures shorter { OnOk result (length cursor.new.point.left < length cursor.old.point.left) }
+{
+    let mut processes = Vec::new(alloc);
+    let first = read_process(alloc, cursor, edition)?;
+    processes.push(first)?;
+    'processes: while cursor.stands_at(Terminal::Process) {
+        let process = read_process(alloc, cursor, edition)?;
+        processes.push(process)?;
+    }
+    Ok(processes)
+}
+
+fn read_process<'a>(
+    alloc: Global,
+    cursor: &mut Cursor<'a>,
+    edition: Edition,
+) -> Result<Process<'a>, Stop>
+    ensures ok { IfOk result (λ process. Reads (Part.Process edition) (process_declaration process) cursor.old.point cursor.new.point) }
+    ensures err { IfErr result (IsNotRead (Part.Process edition) cursor.old cursor.new) }
+    ensures ending { cursor.new.ending ≡ cursor.old.ending }
+    ensures shorter { OnOk result (length cursor.new.point.left < length cursor.old.point.left) }
+{
+    cursor.take(Terminal::Process)?;
+    let name = cursor.take_name()?;
+    cursor.take(Terminal::OpenBrace)?;
+    let vars = read_declarations(alloc, cursor)?;
+    let procedures = read_procedures(alloc, cursor, edition)?;
+    let body = read_statements(alloc, cursor, edition)?;
+    cursor.take(Terminal::CloseBrace)?;
+    Ok(Process {
+        name,
+        vars,
+        procedures,
+        body,
+    })
+}
+
+fn read_procedures<'a>(
+    alloc: Global,
+    cursor: &mut Cursor<'a>,
+    edition: Edition,
+) -> Result<Vec<Procedure<'a>>, Stop>
+    ensures ok { IfOk result (λ procedures. Reads (Part.Procedures edition) (map procedure_declaration procedures.items) cursor.old.point cursor.new.point) }
+    ensures err { IfErr result (IsNotRead (Part.Procedures edition) cursor.old cursor.new) }
+    ensures ending { cursor.new.ending ≡ cursor.old.ending }
+    ensures shorter { OnOk result (length cursor.new.point.left ≤ length cursor.old.point.left) }
+{
+    let mut procedures = Vec::new(alloc);
+    'procedures: while cursor.stands_at(Terminal::Procedure) {
+        let procedure = read_procedure(alloc, cursor, edition)?;
+        procedures.push(procedure)?;
+    }
+    Ok(procedures)
+}
+
+fn read_procedure<'a>(
+    alloc: Global,
+    cursor: &mut Cursor<'a>,
+    edition: Edition,
+) -> Result<Procedure<'a>, Stop>
+    ensures ok { IfOk result (λ procedure. Reads (Part.Procedure edition) (procedure_declaration procedure) cursor.old.point cursor.new.point) }
+    ensures err { IfErr result (IsNotRead (Part.Procedure edition) cursor.old cursor.new) }
+    ensures ending { cursor.new.ending ≡ cursor.old.ending }
+    ensures shorter { OnOk result (length cursor.new.point.left < length cursor.old.point.left) }
+{
+    cursor.take(Terminal::Procedure)?;
+    let name = cursor.take_name()?;
+    cursor.take(Terminal::OpenParen)?;
+    let params = read_parameters(alloc, cursor)?;
+    cursor.take(Terminal::CloseParen)?;
+    let block = read_block(alloc, cursor, edition)?;
+    Ok(Procedure {
+        name,
+        params,
+        block,
+    })
+}
