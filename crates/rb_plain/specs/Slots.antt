@@ -1,6 +1,6 @@
 -- What the frames of an environment in memory stand for.
 use denote.Ref.{Bor}
-use Rattle.std.specs.Prelude.{ℕ, ℤ, List, map, slice_set}
+use Rattle.std.specs.Prelude.{ℕ, ℤ, List, length, map, slice_set}
 use Rattle.rb_meaning.specs.Environment.{Stored, Frame}
 use Rattle.rb_plain.specs.declared.environment.Slot.{Slot}
 
@@ -19,3 +19,7 @@ changed stored i v = record { name = stored.name; values = slice_set stored.valu
 -- a variable as it is lent
 abbrev pub entry : Bor (List ℕ) × Bor (List ℤ) → Stored
 entry (name, values) = record { name = name.now; values = values.now }
+
+-- how many numbers each variable of a frame has
+abbrev pub sizes : Frame → List ℕ
+sizes frame = map (λ stored. length stored.values) frame

@@ -1,7 +1,7 @@
-ghost use Rattle.std.specs.Prelude.{◌≡◌, map, slice_get, slice_set, position, [], ◌∷◌, IfOk, option_map};
+ghost use Rattle.std.specs.Prelude.{◌≡◌, length, map, slice_get, slice_set, position, [], ◌∷◌, IfOk, option_map};
 ghost use Rattle.rb_meaning.specs.Environment.{same_name, size_of, zeros, frame_of, found_in, stored_in, values_of, store};
 ghost use Rattle.rb_syntax.specs.Plain.{declaration};
-ghost use Rattle.rb_plain.specs.Slots.{stored, frame, changed, entry};
+ghost use Rattle.rb_plain.specs.Slots.{stored, frame, changed, entry, sizes};
 
 use rb_base::Memory;
 use rb_syntax::{Number, Var};
@@ -49,6 +49,15 @@ impl<'a> Slot<'a> {
             self.values[index] = value;
         }
     }
+
+    /// Takes the name and the numbers of another variable, which has as many.
+    fn copy_from(&mut self, other: &Slot<'a>)
+        requires { length self.old.values.items ≡ length other.now.values.items }
+        ensures { stored self.new ≡ stored other.now }
+    {
+        self.name = other.name;
+        self.values.copy_from_slice(other.values.as_slice());
+    }
 }
 
 /// The frame of these declarations, with zeros.
@@ -88,6 +97,18 @@ fn set(slots: &mut [Slot<'_>], name: &[u8], index: usize, value: i64)
 {
     if let Some(place) = place_of(slots, name) {
         slots[place].set(index, value);
+    }
+}
+
+/// Takes the variables of another frame, each of which has as many numbers.
+fn copy_frame<'a>(slots: &mut [Slot<'a>], others: &[Slot<'a>])
+    requires { sizes (frame slots.old) ≡ sizes (frame others.now) }
+    ensures { frame slots.new ≡ frame others.now }
+{
+    let mut place = 0;
+    'places: while place < slots.len() {
+        slots[place].copy_from(&others[place]);
+        place += 1;
     }
 }
 
@@ -131,6 +152,14 @@ impl<'a> Environment<'a> {
         set(&mut self.globals, name, index, value);
     }
 
+    /// Takes the variables of another environment, each of which has as many numbers. No memory is taken.
+    pub fn copy_from(&mut self, other: &Environment<'a>)
+        requires { sizes self.old.globals ≡ sizes other.now.globals }
+        ensures { self.new ≡ other.now }
+    {
+        copy_frame(&mut self.globals, &other.globals);
+    }
+
     /// The variables of the process in order: the name and the numbers of one.
     pub fn variable(&self, place: usize) -> Option<(&[u8], &[i64])>
         ensures { option_map entry result ≡ slice_get self.now.globals place }
@@ -162,6 +191,19 @@ mod tests {
             },
             size,
         }
+    }
+
+    #[test]
+    fn copies(rt: HostRuntime) -> Result<(), Fail> {
+        let variables = [variable(b"x", None), variable(b"row", Some(3))];
+        let mut environment = Environment::new(rt.alloc(), &variables)?;
+        let mut copy = Environment::new(rt.alloc(), &variables)?;
+        environment.set(b"row", 2, 4);
+        copy.copy_from(&environment);
+        environment.set(b"row", 2, 5);
+        assert_eq!(rt; copy.values(b"x"), [0].as_slice());
+        assert_eq!(rt; copy.values(b"row"), [0, 0, 4].as_slice());
+        Ok(())
     }
 
     #[test]
