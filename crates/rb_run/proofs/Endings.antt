@@ -7,7 +7,7 @@ use Rattle.std.proofs.lemmas.List.{append-nil}
 use Rattle.std.proofs.Math.Seq.{take-append_seam, drop-append_seam}
 use Rattle.rb_syntax.specs.declared.expression.Number.{Number}
 use Rattle.rb_syntax.specs.Tree.{Declaration, ChannelDeclaration, ProcessDeclaration, Tree}
-use Rattle.rb_world.specs.World.{Status, Running, Finished, FailedWith}
+use Rattle.rb_world.specs.World.{Status, Running, Finished, FailedWith, Level}
 use Rattle.rb_world.specs.Text.{Naming, Final, line_of, status_words, size_of as naming_size, variable_line, variable_lines, channel_lines, end_text}
 use Rattle.rb_base.specs.declared.event.State.{State as Standing}
 use Rattle.rb_base.specs.declared.event.State.TheVariants.{Done, Failed, Running as Open}
@@ -18,7 +18,7 @@ use Rattle.rb_meaning.specs.Meaning.{sent_on, taken_on, by_state, count_sent, co
 use Rattle.rb_trace.specs.Ending.{state_words}
 use Rattle.rb_run.specs.Written.{stored_line, stored_lines, unused_line, unused_lines, end_line, state_line, standing_text}
 use Rattle.rb_run.proofs.Shapes.{shape_of, declared_shape}
-use Rattle.rb_run.proofs.OneTurn.{lone_state, lone_world}
+use Rattle.rb_run.proofs.Worlds.{lone_state, world_with}
 
 -- a variable's own words, among all words of the process
 naming_size-declared : (size : Option Number) → naming_size (option_map (λ n. size_of (Some n)) size) ≡ size_of size
@@ -36,12 +36,12 @@ variable_line-stored process before rest d stored named sized =
     ∙ ap (λ (name : List ℕ). line_of ((process ++ 46 ∷ name) ∷ codes "=" ∷ map signed_decimal stored.values)) (sym named)
 
 -- the heads and the rests of two lists that are one
-record SameShape (stored : Stored) (d : Declaration) (frame : Frame) (ds : List Declaration) : Type 0 where
+pub record SameShape (stored : Stored) (d : Declaration) (frame : Frame) (ds : List Declaration) : Type 0 where
   pub named : stored.name ≡ d.name.text
   pub sized : length stored.values ≡ size_of d.size
   pub others : shape_of frame ≡ declared_shape ds
 
-same_shape : (stored : Stored) (d : Declaration) (frame : Frame) (ds : List Declaration) → shape_of (stored ∷ frame) ≡ declared_shape (d ∷ ds) → SameShape stored d frame ds
+pub same_shape : (stored : Stored) (d : Declaration) (frame : Frame) (ds : List Declaration) → shape_of (stored ∷ frame) ≡ declared_shape (d ∷ ds) → SameShape stored d frame ds
 same_shape stored d frame ds e =
     let both : ◌≡◌ {A = List ℕ × ℕ} (stored.name, length stored.values) (d.name.text, size_of d.size) = cc in
     record { named = ap (λ (x : List ℕ × ℕ). x.0) both; sized = ap (λ (x : List ℕ × ℕ). x.1) both; others = cc }
@@ -87,31 +87,31 @@ channel_line-none name sent taken e f =
     ∙ ap (λ n. line_of (name ∷ codes "sent" ∷ decimal 0 ∷ codes "taken" ∷ decimal n ∷ [])) f
     ∙ ap (λ zero_text. line_of (name ∷ codes "sent" ∷ zero_text ∷ codes "taken" ∷ zero_text ∷ [])) decimal_zero
 
-unused_lines-counted : (tree : Tree) (items : List Item) (env : Environment) (kept : List (ℕ × ℕ)) (n c : ℕ) (channels : List ChannelDeclaration) →
+unused_lines-counted : (tree : Tree) (items : List Item) (env : Environment) (held : List (List ℕ)) (kept : List (ℕ × ℕ)) (n c : ℕ) (channels : List ChannelDeclaration) →
     channel_lines (map (λ channel. channel.name.text) channels)
-    (count_sent (lone_state n items env kept ∷ []) c (map (ends_of tree) channels))
-    (count_taken (lone_state n items env kept ∷ []) c (map (ends_of tree) channels))
+    (count_sent (lone_state n items env held kept ∷ []) c (map (ends_of tree) channels))
+    (count_taken (lone_state n items env held kept ∷ []) c (map (ends_of tree) channels))
     ≡ unused_lines (map (λ channel. channel.name.text) channels)
-unused_lines-counted tree items env kept n c [] = refl
-unused_lines-counted tree items env kept n c (channel ∷ channels) =
-    let s = lone_state n items env kept in
+unused_lines-counted tree items env held kept n c [] = refl
+unused_lines-counted tree items env held kept n c (channel ∷ channels) =
+    let s = lone_state n items env held kept in
     let ends = ends_of tree channel in
     let line = channel_line-none channel.name.text _ _
     (none_by_state s (λ state. length (sent_on state c)) ends.sender (none_sent n c))
     (none_by_state s (λ state. taken_on state c) ends.receiver (none_taken n c)) in
     ap (λ (first : List ℕ). first ++ channel_lines (map (λ d. d.name.text) channels) (count_sent (s ∷ []) (c + 1) (map (ends_of tree) channels)) (count_taken (s ∷ []) (c + 1) (map (ends_of tree) channels))) line
-    ∙ ap (λ (rest : List ℕ). unused_line channel.name.text ++ rest) (unused_lines-counted tree items env kept n (c + 1) channels)
+    ∙ ap (λ (rest : List ℕ). unused_line channel.name.text ++ rest) (unused_lines-counted tree items env held kept n (c + 1) channels)
 
 -- how the process stands
-abbrev pub standing_of : Status → Standing
-standing_of Running = Open 0
-standing_of Finished = Done
-standing_of (FailedWith cause) = Failed
+abbrev pub standing_of : Status → ℕ → Standing
+standing_of Running levels = Open levels
+standing_of Finished levels = Done
+standing_of (FailedWith cause) levels = Failed
 
-status_words-standing : (status : Status) → status_words (status, 0) ≡ state_words (standing_of status)
-status_words-standing Running = refl
-status_words-standing Finished = refl
-status_words-standing (FailedWith cause) = refl
+status_words-standing : (status : Status) (levels : ℕ) → status_words (status, levels) ≡ state_words (standing_of status levels)
+status_words-standing Running levels = refl
+status_words-standing Finished levels = refl
+status_words-standing (FailedWith cause) levels = refl
 
 regrouped : (status variables channels : List ℕ) → (status ++ (variables ++ [])) ++ channels ≡ status ++ (variables ++ channels)
 regrouped status variables channels = simp (append_assoc, append-nil)
@@ -128,22 +128,23 @@ naming_with tree processes = record {
 abbrev pub ending_named : Naming → List ℕ → ℕ → Standing → Frame → List ℕ
 ending_named names process turns standing frame = end_line turns ++ standing_text process standing frame names.channels
 
-pub end_text-lone : (tree : Tree) (process : ProcessDeclaration) (turns : ℕ) (items : List Item) (env : Environment) (kept : List (ℕ × ℕ)) (status : Status) →
+pub end_text-lone : (tree : Tree) (process : ProcessDeclaration) (turns : ℕ) (items : List Item) (env : Environment) (held : List (List ℕ)) (kept : List (ℕ × ℕ)) (levels : List (Level State)) (status : Status) →
     tree.processes ≡ process ∷ [] → shape_of env.globals ≡ declared_shape process.variables →
-    end_text (naming_of tree) turns (final_of tree (lone_world tree items env kept status)) ≡ ending_named (naming_of tree) process.name.text turns (standing_of status) env.globals
-end_text-lone tree process turns items env kept status only shaped =
-    let final : Final = final_of tree (lone_world tree items env kept status) in
+    end_text (naming_of tree) turns (final_of tree (world_with tree (lone_state (length tree.channels) items env held kept) levels status))
+    ≡ ending_named (naming_of tree) process.name.text turns (standing_of status (length levels)) env.globals
+end_text-lone tree process turns items env held kept levels status only shaped =
+    let final : Final = final_of tree (world_with tree (lone_state (length tree.channels) items env held kept) levels status) in
     let name = process.name.text in
     let named : end_text (naming_of tree) turns final ≡ end_text (naming_with tree (process ∷ [])) turns final = ap (λ processes. end_text (naming_with tree processes) turns final) only in
     let shown : List ℕ = variable_lines (process_named process) (global_words env) in
     let used : List ℕ = channel_lines (map (λ c. c.name.text) tree.channels) final.sent final.taken in
-    let channels = unused_lines-counted tree items env kept (length tree.channels) 0 tree.channels in
+    let channels = unused_lines-counted tree items env held kept (length tree.channels) 0 tree.channels in
     let lines = stored_lines-named name [] process.variables env.globals shaped in
     named
     ∙ ap (λ (rest : List ℕ). end_line turns ++ rest)
-    (regrouped (line_of (name ∷ status_words (status, 0))) shown used
-    ∙ ap (λ words. line_of (name ∷ words) ++ (shown ++ used)) (status_words-standing status)
-    ∙ ap (λ (rest : List ℕ). state_line name (standing_of status) ++ rest)
+    (regrouped (line_of (name ∷ status_words (status, length levels))) shown used
+    ∙ ap (λ words. line_of (name ∷ words) ++ (shown ++ used)) (status_words-standing status (length levels))
+    ∙ ap (λ (rest : List ℕ). state_line name (standing_of status (length levels)) ++ rest)
     (ap (λ (variables : List ℕ). variables ++ used) lines ∙ ap (λ (rest : List ℕ). stored_lines name env.globals ++ rest) channels))
 
 -- past the last variable there is none

@@ -1,67 +1,45 @@
 -- What an engine's turns come to, from what they did.
-use Rattle.std.proofs.Common.{◌≡◌, ◌==◌, ℕ, Bool, true, not, ◌+◌, ◌-◌, ◌≤◌, false, cond, List, [], ◌∷◌, ◌++◌, length, take, drop, get_or, Option, Result, Ok, Err, IsErr, refl, sym, ap, ◌∙◌, arith}
+use Rattle.std.proofs.Common.{◌≡◌, ℕ, Bool, true, false, nat_lt, ◌+◌, ◌-◌, ◌≤◌, List, [], ◌∷◌, ◌++◌, length, take, drop, get_or, Option, Some, None, Result, Ok, Err, IsErr, refl, sym, ap, ◌∙◌, arith}
 use Rattle.std.proofs.lemmas.List.{take_all, length-map}
-use Rattle.std.proofs.lemmas.Bool.Decides.{nat_tests}
 use Rattle.rb_base.specs.declared.event.Cause.{Cause}
-use Rattle.rb_base.specs.declared.event.Event.TheVariants.{Error}
-use Rattle.rb_base.specs.declared.event.State.TheVariants.{Running}
+use Rattle.rb_base.specs.declared.event.Cause.TheVariants.{Test, Fail, Overrun}
 use Rattle.rb_outside.specs.declared.Failed.{Failed}
 use Rattle.rb_outside.specs.Puts.{Puts}
 use Rattle.rb_outside.proofs.Puts.{puts_same, puts_both, puts_stopped_at}
-use Rattle.rb_syntax.specs.declared.statement.Statement.{Statement}
-use Rattle.rb_syntax.specs.Plain.{command, commands_of}
-use Rattle.rb_syntax.specs.Tree.{Commands, NoCommand, Then}
-use Rattle.rb_world.specs.Text.{Naming, event_line}
-use Rattle.rb_meaning.specs.Environment.{Environment, Stored}
-use Rattle.rb_run.specs.declared.engine.Engine.{Engine}
-use Rattle.rb_run.specs.Alone.{Change, Alone, Goes, Fell, effect, variables_of, is_running, state_of, after_effect, after, after_all}
-use Rattle.rb_run.specs.Written.{out_text, done_text, effect_text, turn_text, turns_text, ending_text, text_alone}
-use Rattle.rb_run.specs.Engine.{alone}
+use Rattle.rb_syntax.specs.Tree.{Command, Assignment, Printing, Sending, Receiving, Conditional, Loop, Invocation, Failure, Recovering, Commands, NoCommand, Then, Body}
+use Rattle.rb_world.specs.Text.{Naming}
+use Rattle.rb_meaning.specs.Environment.{Environment, Frame, Stored}
+use Rattle.rb_meaning.specs.Value.{Outcome, is_zero, value}
+use Rattle.rb_meaning.specs.Step.{alternate_number, alternates_in, test_in}
+use Rattle.rb_plain.specs.Slots.{sizes}
+use Rattle.rb_run.specs.Trial.{is_entry}
+use Rattle.rb_run.specs.Alone.{Change, Trial, Stage, AtStart, Within, Alone, Goes, Tries, Fell, bound_in, counted, has_next, rejected_to, started, performed_in, passed_unless, judged, staged, within_bound, performed_alone, taken, came, effect, is_running, alternate_of, after, after_all}
+use Rattle.rb_run.specs.Written.{done_text, came_text, turn_text, turns_text, ending_text, text_alone}
 use Rattle.rb_run.proofs.Completes.{Remains, remains_same, remains_less, remains_none, remains_stopped}
-use Rattle.rb_run.proofs.Shapes.{shape_of, KeepsShape, effect-keeps}
 
 -- a list that begins with an element
 pub list_parts : {A : Type 0} (xs : List A) (d : A) → 1 ≤ length xs → xs ≡ get_or xs 0 d ∷ take (length xs - 1) (drop 1 xs)
 list_parts [] d h = absurd (omega arith)
 list_parts (x ∷ xs) d h = ap (λ (rest : List _). x ∷ rest) (sym (take_all (length (x ∷ xs) - 1) xs (omega arith)))
 
--- a process that has not failed
-alone-goes : (engine : Engine) → engine.failed ≡ false → alone engine ≡ Goes (commands_of engine.left.now) engine.environment
-alone-goes engine going = ap (λ b. cond b (Fell engine.environment) (Goes (commands_of engine.left.now) engine.environment)) going
+-- what is written of a turn that is not idle
+pub turn_text-came : (names : Naming) (t : ℕ) (a : Alone) → is_running a ≡ true → came_text names t (came a) ≡ turn_text names t a
+turn_text-came names t (Goes NoCommand env) running = absurd (cc)
+turn_text-came names t (Goes (Then first rest) env) running = refl
+turn_text-came names t (Tries trial stage env held) running = refl
+turn_text-came names t (Fell env) running = absurd (cc)
 
-state_of-left : (left : List Statement) (env : Environment) → 1 ≤ length left → state_of (Goes (commands_of left) env) ≡ Running 0
-state_of-left [] env h = absurd (omega arith)
-state_of-left (first ∷ rest) env h = refl
-
-pub state_of-running : (engine : Engine) → engine.failed ≡ false → 1 ≤ length engine.left.now → state_of (alone engine) ≡ Running 0
-state_of-running engine going some = ap state_of (alone-goes engine going) ∙ state_of-left engine.left.now engine.environment some
-
-is_running-left : (left : List Statement) (env : Environment) (none : Bool) → none ≡ (length left == 0) → not none ≡ is_running (Goes (commands_of left) env)
-is_running-left [] env none e = ap not e
-is_running-left (first ∷ rest) env true e = absurd (grind (arith, nat_tests))
-is_running-left (first ∷ rest) env false e = refl
-
-pub is_running-going : (engine : Engine) (none : Bool) → engine.failed ≡ false → none ≡ (length engine.left.now == 0) → not none ≡ is_running (alone engine)
-is_running-going engine none going e =
-    is_running-left engine.left.now engine.environment none e ∙ ap is_running (sym (alone-goes engine going))
-
--- a turn that takes a statement
-turn_text-first : (names : Naming) (t : ℕ) (engine : Engine) (first : Statement) (rest : List Statement) → engine.failed ≡ false → engine.left.now ≡ first ∷ rest →
-    turn_text names t (alone engine) ≡ effect_text names t (commands_of rest) (effect engine.environment (command first))
-turn_text-first names t engine first rest going parts =
-    ap (turn_text names t) (alone-goes engine going ∙ ap (λ left. Goes (commands_of left) engine.environment) parts)
-
-pub turn_text-took : (names : Naming) (t : ℕ) (engine : Engine) (first : Statement) (rest : List Statement) (changed : Environment) (line : Option (List ℕ)) → engine.failed ≡ false → engine.left.now ≡ first ∷ rest →
-    effect engine.environment (command first) ≡ Ok (changed, line) →
-    out_text names t line ++ done_text names t (cond engine.failed (Fell changed) (Goes (commands_of rest) changed)) ≡ turn_text names t (alone engine)
-turn_text-took names t engine first rest changed line going parts took =
-    ap (λ b. out_text names t line ++ done_text names t (cond b (Fell changed) (Goes (commands_of rest) changed))) going
-    ∙ sym (turn_text-first names t engine first rest going parts ∙ ap (effect_text names t (commands_of rest)) took)
-
-pub turn_text-trapped : (names : Naming) (t : ℕ) (engine : Engine) (first : Statement) (rest : List Statement) (cause : Cause) → engine.failed ≡ false → engine.left.now ≡ first ∷ rest →
-    effect engine.environment (command first) ≡ Err cause → event_line names t (Error 0 cause) ≡ turn_text names t (alone engine)
-turn_text-trapped names t engine first rest cause going parts trapped =
-    sym (turn_text-first names t engine first rest going parts ∙ ap (effect_text names t (commands_of rest)) trapped)
+-- a statement that is no entry
+pub taken-other : (rest : Commands) (env : Environment) (first : Command) → is_entry first ≡ false → performed_alone rest env (effect env [] first) ≡ taken rest env first
+taken-other rest env (Assignment to e) other = refl
+taken-other rest env (Printing items) other = refl
+taken-other rest env (Sending channel e) other = refl
+taken-other rest env (Receiving channel to otherwise) other = refl
+taken-other rest env (Conditional test body otherwise) other = refl
+taken-other rest env (Loop test body) other = refl
+taken-other rest env (Invocation procedure arguments) other = refl
+taken-other rest env Failure other = refl
+taken-other rest env (Recovering block) other = absurd (cc)
 
 -- one turn more was written, or it stopped
 pub walked : (names : Naming) (t p : ℕ) (left rest : List ℕ) (before after_it : Alone) (whole : List ℕ) (w0 w1 w2 : Option (List ℕ)) (f0 f1 f2 : ℕ) → left ≡ p ∷ rest → after_it ≡ after before →
@@ -84,11 +62,13 @@ led_on p left rest before after_it parts same = ap (after_all rest) same ∙ ap 
 after-idle : (a : Alone) → is_running a ≡ false → after a ≡ a
 after-idle (Goes NoCommand env) idle = refl
 after-idle (Goes (Then first rest) env) idle = absurd (cc)
+after-idle (Tries trial stage env held) idle = absurd (cc)
 after-idle (Fell env) idle = refl
 
 turn_text-idle : (names : Naming) (t : ℕ) (a : Alone) → is_running a ≡ false → turn_text names t a ≡ []
 turn_text-idle names t (Goes NoCommand env) idle = refl
 turn_text-idle names t (Goes (Then first rest) env) idle = absurd (cc)
+turn_text-idle names t (Tries trial stage env held) idle = absurd (cc)
 turn_text-idle names t (Fell env) idle = refl
 
 pub after_all-idle : (ps : List ℕ) (a : Alone) → is_running a ≡ false → after_all ps a ≡ a
@@ -107,27 +87,64 @@ pub walk_idled : (names : Naming) (t : ℕ) (left : List ℕ) (a : Alone) (whole
 walk_idled names t left a whole w0 w1 f0 f1 idle remains =
     remains_none whole w0 w1 f0 f1 (remains_same (turns_text names t left a) [] whole w0 w1 f0 f1 (turns_text-idle names t left a idle) remains)
 
--- no turn changes how many variables there are
-changed-keeps : (rest : Commands) (env : Environment) (o : Result Change Cause) → KeepsShape env o → shape_of (variables_of (after_effect rest env o)).globals ≡ shape_of env.globals
-changed-keeps rest env (Ok (changed, line)) keeps = keeps
-changed-keeps rest env (Err cause) keeps = refl
+-- as many variables as before
+pub few-sized : (before now : Frame) → sizes now ≡ sizes before → length before ≤ 2048 → length now ≤ 2048
+few-sized before now same few =
+    let counted : length (sizes now) ≡ length (sizes before) = ap length same in
+    let left = length-map now (λ (stored : Stored). length stored.values) in
+    let right = length-map before (λ (stored : Stored). length stored.values) in
+    omega (arith, few, counted, left, right)
 
-after-keeps : (a : Alone) → shape_of (variables_of (after a)).globals ≡ shape_of (variables_of a).globals
-after-keeps (Goes NoCommand env) = refl
-after-keeps (Goes (Then first rest) env) = changed-keeps rest env (effect env first) (effect-keeps env first)
-after-keeps (Fell env) = refl
+-- a turn goes on by one alternate at most
+next-alternate : (trial : Trial) (cause : Cause) (left : Bool) → alternate_of (rejected_to trial cause left).next ≤ trial.alternate + 1
+next-alternate trial cause true = omega arith
+next-alternate trial cause false = omega arith
 
-after_all-keeps : (ps : List ℕ) (a : Alone) → shape_of (variables_of (after_all ps a)).globals ≡ shape_of (variables_of a).globals
-after_all-keeps [] a = refl
-after_all-keeps (p ∷ ps) a = after_all-keeps ps (after a) ∙ after-keeps a
+started-alternate : (trial : Trial) (env : Environment) (held : List (List ℕ)) (o : Option Body) → alternate_of (started trial env held o).next ≤ trial.alternate + 1
+started-alternate trial env held None = next-alternate trial Fail (has_next trial)
+started-alternate trial env held (Some body) = omega arith
 
-pub few-after_all : (ps : List ℕ) (before now : Alone) → now ≡ after_all ps before → length (variables_of before).globals ≤ 2048 → length (variables_of now).globals ≤ 2048
-few-after_all ps before now led few =
-    let shape : Stored → List ℕ × ℕ = λ stored. (stored.name, length stored.values) in
-    let same : length (shape_of (variables_of now).globals) ≡ length (shape_of (variables_of before).globals) = ap (λ a. length (shape_of (variables_of a).globals)) led ∙ ap length (after_all-keeps ps before) in
-    let left = length-map (variables_of now).globals shape in
-    let right = length-map (variables_of before).globals shape in
-    omega (arith, few, same, left, right)
+performed-alternate : (trial : Trial) (rest : Commands) (env : Environment) (o : Result Change Cause) → alternate_of (performed_in trial rest env o).next ≤ trial.alternate + 1
+performed-alternate trial rest env (Ok (changed, held)) = omega arith
+performed-alternate trial rest env (Err cause) = next-alternate trial cause (has_next trial)
+
+passed-alternate : (trial : Trial) (env : Environment) (held : List (List ℕ)) (fails : Bool) → alternate_of (passed_unless trial env held fails).next ≤ trial.alternate + 1
+passed-alternate trial env held true = next-alternate trial Test (has_next trial)
+passed-alternate trial env held false = omega arith
+
+judged-alternate : (trial : Trial) (env : Environment) (held : List (List ℕ)) (o : Outcome) → alternate_of (judged trial env held o).next ≤ trial.alternate + 1
+judged-alternate trial env held (Ok v) = passed-alternate trial env held (is_zero v)
+judged-alternate trial env held (Err cause) = next-alternate trial cause (has_next trial)
+
+staged-alternate : (trial : Trial) (env : Environment) (held : List (List ℕ)) (stage : Stage) → alternate_of (staged trial env held stage).next ≤ trial.alternate + 1
+staged-alternate trial env held AtStart = started-alternate trial env held (alternate_number trial.alternate (alternates_in trial.block))
+staged-alternate trial env held (Within NoCommand) = judged-alternate trial env held (value env trial.copy [] (test_in trial.block))
+staged-alternate trial env held (Within (Then first rest)) = performed-alternate trial rest env (effect env held first)
+
+bounded-alternate : (trial : Trial) (env : Environment) (held : List (List ℕ)) (stage : Stage) (over : Bool) → alternate_of (within_bound trial env held stage over).next ≤ trial.alternate + 1
+bounded-alternate trial env held stage true = next-alternate trial Overrun (has_next trial)
+bounded-alternate trial env held stage false = staged-alternate trial env held stage
+
+alone-alternate : (rest : Commands) (env : Environment) (o : Result Change Cause) → alternate_of (performed_alone rest env o).next ≤ 1
+alone-alternate rest env (Ok (changed, held)) = omega arith
+alone-alternate rest env (Err cause) = omega arith
+
+taken-alternate : (rest : Commands) (env : Environment) (first : Command) → alternate_of (taken rest env first).next ≤ 1
+taken-alternate rest env (Assignment to e) = alone-alternate rest env (effect env [] (Assignment to e))
+taken-alternate rest env (Printing items) = alone-alternate rest env (effect env [] (Printing items))
+taken-alternate rest env (Sending channel e) = omega arith
+taken-alternate rest env (Receiving channel to otherwise) = omega arith
+taken-alternate rest env (Conditional test body otherwise) = omega arith
+taken-alternate rest env (Loop test body) = omega arith
+taken-alternate rest env (Invocation procedure arguments) = omega arith
+taken-alternate rest env Failure = omega arith
+taken-alternate rest env (Recovering block) = omega arith
+
+pub after-alternate : (a : Alone) → alternate_of (after a) ≤ alternate_of a + 1
+after-alternate (Goes NoCommand env) = omega arith
+after-alternate (Goes (Then first rest) env) = taken-alternate rest env first
+after-alternate (Tries trial stage env held) = bounded-alternate (counted trial) env held stage (nat_lt (bound_in trial.block) (trial.used + 1))
+after-alternate (Fell env) = omega arith
 
 -- a whole run
 pub run_stopped : {D : Type 0} (names : Naming) (all left : List ℕ) (a : Alone) (w0 w1 w2 : Option (List ℕ)) (f0 f1 f2 : ℕ) (e : Failed) (r : Result (Unit {0}) D) → IsErr r → left ≡ all →

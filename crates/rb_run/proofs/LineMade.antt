@@ -1,5 +1,5 @@
 -- The line that is made item by item is the definition's line, if that is within the limit.
-use Rattle.std.proofs.Common.{◌≡◌, ℕ, ◌+◌, Bool, true, false, cond, nat_lt, List, [], ◌∷◌, ◌++◌, length, Option, Some, None, is_some, Result, Ok, Err, refl, sym, ap, ◌∙◌, arith, length-append, append_assoc}
+use Rattle.std.proofs.Common.{◌≡◌, ℕ, ◌+◌, Bool, true, false, cond, nat_lt, List, [], ◌∷◌, ◌++◌, length, Option, Some, None, Result, Ok, Err, refl, sym, ap, ◌∙◌, arith, length-append, append_assoc}
 use Rattle.std.proofs.lemmas.List.{append-nil}
 use Rattle.std.proofs.lemmas.Bool.Decides.{nat_tests}
 use Rattle.rb_base.specs.declared.event.Cause.{Cause}
@@ -7,9 +7,9 @@ use Rattle.rb_base.specs.declared.event.Cause.TheVariants.{Hold}
 use Rattle.rb_syntax.specs.Tree.{PrintItem, Printing}
 use Rattle.rb_meaning.specs.Environment.{Environment}
 use Rattle.rb_meaning.specs.Value.{and_then}
-use Rattle.rb_meaning.specs.Step.{most_held, printed, after_blank, line_from}
-use Rattle.rb_run.specs.Alone.{Change, released, effect}
-use Rattle.rb_run.specs.Line.{fitting_line, added, item_added, before_item, items_added}
+use Rattle.rb_meaning.specs.Step.{held_bytes, printed, after_blank, line_from}
+use Rattle.rb_run.specs.Alone.{Change, line_held, effect}
+use Rattle.rb_run.specs.Line.{fitting_line, added, item_added, before_item, items_added, held_after}
 
 -- a line that is too long stays so
 added-test : (text bytes : List ℕ) (long whole : Bool) → long ≡ nat_lt 65536 (length text + 1) → whole ≡ nat_lt 65536 (length text + length bytes + 1) →
@@ -49,41 +49,54 @@ items_added-line_from env first text [] = ap (λ line. Ok (fitting_line line)) (
 items_added-line_from env first text (item ∷ items) =
     item-step env first text items (printed env item.what) (λ more. items_added-line_from env false more items)
 
--- what a line that is or is not there comes to
-abbrev pub line_change : Environment → Option (List ℕ) → Result Change Cause
-line_change env None = Err Hold
-line_change env (Some line) = Ok (env, Some line)
+-- what is held by then, or the trap
+abbrev pub change_of : Environment → Option (List (List ℕ)) → Result Change Cause
+change_of env None = Err Hold
+change_of env (Some held) = Ok (env, held)
 
-released-cases : (env : Environment) (line : List ℕ) (long : Bool) → cond long (Err Hold) (Ok (env, Some line)) ≡ line_change env (cond long None (Some line))
-released-cases env line true = refl
-released-cases env line false = refl
+held-whole : (env : Environment) (held : List (List ℕ)) (line : List ℕ) (whole : Bool) →
+    cond whole (Err Hold) (Ok (env, held ++ line ∷ [])) ≡ change_of env (cond whole None (Some (held ++ line ∷ [])))
+held-whole env held line true = refl
+held-whole env held line false = refl
 
-released-line : (env : Environment) (line : Result (List ℕ) Cause) → and_then line (released env) ≡ and_then (and_then line (λ rest. Ok (fitting_line rest))) (line_change env)
-released-line env (Ok line) = released-cases env line (nat_lt most_held (length line + 1))
-released-line env (Err cause) = refl
+held-test : (env : Environment) (held : List (List ℕ)) (line : List ℕ) (long whole : Bool) → long ≡ nat_lt 65536 (length line + 1) → whole ≡ nat_lt 65536 (held_bytes held + (length line + 1)) →
+    cond whole (Err Hold) (Ok (env, held ++ line ∷ [])) ≡ change_of env (held_after held (cond long None (Some line)))
+held-test env held line true true e f = refl
+held-test env held line true false e f = absurd (grind (arith, nat_tests))
+held-test env held line false whole e f =
+    held-whole env held line whole ∙ ap (λ b. change_of env (cond b None (Some (held ++ line ∷ [])))) f
+
+held-line : (env : Environment) (held : List (List ℕ)) (line : Result (List ℕ) Cause) →
+    and_then line (line_held env held) ≡ and_then (and_then line (λ rest. Ok (fitting_line rest))) (λ made. change_of env (held_after held made))
+held-line env held (Ok line) =
+    held-test env held line (nat_lt 65536 (length line + 1)) (nat_lt 65536 (held_bytes held + (length line + 1))) refl refl
+held-line env held (Err cause) = refl
 
 -- the effect of a `print` by the line that is made
-pub released-items_added : (env : Environment) (items : List PrintItem) → and_then (line_from env true items) (released env) ≡ and_then (items_added env true (Some []) items) (line_change env)
-released-items_added env items =
-    released-line env (line_from env true items) ∙ ap (λ line. and_then line (line_change env)) (sym (items_added-line_from env true [] items))
+held-items_added : (env : Environment) (held : List (List ℕ)) (items : List PrintItem) →
+    and_then (line_from env true items) (line_held env held) ≡ and_then (items_added env true (Some []) items) (λ made. change_of env (held_after held made))
+held-items_added env held items =
+    held-line env held (line_from env true items)
+    ∙ ap (λ (line : Result (Option (List ℕ)) Cause). and_then line (λ made. change_of env (held_after held made))) (sym (items_added-line_from env true [] items))
 
 -- what a `print` comes to, from the line that was begun and filled
-pub print-trapped : (env : Environment) (items : List PrintItem) (begun : Option (List ℕ)) (cause : Cause) → begun ≡ Some [] → items_added env true begun items ≡ Err cause → effect env (Printing items) ≡ Err cause
-print-trapped env items begun cause empty made =
-    released-items_added env items ∙ ap (λ line. and_then (items_added env true line items) (line_change env)) (sym empty) ∙ ap (λ line. and_then line (line_change env)) made
+print-made : (env : Environment) (held : List (List ℕ)) (items : List PrintItem) (begun : Option (List ℕ)) (made : Result (Option (List ℕ)) Cause) → begun ≡ Some [] → items_added env true begun items ≡ made →
+    effect env held (Printing items) ≡ and_then made (λ line. change_of env (held_after held line))
+print-made env held items begun made empty filled =
+    held-items_added env held items
+    ∙ ap (λ (line : Option (List ℕ)). and_then (items_added env true line items) (λ l. change_of env (held_after held l))) (sym empty)
+    ∙ ap (λ (line : Result (Option (List ℕ)) Cause). and_then line (λ l. change_of env (held_after held l))) filled
 
-line_change-there : (env : Environment) (line : Option (List ℕ)) → is_some line ≡ true → line_change env line ≡ Ok (env, line)
-line_change-there env None there = absurd (cc)
-line_change-there env (Some text) there = refl
+pub print-trapped : (env : Environment) (held : List (List ℕ)) (items : List PrintItem) (begun : Option (List ℕ)) (cause : Cause) → begun ≡ Some [] → items_added env true begun items ≡ Err cause →
+    effect env held (Printing items) ≡ Err cause
+print-trapped env held items begun cause empty filled = print-made env held items begun (Err cause) empty filled
 
-line_change-gone : (env : Environment) (line : Option (List ℕ)) → is_some line ≡ false → line_change env line ≡ Err Hold
-line_change-gone env None gone = refl
-line_change-gone env (Some text) gone = absurd (cc)
+pub print-held : (env : Environment) (held now : List (List ℕ)) (items : List PrintItem) (begun line : Option (List ℕ)) (there : Bool) → begun ≡ Some [] → items_added env true begun items ≡ Ok line → there ≡ true → held_after held line ≡ cond there (Some now) None →
+    effect env held (Printing items) ≡ Ok (env, now)
+print-held env held now items begun line there empty filled fits joined =
+    print-made env held items begun (Ok line) empty filled ∙ ap (change_of env) (joined ∙ ap (λ b. cond b (Some now) None) fits)
 
-pub print-done : (env : Environment) (items : List PrintItem) (begun line : Option (List ℕ)) → begun ≡ Some [] → items_added env true begun items ≡ Ok line → is_some line ≡ true → effect env (Printing items) ≡ Ok (env, line)
-print-done env items begun line empty made there =
-    released-items_added env items ∙ ap (λ l. and_then (items_added env true l items) (line_change env)) (sym empty) ∙ ap (λ l. and_then l (line_change env)) made ∙ line_change-there env line there
-
-pub print-long : (env : Environment) (items : List PrintItem) (begun line : Option (List ℕ)) → begun ≡ Some [] → items_added env true begun items ≡ Ok line → is_some line ≡ false → effect env (Printing items) ≡ Err Hold
-print-long env items begun line empty made gone =
-    released-items_added env items ∙ ap (λ l. and_then (items_added env true l items) (line_change env)) (sym empty) ∙ ap (λ l. and_then l (line_change env)) made ∙ line_change-gone env line gone
+pub print-full : (env : Environment) (held now : List (List ℕ)) (items : List PrintItem) (begun line : Option (List ℕ)) (there : Bool) → begun ≡ Some [] → items_added env true begun items ≡ Ok line → there ≡ false → held_after held line ≡ cond there (Some now) None →
+    effect env held (Printing items) ≡ Err Hold
+print-full env held now items begun line there empty filled lacks joined =
+    print-made env held items begun (Ok line) empty filled ∙ ap (change_of env) (joined ∙ ap (λ b. cond b (Some now) None) lacks)

@@ -15,15 +15,15 @@ use Rattle.rb_syntax.specs.declared.program.Conversation.{Conversation}
 use Rattle.rb_syntax.specs.declared.statement.Var.{Var}
 use Rattle.rb_syntax.specs.Tree.{Identifier}
 use Rattle.rb_syntax.specs.Plain.{declaration, channel_declaration, conversation_declaration, process_declaration, tree}
-use Rattle.rb_parse.specs.Scoped.{is_scalar}
+use Rattle.rb_run.specs.Runnable.{is_scalar}
 use Rattle.rb_world.specs.Text.{VariableNaming}
 use Rattle.rb_meaning.specs.Environment.{size_of}
 use Rattle.rb_meaning.specs.Meaning.{naming_of, process_named, variables_named}
 use Rattle.rb_trace.specs.Naming.{naming, process_naming, variable_naming}
-use Rattle.rb_run.proofs.ScopedFacts.{first_holds, second_holds}
+use Rattle.rb_run.proofs.RunnableFacts.{first_holds, second_holds}
 
 -- a scalar has no size
-sizeless : (name : Identifier) (size : Option Number) → is_scalar (record { name = name; size = size }) ≡ true → size ≡ None
+pub sizeless : (name : Identifier) (size : Option Number) → is_scalar (record { name = name; size = size }) ≡ true → size ≡ None
 sizeless name None e = refl
 sizeless name (Some n) e = absurd (cc)
 

@@ -1,206 +1,189 @@
--- One turn of the only process of a world, case by case, and what is told of it.
-use Rattle.std.proofs.Common.{◌≡◌, ℕ, ◌+◌, nat_lt, Bool, true, false, cond, List, [], ◌∷◌, ◌++◌, length, replicate, Option, Some, None, Result, Ok, Err, refl, ap, ◌∙◌, zero-add}
-use Rattle.std.specs.Option.{option_to_list}
-use Rattle.std.proofs.lemmas.List.{append-nil}
+-- One turn of the one process, outside of recovery blocks and in one.
+use Rattle.std.proofs.Common.{◌≡◌, ℕ, ◌+◌, nat_lt, nat_eq, ◌≤◌, Bool, true, false, cond, List, [], ◌∷◌, ◌++◌, length, Some, None, Result, Ok, Err, refl, ap, subst, ◌∙◌, arith}
+use Rattle.std.specs.List.{list_all}
+use Rattle.std.proofs.lemmas.Bool.Decides.{nat_tests}
+use Rattle.std.proofs.lemmas.List.Sums.{sum_by-cons}
 use Rattle.rb_base.specs.declared.event.Cause.{Cause}
-use Rattle.rb_base.specs.declared.event.Cause.TheVariants.{Hold}
-use Rattle.rb_base.specs.declared.event.Event.{Event}
-use Rattle.rb_base.specs.declared.event.Event.TheVariants.{Error, Done}
-use Rattle.rb_base.specs.declared.event.TurnKind.{TurnKind}
+use Rattle.rb_base.specs.declared.event.Event.TheVariants.{Error}
 use Rattle.rb_base.specs.declared.event.TurnKind.TheVariants.{Idle, Took, Undone}
-use Rattle.rb_syntax.specs.Tree.{Command, Assignment, Printing, Sending, Receiving, Conditional, Loop, Invocation, Failure, Recovering, Commands, NoCommand, Then, NoElse, Else, Tree}
-use Rattle.rb_parse.specs.Scoped.{is_known_command}
-use Rattle.rb_world.specs.Kind.{Acts}
-use Rattle.rb_world.specs.World.{Status, Running, Finished, FailedWith, Process, status_at}
-use Rattle.rb_world.specs.Turn.{Told, turn, finishes, took, acts, stepped, opening_talks}
-use Rattle.rb_world.specs.Text.{Naming, event_line, told_text}
-use Rattle.rb_meaning.specs.Environment.{Environment}
-use Rattle.rb_meaning.specs.Value.{Outcome, and_then}
-use Rattle.rb_meaning.specs.State.{Item, Perform, State, performed, continue_with, with_environment}
-use Rattle.rb_meaning.specs.Step.{most_held, goes, held_with, line_from, place_in, present_value, put_at, performs, wants}
-use Rattle.rb_meaning.specs.Groups.{groups_of}
-use Rattle.rb_meaning.specs.Meaning.{TreeWorld, tree_kind}
-use Rattle.rb_run.specs.Alone.{Change, Goes, effect, released}
-use Rattle.rb_run.specs.Written.{out_text, done_text}
+use Rattle.rb_syntax.specs.Tree.{Declaration, Command, Assignment, Printing, Sending, Receiving, Conditional, Loop, Invocation, Failure, Recovering, Commands, NoCommand, Then, RecoveryBlock, Recovers, ProcessDeclaration, Tree}
+use Rattle.rb_world.specs.Kind.{Enters}
+use Rattle.rb_world.specs.World.{Running, Process}
+use Rattle.rb_world.specs.Turn.{Told, turn, finishes, took, stepped, acts}
+use Rattle.rb_world.specs.Text.{told_text}
+use Rattle.rb_meaning.specs.Environment.{Environment, Frame, Stored, size_of, frame_words, words}
+use Rattle.rb_meaning.specs.State.{Item, Perform, State, performed}
+use Rattle.rb_meaning.specs.Step.{most_words, goes}
+use Rattle.rb_meaning.specs.Groups.{facts_of}
+use Rattle.rb_meaning.specs.Meaning.{TreeWorld, tree_kind, naming_of}
+use Rattle.rb_run.specs.Runnable.{names_in, is_scalar, is_simple, is_runnable_block, is_runnable_command, are_runnable}
+use Rattle.rb_run.specs.Alone.{Change, AtStart, Alone, Goes, Tries, Fell, Came, effect, first_trial, performed_alone, taken, came, after}
+use Rattle.rb_run.specs.Written.{turn_text, came_text}
+use Rattle.rb_run.proofs.RunnableFacts.{first_holds, second_holds}
+use Rattle.rb_run.proofs.InsideBlock.{inside, reads_outside}
+use Rattle.rb_run.proofs.Shapes.{shape_of, declared_shape, Fits, KeepsShape, effect-keeps}
+use Rattle.rb_run.proofs.Endings.{same_shape}
+use Rattle.rb_run.proofs.NamesMade.{sizeless}
+use Rattle.rb_run.proofs.Worlds.{lone_state, world_with, private_facts, world_going, world_trying, world_fallen, Stands, told_of, done_after, Matches, matches_from, told_text-took, told_text-failed}
+use Rattle.rb_run.proofs.Statements.{stepped_to, performs-effect, wants-simple, status_at-wants}
+use Rattle.rb_run.proofs.TrialTurns.{tried-matches}
 
--- the world of one process, which has no level and holds no line; no channel was used
-abbrev pub lone_state : ℕ → List Item → Environment → List (ℕ × ℕ) → State
-lone_state channels items env kept = record {
-  process = 0;
-  items = items;
-  environment = env;
-  sent = replicate channels [];
-  taken = replicate channels 0;
-  held = [];
-  kept = kept;
-}
+-- scalars have one word each
+words-scalars : (ds : List Declaration) (frame : Frame) → shape_of frame ≡ declared_shape ds → list_all is_scalar ds ≡ true → frame_words frame ≡ length ds
+words-scalars [] [] e scalars = refl
+words-scalars [] (stored ∷ frame) e scalars = absurd (cc)
+words-scalars (d ∷ ds) [] e scalars = absurd (cc)
+words-scalars (d ∷ ds) (stored ∷ frame) e scalars =
+    let same = same_shape stored d frame ds e in
+    let one : length stored.values ≡ 1 = same.sized ∙ ap size_of (sizeless d.name d.size (first_holds (is_scalar d) _ scalars)) in
+    let others : frame_words frame ≡ length ds = words-scalars ds frame same.others (second_holds (is_scalar d) _ scalars) in
+    let all = sum_by-cons (λ (s : Stored). length s.values) stored frame in
+    omega (arith, one, others, all)
 
-abbrev pub lone_process : ℕ → List Item → Environment → List (ℕ × ℕ) → Status → Process State State
-lone_process channels items env kept status = record {
-  state = lone_state channels items env kept;
-  levels = [];
-  at_line = false;
-  status = status;
-}
+few_words : (n edition : ℕ) → n ≤ 2048 → nat_lt (most_words edition) n ≡ false
+few_words n edition few = edition-cases (nat_eq edition 2)
+  where
+    edition-cases : (b : Bool) → nat_lt (cond b 4096 2048) n ≡ false
+    edition-cases true = grind (arith, nat_tests, few)
+    edition-cases false = grind (arith, nat_tests, few)
 
-abbrev pub lone_world : Tree → List Item → Environment → List (ℕ × ℕ) → Status → TreeWorld
-lone_world tree items env kept status = record {
-  processes = lone_process (length tree.channels) items env kept status ∷ [];
-  talks = opening_talks (groups_of tree);
-  memory = tt;
-}
+-- so there is always room for a block without variables
+roomy-scalars : (process : ProcessDeclaration) (edition : ℕ) (env : Environment) → Fits (declared_shape process.variables) env → length process.variables ≤ 2048 → list_all is_scalar process.variables ≡ true →
+    nat_lt (most_words edition) (words (inside env)) ≡ false
+roomy-scalars process edition env fits few scalars =
+    let own = words-scalars process.variables env.globals fits.shaped scalars in
+    let rest_at : env ≡ record { globals = env.globals; calls = [] ∷ [] } = λ j. record { globals = env.globals; calls = fits.calm j } in
+    let counted : words (inside env) ≡ frame_words env.globals + 0 = ap (λ e. words (inside e)) rest_at in
+    few_words (words (inside env)) edition (omega (arith, own, counted, few))
 
-abbrev pub told_of : TurnKind → List Event → Option (List ℕ) → Told
-told_of kind events line = record { kind = kind; events = events; released = option_to_list line ∷ [] }
+-- what is known of an `ensure` at its entry
+facts_of-private : (tree : Tree) (names : List (List ℕ)) (block : RecoveryBlock) → is_runnable_block names block ≡ true → facts_of tree block ≡ private_facts block
+facts_of-private tree names (Recovers number None place test bound alternates) runs = refl
+facts_of-private tree names (Recovers number (Some name) place test bound alternates) runs = absurd (cc)
 
--- a process that has failed, or is done, idles
-pub turn-failed : (tree : Tree) (t : ℕ) (items : List Item) (env : Environment) (kept : List (ℕ × ℕ)) (cause : Cause) →
-    turn (tree_kind tree) t 0 (lone_world tree items env kept (FailedWith cause)) ≡ (lone_world tree items env kept (FailedWith cause), told_of Idle [] None)
-turn-failed tree t items env kept cause = refl
+-- a simple statement outside of recovery blocks
+taken-simple : (names : List (List ℕ)) (rest : Commands) (env : Environment) (first : Command) → is_simple names first ≡ true → performed_alone rest env (effect env [] first) ≡ taken rest env first
+taken-simple names rest env (Assignment to e) simple = refl
+taken-simple names rest env (Printing items) simple = refl
+taken-simple names rest env (Sending channel e) simple = refl
+taken-simple names rest env (Receiving channel to otherwise) simple = refl
+taken-simple names rest env (Conditional test body otherwise) simple = refl
+taken-simple names rest env (Loop test body) simple = refl
+taken-simple names rest env (Invocation procedure arguments) simple = refl
+taken-simple names rest env Failure simple = refl
+taken-simple names rest env (Recovering block) simple = absurd (cc)
 
-pub turn-finished : (tree : Tree) (t : ℕ) (items : List Item) (env : Environment) (kept : List (ℕ × ℕ)) →
-    turn (tree_kind tree) t 0 (lone_world tree items env kept Finished) ≡ (lone_world tree items env kept Finished, told_of Idle [] None)
-turn-finished tree t items env kept = refl
+module _ (tree : Tree) (process : ProcessDeclaration) (t : ℕ) (kept : List (ℕ × ℕ)) (env : Environment) (fits : Fits (declared_shape process.variables) env) where
+  -- the end of a turn that took a statement
+  abbrev alone_ends : List Item → Result State Cause → TreeWorld × Told
+  alone_ends items result =
+      finishes (tree_kind tree) (world_with tree (lone_state (length tree.channels) items env [] kept) [] Running)
+      (stepped (tree_kind tree) t 0 0 [] (world_with tree (lone_state (length tree.channels) items env [] kept) [] Running) (goes result))
 
--- what a step leaves of the state, from what its statement leaves
-abbrev pub stepped_to : State → List Item → Result Change Cause → Result State Cause
-stepped_to s items (Ok (env, line)) = Ok (record {
-  process = s.process;
-  items = items;
-  environment = env;
-  sent = s.sent;
-  taken = s.taken;
-  held = option_to_list line;
-  kept = s.kept;
-})
-stepped_to s items (Err cause) = Err cause
+  alone-settled : (items : List Item) (rest : Commands) (changed : Environment) (held : List (List ℕ)) →
+      alone_ends items (Ok (lone_state (length tree.channels) (performed rest []) changed held kept))
+      ≡ (world_going tree (kept ++ (t, 0) ∷ []) rest changed, told_of Took (done_after (Goes rest changed)) held)
+  alone-settled items NoCommand changed held = refl
+  alone-settled items (Then first rest) changed held =
+      ap (λ status. finishes (tree_kind tree) (world_with tree (lone_state (length tree.channels) items env [] kept) [] Running)
+      (took (world_with tree (lone_state (length tree.channels) (performed (Then first rest) []) changed held (kept ++ (t, 0) ∷ [])) [] status))) (status_at-wants tree first)
 
--- an assignment
-stored-changed : (n : ℕ) (old items : List Item) (env : Environment) (kept : List (ℕ × ℕ)) (place : Result (List ℕ × ℕ) Cause) (value : Outcome) →
-    and_then place (λ at. and_then value (λ v. Ok (with_environment (put_at env v at) (continue_with items (lone_state n old env kept)))))
-    ≡ stepped_to (lone_state n old env kept) items (and_then place (λ at. and_then value (λ v. Ok (put_at env v at, None))))
-stored-changed n old items env kept (Ok at) (Ok v) = refl
-stored-changed n old items env kept (Ok at) (Err cause) = refl
-stored-changed n old items env kept (Err cause) value = refl
+  alone-matches : (items : List Item) (rest : Commands) (o : Result Change Cause) → KeepsShape (declared_shape process.variables) o → are_runnable (names_in process.variables) rest ≡ true →
+      Matches tree process t (alone_ends items (stepped_to (length tree.channels) (λ e. e) (performed rest []) kept o)) (performed_alone rest env o)
+  alone-matches items rest (Ok (changed, held)) keeps runs = record {
+    next = world_going tree (kept ++ (t, 0) ∷ []) rest changed;
+    told = told_of Took (done_after (Goes rest changed)) held;
+    is = alone-settled items rest changed held;
+    stands = record { kept = kept ++ (t, 0) ∷ []; is = refl; fits = keeps; runs = runs };
+    text = told_text-took (naming_of tree) t Took (Goes rest changed) held;
+  }
+  alone-matches items rest (Err cause) keeps runs = record {
+    next = world_fallen tree kept items env cause;
+    told = told_of Undone (Error 0 cause ∷ []) [];
+    is = refl;
+    stands = record { kept = kept; items = items; cause = cause; is = refl; fits = fits };
+    text = told_text-failed (naming_of tree) t env cause;
+  }
 
--- a `print`
-held-long : (s : State) (env : Environment) (items : List Item) (line : List ℕ) (long : Bool) →
-    cond long (Err Hold) (Ok (record { process = s.process; items = items; environment = env; sent = s.sent; taken = s.taken; held = line ∷ []; kept = s.kept }))
-    ≡ stepped_to s items (cond long (Err Hold) (Ok (env, Some line)))
-held-long s env items line true = refl
-held-long s env items line false = refl
+  -- a simple statement
+  simple-matches : (first : Command) (rest : Commands) → is_simple (names_in process.variables) first ≡ true → are_runnable (names_in process.variables) rest ≡ true →
+      Matches tree process t (turn (tree_kind tree) t 0 (world_going tree kept (Then first rest) env)) (taken rest env first)
+  simple-matches first rest simple runs =
+      let names = names_in process.variables in
+      let n = length tree.channels in
+      let items = Perform first ∷ performed rest [] in
+      let w = world_going tree kept (Then first rest) env in
+      let q : Process State State = record { state = lone_state n items env [] kept; levels = []; at_line = false; status = Running } in
+      subst (Matches tree process t (turn (tree_kind tree) t 0 w)) (taken-simple names rest env first simple)
+      (matches_from tree process t _ _ _
+      (ap (λ want. finishes (tree_kind tree) w (acts (tree_kind tree) t 0 q w want)) (wants-simple tree names first simple)
+      ∙ ap (alone_ends items) (performs-effect (λ e. e) env (reads_outside env) n items (performed rest []) [] kept tree names first simple))
+      (alone-matches items rest (effect env [] first) (effect-keeps (declared_shape process.variables) env [] first fits) runs))
 
-held-released : (n : ℕ) (old items : List Item) (env : Environment) (kept : List (ℕ × ℕ)) (line : Result (List ℕ) Cause) →
-    and_then line (held_with (continue_with items (lone_state n old env kept))) ≡ stepped_to (lone_state n old env kept) items (and_then line (released env))
-held-released n old items env kept (Ok line) =
-    ap (λ m. cond (nat_lt most_held m) (Err Hold) (Ok (record { process = 0; items = items; environment = env; sent = replicate n []; taken = replicate n 0; held = line ∷ []; kept = kept }))) (zero-add (length line + 1))
-    ∙ held-long (lone_state n old env kept) env items line (nat_lt most_held (length line + 1))
-held-released n old items env kept (Err cause) = refl
-
-performs-effect : (tree : Tree) (names : List (List ℕ)) (n : ℕ) (old items : List Item) (env : Environment) (kept : List (ℕ × ℕ)) (first : Command) → is_known_command names first ≡ true →
-    performs tree None (lone_state n old env kept) items first ≡ stepped_to (lone_state n old env kept) items (effect env first)
-performs-effect tree names n old items env kept (Assignment to e) known =
-    stored-changed n old items env kept (place_in env to) (present_value env e)
-performs-effect tree names n old items env kept (Printing printed) known =
-    held-released n old items env kept (line_from env true printed)
-performs-effect tree names n old items env kept (Sending channel e) known = absurd (cc)
-performs-effect tree names n old items env kept (Receiving channel to otherwise) known = absurd (cc)
-performs-effect tree names n old items env kept (Conditional test body otherwise) known = absurd (cc)
-performs-effect tree names n old items env kept (Loop test body) known = absurd (cc)
-performs-effect tree names n old items env kept (Invocation procedure arguments) known = absurd (cc)
-performs-effect tree names n old items env kept Failure known = absurd (cc)
-performs-effect tree names n old items env kept (Recovering block) known = absurd (cc)
-
--- what stands first
-wants-known : (tree : Tree) (names : List (List ℕ)) (first : Command) → is_known_command names first ≡ true → wants tree first ≡ Acts
-wants-known tree names (Assignment to e) known = refl
-wants-known tree names (Printing items) known = refl
-wants-known tree names (Sending channel e) known = absurd (cc)
-wants-known tree names (Receiving channel to otherwise) known = absurd (cc)
-wants-known tree names (Conditional test body otherwise) known = refl
-wants-known tree names (Loop test body) known = refl
-wants-known tree names (Invocation procedure arguments) known = refl
-wants-known tree names Failure known = refl
-wants-known tree names (Recovering block) known = absurd (cc)
-
--- a process goes on while a statement is left
-pub status_at-wants : (tree : Tree) (command : Command) → status_at (wants tree command) ≡ Running
-status_at-wants tree (Assignment to e) = refl
-status_at-wants tree (Printing items) = refl
-status_at-wants tree (Sending channel e) = refl
-status_at-wants tree (Receiving channel to NoElse) = refl
-status_at-wants tree (Receiving channel to (Else body)) = refl
-status_at-wants tree (Conditional test body otherwise) = refl
-status_at-wants tree (Loop test body) = refl
-status_at-wants tree (Invocation procedure arguments) = refl
-status_at-wants tree Failure = refl
-status_at-wants tree (Recovering block) = refl
-
-abbrev pub status_of : Commands → Status
-status_of NoCommand = Finished
-status_of (Then first rest) = Running
-
-abbrev pub done_events : Commands → List Event
-done_events NoCommand = Done 0 ∷ []
-done_events (Then first rest) = []
-
--- the world after a turn, and what is told of it
-abbrev pub outcome : Tree → ℕ → List Item → Commands → Environment → List (ℕ × ℕ) → Result Change Cause → TreeWorld × Told
-outcome tree t items rest env kept (Ok (changed, line)) =
-    (lone_world tree (performed rest []) changed (kept ++ (t, 0) ∷ []) (status_of rest), told_of Took (done_events rest) line)
-outcome tree t items rest env kept (Err cause) =
-    (lone_world tree items env kept (FailedWith cause), told_of Undone (Error 0 cause ∷ []) None)
-
--- the end of a turn in which the process was running, from the step's result
-abbrev stepped_turn : Tree → ℕ → List Item → Environment → List (ℕ × ℕ) → Result State Cause → TreeWorld × Told
-stepped_turn tree t items env kept result =
-    finishes (tree_kind tree) (lone_world tree items env kept Running)
-    (stepped (tree_kind tree) t 0 0 [] (lone_world tree items env kept Running) (goes result))
-
-stepped_turn-outcome : (tree : Tree) (t : ℕ) (items : List Item) (rest : Commands) (env : Environment) (kept : List (ℕ × ℕ)) (o : Result Change Cause) →
-    stepped_turn tree t items env kept (stepped_to (lone_state (length tree.channels) items env kept) (performed rest []) o) ≡ outcome tree t items rest env kept o
-stepped_turn-outcome tree t items NoCommand env kept (Ok (changed, line)) = refl
-stepped_turn-outcome tree t items (Then first rest) env kept (Ok (changed, line)) =
-    ap (λ status. finishes (tree_kind tree) (lone_world tree items env kept Running) (took (record {
-      processes = record {
-        state = record {
-          process = 0;
-          items = Perform first ∷ performed rest [];
-          environment = changed;
-          sent = replicate (length tree.channels) [];
-          taken = replicate (length tree.channels) 0;
-          held = option_to_list line;
-          kept = kept ++ (t, 0) ∷ [];
+  -- the entry to a recovery block
+  entry-matches : (block : RecoveryBlock) (rest : Commands) → is_runnable_block (names_in process.variables) block ≡ true → are_runnable (names_in process.variables) rest ≡ true →
+      Matches tree process t (turn (tree_kind tree) t 0 (world_going tree kept (Then (Recovering block) rest) env)) (taken rest env (Recovering block))
+  entry-matches block rest block_runs runs =
+      let items = Perform (Recovering block) ∷ performed rest [] in
+      let w = world_going tree kept (Then (Recovering block) rest) env in
+      let q : Process State State = record { state = lone_state (length tree.channels) items env [] kept; levels = []; at_line = false; status = Running } in
+      let now_kept = kept ++ (t, 0) ∷ [] in
+      record {
+        next = world_trying tree now_kept now_kept (first_trial block rest env) AtStart env [];
+        told = told_of Took [] [];
+        is = ap (λ facts. finishes (tree_kind tree) w (acts (tree_kind tree) t 0 q w (Enters facts))) (facts_of-private tree (names_in process.variables) block block_runs);
+        stands = record {
+          kept = now_kept;
+          then_kept = now_kept;
+          is = refl;
+          fits = fits;
+          runs = record { copied = fits; block = block_runs; rest = runs };
+          simple = refl;
         };
-        levels = [];
-        at_line = false;
-        status = status;
-      } ∷ [];
-      talks = opening_talks (groups_of tree);
-      memory = tt;
-    }))) (status_at-wants tree first)
-stepped_turn-outcome tree t items rest env kept (Err cause) = refl
+        text = told_text-took (naming_of tree) t Took (Tries (first_trial block rest env) AtStart env []) [];
+      }
 
--- a turn of a process that has a statement left
-pub turn-running : (tree : Tree) (names : List (List ℕ)) (t : ℕ) (first : Command) (rest : Commands) (env : Environment) (kept : List (ℕ × ℕ)) → is_known_command names first ≡ true →
-    turn (tree_kind tree) t 0 (lone_world tree (Perform first ∷ performed rest []) env kept Running)
-    ≡ outcome tree t (Perform first ∷ performed rest []) rest env kept (effect env first)
-turn-running tree names t first rest env kept known =
-    let items = Perform first ∷ performed rest [] in
-    let n = length tree.channels in
-    ap (λ want. finishes (tree_kind tree) (lone_world tree items env kept Running)
-    (acts (tree_kind tree) t 0 (lone_process n items env kept Running) (lone_world tree items env kept Running) want))
-    (wants-known tree names first known)
-    ∙ ap (stepped_turn tree t items env kept) (performs-effect tree names n items (performed rest []) env kept first known)
-    ∙ stepped_turn-outcome tree t items rest env kept (effect env first)
+  -- any statement
+  pub taken-matches : (first : Command) (rest : Commands) → is_runnable_command (names_in process.variables) first ≡ true → are_runnable (names_in process.variables) rest ≡ true →
+      Matches tree process t (turn (tree_kind tree) t 0 (world_going tree kept (Then first rest) env)) (taken rest env first)
+  taken-matches (Assignment to e) rest first_runs runs = simple-matches (Assignment to e) rest first_runs runs
+  taken-matches (Printing items) rest first_runs runs = simple-matches (Printing items) rest first_runs runs
+  taken-matches (Sending channel e) rest first_runs runs = absurd (cc)
+  taken-matches (Receiving channel to otherwise) rest first_runs runs = absurd (cc)
+  taken-matches (Conditional test body otherwise) rest first_runs runs = absurd (cc)
+  taken-matches (Loop test body) rest first_runs runs = absurd (cc)
+  taken-matches (Invocation procedure arguments) rest first_runs runs = absurd (cc)
+  taken-matches Failure rest first_runs runs = simple-matches Failure rest refl runs
+  taken-matches (Recovering block) rest first_runs runs = entry-matches block rest first_runs runs
 
--- what is written of it
-pub told_text-went : (names : Naming) (t : ℕ) (rest : Commands) (env : Environment) (line : Option (List ℕ)) →
-    told_text names t (told_of Took (done_events rest) line) ≡ out_text names t line ++ done_text names t (Goes rest env)
-told_text-went names t NoCommand env None = append-nil (event_line names t (Done 0))
-told_text-went names t NoCommand env (Some line) = simp append-nil
-told_text-went names t (Then first rest) env None = refl
-told_text-went names t (Then first rest) env (Some line) = simp append-nil
+-- A turn of a world, and of the process alone.
+pub record Turned (tree : Tree) (process : ProcessDeclaration) (t : ℕ) (w : TreeWorld) (a : Alone) : Type 0 where
+  pub next : TreeWorld
+  pub told : Told
+  pub is : turn (tree_kind tree) t 0 w ≡ (next, told)
+  pub stands : Stands tree process next (after a)
+  pub text : told_text (naming_of tree) t told ≡ turn_text (naming_of tree) t a
 
-pub told_text-failed : (names : Naming) (t : ℕ) (cause : Cause) → told_text names t (told_of Undone (Error 0 cause ∷ []) None) ≡ event_line names t (Error 0 cause)
-told_text-failed names t cause = simp append-nil
+-- a turn that was not idle
+turned_from : (tree : Tree) (process : ProcessDeclaration) (t : ℕ) (w here : TreeWorld) (a : Alone) (one : Came) → w ≡ here → one.next ≡ after a → came_text (naming_of tree) t one ≡ turn_text (naming_of tree) t a →
+    Matches tree process t (turn (tree_kind tree) t 0 here) one → Turned tree process t w a
+turned_from tree process t w here a one same led written m = record {
+  next = m.next;
+  told = m.told;
+  is = ap (turn (tree_kind tree) t 0) same ∙ m.is;
+  stands = subst (Stands tree process m.next) led m.stands;
+  text = m.text ∙ written;
+}
+
+module _ (tree : Tree) (process : ProcessDeclaration) (few : length process.variables ≤ 2048) (scalars : list_all is_scalar process.variables ≡ true) where
+  pub turned-alone : (t : ℕ) (w : TreeWorld) (a : Alone) → Stands tree process w a → Turned tree process t w a
+  turned-alone t w (Goes NoCommand env) s =
+      record { next = world_going tree s.kept NoCommand env; told = told_of Idle [] []; is = ap (turn (tree_kind tree) t 0) s.is; stands = record { kept = s.kept; is = refl; fits = s.fits; runs = s.runs }; text = refl }
+  turned-alone t w (Goes (Then first rest) env) s =
+      turned_from tree process t w (world_going tree s.kept (Then first rest) env) (Goes (Then first rest) env) (taken rest env first) s.is refl refl
+      (taken-matches tree process t s.kept env s.fits first rest (first_holds _ _ s.runs) (second_holds _ _ s.runs))
+  turned-alone t w (Tries trial stage env held) s =
+      turned_from tree process t w (world_trying tree s.kept s.then_kept trial stage env held) (Tries trial stage env held) (came (Tries trial stage env held)) s.is refl refl
+      (tried-matches tree process t s.kept s.then_kept trial s.runs held stage env s.fits (roomy-scalars process tree.edition env s.fits few scalars) s.simple)
+  turned-alone t w (Fell env) s =
+      record { next = world_fallen tree s.kept s.items env s.cause; told = told_of Idle [] []; is = ap (turn (tree_kind tree) t 0) s.is; stands = record { kept = s.kept; items = s.items; cause = s.cause; is = refl; fits = s.fits }; text = refl }

@@ -4,7 +4,7 @@ use Rattle.rb_base.specs.declared.event.Cause.{Cause}
 use Rattle.rb_syntax.specs.Tree.{PrintItem}
 use Rattle.rb_meaning.specs.Environment.{Environment}
 use Rattle.rb_meaning.specs.Value.{and_then}
-use Rattle.rb_meaning.specs.Step.{most_held, printed}
+use Rattle.rb_meaning.specs.Step.{most_held, held_bytes, printed}
 
 -- a line, if it is within the limit
 abbrev pub fitting_line : List ℕ → Option (List ℕ)
@@ -29,3 +29,9 @@ abbrev pub items_added : Environment → Bool → Option (List ℕ) → List Pri
 items_added env first line [] = Ok line
 items_added env first line (item ∷ items) =
     and_then (item_added (before_item first line) (printed env item.what)) (λ longer. items_added env false longer items)
+
+-- what is held once this line has joined, if there is a line, and room for it
+abbrev pub held_after : List (List ℕ) → Option (List ℕ) → Option (List (List ℕ))
+held_after held None = None
+held_after held (Some line) =
+    cond (nat_lt most_held (held_bytes held + (length line + 1))) None (Some (held ++ line ∷ []))

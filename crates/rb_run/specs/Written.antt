@@ -1,36 +1,45 @@
 -- What is written of a process that runs alone.
-use Rattle.std.specs.Prelude.{ℕ, ◌+◌, List, [], ◌∷◌, ◌++◌, length, map, codes, decimal, Option, Some, None, Result, Ok, Err}
+use Rattle.std.specs.Prelude.{ℕ, ◌+◌, List, [], ◌∷◌, ◌++◌, length, map, codes, decimal}
 use Rattle.std.specs.List.{flat_map}
 use Rattle.std.specs.Fmt.{signed_decimal}
-use Rattle.rb_base.specs.declared.event.Cause.{Cause}
 use Rattle.rb_base.specs.declared.event.State.{State}
-use Rattle.rb_base.specs.declared.event.Event.TheVariants.{Error, Done}
-use Rattle.rb_syntax.specs.Tree.{Commands, NoCommand, Then}
+use Rattle.rb_base.specs.declared.event.Event.{Event}
+use Rattle.rb_base.specs.declared.event.Event.TheVariants.{Done}
+use Rattle.rb_syntax.specs.Tree.{NoCommand, Then}
 use Rattle.rb_world.specs.Text.{Naming, process_word, line_of, event_line}
 use Rattle.rb_meaning.specs.Environment.{Stored, Frame}
 use Rattle.rb_trace.specs.Ending.{state_words}
-use Rattle.rb_run.specs.Alone.{Change, Alone, Goes, Fell, effect, variables_of, state_of, after, after_all}
+use Rattle.rb_run.specs.Alone.{Alone, Goes, Tries, Fell, Came, taken, tried, variables_of, state_of, after, after_all}
 
--- the line that was printed in turn t
-abbrev pub out_text : Naming → ℕ → Option (List ℕ) → List ℕ
-out_text names t None = []
-out_text names t (Some line) = line_of (decimal t ∷ codes "out" ∷ process_word names 0 ∷ line ∷ [])
+-- a line that came out in turn t
+abbrev pub out_text : Naming → ℕ → List ℕ → List ℕ
+out_text names t line = line_of (decimal t ∷ codes "out" ∷ process_word names 0 ∷ line ∷ [])
+
+-- the lines that came out in turn t, in order
+abbrev pub outs_text : Naming → ℕ → List (List ℕ) → List ℕ
+outs_text names t lines = flat_map (out_text names t) lines
+
+-- the rejections and the failure of turn t
+abbrev pub events_text : Naming → ℕ → List Event → List ℕ
+events_text names t events = flat_map (event_line names t) events
 
 -- that the process is done in turn t
 abbrev pub done_text : Naming → ℕ → Alone → List ℕ
 done_text names t (Goes NoCommand env) = event_line names t (Done 0)
 done_text names t (Goes (Then first rest) env) = []
+done_text names t (Tries trial stage env held) = []
 done_text names t (Fell env) = []
 
--- what a turn writes that has this effect
-abbrev pub effect_text : Naming → ℕ → Commands → Result Change Cause → List ℕ
-effect_text names t rest (Ok (changed, line)) = out_text names t line ++ done_text names t (Goes rest changed)
-effect_text names t rest (Err cause) = event_line names t (Error 0 cause)
+-- what is written of a turn that was not idle: its rejections and failure, the lines that came out, and that the process
+-- is done
+abbrev pub came_text : Naming → ℕ → Came → List ℕ
+came_text names t one = events_text names t one.events ++ (outs_text names t one.lines ++ done_text names t one.next)
 
--- one turn, and turns numbered from t on
+-- one turn; of a process that is done or has failed nothing is written
 abbrev pub turn_text : Naming → ℕ → Alone → List ℕ
 turn_text names t (Goes NoCommand env) = []
-turn_text names t (Goes (Then first rest) env) = effect_text names t rest (effect env first)
+turn_text names t (Goes (Then first rest) env) = came_text names t (taken rest env first)
+turn_text names t (Tries trial stage env held) = came_text names t (tried trial stage env held)
 turn_text names t (Fell env) = []
 
 -- what all these turns write

@@ -3,10 +3,15 @@
 
 mod ending;
 pub mod engine;
+mod held;
 mod line;
 pub mod naming;
 mod perform;
-mod scoped;
+mod runnable;
+mod simple;
+mod told;
+mod trial;
 
 pub use engine::{Ended, run};
 pub use naming::names;
+pub use runnable::is_runnable;

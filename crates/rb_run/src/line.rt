@@ -1,4 +1,4 @@
-ghost use Rattle.std.specs.Prelude.{◌≡◌, [], Some, None, IfOk, is_some, option_map};
+ghost use Rattle.std.specs.Prelude.{◌≡◌, [], Some, None, IfOk, option_map};
 ghost use Rattle.rb_run.specs.Line.{added};
 
 use rb_base::Memory;
@@ -39,13 +39,6 @@ impl Line {
         })
     }
 
-    /// There is no line.
-    pub(crate) fn forget(&mut self)
-        ensures { self.new ≡ None }
-    {
-        self.is_there = false;
-    }
-
     /// There is an empty line.
     pub(crate) fn begin(&mut self)
         ensures { self.new ≡ Some [] }
@@ -64,13 +57,6 @@ impl Line {
         } else {
             self.is_there = false;
         }
-    }
-
-    /// Whether there is a line.
-    pub(crate) fn is_there(&self) -> bool
-        ensures { result ≡ is_some self.now }
-    {
-        self.is_there
     }
 
     /// The bytes of the line.

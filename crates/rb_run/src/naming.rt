@@ -1,13 +1,13 @@
 ghost use Rattle.std.specs.Prelude.{◌≡◌, ◌≤◌, true, length, map, IfOk};
 ghost use Rattle.std.specs.List.{list_all};
 ghost use Rattle.rb_syntax.specs.Plain.{tree, declaration, process_declaration};
-ghost use Rattle.rb_parse.specs.Scoped.{is_scoped, is_scoped_process, is_scalar};
+ghost use Rattle.rb_run.specs.Runnable.{is_runnable, is_runnable_process, is_scalar};
 ghost use Rattle.rb_meaning.specs.Meaning.{naming_of, process_named, variables_named};
 ghost use Rattle.rb_trace.specs.Naming.{naming, process_naming, variable_naming};
 ghost use Rattle.rb_sched.specs.Schedule.{process_names};
 ghost use Rattle.rb_run.specs.Ran.{names_of};
 
-use crate::scoped::only_process;
+use crate::runnable::only_process;
 use rb_base::names::{ProcessNames, Variable};
 use rb_base::{Memory, Names, Text};
 use rb_syntax::{Channel, Conversation, Process, Program, Var};
@@ -15,7 +15,7 @@ use std::alloc::Global;
 
 /// The names that a program's printed lines and its schedules speak of.
 pub fn names(alloc: Global, program: &Program<'_>) -> Result<Names, Memory>
-    requires { is_scoped (tree program.now) ≡ true }
+    requires { is_runnable (tree program.now) ≡ true }
     ensures printed { IfOk result (λ names. naming names ≡ naming_of (tree program.now)) }
     ensures scheduled { IfOk result (λ names. process_names names ≡ names_of (tree program.now)) }
 {
@@ -32,7 +32,7 @@ pub fn names(alloc: Global, program: &Program<'_>) -> Result<Names, Memory>
 }
 
 fn named_process(alloc: Global, process: &Process<'_>) -> Result<ProcessNames, Memory>
-    requires { is_scoped_process (process_declaration process.now) ≡ true }
+    requires { is_runnable_process (process_declaration process.now) ≡ true }
     ensures { IfOk result (λ named. process_naming named ≡ process_named (process_declaration process.now)) }
 {
     let name = Text::from_slice(alloc, process.name.text)?;

@@ -1,12 +1,14 @@
 //! One statement: its trap, or the variables and the line that it leaves.
 
-ghost use Rattle.std.specs.Prelude.{◌≡◌, true, false, map, [], ◌∷◌, Some, None, Ok, Err, MatchResult, OnErr};
+ghost use Rattle.std.specs.Prelude.{◌≡◌, true, false, cond, map, [], ◌∷◌, Some, None, Ok, Err, MatchResult, OnErr};
 ghost use Rattle.rb_syntax.specs.Plain.{expression as plain, reference, printed as plain_item, print_item, command};
 ghost use Rattle.rb_syntax.specs.Tree.{Assignment, Printing};
 ghost use Rattle.rb_meaning.specs.Step.{place_in, present_value, printed};
 ghost use Rattle.rb_run.specs.Alone.{effect};
-ghost use Rattle.rb_run.specs.Line.{item_added, items_added};
+ghost use Rattle.rb_plain.specs.Slots.{sizes};
+ghost use Rattle.rb_run.specs.Line.{item_added, items_added, held_after};
 
+use crate::held::Held;
 use crate::line::Line;
 use itoa::Buffer;
 use rb_base::Cause;
@@ -39,17 +41,20 @@ fn place_of(environment: &Environment<'_>, target: &Target<'_>) -> Result<usize,
     }
 }
 
-/// Stores the value of an expression. A trap leaves the variables.
+/// Stores the value of an expression. A trap leaves the variables. The held lines are seen by the contract alone.
 fn assign(
     environment: &mut Environment<'_>,
+    held: &Held,
     target: &Target<'_>,
     value: &Expr<'_>,
 ) -> Result<(), Cause>
     ensures done { MatchResult result
-        (λ _. effect environment.old (Assignment (reference target.now) (plain value.now)) ≡ Ok (environment.new, None))
-        (λ cause. effect environment.old (Assignment (reference target.now) (plain value.now)) ≡ Err cause) }
+        (λ _. effect environment.old held.now (Assignment (reference target.now) (plain value.now)) ≡ Ok (environment.new, held.now))
+        (λ cause. effect environment.old held.now (Assignment (reference target.now) (plain value.now)) ≡ Err cause) }
     ensures kept { OnErr result (environment.new ≡ environment.old) }
+    ensures sized { sizes environment.new.globals ≡ sizes environment.old.globals }
 {
+    let _ = held;
     let place = place_of(environment, target)?;
     let value = present_value(environment, value)?;
     environment.set(target.name.text, place, value);
@@ -111,15 +116,30 @@ fn add_items(
     add_others(line, environment, others)
 }
 
-/// Makes the line of a `print`.
-fn print(line: &mut Line, environment: &Environment<'_>, items: &[Item<'_>]) -> Result<(), Cause>
+/// Holds the line, if there is one, and room for it.
+fn hold(line: &Line, held: &mut Held) -> bool
+    ensures { held_after held.old line.now ≡ cond result (Some held.new) None }
+{
+    match line.bytes() {
+        Some(bytes) => held.hold(bytes),
+        None => false,
+    }
+}
+
+/// Makes the line of a `print`, and holds it.
+fn print(
+    environment: &Environment<'_>,
+    line: &mut Line,
+    held: &mut Held,
+    items: &[Item<'_>],
+) -> Result<(), Cause>
     ensures { MatchResult result
-        (λ _. effect environment.now (Printing (map print_item items.now)) ≡ Ok (environment.now, line.new))
-        (λ cause. effect environment.now (Printing (map print_item items.now)) ≡ Err cause) }
+        (λ _. effect environment.now held.old (Printing (map print_item items.now)) ≡ Ok (environment.now, held.new))
+        (λ cause. effect environment.now held.old (Printing (map print_item items.now)) ≡ Err cause) }
 {
     line.begin();
     add_items(line, environment, items)?;
-    if !line.is_there() {
+    if !hold(line, held) {
         return Err(Cause::Hold);
     }
     Ok(())
@@ -130,20 +150,19 @@ fn print(line: &mut Line, environment: &Environment<'_>, items: &[Item<'_>]) -> 
 pub(crate) fn perform(
     environment: &mut Environment<'_>,
     line: &mut Line,
+    held: &mut Held,
     statement: &Statement<'_>,
 ) -> Result<(), Cause>
     ensures done { MatchResult result
-        (λ _. effect environment.old (command statement.now) ≡ Ok (environment.new, line.new))
-        (λ cause. effect environment.old (command statement.now) ≡ Err cause) }
+        (λ _. effect environment.old held.old (command statement.now) ≡ Ok (environment.new, held.new))
+        (λ cause. effect environment.old held.old (command statement.now) ≡ Err cause) }
     ensures kept { OnErr result (environment.new ≡ environment.old) }
+    ensures sized { sizes environment.new.globals ≡ sizes environment.old.globals }
 {
     match statement {
-        Statement::Assign(target, value) => {
-            line.forget();
-            assign(environment, target, value)
-        }
-        Statement::Print(items) => print(line, environment, items),
-        // No other statement stands in a program that is run so far.
+        Statement::Assign(target, value) => assign(environment, held, target, value),
+        Statement::Print(items) => print(environment, line, held, items),
+        // Of these only `fail` stands in a program that is run so far; a recovery block is entered elsewhere.
         Statement::Send(..)
         | Statement::Receive(..)
         | Statement::If(..)

@@ -1,6 +1,6 @@
 use Rattle.rb_trace.specs.Naming.{naming}
 use Rattle.rb_run.specs.Engine.{alone}
-use Rattle.rb_run.proofs.EngineTurns.{few-after_all, run_stopped, run_finished}
+use Rattle.rb_run.proofs.EngineTurns.{few-sized, run_stopped, run_finished}
 use Rattle.rb_run.proofs.engine.Engine.write_run.Goals as goal
 
 pub returns-in_err-walk : goal.returns-in_err-walk
@@ -8,7 +8,7 @@ returns-in_err-walk g c =
     run_stopped (naming c.args.names.now) c.args.schedule.all c.args.schedule.left (alone c.args.self.now) _ _ _ _ _ _ _ c.from_residual-in_err-walk.result c.from_residual-in_err-walk.ensures.0 c.requires.fresh c.in_ok-tell_done.ensures c.in_err-walk.ensures.written
 
 pub finish-requires : goal.finish-requires
-finish-requires g c = few-after_all c.args.schedule.left (alone c.args.self.now) (alone c.walk.new.self) c.in_ok-walk.ensures.after c.requires.few
+finish-requires g c = few-sized c.args.self.now.environment.globals c.walk.new.self.environment.globals c.in_ok-walk.ensures.sized c.requires.few
 
 pub returns : goal.returns
 returns g c =
