@@ -1,5 +1,5 @@
 -- From what was read and judged to the answer of the call.
-use Rattle.std.proofs.Common.{◌≡◌, ◌⊎◌, ℕ, ◌<◌, ◌≤◌, List, length, take, Option, Some, None, Result, Ok, Err, MatchResult, refl, sym, ap, subst, ◌∙◌, inl, inr, arith}
+use Rattle.std.proofs.Common.{◌≡◌, ◌⊎◌, ℕ, ◌<◌, ◌≤◌, true, false, List, length, Option, Some, None, Result, Ok, Err, MatchResult, refl, sym, ap, subst, ◌∙◌, inl, inr, arith}
 use Rattle.std.proofs.lemmas.List.{take_all}
 use Rattle.rb_base.specs.declared.fault.SourceFault.{SourceFault}
 use Rattle.rb_outside.specs.declared.Failed.{Failed}
@@ -7,10 +7,10 @@ use Rattle.rb_outside.specs.Outside.{File, Reading, Rose, IsMissing, WrotePart, 
 use Rattle.rb_outside.specs.Puts.{Puts}
 use Rattle.rb_syntax.specs.Tree.{Tree}
 use Rattle.rb_parse.specs.Verdict.{HasTree, RefusedFor, most_bytes}
+use Rattle.rb_run.specs.Runnable.{is_runnable}
 use Rattle.rb_top.specs.declared.status.Status.{Status}
 use Rattle.rb_top.specs.declared.status.Status.TheVariants.{Done, Refused, Usage, ReadFault, WriteFault, Memory}
-use Rattle.rb_top.specs.Words.{Request}
-use Rattle.rb_top.specs.Answers.{Accepted, SourceRefused, long_source, bad_source, ScheduleRefused, long_schedule, bad_schedule, ScheduleRuns, Runs, IsRead, Refuses, by_source, by_schedule, Does, RefusesIn, DoesIn, NextMissing, no_source, no_schedule, NextMissingIn, Scene, WithRequest, WasRead, WasReadIn, HoldsTree, HoldsTreeIn, AfterSchedule, source_line, too_long_line}
+use Rattle.rb_top.specs.Answers.{long_source, bad_source, unready_source, unready, ScheduleRefused, long_schedule, bad_schedule, ScheduleRuns, IsRead, by_source, by_schedule, RefusesIn, DoesIn, no_source, no_schedule, NextMissingIn, WithRequest, WasRead, WasReadIn, HoldsTreeIn, AfterSchedule, source_line, too_long_line}
 
 -- a line was written whole, or stopped
 pub line_answer : (r : Result (Unit {0}) Failed) (status : Status) (line : List ℕ) (w0 w1 : Option (List ℕ)) (f0 f1 : ℕ) →
@@ -52,13 +52,21 @@ source_bad (Some files) source schedule bytes reading fault was short bad =
     let whole = read_whole files source bytes reading was short in
     by_source bytes whole.0 (bad_source fault short bad refl) whole.1
 
+-- a source with a tree that is not run yet
+pub source_unready : (files : Option (List File)) (source schedule bytes : List ℕ) (reading : Option Reading) (tree : Tree) → WasReadIn files source bytes reading → length bytes ≤ most_bytes →
+    HasTree bytes tree → is_runnable tree ≡ false → RefusesIn files (record { source = source; schedule = schedule }) reading (source_line unready)
+source_unready None source schedule bytes reading tree was short has not_yet = tt
+source_unready (Some files) source schedule bytes reading tree was short has not_yet =
+    let whole = read_whole files source bytes reading was short in
+    by_source bytes whole.0 (unready_source tree short has not_yet refl) whole.1
+
 -- an accepted source
 pub source_held : (files : Option (List File)) (source bytes : List ℕ) (reading : Option Reading) (tree : Tree) → WasReadIn files source bytes reading → length bytes ≤ most_bytes →
-    HasTree bytes tree → HoldsTreeIn files source tree
-source_held None source bytes reading tree was short has = tt
-source_held (Some files) source bytes reading tree was short has =
+    HasTree bytes tree → is_runnable tree ≡ true → HoldsTreeIn files source tree
+source_held None source bytes reading tree was short has runnable = tt
+source_held (Some files) source bytes reading tree was short has runnable =
     let whole = read_whole files source bytes reading was short in
-    record { source = bytes; stored = whole.0; accepted = record { short = short; derived = has } }
+    record { source = bytes; stored = whole.0; accepted = record { short = short; derived = has; runnable = runnable } }
 
 -- the schedule's file is missing
 pub schedule_missing : (files : Option (List File)) (source schedule : List ℕ) (tree : Tree) (R : Type 0) → HoldsTreeIn files source tree →

@@ -1,2 +1,6 @@
 pub mod Reading
 pub mod Answering
+pub mod Judged
+pub mod Complete
+pub mod AllJudged
+pub mod OneProcess

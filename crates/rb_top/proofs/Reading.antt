@@ -1,11 +1,9 @@
 -- A file as it is read, piece after piece.
-use Rattle.std.proofs.Common.{◌≡◌, ◌⊎◌, ℕ, ◌+◌, ◌<◌, ◌≤◌, List, [], ◌++◌, length, take, drop, Option, Some, None, IsSome, refl, sym, ap, subst, ◌∙◌, inl, inr, arith, length-append}
-use Rattle.std.proofs.lemmas.List.{length-take-le, take-append-drop, take_all}
+use Rattle.std.proofs.Common.{◌≡◌, ℕ, ◌+◌, ◌≤◌, List, ◌++◌, length, take, drop, Option, Some, None, sym, ap, subst, ◌∙◌, arith, length-append}
+use Rattle.std.proofs.lemmas.List.{length-take-le, take-append-drop}
 use Rattle.std.proofs.Math.Seq.{take-append-add}
-use Rattle.rb_outside.specs.Outside.{File, Reading, Passes, Reads, Starts, bytes_of}
-use Rattle.rb_parse.specs.Verdict.{most_bytes}
-use Rattle.rb_top.specs.Answers.{WasRead, WasReadIn}
-use Rattle.rb_top.specs.Read.{HasRead, HasReadIn, ReadOn}
+use Rattle.rb_outside.specs.Outside.{File, Reading, Passes, Reads, bytes_of}
+use Rattle.rb_top.specs.Read.{HasRead, ReadOn}
 
 -- n elements after the first m are within the first m and n
 pub take-plus : (xs : List ℕ) (m n : ℕ) → m ≤ length xs → take (m + n) xs ≡ take m xs ++ take n (drop m xs)

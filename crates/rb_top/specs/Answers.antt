@@ -1,10 +1,11 @@
 -- What the top call answers, and what it writes.
 -- All of it is this project's own.
-use Rattle.std.specs.Prelude.{◌≡◌, ◌⊎◌, ℕ, ◌+◌, ◌<◌, ◌≤◌, List, [], ◌∷◌, ◌++◌, length, take, codes, decimal, Option, Some, None, Result, Ok, Err}
+use Rattle.std.specs.Prelude.{◌≡◌, ◌⊎◌, ℕ, ◌<◌, ◌≤◌, true, false, List, ◌++◌, length, take, codes, decimal, Option, Some, None, Result, Ok, Err}
 use Rattle.rb_base.specs.declared.fault.SourceFault.{SourceFault}
 use Rattle.rb_base.specs.declared.fault.TextFault.{TextFault}
+use Rattle.rb_base.specs.declared.fault.FaultName.TheVariants.{Y0}
 use Rattle.rb_base.specs.Words.{fault_word}
-use Rattle.rb_outside.specs.Outside.{File, Reading, Rose, IsMissing, WrotePart, bytes_of, then_written}
+use Rattle.rb_outside.specs.Outside.{File, Reading, Rose, WrotePart, bytes_of, then_written}
 use Rattle.rb_syntax.specs.Tree.{Tree}
 use Rattle.rb_meaning.specs.Meaning.{run_text}
 use Rattle.rb_parse.specs.Verdict.{HasTree, RefusedFor, most_bytes}
@@ -12,6 +13,7 @@ use Rattle.rb_sched.specs.Schedule.{schedule_of}
 use Rattle.rb_run.specs.declared.engine.Ended.{Ended}
 use Rattle.rb_run.specs.declared.engine.Ended.TheVariants as ends
 use Rattle.rb_run.specs.Ran.{names_of}
+use Rattle.rb_run.specs.Runnable.{is_runnable}
 use Rattle.rb_top.specs.Words.{Request}
 use Rattle.rb_top.specs.declared.status.Status.{Status}
 use Rattle.rb_top.specs.declared.status.Status.TheVariants.{Done, Refused, Usage, ReadFault, WriteFault, Memory}
@@ -38,15 +40,21 @@ pub data Verdict : Type 0 where
   RefusedWith : (line : List ℕ) → Verdict
   RunsTo : (text : List ℕ) → Verdict
 
--- The verdict on a source alone: too long, or its first fault.
+-- the fault of a source that has a tree, of a form that is not run yet
+abbrev pub unready : SourceFault
+unready = record { name = Y0; place = record { line = 1; column = 1 } }
+
+-- The verdict on a source alone: too long, or its first fault, or a tree that is not run yet.
 pub data SourceRefused (source : List ℕ) (line : List ℕ) : Type 0 where
   long_source : most_bytes < length source → line ≡ too_long_line → SourceRefused source line
   bad_source : (fault : SourceFault) → length source ≤ most_bytes → RefusedFor source fault → line ≡ source_line fault → SourceRefused source line
+  unready_source : (tree : Tree) → length source ≤ most_bytes → HasTree source tree → is_runnable tree ≡ false → line ≡ source_line unready → SourceRefused source line
 
 -- a source that is accepted, with its tree
 pub record Accepted (source : List ℕ) (tree : Tree) : Type 0 where
   pub short : length source ≤ most_bytes
   pub derived : HasTree source tree
+  pub runnable : is_runnable tree ≡ true
 
 -- The verdict on a schedule for an accepted source.
 pub data ScheduleRefused (tree : Tree) (text : List ℕ) (line : List ℕ) : Type 0 where
@@ -61,6 +69,12 @@ pub record Runs (source schedule text : List ℕ) : Type 0 where
   pub short : length schedule ≤ most_bytes
   pub listed : schedule_of (names_of tree) schedule ≡ Ok turns
   pub is : text ≡ run_text tree turns
+
+-- The two texts are judged so: the source is refused, or it is accepted and the schedule refused, or both are run.
+pub data Judges (source schedule : List ℕ) : Verdict → Type 0 where
+  refused_source : (line : List ℕ) → SourceRefused source line → Judges source schedule (RefusedWith line)
+  refused_schedule : (tree : Tree) (line : List ℕ) → Accepted source tree → ScheduleRefused tree schedule line → Judges source schedule (RefusedWith line)
+  runs : (text : List ℕ) → Runs source schedule text → Judges source schedule (RunsTo text)
 
 -- a file was read to its end, or until it was above 1,048,576 bytes
 abbrev pub IsRead : List ℕ → List ℕ → Option Reading → Type 0

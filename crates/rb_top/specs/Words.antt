@@ -1,6 +1,6 @@
 -- The words of a command line, and the command that they give.
 -- All of it is this project's own.
-use Rattle.std.specs.Prelude.{ℕ, nat_eq, Bool, true, false, not, cond, ◌&&◌, List, [], ◌∷◌, codes, Option, Some, None}
+use Rattle.std.specs.Prelude.{ℕ, nat_eq, Bool, false, not, cond, ◌&&◌, List, [], ◌∷◌, codes, Option, Some, None}
 use Rattle.std.specs.Cmp.Lexicographic.{pointwise}
 
 -- a run of the source under one name over the schedule under another

@@ -1,6 +1,7 @@
 // The top call: from words, files and a sink to a status.
 #![tactic(auto)]
 
+pub mod laws;
 pub mod read;
 pub mod refuse;
 pub mod request;
@@ -12,5 +13,13 @@ pub use status::Status;
 pub use top::command;
 pub use words::Words;
 
+#[cfg(test)]
+mod cuts;
+#[cfg(test)]
+mod fault_tests;
+#[cfg(test)]
+mod parse_rows;
+#[cfg(test)]
+mod recovery_rows;
 #[cfg(test)]
 mod tests;

@@ -1,9 +1,9 @@
 ghost use Rattle.std.specs.Prelude.{◌≡◌, ◌++◌, codes};
 ghost use Rattle.rb_outside.specs.Puts.{Puts};
-ghost use Rattle.rb_top.specs.Answers.{source_line, schedule_line, too_long_line, usage_line};
+ghost use Rattle.rb_top.specs.Answers.{source_line, schedule_line, too_long_line, unready, usage_line};
 
 use itoa::Buffer;
-use rb_base::{SourceFault, TextFault};
+use rb_base::{FaultName, Place, SourceFault, TextFault};
 use rb_outside::{Failed, Sink};
 use rb_trace::line::{put, put_pieces};
 
@@ -31,6 +31,15 @@ fn put_place<'w, S: Sink>(
         out,
         &[b"refused ", name, b" at ", line, b":", column, b"\n"],
     )
+}
+
+/// Writes the line of a source that has a tree, of a form that is not run yet.
+pub fn refuse_unready<S: Sink>(out: &mut S) -> Result<(), Failed>
+    ensures { Puts (source_line unready) (S.written out.old) (S.written out.new) (S.faults out.old) (S.faults out.new) result }
+{
+    let name = FaultName::Y0;
+    let place = Place { line: 1, column: 1 };
+    refuse_source(out, SourceFault { name, place })
 }
 
 /// Writes the line of a schedule's fault.

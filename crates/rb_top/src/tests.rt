@@ -1,3 +1,4 @@
+use crate::recovery_rows::{FULL_SCHEDULE, FULL_WANT, ROWS, full_source, recovery_row};
 use crate::{Status, Words, command};
 use rb_outside::{MemoryShelf, MemorySink};
 use std::alloc::{AllocError, Global};
@@ -53,7 +54,7 @@ fn run_row(n: u8) -> Row {
 
 fn refused_row(n: u8) -> Row {
     let (source, schedule, want) = match n {
-        0 => ("", "", "refused Y0 at 1:1\n"),
+        0 => ("", "", "refused Y1 at 1:1\n"),
         1 => ("program a; \u{7f} ;", "", "refused X1 at 1:12\n"),
         2 => (
             "program a; process p { print \"x",
@@ -73,7 +74,24 @@ fn refused_row(n: u8) -> Row {
         5 => (SMALLEST, "p 1\n# note\n\np", "refused T1 at 4\n"),
         6 => (SMALLEST, "p 1\n# note\n\nz 2", "refused T2 at 4\n"),
         7 => (SMALLEST, "p 0", "refused T3 at 1\n"),
-        _ => (SMALLEST, "p 600000\np 600000", "refused T4 at 2\n"),
+        8 => (SMALLEST, "p 600000\np 600000", "refused T4 at 2\n"),
+        // A recovery block that ends too early, and one without its `else error`.
+        9 => (
+            "program a; process p { ensure 1 within 9 by { } else by",
+            "",
+            "refused Y1 at 1:56\n",
+        ),
+        10 => (
+            "program a; process p { ensure 1 within 9 by { } } end.",
+            "",
+            "refused Y1 at 1:49\n",
+        ),
+        // A program of the language that is not run yet.
+        _ => (
+            "program a; process p { print 2 * 3; } end.",
+            "",
+            "refused Y0 at 1:1\n",
+        ),
     };
     Row {
         source,
@@ -156,9 +174,16 @@ fn words_of(alloc: Global, line: &str) -> Result<Words, Fail> {
     Ok(words)
 }
 
-// `run a b` over the texts of a row, in pieces of one byte.
+// `run a b` over the texts of a row.
 fn ran(alloc: Global, row: &Row) -> Result<(Status, MemorySink), Fail> {
-    let files = files(alloc, row.source, row.schedule)?;
+    ran_over(alloc, row.source.as_bytes(), row.schedule.as_bytes())
+}
+
+// `run a b` over two texts, in pieces of one byte.
+fn ran_over(alloc: Global, source: &[u8], schedule: &[u8]) -> Result<(Status, MemorySink), Fail> {
+    let mut files = Vec::new(alloc);
+    files.push((named(alloc, "a")?, Vec::from_slice(alloc, source)?))?;
+    files.push((named(alloc, "b")?, Vec::from_slice(alloc, schedule)?))?;
     let mut shelf = MemoryShelf::in_pieces(files, Vec::new(alloc), 1);
     let mut sink = MemorySink::new(alloc, 1000, Vec::new(alloc))
         .ok()
@@ -180,13 +205,65 @@ fn runs(rt: HostRuntime) -> Result<(), Fail> {
 }
 
 #[test]
+fn recovers(rt: HostRuntime) -> Result<(), Fail> {
+    for n in 0..ROWS {
+        let row = recovery_row(n);
+        let (status, sink) = ran_over(rt.alloc(), row.source.as_bytes(), row.schedule.as_bytes())?;
+        assert_eq!(rt; status, Status::Done);
+        assert_eq!(rt; sink.bytes(), row.want.as_bytes());
+    }
+    Ok(())
+}
+
+// As many held bytes as may be, and one line more.
+#[test]
+fn holds_no_more(rt: HostRuntime) -> Result<(), Fail> {
+    let source = full_source(rt.alloc())?;
+    let (status, sink) = ran_over(rt.alloc(), source.as_slice(), FULL_SCHEDULE.as_bytes())?;
+    assert_eq!(rt; status, Status::Done);
+    assert_eq!(rt; sink.bytes(), FULL_WANT.as_bytes());
+    Ok(())
+}
+
+#[test]
 fn refuses(rt: HostRuntime) -> Result<(), Fail> {
-    for n in 0..9 {
+    for n in 0..12 {
         let row = refused_row(n);
         let (status, sink) = ran(rt.alloc(), &row)?;
         assert_eq!(rt; status, Status::Refused);
         assert_eq!(rt; sink.bytes(), row.want.as_bytes());
     }
+    Ok(())
+}
+
+// A source with so many round brackets inside each other, all inside the bracket of the process.
+fn bracketed(alloc: Global, count: u8) -> Result<Vec<u8>, Fail> {
+    let mut source = named(alloc, "program a; process p { var x; x := ")?;
+    for _ in 0..count {
+        source.push(b'(')?;
+    }
+    source.push(b'1')?;
+    for _ in 0..count {
+        source.push(b')')?;
+    }
+    source.extend_from_slice(b"; } end.")?;
+    Ok(source)
+}
+
+// A hundred brackets may be open, and the next one is refused.
+#[test]
+fn counts_brackets(rt: HostRuntime) -> Result<(), Fail> {
+    let source = bracketed(rt.alloc(), 99)?;
+    let (status, sink) = ran_over(rt.alloc(), source.as_slice(), b"p 1")?;
+    assert_eq!(rt; status, Status::Done);
+    assert_eq!(rt;
+        sink.bytes(),
+        b"1 done p\nend 1\np done\np.x = 1\n".as_slice()
+    );
+    let deep = bracketed(rt.alloc(), 100)?;
+    let (refused, line) = ran_over(rt.alloc(), deep.as_slice(), b"p 1")?;
+    assert_eq!(rt; refused, Status::Refused);
+    assert_eq!(rt; line.bytes(), b"refused Y2 at 1:135\n".as_slice());
     Ok(())
 }
 

@@ -1,22 +1,23 @@
 ghost use Rattle.std.specs.Prelude.{◌≡◌, ◌≤◌, ℕ, List, length, vec_len, true, MatchResult};
 ghost use Rattle.rb_syntax.specs.Plain.{tree};
-ghost use Rattle.rb_parse.specs.Scoped.{is_scoped};
 ghost use Rattle.rb_meaning.specs.Meaning.{naming_of};
 ghost use Rattle.rb_trace.specs.Naming.{naming};
 ghost use Rattle.rb_sched.specs.Schedule.{process_names};
 ghost use Rattle.rb_run.specs.Ran.{names_of};
+ghost use Rattle.rb_run.specs.Runnable.{is_runnable};
 ghost use Rattle.rb_top.specs.Words.{Request, request_of};
+ghost use Rattle.rb_top.specs.Complete.{IsComplete};
 ghost use Rattle.rb_top.specs.Answers.{Scene, WithRequest, WhereRequested, WasReadIn, HoldsTreeIn, AfterSchedule, status_of_run};
 
 use crate::read::{MOST_BYTES, Unread, read_file};
-use crate::refuse::{put_usage, refuse_long, refuse_schedule, refuse_source};
+use crate::refuse::{put_usage, refuse_long, refuse_schedule, refuse_source, refuse_unready};
 use crate::request::request;
 use crate::status::Status;
 use crate::words::Words;
 use rb_base::{Memory, Names, Refusal};
 use rb_outside::{Failed, Shelf, Sink};
 use rb_parse::parse;
-use rb_run::{Ended, names, run};
+use rb_run::{Ended, is_runnable, names, run};
 use rb_sched::Schedule;
 use rb_syntax::Program;
 use std::alloc::Global;
@@ -24,6 +25,10 @@ use std::alloc::Global;
 /// Carries out the command that the words give: `run SOURCE SCHEDULE` writes the text of the run of a source
 /// over a schedule, or the line of the first fault of either. The source is read and judged before the
 /// schedule is started. Memory may be wanting at any time before the first byte is written.
+///
+/// `answers` says of each answer when it comes. By `complete` a call whose files stand on the shelf, and in which no count
+/// of faults rose, ends as the verdict on the two texts says, or for want of memory. A count that stood at its last
+/// value before the call counts as risen, so `complete` says nothing there, and `answers` says what may come.
 pub fn command<F: Shelf, S: Sink>(
     alloc: Global,
     words: &Words,
@@ -34,6 +39,10 @@ pub fn command<F: Shelf, S: Sink>(
     ensures read_faults { F.faults shelf.old ≤ F.faults shelf.new }
     ensures write_faults { S.faults out.old ≤ S.faults out.new }
     ensures answers { WhereRequested (request_of words.now)
+        (record { files = F.files shelf.old; reading = F.reading shelf.old; read_faults = F.faults shelf.old; written = S.written out.old; write_faults = S.faults out.old })
+        (record { files = F.files shelf.new; reading = F.reading shelf.new; read_faults = F.faults shelf.new; written = S.written out.new; write_faults = S.faults out.new })
+        result }
+    ensures complete { IsComplete (request_of words.now)
         (record { files = F.files shelf.old; reading = F.reading shelf.old; read_faults = F.faults shelf.old; written = S.written out.old; write_faults = S.faults out.old })
         (record { files = F.files shelf.new; reading = F.reading shelf.new; read_faults = F.faults shelf.new; written = S.written out.new; write_faults = S.faults out.new })
         result }
@@ -98,7 +107,12 @@ fn judge_source<F: Shelf, S: Sink>(
         return status_after(refuse_long(out), Status::Refused);
     }
     match parse(alloc, bytes) {
-        Ok(program) => read_schedule(alloc, source, &program, schedule, shelf, out),
+        Ok(program) => {
+            if !is_runnable(&program) {
+                return status_after(refuse_unready(out), Status::Refused);
+            }
+            read_schedule(alloc, source, &program, schedule, shelf, out)
+        }
         Err(Refusal::Fault(fault)) => status_after(refuse_source(out, fault), Status::Refused),
         Err(Refusal::Memory) => Status::Memory,
     }
@@ -114,7 +128,7 @@ fn read_schedule<F: Shelf, S: Sink>(
     out: &mut S,
 ) -> Status
     requires held { HoldsTreeIn (F.files shelf.old) source.now (tree program.now) }
-    requires scoped { is_scoped (tree program.now) ≡ true }
+    requires runnable { is_runnable (tree program.now) ≡ true }
     ensures files { F.files shelf.new ≡ F.files shelf.old }
     ensures read_faults { F.faults shelf.old ≤ F.faults shelf.new }
     ensures write_faults { S.faults out.old ≤ S.faults out.new }
@@ -133,7 +147,7 @@ fn read_schedule<F: Shelf, S: Sink>(
 
 // The schedule was read.
 fn run_schedule<S: Sink>(alloc: Global, program: &Program<'_>, bytes: &[u8], out: &mut S) -> Status
-    requires { is_scoped (tree program.now) ≡ true }
+    requires { is_runnable (tree program.now) ≡ true }
     ensures write_faults { S.faults out.old ≤ S.faults out.new }
     ensures answers { AfterSchedule (tree program.now) bytes.now (S.written out.old) (S.written out.new) (S.faults out.old) (S.faults out.new) result }
 {
@@ -154,7 +168,7 @@ fn run_named<S: Sink>(
     out: &mut S,
 ) -> Status
     requires short { length bytes.now ≤ 1048576 }
-    requires scoped { is_scoped (tree program.now) ≡ true }
+    requires runnable { is_runnable (tree program.now) ≡ true }
     requires printed { naming names.now ≡ naming_of (tree program.now) }
     requires scheduled { process_names names.now ≡ names_of (tree program.now) }
     ensures write_faults { S.faults out.old ≤ S.faults out.new }

@@ -1,7 +1,8 @@
-use Rattle.std.proofs.Common.{◌≡◌, ℕ, List, refl, inr}
+use Rattle.std.proofs.Common.{◌∙◌, sym, inr}
+use Rattle.rb_syntax.specs.Plain.{tree}
 use Rattle.rb_top.specs.declared.status.Status.{Status}
-use Rattle.rb_top.specs.Answers.{Scene, WithRequest, too_long_line, source_line}
-use Rattle.rb_top.proofs.Answering.{line_answer, source_long, source_bad, source_held}
+use Rattle.rb_top.specs.Answers.{Scene, WithRequest, too_long_line, source_line, unready}
+use Rattle.rb_top.proofs.Answering.{line_answer, source_long, source_bad, source_held, source_unready}
 use Rattle.rb_top.proofs.top.judge_source.Goals as goal
 
 pub returns-then-bytes-gt-MOST_BYTES-clause-answers : goal.returns-then-bytes-gt-MOST_BYTES-clause-answers
@@ -15,7 +16,19 @@ returns-then-bytes-gt-MOST_BYTES-clause-answers g c =
     (λ rose part. (rose, (too_long_line, inr refused, part)))
 
 pub read_schedule-requires-clause-held : goal.read_schedule-requires-clause-held
-read_schedule-requires-clause-held g c = source_held _ _ _ _ _ c.requires c.if-bytes-gt-MOST_BYTES.false c.in-Ok.ensures.ok
+read_schedule-requires-clause-held g c =
+    source_held _ _ _ _ _ c.requires c.if-bytes-gt-MOST_BYTES.false c.in-Ok.ensures.ok (sym c.is_runnable.ensures ∙ c.if-not-is_runnable.false)
+
+pub returns-then-not-is_runnable-clause-answers : goal.returns-then-not-is_runnable-clause-answers
+returns-then-not-is_runnable-clause-answers g c =
+    let line = source_line unready in
+    let refused = source_unready _ c.args.source.now c.args.schedule.now _ _ (tree c.in-Ok.program) c.requires c.if-bytes-gt-MOST_BYTES.false c.in-Ok.ensures.ok (sym c.is_runnable.ensures ∙ c.if-not-is_runnable.true) in
+    let old : Scene = record { files = g.F.Shelf.files c.args.shelf.now; reading = g.F.Shelf.reading c.args.shelf.now; read_faults = g.F.Shelf.faults c.args.shelf.now; written = g.S.Sink.written c.args.out.now; write_faults = g.S.Sink.faults c.args.out.now } in
+    let new : Scene = record { files = g.F.Shelf.files c.args.shelf.now; reading = g.F.Shelf.reading c.args.shelf.now; read_faults = g.F.Shelf.faults c.args.shelf.now; written = g.S.Sink.written c.refuse_unready.new.out; write_faults = g.S.Sink.faults c.refuse_unready.new.out } in
+    let Q : Status → Type 0 = λ status. WithRequest (record { source = c.args.source.now; schedule = c.args.schedule.now }) old new status in
+    line_answer _ c.status_after-then-not-is_runnable.result line _ _ _ _ c.refuse_unready.ensures c.status_after-then-not-is_runnable.ensures Q
+    (λ whole. (line, refused, whole))
+    (λ rose part. (rose, (line, inr refused, part)))
 
 pub returns-in-Err-Fault-clause-answers : goal.returns-in-Err-Fault-clause-answers
 returns-in-Err-Fault-clause-answers g c =

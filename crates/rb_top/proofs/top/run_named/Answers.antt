@@ -1,4 +1,6 @@
-use Rattle.std.proofs.Common.{◌≡◌, ℕ, List, Err, refl, subst, ap, sym, ◌∙◌, inr}
+use Rattle.std.proofs.Common.{◌≡◌, ℕ, List, refl, subst, ap, sym, ◌∙◌, inr, length, vec_len, ◌<◌, rules}
+use Rattle.std.specs.List.{AllByRecursion}
+use Rattle.rb_top.proofs.OneProcess.{names-one}
 use Rattle.rb_sched.specs.Schedule.{schedule_of}
 use Rattle.rb_syntax.specs.Plain.{tree}
 use Rattle.rb_top.specs.declared.status.Status.{Status}
@@ -15,3 +17,10 @@ returns-in-Err-clause-answers g c =
     line_answer _ c.status_after.result line _ _ _ _ c.refuse_schedule.ensures c.status_after.ensures Q
     (λ whole. (line, refused, whole))
     (λ rose part. (rose, (line, inr refused, part)))
+
+pub run-requires-clause-known : goal.run-requires-clause-known
+run-requires-clause-known g c =
+    let names = c.args.names.now in
+    let one : length names.processes.items ≡ 1 = names-one c.args.program.now names c.requires.runnable c.requires.scheduled in
+    let counted : vec_len names.processes ≡ length names.processes.items = search rules in
+    subst (λ n. AllByRecursion (λ p. p < n) c.in-Ok.schedule.left) (counted ∙ one) c.in-Ok.ensures.known

@@ -1,0 +1,20 @@
+-- A program that is run so far names one process.
+use Rattle.std.proofs.Common.{◌≡◌, true, length, map, sym, ap, ◌∙◌}
+use Rattle.std.proofs.lemmas.List.{length-map}
+use Rattle.rb_base.specs.declared.names.Names.{Names}
+use Rattle.rb_base.specs.declared.names.ProcessNames.{ProcessNames}
+use Rattle.rb_syntax.specs.declared.program.Program.{Program}
+use Rattle.rb_syntax.specs.Tree.{ProcessDeclaration}
+use Rattle.rb_syntax.specs.Plain.{tree, process_declaration}
+use Rattle.rb_sched.specs.Schedule.{process_names}
+use Rattle.rb_run.specs.Ran.{names_of}
+use Rattle.rb_run.specs.Runnable.{is_runnable}
+use Rattle.rb_run.proofs.RunnableFacts.{has_one-length, has_one-tree}
+
+pub names-one : (program : Program) (names : Names) → is_runnable (tree program) ≡ true → process_names names ≡ names_of (tree program) → length names.processes.items ≡ 1
+names-one program names runnable scheduled =
+    sym (length-map names.processes.items (λ (p : ProcessNames). p.name))
+    ∙ ap length scheduled
+    ∙ length-map (map process_declaration program.processes.items) (λ (process : ProcessDeclaration). process.name.text)
+    ∙ length-map program.processes.items process_declaration
+    ∙ has_one-length process_declaration program.processes.items (has_one-tree (tree program) runnable)
