@@ -1,5 +1,5 @@
 -- Where a form does not begin, and where it does: one fact for each token that the code asks for.
-use Rattle.std.proofs.Common.{◌≡◌, ℕ, true, false, List, [], ◌∷◌, Option, Some, None, refl, sym, ap, ◌∙◌}
+use Rattle.std.proofs.Common.{◌≡◌, ℕ, true, false, true≢false, List, [], ◌∷◌, Option, Some, None, refl, sym, ap, ◌∙◌}
 use Rattle.std.specs.Option.{is_some}
 use denote.Enum.Bare.{true_same}
 use Rattle.rb_base.specs.declared.place.Place.{Place}
@@ -86,39 +86,39 @@ no_else edition _ e = refl
 
 pub some_channel : (first : Option Terminal) → fits first terminals.Channel ≡ true → is_some (start_channel first) ≡ true
 some_channel (Some terminals.Channel) e = refl
-some_channel _ e = absurd cc
+some_channel _ e = absurd (true≢false (sym e))
 
 pub some_conversation : (first : Option Terminal) → fits first terminals.Conversation ≡ true → is_some (start_conversation first) ≡ true
 some_conversation (Some terminals.Conversation) e = refl
-some_conversation _ e = absurd cc
+some_conversation _ e = absurd (true≢false (sym e))
 
 pub some_declaration : (first : Option Terminal) → fits first terminals.Var ≡ true → is_some (start_declaration first) ≡ true
 some_declaration (Some terminals.Var) e = refl
-some_declaration _ e = absurd cc
+some_declaration _ e = absurd (true≢false (sym e))
 
 pub some_procedure : (edition : Edition) (first : Option Terminal) → fits first terminals.Procedure ≡ true → is_some (start_procedure edition first) ≡ true
 some_procedure edition (Some terminals.Procedure) e = refl
-some_procedure edition _ e = absurd cc
+some_procedure edition _ e = absurd (true≢false (sym e))
 
 pub some_process : (edition : Edition) (first : Option Terminal) → fits first terminals.Process ≡ true → is_some (start_process edition first) ≡ true
 some_process edition (Some terminals.Process) e = refl
-some_process edition _ e = absurd cc
+some_process edition _ e = absurd (true≢false (sym e))
 
 pub some_alternate : (edition : Edition) (first : Option Terminal) → fits first terminals.By ≡ true → is_some (start_alternate edition first) ≡ true
 some_alternate edition (Some terminals.By) e = refl
-some_alternate edition _ e = absurd cc
+some_alternate edition _ e = absurd (true≢false (sym e))
 
 pub some_recovery : (edition : Edition) (first : Option Terminal) → fits first terminals.Ensure ≡ true → is_some (start_recovery edition first) ≡ true
 some_recovery edition (Some terminals.Ensure) e = refl
-some_recovery edition _ e = absurd cc
+some_recovery edition _ e = absurd (true≢false (sym e))
 
 pub some_names : (first : Option Terminal) → fits first terminals.Name ≡ true → is_some (start_names first) ≡ true
 some_names (Some terminals.Name) e = refl
-some_names _ e = absurd cc
+some_names _ e = absurd (true≢false (sym e))
 
 pub some_place : (first : Option Terminal) → fits first terminals.Name ≡ true → is_some (start_place first) ≡ true
 some_place (Some terminals.Name) e = refl
-some_place _ e = absurd cc
+some_place _ e = absurd (true≢false (sym e))
 
 pub no_number : (first : Option Terminal) → fits first terminals.Two ≡ false → fits first terminals.Number ≡ false → start_number first ≡ None
 no_number (Some terminals.Two) e f = absurd cc
