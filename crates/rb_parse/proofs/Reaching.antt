@@ -120,8 +120,8 @@ stopped e f g (by_form p) = by_form (f p)
 stopped e f g (by_token fault h l) = by_token fault (sym e ∙ h) (g l)
 stopped e f g by_memory = by_memory
 
--- What the exit of a `?` hands on, where the call was of a part that is wanted; of a token that is wanted; of the first
--- token of the only form; of a token that is known to stand first; or where memory ran out.
+-- What is handed on by a call that stopped: it was to read a part that is wanted; a token that is wanted; the first token
+-- of the only form; a token that is known to stand first; or memory ran out.
 exit : {T P Q L M : Type 0} {old now : Ending} {given : Stop} (r : Result T Stop) → IsErrAnd r (λ stop. stop ≡ given) → now ≡ old → (P → Q) → (L → M) → Stopped P L now given → IfErr r (Stopped Q M old)
 exit {Q = Q} {M = M} {old = old} r e same f g h =
     let p = err_from_is_err_and r e in

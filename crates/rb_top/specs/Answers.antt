@@ -76,7 +76,7 @@ pub data Judges (source schedule : List ℕ) : Verdict → Type 0 where
   refused_schedule : (tree : Tree) (line : List ℕ) → Accepted source tree → ScheduleRefused tree schedule line → Judges source schedule (RefusedWith line)
   runs : (text : List ℕ) → Runs source schedule text → Judges source schedule (RunsTo text)
 
--- a file was read to its end, or until it was above 1,048,576 bytes
+-- of a file nothing was left, or more than 1,048,576 bytes of it had come
 abbrev pub IsRead : List ℕ → List ℕ → Option Reading → Type 0
 IsRead name bytes reading = (n : ℕ) × (reading ≡ Some (record { name = name; passed = n })) × ((n ≡ length bytes) ⊎ (most_bytes < n)) × (n ≤ length bytes)
 

@@ -22,7 +22,7 @@ abbrev pub EndsAs : Verdict → List ℕ → Option (List ℕ) → Status → Ty
 EndsAs (RunsTo text) before written status = (status ≡ Done) × (written ≡ Some (before ++ text))
 EndsAs (RefusedWith line) before written status = (status ≡ Refused) × (written ≡ Some (before ++ line))
 
--- the file that was started last was read to its end, or until it was above 1,048,576 bytes
+-- of the file that was started last nothing was left, or more than 1,048,576 bytes of it had come
 pub record LastIsRead (files : List File) (reading : Option Reading) : Type 0 where
   pub name : List ℕ
   pub bytes : List ℕ

@@ -28,7 +28,7 @@ impl Words {
         }
     }
 
-    /// Puts a word at the end; after `Memory` the list is as before.
+    /// Adds a word behind the others. Where memory is wanting, the list keeps the words that it had.
     pub fn push(&mut self, word: &str) -> Result<(), Memory>
         ensures ok { OnOk result (self.new ≡ self.old ++ word.now ∷ []) }
         ensures err { OnErr result (self.new ≡ self.old) }
