@@ -27,7 +27,6 @@ pub mod GoesOn
 pub mod Pushing
 pub mod Steps
 pub mod Ordered
-pub mod OrderedRecoveries
 pub mod Travels
 pub mod Mixed
 pub mod Numbered

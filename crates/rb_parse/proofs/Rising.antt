@@ -11,7 +11,7 @@ use Rattle.rb_parse.specs.declared.terminal.Terminal.{Terminal}
 use Rattle.rb_parse.specs.declared.terminal.Terminal.TheVariants as terminals
 use Rattle.rb_parse.specs.Laws.{NamesRise, RecoveriesRise}
 use Rattle.rb_parse.specs.Machine.{names_after, blocks_after}
-use Rattle.rb_parse.specs.Order.{Recovery, recovery_at, named_by, if_name, names_from, if_ensure, recoveries_from}
+use Rattle.rb_parse.specs.Order.{Telling, recovery_at, named_by, token_told, told_from, names_alone, recoveries_alone}
 use Rattle.rb_parse.specs.Terminals.{terminal_of}
 use Rattle.rb_parse.proofs.Numbered.{recoveries_in_order}
 use Rattle.rb_syntax.specs.Tree.{Identifier}
@@ -29,55 +29,50 @@ no_pairs R = λ i j d h k. absurd (omega (arith, k))
 abbrev TokenBefore : Lexeme → Lexeme → Type 0
 TokenBefore t u = IsBefore t.place u.place
 
-abbrev NameBefore : Identifier → Identifier → Type 0
-NameBefore x y = IsBefore x.place y.place
+-- what is told of tokens rises where a name and a recovery block stand at their tokens and come before the rest
+module _ {A : Type 0} (telling : Telling A) (place : A → Place)
+    (later_name : (p : Place) (name : Identifier) (rest : List A) → IsBefore p name.place → All (λ x. IsBefore p (place x)) rest → All (λ x. IsBefore p (place x)) (telling.name name rest))
+    (later_recovery : (p : Place) (number : ℕ) (q : Place) (rest : List A) → IsBefore p q → All (λ x. IsBefore p (place x)) rest → All (λ x. IsBefore p (place x)) (telling.recovery number q rest))
+    (rising_name : (name : Identifier) (rest : List A) → All (λ x. IsBefore name.place (place x)) rest → AllPairs (λ x y. IsBefore (place x) (place y)) rest → AllPairs (λ x y. IsBefore (place x) (place y)) (telling.name name rest))
+    (rising_recovery : (number : ℕ) (q : Place) (rest : List A) → All (λ x. IsBefore q (place x)) rest → AllPairs (λ x y. IsBefore (place x) (place y)) rest → AllPairs (λ x y. IsBefore (place x) (place y)) (telling.recovery number q rest)) where
+  -- what stands before all tokens stands before all that is told of them
+  later_token : (p : Place) (first : Option Terminal) (token : Lexeme) (n m : ℕ) (rest : List A) → IsBefore p token.place → All (λ x. IsBefore p (place x)) rest → All (λ x. IsBefore p (place x)) (token_told telling first token n m rest)
+  later_token p (Some terminals.Name) token n m rest h later = later_name p (named_by token n) rest h later
+  later_token p (Some terminals.Ensure) token n m rest h later = later_recovery p m token.place rest h later
+  later_token p _ token n m rest h later = later
 
-abbrev RecoveryBefore : Recovery → Recovery → Type 0
-RecoveryBefore x y = IsBefore x.place y.place
+  all_later : (p : Place) (n m : ℕ) (tokens : List Lexeme) → All (λ t. IsBefore p t.place) tokens → All (λ x. IsBefore p (place x)) (told_from telling n m tokens)
+  all_later p n m [] all = All-nil (λ x. IsBefore p (place x))
+  all_later p n m (token ∷ tokens) all =
+      later_token p (terminal_of token) token n m _ (All-head (λ t. IsBefore p t.place) token tokens all) (all_later p (names_after (terminal_of token) n) (blocks_after (terminal_of token) m) tokens (All-tail (λ t. IsBefore p t.place) token tokens all))
 
--- what stands before all tokens stands before all names among them
-later_name : (p : Place) (first : Option Terminal) (name : Identifier) (rest : List Identifier) → IsBefore p name.place → All (λ x. IsBefore p x.place) rest → All (λ x. IsBefore p x.place) (if_name first name rest)
-later_name p (Some terminals.Name) name rest h later = All-cons (λ x. IsBefore p x.place) name rest h later
-later_name p _ name rest h later = later
+  rising_token : (first : Option Terminal) (token : Lexeme) (n m : ℕ) (rest : List A) → All (λ x. IsBefore token.place (place x)) rest → AllPairs (λ x y. IsBefore (place x) (place y)) rest → AllPairs (λ x y. IsBefore (place x) (place y)) (token_told telling first token n m rest)
+  rising_token (Some terminals.Name) token n m rest later all = rising_name (named_by token n) rest later all
+  rising_token (Some terminals.Ensure) token n m rest later all = rising_recovery m token.place rest later all
+  rising_token _ token n m rest later all = all
 
-later_names : (p : Place) (n : ℕ) (tokens : List Lexeme) → All (λ t. IsBefore p t.place) tokens → All (λ x. IsBefore p x.place) (names_from n tokens)
-later_names p n [] all = All-nil (λ x. IsBefore p x.place)
-later_names p n (token ∷ tokens) all =
-    later_name p (terminal_of token) (named_by token n) (names_from (names_after (terminal_of token) n) tokens) (All-head (λ t. IsBefore p t.place) token tokens all) (later_names p (names_after (terminal_of token) n) tokens (All-tail (λ t. IsBefore p t.place) token tokens all))
-
-rising_name : (first : Option Terminal) (name : Identifier) (rest : List Identifier) → All (λ x. IsBefore name.place x.place) rest → AllPairs NameBefore rest → AllPairs NameBefore (if_name first name rest)
-rising_name (Some terminals.Name) name rest later all = AllPairs-cons NameBefore name rest later all
-rising_name _ name rest later all = all
-
-rising_names : (n : ℕ) (tokens : List Lexeme) → AllPairs TokenBefore tokens → AllPairs NameBefore (names_from n tokens)
-rising_names n [] all = no_pairs NameBefore
-rising_names n (token ∷ tokens) all =
-    let m = names_after (terminal_of token) n in
-    rising_name (terminal_of token) (named_by token n) (names_from m tokens) (later_names token.place m tokens (pairs_first TokenBefore token tokens all)) (rising_names m tokens (pairs_later TokenBefore token tokens all))
+  rising : (n m : ℕ) (tokens : List Lexeme) → AllPairs TokenBefore tokens → AllPairs (λ x y. IsBefore (place x) (place y)) (told_from telling n m tokens)
+  rising n m [] all = no_pairs (λ x y. IsBefore (place x) (place y))
+  rising n m (token ∷ tokens) all =
+      let k : ℕ = names_after (terminal_of token) n in
+      let l : ℕ = blocks_after (terminal_of token) m in
+      rising_token (terminal_of token) token n m (told_from telling k l tokens) (all_later token.place k l tokens (pairs_first TokenBefore token tokens all)) (rising k l tokens (pairs_later TokenBefore token tokens all))
 
 pub names_rise : NamesRise
-names_rise bytes tokens ending t = rising_names 0 tokens (tokens_rise bytes tokens ending t)
-
--- and before all words `ensure`
-later_recovery : (p : Place) (first : Option Terminal) (recovery : Recovery) (rest : List Recovery) → IsBefore p recovery.place → All (λ x. IsBefore p x.place) rest → All (λ x. IsBefore p x.place) (if_ensure first recovery rest)
-later_recovery p (Some terminals.Ensure) recovery rest h later = All-cons (λ x. IsBefore p x.place) recovery rest h later
-later_recovery p _ recovery rest h later = later
-
-later_recoveries : (p : Place) (n : ℕ) (tokens : List Lexeme) → All (λ t. IsBefore p t.place) tokens → All (λ x. IsBefore p x.place) (recoveries_from n tokens)
-later_recoveries p n [] all = All-nil (λ x. IsBefore p x.place)
-later_recoveries p n (token ∷ tokens) all =
-    later_recovery p (terminal_of token) (recovery_at n token.place) (recoveries_from (blocks_after (terminal_of token) n) tokens) (All-head (λ t. IsBefore p t.place) token tokens all) (later_recoveries p (blocks_after (terminal_of token) n) tokens (All-tail (λ t. IsBefore p t.place) token tokens all))
-
-rising_recovery : (first : Option Terminal) (recovery : Recovery) (rest : List Recovery) → All (λ x. IsBefore recovery.place x.place) rest → AllPairs RecoveryBefore rest → AllPairs RecoveryBefore (if_ensure first recovery rest)
-rising_recovery (Some terminals.Ensure) recovery rest later all = AllPairs-cons RecoveryBefore recovery rest later all
-rising_recovery _ recovery rest later all = all
-
-rising_recoveries : (n : ℕ) (tokens : List Lexeme) → AllPairs TokenBefore tokens → AllPairs RecoveryBefore (recoveries_from n tokens)
-rising_recoveries n [] all = no_pairs RecoveryBefore
-rising_recoveries n (token ∷ tokens) all =
-    let m = blocks_after (terminal_of token) n in
-    rising_recovery (terminal_of token) (recovery_at n token.place) (recoveries_from m tokens) (later_recoveries token.place m tokens (pairs_first TokenBefore token tokens all)) (rising_recoveries m tokens (pairs_later TokenBefore token tokens all))
+names_rise bytes tokens ending t =
+    rising names_alone (λ name. name.place)
+    (λ p name rest h later. All-cons (λ x. IsBefore p x.place) name rest h later)
+    (λ p number q rest h later. later)
+    (λ name rest later all. AllPairs-cons (λ x y. IsBefore x.place y.place) name rest later all)
+    (λ number q rest later all. all)
+    0 0 tokens (tokens_rise bytes tokens ending t)
 
 pub recoveries_rise : RecoveriesRise
 recoveries_rise bytes tokens ending tree t d =
-    subst (λ recoveries. AllPairs RecoveryBefore recoveries) (sym (recoveries_in_order tokens tree d)) (rising_recoveries 0 tokens (tokens_rise bytes tokens ending t))
+    subst (λ recoveries. AllPairs (λ x y. IsBefore x.place y.place) recoveries) (sym (recoveries_in_order tokens tree d))
+    (rising recoveries_alone (λ recovery. recovery.place)
+    (λ p name rest h later. later)
+    (λ p number q rest h later. All-cons (λ x. IsBefore p x.place) (recovery_at number q) rest h later)
+    (λ name rest later all. all)
+    (λ number q rest later all. AllPairs-cons (λ x y. IsBefore x.place y.place) (recovery_at number q) rest later all)
+    0 0 tokens (tokens_rise bytes tokens ending t))

@@ -7,7 +7,7 @@ use Rattle.rb_lex.specs.Tokens.{Lexeme}
 use Rattle.rb_parse.specs.declared.level.Level.{Level}
 use Rattle.rb_parse.specs.declared.terminal.Terminal.{Terminal}
 use Rattle.rb_parse.specs.declared.terminal.Terminal.TheVariants as terminals
-use Rattle.rb_parse.specs.Grammar.{Point, Takes, TakesNumber, TakesText, TakesOperator, TakesComparison, TakesQuantifier}
+use Rattle.rb_parse.specs.Grammar.{Point, Takes, TakesEnsure, TakesNumber, TakesText, TakesOperator, TakesComparison, TakesQuantifier}
 use Rattle.rb_parse.specs.Machine.{names_after, blocks_after, Advances}
 use Rattle.rb_parse.specs.Operators.{operator, comparison, quantifier}
 use Rattle.rb_parse.specs.Terminals.{terminal_of, number_terminal}
@@ -49,6 +49,10 @@ advances {a = a} t = record {
   names = t.names ∙ sym (same_names t.terminal a.names t.plain);
   blocks = t.blocks ∙ sym (same_blocks t.terminal a.blocks t.plain);
 }
+
+-- the word `ensure` advances the number of recovery blocks
+pub ensure_taken : {number : ℕ} {place : Place} {a b : Point} (t : TakesEnsure number place a b) → Advances terminals.Ensure t.token a b
+ensure_taken t = record { stands = t.stands; is = t.fits; names = t.names; blocks = t.blocks }
 
 pub passes : {terminal : Terminal} {a b : Point} → Takes terminal a b → is_numbered terminal ≡ false → Passes a b
 passes {terminal = terminal} t e = record {

@@ -8,7 +8,7 @@ use Rattle.rb_parse.specs.Grammar.{Point, Takes, TakesName, TakesEnsure, Derives
 use Rattle.rb_parse.specs.Machine.{Advances}
 use Rattle.rb_parse.specs.Parts.{Part}
 use Rattle.rb_parse.specs.Values.{Value}
-use Rattle.rb_parse.proofs.Steps.{is_numbered, Passes, advances, passes, passes_number, passes_text, passes_operator, passes_comparison, passes_quantifier}
+use Rattle.rb_parse.proofs.Steps.{is_numbered, Passes, advances, ensure_taken, passes, passes_number, passes_text, passes_operator, passes_comparison, passes_quantifier}
 use Rattle.rb_parse.proofs.Takes.{name_taken}
 use Rattle.rb_syntax.specs.Tree.{Identifier}
 
@@ -27,8 +27,7 @@ module _ (R : Point → Point → Type 0) (none : (a : Point) → R a a) (both :
   past_name {a = a} {b = b} t = token terminals.Name t.token a b (name_taken t)
 
   past_ensure : {number : _} {place : Place} {a b : Point} → TakesEnsure number place a b → R a b
-  past_ensure {a = a} {b = b} t =
-      token terminals.Ensure t.token a b (record { stands = t.stands; is = t.fits; names = t.names; blocks = t.blocks })
+  past_ensure {a = a} {b = b} t = token terminals.Ensure t.token a b (ensure_taken t)
 
   pub travels : {part : Part} {value : Value part} {a b : Point} → Derives part value a b → R a b
   travels (first_edition_row d) = travels d

@@ -1,5 +1,6 @@
 -- The names and the recovery blocks of a tree as they stand in the text, from left to right, and those of its tokens.
--- Each function on a part of a tree gives those of the part, and then the rest.
+-- One reading from left to right serves both: a telling says what a name and what a recovery block adds. Each function on
+-- a part of a tree tells of the part, and then of the rest.
 -- All of it is this project's own.
 use Rattle.std.specs.Prelude.{◌≡◌, ℕ, List, [], ◌∷◌, Option, Some, None}
 use Rattle.rb_base.specs.declared.place.Place.{Place}
@@ -10,116 +11,116 @@ use Rattle.rb_parse.specs.Machine.{names_after, blocks_after}
 use Rattle.rb_parse.specs.Terminals.{terminal_of}
 use Rattle.rb_syntax.specs.Tree.{Identifier, Expression, Literal, Variable, Former, Minus, Negation, Chained, Quantification, Reference, Refer, Subscript, Scalar, Element, Links, NoLink, Linked, Declaration, Printed, Words, Amount, PrintItem, Command, Assignment, Printing, Sending, Receiving, Conditional, Loop, Invocation, Failure, Recovering, Commands, NoCommand, Then, Body, Scope, Otherwise, NoElse, Else, RecoveryBlock, Recovers, Alternates, NoAlternate, Alternate, ChannelDeclaration, ConversationDeclaration, ProcedureDeclaration, ProcessDeclaration, Tree}
 
--- those of all parts in a list, and then the rest
+-- what a name adds to what is told of the rest, and what a recovery block adds
+pub record Telling (A : Type 0) : Type 0 where
+  pub name : Identifier → List A → List A
+  pub recovery : ℕ → Place → List A → List A
+
+-- all parts in a list, and then the rest
 abbrev pub each : {A B : Type 0} → (A → List B → List B) → List A → List B → List B
 each f [] rest = rest
 each f (x ∷ xs) rest = f x (each f xs rest)
 
--- a part that may be absent
-abbrev pub if_there : {A : Type 0} → Option A → List A → List A
-if_there None rest = rest
-if_there (Some x) rest = x ∷ rest
+-- a name that may be absent
+abbrev pub if_named : {A : Type 0} → Telling A → Option Identifier → List A → List A
+if_named t None rest = rest
+if_named t (Some name) rest = t.name name rest
 
 abbrev mutual
-  -- the names of an expression
-  pub expression_names : Expression → List Identifier → List Identifier
-  expression_names (Literal number) rest = rest
-  expression_names (Variable reference) rest = reference_names reference rest
-  expression_names (Former place reference) rest = reference_names reference rest
-  expression_names (Minus operand) rest = expression_names operand rest
-  expression_names (Negation operand) rest = expression_names operand rest
-  expression_names (Chained first links) rest = expression_names first (links_names links rest)
-  expression_names (Quantification kind place name low high body) rest =
-      name ∷ expression_names low (expression_names high (expression_names body rest))
+  -- an expression
+  pub expression_told : {A : Type 0} → Telling A → Expression → List A → List A
+  expression_told t (Literal number) rest = rest
+  expression_told t (Variable reference) rest = reference_told t reference rest
+  expression_told t (Former place reference) rest = reference_told t reference rest
+  expression_told t (Minus operand) rest = expression_told t operand rest
+  expression_told t (Negation operand) rest = expression_told t operand rest
+  expression_told t (Chained first links) rest = expression_told t first (links_told t links rest)
+  expression_told t (Quantification kind place name low high body) rest =
+      t.name name (expression_told t low (expression_told t high (expression_told t body rest)))
 
-  -- those of a place
-  pub reference_names : Reference → List Identifier → List Identifier
-  reference_names (Refer name subscript) rest = name ∷ subscript_names subscript rest
+  -- a place
+  pub reference_told : {A : Type 0} → Telling A → Reference → List A → List A
+  reference_told t (Refer name subscript) rest = t.name name (subscript_told t subscript rest)
 
-  -- those of an index
-  pub subscript_names : Subscript → List Identifier → List Identifier
-  subscript_names Scalar rest = rest
-  subscript_names (Element index) rest = expression_names index rest
+  -- an index
+  pub subscript_told : {A : Type 0} → Telling A → Subscript → List A → List A
+  subscript_told t Scalar rest = rest
+  subscript_told t (Element index) rest = expression_told t index rest
 
-  -- those of operators and their right operands
-  pub links_names : Links → List Identifier → List Identifier
-  links_names NoLink rest = rest
-  links_names (Linked op right links) rest = expression_names right (links_names links rest)
+  -- operators and their right operands
+  pub links_told : {A : Type 0} → Telling A → Links → List A → List A
+  links_told t NoLink rest = rest
+  links_told t (Linked op right links) rest = expression_told t right (links_told t links rest)
 
--- the name of a declared variable
-abbrev pub declaration_names : Declaration → List Identifier → List Identifier
-declaration_names declaration rest = declaration.name ∷ rest
+-- a declared variable
+abbrev pub declaration_told : {A : Type 0} → Telling A → Declaration → List A → List A
+declaration_told t declaration rest = t.name declaration.name rest
 
--- the names of what is printed
-abbrev pub printed_names : Printed → List Identifier → List Identifier
-printed_names (Words text) rest = rest
-printed_names (Amount value) rest = expression_names value rest
+-- what is printed
+abbrev pub printed_told : {A : Type 0} → Telling A → Printed → List A → List A
+printed_told t (Words text) rest = rest
+printed_told t (Amount value) rest = expression_told t value rest
 
--- those of an item
-abbrev pub item_names : PrintItem → List Identifier → List Identifier
-item_names item rest = printed_names item.what rest
+-- an item
+abbrev pub item_told : {A : Type 0} → Telling A → PrintItem → List A → List A
+item_told t item rest = printed_told t item.what rest
 
 abbrev mutual
-  -- the names of a statement
-  pub command_names : Command → List Identifier → List Identifier
-  command_names (Assignment to value) rest = reference_names to (expression_names value rest)
-  command_names (Printing items) rest = each item_names items rest
-  command_names (Sending channel value) rest = channel ∷ expression_names value rest
-  command_names (Receiving channel to otherwise) rest =
-      channel ∷ reference_names to (otherwise_names otherwise rest)
-  command_names (Conditional test body otherwise) rest =
-      expression_names test (body_names body (otherwise_names otherwise rest))
-  command_names (Loop test body) rest = expression_names test (body_names body rest)
-  command_names (Invocation procedure arguments) rest = procedure ∷ each expression_names arguments rest
-  command_names Failure rest = rest
-  command_names (Recovering block) rest = recovery_names block rest
+  -- a statement
+  pub command_told : {A : Type 0} → Telling A → Command → List A → List A
+  command_told t (Assignment to value) rest = reference_told t to (expression_told t value rest)
+  command_told t (Printing items) rest = each (item_told t) items rest
+  command_told t (Sending channel value) rest = t.name channel (expression_told t value rest)
+  command_told t (Receiving channel to otherwise) rest =
+      t.name channel (reference_told t to (otherwise_told t otherwise rest))
+  command_told t (Conditional test body otherwise) rest =
+      expression_told t test (body_told t body (otherwise_told t otherwise rest))
+  command_told t (Loop test body) rest = expression_told t test (body_told t body rest)
+  command_told t (Invocation procedure arguments) rest = t.name procedure (each (expression_told t) arguments rest)
+  command_told t Failure rest = rest
+  command_told t (Recovering block) rest = recovery_told t block rest
 
-  -- those of statements
-  pub commands_names : Commands → List Identifier → List Identifier
-  commands_names NoCommand rest = rest
-  commands_names (Then first others) rest = command_names first (commands_names others rest)
+  -- statements
+  pub commands_told : {A : Type 0} → Telling A → Commands → List A → List A
+  commands_told t NoCommand rest = rest
+  commands_told t (Then first others) rest = command_told t first (commands_told t others rest)
 
-  -- those of a block
-  pub body_names : Body → List Identifier → List Identifier
-  body_names (Scope variables commands) rest = each declaration_names variables (commands_names commands rest)
+  -- a block
+  pub body_told : {A : Type 0} → Telling A → Body → List A → List A
+  body_told t (Scope variables commands) rest = each (declaration_told t) variables (commands_told t commands rest)
 
-  -- those of an `else`
-  pub otherwise_names : Otherwise → List Identifier → List Identifier
-  otherwise_names NoElse rest = rest
-  otherwise_names (Else body) rest = body_names body rest
+  -- an `else`
+  pub otherwise_told : {A : Type 0} → Telling A → Otherwise → List A → List A
+  otherwise_told t NoElse rest = rest
+  otherwise_told t (Else body) rest = body_told t body rest
 
-  -- those of a recovery block, with its conversation
-  pub recovery_names : RecoveryBlock → List Identifier → List Identifier
-  recovery_names (Recovers number conversation place test bound alternates) rest =
-      if_there conversation (expression_names test (alternates_names alternates rest))
+  -- a recovery block, behind the name of its conversation
+  pub recovery_told : {A : Type 0} → Telling A → RecoveryBlock → List A → List A
+  recovery_told t (Recovers number conversation place test bound alternates) rest =
+      if_named t conversation (t.recovery number place (expression_told t test (alternates_told t alternates rest)))
 
-  -- those of alternates
-  pub alternates_names : Alternates → List Identifier → List Identifier
-  alternates_names NoAlternate rest = rest
-  alternates_names (Alternate body others) rest = body_names body (alternates_names others rest)
+  -- alternates
+  pub alternates_told : {A : Type 0} → Telling A → Alternates → List A → List A
+  alternates_told t NoAlternate rest = rest
+  alternates_told t (Alternate body others) rest = body_told t body (alternates_told t others rest)
 
--- the names of a channel
-abbrev pub channel_names : ChannelDeclaration → List Identifier → List Identifier
-channel_names channel rest = channel.name ∷ channel.sender ∷ channel.receiver ∷ rest
+-- a channel
+abbrev pub channel_told : {A : Type 0} → Telling A → ChannelDeclaration → List A → List A
+channel_told t channel rest = t.name channel.name (t.name channel.sender (t.name channel.receiver rest))
 
--- the names of a conversation
-abbrev pub conversation_names : ConversationDeclaration → List Identifier → List Identifier
-conversation_names conversation rest = conversation.name ∷ each (λ name others. name ∷ others) conversation.members rest
+-- a conversation
+abbrev pub conversation_told : {A : Type 0} → Telling A → ConversationDeclaration → List A → List A
+conversation_told t conversation rest = t.name conversation.name (each t.name conversation.members rest)
 
--- the names of a procedure
-abbrev pub procedure_names : ProcedureDeclaration → List Identifier → List Identifier
-procedure_names procedure rest =
-    procedure.name ∷ each (λ name others. name ∷ others) procedure.parameters (body_names procedure.body rest)
+-- a procedure
+abbrev pub procedure_told : {A : Type 0} → Telling A → ProcedureDeclaration → List A → List A
+procedure_told t procedure rest =
+    t.name procedure.name (each t.name procedure.parameters (body_told t procedure.body rest))
 
--- the names of a process
-abbrev pub process_names : ProcessDeclaration → List Identifier → List Identifier
-process_names process rest =
-    process.name ∷ each declaration_names process.variables (each procedure_names process.procedures (commands_names process.commands rest))
-
--- the names of a whole tree: those of its channels, then those of its conversations
-abbrev pub tree_names : Tree → List Identifier
-tree_names tree =
-    tree.name ∷ each channel_names tree.channels (each conversation_names tree.conversations (each process_names tree.processes []))
+-- a process
+abbrev pub process_told : {A : Type 0} → Telling A → ProcessDeclaration → List A → List A
+process_told t process rest =
+    t.name process.name (each (declaration_told t) process.variables (each (procedure_told t) process.procedures (commands_told t process.commands rest)))
 
 -- a channel or a conversation
 pub data Connection : Type 0 where
@@ -138,14 +139,24 @@ conversations_among [] = []
 conversations_among (AChannel channel ∷ others) = conversations_among others
 conversations_among (AConversation conversation ∷ others) = conversation ∷ conversations_among others
 
--- the names of a channel or a conversation
-abbrev pub connection_names : Connection → List Identifier → List Identifier
-connection_names (AChannel channel) rest = channel_names channel rest
-connection_names (AConversation conversation) rest = conversation_names conversation rest
+-- a channel or a conversation, told
+abbrev pub connection_told : {A : Type 0} → Telling A → Connection → List A → List A
+connection_told t (AChannel channel) rest = channel_told t channel rest
+connection_told t (AConversation conversation) rest = conversation_told t conversation rest
+
+-- names alone are told
+abbrev pub names_alone : Telling Identifier
+names_alone = record { name = λ name rest. name ∷ rest; recovery = λ number place rest. rest }
+
+-- the names of a whole tree: those of its channels, then those of its conversations
+abbrev pub tree_names : Tree → List Identifier
+tree_names tree =
+    tree.name ∷ each (channel_told names_alone) tree.channels (each (conversation_told names_alone) tree.conversations (each (process_told names_alone) tree.processes []))
 
 -- the names of a whole tree, with its channels and conversations in this order
 abbrev pub names_with : List Connection → Tree → List Identifier
-names_with connections tree = tree.name ∷ each connection_names connections (each process_names tree.processes [])
+names_with connections tree =
+    tree.name ∷ each (connection_told names_alone) connections (each (process_told names_alone) tree.processes [])
 
 -- The names of a whole tree in the order of the text. There channels and conversations may stand in any order among each
 -- other, while a tree has a list of each.
@@ -164,75 +175,34 @@ pub record Recovery : Type 0 where
 abbrev pub recovery_at : ℕ → Place → Recovery
 recovery_at number place = record { number = number; place = place }
 
-abbrev mutual
-  -- the recovery blocks of a statement
-  pub command_recoveries : Command → List Recovery → List Recovery
-  command_recoveries (Assignment to value) rest = rest
-  command_recoveries (Printing items) rest = rest
-  command_recoveries (Sending channel value) rest = rest
-  command_recoveries (Receiving channel to otherwise) rest = otherwise_recoveries otherwise rest
-  command_recoveries (Conditional test body otherwise) rest =
-      body_recoveries body (otherwise_recoveries otherwise rest)
-  command_recoveries (Loop test body) rest = body_recoveries body rest
-  command_recoveries (Invocation procedure arguments) rest = rest
-  command_recoveries Failure rest = rest
-  command_recoveries (Recovering block) rest = block_recoveries block rest
-
-  -- those of statements
-  pub commands_recoveries : Commands → List Recovery → List Recovery
-  commands_recoveries NoCommand rest = rest
-  commands_recoveries (Then first others) rest = command_recoveries first (commands_recoveries others rest)
-
-  -- those of a block
-  pub body_recoveries : Body → List Recovery → List Recovery
-  body_recoveries (Scope variables commands) rest = commands_recoveries commands rest
-
-  -- those of an `else`
-  pub otherwise_recoveries : Otherwise → List Recovery → List Recovery
-  otherwise_recoveries NoElse rest = rest
-  otherwise_recoveries (Else body) rest = body_recoveries body rest
-
-  -- a recovery block, and those in its alternates
-  pub block_recoveries : RecoveryBlock → List Recovery → List Recovery
-  block_recoveries (Recovers number conversation place test bound alternates) rest =
-      recovery_at number place ∷ alternates_recoveries alternates rest
-
-  -- those of alternates
-  pub alternates_recoveries : Alternates → List Recovery → List Recovery
-  alternates_recoveries NoAlternate rest = rest
-  alternates_recoveries (Alternate body others) rest = body_recoveries body (alternates_recoveries others rest)
-
--- the recovery blocks of a process
-abbrev pub process_recoveries : ProcessDeclaration → List Recovery → List Recovery
-process_recoveries process rest =
-    each (λ procedure others. body_recoveries procedure.body others) process.procedures (commands_recoveries process.commands rest)
+-- recovery blocks alone are told
+abbrev pub recoveries_alone : Telling Recovery
+recoveries_alone = record { name = λ name rest. rest; recovery = λ number place rest. recovery_at number place ∷ rest }
 
 -- the recovery blocks of a whole tree
 abbrev pub tree_recoveries : Tree → List Recovery
-tree_recoveries tree = each process_recoveries tree.processes []
-
--- a token that is a name, and then the rest
-abbrev pub if_name : Option Terminal → Identifier → List Identifier → List Identifier
-if_name (Some terminals.Name) name rest = name ∷ rest
-if_name _ name rest = rest
+tree_recoveries tree = each (process_told recoveries_alone) tree.processes []
 
 -- a token as a name
 abbrev pub named_by : Lexeme → ℕ → Identifier
 named_by token n = record { text = token.text; place = token.place; id = n }
 
+-- a token that is a name or `ensure`, with so many of both before it, and then the rest
+abbrev pub token_told : {A : Type 0} → Telling A → Option Terminal → Lexeme → ℕ → ℕ → List A → List A
+token_told t (Some terminals.Name) token names blocks rest = t.name (named_by token names) rest
+token_told t (Some terminals.Ensure) token names blocks rest = t.recovery blocks token.place rest
+token_told t _ token names blocks rest = rest
+
+-- tokens, with so many names and words `ensure` before them
+abbrev pub told_from : {A : Type 0} → Telling A → ℕ → ℕ → List Lexeme → List A
+told_from t names blocks [] = []
+told_from t names blocks (token ∷ tokens) =
+    token_told t (terminal_of token) token names blocks (told_from t (names_after (terminal_of token) names) (blocks_after (terminal_of token) blocks) tokens)
+
 -- the tokens that are names, numbered in order
 abbrev pub names_from : ℕ → List Lexeme → List Identifier
-names_from n [] = []
-names_from n (token ∷ tokens) =
-    if_name (terminal_of token) (named_by token n) (names_from (names_after (terminal_of token) n) tokens)
-
--- a token that is `ensure`, and then the rest
-abbrev pub if_ensure : Option Terminal → Recovery → List Recovery → List Recovery
-if_ensure (Some terminals.Ensure) recovery rest = recovery ∷ rest
-if_ensure _ recovery rest = rest
+names_from n tokens = told_from names_alone n 0 tokens
 
 -- the tokens that are `ensure`, numbered in order
 abbrev pub recoveries_from : ℕ → List Lexeme → List Recovery
-recoveries_from n [] = []
-recoveries_from n (token ∷ tokens) =
-    if_ensure (terminal_of token) (recovery_at n token.place) (recoveries_from (blocks_after (terminal_of token) n) tokens)
+recoveries_from n tokens = told_from recoveries_alone 0 n tokens
