@@ -1,6 +1,6 @@
 -- The machine accepts what is derived: it reads each row of the grammar, where nothing that it would take too stands
 -- behind it.
-use Rattle.std.proofs.Common.{◌≡◌, ℕ, pos, Bool, true, false, cond, List, [], ◌∷◌, Option, Some, None, refl, sym, ap, ◌∙◌}
+use Rattle.std.proofs.Common.{◌≡◌, ℕ, pos, Bool, true, false, cond, List, [], ◌∷◌, Some, None, refl, sym, ap, ◌∙◌}
 use Rattle.std.specs.Option.{is_some}
 use Rattle.std.specs.Ordering.{int_eq}
 use Rattle.rb_base.specs.declared.place.Place.{Place}
@@ -23,12 +23,13 @@ use Rattle.rb_parse.proofs.Ends.{goes_place, goes_sum, goes_operand, goes_expres
 use Rattle.rb_parse.proofs.Forms.{is_none, atom_place, atom_number, factor_atom, negation_comparison, expression_chain, quantified_begun, item_amount, statement_recovery, statement_place, other_alternate, connections_channel, connections_conversation, program_unmarked}
 use Rattle.rb_parse.proofs.Opens.{Opens, opens, stands, atom_is_no_minus, comparison_is_no_not, chain_is_no_quantifier, expression_is_no_text, unmarked_is_no_edition}
 use Rattle.rb_parse.proofs.Reaching.{starts, begins, begins_here, by_part, by_terminal, complete, same_value, passes}
+use Rattle.rb_parse.proofs.Made.{variable_with, channel_of, conversation_of, process_of, procedure_of}
 use Rattle.rb_parse.proofs.Running.{run_done}
 use Rattle.rb_parse.proofs.Sound.{operator_names, operator_blocks, comparison_names, comparison_blocks}
 use Rattle.rb_parse.proofs.Takes.{name_taken, number_taken, two_taken, number_is, counts}
 use Rattle.rb_syntax.specs.declared.expression.Number.{Number}
 use Rattle.rb_syntax.specs.declared.expression.Quantifier.{Quantifier}
-use Rattle.rb_syntax.specs.Tree.{Identifier, Expression, Former, Quantification, Refer, Scalar, NoLink, NoCommand, Sending, Receiving, Invocation, Recovering, NoElse, Recovers, RecoveryBlock, Alternates, Body, Declaration, ChannelDeclaration, ConversationDeclaration, ProcedureDeclaration, ProcessDeclaration, Commands, Tree}
+use Rattle.rb_syntax.specs.Tree.{Expression, Former, Quantification, Refer, Scalar, NoLink, NoCommand, Sending, Receiving, Invocation, Recovering, NoElse, Recovers, RecoveryBlock, Alternates, Tree}
 
 taken : {terminal : Terminal} {a b : Point} (t : Takes terminal a b) → names_after (Some terminal) a.names ≡ a.names → blocks_after (Some terminal) a.blocks ≡ a.blocks → Advances terminal t.token a b
 taken t n m = record { stands = t.stands; is = t.fits; names = t.names ∙ sym n; blocks = t.blocks ∙ sym m }
@@ -60,27 +61,7 @@ quantifier_blocks _ kind n e = refl
 quantifier_taken : {kind : Quantifier} {place : Place} {a b : Point} (q : TakesQuantifier kind place a b) → Advances q.terminal q.takes.takes.token a b
 quantifier_taken {kind = kind} {a = a} q = taken q.takes.takes (quantifier_names q.terminal kind a.names q.is) (quantifier_blocks q.terminal kind a.blocks q.is)
 
--- trees by the names in them
-abbrev channel_named : Number → Identifier → Identifier → Identifier → ChannelDeclaration
-channel_named size name sender receiver = record { name = name; sender = sender; receiver = receiver; size = size }
-
-abbrev conversation_named : List Identifier → Identifier → ConversationDeclaration
-conversation_named members name = record { name = name; members = members }
-
-abbrev process_named : List Declaration → List ProcedureDeclaration → Commands → Identifier → ProcessDeclaration
-process_named variables procedures commands name = record {
-  name = name;
-  variables = variables;
-  procedures = procedures;
-  commands = commands;
-}
-
-abbrev procedure_named : List Identifier → Body → Identifier → ProcedureDeclaration
-procedure_named parameters body name = record { name = name; parameters = parameters; body = body }
-
-abbrev variable_named : Option Number → Identifier → Declaration
-variable_named size name = record { name = name; size = size }
-
+-- a recovery block by its number and its place
 abbrev recovers : Expression → Number → Alternates → ℕ → Place → RecoveryBlock
 recovers test bound alternates number place = Recovers number None place test bound alternates
 
@@ -108,11 +89,11 @@ reads {a = a} (conversations_row c o) g =
 reads (channel_row {size = size} t n f s u r w z x) g =
     let sent = by_terminal (by_terminal (by_terminal (starts _ refl (taken t refl refl)) (name_taken n)) (taken f refl refl)) (name_taken s) in
     let received = by_terminal (by_terminal (by_terminal sent (taken u refl refl)) (name_taken r)) (taken w refl refl) in
-    same_value (λ j. channel_named size (sym n.is j) (sym s.is j) (sym r.is j)) (complete (by_terminal (by_part received (reads z refl)) (taken x refl refl)))
+    same_value (λ j. channel_of size (sym n.is j) (sym s.is j) (sym r.is j)) (complete (by_terminal (by_part received (reads z refl)) (taken x refl refl)))
 reads (conversation_row {members = members} t n o m z x) g =
     let opened = by_terminal (by_terminal (starts _ refl (taken t refl refl)) (name_taken n)) (taken o refl refl) in
     let listed = by_part opened (reads m (ap (λ first. is_some (start_more_names first)) (stands z))) in
-    same_value (ap (conversation_named members) (sym n.is)) (complete (by_terminal (by_terminal listed (taken z refl refl)) (taken x refl refl)))
+    same_value (ap (conversation_of members) (sym n.is)) (complete (by_terminal (by_terminal listed (taken z refl refl)) (taken x refl refl)))
 reads (names_row {others = others} n m) g =
     same_value (ap (λ name. name ∷ others) (sym n.is)) (complete (by_part (starts _ refl (name_taken n)) (reads m g)))
 reads {a = a} no_name_row g = passes [] a (is_none (start_more_names (look a.left)) g) refl
@@ -128,14 +109,14 @@ reads (process_row {edition = edition} {e = e} {f = f} {g = h} {variables = vari
     let declared = by_part opened (reads v (declarations_over edition e f h (opens p) (opens m) (stands z))) in
     let behind = between (λ first. is_some (start_statements edition first)) (λ first. is_some (start_procedures edition first)) f h (statements_end_procedures edition) (opens m) (ap (λ first. is_some (start_procedures edition first)) (stands z)) in
     let filled = by_part (by_part declared (reads p behind)) (reads m (ap (goes_on (Part.Statements edition)) (stands z))) in
-    same_value (ap (process_named variables procedures commands) (sym n.is)) (complete (by_terminal filled (taken z refl refl)))
+    same_value (ap (process_of variables procedures commands) (sym n.is)) (complete (by_terminal filled (taken z refl refl)))
 reads {a = a} (no_procedure_row {edition = edition}) g = passes [] a (is_none (start_procedures edition (look a.left)) g) refl
 reads {a = a} (procedures_row {edition = edition} p m) g =
     complete (by_part (by_part (begins_here (Part.Procedure edition) a (procedures_after edition) refl (opens p)) (reads p refl)) (reads m g))
 reads (procedure_row {parameters = parameters} {body = body} t n o p z v) g =
     let opened = by_terminal (by_terminal (starts _ refl (taken t refl refl)) (name_taken n)) (taken o refl refl) in
     let listed = by_part opened (reads p (ap (goes_on Part.Parameters) (stands z))) in
-    same_value (ap (procedure_named parameters body) (sym n.is)) (complete (by_part (by_terminal listed (taken z refl refl)) (reads v refl)))
+    same_value (ap (procedure_of parameters body) (sym n.is)) (complete (by_part (by_terminal listed (taken z refl refl)) (reads v refl)))
 reads {a = a} no_parameter_row g = passes [] a (is_none (start_parameters (look a.left)) (neither _ _ g).0) refl
 reads {a = a} (parameters_row n) g =
     complete (by_part (begins_here Part.Names a nothing_after refl (opens n)) (reads n (neither _ _ g).1))
@@ -144,7 +125,7 @@ reads {a = a} (declarations_row d m) g =
     complete (by_part (by_part (begins_here Part.Declaration a declarations_after refl (opens d)) (reads d refl)) (reads m g))
 reads (declaration_row {size = size} t n z s) g =
     let named = by_terminal (starts _ refl (taken t refl refl)) (name_taken n) in
-    same_value (ap (variable_named size) (sym n.is)) (complete (by_terminal (by_part named (reads z (ap (goes_on Part.Size) (stands s)))) (taken s refl refl)))
+    same_value (ap (variable_with size) (sym n.is)) (complete (by_terminal (by_part named (reads z (ap (goes_on Part.Size) (stands s)))) (taken s refl refl)))
 reads {a = a} no_size_row g = passes None a (is_none (start Part.Size (look a.left)) g) refl
 reads (size_row t n z) g =
     complete (by_terminal (by_part (starts _ refl (taken t refl refl)) (reads n refl)) (taken z refl refl))
