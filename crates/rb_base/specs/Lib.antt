@@ -2,3 +2,4 @@ pub mod Words
 pub mod Bytes
 pub mod Naming
 pub mod Limits
+pub mod Lines

@@ -4,16 +4,22 @@
 
 pub mod bytes;
 pub mod edition;
+pub mod ending;
 pub mod event;
 pub mod fault;
 pub mod limits;
+pub mod lines;
 pub mod names;
 pub mod numbers;
 pub mod place;
+pub mod processes;
+#[cfg(test)]
+mod samples;
 pub mod steps;
 pub mod text;
 
 pub use edition::Edition;
+pub use ending::Final;
 pub use event::{Cause, Event, MOST_EVENTS, Report, State, TurnKind};
 pub use fault::{FaultName, Refusal, SourceFault, TextFault};
 pub use limits::{
@@ -21,6 +27,7 @@ pub use limits::{
     MOST_OPEN_CALLS, MOST_OPEN_LEVELS, MOST_QUANTIFIED, MOST_TURNS, MOST_WORDS_FIRST,
     MOST_WORDS_SECOND,
 };
+pub use lines::Lines;
 pub use names::{Group, Names, Nested, ProcessNames, Variable};
 pub use place::Place;
 pub use steps::Steps;
