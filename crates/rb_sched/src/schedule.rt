@@ -36,7 +36,6 @@ impl<'a> Schedule<'a> {
     /// Reads a whole schedule, and answers its first fault where it has one.
     pub fn read(text: &'a [u8], names: &'a Names) -> Result<Self, TextFault>
         requires short { length text.now ≤ MOST_BYTES }
-        requires few { vec_len names.now.processes < 2 ^ 32 }
         ensures turns { MatchResult result
             (λ schedule. (turns : List ℕ) × (schedule_of (process_names names.now) text.now ≡ Ok turns) × (schedule ≡ fresh turns))
             (λ fault. schedule_of (process_names names.now) text.now ≡ Err fault) }

@@ -11,7 +11,6 @@ use rb_base::{FaultName, MOST_BYTES, MOST_TURNS, Names, TextFault};
 
 /// How many turns there are up to a line and with it, or the line's fault.
 fn with_line(before: u32, line: &[u8], names: &Names) -> Result<u32, FaultName>
-    requires few { vec_len names.now.processes < 2 ^ 32 }
     requires before { before ≤ MOST_TURNS }
     ensures { let answer = line_turns (process_names names.now) before line.now in
         MatchResult result
@@ -29,7 +28,6 @@ fn with_line(before: u32, line: &[u8], names: &Names) -> Result<u32, FaultName>
 #[tactic(auto, using(crate::proofs::Walk::read_more))]
 pub(crate) fn count_turns(text: &[u8], names: &Names) -> Result<u32, TextFault>
     requires short { length text.now ≤ MOST_BYTES }
-    requires few { vec_len names.now.processes < 2 ^ 32 }
     ensures { let answer = schedule_of (process_names names.now) text.now in
         MatchResult result
         (λ total. (turns : List ℕ) × (answer ≡ Ok turns) × (total ≡ length turns) × (total ≤ MOST_TURNS))
@@ -53,7 +51,6 @@ pub(crate) fn count_turns(text: &[u8], names: &Names) -> Result<u32, TextFault>
 /// Goes to the first line that has turns: what it gives, and the text after it. At the end there is
 /// neither.
 pub(crate) fn first_turns<'a>(text: &'a [u8], names: &Names) -> (Rounds, &'a [u8])
-    requires few { vec_len names.now.processes < 2 ^ 32 }
     requires sound { IsOk (schedule_of (process_names names.now) text.now) }
     ensures goes_on { GoesOn (process_names names.now) text.now result.0 result.1.now }
     ensures ended { result.0 ≡ [] → result.1.now ≡ [] }
