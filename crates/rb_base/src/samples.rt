@@ -1,10 +1,15 @@
 //! Small implementations of `Lines` and `Final`, met through a bound.
 
-ghost use Rattle.std.specs.Prelude.{◌≡◌, ℕ, ◌<◌, [], ◌∷◌, length, drop};
-ghost use Rattle.rb_base.specs.Lines.{without_next};
+ghost use Rattle.std.specs.Prelude.{◌≡◌, ℕ, ◌+◌, ◌<◌, ◌≤◌, [], ◌∷◌, length, drop, slice_get, Some};
+ghost use Rattle.rb_base.specs.Lines.{belonging, without_next};
 
+use crate::ending::Final;
+use crate::event::State;
 use crate::lines::Lines;
+use crate::steps::Steps;
 use crate::text::Text;
+use std::marker::{Brand, PhantomData};
+use std::sync::ledger::{Blank, Ledger};
 use std::test::Fail;
 
 // The lines of one process, of which so many were lent.
@@ -60,5 +65,79 @@ fn lends_each_line_once(rt: HostRuntime) -> Result<(), Fail> {
         assert_eq!(rt; next_length(&mut queue), length);
     }
     assert_eq!(rt; queue.mark, 7);
+    Ok(())
+}
+
+// The end of one process with one word, over one channel.
+#[derive(Drop)]
+struct Ended<L: Ledger> {
+    state: State,
+    word: i64,
+    sent: u8,
+    ledger: PhantomData<L>,
+}
+
+impl<L: Ledger> Final for Ended<L> {
+    type Ledger = L;
+
+    ghost states = { λ end. end.state ∷ [] };
+
+    ghost words = { λ end. (end.word ∷ []) ∷ [] };
+
+    ghost sent = { λ end. end.sent ∷ [] };
+
+    ghost taken = { λ end. end.sent ∷ [] };
+
+    fn state(&self, _p: u32) -> State {
+        self.state
+    }
+
+    fn word(&self, _p: u32, _at: u32, steps: &mut Steps<L>) -> i64 {
+        steps.tick();
+        self.word
+    }
+
+    fn sent(&self, _channel: u32, _steps: &mut Steps<L>) -> i64 {
+        self.sent as i64
+    }
+
+    fn taken(&self, _channel: u32, steps: &mut Steps<L>) -> i64 {
+        steps.tick();
+        self.sent as i64
+    }
+}
+
+// Word 0 of process 0, and what was sent on channel 0.
+fn first_numbers<M: Final>(end: &M, steps: &mut Steps<M::Ledger>) -> (State, i64, i64)
+    requires processes { 0 < length (M.states end.now) }
+    requires words { 0 < length (belonging (M.words end.now) 0) }
+    requires channels { 0 < length (M.sent end.now) }
+    ensures word { slice_get (belonging (M.words end.now) 0) 0 ≡ Some result.1 }
+    ensures work { steps.new ≤ steps.old + 2 }
+{
+    let state = end.state(0);
+    let word = end.word(0, 0, steps);
+    (state, word, end.sent(0, steps))
+}
+
+fn numbers_of<L: Ledger>(blank: Blank, end: &Ended<L>) -> (State, i64, i64)
+    requires name { blank.name ≡ L.name }
+    requires parts { blank.parts ≡ L.parts }
+    requires backed { 0 < blank.parts }
+    ensures { result.1 ≡ end.now.word }
+{
+    let mut steps = Steps::start(blank);
+    first_numbers(end, &mut steps)
+}
+
+#[test]
+fn tells_the_end(rt: HostRuntime) -> Result<(), Fail> {
+    let end = Ended::<Brand> {
+        state: State::Running(2),
+        word: -3,
+        sent: 4,
+        ledger: PhantomData,
+    };
+    assert_eq!(rt; numbers_of(Blank::new(1), &end), (State::Running(2), -3, 4));
     Ok(())
 }
