@@ -5,10 +5,10 @@ use Rattle.rb_base.specs.declared.event.Cause.{Cause}
 use Rattle.rb_base.specs.declared.event.Cause.TheVariants.{Broken, Depth, Overrun}
 use Rattle.rb_base.specs.declared.event.Event.TheVariants.{Pass}
 use Rattle.rb_world.specs.Kind.{Facts, Kind, Want, NothingLeft, SendsOn, ReceivesOn, MayReceiveOn, Enters, Starts, Acts, Stepped, Trapped, Went, Held}
-use Rattle.rb_world.specs.World.{Level, Status, Running, Finished, FailedWith, Process, Talk, World, last_of, levels_of, talk_at, with_process}
+use Rattle.rb_world.specs.World.{Level, Status, Running, Finished, FailedWith, Process, Talk, World, last_of, levels_of, talk_at, with_process, copy_of}
 use Rattle.rb_world.specs.Channels.{has_room, message_there}
 use Rattle.rb_world.specs.Reject.{reject}
-use Rattle.rb_world.specs.Turn.{Told, accepted, accepted_at, acts, alternate_of, all_leave, all_stand, bounded, by_status, copy_of, enter_either, is_over, join, most_levels, move, moves, one_used, passed, receives, run, runs, stepped, steps, took, trapped, tried_at, turn, turn_used, waits}
+use Rattle.rb_world.specs.Turn.{Told, accepted, accepted_at, acts, alternate_of, all_leave, all_stand, bounded, by_status, enter_either, is_over, join, most_levels, move, moves, one_used, passed, receives, run, runs, stepped, steps, took, trapped, tried_at, turn, turn_used, waits}
 use Rattle.rb_world.proofs.TurnFacts.{RunsAt, MayAct, IsReady, ToSend, ToReceive, ToReceiveIfThere, ToStart, ToAct, alternate_for, StepsAt, Alone, Joining, Barred, come_to_stand}
 use Rattle.rb_world.proofs.Invariant.{Between, Within, IsInvariant}
 use Rattle.rb_world.proofs.ListFacts.{slice_get-change_at}

@@ -2,10 +2,10 @@
 use Rattle.std.proofs.Common.{◌≡◌, ℕ, ℤ, Bool, List, [], ◌∷◌, ◌++◌, map, position, slice_get, Option, Some, None, ◌+◌, nat_lt, refl, sym, ap, ap₂, ◌∙◌, subst}
 use Rattle.rb_base.specs.declared.event.Cause.{Cause}
 use Rattle.rb_world.specs.Kind.{Ends, Facts, Kind, Stepped, Trapped, Went, Held}
-use Rattle.rb_world.specs.World.{Level, Process, Status, World, change_at, is_of, last_of, with_process, with_each, with_talks}
+use Rattle.rb_world.specs.World.{Level, Process, Status, World, change_at, is_of, last_of, with_process, with_each, with_talks, copy_of}
 use Rattle.rb_world.specs.Channels.{has_room_on, has_room_for, message_on, message_between, first_message, room_from, seen_copy}
 use Rattle.rb_world.specs.Reject.{all_back, at_place, back_to, broken_talk, fallen_inside, first_again, next_talk, put_back, raised, where_inside}
-use Rattle.rb_world.specs.Turn.{copy_of, freed, lines_freed}
+use Rattle.rb_world.specs.Turn.{freed, lines_freed}
 use Rattle.rb_world.specs.Slots.{Slots, stepped_with_slots, with_slots}
 use Rattle.rb_world.proofs.TurnFacts.{RunsAt, MayAct, IsReady, ToSend, ToReceive, ToReceiveIfThere, ToStart, ToAct, StepsAt, IsEntry, Alone, Joining, EntersAt, MustFall, NoLevelLeft, Barred, RejectsAt}
 use Rattle.rb_world.proofs.Invariant.{Between, Within, IsInvariant}
