@@ -103,7 +103,7 @@ module _ {S C M : Type 0} {k : Kind S C M} {before : Between S C M} {during : Wi
       → facts.conversation ≡ Some c → (talk : Talk) → talk_at w c ≡ Some talk → (broken : Bool) → talk.is_broken ≡ broken
       → after t past (join k t p facts q w (Some (record { alternate = talk.alternate; is_broken = broken }))).world
   join-keeps t past p q w facts c holds may e few of_c talk at true broken =
-      laws.falls t past p q w (length q.levels) Broken holds may.runs (Barred facts c talk may.away e of_c at broken refl)
+      laws.falls t past p q w (length q.levels) Broken holds may.runs (Barred facts c talk may.away e of_c at broken refl refl)
   join-keeps t past p q w facts c holds may e few of_c talk at false whole =
       laws.opens t past p q w facts talk.alternate holds
       (record { acts = may; wants = e; few = few; entry = Joining c talk of_c at whole refl })

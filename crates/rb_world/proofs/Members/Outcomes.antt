@@ -43,7 +43,7 @@ pub record Outcomes {S C M : Type 0} (k : Kind S C M) (p : ℕ) (w : World S C M
       → P (undone (reject k p n cause (counted p q w)))
 
 -- what is found stands within the list
-position_within : {A : Type 0} (test : A → Bool) (xs : List A) (j : ℕ) → position test xs ≡ Some j → j < length xs
+pub position_within : {A : Type 0} (test : A → Bool) (xs : List A) (j : ℕ) → position test xs ≡ Some j → j < length xs
 position_within test [] j e = absurd (none_some e)
 position_within test (x ∷ xs) j e = (position-Some test (x ∷ xs) j x e).0
 

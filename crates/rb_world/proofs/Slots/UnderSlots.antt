@@ -128,7 +128,7 @@ module _ {S C M : Type 0} (k : Kind S C M) where
 
   falls-bare : {q : Process S C} {w : World S C (M × Slots)} {left : ℕ} {cause : Cause} → MustFall (with_slots k) q w left cause → MustFall k q (bare w) left cause
   falls-bare (NoLevelLeft none) = NoLevelLeft none
-  falls-bare (Barred facts c talk away wants of_c there broken is) = Barred facts c talk away wants of_c there broken is
+  falls-bare (Barred facts c talk away wants of_c there broken left is) = Barred facts c talk away wants of_c there broken left is
 
   rejects-bare : {p : ℕ} {q : Process S C} {w : World S C (M × Slots)} {j : ℕ} {level : Level C} → RejectsAt p q w j level → RejectsAt p q (bare w) j level
   rejects-bare at = record { runs = runs-bare at.runs; place = at.place }
