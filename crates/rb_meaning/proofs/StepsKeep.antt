@@ -75,7 +75,7 @@ block_kept : (tree : Tree) (p : ℕ) (rest : List Item) (n : ℕ) (block : Recov
     → alternate_number n (alternates_in block) ≡ Some body → AreKept tree (uses_in_body (spot_before p (TestOf block ∷ rest)) body)
 block_kept tree p rest n (Recovers number conversation place test bound alternates) body kept e =
     alternate_kept tree (inside conversation (spot_before p rest)) n alternates body
-    (kept_second tree (joined conversation (spot_before p rest)) (uses_in_alternates (inside conversation (spot_before p rest)) alternates) kept) e
+    (kept_second tree (joined conversation alternates (spot_before p rest)) (uses_in_alternates (inside conversation (spot_before p rest)) alternates) kept) e
 
 commands_kept : (tree : Tree) (spot : Spot) (body : Body) → AreKept tree (uses_in_body spot body) → AreKept tree (uses_in spot (commands_of body))
 commands_kept tree spot (Scope variables commands) kept = kept
