@@ -1,1 +1,4 @@
 pub mod Words
+pub mod Bytes
+pub mod Naming
+pub mod Limits

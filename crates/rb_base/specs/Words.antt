@@ -1,7 +1,8 @@
--- The printed words of faults and causes.
+-- The printed words of faults and causes. What this crate defines is this project's own, but for the causes of a rejection
+-- that the literature names: the acceptance test, and a trap.
 use Rattle.std.specs.Prelude.{ℕ, List, codes}
 use Rattle.rb_base.specs.declared.fault.FaultName.{FaultName}
-use Rattle.rb_base.specs.declared.fault.FaultName.TheVariants.{X1, X2, X3, X4, X5, Y0, Y1, Y2, S1, S2, S3, S4, S5, S6, S7, S8, S9, S10, S11, N1, N2, N3, N4, N5, N6, N7, N8, N9, N10, N11, N12, N13, T1, T2, T3, T4, V1, V2, V3, V4}
+use Rattle.rb_base.specs.declared.fault.FaultName.TheVariants.{X1, X2, X3, X4, X5, Y0, Y1, Y2, S1, S2, S3, S4, S5, S6, S7, S8, S9, S10, S11, N1, N2, N3, N4, N5, N6, N7, N8, N9, N10, N11, N12, N13, T1, T2, T3, T4, V1, V2, V3, V4, B1, B2, B3, H1, H2, H3, H4, H5, I1, I2}
 use Rattle.rb_base.specs.declared.event.Cause.{Cause}
 use Rattle.rb_base.specs.declared.event.Cause.TheVariants.{Test, Fail, Overrun, Zero, Overflow, Index, Stack, Range, Calls, Depth, Hold, Inner, Broken}
 
@@ -47,6 +48,16 @@ fault_word V1 = codes "V1"
 fault_word V2 = codes "V2"
 fault_word V3 = codes "V3"
 fault_word V4 = codes "V4"
+fault_word B1 = codes "B1"
+fault_word B2 = codes "B2"
+fault_word B3 = codes "B3"
+fault_word H1 = codes "H1"
+fault_word H2 = codes "H2"
+fault_word H3 = codes "H3"
+fault_word H4 = codes "H4"
+fault_word H5 = codes "H5"
+fault_word I1 = codes "I1"
+fault_word I2 = codes "I2"
 
 -- a cause is printed in lower case
 abbrev pub cause_word : Cause → List ℕ

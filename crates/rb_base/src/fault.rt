@@ -3,8 +3,10 @@ ghost use Rattle.rb_base.specs.Words.{fault_word};
 
 use crate::place::Place;
 
-/// The name of a fault. X faults are of tokens, Y of the grammar, S of scopes and limits, N of nesting,
-/// T of a schedule and V of a record. `Y0` is a text that this program accepts and does not run yet.
+/// The name of a fault. Its letter says of what: X of tokens, Y of the grammar, S of scopes and limits, N of
+/// nesting, T of a schedule, V of a record, B of a session that steps forth and back, H of a history of
+/// messages and recovery points, I of an image of compiled code. `Y0` is a text that this program accepts and
+/// does not run yet.
 #[derive(Clone, Copy, Debug, PartialEq, Eq)]
 pub enum FaultName {
     X1,
@@ -47,6 +49,16 @@ pub enum FaultName {
     V2,
     V3,
     V4,
+    B1,
+    B2,
+    B3,
+    H1,
+    H2,
+    H3,
+    H4,
+    H5,
+    I1,
+    I2,
 }
 
 impl FaultName {
@@ -95,6 +107,16 @@ impl FaultName {
             FaultName::V2 => b"V2",
             FaultName::V3 => b"V3",
             FaultName::V4 => b"V4",
+            FaultName::B1 => b"B1",
+            FaultName::B2 => b"B2",
+            FaultName::B3 => b"B3",
+            FaultName::H1 => b"H1",
+            FaultName::H2 => b"H2",
+            FaultName::H3 => b"H3",
+            FaultName::H4 => b"H4",
+            FaultName::H5 => b"H5",
+            FaultName::I1 => b"I1",
+            FaultName::I2 => b"I2",
         }
     }
 }
@@ -106,7 +128,7 @@ pub struct SourceFault {
     pub place: Place,
 }
 
-/// A fault of a schedule or a record, at its line; for `V4` at its turn. Lines count from 1.
+/// A fault of a schedule, a record, a session or a history, at its line; for `V4` at its turn. Lines count from 1.
 #[derive(Clone, Copy, Debug, PartialEq, Eq)]
 pub struct TextFault {
     pub name: FaultName,

@@ -1,15 +1,26 @@
-// Plain data that the other crates speak of: places, names, faults, causes, the events of a turn, and the counter of steps.
+// What the other crates speak of alike: places, names, faults, causes, editions, limits, the events of a turn, kinds of
+// bytes, and the counter of steps.
 #![tactic(auto)]
 
+pub mod bytes;
+pub mod edition;
 pub mod event;
 pub mod fault;
+pub mod limits;
 pub mod names;
+pub mod numbers;
 pub mod place;
 pub mod steps;
 pub mod text;
 
+pub use edition::Edition;
 pub use event::{Cause, Event, MOST_EVENTS, Report, State, TurnKind};
 pub use fault::{FaultName, Refusal, SourceFault, TextFault};
+pub use limits::{
+    LARGEST_NUMBER, LONGEST_NAME, LONGEST_TEXT, MOST_BYTES, MOST_HELD_BYTES, MOST_OPEN_BRACKETS,
+    MOST_OPEN_CALLS, MOST_OPEN_LEVELS, MOST_QUANTIFIED, MOST_TURNS, MOST_WORDS_FIRST,
+    MOST_WORDS_SECOND,
+};
 pub use names::{Group, Names, Nested, ProcessNames, Variable};
 pub use place::Place;
 pub use steps::Steps;

@@ -1,6 +1,6 @@
 use Rattle.std.proofs.Common.{sym, ◌∙◌}
-use Rattle.rb_lex.proofs.Digits.{above_stays}
-use Rattle.rb_lex.proofs.numbers.digits_value.Goals as goal
+use Rattle.rb_base.proofs.Digits.{above_stays}
+use Rattle.rb_base.proofs.numbers.number_value.Goals as goal
 
 pub returns-in_err-value : goal.returns-in_err-value
 returns-in_err-value c =
