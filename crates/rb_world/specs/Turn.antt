@@ -11,6 +11,7 @@ use Rattle.rb_base.specs.declared.event.Event.{Event}
 use Rattle.rb_base.specs.declared.event.Event.TheVariants.{Error, Pass, Done}
 use Rattle.rb_base.specs.declared.event.TurnKind.{TurnKind}
 use Rattle.rb_base.specs.declared.event.TurnKind.TheVariants.{Idle, Wait, Took, Undone}
+use Rattle.rb_base.specs.declared.limits.TheConstants.{MOST_OPEN_LEVELS}
 use Rattle.rb_world.specs.Kind.{Facts, Kind, Membership, Want, NothingLeft, SendsOn, ReceivesOn, MayReceiveOn, Enters, Starts, Acts, Stepped, Trapped, Went, Held}
 use Rattle.rb_world.specs.World.{Level, Status, Running, Finished, FailedWith, Process, Talk, World, change_at, last_of, without_last, is_of, process_levels, talk_at, with_process, with_each, with_talks, with_memory, goes_on, settled, copy_of}
 use Rattle.rb_world.specs.Channels.{has_room, message_there}
@@ -45,7 +46,7 @@ passed event w = record { world = w; kind = Took; rejections = []; passes = even
 
 -- at most this many levels of one process are open
 abbrev pub most_levels : ℕ
-most_levels = 32
+most_levels = MOST_OPEN_LEVELS
 
 -- a trap rejects the innermost level, or fails a process without one
 abbrev pub trapped : {S C M : Type 0} → Kind S C M → ℕ → Cause → World S C M → Moved S C M
