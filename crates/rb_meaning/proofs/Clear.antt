@@ -9,7 +9,7 @@ use Rattle.rb_syntax.specs.Tree.{Identifier, Commands, NoCommand, Then, Recovery
 use Rattle.rb_world.proofs.ListFacts.{first_holds, second_holds}
 use Rattle.rb_meaning.specs.Environment.{Environment, pop_frame, pop_call}
 use Rattle.rb_meaning.specs.State.{Item, Perform, StartOf, TestOf, EndBlock, EndCall, performed, settle_items}
-use Rattle.rb_meaning.specs.Nesting.{Spot, Use, uses_in, uses_in_block, uses_in_command, keeps_n1, keeps_n2, keeps_n4, keeps_n9}
+use Rattle.rb_meaning.specs.Nesting.{Spot, Use, uses_in, uses_in_block, uses_in_command, keeps_n1, keeps_n2, keeps_n4, keeps_n5, keeps_n9}
 use Rattle.rb_meaning.specs.Laws.{blocks_left}
 
 -- the end of a call is left
@@ -38,9 +38,9 @@ around_left (EndCall ∷ items) = []
 abbrev pub spot_before : ℕ → List Item → Spot
 spot_before p items = record { process = p; in_procedure = in_call items; around = around_left items }
 
--- the rules that are asked of a use: N1, N2, N4 and N9
+-- the rules that are asked of a use: N1, N2, N4, N5 and N9
 abbrev pub keeps_rules : Tree → Use → Bool
-keeps_rules tree one = keeps_n1 tree one && (keeps_n2 tree one && (keeps_n4 tree one && keeps_n9 tree one))
+keeps_rules tree one = keeps_n1 tree one && (keeps_n2 tree one && (keeps_n4 tree one && (keeps_n5 tree one && keeps_n9 tree one)))
 
 -- uses that keep the rules
 abbrev pub AreKept : Tree → List Use → Type 0

@@ -9,16 +9,17 @@ use Rattle.rb_world.proofs.ListFacts.{first_holds, none_some, second_holds, some
 use Rattle.rb_meaning.specs.State.{Item, Perform, StartOf, TestOf, EndBlock, EndCall}
 use Rattle.rb_meaning.specs.Groups.{channel_number, channels_of}
 use Rattle.rb_meaning.specs.Step.{wants, wants_first, wants_receipt}
-use Rattle.rb_meaning.specs.Nesting.{Receives, Sends, Use, is_end, keeps_n1, keeps_n2, keeps_n4, keeps_n9, uses_in_otherwise}
+use Rattle.rb_meaning.specs.Nesting.{Receives, Sends, Use, is_end, keeps_n1, keeps_n2, keeps_n4, keeps_n5, keeps_n9, uses_in_otherwise}
 use Rattle.rb_meaning.proofs.Clear.{AreClear, AreKept, IsClear, keeps_rules, kept_first, spot_before}
 
 -- the rule on ends, of one use
 rule_of_ends : (tree : Tree) (one : Use) → AreKept tree (one ∷ []) → keeps_n9 tree one ≡ true
 rule_of_ends tree one kept =
     let all : keeps_rules tree one ≡ true = first_holds (keeps_rules tree one) true kept in
-    second_holds (keeps_n4 tree one) (keeps_n9 tree one)
-    (second_holds (keeps_n2 tree one) (keeps_n4 tree one && keeps_n9 tree one)
-    (second_holds (keeps_n1 tree one) (keeps_n2 tree one && (keeps_n4 tree one && keeps_n9 tree one)) all))
+    second_holds (keeps_n5 tree one) (keeps_n9 tree one)
+    (second_holds (keeps_n4 tree one) (keeps_n5 tree one && keeps_n9 tree one)
+    (second_holds (keeps_n2 tree one) (keeps_n4 tree one && (keeps_n5 tree one && keeps_n9 tree one))
+    (second_holds (keeps_n1 tree one) (keeps_n2 tree one && (keeps_n4 tree one && (keeps_n5 tree one && keeps_n9 tree one))) all)))
 
 sender_is : (p : ℕ) (ends : Ends) (o : Option Ends) → o ≡ Some ends → is_end Sends p o ≡ true → ends.sender ≡ p
 sender_is p ends o e rule = eqb-true ends.sender p (subst (λ (x : Option Ends). is_end Sends p x ≡ true) e rule)

@@ -3,9 +3,9 @@
 use Rattle.std.proofs.Common.{◌≡◌, ℕ, ℤ, ◌+◌, suc, true, List, [], ◌∷◌, ◌++◌, map, take, slice_get, Option, Some, None, refl, sym, ap, ◌∙◌, subst, true≢false, add-one}
 use Rattle.rb_syntax.specs.Tree.{Tree}
 use Rattle.rb_world.specs.Kind.{Facts, Went, Held}
-use Rattle.rb_world.specs.World.{Level, change_at, Status, Running, Process, goes_on, last_of, settled, without_last}
+use Rattle.rb_world.specs.World.{Level, change_at, Status, Running, Process, goes_on, last_of, settled, without_last, copy_of}
 use Rattle.rb_world.specs.Reject.{back_to, next_alternate}
-use Rattle.rb_world.specs.Turn.{copy_of, one_used, is_last_of, new_level, state_freed}
+use Rattle.rb_world.specs.Turn.{one_used, is_last_of, new_level, state_freed}
 use Rattle.rb_world.specs.Standing.{is_failed}
 use Rattle.rb_world.proofs.EachProcess.{KeepsEach}
 use Rattle.rb_world.proofs.ImageRuns.{more-map}

@@ -25,3 +25,4 @@ pub mod FewInTrees
 pub mod OrderedTrees
 pub mod InsideTrees
 pub mod TogetherInTrees
+pub mod PresentInTrees

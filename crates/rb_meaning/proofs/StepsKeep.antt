@@ -4,6 +4,7 @@
 use Rattle.std.proofs.Common.{◌≡◌, ℕ, ℤ, zero, suc, Bool, true, false, cond, List, [], ◌∷◌, ◌++◌, length, Option, Some, None, Result, Ok, Err, refl, sym, ap, ◌∙◌, subst}
 use Rattle.rb_base.specs.declared.event.Cause.{Cause}
 use Rattle.rb_base.specs.declared.event.Cause.TheVariants.{Test}
+use Rattle.rb_base.specs.declared.edition.Edition.{Edition}
 use Rattle.rb_syntax.specs.Tree.{Expression, Reference, Command, Assignment, Printing, Sending, Receiving, Conditional, Loop, Invocation, Failure, Recovering, Body, Scope, Otherwise, NoElse, Else, RecoveryBlock, Recovers, Alternates, NoAlternate, Alternate, ProcedureDeclaration, Tree}
 use Rattle.rb_world.specs.Kind.{Trapped, Went, Held}
 use Rattle.rb_world.proofs.ListFacts.{length-change_at, none_some, some_same}
@@ -75,7 +76,7 @@ block_kept : (tree : Tree) (p : ℕ) (rest : List Item) (n : ℕ) (block : Recov
     → alternate_number n (alternates_in block) ≡ Some body → AreKept tree (uses_in_body (spot_before p (TestOf block ∷ rest)) body)
 block_kept tree p rest n (Recovers number conversation place test bound alternates) body kept e =
     alternate_kept tree (inside conversation (spot_before p rest)) n alternates body
-    (kept_second tree (joined conversation (spot_before p rest)) (uses_in_alternates (inside conversation (spot_before p rest)) alternates) kept) e
+    (kept_second tree (joined conversation alternates (spot_before p rest)) (uses_in_alternates (inside conversation (spot_before p rest)) alternates) kept) e
 
 commands_kept : (tree : Tree) (spot : Spot) (body : Body) → AreKept tree (uses_in_body spot body) → AreKept tree (uses_in spot (commands_of body))
 commands_kept tree spot (Scope variables commands) kept = kept
@@ -111,7 +112,7 @@ module _ (tree : Tree) (p : ℕ) where
       then_ends (Continues tree p (blocks_left rest) s) (place_in s.environment to) _ (λ place.
       record { process = refl; clear = clear; blocks_are = refl; sent = refl; taken = length-change_at channel _ s.taken })
 
-  pushes_ends : (edition : ℕ) (body : Body) (rest : List Item) (s : State) → AreKept tree (uses_in_body (spot_before p rest) body) → AreClear tree p rest
+  pushes_ends : (edition : Edition) (body : Body) (rest : List Item) (s : State) → AreKept tree (uses_in_body (spot_before p rest) body) → AreClear tree p rest
       → EndsIn (Continues tree p (blocks_left rest) s) (pushes edition body rest s)
   pushes_ends edition (Scope variables commands) rest s kept clear =
       either_ends (Continues tree p (blocks_left rest) s) _ (Err _)
@@ -124,7 +125,7 @@ module _ (tree : Tree) (p : ℕ) where
         taken = refl;
       })
 
-  pushes_else_ends : (edition : ℕ) (otherwise : Otherwise) (rest : List Item) (s : State) → AreKept tree (uses_in_otherwise (spot_before p rest) otherwise)
+  pushes_else_ends : (edition : Edition) (otherwise : Otherwise) (rest : List Item) (s : State) → AreKept tree (uses_in_otherwise (spot_before p rest) otherwise)
       → AreClear tree p rest → EndsIn (Continues tree p (blocks_left rest) s) (pushes_else edition otherwise rest s)
   pushes_else_ends edition NoElse rest s kept clear = goes_on rest s clear
   pushes_else_ends edition (Else body) rest s kept clear = pushes_ends edition body rest s kept clear

@@ -3,6 +3,7 @@
 use Rattle.std.proofs.Common.{◌≡◌, ℕ, ℤ, Bool, true, false, cond, List, [], ◌∷◌, ◌++◌, Option, Some, None, Ok, Err, refl}
 use Rattle.rb_base.specs.declared.event.Cause.{Cause}
 use Rattle.rb_base.specs.declared.event.Cause.TheVariants.{Test}
+use Rattle.rb_base.specs.declared.edition.Edition.{Edition}
 use Rattle.rb_syntax.specs.Tree.{Reference, PrintItem, Command, Assignment, Printing, Sending, Receiving, Conditional, Loop, Invocation, Failure, Recovering, Body, Scope, Otherwise, NoElse, Else, RecoveryBlock, ProcedureDeclaration, Tree}
 use Rattle.rb_world.specs.Kind.{Trapped, Held, Want, Acts}
 use Rattle.rb_world.proofs.Erasing.Erasable.{receives_on, sends_by, takes_by}
@@ -39,17 +40,17 @@ receipt_on channel NoElse = refl
 receipt_on channel (Else body) = refl
 
 module _ (want : Want) (message : Option ℤ) (quiet : IsQuiet want message) where
-  pushes_post : (edition : ℕ) (body : Body) (rest : List Item) (s : State) → EndsIn (Posts want message s) (pushes edition body rest s)
+  pushes_post : (edition : Edition) (body : Body) (rest : List Item) (s : State) → EndsIn (Posts want message s) (pushes edition body rest s)
   pushes_post edition (Scope variables commands) rest s =
       either_ends (Posts want message s) _ (Err _)
       (Ok (with_environment (push_frame (frame_of variables) s.environment) (continue_with (performed commands (EndBlock ∷ rest)) s))) tt
       (Quiet refl refl refl quiet.sends quiet.takes)
 
-  pushes_else_post : (edition : ℕ) (otherwise : Otherwise) (rest : List Item) (s : State) → EndsIn (Posts want message s) (pushes_else edition otherwise rest s)
+  pushes_else_post : (edition : Edition) (otherwise : Otherwise) (rest : List Item) (s : State) → EndsIn (Posts want message s) (pushes_else edition otherwise rest s)
   pushes_else_post edition NoElse rest s = Quiet refl refl refl quiet.sends quiet.takes
   pushes_else_post edition (Else body) rest s = pushes_post edition body rest s
 
-  calls_post : (edition : ℕ) (called : Option ProcedureDeclaration) (rest : List Item) (s : State) (values : List ℤ)
+  calls_post : (edition : Edition) (called : Option ProcedureDeclaration) (rest : List Item) (s : State) (values : List ℤ)
       → EndsIn (Posts want message s) (calls_with edition called rest s values)
   calls_post edition None rest s values = Quiet refl refl refl quiet.sends quiet.takes
   calls_post edition (Some procedure) rest s values =
@@ -58,7 +59,7 @@ module _ (want : Want) (message : Option ℤ) (quiet : IsQuiet want message) whe
       either_ends (Posts want message s) _ (Err _) (within_words edition env called) tt
       (either_ends (Posts want message s) _ (Err _) (Ok (with_environment env called)) tt (Quiet refl refl refl quiet.sends quiet.takes))
 
-  starts_post : (edition : ℕ) (block : RecoveryBlock) (rest : List Item) (s : State) (chosen : Option Body)
+  starts_post : (edition : Edition) (block : RecoveryBlock) (rest : List Item) (s : State) (chosen : Option Body)
       → EndsIn (Posts want message s) (starts_body edition block rest s chosen)
   starts_post edition block rest s None = tt
   starts_post edition block rest s (Some body) = pushes_post edition body (TestOf block ∷ rest) s

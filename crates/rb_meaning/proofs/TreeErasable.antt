@@ -3,8 +3,7 @@
 use Rattle.std.proofs.Common.{◌≡◌, ℕ, zero, suc, ℤ, pos, List, [], ◌∷◌, length, map, slice_get, unwrap_or, Option, refl, sym, ap, subst}
 use Rattle.rb_syntax.specs.Tree.{Tree}
 use Rattle.rb_world.specs.Kind.{Went, Held}
-use Rattle.rb_world.specs.World.{last_of}
-use Rattle.rb_world.specs.Turn.{copy_of}
+use Rattle.rb_world.specs.World.{last_of, copy_of}
 use Rattle.rb_world.proofs.Erasing.Erasable.{IsErasable, LeavesAlone, SameMail}
 use Rattle.rb_meaning.specs.Environment.{Environment}
 use Rattle.rb_meaning.specs.State.{State, settle, with_held}

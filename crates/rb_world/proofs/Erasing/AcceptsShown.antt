@@ -3,9 +3,9 @@
 use Rattle.std.proofs.Common.{◌≡◌, ◌⊎◌, ◌≤◌, ◌<◌, ℕ, ℤ, Bool, true, false, nat_lt, List, [], ◌∷◌, length, slice_get, Option, Some, None, refl, sym, ap, ◌∙◌, subst, inl, inr, ltb-true, ltb-false, le_of_eq, lt_of_lt_of_le, not-suc-le-zero}
 use Rattle.std.specs.Option.{option_map}
 use Rattle.rb_world.specs.Kind.{Held}
-use Rattle.rb_world.specs.World.{Level, Running, Process, World, change_at, last_of, settled, with_process, without_last}
+use Rattle.rb_world.specs.World.{Level, Running, Process, World, change_at, last_of, settled, with_process, without_last, copy_of}
 use Rattle.rb_world.specs.Nested.{IsLevelOf}
-use Rattle.rb_world.specs.Turn.{Told, accepted, accepted_at, copy_of, took}
+use Rattle.rb_world.specs.Turn.{Told, accepted, accepted_at, took}
 use Rattle.rb_world.proofs.TurnFacts.{StepsAt}
 use Rattle.rb_world.proofs.ListFacts.{none_some, some_same}
 use Rattle.rb_world.proofs.StandingFacts.{status_at-whole}

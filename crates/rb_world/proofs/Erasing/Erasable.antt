@@ -4,10 +4,10 @@ use Rattle.std.specs.Prelude.{◌≡◌, ◌<◌, ◌≤◌, ◌+◌, ℕ, ℤ, 
 use Rattle.std.specs.Option.{option_map}
 use Rattle.std.specs.List.{list_any}
 use Rattle.rb_world.specs.Kind.{Ends, Facts, Kind, Membership, Want, NothingLeft, SendsOn, ReceivesOn, MayReceiveOn, Enters, Starts, Acts, Stepped, Went, Held}
-use Rattle.rb_world.specs.World.{Level, Running, Process, World, last_of}
+use Rattle.rb_world.specs.World.{Level, Running, Process, World, last_of, copy_of}
 use Rattle.rb_world.specs.Reject.{parent_of}
 use Rattle.rb_world.specs.Nested.{IsLevelOf, AreNested}
-use Rattle.rb_world.specs.Turn.{copy_of, members_of}
+use Rattle.rb_world.specs.Turn.{members_of}
 use Rattle.rb_world.specs.Plain.{alternates_of}
 use Rattle.rb_world.proofs.TurnFacts.{StepsAt}
 
@@ -42,7 +42,7 @@ whole x = record {
   channels = x.channels;
   groups = x.groups;
   want = x.want;
-  settle = x.settle;
+  settle = λ copy s. x.settle s;
   enter = x.enter;
   copy = λ s. s;
   restore = λ s copy. copy;
@@ -66,7 +66,7 @@ plain x = record {
   channels = x.channels;
   groups = x.groups;
   want = x.want;
-  settle = x.settle;
+  settle = λ point s. x.settle s;
   enter = x.enter;
   copy = x.point;
   restore = λ s point. s;

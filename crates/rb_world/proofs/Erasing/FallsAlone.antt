@@ -34,7 +34,7 @@ module _ {S E P : Type 0} (x : Parts S E P) (Known : ℕ → Process S S → Typ
       spent_falls : IsSpentOut q → MayFall q
       spent_falls (NoLevel bare) = Bare bare (away bare)
       spent_falls (OneSpent level one put) = Spent level one put (private none level one)
-  may_fall p left q w cause ground there away private (Barred facts c talk line wants of_c at broken is) =
+  may_fall p left q w cause ground there away private (Barred facts c talk line wants of_c at broken none is) =
       let bare : q.levels ≡ [] = laws.outermost p q facts c (ground.ground.each p q there).known line wants of_c (ground.ground.talks c talk at broken) in
       Bare bare (away bare)
 

@@ -7,8 +7,8 @@
 use Rattle.std.proofs.Common.{◌≡◌, ◌⊎◌, ◌≤◌, ◌<◌, ℕ, ℤ, false, List, [], ◌∷◌, ◌++◌, length, get_or, option_map, slice_get, Option, Some, None, refl, sym, ap, ◌∙◌, subst, inl, inr, true≢false}
 use Rattle.std.proofs.lemmas.Option.{slice_get_cases, slice_get_within}
 use Rattle.rb_world.specs.Kind.{Went}
-use Rattle.rb_world.specs.World.{Level, Status, Running, Process, World, change_at, last_of, settled}
-use Rattle.rb_world.specs.Turn.{Told, copy_of, moved_to, took}
+use Rattle.rb_world.specs.World.{Level, Status, Running, Process, World, change_at, last_of, settled, copy_of}
+use Rattle.rb_world.specs.Turn.{Told, moved_to, took}
 use Rattle.rb_world.specs.Standing.{Each, is_failed}
 use Rattle.rb_world.proofs.StandingFacts.{status_at-whole}
 use Rattle.rb_world.proofs.TurnFacts.{StepsAt}

@@ -147,6 +147,6 @@ module _ {S E P : Type 0} {x : Parts S E P} {Known : ℕ → Process S S → Typ
       → MustFall (whole x) q w left cause → x.held q.state ≡ []
   falls_empty p left cause q w h runs (NoLevelLeft none) =
       spent_empty p q (h.ground.each p q runs.there) (h.ground.quiet p q runs.there) (h.spent q runs.there none)
-  falls_empty p left cause q w h runs (Barred facts c talk line wants of_c at broken _) =
+  falls_empty p left cause q w h runs (Barred facts c talk line wants of_c at broken _ _) =
       h.ground.quiet p q runs.there
       (laws.outermost p q facts c (h.ground.each p q runs.there).known line wants of_c (h.ground.talks c talk at broken))

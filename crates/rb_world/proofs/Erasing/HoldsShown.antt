@@ -2,8 +2,8 @@
 use Rattle.std.proofs.Common.{◌≡◌, ℕ, ℤ, Bool, true, false, true≢false, cond, nat_eq, List, ◌∷◌, ◌++◌, [], Option, Some, None, refl, sym, ap, ◌∙◌, subst}
 use Rattle.std.specs.Option.{option_map}
 use Rattle.rb_world.specs.Kind.{Kind, Want, NothingLeft, SendsOn, ReceivesOn, MayReceiveOn, Enters, Starts, Acts, Held}
-use Rattle.rb_world.specs.World.{Level, Running, Process, World, last_of}
-use Rattle.rb_world.specs.Turn.{accepted, copy_of}
+use Rattle.rb_world.specs.World.{Level, Running, Process, World, last_of, copy_of}
+use Rattle.rb_world.specs.Turn.{accepted}
 use Rattle.rb_world.specs.Plain.{Kept, plain_acts, plain_moves, plain_runs, plain_stepped, plain_steps, when}
 use Rattle.rb_world.proofs.TurnFacts.{IsReady, ToSend, ToReceive, ToReceiveIfThere, ToStart, ToAct, StepsAt, alternate_for}
 use Rattle.rb_world.proofs.Erasing.Erasable.{Nothing, Parts, whole, plain, IsErasable, LeavesAlone, SameMail}

@@ -5,9 +5,9 @@ use Rattle.std.specs.Option.{option_map}
 use Rattle.std.proofs.lemmas.Option.{slice_get_within}
 use Rattle.rb_base.specs.declared.event.Event.TheVariants.{Pass}
 use Rattle.rb_world.specs.Kind.{Held}
-use Rattle.rb_world.specs.World.{Level, Process, World, is_number, last_of, talk_at, with_process, without_last}
+use Rattle.rb_world.specs.World.{Level, Process, World, is_number, last_of, talk_at, with_process, without_last, copy_of}
 use Rattle.rb_world.specs.Standing.{Each}
-use Rattle.rb_world.specs.Turn.{Told, all_leave, all_stand, alternate_of, copy_of, is_last_of, leaves, passed, stands_at}
+use Rattle.rb_world.specs.Turn.{Told, all_leave, all_stand, alternate_of, is_last_of, leaves, passed, stands_at}
 use Rattle.rb_world.specs.Plain.{plain_moves}
 use Rattle.rb_world.proofs.TurnFacts.{StepsAt}
 use Rattle.rb_world.proofs.ListFacts.{Each-change_at, slice_get-change_at}

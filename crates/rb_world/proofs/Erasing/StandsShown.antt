@@ -4,9 +4,9 @@ use Rattle.std.proofs.Common.{◌≡◌, ◌≤◌, ℕ, ℤ, Bool, true, false,
 use Rattle.std.specs.Option.{option_map}
 use Rattle.rb_base.specs.declared.event.Event.TheVariants.{Pass}
 use Rattle.rb_world.specs.Kind.{Held}
-use Rattle.rb_world.specs.World.{Level, Process, World, change_at, last_of, talk_at, with_process}
+use Rattle.rb_world.specs.World.{Level, Process, World, change_at, last_of, talk_at, with_process, copy_of}
 use Rattle.rb_world.specs.Nested.{IsLevelOf}
-use Rattle.rb_world.specs.Turn.{Told, accepted, accepted_at, all_leave, all_stand, alternate_of, at_test_line, copy_of, passed, stands_now, took}
+use Rattle.rb_world.specs.Turn.{Told, accepted, accepted_at, all_leave, all_stand, alternate_of, at_test_line, passed, stands_now, took}
 use Rattle.rb_world.proofs.TurnFacts.{StepsAt}
 use Rattle.rb_world.proofs.ListFacts.{none_some, some_same}
 use Rattle.rb_world.proofs.Invariant.{BothWithin, Stands}

@@ -11,9 +11,9 @@
 use Rattle.std.proofs.Common.{◌≡◌, ◌≤◌, ℕ, ℤ, Bool, true, false, cond, ◌&&◌, List, option_map, slice_get, Option, Some, None, refl, sym, ap, ◌∙◌, nat_lt, nat_le, eq-eqb, lt-ltb, le-leb}
 use Rattle.std.proofs.lemmas.Bool.{and_from}
 use Rattle.rb_world.specs.Kind.{Ends, Want, SendsOn, ReceivesOn, MayReceiveOn, Starts, Acts, Stepped, Went, Held}
-use Rattle.rb_world.specs.World.{Level, Process, World, last_of}
+use Rattle.rb_world.specs.World.{Level, Process, World, last_of, copy_of}
 use Rattle.rb_world.specs.Channels.{has_room, message_there}
-use Rattle.rb_world.specs.Turn.{Moved, accepted, copy_of, moved_to, took}
+use Rattle.rb_world.specs.Turn.{Moved, accepted, moved_to, took}
 use Rattle.rb_world.specs.Plain.{Kept, alternates_of, has_alternate, no_alternate, plain_acts, plain_moves, plain_receives, plain_runs, plain_stepped, plain_steps, when}
 use Rattle.rb_world.proofs.LastLevels.{last_of-map}
 use Rattle.rb_world.proofs.TurnFacts.{IsReady, ToSend, ToReceive, ToReceiveIfThere, ToStart, ToAct, StepsAt, alternate_for}
