@@ -6,7 +6,7 @@ use Rattle.std.proofs.lemmas.Bool.{eqb-true, eqb-false}
 use Rattle.rb_world.specs.Kind.{Want, SendsOn}
 use Rattle.rb_world.specs.World.{change_at}
 use Rattle.rb_world.proofs.Erasing.Erasable.{receives_on, sends_by, takes_by}
-use Rattle.rb_world.proofs.ListFacts.{none_some, slice_get-change_at}
+use Rattle.rb_world.proofs.ListFacts.{none_some, slice_get-change_at, slice_get-change_other}
 use Rattle.rb_meaning.specs.State.{State}
 
 -- what a step that goes on does to mail, by what stood first and the message that it was given
@@ -18,14 +18,6 @@ pub data Posts (want : Want) (message : Option ℤ) (s t : State) : Type 0 where
 -- the list of a channel, in the lists of all channels
 abbrev pub list_on : List (List ℤ) → ℕ → List ℤ
 list_on xs c = unwrap_or (slice_get xs c) []
-
--- Lists with one element changed: elsewhere nothing changes.
-slice_get-elsewhere : {A : Type 0} (d c : ℕ) (f : A → A) (xs : List A) → (d ≡ c → ⊥) → slice_get (change_at d f xs) c ≡ slice_get xs c
-slice_get-elsewhere d c f [] apart = refl
-slice_get-elsewhere zero zero f (x ∷ xs) apart = absurd (apart refl)
-slice_get-elsewhere zero (suc c) f (x ∷ xs) apart = refl
-slice_get-elsewhere (suc d) zero f (x ∷ xs) apart = refl
-slice_get-elsewhere (suc d) (suc c) f (x ∷ xs) apart = slice_get-elsewhere d c f xs (λ e. apart (ap suc e))
 
 -- what a list has at a number at which another list of its length has something
 pub also_there : {A B : Type 0} (ys : List A) (xs : List B) (c : ℕ) (a : A) → length xs ≡ length ys → slice_get ys c ≡ Some a
@@ -43,12 +35,6 @@ front_of_sent zero (suc c) v (x ∷ xs) = ([], sym (append-nil (list_on xs c)))
 front_of_sent (suc d) zero v (x ∷ xs) = ([], sym (append-nil x))
 front_of_sent (suc d) (suc c) v (x ∷ xs) = front_of_sent d c v xs
 
--- what the front of a list has, the list has
-pub slice_get-front : {A : Type 0} (xs rest : List A) (n : ℕ) → n < length xs → slice_get (xs ++ rest) n ≡ slice_get xs n
-slice_get-front [] rest n below = absurd (omega arith)
-slice_get-front (x ∷ xs) rest zero below = refl
-slice_get-front (x ∷ xs) rest (suc n) below = slice_get-front xs rest n (omega arith)
-
 -- how many values each list has
 pub sent_here : (same : Bool) (d c : ℕ) (v : ℤ) (xs : List (List ℤ)) (x : List ℤ) → nat_eq d c ≡ same → slice_get xs c ≡ Some x
     → length (list_on (change_at d (λ values. values ++ v ∷ []) xs) c) ≡ length (list_on xs c) + cond same 1 0
@@ -59,7 +45,7 @@ sent_here true d c v xs x e at =
     ∙ length-append x (v ∷ [])
     ∙ ap (λ o. length (unwrap_or o []) + 1) (sym at)
 sent_here false d c v xs x e at =
-    ap (λ o. length (unwrap_or o [])) (slice_get-elsewhere d c (λ values. values ++ v ∷ []) xs (eqb-false d c e))
+    ap (λ o. length (unwrap_or o [])) (slice_get-change_other d (λ values. values ++ v ∷ []) xs c (λ same. eqb-false d c e (sym same)))
     ∙ sym (add-zero (length (list_on xs c)))
 
 -- how many values were taken from each channel
@@ -71,5 +57,5 @@ taken_here true d c xs x e at =
     ∙ ap (λ o. unwrap_or (option_map (λ n. n + 1) o) 0) at
     ∙ ap (λ o. unwrap_or o 0 + 1) (sym at)
 taken_here false d c xs x e at =
-    ap (λ o. unwrap_or o 0) (slice_get-elsewhere d c (λ n. n + 1) xs (eqb-false d c e))
+    ap (λ o. unwrap_or o 0) (slice_get-change_other d (λ n. n + 1) xs c (λ same. eqb-false d c e (sym same)))
     ∙ sym (add-zero (unwrap_or (slice_get xs c) 0))

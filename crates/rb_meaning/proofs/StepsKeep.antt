@@ -38,6 +38,11 @@ pub either_ends : (P : State → Type 0) (test : Bool) (r r' : Result State Caus
 either_ends P true r r' h h' = h
 either_ends P false r r' h h' = h'
 
+-- a test ends in what it comes to when it holds, or in a trap
+pub judged_either : (P Q : State → Type 0) (test : Bool) (cause : Cause) (s : State) → Q s → StepsTo P Q (cond test (Trapped cause) (Held s))
+judged_either P Q true cause s h = tt
+judged_either P Q false cause s h = h
+
 -- a step that holds no test
 pub step_ends : (P Q : State → Type 0) (r : Result State Cause) → EndsIn P r → StepsTo P Q (goes r)
 step_ends P Q (Ok s) h = h
@@ -206,10 +211,6 @@ module _ (tree : Tree) (p : ℕ) where
     sent = refl;
     taken = refl;
   }
-
-  judged_either : (P Q : State → Type 0) (test : Bool) (cause : Cause) (s : State) → Q s → StepsTo P Q (cond test (Trapped cause) (Held s))
-  judged_either P Q true cause s h = tt
-  judged_either P Q false cause s h = h
 
   judged_ends : (block : RecoveryBlock) (rest : List Item) (s : State) (outcome : Outcome) → s.items ≡ TestOf block ∷ rest → AreClear tree p rest
       → StepsTo (Continues tree p (block ∷ blocks_left rest) s) (Passes tree p s) (judged rest s outcome)

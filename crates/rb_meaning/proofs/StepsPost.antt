@@ -12,7 +12,7 @@ use Rattle.rb_meaning.specs.Value.{Outcome, is_zero, value}
 use Rattle.rb_meaning.specs.State.{Item, Perform, StartOf, TestOf, EndBlock, EndCall, State, performed, continue_with, with_environment, with_held}
 use Rattle.rb_meaning.specs.Groups.{channel_number, procedure_named}
 use Rattle.rb_meaning.specs.Step.{bound_to, variables_of, commands_of, present_value, place_in, line_from, values_in, prints, within_words, pushes, pushes_else, calls_with, receives, performs, starts_body, alternate_number, alternates_in, judged, former, test_in, step_items, wants, wants_first, wants_receipt}
-use Rattle.rb_meaning.proofs.StepsKeep.{EndsIn, StepsTo, either_ends, step_ends, then_ends}
+use Rattle.rb_meaning.proofs.StepsKeep.{EndsIn, StepsTo, either_ends, step_ends, then_ends, judged_either}
 use Rattle.rb_meaning.proofs.Mail.{Posts, Quiet, Posted, Collected}
 
 -- after a test that held: it stood first, and mail, held lines and kept turns are the same
@@ -104,10 +104,6 @@ performs_post tree message s rest (Invocation procedure arguments) =
     calls_post Acts message (acts_quietly message) tree.edition (procedure_named tree s.process procedure.text) rest s values)
 performs_post tree message s rest Failure = tt
 performs_post tree message s rest (Recovering block) = Quiet refl refl refl (λ c. refl) (λ c. refl)
-
-judged_either : (P Q : State → Type 0) (test : Bool) (cause : Cause) (s : State) → Q s → StepsTo P Q (cond test (Trapped cause) (Held s))
-judged_either P Q true cause s h = tt
-judged_either P Q false cause s h = h
 
 judged_post : (message : Option ℤ) (rest : List Item) (s : State) (outcome : Outcome) → StepsTo (Posts Acts message s) (IsPassed Acts s) (judged rest s outcome)
 judged_post message rest s (Err cause) = tt

@@ -13,7 +13,7 @@ use Rattle.rb_world.proofs.Erasing.Erasable.{Nothing, Parts, whole}
 use Rattle.rb_world.proofs.Erasing.Cuts.{plain_levels, shown_at, shown, ShowsOne, Alive, Lost, IsConsistent}
 use Rattle.rb_world.proofs.Erasing.ErasureInvariant.{ShowsCut, AllShown}
 use Rattle.rb_world.proofs.Erasing.CutsElsewhere.{IsChanged, changed_there, shows_changed}
-use Rattle.rb_world.proofs.ListFacts.{none_some}
+use Rattle.rb_world.proofs.ListFacts.{none_some, nothing_within}
 
 -- a number in a cut, and no further in than a place
 abbrev pub no_further_than : Option ℕ → ℕ → ℕ
@@ -47,11 +47,6 @@ take_take zero m xs few = refl
 take_take (suc n) zero xs few = absurd (omega (arith, few))
 take_take (suc n) (suc m) [] few = refl
 take_take {A} (suc n) (suc m) (x ∷ xs) few = ap (λ (ys : List A). x ∷ ys) (take_take n m xs (omega (arith, few)))
-
-nothing_within : {A : Type 0} (xs : List A) (n : ℕ) → n < length xs → slice_get xs n ≡ None → ⊥
-nothing_within [] n few e = omega (arith, few)
-nothing_within (x ∷ xs) zero few e = none_some (sym e)
-nothing_within (x ∷ xs) (suc n) few e = nothing_within xs n (omega (arith, few)) e
 
 module _ {S E P : Type 0} (x : Parts S E P) where
   -- shown at a level that stays

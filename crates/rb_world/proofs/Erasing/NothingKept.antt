@@ -14,6 +14,7 @@ use Rattle.rb_world.proofs.Erasing.CutsAlike.{unmarked_level, unmarked, all_show
 use Rattle.rb_world.proofs.Erasing.CutsGoBack.{back_at, all_shown_back}
 use Rattle.rb_world.proofs.Erasing.CutsPlaces.{alone_at, line_of, alone_changed, alone_line, together_changed, together_line}
 use Rattle.rb_world.proofs.ListFacts.{none_some, some_same, Each-change_at, Each-map}
+use Rattle.rb_world.proofs.Erasing.GroundedWorlds.{back-quiet}
 
 -- a turn that a level used is not seen
 used_alike : {C : Type 0} (levels : List (Level C)) → map unmarked_level (map one_used levels) ≡ map unmarked_level levels
@@ -42,11 +43,6 @@ only_alike : {S C : Type 0} (p : ℕ) (f : Process S C → Process S C) (r : ℕ
 only_alike p f r q true e same = same (eqb-true r p e)
 only_alike p f r q false e same = refl
 
--- a level that is there is not lost
-still_there : {A : Type 0} (xs : List A) (j : ℕ) (x : A) → slice_get xs j ≡ Some x → take (suc j) xs ≡ [] → ⊥
-still_there [] j x there e = none_some there
-still_there (y ∷ xs) j x there e = cc
-
 -- nothing comes of a change of no element
 pub change_none : {A : Type 0} (j : ℕ) (f : A → A) (xs : List A) → change_at j f xs ≡ [] → xs ≡ []
 change_none j f [] e = refl
@@ -55,13 +51,6 @@ change_none (suc j) f (x ∷ xs) e = absurd cc
 
 -- who has no level holds no line still
 module _ {S E P : Type 0} (x : Parts S E P) where
-  back_to_quiet : (r j : ℕ) (q : Process S S) (found : Option (Level S)) → slice_get q.levels j ≡ found → IsQuiet x r q → IsQuiet x r (back_to (whole x) j q found)
-  back_to_quiet r j q None e quiet = quiet
-  back_to_quiet r j q (Some level) e quiet = λ none. absurd (still_there q.levels j level e (subst (λ (n : ℕ). take n q.levels ≡ []) (add-one j) none))
-
-  pub put_back_quiet : (r j : ℕ) (q : Process S S) → IsQuiet x r q → IsQuiet x r (put_back (whole x) j q)
-  put_back_quiet r j q quiet = back_to_quiet r j q (slice_get q.levels j) refl quiet
-
   pub raised_quiet : (r j : ℕ) (q : Process S S) → IsQuiet x r q → IsQuiet x r (raised j q)
   raised_quiet r j q quiet none = quiet (change_none j next_alternate q.levels none)
 
@@ -130,7 +119,7 @@ module _ {S E P : Type 0} (x : Parts S E P) (Known : ℕ → Process S S → Typ
         h.1.0,
         stays_shown t past (with_process p (raised j) v)
             (one_quiet x (raised j) p v.processes (λ q'. raised_quiet x p j q')
-            (one_quiet x (put_back (whole x) j) p w.processes (λ q'. put_back_quiet x p j q') h.0.ground.quiet))
+            (one_quiet x (put_back (whole x) j) p w.processes (λ q'. back-quiet x p j q') h.0.ground.quiet))
             (all_shown_alike x start t past v (with_process p (raised j) v) (only_at p (raised j)) (is_changed_at p (raised j) v.processes)
             (λ r q' at. only_alike p (raised j) r q' (nat_eq r p) refl (λ same. raised_alike j q'))
             (alone_back t past p q w j level h.0.ground rejects private h.1.1)),
@@ -142,7 +131,7 @@ module _ {S E P : Type 0} (x : Parts S E P) (Known : ℕ → Process S S → Typ
         h.1.0,
         stays_shown t past (all_next (whole x) c w)
             (inside_quiet x raised c v.processes (λ r i q'. raised_quiet x r i q')
-            (inside_quiet x (put_back (whole x)) c w.processes (λ r i q'. put_back_quiet x r i q') h.0.ground.quiet))
+            (inside_quiet x (put_back (whole x)) c w.processes (λ r i q'. back-quiet x r i q') h.0.ground.quiet))
             (all_shown_alike x start t past v (all_next (whole x) c w) (λ r. where_inside raised c) (is_changed_each (where_inside raised c) v.processes)
             (λ r q' at. raised_at_alike (position (is_of c) q'.levels) q')
             (together_back t past c w v (together_changed x c w.processes) h.0.ground h.1.1)),
