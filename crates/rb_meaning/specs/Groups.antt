@@ -127,9 +127,10 @@ abbrev pub conversation_of : Tree → Option Identifier → Option ℕ
 conversation_of tree None = None
 conversation_of tree (Some name) = Some (conversation_number tree name.text)
 
--- a recovery block's line, conversation, turn bound and number of alternates
+-- a recovery block's number in the program, its line, conversation, turn bound and number of alternates
 abbrev pub facts_of : Tree → RecoveryBlock → Facts
 facts_of tree (Recovers number conversation place test bound alternates) = record {
+  number = number;
   line = place.line;
   conversation = conversation_of tree conversation;
   bound = natural bound.value;

@@ -5,6 +5,7 @@ use Rattle.std.specs.List.{position}
 use Rattle.rb_base.specs.declared.event.Cause.{Cause}
 use Rattle.rb_base.specs.declared.event.Cause.TheVariants.{Test, Fail, Stack, Overrun}
 use Rattle.rb_base.specs.declared.event.TurnKind.TheVariants.{Took}
+use Rattle.rb_base.specs.Limits.{most_words}
 use Rattle.rb_syntax.specs.Tree.{Declaration, Commands, NoCommand, Then, Body, Scope, Alternates, NoAlternate, Alternate, RecoveryBlock, Recovers, ProcessDeclaration, Tree}
 use Rattle.rb_world.specs.Kind.{Stepped, Trapped, Held}
 use Rattle.rb_world.specs.World.{Running, Level, Process}
@@ -12,7 +13,7 @@ use Rattle.rb_world.specs.Turn.{Told, turn, finishes, took, bounded, stepped, ac
 use Rattle.rb_meaning.specs.Environment.{Environment, Frame, words}
 use Rattle.rb_meaning.specs.Value.{Outcome, is_zero, value}
 use Rattle.rb_meaning.specs.State.{Item, TestOf, EndBlock, State, performed}
-use Rattle.rb_meaning.specs.Step.{most_words, goes, judged as judged_step, starts_body, wants_first, alternate_number, alternates_in, test_in}
+use Rattle.rb_meaning.specs.Step.{goes, judged as judged_step, starts_body, wants_first, alternate_number, alternates_in, test_in}
 use Rattle.rb_meaning.specs.Meaning.{TreeWorld, tree_kind, naming_of}
 use Rattle.rb_run.specs.Runnable.{names_in, are_simple, is_simple_body, are_simple_alternates, are_runnable_alternates, is_private, is_bound, is_known_expression, is_runnable_block}
 use Rattle.rb_run.specs.Alone.{Change, Trial, Stage, AtStart, Within, Goes, Tries, bound_in, counted, quietly, started, performed_in, passed_unless, judged, staged, within_bound, tried, effect}

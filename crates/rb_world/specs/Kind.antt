@@ -15,9 +15,10 @@ pub record Membership : Type 0 where
   pub members : List ℕ
   pub parent : Option ℕ
 
--- what is known of a recovery block at its entry: the line of its word `ensure`, its conversation if it has one, its turn
--- bound, and the number of its alternates
+-- what is known of a recovery block at its entry: its number, by which two that are alike in all else are told apart; the
+-- line of its word `ensure`; its conversation if it has one; its turn bound; and how many alternates it has
 pub record Facts : Type 0 where
+  pub number : ℕ
   pub line : ℕ
   pub conversation : Option ℕ
   pub bound : ℕ
@@ -46,8 +47,9 @@ pub record Kind (S C M : Type 0) : Type 0 where
   pub groups : List Membership
   -- what stands first
   pub want : S → Want
-  -- takes away ends of blocks and calls, which cost no turn
-  pub settle : S → S
+  -- what comes between two turns and costs none, as ends of blocks and calls do; given the innermost recovery point, since it may
+  -- read what stood there at the entry
+  pub settle : Option C → S → S
   -- puts the start of an alternate in the place of the entry
   pub enter : S → S
   -- the recovery point that an entry sets

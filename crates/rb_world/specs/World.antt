@@ -49,6 +49,11 @@ last_of [] = None
 last_of (x ∷ []) = Some x
 last_of (x ∷ y ∷ ys) = last_of (y ∷ ys)
 
+-- the recovery point of a level, if there is one
+abbrev pub copy_of : {C : Type 0} → Option (Level C) → Option C
+copy_of None = None
+copy_of (Some level) = Some level.copy
+
 -- a list without its last element
 abbrev pub without_last : {A : Type 0} → List A → List A
 without_last [] = []
@@ -116,6 +121,6 @@ status_at Acts = Running
 abbrev pub goes_on : {S C M : Type 0} → Kind S C M → S → List (Level C) → Process S C
 goes_on k s levels = record { state = s; levels = levels; at_line = false; status = status_at (k.want s) }
 
--- the same once ends of blocks and calls were taken away
+-- the same once it has settled by the recovery point that is innermost then, if a level is left
 abbrev pub settled : {S C M : Type 0} → Kind S C M → S → List (Level C) → Process S C
-settled k s levels = goes_on k (k.settle s) levels
+settled k s levels = goes_on k (k.settle (copy_of (last_of levels)) s) levels
