@@ -13,7 +13,7 @@ pub mod Depth
 pub mod Laws
 pub mod VerdictLaws
 -- What the parser is proved by: plans, the table that tells a plan by what stands first, and the machine that reads by it.
--- That the machine accepts what is derived and nothing else is proved, so no reader has to trust them.
+-- No verdict rests on them: only the laws of the first bad token and of an early end say where the machine stops.
 pub mod Plans
 pub mod ExpressionTable
 pub mod StatementTable
