@@ -13,7 +13,7 @@ use Rattle.rb_meaning.specs.State.{Item}
 use Rattle.rb_meaning.specs.Groups.{count_alternates, conversation_number, conversation_of, facts_of, groups_of}
 use Rattle.rb_meaning.specs.Nesting.{Joins, Use, inside, innermost, is_converse, is_member, is_same_conversation, joined, keeps_n1, keeps_n2, keeps_n4, keeps_n5, keeps_n9, alternates_of, members_in, uses_in_alternates, uses_in_block}
 use Rattle.rb_meaning.specs.Laws.{blocks_left}
-use Rattle.rb_meaning.proofs.Clear.{AreKept, around_all, around_left, conversation_named, in_call, keeps_rules, kept_first, spot_before}
+use Rattle.rb_meaning.proofs.RulesLeft.{AreKept, around_all, around_left, conversation_named, in_call, keeps_rules, kept_first, spot_before}
 
 -- the rules of a `converse` for conversation c of process p, before these items
 pub record JoinsWell (tree : Tree) (p c : ℕ) (rest : List Item) : Type 0 where

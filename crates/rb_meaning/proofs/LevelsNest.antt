@@ -10,10 +10,10 @@ use Rattle.rb_world.proofs.ListFacts.{heads_same, none_some, some_same, tails_sa
 use Rattle.rb_meaning.specs.State.{Item, State}
 use Rattle.rb_meaning.specs.Groups.{facts_of, groups_of}
 use Rattle.rb_meaning.specs.Nesting.{alternates_of, is_member, members_in}
-use Rattle.rb_meaning.proofs.Clear.{AreClear}
-use Rattle.rb_meaning.proofs.FromInside.{onto, onto-some}
+use Rattle.rb_meaning.proofs.RulesLeft.{AreClear}
+use Rattle.rb_meaning.proofs.InsideOut.{onto, onto-some}
 use Rattle.rb_meaning.proofs.JoinsWell.{BeginWith, JoinsWell, around_join, joins_well, joins_with_as_many}
-use Rattle.rb_meaning.proofs.Points.{ArePoints, IsPoint, facts_in, facts_left, point_at}
+use Rattle.rb_meaning.proofs.RecoveryPoints.{ArePoints, IsPoint, facts_in, facts_left, point_at}
 
 -- the facts of a level, and of those outside it
 facts_at : (outer : List Facts) (levels : List (Level State)) (i : ℕ) (level : Level State) → slice_get levels i ≡ Some level

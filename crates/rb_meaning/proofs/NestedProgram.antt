@@ -12,9 +12,9 @@ use Rattle.rb_meaning.specs.State.{State}
 use Rattle.rb_meaning.specs.Groups.{facts_of, procedure_among, procedures_of}
 use Rattle.rb_meaning.specs.Meaning.{opening_state, opening_states, tree_kind}
 use Rattle.rb_meaning.specs.Nesting.{IsNested, keeps_n1, keeps_n2, keeps_n4, keeps_n5, keeps_n9, outside, uses_in, uses_in_body, uses_in_procedures, uses_in_processes, uses_of}
-use Rattle.rb_meaning.proofs.Clear.{AreKept, blocks_performed, clear_performed, kept_first, kept_second}
-use Rattle.rb_meaning.proofs.StepsKeep.{HasClearProcedures}
-use Rattle.rb_meaning.proofs.Known.{Known}
+use Rattle.rb_meaning.proofs.RulesLeft.{AreKept, blocks_performed, clear_performed, kept_first, kept_second}
+use Rattle.rb_meaning.proofs.StepsKeepRules.{HasClearProcedures}
+use Rattle.rb_meaning.proofs.KnownOfProcess.{Known}
 use Rattle.rb_meaning.proofs.KnownFacts.{known_settled}
 
 -- two tests at once

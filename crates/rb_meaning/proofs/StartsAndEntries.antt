@@ -15,10 +15,10 @@ use Rattle.rb_meaning.specs.State.{Item, Perform, StartOf, TestOf, EndBlock, End
 use Rattle.rb_meaning.specs.Groups.{channel_number, count_alternates, facts_of, groups_of}
 use Rattle.rb_meaning.specs.Step.{alternate_number, alternates_in, goes, starts_body, step, step_items, wants, wants_first, wants_receipt}
 use Rattle.rb_meaning.specs.Laws.{with_test}
-use Rattle.rb_meaning.proofs.Clear.{AreClear}
-use Rattle.rb_meaning.proofs.FromInside.{onto, onto-some}
-use Rattle.rb_meaning.proofs.Points.{StartsFirst, facts_in, facts_left}
-use Rattle.rb_meaning.proofs.Known.{Known, RunsInside}
+use Rattle.rb_meaning.proofs.RulesLeft.{AreClear}
+use Rattle.rb_meaning.proofs.InsideOut.{onto, onto-some}
+use Rattle.rb_meaning.proofs.RecoveryPoints.{StartsFirst, facts_in, facts_left}
+use Rattle.rb_meaning.proofs.KnownOfProcess.{Known, RunsInside}
 use Rattle.rb_meaning.proofs.KnownFacts.{entered_block, left_away}
 use Rattle.rb_meaning.proofs.JoinsWell.{BeginWith, around_join, joins_well}
 

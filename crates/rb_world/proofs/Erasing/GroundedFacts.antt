@@ -12,7 +12,7 @@ use Rattle.rb_world.proofs.TurnFacts.{StepsAt, EntersAt}
 use Rattle.rb_world.proofs.EachProcess.{KeepsEach}
 use Rattle.rb_world.proofs.StandingFacts.{back_to-bare, status_at-whole}
 use Rattle.rb_world.proofs.ListFacts.{none_some, some_same}
-use Rattle.rb_world.proofs.Erasing.Erasable.{Nothing, Parts, whole, IsFront, SameMail, IsErasable}
+use Rattle.rb_world.proofs.Erasing.ErasableKinds.{Nothing, Parts, whole, IsFront, SameMail, IsErasable}
 use Rattle.rb_world.proofs.Erasing.ErasureInvariant.{IsGrounded, IsQuiet}
 use Rattle.rb_world.proofs.LevelFacts.{AreFrom, ComesFrom, IsOldOrNew, IsOld, IsNew, from_next, from_same, from_used, from_without_last, get_more, get_take, some_none}
 

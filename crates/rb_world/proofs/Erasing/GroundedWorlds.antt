@@ -10,7 +10,7 @@ use Rattle.rb_world.specs.Nested.{HasOutside, IsLevelOf}
 use Rattle.rb_world.proofs.TurnFacts.{RunsAt, MustFall, NoLevelLeft, Barred}
 use Rattle.rb_world.proofs.EachProcess.{KeepsEach}
 use Rattle.rb_world.proofs.ListFacts.{Each-change_at, Each-map, none_some, some_same}
-use Rattle.rb_world.proofs.Erasing.Erasable.{Nothing, Parts, whole, IsErasable}
+use Rattle.rb_world.proofs.Erasing.ErasableKinds.{Nothing, Parts, whole, IsErasable}
 use Rattle.rb_world.proofs.Erasing.ErasureInvariant.{IsGrounded, IsQuiet, BreaksOutside, IsSpentOut, NoLevel, OneSpent, GroundedWithin}
 use Rattle.rb_world.proofs.LevelFacts.{level_at_place, no_place, some_none, take_first, take_some}
 use Rattle.rb_world.proofs.Erasing.GroundedFacts.{raised-grounded, back-grounded, falls-grounded}

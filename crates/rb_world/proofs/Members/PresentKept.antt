@@ -17,7 +17,7 @@ use Rattle.rb_world.proofs.TurnFacts.{Alone, Barred, EntersAt, IsEntry, Joining,
 use Rattle.rb_world.proofs.Invariant.{Between, IsInvariant, IsInvariantUnder, Within, both_kept}
 use Rattle.rb_world.proofs.Induction.{run-keeps}
 use Rattle.rb_world.proofs.EachProcess.{KeepsEach, each_kept, settled_each}
-use Rattle.rb_world.proofs.ListFacts.{Each-change_at, Each-map, none_some, second_holds, slice_get-change_at, slice_get-change_other, slice_get-there, some_same}
+use Rattle.rb_world.proofs.ListFacts.{Each-change_at, Each-map, none_some, second_holds, slice_get-change_at, slice_get-change_other, nothing_within, some_same}
 use Rattle.rb_world.proofs.LevelFacts.{IsNew, IsOld, IsOldOrNew, any_level, get_more, get_without_last}
 use Rattle.rb_world.proofs.Members.PlaceFacts.{inside_level, length-take_to, passes_of, slice_get-take}
 use Rattle.rb_world.proofs.Members.CascadeSteps.{changed_inside, place_found, stays_outside}
@@ -328,9 +328,7 @@ module _ {S C M : Type 0} (k : Kind S C M) (P : ℕ → Process S C → Type 0) 
 
   -- a level that is to be rejected is there
   never_gone : (t : ℕ) (past : List Told) (p : ℕ) (q : Process S C) (w : World S C M) (j : ℕ) → MostPresent k t past p (suc j) w → RunsAt p q w → slice_get q.levels j ≡ None → ⊥
-  never_gone t past p q w j most runs none =
-      let there : (level : Level C) × (slice_get q.levels j ≡ Some level) = slice_get-there q.levels j (most.enough q runs.there) in
-      none_some (sym none ∙ there.1)
+  never_gone t past p q w j most runs none = nothing_within q.levels j (most.enough q runs.there) none
 
   pub present_kept : IsInvariantUnder k (λ _ _ w. Each P w.processes) (λ _ _ _ _ w. Each P w.processes) (λ _ _ w. Each P w.processes) (AllPresent k) (MostPresent k) (AllPresent k)
   present_kept = record {

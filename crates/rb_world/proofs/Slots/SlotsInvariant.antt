@@ -8,7 +8,7 @@ use Rattle.rb_world.specs.Turn.{freed, leaves, stands_at, stands_now, turn_used}
 use Rattle.rb_world.specs.Slots.{Slots, with_slots}
 use Rattle.rb_world.proofs.TurnFacts.{StepsAt}
 use Rattle.rb_world.proofs.Invariant.{IsInvariantUnder}
-use Rattle.rb_world.proofs.Erasing.Erasable.{Nothing, Parts, whole, IsFront, SameMail, IsErasable}
+use Rattle.rb_world.proofs.Erasing.ErasableKinds.{Nothing, Parts, whole, IsFront, SameMail, IsErasable}
 use Rattle.rb_world.proofs.Erasing.ErasureInvariant.{Grounded, GroundedWithin, StillGrounded}
 use Rattle.rb_world.proofs.Slots.UnderSlots.{bare, held_bare, put_back-bare, steps-bare, went_bare}
 use Rattle.rb_world.proofs.Slots.SlotsKept.{KeepsSlots, fallen_keeps, left_keeps, moved_keeps, opened_keeps, put_back_keeps, raised_keeps, same_front, stays_keeps, used_keeps}

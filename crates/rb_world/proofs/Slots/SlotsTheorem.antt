@@ -17,10 +17,10 @@ use Rattle.rb_world.proofs.RunsMeet.{KeepsKnown, WithPast, invariant_knows}
 use Rattle.rb_world.proofs.Image.{IsImage, stepped_image}
 use Rattle.rb_world.proofs.ImageRuns.{opening_run-image}
 use Rattle.rb_world.proofs.Reread.{ReadsSame, run-reread}
-use Rattle.rb_world.proofs.Erasing.Erasable.{Nothing, Parts, whole, IsErasable}
+use Rattle.rb_world.proofs.Erasing.ErasableKinds.{Nothing, Parts, whole, IsErasable}
 use Rattle.rb_world.proofs.Erasing.ErasureInvariant.{Grounded, GroundedWithin, StillGrounded}
 use Rattle.rb_world.proofs.Erasing.Grounded.{grounded_kept, opening_grounded}
-use Rattle.rb_world.proofs.Erasing.FreedShown.{IsImageAt, get_mapped}
+use Rattle.rb_world.proofs.Erasing.SameLinesReleased.{IsImageAt, get_mapped}
 use Rattle.rb_world.proofs.Slots.UnderSlots.{bare, under_slots}
 use Rattle.rb_world.proofs.Slots.SlotsKept.{TakesRise}
 use Rattle.rb_world.proofs.Slots.SlotsHold.{HoldsOn}
