@@ -4,7 +4,7 @@ ghost use Rattle.rb_syntax.specs.Plain.{tree, declaration, process_declaration};
 ghost use Rattle.rb_run.specs.Runnable.{is_runnable, is_runnable_process, is_scalar};
 ghost use Rattle.rb_meaning.specs.Meaning.{naming_of, process_named, variables_named};
 ghost use Rattle.rb_trace.specs.Naming.{naming, process_naming, variable_naming};
-ghost use Rattle.rb_sched.specs.Schedule.{process_names};
+ghost use Rattle.rb_base.specs.Naming.{process_names};
 ghost use Rattle.rb_run.specs.Ran.{names_of};
 
 use crate::runnable::only_process;
