@@ -4,6 +4,7 @@
 pub mod ending;
 pub mod event;
 pub mod fault;
+pub mod limits;
 pub mod lines;
 pub mod names;
 pub mod place;
