@@ -1,0 +1,8 @@
+// The lines that a process holds back until they may come out, and those that wait to be printed.
+#![tactic(auto)]
+
+pub mod hold;
+#[cfg(test)]
+mod tests;
+
+pub use hold::Hold;
