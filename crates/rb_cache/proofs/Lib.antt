@@ -5,3 +5,4 @@ pub mod Chains
 pub mod Views
 pub mod Seen
 pub mod LawsHold
+pub mod Mirror

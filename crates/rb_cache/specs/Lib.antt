@@ -6,3 +6,4 @@ pub mod Merging
 pub mod Chains
 pub mod Inside
 pub mod Laws
+pub mod Trial

@@ -139,7 +139,6 @@ impl Cache {
         ensures fits { Fits cells.now.words self.new }
         ensures limits { self.new.limits ≡ self.old.limits }
     {
-        let _height = cells.height();
         accept_top(&mut self.stamps, &mut self.arena, &mut self.marks);
     }
 
