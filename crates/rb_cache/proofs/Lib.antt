@@ -1,0 +1,8 @@
+pub mod Copies
+pub mod Stamps
+pub mod Merges
+pub mod Chains
+pub mod Views
+pub mod Seen
+pub mod LawsHold
+pub mod Mirror
