@@ -1,0 +1,3 @@
+pub mod ParentSteps
+pub mod Places
+pub mod EmptyBelow

@@ -1,0 +1,11 @@
+// The table of conversations: who is inside each, who stands at its test line, its alternate, and whether it is broken.
+#![tactic(auto)]
+
+mod rejection;
+mod conversation;
+mod member;
+mod table;
+#[cfg(test)]
+mod tests;
+
+pub use table::Table;

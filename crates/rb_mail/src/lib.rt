@@ -1,0 +1,8 @@
+// The values that are under way on a channel: a ring, in which each message lies in a slot by its number.
+#![tactic(auto)]
+
+mod mail;
+#[cfg(test)]
+mod tests;
+
+pub use mail::Mail;
