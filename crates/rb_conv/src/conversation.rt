@@ -2,7 +2,9 @@ ghost use Rattle.std.specs.Prelude.{◌≡◌, ◌<◌, not, IfOk, IsTrue};
 ghost use Rattle.rb_conv.specs.Conversations.{is_inside, stands, all_stand, entered, arrived, emptied, opened};
 ghost use Rattle.rb_conv.specs.Reject.{has_next, put_back};
 
-use crate::member::{Member, Place, all_go_off_line, all_go_out, all_stand, is_inside, one_goes, outsiders, stands};
+use crate::member::{
+    Member, Place, all_go_off_line, all_go_out, all_stand, is_inside, one_goes, outsiders, stands,
+};
 use rb_base::{Group, Memory};
 use std::alloc::Global;
 use std::marker::Model;

@@ -1,9 +1,9 @@
 // The table of conversations: who is inside each, who stands at its test line, its alternate, and whether it is broken.
 #![tactic(auto)]
 
-mod rejection;
 mod conversation;
 mod member;
+mod rejection;
 mod table;
 #[cfg(test)]
 mod tests;

@@ -1,4 +1,4 @@
-ghost use Rattle.std.specs.Prelude.{◌≡◌, ◌<◌, not, List, length, IfOk};
+ghost use Rattle.std.specs.Prelude.{◌≡◌, ◌<◌, not, List, length, IfOk, vec_len};
 ghost use Rattle.rb_world.specs.World.{change_at};
 ghost use Rattle.rb_conv.specs.Conversations.{is_inside, stands, all_stand, entered, arrived, emptied, conversation_at, opening};
 ghost use Rattle.rb_conv.specs.Reject.{has_next, rejected};
@@ -29,7 +29,8 @@ impl Table {
     /// Nobody is inside a conversation, each is at its first alternate, and none is broken. No other call
     /// takes memory.
     pub fn new(alloc: Global, nested: &Nested) -> Result<Self, Memory>
-        ensures { IfOk result (λ table. table ≡ opening nested.now) }
+        ensures opening { IfOk result (λ table. table ≡ opening nested.now) }
+        ensures as_many { IfOk result (λ table. length table ≡ vec_len nested.now.conversations) }
     {
         let mut conversations = Vec::with_capacity(alloc, nested.conversations.len())?;
         for group in &nested.conversations {
@@ -76,6 +77,7 @@ impl Table {
     pub fn enter(&mut self, c: u32, p: u32) -> bool
         requires { c < length self.old }
         ensures entered { self.new ≡ change_at c (entered p) self.old }
+        ensures as_many { length self.new ≡ length self.old }
         ensures answer { result ≡ not (conversation_at self.old c).talk.is_broken }
     {
         self.conversations[c as usize].enter(p)
@@ -87,6 +89,7 @@ impl Table {
     pub fn arrive(&mut self, c: u32, p: u32) -> bool
         requires { c < length self.old }
         ensures arrived { self.new ≡ change_at c (arrived p) self.old }
+        ensures as_many { length self.new ≡ length self.old }
         ensures answer { result ≡ all_stand (conversation_at self.new c) }
     {
         self.conversations[c as usize].arrive(p)
@@ -96,7 +99,8 @@ impl Table {
     #[tactic(auto, using(crate::proofs::Places::written))]
     pub fn pass(&mut self, c: u32)
         requires { c < length self.old }
-        ensures { self.new ≡ change_at c emptied self.old }
+        ensures passed { self.new ≡ change_at c emptied self.old }
+        ensures as_many { length self.new ≡ length self.old }
     {
         self.conversations[c as usize].empty();
     }
@@ -108,6 +112,7 @@ impl Table {
     pub fn reject(&mut self, c: u32) -> bool
         requires { c < length self.old }
         ensures rejected { self.new ≡ rejected c self.old }
+        ensures as_many { length self.new ≡ length self.old }
         ensures answer { result ≡ has_next (conversation_at self.old c) }
     {
         reject(&mut self.conversations, c)

@@ -14,11 +14,11 @@ loop-d-preserved c =
     let x = get_or xs d e in
     let below = is_below (memberships whole) (length whole) c.args.c in
     let tells : c.is_below-is_below.result ≡ below d =
-        c.is_below-is_below.ensures
-        ∙ ap (λ (groups : List Membership). is_below groups (length xs) c.args.c d) c.loop-d.invariant.kept
-        ∙ ap (λ (n : ℕ). is_below (memberships whole) n c.args.c d) c.loop-d.auto.conversations in
+    c.is_below-is_below.ensures
+    ∙ ap (λ (groups : List Membership). is_below groups (length xs) c.args.c d) c.loop-d.invariant.kept
+    ∙ ap (λ (n : ℕ). is_below (memberships whole) n c.args.c d) c.loop-d.auto.conversations in
     let wrote : c.empty_if.new.conversation ≡ cond (below d) (emptied x) x =
-        c.empty_if.ensures ∙ ap (λ (b : Bool). cond b (emptied x) x) tells in
+    c.empty_if.ensures ∙ ap (λ (b : Bool). cond b (emptied x) x) tells in
     record {
       so_far = empty_more below _ xs d e c.empty_if.new.conversation (omega arith) c.loop-d.invariant.so_far wrote;
       kept = memberships_kept xs d e c.empty_if.new.conversation (ap membership wrote ∙ membership_kept (below d) x) ∙ c.loop-d.invariant.kept;
