@@ -1,9 +1,9 @@
 -- Lines that are stored are the lines that are read back.
-use Rattle.std.proofs.Common.{◌≡◌, ◌≢◌, ℕ, zero, suc, ◌+◌, ◌-◌, ◌<◌, ◌≤◌, Bool, true, false, not, cond, List, [], ◌∷◌, ◌++◌, length, take, drop, All, nat_eq, nat_lt, slice_get, sum_by, Option, Some, None, position, option_map, refl, sym, ap, ◌∙◌, subst, append_assoc, arith, rules, length-append, length-drop, drop_of_length-le}
-use Rattle.std.specs.List.{flat_map, AllByRecursion, position_or_len}
+use Rattle.std.proofs.Common.{◌≡◌, ◌≢◌, ℕ, zero, suc, ◌+◌, ◌-◌, ◌<◌, ◌≤◌, Bool, true, false, not, cond, List, [], ◌∷◌, ◌++◌, length, take, drop, nat_eq, nat_lt, slice_get, sum_by, Some, None, position, option_map, refl, sym, ap, ◌∙◌, subst, append_assoc, arith, length-append, length-drop, drop_of_length-le}
+use Rattle.std.specs.List.{AllByRecursion, position_or_len}
 use Rattle.std.proofs.lemmas.Bool.{ne_eqb, eqb-false, lt-ltb}
 use Rattle.std.proofs.lemmas.List.Sums.{sum_by-cons, sum_by-append}
-use Rattle.std.proofs.lemmas.Grind.{flat_map-append, common_steps}
+use Rattle.std.proofs.lemmas.Grind.{flat_map-append}
 use Rattle.std.proofs.Math.Seq.{take-append_seam, drop-append_seam}
 use Rattle.std.proofs.lemmas.List.{drop-drop, take-append-drop, append-nil, take-take, take_all, length-take-le}
 use Rattle.rb_hold.specs.Held.{held_bytes, IsLine, IsLengthOf}

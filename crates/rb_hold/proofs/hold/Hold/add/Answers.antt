@@ -1,4 +1,4 @@
-use Rattle.std.proofs.Common.{◌≡◌, ℕ, ◌+◌, ◌<◌, ◌≤◌, Bool, true, false, not, List, [], ◌∷◌, ◌++◌, length, take, drop, nat_lt, ap, sym, ◌∙◌, rules, arith, length-append, length-take-le}
+use Rattle.std.proofs.Common.{◌≡◌, ℕ, ◌+◌, ◌<◌, ◌≤◌, not, List, [], ◌∷◌, ◌++◌, length, take, drop, ap, sym, ◌∙◌, rules, arith, length-append, length-take-le}
 use Rattle.std.proofs.lemmas.Bool.{lt-ltb, le-ltb}
 use Rattle.rb_base.specs.declared.limits.TheConstants.{MOST_HELD_BYTES}
 use Rattle.rb_hold.specs.Held.{TwoLists, held_bytes}

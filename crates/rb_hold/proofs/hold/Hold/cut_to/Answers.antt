@@ -1,4 +1,4 @@
-use Rattle.std.proofs.Common.{◌≡◌, ℕ, ◌≤◌, List, take, drop, ap, ◌∙◌, sym, arith, subst}
+use Rattle.std.proofs.Common.{ℕ, List, take, drop, ap, ◌∙◌, sym, arith, subst}
 use Rattle.rb_hold.specs.Held.{TwoLists, IsLengthOf}
 use Rattle.rb_hold.specs.Stored.{lines_in}
 use Rattle.rb_hold.proofs.Lines.{cut_within, cut_lines, cut_are_lines}

@@ -1,7 +1,7 @@
-use Rattle.std.proofs.Common.{◌≡◌, ℕ, ◌+◌, ◌-◌, ◌<◌, ◌≤◌, List, [], ◌∷◌, ◌++◌, length, take, drop, slice_get, option_map, Some, refl, ap, sym, ◌∙◌, rules, arith}
+use Rattle.std.proofs.Common.{◌≡◌, ℕ, ◌+◌, ◌-◌, List, take, drop, slice_get, Some, refl, ap, sym, ◌∙◌, arith}
 use Rattle.rb_hold.specs.Held.{TwoLists}
 use Rattle.rb_hold.specs.Stored.{lines_in}
-use Rattle.rb_hold.proofs.Lines.{First, first_from, passed_within, passed_buffer, passed_others}
+use Rattle.rb_hold.proofs.Lines.{first_from, passed_within, passed_buffer, passed_others}
 use Rattle.rb_hold.proofs.hold.Hold.next_line.Goals as goal
 
 pub overflow_add-self : goal.overflow_add-self
