@@ -1,14 +1,13 @@
 -- In every world of a run of a nested program each open level of a conversation tries its present alternate, and has as many alternates
 -- as each `converse` for it.
-use Rattle.std.proofs.Common.{◌≡◌, ℕ, List, Some}
+use Rattle.std.proofs.Common.{ℕ}
 use Rattle.rb_syntax.specs.Tree.{Tree}
-use Rattle.rb_world.specs.World.{Level, Process}
+use Rattle.rb_world.specs.World.{Process}
 use Rattle.rb_world.specs.Nested.{IsLevelOf}
 use Rattle.rb_world.proofs.Members.PresentKept.{AreOrdered, run_present}
 use Rattle.rb_meaning.specs.State.{State}
 use Rattle.rb_meaning.specs.Groups.{groups_of}
 use Rattle.rb_meaning.specs.Meaning.{opening_states, tree_kind}
-use Rattle.rb_meaning.specs.Nesting.{IsNested}
 use Rattle.rb_meaning.specs.Laws.{TriedTogether}
 use Rattle.rb_meaning.proofs.KnownOfProcess.{Known}
 use Rattle.rb_meaning.proofs.KnownIsKept.{known_kept}

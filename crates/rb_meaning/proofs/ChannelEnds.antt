@@ -1,5 +1,4 @@
 -- Who sends on a channel is its sender, and who receives from it is its receiver: of what stands first, by the rules of nesting.
--- All of it is this project's own.
 use Rattle.std.proofs.Common.{◌≡◌, ℕ, true, ◌&&◌, List, [], ◌∷◌, slice_get, Option, Some, ap, ◌∙◌, subst}
 use Rattle.std.proofs.lemmas.Bool.{eqb-true}
 use Rattle.rb_syntax.specs.Tree.{Command, Assignment, Printing, Sending, Receiving, Conditional, Loop, Invocation, Failure, Recovering, Otherwise, NoElse, Else, Tree}

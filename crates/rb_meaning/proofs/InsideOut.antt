@@ -1,5 +1,4 @@
 -- Lists turned round, element by element: what is kept from the outside in, as it is seen from the inside out.
--- All of it is this project's own.
 use Rattle.std.proofs.Common.{◌≡◌, List, [], ◌∷◌, ◌++◌, reverse, refl, sym, ap, ◌∙◌, append_assoc}
 use Rattle.std.proofs.lemmas.List.{reverse-append, reverse-reverse, append-nil}
 use Rattle.rb_world.specs.World.{without_last}

@@ -1,6 +1,6 @@
 -- What the rules of nesting say where a conversation is joined: no call is open there, its process is a member, and the
 -- recovery block right around it is a `converse` for the parent, or there is none where the conversation has no parent.
--- Conversations nest as Randell (1975) has it; all else is this project's own.
+-- Conversations nest as Randell (1975) has it.
 use Rattle.std.proofs.Common.{◌≡◌, ℕ, Bool, true, false, not, ◌&&◌, List, [], ◌∷◌, map, slice_get, Option, Some, None, refl, sym, ap, subst, true≢false}
 use Rattle.std.proofs.lemmas.Bool.{eqb-true}
 use Rattle.std.specs.List.{list_all}
@@ -70,7 +70,7 @@ pub joins_with_as_many : (tree : Tree) (p c : ℕ) (rest : List Item) (block : R
 joins_with_as_many tree p c rest (Recovers number None place test bound alternates) kept e = absurd (none_some e)
 joins_with_as_many tree p c rest (Recovers number (Some name) place test bound alternates) kept e =
     let rules = rules_of_use tree (use_of p rest name alternates)
-        (kept_first tree (joined (Some name) alternates (spot_before p rest)) (uses_in_alternates (inside (Some name) (spot_before p rest)) alternates) kept) in
+    (kept_first tree (joined (Some name) alternates (spot_before p rest)) (uses_in_alternates (inside (Some name) (spot_before p rest)) alternates) kept) in
     subst (λ (d : ℕ). alternates_of tree d ≡ Some (count_alternates alternates)) (some_same e)
     (of_number (alternates_of tree (conversation_number tree name.text)) (count_alternates alternates) rules.3)
 

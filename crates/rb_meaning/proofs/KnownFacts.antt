@@ -1,6 +1,5 @@
 -- What is known of a process, under the changes that turns are made of: who has a level runs; the block that is entered; text
 -- that settles, and turns that are kept.
--- All of it is this project's own.
 use Rattle.std.proofs.Common.{◌≡◌, ℕ, true, false, List, [], ◌∷◌, map, slice_get, Some, refl, sym, ap, ◌∙◌, subst, true≢false}
 use Rattle.rb_syntax.specs.Tree.{Command, Assignment, Printing, Sending, Receiving, Conditional, Loop, Invocation, Failure, Recovering, Otherwise, NoElse, Else, RecoveryBlock, Tree}
 use Rattle.rb_world.specs.Kind.{Facts, Enters}

@@ -1,5 +1,4 @@
 -- What is known of each process of a run of a nested program stays true in every turn.
--- All of it is this project's own.
 use Rattle.std.proofs.Common.{◌≡◌, ℕ, ℤ, ◌+◌, suc, true, List, [], ◌∷◌, ◌++◌, map, take, slice_get, Option, Some, None, refl, sym, ap, ◌∙◌, subst, true≢false, add-one}
 use Rattle.rb_syntax.specs.Tree.{Tree}
 use Rattle.rb_world.specs.Kind.{Facts, Went, Held}

@@ -1,5 +1,4 @@
 -- What is known of each process of a run of a nested program.
--- All of it is this project's own.
 use Rattle.std.proofs.Common.{◌≡◌, ℕ, false, List, [], ◌∷◌}
 use Rattle.rb_syntax.specs.Tree.{Tree}
 use Rattle.rb_world.specs.World.{Level, Status, Running, Process}

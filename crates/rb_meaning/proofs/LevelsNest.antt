@@ -1,5 +1,5 @@
 -- The levels of each process of a run of a nested program are nested, and are those of members.
--- Conversations nest as Randell (1975) has it; all else is this project's own.
+-- Conversations nest as Randell (1975) has it.
 use Rattle.std.proofs.Common.{◌≡◌, ℕ, zero, suc, true, List, [], ◌∷◌, take, slice_get, Option, Some, None, refl, sym, ap, ◌∙◌, subst}
 use Rattle.rb_syntax.specs.Tree.{Tree}
 use Rattle.rb_world.specs.Kind.{Facts}
@@ -90,7 +90,7 @@ module _ (tree : Tree) (p : ℕ) where
       let point = point_at tree p [] i levels at.level points at.there in
       let clear = subst (λ (items : List Item). AreClear tree p items) point.first.is point.own.clear in
       let same : facts_of tree point.first.block ≡ at.level.facts =
-          heads_same (ap (facts_left tree) (sym point.first.is) ∙ point.left ∙ facts_at [] levels i at.level at.there) in
+      heads_same (ap (facts_left tree) (sym point.first.is) ∙ point.left ∙ facts_at [] levels i at.level at.there) in
       joins_with_as_many tree p c point.first.rest point.first.block clear.0 (ap (λ (f : Facts). f.conversation) same ∙ at.of_it)
       ∙ ap (λ (f : Facts). Some f.alternates) same
 

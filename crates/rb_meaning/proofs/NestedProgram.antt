@@ -1,6 +1,5 @@
 -- What the rules of nesting say of a whole program, said of each of its processes: its own statements keep them, and so do
 -- its procedures. So what is known of a process holds at the opening.
--- All of it is this project's own.
 use Rattle.std.proofs.Common.{◌≡◌, ℕ, ◌+◌, zero, suc, Bool, true, false, cond, ◌&&◌, List, [], ◌∷◌, ◌++◌, map, slice_get, Option, Some, None, refl, sym, ap, ◌∙◌, subst, arith}
 use Rattle.std.proofs.lemmas.List.{length-replicate}
 use Rattle.std.specs.List.{list_all}

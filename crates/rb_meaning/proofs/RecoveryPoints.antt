@@ -1,6 +1,5 @@
 -- Recovery points of a nested program: each is a state of its process, its first item is the start of its own level's block,
 -- and the blocks that are left in it are those of its level and of the levels outside it.
--- All of it is this project's own.
 use Rattle.std.proofs.Common.{◌≡◌, ℕ, zero, suc, List, [], ◌∷◌, ◌++◌, length, map, take, slice_get, Some, refl, ap, subst}
 use Rattle.rb_syntax.specs.Tree.{RecoveryBlock, Tree}
 use Rattle.rb_world.specs.Kind.{Facts}

@@ -1,7 +1,6 @@
 -- What is left of a process's text keeps the rules of nesting. A statement that is left has a spot, as one of the text has:
 -- its process, whether the end of a call comes later, and the recovery blocks of the running call whose start or test comes
 -- later, the innermost first.
--- All of it is this project's own.
 use Rattle.std.proofs.Common.{◌≡◌, ℕ, Bool, true, false, ◌&&◌, List, [], ◌∷◌, ◌++◌, map, Option, refl, sym, ap, ◌∙◌, subst, true≢false}
 use Rattle.std.specs.List.{list_all}
 use Rattle.std.proofs.lemmas.List.Folds.{list_all-append}

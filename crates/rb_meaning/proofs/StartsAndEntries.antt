@@ -1,7 +1,6 @@
 -- A start that goes on has an alternate of its level's block, and who enters a conversation that lies in no other has no level.
 -- Both are said of a process that stands at no test line, since there what stands first lies outside the innermost level; and
 -- the first of one that runs, since one that failed has no level, whatever is left of its text.
--- All of it is this project's own.
 use Rattle.std.proofs.Common.{◌≡◌, ◌≤◌, ℕ, ℤ, zero, suc, Bool, true, false, List, [], ◌∷◌, slice_get, Option, Some, None, refl, sym, ap, ◌∙◌, subst, arith, true≢false}
 use Rattle.rb_syntax.specs.Tree.{Command, Assignment, Printing, Sending, Receiving, Conditional, Loop, Invocation, Failure, Recovering, Body, Otherwise, NoElse, Else, RecoveryBlock, Recovers, Alternates, NoAlternate, Alternate, Tree}
 use Rattle.rb_world.specs.Kind.{Facts, Starts, Enters, Went}

@@ -1,11 +1,9 @@
 -- Each step of a process does to its mail what stood first says; a test that held changes what is left and nothing else.
--- All of it is this project's own.
-use Rattle.std.proofs.Common.{◌≡◌, ℕ, ℤ, Bool, true, false, cond, List, [], ◌∷◌, ◌++◌, Option, Some, None, Ok, Err, refl}
-use Rattle.rb_base.specs.declared.event.Cause.{Cause}
+use Rattle.std.proofs.Common.{◌≡◌, ℕ, ℤ, true, List, [], ◌∷◌, ◌++◌, Option, Some, None, Ok, Err, refl}
 use Rattle.rb_base.specs.declared.event.Cause.TheVariants.{Test}
 use Rattle.rb_base.specs.declared.edition.Edition.{Edition}
 use Rattle.rb_syntax.specs.Tree.{Reference, PrintItem, Command, Assignment, Printing, Sending, Receiving, Conditional, Loop, Invocation, Failure, Recovering, Body, Scope, Otherwise, NoElse, Else, RecoveryBlock, ProcedureDeclaration, Tree}
-use Rattle.rb_world.specs.Kind.{Trapped, Held, Want, Acts}
+use Rattle.rb_world.specs.Kind.{Want, Acts}
 use Rattle.rb_world.proofs.Erasing.ErasableKinds.{receives_on, sends_by, takes_by}
 use Rattle.rb_meaning.specs.Environment.{Environment, push_call, push_frame, frame_of}
 use Rattle.rb_meaning.specs.Value.{Outcome, is_zero, value}

@@ -1,6 +1,5 @@
 -- Each step of a process leaves text that keeps the rules of nesting, and the same recovery blocks; a test that held takes
 -- its block away.
--- All of it is this project's own.
 use Rattle.std.proofs.Common.{◌≡◌, ℕ, ℤ, zero, suc, Bool, true, false, cond, List, [], ◌∷◌, ◌++◌, length, Option, Some, None, Result, Ok, Err, refl, sym, ap, ◌∙◌, subst}
 use Rattle.rb_base.specs.declared.event.Cause.{Cause}
 use Rattle.rb_base.specs.declared.event.Cause.TheVariants.{Test}

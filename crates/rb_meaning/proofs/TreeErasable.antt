@@ -1,5 +1,4 @@
 -- Trees meet what erasure asks of a kind of process state.
--- All of it is this project's own.
 use Rattle.std.proofs.Common.{◌≡◌, ℕ, zero, suc, ℤ, pos, List, [], ◌∷◌, length, map, slice_get, unwrap_or, Option, refl, sym, ap, subst}
 use Rattle.rb_syntax.specs.Tree.{Tree}
 use Rattle.rb_world.specs.Kind.{Went, Held}

@@ -1,6 +1,5 @@
 -- Erasure for trees: what survived a run of a nested program, run alone, ends the same; and no receipt stands whose message was
 -- taken back.
--- All of it is this project's own.
 use Rattle.std.proofs.Common.{◌≡◌, ◌+◌, ℕ, zero, suc, true, not, List, [], ◌∷◌, map, replicate, slice_get, unwrap_or, Some, refl, sym, ap, ◌∙◌, subst, true≢false}
 use Rattle.std.proofs.lemmas.Bool.{eq-eqb}
 use Rattle.std.proofs.lemmas.Simd.{map-map}

@@ -1,5 +1,4 @@
 -- The laws of the meaning, of every nested program and every list of turns.
--- All of it is this project's own.
 use Rattle.std.proofs.Common.{◌≡◌, ℕ, Bool, true, false, List, refl, sym, ◌∙◌}
 use Rattle.rb_syntax.specs.Tree.{Tree}
 use Rattle.rb_world.specs.World.{Level, Process}

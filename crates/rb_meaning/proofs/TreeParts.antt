@@ -1,5 +1,4 @@
 -- Trees as erasure asks for them: their parts, from which come the meaning's kind and the plain run's.
--- All of it is this project's own.
 use Rattle.std.proofs.Common.{◌≡◌, ◌+◌, ℕ, ℤ, pos, nat_eq, cond, List, [], ◌∷◌, ◌++◌, length, slice_get, unwrap_or, Option, Some, refl, sym, ap, ◌∙◌, arith, length-append, add-zero}
 use Rattle.std.proofs.lemmas.List.{append-nil, length-map}
 use Rattle.rb_syntax.specs.Tree.{Tree}

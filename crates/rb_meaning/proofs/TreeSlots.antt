@@ -1,5 +1,4 @@
 -- Slots for trees: each message that may still be asked for lies in its slot, and slots may be read in place of lists.
--- All of it is this project's own.
 use Rattle.std.proofs.Common.{◌≡◌, ℕ, ℤ, zero, suc, List, [], length, replicate, slice_get, unwrap_or, refl}
 use Rattle.rb_syntax.specs.Tree.{Tree}
 use Rattle.rb_world.specs.Slots.{zero_slots}

@@ -1,6 +1,6 @@
 -- The rules of nesting, which a program must keep for recovery to leave no trace. Conversations nest properly, and inside
--- one its members speak with each other alone (Randell 1975); the rules themselves are this project's own. Each is a test of one
--- use of a conversation or a channel, and has the name of the fault that breaks it.
+-- one its members speak with each other alone (Randell 1975). Each rule is a test of one use of a conversation or a
+-- channel, and has the name of the fault that breaks it.
 use Rattle.std.specs.Prelude.{◌≡◌, ℕ, ◌+◌, nat_eq, Bool, true, false, not, ◌&&◌, List, [], ◌∷◌, ◌++◌, slice_get, Option, Some, None}
 use Rattle.std.specs.List.{list_any, list_all}
 use Rattle.rb_syntax.specs.Tree.{Identifier, Command, Assignment, Printing, Sending, Receiving, Conditional, Loop, Invocation, Failure, Recovering, Commands, NoCommand, Then, Body, Scope, Otherwise, NoElse, Else, RecoveryBlock, Recovers, Alternates, NoAlternate, Alternate, ProcedureDeclaration, ProcessDeclaration, Tree}

@@ -1,6 +1,5 @@
 -- The value of an expression, or the trap that its evaluation meets first. `prior` gives a value just before the block
--- was entered (Randell 1975); 64-bit numbers, their traps and quantified expressions are this project's own.
--- All else is this project's own too.
+-- was entered (Randell 1975). Numbers have 64 bits, with traps, and there are quantified expressions.
 use Rattle.std.specs.Prelude.{ℕ, zero, suc, ℤ, pos, negsuc, ◌+◌, ◌-◌, ◌^◌, ◌+ℤ◌, ◌-ℤ◌, ◌*ℤ◌, neg_ℤ, int_lt, int_le, int_div, int_rem, nat_lt, Bool, true, false, not, cond, ◌&&◌, List, [], ◌∷◌, length, slice_get, Option, Some, None, Result, Ok, Err}
 use Rattle.std.specs.Ordering.{int_eq}
 use Rattle.std.specs.Option.{unwrap_or}

@@ -45,8 +45,8 @@ words-scalars (d ∷ ds) (stored ∷ frame) e scalars =
     omega (arith, one, others, all)
 
 few_words : (n : ℕ) (edition : Edition) → n ≤ 2048 → nat_lt (most_words edition) n ≡ false
-few_words n First few = le-ltb n 2048 few
-few_words n Second few = le-ltb n 4096 (omega (arith, few))
+few_words n First few = le-ltb 2048 n few
+few_words n Second few = le-ltb 4096 n (omega (arith, few))
 
 -- so there is always room for a block without variables
 roomy-scalars : (process : ProcessDeclaration) (edition : Edition) (env : Environment) → Fits (declared_shape process.variables) env → length process.variables ≤ 2048 → list_all is_scalar process.variables ≡ true →

@@ -1,6 +1,6 @@
 -- One kind with its messages read another way: where both ways agree on each message that is taken, by what is known of the
 -- world, all turns, runs and plain runs are the same.
-use Rattle.std.proofs.Common.{◌≡◌, ◌<◌, ℕ, ℤ, List, [], ◌∷◌, map, option_map, slice_get, Option, Some, None, refl, sym, ap, ap₂, ◌∙◌, subst, map-id}
+use Rattle.std.proofs.Common.{◌≡◌, ◌<◌, ℕ, ℤ, List, [], ◌∷◌, map, slice_get, Some, None, refl, sym, ap, ap₂, ◌∙◌, subst, map-id}
 use Rattle.rb_world.specs.Kind.{Kind, Stepped, Trapped, Went, Held}
 use Rattle.rb_world.specs.World.{Level, Process, World}
 use Rattle.rb_world.specs.Channels.{seen_copy}

@@ -1,6 +1,8 @@
 -- A kind of process state: all that the turn of a world asks of one. The tree's meaning, the word machine and the plain
 -- run of a record are kinds; levels, rejections, test lines and channels are the same for each.
--- All of it is this project's own.
+--
+-- In all files of this crate what is from a paper is marked with its year. The rest is this project's own, but for words of the
+-- field, as test line and recovery cache.
 use Rattle.std.specs.Prelude.{ℕ, ℤ, List, Option}
 use Rattle.rb_base.specs.declared.event.Cause.{Cause}
 
@@ -40,8 +42,9 @@ pub data Stepped (S M : Type 0) : Type 0 where
   Went : (state : S) (memory : M) → Stepped S M
   Held : (state : S) → Stepped S M
 
--- A kind of process state. S is the recoverable state with what no rejection puts back, C a copy of it at an entry, and M
--- a memory that no copy holds. A state knows of which process it is.
+-- A kind of process state. S is all that belongs to one process: its recoverable state, which a rejection puts back, and beside it
+-- what a kind keeps of the process and leaves as it is. C is what an entry copies of it, M a memory of all processes that no
+-- entry copies. A state knows of which process it is.
 pub record Kind (S C M : Type 0) : Type 0 where
   pub channels : List Ends
   pub groups : List Membership

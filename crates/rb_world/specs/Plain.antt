@@ -1,5 +1,5 @@
 -- The plain run of a record: the turns that survived, taken alone. Nothing is ever rejected, no bound is counted, no
--- conversation is broken, and the alternate of a start is the record's. All of it is this project's own.
+-- conversation is broken, and the alternate of a start is the record's.
 use Rattle.std.specs.Prelude.{ℕ, ℤ, ◌+◌, nat_eq, nat_le, nat_lt, Bool, true, false, cond, ◌&&◌, List, [], ◌∷◌, length, slice_get, Option, Some, None}
 use Rattle.rb_world.specs.Kind.{Kind, Want, NothingLeft, SendsOn, ReceivesOn, MayReceiveOn, Enters, Starts, Acts, Stepped, Trapped, Went, Held}
 use Rattle.rb_world.specs.World.{Level, Status, Running, Finished, FailedWith, Process, World, last_of, copy_of}

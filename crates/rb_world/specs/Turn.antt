@@ -1,8 +1,7 @@
 -- One turn of one process, which is one atomic event; and a run, which is a list of turns. The acceptance test is
 -- evaluated when an alternate has been completed, and a recovery point is set at the entry (Horning, Lauer,
 -- Melliar-Smith, Randell 1974); members of a conversation enter at different times and none leaves before all have
--- passed their tests (Randell 1975). Turns and turn bounds are this project's own.
--- All else is this project's own too.
+-- passed their tests (Randell 1975).
 use Rattle.std.specs.Prelude.{ℕ, ℤ, ◌+◌, nat_lt, nat_le, Bool, true, false, cond, ◌&&◌, List, [], ◌∷◌, ◌++◌, length, map, position, slice_get, Option, Some, None}
 use Rattle.std.specs.List.{list_all}
 use Rattle.rb_base.specs.declared.event.Cause.{Cause}

@@ -1,6 +1,6 @@
 -- Worlds: all processes with their open levels, the conversations, and the memory.
--- Levels with recovery points are from Horning, Lauer, Melliar-Smith, Randell (1974), and conversations from Randell
--- (1975); all else is this project's own.
+-- Levels with recovery points are from Horning, Lauer, Melliar-Smith, Randell (1974), and conversations from
+-- Randell (1975).
 use Rattle.std.specs.Prelude.{ℕ, zero, suc, nat_eq, Bool, false, List, [], ◌∷◌, map, slice_get, Option, Some, None}
 use Rattle.std.specs.List.{list_any}
 use Rattle.rb_base.specs.declared.event.Cause.{Cause}

@@ -1,5 +1,4 @@
 -- Worlds in which one process was changed: its kept turns, what was sent and taken, and cuts that were consistent.
--- All of it is this project's own.
 use Rattle.std.proofs.Common.{◌≡◌, ◌⊎◌, ◌≤◌, ℕ, zero, suc, List, [], ◌∷◌, ◌++◌, map, slice_get, Some, refl, sym, ap, ◌∙◌, subst, inl, inr, le_trans, le_of_eq}
 use Rattle.rb_world.specs.Kind.{Ends}
 use Rattle.rb_world.specs.World.{Level, Process, World, change_at, with_process}

@@ -1,5 +1,4 @@
 -- A process that a cut shows as it is: what is known of it, of the world, and of the plain world that shows the cut.
--- All of it is this project's own.
 use Rattle.std.proofs.Common.{◌≡◌, ◌≤◌, ℕ, zero, suc, false, List, [], ◌∷◌, length, slice_get, Option, Some, None, sym, ap, ◌∙◌, true≢false}
 use Rattle.std.proofs.lemmas.Option.{slice_get_past}
 use Rattle.rb_world.specs.World.{Running, Process, World}

@@ -1,7 +1,6 @@
 -- In the world that a cut shows, a present receiver has the message that it has in the world itself, and where one is there, it was
 -- sent in the state in which the cut shows the sender. With the room of a present sender (SameRoom) that is all that a step
 -- asks of channels.
--- All of it is this project's own.
 use Rattle.std.proofs.Common.{◌≡◌, ◌≤◌, ◌<◌, ℕ, ℤ, Bool, true, false, cond, length, slice_get, Option, Some, None, refl, sym, ap, ◌∙◌, nat_lt, ltb-true, arith}
 use Rattle.std.proofs.lemmas.Option.{slice_get_within}
 use Rattle.rb_world.specs.Kind.{Ends}

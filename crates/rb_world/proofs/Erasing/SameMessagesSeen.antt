@@ -1,6 +1,5 @@
 -- What a present receiver sees of a sender that a cut shows: the sender's first level that it does not share with the receiver
 -- is at or outside the level at which the cut shows it, so as many messages are seen, and the same ones.
--- All of it is this project's own.
 use Rattle.std.proofs.Common.{◌≡◌, ◌⊎◌, ◌≤◌, ◌<◌, ℕ, zero, suc, Bool, true, false, cond, List, [], ◌∷◌, take, option_map, slice_get, Option, Some, None, refl, sym, ap, ◌∙◌, subst, subst₂, inl, inr, eqb-true, add-one, arith, true≢false, le_refl}
 use Rattle.rb_world.specs.World.{Level, Process, is_shared}
 use Rattle.rb_world.specs.Channels.{seen_copy, seen_count, seen_message}

@@ -1,6 +1,5 @@
 -- A present process has the same room to send in the world that a cut shows: room counts from the receiver's outermost recovery
 -- point, which every cut shows, or from its present state if it has none.
--- All of it is this project's own.
 use Rattle.std.proofs.Common.{◌≡◌, ◌+◌, ℕ, suc, true, List, [], ◌∷◌, take, slice_get, Option, Some, None, refl, sym, ap, ◌∙◌, subst, nat_lt, add-one}
 use Rattle.rb_world.specs.Kind.{Ends}
 use Rattle.rb_world.specs.World.{Level, Process, World}

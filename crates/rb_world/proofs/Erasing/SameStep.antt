@@ -7,7 +7,6 @@
 --       ≡ Some (took (moved_to (plain x) p (plain_levels x q.levels) v (x.keep t alternate s, tt)))
 --   held_shown : .. ≡ Held s → plain_moves .. ≡ Some (accepted (plain x) p (plain_levels x q.levels) (last_of (plain_levels x q.levels)) v (x.keep t alternate s, tt))
 --
--- All of it is this project's own.
 use Rattle.std.proofs.Common.{◌≡◌, ◌≤◌, ℕ, ℤ, Bool, true, false, cond, ◌&&◌, List, option_map, slice_get, Option, Some, None, refl, sym, ap, ◌∙◌, nat_lt, nat_le, eq-eqb, lt-ltb, le-leb}
 use Rattle.std.proofs.lemmas.Bool.{and_from}
 use Rattle.rb_world.specs.Kind.{Ends, Want, SendsOn, ReceivesOn, MayReceiveOn, Starts, Acts, Stepped, Went, Held}

@@ -3,7 +3,6 @@
 --
 -- Here what is known of a process has to be known after its step as well (`KeepsEach`): the law `runs` then tells that who has a level
 -- is not done, which a cut that shows an older level could not see.
--- All of it is this project's own.
 use Rattle.std.proofs.Common.{◌≡◌, ◌⊎◌, ◌≤◌, ◌<◌, ℕ, ℤ, false, List, [], ◌∷◌, ◌++◌, length, get_or, option_map, slice_get, Option, Some, None, refl, sym, ap, ◌∙◌, subst, inl, inr, true≢false}
 use Rattle.std.proofs.lemmas.Option.{slice_get_cases, slice_get_within}
 use Rattle.rb_world.specs.Kind.{Went}

@@ -1,6 +1,5 @@
 -- After a step of a present process no more was taken in the plain world than was sent: what a receipt takes was there, and so it was
 -- sent in the state in which the cut shows the sender.
--- All of it is this project's own.
 use Rattle.std.proofs.Common.{◌≡◌, ◌≤◌, ◌<◌, ◌+◌, ℕ, ℤ, Bool, true, false, cond, slice_get, Option, Some, None, refl, sym, ap, ◌∙◌, subst, nat_eq, eqb-true, arith, le_trans, le_of_eq}
 use Rattle.rb_world.specs.Kind.{Ends, Want, MayReceiveOn}
 use Rattle.rb_world.specs.World.{Process, World, with_process}

@@ -1,8 +1,8 @@
 -- The laws of erasure in which nothing is kept: the same plain worlds show the cuts of the world after. Who rests or waits, counts a
 -- turn, or goes back, alone or with all that are inside a conversation.
-use Rattle.std.proofs.Common.{◌≡◌, ℕ, zero, suc, Bool, true, false, cond, nat_eq, List, [], ◌∷◌, map, take, position, slice_get, Option, Some, None, refl, sym, ap, ◌∙◌, subst, add-one, eqb-true}
+use Rattle.std.proofs.Common.{◌≡◌, ℕ, zero, suc, Bool, true, false, cond, nat_eq, List, [], ◌∷◌, map, position, slice_get, Option, Some, None, refl, sym, ap, ◌∙◌, eqb-true}
 use Rattle.rb_world.specs.World.{Level, Process, World, change_at, is_of, with_process}
-use Rattle.rb_world.specs.Reject.{all_back, at_place, back_to, next_alternate, put_back, raised, where_inside}
+use Rattle.rb_world.specs.Reject.{all_back, at_place, next_alternate, put_back, raised, where_inside}
 use Rattle.rb_world.specs.Standing.{Each}
 use Rattle.rb_world.specs.Turn.{Told, one_used, turn_used}
 use Rattle.rb_world.proofs.TurnFacts.{RejectsAt, all_next, all_spent}
@@ -13,7 +13,7 @@ use Rattle.rb_world.proofs.Erasing.OtherProcessesInCuts.{IsChanged, only_at, is_
 use Rattle.rb_world.proofs.Erasing.CutsAlike.{unmarked_level, unmarked, all_shown_alike}
 use Rattle.rb_world.proofs.Erasing.CutsWhenPutBack.{back_at, all_shown_back}
 use Rattle.rb_world.proofs.Erasing.PlacesGoneBackTo.{alone_at, line_of, alone_changed, alone_line, together_changed, together_line}
-use Rattle.rb_world.proofs.ListFacts.{none_some, some_same, Each-change_at, Each-map}
+use Rattle.rb_world.proofs.ListFacts.{some_same, Each-change_at, Each-map}
 use Rattle.rb_world.proofs.Erasing.GroundedWorlds.{back-quiet}
 
 -- a turn that a level used is not seen

@@ -1,27 +1,25 @@
 -- In every world of a run each open level of a conversation tries its present alternate: an invariant, under one of each process by
 -- which levels are nested and are those of members.
-use Rattle.std.proofs.Common.{◌≡◌, ◌≢◌, ◌⊎◌, inl, inr, ◌<◌, ◌≤◌, ◌+◌, ℕ, zero, suc, nat_eq, Bool, true, false, cond, List, [], ◌∷◌, ◌++◌, length, map, option_map, position, slice_get, take, Option, Some, None, refl, sym, ap, ◌∙◌, subst, add-one, true≢false, arith}
+use Rattle.std.proofs.Common.{◌≡◌, ◌≢◌, ◌≤◌, ◌+◌, ℕ, zero, suc, nat_eq, Bool, true, false, cond, List, [], ◌∷◌, ◌++◌, length, map, option_map, position, slice_get, take, Option, Some, None, refl, sym, ap, ◌∙◌, subst, add-one, true≢false, arith}
 use Rattle.std.specs.List.{list_all, list_any}
-use Rattle.std.proofs.lemmas.Bool.{cases_eq}
 use Rattle.std.proofs.lemmas.List.{length-map}
 use Rattle.rb_base.specs.declared.event.Cause.{Cause}
 use Rattle.rb_base.specs.declared.event.Cause.TheVariants.{Inner}
 use Rattle.rb_world.specs.Kind.{Facts, Kind, Membership}
-use Rattle.rb_world.specs.World.{Level, Process, Talk, World, change_at, goes_on, is_inside, is_of, last_of, settled, with_each, with_process, without_last}
+use Rattle.rb_world.specs.World.{Level, Process, Talk, World, change_at, goes_on, is_inside, is_of, last_of, settled, with_process, without_last}
 use Rattle.rb_world.specs.Reject.{back_to, broken_talk, fallen, fallen_inside, first_again, next_alternate, next_talk, parent_of, put_back, raised, where_inside}
-use Rattle.rb_world.specs.Turn.{Told, all_leave, all_stand, is_over, freed, is_last_of, leaves, members_of, new_level, one_used, opened, opening, run, stands_at, stands_now, stands_there, turn_used}
+use Rattle.rb_world.specs.Turn.{Told, all_leave, all_stand, is_over, freed, is_last_of, leaves, members_of, new_level, one_used, opening, run, stands_at, stands_now, stands_there, turn_used}
 use Rattle.rb_world.specs.Standing.{Each}
 use Rattle.rb_world.specs.Nested.{AreNested, IsLevelOf}
 use Rattle.rb_world.specs.Present.{IsPresent, TryPresent}
-use Rattle.rb_world.proofs.TurnFacts.{Alone, Barred, EntersAt, IsEntry, Joining, MustFall, NoLevelLeft, RunsAt, all_broken, all_next, all_spent, come_to_stand}
-use Rattle.rb_world.proofs.Invariant.{Between, IsInvariant, IsInvariantUnder, Within, both_kept}
+use Rattle.rb_world.proofs.TurnFacts.{Alone, Barred, IsEntry, Joining, MustFall, NoLevelLeft, RunsAt, all_broken, all_next, all_spent, come_to_stand}
+use Rattle.rb_world.proofs.Invariant.{Between, IsInvariantUnder, both_kept}
 use Rattle.rb_world.proofs.Induction.{run-keeps}
 use Rattle.rb_world.proofs.EachProcess.{KeepsEach, each_kept, settled_each}
 use Rattle.rb_world.proofs.ListFacts.{Each-change_at, Each-map, none_some, second_holds, slice_get-change_at, slice_get-change_other, nothing_within, some_same}
 use Rattle.rb_world.proofs.LevelFacts.{IsNew, IsOld, IsOldOrNew, any_level, get_more, get_without_last}
 use Rattle.rb_world.proofs.Members.PlaceFacts.{inside_level, length-take_to, passes_of, slice_get-take}
 use Rattle.rb_world.proofs.Members.CascadeSteps.{changed_inside, place_found, stays_outside}
-use Rattle.rb_world.proofs.Members.CountedTurns.{level_used}
 use Rattle.rb_world.proofs.Members.Outcomes.{position_within}
 use Rattle.rb_world.proofs.Members.PassTogether.{all_pass, left_not_inside, map_found}
 use Rattle.rb_world.proofs.Members.PresentLevels.{IsSpentAt, MayTry, may_of, may_spent, none_beyond, none_outermost, none_private, present_next, present_of, present_outside, present_raised, present_taken, present_there, talks_after}
@@ -111,8 +109,8 @@ module _ {S C M : Type 0} (k : Kind S C M) where
   leaves_present c r qs talks x here all stood true e i d at =
       let inner : IsLevelOf d x.levels i = record { level = at.level; there = get_without_last x.levels i at.level at.there; of_it = at.of_it } in
       let other : d ≢ c = λ (same : d ≡ c).
-          true≢false (sym (any_level c i (without_last x.levels) (subst (λ (y : ℕ). IsLevelOf y (without_last x.levels) i) same at))
-          ∙ last_gone c x.levels stood.0.nested (last_of x.levels) refl (second_holds x.at_line (is_last_of c (last_of x.levels)) e)) in
+      true≢false (sym (any_level c i (without_last x.levels) (subst (λ (y : ℕ). IsLevelOf y (without_last x.levels) i) same at))
+      ∙ last_gone c x.levels stood.0.nested (last_of x.levels) refl (second_holds x.at_line (is_last_of c (last_of x.levels)) e)) in
       present_there talks (change_at c first_again talks) d at.level (slice_get-change_other c first_again talks d other) (stood.1 i d inner)
     where
       last_gone : (c : ℕ) (levels : List (Level C)) → AreNested k.groups levels → (last : Option (Level C)) → last_of levels ≡ last → is_last_of c last ≡ true
@@ -121,10 +119,10 @@ module _ {S C M : Type 0} (k : Kind S C M) where
       last_gone c levels nested (Some level) e is = left_not_inside k c levels level nested e (passes_of c level is) (list_any (is_of c) (without_last levels)) refl
   leaves_present c r qs talks x here all stood false e i d at =
       let other : d ≢ c = λ (same : d ≡ c).
-          let stands : stands_there c (slice_get qs r) ≡ true =
-              all_pass (λ m. stands_there c (slice_get qs m)) r (members_of (slice_get k.groups c)) all
-              (stood.0.members i c (subst (λ (y : ℕ). IsLevelOf y x.levels i) same at)) in
-          true≢false (sym stands ∙ (ap (stands_there c) here ∙ e)) in
+      let stands : stands_there c (slice_get qs r) ≡ true =
+      all_pass (λ m. stands_there c (slice_get qs m)) r (members_of (slice_get k.groups c)) all
+      (stood.0.members i c (subst (λ (y : ℕ). IsLevelOf y x.levels i) same at)) in
+      true≢false (sym stands ∙ (ap (stands_there c) here ∙ e)) in
       present_there talks (change_at c first_again talks) d at.level (slice_get-change_other c first_again talks d other) (stood.1 i d at)
 
   -- a conversation of p's level number j is put back
@@ -190,13 +188,13 @@ module _ {S C M : Type 0} (k : Kind S C M) where
     broken_levels x nested may true e i d level =
         let found : (n : ℕ) × IsLevelOf c x.levels n = inside_level c x.levels e in
         let none : (fallen_inside k c (where_inside (put_back k) c x)).levels ≡ [] =
-            ap (λ (b : Bool). (cond b (fallen k Inner (where_inside (put_back k) c x)) (where_inside (put_back k) c x)).levels) (still_inside x nested found.0 found.1) in
+        ap (λ (b : Bool). (cond b (fallen k Inner (where_inside (put_back k) c x)) (where_inside (put_back k) c x)).levels) (still_inside x nested found.0 found.1) in
         absurd (none_some (ap (λ (ls : List (Level C)). slice_get ls i) (sym none) ∙ level.there))
     broken_levels x nested may false e i d level =
         let stays : fallen_inside k c (where_inside (put_back k) c x) ≡ x =
-            ap (fallen_inside k c) (is_outside x e) ∙ ap (λ (b : Bool). cond b (fallen k Inner x) x) e in
+        ap (fallen_inside k c) (is_outside x e) ∙ ap (λ (b : Bool). cond b (fallen k Inner x) x) e in
         let outside : TryPresent (talks_after k.groups w.talks u.levels c j own at broken_talk) x.levels =
-            present_outside k.groups w.talks u.levels c j own at broken_talk x.levels nested e may in
+        present_outside k.groups w.talks u.levels c j own at broken_talk x.levels nested e may in
         subst (λ (y : Process S C). TryPresent (talks_after k.groups w.talks u.levels c j own at broken_talk) y.levels) (sym stays) outside i d level
 
 -- The invariant, under one by which the levels of each process are nested and are those of members.
@@ -240,7 +238,7 @@ module _ {S C M : Type 0} (k : Kind S C M) (P : ℕ → Process S C → Type 0) 
       → MostPresent k t past p j (with_process p (put_back k j) w)
   spent_privately t past p q w j level each most runs place alone =
       let is : (u : Process S C) → slice_get (change_at p (put_back k j) w.processes) p ≡ Some u → put_back k j q ≡ u =
-          λ u there. some_same (sym (back_there p j q w runs) ∙ there) in
+      λ u there. some_same (sym (back_there p j q w runs) ∙ there) in
       record {
         enough = λ u there. subst (λ (x : Process S C). j ≤ length x.levels) (is u there)
             (omega (arith, ap (λ (ls : List (Level C)). length ls) (back_levels q j level place), length-back q.levels j level place));
@@ -255,7 +253,7 @@ module _ {S C M : Type 0} (k : Kind S C M) (P : ℕ → Process S C → Type 0) 
       Each-change_at (λ r x. TryPresent w.talks x.levels) p (raised j) (change_at p (put_back k j) w.processes) back
       (λ x there. let is : put_back k j q ≡ x = some_same (sym (back_there p j q w runs) ∙ there) in
       let here : slice_get x.levels j ≡ Some level =
-          ap (λ (y : Process S C). slice_get y.levels j) (sym is) ∙ (ap (λ (ls : List (Level C)). slice_get ls j) (back_levels q j level place) ∙ (slice_get-take (j + 1) q.levels j (omega arith) ∙ place)) in
+      ap (λ (y : Process S C). slice_get y.levels j) (sym is) ∙ (ap (λ (ls : List (Level C)). slice_get ls j) (back_levels q j level place) ∙ (slice_get-take (j + 1) q.levels j (omega arith) ∙ place)) in
       present_raised k.groups w.talks j x.levels level here alone (back p x there))
 
   -- why a process falls
@@ -320,8 +318,8 @@ module _ {S C M : Type 0} (k : Kind S C M) (P : ℕ → Process S C → Type 0) 
       let present = none_spent k t past p q w most runs.there in
       let stood : List (Process S C) = change_at p (λ _. stands_now s q.levels) w.processes in
       let known : Each (Stood k w.talks) stood =
-          Each-change_at (Stood k w.talks) p (λ _. stands_now s q.levels) w.processes (λ r x there. (ordered r x (each r x there), present r x there))
-          (λ _ _. (ordered p q (each p q runs.there), present p q runs.there)) in
+      Each-change_at (Stood k w.talks) p (λ _. stands_now s q.levels) w.processes (λ r x there. (ordered r x (each r x there), present r x there))
+      (λ _ _. (ordered p q (each p q runs.there), present p q runs.there)) in
       let found = map_found (leaves k c) stood n z e in
       subst (λ (y : Process S C). TryPresent (change_at c first_again w.talks) y.levels) found.2
       (leaves_present k c n stood w.talks found.0 found.1 all (known n found.0 found.1) (stands_at c found.0) refl)

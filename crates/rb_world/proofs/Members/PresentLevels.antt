@@ -2,7 +2,7 @@
 --
 -- Between the steps of a cascade the last conversation that was put back and has no alternate left is spent: its levels still try the
 -- last one, while the conversation is at alternate 1 again. It lies right inside the level of p that comes next.
-use Rattle.std.proofs.Common.{◌≡◌, ◌≢◌, ◌⊎◌, inl, inr, ◌<◌, ◌≤◌, ◌+◌, ℕ, zero, suc, Bool, true, false, List, [], ◌∷◌, length, option_map, slice_get, take, Option, Some, None, refl, sym, ap, ◌∙◌, subst, true≢false, arith}
+use Rattle.std.proofs.Common.{◌≡◌, ◌≢◌, ◌⊎◌, inl, inr, ◌<◌, ◌≤◌, ◌+◌, ℕ, zero, suc, false, List, length, option_map, slice_get, take, Option, Some, None, sym, ap, ◌∙◌, subst, true≢false, arith}
 use Rattle.std.specs.List.{list_any}
 use Rattle.std.proofs.lemmas.Bool.{cases_eq, cases_lt}
 use Rattle.std.proofs.lemmas.Option.{slice_get_within}
@@ -67,7 +67,7 @@ module _ {C : Type 0} (groups : List Membership) (talks : List Talk) where
       → (i e : ℕ) (at : IsLevelOf e (change_at j next_alternate levels) i) → (i ≡ j) ⊎ (i ≡ j → ⊥) → IsPresent talks e at.level
   raised_at j levels level there alone present i e at (inl same) =
       let here : Some (next_alternate level) ≡ Some at.level =
-          sym (slice_get-change_at j next_alternate levels ∙ ap (option_map next_alternate) there) ∙ (ap (slice_get (change_at j next_alternate levels)) (sym same) ∙ at.there) in
+      sym (slice_get-change_at j next_alternate levels ∙ ap (option_map next_alternate) there) ∙ (ap (slice_get (change_at j next_alternate levels)) (sym same) ∙ at.there) in
       absurd (none_some (sym alone ∙ (ap (λ (l : Level C). l.facts.conversation) (some_same here) ∙ at.of_it)))
   raised_at j levels level there alone present i e at (inr other) =
       present i e (record { level = at.level; there = sym (slice_get-change_other j next_alternate levels i other) ∙ at.there; of_it = at.of_it })
@@ -123,7 +123,7 @@ module _ {C : Type 0} (groups : List Membership) (talks : List Talk) (own : List
       → (i e : ℕ) (at : IsLevelOf e levels i) → i < n → IsPresent talks_after e at.level
   present_further levels levels_nested n inside may i e at further =
       let other : e ≢ c = λ (same : e ≡ c).
-          let one : i ≡ n = same_number groups levels levels levels_nested levels_nested c i n (subst (λ (x : ℕ). IsLevelOf x levels i) same at) inside in omega (arith, further, one) in
+      let one : i ≡ n = same_number groups levels levels levels_nested levels_nested c i n (subst (λ (x : ℕ). IsLevelOf x levels i) same at) inside in omega (arith, further, one) in
       present_there talks talks_after e at.level
       (talk_beside groups c e f talks other (not_below groups levels levels_nested (length groups) c e i n inside at (omega (arith, further))))
       (present_before levels levels_nested n inside i e at (omega (arith, further)) (may i e at))
@@ -149,9 +149,9 @@ module _ {C : Type 0} (groups : List Membership) (talks : List Talk) (own : List
   next_at levels levels_nested n inside may i e at (inl same) =
       let later = talks_after groups talks own c j nested own_at next_talk in
       let here : next_alternate inside.level ≡ at.level = some_same
-          (sym (slice_get-change_at n next_alternate (take (n + 1) levels)
-          ∙ ap (option_map next_alternate) (slice_get-take (n + 1) levels n (omega arith) ∙ inside.there))
-          ∙ (ap (slice_get (change_at n next_alternate (take (n + 1) levels))) (sym same) ∙ at.there)) in
+      (sym (slice_get-change_at n next_alternate (take (n + 1) levels)
+      ∙ ap (option_map next_alternate) (slice_get-take (n + 1) levels n (omega arith) ∙ inside.there))
+      ∙ (ap (slice_get (change_at n next_alternate (take (n + 1) levels))) (sym same) ∙ at.there)) in
       let of_c : c ≡ e = some_same (sym inside.of_it ∙ (ap (λ (l : Level C). l.facts.conversation) here ∙ at.of_it)) in
       let was = present_here groups talks own c j nested own_at next_talk levels levels_nested n inside may in
       subst (λ (x : ℕ). IsPresent later x at.level) of_c
@@ -180,7 +180,7 @@ module _ {C : Type 0} (groups : List Membership) (talks : List Talk) (own : List
   spent_at parent around levels levels_nested n inside may i e at (inl same) =
       let found : (i < n + 1) × (slice_get levels i ≡ Some at.level) = get_take (n + 1) levels i at.level at.there in
       let of_c : c ≡ e = one_conversation c e n levels inside
-          (subst (λ (x : ℕ). IsLevelOf e levels x) same (record { level = at.level; there = found.1; of_it = at.of_it })) in
+      (subst (λ (x : ℕ). IsLevelOf e levels x) same (record { level = at.level; there = found.1; of_it = at.of_it })) in
       inr (subst (λ (x : ℕ). IsSpentAt groups x (take (j + 1) own) j) of_c (record { parent = parent; around = around; level = own_taken }))
   spent_at parent around levels levels_nested n inside may i e at (inr other) =
       let found : (i < n + 1) × (slice_get levels i ≡ Some at.level) = get_take (n + 1) levels i at.level at.there in

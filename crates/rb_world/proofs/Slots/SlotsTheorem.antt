@@ -1,6 +1,6 @@
 -- Slots over whole runs: they hold all messages that may still be asked for; slots that are written beside the messages change nothing; and
 -- a run whose messages are read from their slots is the same.
-use Rattle.std.proofs.Common.{◌≡◌, ◌<◌, ℕ, pos, zero, suc, List, [], ◌∷◌, replicate, slice_get, option_map, Option, Some, None, refl, sym, ap, ◌∙◌, subst, map-id, arith}
+use Rattle.std.proofs.Common.{◌≡◌, ◌<◌, ℕ, pos, zero, suc, List, [], ◌∷◌, replicate, slice_get, option_map, Some, refl, sym, ap, ◌∙◌, subst, map-id, arith}
 use Rattle.std.proofs.lemmas.Option.{slice_get-map}
 use Rattle.std.proofs.lemmas.List.{length-replicate}
 use Rattle.rb_world.specs.Kind.{Ends, Kind, Stepped, Trapped, Went, Held}
