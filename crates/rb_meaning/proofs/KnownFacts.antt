@@ -23,7 +23,7 @@ receipt_runs : (c : ℕ) (otherwise : Otherwise) → status_at (wants_receipt c 
 receipt_runs c NoElse = refl
 receipt_runs c (Else body) = refl
 
-wants_runs : (tree : Tree) (command : Command) → status_at (wants tree command) ≡ Running
+pub wants_runs : (tree : Tree) (command : Command) → status_at (wants tree command) ≡ Running
 wants_runs tree (Assignment to e) = refl
 wants_runs tree (Printing items) = refl
 wants_runs tree (Sending channel e) = refl

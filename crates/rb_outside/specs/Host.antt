@@ -1,5 +1,4 @@
 -- What contracts say of a file that the host has opened.
--- All of it is this project's own.
 use Rattle.std.specs.Prelude.{[], Option, Some, None}
 use Rattle.rb_outside.specs.Outside.{Reading}
 

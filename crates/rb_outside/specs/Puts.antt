@@ -1,5 +1,4 @@
 -- What a call that writes bytes comes to.
--- All of it is this project's own.
 use Rattle.std.specs.Prelude.{◌≡◌, ℕ, ◌≤◌, List, length, take, Option, Result, OnOk, OnErr}
 use Rattle.rb_outside.specs.Outside.{Rose, then_written}
 

@@ -22,13 +22,14 @@ use Rattle.rb_meaning.specs.Meaning.{TreeWorld, tree_kind, naming_of}
 use Rattle.rb_run.specs.Runnable.{names_in, is_scalar, is_simple, is_runnable_block, is_runnable_command, are_runnable}
 use Rattle.rb_run.specs.Alone.{Change, AtStart, Alone, Goes, Tries, Fell, Came, effect, first_trial, performed_alone, taken, came, after}
 use Rattle.rb_run.specs.Written.{turn_text, came_text}
-use Rattle.rb_run.proofs.RunnableFacts.{first_holds, second_holds}
+use Rattle.rb_world.proofs.ListFacts.{first_holds, second_holds}
 use Rattle.rb_run.proofs.InsideBlock.{inside, reads_outside}
 use Rattle.rb_run.proofs.Shapes.{shape_of, declared_shape, Fits, KeepsShape, effect-keeps}
 use Rattle.rb_run.proofs.Endings.{same_shape}
 use Rattle.rb_run.proofs.NamesMade.{sizeless}
 use Rattle.rb_run.proofs.Worlds.{lone_state, world_with, private_facts, world_going, world_trying, world_fallen, Stands, told_of, done_after, Matches, matches_from, told_text-took, told_text-failed}
-use Rattle.rb_run.proofs.Statements.{stepped_to, performs-effect, wants-simple, status_at-wants}
+use Rattle.rb_meaning.proofs.KnownFacts.{wants_runs}
+use Rattle.rb_run.proofs.Statements.{stepped_to, performs-effect, wants-simple}
 use Rattle.rb_run.proofs.TrialTurns.{tried-matches}
 
 -- scalars have one word each
@@ -86,7 +87,7 @@ module _ (tree : Tree) (process : ProcessDeclaration) (t : ℕ) (kept : List (�
   alone-settled items NoCommand changed held = refl
   alone-settled items (Then first rest) changed held =
       ap (λ status. finishes (tree_kind tree) (world_with tree (lone_state (length tree.channels) items env [] kept) [] Running)
-      (took (world_with tree (lone_state (length tree.channels) (performed (Then first rest) []) changed held (kept ++ (t, 0) ∷ [])) [] status))) (status_at-wants tree first)
+      (took (world_with tree (lone_state (length tree.channels) (performed (Then first rest) []) changed held (kept ++ (t, 0) ∷ [])) [] status))) (wants_runs tree first)
 
   alone-matches : (items : List Item) (rest : Commands) (o : Result Change Cause) → KeepsShape (declared_shape process.variables) o → are_runnable (names_in process.variables) rest ≡ true →
       Matches tree process t (alone_ends items (stepped_to (length tree.channels) (λ e. e) (performed rest []) kept o)) (performed_alone rest env o)
