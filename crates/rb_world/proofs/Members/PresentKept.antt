@@ -44,6 +44,7 @@ module _ {S C M : Type 0} (k : Kind S C M) where
       → ((e : ℕ) → IsSpentAt k.groups e u.levels left → ⊥) → Each (λ r q. TryPresent w.talks q.levels) w.processes
   all_present t past p left u w most there none r q e = present_of k.groups w.talks q.levels u.levels left none (most.each u there r q e)
 
+  -- turns used change no alternate
   present_used : (talks : List Talk) (levels : List (Level C)) → TryPresent talks levels → TryPresent talks (map one_used levels)
   present_used talks [] present i c at = absurd (none_some at.there)
   present_used talks (l ∷ levels) present zero c at =
@@ -62,6 +63,7 @@ module _ {S C M : Type 0} (k : Kind S C M) where
   set_there : (p : ℕ) (q x : Process S C) (qs : List (Process S C)) → slice_get qs p ≡ Some x → slice_get (change_at p (λ _. q) qs) p ≡ Some q
   set_there p q x qs there = slice_get-change_at p (λ _. q) qs ∙ ap (option_map (λ _. q)) there
 
+  -- a turn is counted
   uses : (t : ℕ) (past : List Told) (p : ℕ) (q : Process S C) (w : World S C M) → AllPresent t past w → RunsAt p q w
       → MostPresent t past p (length q.levels) (with_process p (λ _. turn_used q) w)
   uses t past p q w holds runs =
@@ -199,10 +201,11 @@ module _ {S C M : Type 0} (k : Kind S C M) where
 
 -- The invariant, under one by which the levels of each process are nested and are those of members.
 module _ {S C M : Type 0} (k : Kind S C M) (P : ℕ → Process S C → Type 0) (ordered : (r : ℕ) (q : Process S C) → P r q → AreOrdered k.groups r q.levels) where
-  -- in a turn of q, whose level number j is to be rejected, levels are nested
+  -- the levels of each process are nested
   all_nested : (w : World S C M) → Each P w.processes → (r : ℕ) (x : Process S C) → slice_get w.processes r ≡ Some x → AreNested k.groups x.levels
   all_nested w each r x e = (ordered r x (each r x e)).nested
 
+  -- a level that is there, and is of a conversation
   level_of : (q : Process S C) (j c : ℕ) (level : Level C) → slice_get q.levels j ≡ Some level → level.facts.conversation ≡ Some c → IsLevelOf c q.levels j
   level_of q j c level there of_c = record { level = level; there = there; of_it = of_c }
 
@@ -213,6 +216,7 @@ module _ {S C M : Type 0} (k : Kind S C M) (P : ℕ → Process S C → Type 0) 
       all_present k t past p (suc j) q w most runs.there
       (λ e. none_private k.groups w.talks q.levels j e level (all_nested w each p q runs.there) place alone)
 
+  -- what is left of the levels of who is put back to level number j
   back_levels : (q : Process S C) (j : ℕ) (level : Level C) → slice_get q.levels j ≡ Some level → (put_back k j q).levels ≡ take (j + 1) q.levels
   back_levels q j level e = ap (λ (o : Option (Level C)). (back_to k j q o).levels) e
 
@@ -233,6 +237,7 @@ module _ {S C M : Type 0} (k : Kind S C M) (P : ℕ → Process S C → Type 0) 
   back_there : (p j : ℕ) (q : Process S C) (w : World S C M) → RunsAt p q w → slice_get (change_at p (put_back k j) w.processes) p ≡ Some (put_back k j q)
   back_there p j q w runs = slice_get-change_at p (put_back k j) w.processes ∙ ap (option_map (put_back k j)) runs.there
 
+  -- a private level has no alternate left, and the next one out is rejected
   spent_privately : (t : ℕ) (past : List Told) (p : ℕ) (q : Process S C) (w : World S C M) (j : ℕ) (level : Level C) → Each P w.processes → MostPresent k t past p (suc j) w
       → RunsAt p q w → slice_get q.levels j ≡ Some level → level.facts.conversation ≡ None
       → MostPresent k t past p j (with_process p (put_back k j) w)
@@ -245,6 +250,7 @@ module _ {S C M : Type 0} (k : Kind S C M) (P : ℕ → Process S C → Type 0) 
         each = λ u there r x e. may_of k.groups w.talks x.levels u.levels j (private_back t past p q w j level each most runs place alone r x e);
       }
 
+  -- or it has one
   next_privately : (t : ℕ) (past : List Told) (p : ℕ) (q : Process S C) (w : World S C M) (j : ℕ) (level : Level C) → Each P w.processes → MostPresent k t past p (suc j) w
       → RunsAt p q w → slice_get q.levels j ≡ Some level → level.facts.conversation ≡ None
       → Each (λ r x. TryPresent w.talks x.levels) (change_at p (raised j) (change_at p (put_back k j) w.processes))
@@ -265,6 +271,7 @@ module _ {S C M : Type 0} (k : Kind S C M) (P : ℕ → Process S C → Type 0) 
   may_fall t past p q w left cause each most runs (Barred facts c talk away wants of_c at broken all is) =
       all_present k t past p left q w most runs.there (λ e. none_beyond k.groups w.talks q.levels left e (omega (arith, all)))
 
+  -- who has failed has no level
   none_left : (talks : List Talk) (cause : Cause) (x : Process S C) → TryPresent talks (fallen k cause x).levels
   none_left talks cause x i c at = absurd (none_some at.there)
 
@@ -328,6 +335,7 @@ module _ {S C M : Type 0} (k : Kind S C M) (P : ℕ → Process S C → Type 0) 
   never_gone : (t : ℕ) (past : List Told) (p : ℕ) (q : Process S C) (w : World S C M) (j : ℕ) → MostPresent k t past p (suc j) w → RunsAt p q w → slice_get q.levels j ≡ None → ⊥
   never_gone t past p q w j most runs none = nothing_within q.levels j (most.enough q runs.there) none
 
+  -- all laws of the invariant
   pub present_kept : IsInvariantUnder k (λ _ _ w. Each P w.processes) (λ _ _ _ _ w. Each P w.processes) (λ _ _ w. Each P w.processes) (AllPresent k) (MostPresent k) (AllPresent k)
   present_kept = record {
     rests = λ t past w h. h.1;
