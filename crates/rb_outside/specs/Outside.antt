@@ -1,5 +1,5 @@
 -- What contracts say of the files that are read and of the bytes that are written. All of it is this project's own.
-use Rattle.std.specs.Prelude.{◌≡◌, ℕ, ◌+◌, ◌-◌, ◌^◌, ◌≤◌, min, nat_eq, Bool, true, false, List, [], ◌∷◌, ◌++◌, length, take, drop, Option, Some, None, cond}
+use Rattle.std.specs.Prelude.{◌≡◌, ◌⊎◌, ℕ, ◌+◌, ◌-◌, ◌^◌, ◌≤◌, min, nat_eq, Bool, true, false, List, [], ◌∷◌, ◌++◌, length, take, drop, Option, Some, None, cond}
 use Rattle.std.specs.Option.{option_map}
 use Rattle.std.specs.Cmp.Lexicographic.{pointwise}
 
@@ -8,6 +8,10 @@ use Rattle.std.specs.Cmp.Lexicographic.{pointwise}
 pub record Faults : Type 0 where
   pub count : ℕ
   pub failed_last : Bool
+
+-- no call was made yet
+abbrev pub no_faults : Faults
+no_faults = record { count = 0; failed_last = false }
 
 -- a call that went well
 abbrev pub went_well : Faults → Faults
@@ -68,10 +72,25 @@ abbrev pub Starts : Option (List File) → List ℕ → List Start → List Star
 Starts None name old new = IsOpen new
 Starts (Some files) name old new = (new ≡ begun files name true ∷ old) × ((bytes : List ℕ) × (bytes_of files name ≡ Some bytes))
 
--- a start failed, and is told with the others; no file is open
-abbrev pub FailsToStart : Option (List File) → List ℕ → List Start → List Start → Type 0
-FailsToStart None name old new = IsOpen new → ⊥
-FailsToStart (Some files) name old new = new ≡ begun files name false ∷ old
+-- a shelf tells so many starts at least
+abbrev pub told_starts : ℕ
+told_starts = 64
+
+-- the newest start, as one that did not go well: no file is open
+abbrev pub shut : List Start → List Start
+shut [] = []
+shut (start ∷ others) = record { file = start.file; passed = start.passed; went = false } ∷ others
+
+-- A start was a fault that is not told with the others, since so many are told already.
+pub record IsUntold (old new : List Start) (before after : Faults) : Type 0 where
+  pub many : told_starts ≤ length old
+  pub closed : new ≡ shut old
+  pub counted : after ≡ failed_once before
+
+-- a start failed, and is told with the others, or is a fault after so many that it is not; no file is open
+abbrev pub FailsToStart : Option (List File) → List ℕ → List Start → List Start → Faults → Faults → Type 0
+FailsToStart None name old new before after = IsOpen new → ⊥
+FailsToStart (Some files) name old new before after = (new ≡ begun files name false ∷ old) ⊎ IsUntold old new before after
 
 -- The next n bytes of the file that is open went to the front of the buffer, and 0 came only at the file's end.
 pub record Passes (files : List File) (old : Start) (others new : List Start) (buffer : List ℕ) (n : ℕ) : Type 0 where

@@ -16,12 +16,13 @@ pub trait Shelf {
     /// whether the newest went well means something.
     ghost starts: { Self → List Start };
 
-    /// Begins a file at its first byte. After `Failed` no file is open.
+    /// Begins a file at its first byte. After `Failed` no file is open. A start after 64 others may be a fault that
+    /// `starts` does not tell.
     fn start(&mut self, name: &str) -> Result<(), Failed>
         ensures files { files self.new ≡ files self.old }
         ensures ok { OnOk result (Starts (files self.old) name.now (starts self.old) (starts self.new)) }
         ensures quiet { OnOk result (faults self.new ≡ went_well (faults self.old)) }
-        ensures err { OnErr result (FailsToStart (files self.old) name.now (starts self.old) (starts self.new)) }
+        ensures err { OnErr result (FailsToStart (files self.old) name.now (starts self.old) (starts self.new) (faults self.old) (faults self.new)) }
         ensures failed { OnErr result ((faults self.new ≡ failed_once (faults self.old)) ⊎ (IsMissing (files self.old) name.now × (faults self.new ≡ was_missing (faults self.old)))) };
 
     /// Puts the next bytes at the front of the buffer, and answers how many; 0 comes only at the end of
