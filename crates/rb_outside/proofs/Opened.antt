@@ -6,7 +6,7 @@ use Rattle.std.proofs.lemmas.Option.{slice_get_read, slice_get-map}
 use Rattle.std.specs.Cmp.Lexicographic.{pointwise, same_text}
 use Rattle.std.specs.declared.alloc.Global.{Global}
 use Rattle.rb_outside.specs.Outside.{File, bytes_of}
-use Rattle.rb_outside.specs.Started.{stored_files, Begins, reading_at}
+use Rattle.rb_outside.specs.Started.{stored_files, Finds}
 
 -- the bytes of a name whose first file stands first
 bytes_of-first : (file : File) (files : List File) (name : List ℕ) → true ≡ pointwise nat_eq file.name name → bytes_of (file ∷ files) name ≡ Some file.bytes
@@ -19,9 +19,9 @@ bytes_of-here pairs name at pair lt is none same =
     let parts : drop at pairs ≡ pair ∷ drop (suc at) pairs = drop-cons pairs at pair lt ∙ ap (λ p. p ∷ drop (suc at) pairs) (sym is) in
     none ∙ ap (λ ps. bytes_of (stored_files ps) name) parts ∙ bytes_of-first file (stored_files (drop (suc at) pairs)) name same
 
--- a file that was found is at its first byte once it is started
-pub Begins-found : (pairs : List (Vec ℕ Global × Vec ℕ Global)) (name : List ℕ) (at : ℕ) (pair : Vec ℕ Global × Vec ℕ Global) → at < length pairs → pair ≡ get_or pairs at pair → bytes_of (stored_files pairs) name ≡ bytes_of (stored_files (drop at pairs)) name → true ≡ pointwise nat_eq pair.0.items name → Begins (stored_files pairs) name (record { file = at; passed = 0 })
-Begins-found pairs name at pair lt is none same =
+-- the place of a file that was found
+pub Finds-here : (pairs : List (Vec ℕ Global × Vec ℕ Global)) (name : List ℕ) (at : ℕ) (pair : Vec ℕ Global × Vec ℕ Global) → at < length pairs → pair ≡ get_or pairs at pair → bytes_of (stored_files pairs) name ≡ bytes_of (stored_files (drop at pairs)) name → true ≡ pointwise nat_eq pair.0.items name → Finds (stored_files pairs) name at
+Finds-here pairs name at pair lt is none same =
     let file : File = record { name = pair.0.items; bytes = pair.1.items } in
     let here : slice_get (stored_files pairs) at ≡ Some file =
     slice_get-map (λ p. record { name = p.0.items; bytes = p.1.items }) pairs at
@@ -29,9 +29,4 @@ Begins-found pairs name at pair lt is none same =
     let named : file.name ≡ name = same_text file.name name same in
     let first : bytes_of (stored_files pairs) name ≡ Some file.bytes = bytes_of-here pairs name at pair lt is none same in
     let own : bytes_of (stored_files pairs) file.name ≡ Some file.bytes = subst (λ (n : List ℕ). bytes_of (stored_files pairs) n ≡ Some file.bytes) (sym named) first in
-    let now : reading_at (stored_files pairs) (Some (record { file = at; passed = 0 })) ≡ Some (record { name = name; passed = 0 }) =
-    ap (option_map (λ f. record { name = f.name; passed = 0 })) here ∙ ap (λ (n : List ℕ). Some (record { name = n; passed = 0 })) named in
-    record {
-      is_open = record { file = file; here = here; first = own; within = omega arith };
-      starts = (now, (file.bytes, first));
-    }
+    record { file = file; there = record { here = here; first = own }; named = named }

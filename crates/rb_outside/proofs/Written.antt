@@ -2,7 +2,7 @@
 use Rattle.std.proofs.Common.{◌≡◌, ℕ, ◌+◌, ◌-◌, ◌≤◌, List, [], ◌++◌, length, take, drop, Option, None, Some, Result, Ok, Err, OnErr, refl, sym, ap, subst, ◌∙◌, append_assoc, arith, length-append}
 use Rattle.std.proofs.lemmas.List.{append-nil, take-append-le, take-append-drop, length-drop, drop-drop}
 use Rattle.std.proofs.Math.Seq.{take-append-add, take-append_seam, take-length}
-use Rattle.rb_outside.specs.Outside.{Rose, then_written, WrotePart}
+use Rattle.rb_outside.specs.Outside.{then_written, WrotePart}
 
 -- two writes are one of both texts
 pub then_written-append : (w : Option (List ℕ)) (a b : List ℕ) → then_written (then_written w a) b ≡ then_written w (a ++ b)
@@ -31,14 +31,6 @@ pub WrotePart-after : (w0 w1 w2 : Option (List ℕ)) (a b : List ℕ) → w1 ≡
 WrotePart-after w0 w1 w2 a b e h =
     let n = length-append a b in
     (length a + h.0, omega arith, h.2 ∙ ap (λ w. then_written w (take h.0 b)) e ∙ then_written-append w0 a (take h.0 b) ∙ ap (then_written w0) (sym (take-append-add a b h.0)))
-
--- a rise after other calls
-pub Rose-after : (f0 f1 f2 : ℕ) → f0 ≤ f1 → Rose f1 f2 → Rose f0 f2
-Rose-after f0 f1 f2 le rose = omega arith
-
--- a rise before other calls
-pub Rose-before : (f0 f1 f2 : ℕ) → Rose f0 f1 → f1 ≤ f2 → Rose f0 f2
-Rose-before f0 f1 f2 rose le = omega arith
 
 -- what holds holds after an error
 pub OnErr-from : {T E P : Type 0} (r : Result T E) → P → OnErr r P

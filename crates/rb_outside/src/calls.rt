@@ -1,15 +1,16 @@
-ghost use Rattle.std.specs.Prelude.{◌≡◌, ◌≤◌, is_err};
-ghost use Rattle.rb_outside.specs.InMemory.{after_call, fails, one_more, uncalled};
+ghost use Rattle.std.specs.Prelude.{◌≡◌};
+ghost use Rattle.rb_outside.specs.Outside.{went_well, failed_once, was_missing};
+ghost use Rattle.rb_outside.specs.InMemory.{after_call, fails, uncalled};
 
-use crate::Failed;
+use crate::faults::FaultCount;
 use std::marker::Model;
 
-/// Calls that are numbered from 0. One whose number is listed fails. Faults are counted.
+/// Calls that are numbered from 0. One whose number is listed fails.
 #[derive(Drop)]
 pub struct Calls {
     failing: Vec<u64>,
     next: u64,
-    faults: u64,
+    faults: FaultCount,
 }
 
 impl Model for Calls {
@@ -28,30 +29,38 @@ impl Calls {
         Calls {
             failing,
             next: 0,
-            faults: 0,
+            faults: FaultCount::new(),
         }
     }
 
-    /// Numbers a call, and fails where its number is listed.
-    pub fn begin(&mut self) -> Result<(), Failed>
-        ensures exact { is_err result ≡ fails self.old }
-        ensures after { self.new ≡ after_call (fails self.old) self.old }
-        ensures faults { self.old.faults ≤ self.new.faults }
+    /// Whether the next call fails by its number.
+    pub fn next_fails(&self) -> bool
+        ensures { result ≡ fails self.now }
     {
-        let fails = self.failing.contains(&self.next);
+        self.failing.contains(&self.next)
+    }
+
+    /// A call was made, and went well.
+    pub fn well(&mut self)
+        ensures { self.new ≡ after_call went_well self.old }
+    {
         self.next = self.next.saturating_add(1);
-        if fails {
-            self.count_fault();
-            return Err(Failed);
-        }
-        Ok(())
+        self.faults.well();
     }
 
-    /// Counts a fault.
-    pub fn count_fault(&mut self)
-        ensures after { self.new ≡ record { failing = self.old.failing; next = self.old.next; faults = one_more self.old.faults } }
-        ensures faults { self.old.faults ≤ self.new.faults }
+    /// A call was made, and failed.
+    pub fn fault(&mut self)
+        ensures { self.new ≡ after_call failed_once self.old }
     {
-        self.faults = self.faults.saturating_add(1);
+        self.next = self.next.saturating_add(1);
+        self.faults.fault();
+    }
+
+    /// A call was made that failed and is no fault, since no file has the name.
+    pub fn missing(&mut self)
+        ensures { self.new ≡ after_call was_missing self.old }
+    {
+        self.next = self.next.saturating_add(1);
+        self.faults.missing();
     }
 }

@@ -1,6 +1,9 @@
 ghost use Rattle.std.specs.Prelude.{◌≡◌, None};
-ghost use Rattle.rb_outside.specs.Host.{some_reading};
+ghost use Rattle.rb_outside.specs.Outside.{no_faults};
+ghost use Rattle.rb_outside.specs.Host.{some_start};
 
+use crate::answer::{read_answer, write_answer};
+use crate::faults::FaultCount;
 use crate::{Failed, Shelf, Sink};
 use std::fs;
 use std::io::Read;
@@ -11,19 +14,19 @@ use std::rt::Files;
 pub struct HostShelf<'a, R: Files> {
     runtime: &'a R,
     file: Option<R::File>,
-    faults: u64,
+    faults: FaultCount,
 }
 
 impl<'a, R: Files> HostShelf<'a, R> {
-    /// No file is started, and there was no fault.
+    /// No file is open, and there was no fault.
     pub fn new(runtime: &'a R) -> Self
         ensures file { result.file ≡ None }
-        ensures faults { result.faults ≡ 0 }
+        ensures faults { result.faults ≡ no_faults }
     {
         HostShelf {
             runtime,
             file: None,
-            faults: 0,
+            faults: FaultCount::new(),
         }
     }
 }
@@ -33,25 +36,27 @@ impl<R: Files> Shelf for HostShelf<'_, R> {
 
     ghost faults = { λ s. s.faults };
 
-    ghost reading = { λ s. some_reading s.file };
+    ghost starts = { λ s. some_start s.file };
 
     fn start(&mut self, name: &str) -> Result<(), Failed> {
         self.file = None;
         let Ok(file) = fs::open(self.runtime, name) else {
-            self.faults = self.faults.saturating_add(1);
+            self.faults.fault();
             return Err(Failed);
         };
         self.file = Some(file);
+        self.faults.well();
         Ok(())
     }
 
     fn piece(&mut self, buffer: &mut [u8]) -> Result<usize, Failed> {
         if let Some(file) = &mut self.file {
-            if let Ok(n) = file.read(buffer) {
+            if let Ok(n) = read_answer(file.read(buffer)) {
+                self.faults.well();
                 return Ok(n);
             }
         }
-        self.faults = self.faults.saturating_add(1);
+        self.faults.fault();
         Err(Failed)
     }
 }
@@ -61,15 +66,18 @@ impl<R: Files> Shelf for HostShelf<'_, R> {
 #[derive(Drop)]
 pub struct HostSink<'a, R: Print> {
     runtime: &'a R,
-    faults: u64,
+    faults: FaultCount,
 }
 
 impl<'a, R: Print> HostSink<'a, R> {
     /// There was no fault.
     pub fn new(runtime: &'a R) -> Self
-        ensures { result.faults ≡ 0 }
+        ensures { result.faults ≡ no_faults }
     {
-        HostSink { runtime, faults: 0 }
+        HostSink {
+            runtime,
+            faults: FaultCount::new(),
+        }
     }
 }
 
@@ -79,45 +87,11 @@ impl<R: Print> Sink for HostSink<'_, R> {
     ghost faults = { λ s. s.faults };
 
     fn put(&mut self, bytes: &[u8]) -> Result<usize, Failed> {
-        match self.runtime.write_some(bytes) {
-            Ok(n) if n > 0 => Ok(n),
-            _ => {
-                self.faults = self.faults.saturating_add(1);
-                Err(Failed)
-            }
+        let answer = write_answer(self.runtime.write_some(bytes));
+        match answer {
+            Ok(_) => self.faults.well(),
+            Err(_) => self.faults.fault(),
         }
-    }
-}
-
-#[cfg(test)]
-mod tests {
-    use super::*;
-    use crate::put_all;
-    use std::test::Fail;
-
-    const NAME: &str = "rb_outside_test_file";
-
-    #[test]
-    fn files_are_read(rt: HostRuntime) -> Result<(), Fail> {
-        let mut shelf = HostShelf::new(&rt);
-        assert_eq!(rt; shelf.start("no such file"), Err(Failed));
-        assert_eq!(rt; shelf.faults, 1);
-        fs::write(&rt, NAME, "abcde")?;
-        let mut buffer = [0; 4];
-        shelf.start(NAME).ok().ok_or("start")?;
-        for (answer, front) in [(4, "abcd"), (1, "e"), (0, "")] {
-            let n = shelf.piece(&mut buffer).ok().ok_or("piece")?;
-            assert_eq!(rt; n, answer);
-            assert_eq!(rt; &buffer[..n], front.as_bytes());
-        }
-        fs::remove_file(&rt, NAME)?;
-        Ok(())
-    }
-
-    #[test]
-    fn line_is_written(rt: HostRuntime) {
-        let mut sink = HostSink::new(&rt);
-        assert_eq!(rt; put_all(&mut sink, b"a line\n"), Ok(()));
-        assert_eq!(rt; sink.faults, 0);
+        answer
     }
 }

@@ -1,9 +1,13 @@
 // What lies outside the program: files that are read in pieces, and a place that bytes are written to.
 #![tactic(auto)]
 
+mod answer;
 pub mod buffered;
 mod calls;
+mod faults;
 pub mod host;
+#[cfg(test)]
+mod host_tests;
 pub mod memory_shelf;
 pub mod memory_sink;
 pub mod put;

@@ -1,25 +1,37 @@
-ghost use Rattle.std.specs.Prelude.{◌≡◌, ◌+◌, ◌-◌, ◌^◌, ◌<◌, ◌≤◌, ◌⊎◌, ◌||◌, ◌++◌, min, None, Some, length, take, drop, IsSome, IfOk, OnOk, OnErr, is_err, is_none};
-ghost use Rattle.rb_outside.specs.Outside.{Rose, IsMissing, Starts, Reads, bytes_of};
-ghost use Rattle.rb_outside.specs.InMemory.{fails, after_start, rest_of, piece_of, after_piece, uncalled};
-ghost use Rattle.rb_outside.specs.Started.{stored_files, Begins, IsOpen, reading_at};
+ghost use Rattle.std.specs.Prelude.{◌≡◌, ◌+◌, ◌-◌, ◌^◌, ◌<◌, ◌≤◌, ◌⊎◌, ◌++◌, [], min, Some, length, take, drop, IfOk, OnOk, OnErr, is_err};
+ghost use Rattle.rb_outside.specs.Outside.{IsMissing, IsOpen, Starts, FailsToStart, Reads, bytes_of, went_well, failed_once, was_missing};
+ghost use Rattle.rb_outside.specs.InMemory.{fails, start_fails, after_call, after_start, counted_as, piece_of, after_piece, uncalled, started_bytes};
+ghost use Rattle.rb_outside.specs.Started.{stored_files, name_at, closed, all_kept, Finds, IsReading};
+
+ghost use Rattle.std.specs.Prelude.{◌||◌, ◌==◌, None, MatchOption, cond};
+ghost use Rattle.std.specs.Option.{option_map};
+ghost use Rattle.arrayvec.specs.ArrayVec.{array_vec_len};
 
 use crate::calls::Calls;
 use crate::{Failed, Shelf};
+use arrayvec::ArrayVec;
 use std::marker::Model;
 
-/// The place of a file in the list, and how many of its bytes were passed.
-#[derive(Clone, Copy)]
+/// How many starts before the newest one are kept. With the newest, this is how many starts are told.
+const EARLIER: usize = 63;
+
+/// A start: the place of the file in the list, if a file has the name; how many of its bytes were passed; and whether
+/// the start went well.
+#[derive(Clone, Copy, Default)]
 struct Started {
-    file: usize,
+    file: Option<usize>,
     passed: usize,
+    went: bool,
 }
 
-/// Files that are kept in memory. Its calls are numbered from 0.
+/// Files that are kept in memory. Its calls are numbered from 0. It keeps 64 starts in a list of its own, so that no call
+/// takes memory: a start after these fails.
 #[derive(Drop)]
 pub struct MemoryShelf {
     files: Vec<(Vec<u8>, Vec<u8>)>,
     calls: Calls,
-    started: Option<Started>,
+    newest: Option<Started>,
+    earlier: ArrayVec<Started, EARLIER>,
     most: usize,
 }
 
@@ -29,30 +41,31 @@ impl Model for MemoryShelf {
 
     ghost Value = { StoredFiles };
 
-    ghost use Rattle.rb_outside.specs.Started.{stored_files, MayBeOpen, reading_at};
+    ghost use Rattle.rb_outside.specs.Started.{stored_files, starts_of, AreSound};
 
-    ghost view = { λ s. let files = stored_files s.files.items in record { files = files; calls = s.calls; reading = reading_at files s.started; most = s.most } };
+    ghost view = { λ s. let files = stored_files s.files.items in record { files = files; calls = s.calls; starts = starts_of files s.newest s.earlier.items; most = s.most } };
 
-    ghost invariant = { λ s. (0 < s.most) × MayBeOpen (stored_files s.files.items) s.started };
+    ghost invariant = { λ s. (0 < s.most) × AreSound (stored_files s.files.items) s.newest s.earlier.items };
 }
 
 impl MemoryShelf {
     /// Files, each as its name and its bytes; of two with one name the first counts. The calls with these numbers fail.
     pub fn new(files: Vec<(Vec<u8>, Vec<u8>)>, failing: Vec<u64>) -> Self
-        ensures { result ≡ record { files = stored_files files.items; calls = uncalled failing.items; reading = None; most = 2 ^ 64 - 1 } }
+        ensures { result ≡ record { files = stored_files files.items; calls = uncalled failing.items; starts = []; most = 2 ^ 64 - 1 } }
     {
-        MemoryShelf::in_pieces(files, failing, usize::MAX)
+        MemoryShelf::limited(files, failing, usize::MAX)
     }
 
     /// The same, where a piece has at most so many bytes.
-    pub fn in_pieces(files: Vec<(Vec<u8>, Vec<u8>)>, failing: Vec<u64>, most: usize) -> Self
+    pub fn limited(files: Vec<(Vec<u8>, Vec<u8>)>, failing: Vec<u64>, most: usize) -> Self
         requires { 0 < most }
-        ensures { result ≡ record { files = stored_files files.items; calls = uncalled failing.items; reading = None; most = most } }
+        ensures { result ≡ record { files = stored_files files.items; calls = uncalled failing.items; starts = []; most = most } }
     {
         MemoryShelf {
             files,
             calls: Calls::new(failing),
-            started: None,
+            newest: None,
+            earlier: ArrayVec::new(),
             most,
         }
     }
@@ -63,27 +76,32 @@ impl Shelf for MemoryShelf {
 
     ghost faults = { λ s. s.calls.faults };
 
-    ghost reading = { λ s. s.reading };
+    ghost starts = { λ s. s.starts };
 
-    /// It fails exactly where its number is listed or no file has the name.
+    /// It fails exactly where its number is listed, no file has the name, or 64 starts were made.
     fn start(&mut self, name: &str) -> Result<(), Failed>
-        ensures exact { is_err result ≡ (fails self.old.calls || is_none (bytes_of self.old.files name.now)) }
+        ensures exact { is_err result ≡ start_fails self.old name.now }
         ensures after { self.new ≡ after_start self.old name.now }
         ensures files { Some self.new.files ≡ Some self.old.files }
-        ensures ok { OnOk result (Starts (Some self.old.files) name.now self.new.reading) }
-        ensures err { OnErr result (self.new.reading ≡ None) }
-        ensures failed { OnErr result (Rose self.old.calls.faults self.new.calls.faults ⊎ IsMissing (Some self.old.files) name.now) }
-        ensures faults { self.old.calls.faults ≤ self.new.calls.faults }
+        ensures ok { OnOk result (Starts (Some self.old.files) name.now self.old.starts self.new.starts) }
+        ensures quiet { OnOk result (self.new.calls.faults ≡ went_well self.old.calls.faults) }
+        ensures err { OnErr result (FailsToStart (Some self.old.files) name.now self.old.starts self.new.starts self.old.calls.faults self.new.calls.faults) }
+        ensures failed { OnErr result ((self.new.calls.faults ≡ failed_once self.old.calls.faults) ⊎ (IsMissing (Some self.old.files) name.now × (self.new.calls.faults ≡ was_missing self.old.calls.faults))) }
     {
-        self.started = None;
-        self.calls.begin()?;
-        self.started = Some(open(self.files.as_slice(), name.as_bytes())?);
-        Ok(())
+        let found = find(self.files.as_slice(), name.as_bytes());
+        let cannot = self.calls.next_fails() || self.earlier.is_full();
+        let started = Started {
+            file: found,
+            passed: 0,
+            went: !(cannot || found.is_none()),
+        };
+        tell(&mut self.newest, &mut self.earlier, started);
+        count(&mut self.calls, cannot, found.is_none())
     }
 
     /// It gives as many bytes as fit, within the most that a piece has. It fails exactly where its number is listed.
     fn piece(&mut self, buffer: &mut [u8]) -> Result<usize, Failed>
-        requires started { IsSome self.old.reading }
+        requires started { IsOpen self.old.starts }
         requires room { 0 < length buffer.old }
         ensures exact { is_err result ≡ fails self.old.calls }
         ensures size { IfOk result (λ n. n ≡ length (piece_of self.old (length buffer.old))) }
@@ -92,46 +110,90 @@ impl Shelf for MemoryShelf {
         ensures after { self.new ≡ after_piece self.old (length buffer.old) }
         ensures files { Some self.new.files ≡ Some self.old.files }
         ensures fits { IfOk result (λ n. n ≤ length buffer.new) }
-        ensures ok { IfOk result (λ n. Reads (Some self.old.files) self.old.reading self.new.reading buffer.new n) }
-        ensures err { OnErr result (self.new.reading ≡ self.old.reading) }
-        ensures failed { OnErr result (Rose self.old.calls.faults self.new.calls.faults) }
-        ensures faults { self.old.calls.faults ≤ self.new.calls.faults }
+        ensures ok { IfOk result (λ n. Reads (Some self.old.files) self.old.starts self.new.starts buffer.new n) }
+        ensures quiet { OnOk result (self.new.calls.faults ≡ went_well self.old.calls.faults) }
+        ensures err { OnErr result (self.new.starts ≡ self.old.starts) }
+        ensures failed { OnErr result (self.new.calls.faults ≡ failed_once self.old.calls.faults) }
     {
-        self.calls.begin()?;
-        let started = self.started.ok_or(Failed)?;
-        let rest = rest_of_file(self.files.as_slice(), started);
+        if self.calls.next_fails() {
+            self.calls.fault();
+            return Err(Failed);
+        }
+        self.calls.well();
+        let newest = self.newest.ok_or(Failed)?;
+        let rest = rest_of_file(self.files.as_slice(), newest);
         let n = copy_front(buffer, rest, self.most);
-        self.started = Some(Started {
-            file: started.file,
-            passed: started.passed + n,
+        self.newest = Some(Started {
+            passed: newest.passed + n,
+            ..newest
         });
         Ok(n)
     }
 }
 
-// The first byte of the first file of this name.
-fn open(files: &[(Vec<u8>, Vec<u8>)], name: &[u8]) -> Result<Started, Failed>
-    ensures begins { IfOk result (Begins (stored_files files.now) name.now) }
-    ensures missing { OnErr result (bytes_of (stored_files files.now) name.now ≡ None) }
+// The place of the first file of this name.
+fn find(files: &[(Vec<u8>, Vec<u8>)], name: &[u8]) -> Option<usize>
+    ensures { MatchOption result (bytes_of (stored_files files.now) name.now ≡ None) (Finds (stored_files files.now) name.now) }
 {
     for (at, file) in files.iter().enumerate() {
         if file.0.as_slice() == name {
-            return Ok(Started {
-                file: at,
-                passed: 0,
-            });
+            return Some(at);
         }
     }
-    Err(Failed)
+    None
+}
+
+// Keeps a start as the newest. Where no more are kept, it tells that no file is open.
+fn tell(
+    newest: &mut Option<Started>,
+    earlier: &mut ArrayVec<Started, EARLIER>,
+    started: Started,
+)
+    ensures newest { newest.new ≡ cond (array_vec_len earlier.old == 63) (option_map closed newest.old) (Some started) }
+    ensures earlier { earlier.new.items ≡ cond (array_vec_len earlier.old == 63) earlier.old.items (all_kept newest.old earlier.old.items) }
+{
+    if earlier.is_full() {
+        if let Some(start) = *newest {
+            *newest = Some(Started {
+                went: false,
+                ..start
+            });
+        }
+        return;
+    }
+    if let Some(start) = *newest {
+        earlier.insert(0, start);
+    }
+    *newest = Some(started);
+}
+
+// Counts a start.
+fn count(calls: &mut Calls, cannot: bool, missing: bool) -> Result<(), Failed>
+    ensures exact { is_err result ≡ (cannot || missing) }
+    ensures after { calls.new ≡ after_call (counted_as cannot missing) calls.old }
+{
+    if cannot {
+        calls.fault();
+        return Err(Failed);
+    }
+    if missing {
+        calls.missing();
+        return Err(Failed);
+    }
+    calls.well();
+    Ok(())
 }
 
 // What is left of a file.
 fn rest_of_file(files: &[(Vec<u8>, Vec<u8>)], started: Started) -> &[u8]
-    requires { IsOpen (stored_files files.now) started }
-    ensures bytes { result.now ≡ rest_of (stored_files files.now) (reading_at (stored_files files.now) (Some started)) }
+    requires { IsReading (stored_files files.now) started }
+    ensures bytes { result.now ≡ drop started.passed (started_bytes (stored_files files.now) (name_at (stored_files files.now) started.file)) }
     ensures fits { started.passed + length result.now ≤ usize.MAX }
 {
-    &files[started.file].1[started.passed..]
+    match started.file {
+        Some(at) => &files[at].1[started.passed..],
+        None => &[],
+    }
 }
 
 // Puts the first bytes at the front of a buffer, as many as fit, but not more than `most`.

@@ -1,5 +1,5 @@
-ghost use Rattle.std.specs.Prelude.{◌≡◌, ◌<◌, ◌≤◌, [], Some, length, take, IfOk, OnErr, is_err};
-ghost use Rattle.rb_outside.specs.Outside.{Rose, then_written};
+ghost use Rattle.std.specs.Prelude.{◌≡◌, ◌^◌, ◌-◌, ◌<◌, ◌≤◌, [], Some, length, take, IfOk, OnOk, OnErr, is_err};
+ghost use Rattle.rb_outside.specs.Outside.{then_written, went_well, failed_once};
 ghost use Rattle.rb_outside.specs.InMemory.{put_fails, fitting, after_put, uncalled};
 
 use crate::calls::Calls;
@@ -13,27 +13,41 @@ pub struct MemorySink {
     bytes: Vec<u8>,
     room: usize,
     calls: Calls,
+    most: usize,
 }
 
 impl Model for MemorySink {
-    ghost use Rattle.std.specs.Prelude.{◌≤◌, length, vec_capacity};
+    ghost use Rattle.std.specs.Prelude.{◌<◌, ◌≤◌, length, vec_capacity};
     ghost use Rattle.rb_outside.specs.InMemory.{StoredOutput};
 
     ghost Value = { StoredOutput };
 
-    ghost view = { λ s. record { bytes = s.bytes.items; room = s.room; calls = s.calls } };
+    ghost view = { λ s. record { bytes = s.bytes.items; room = s.room; calls = s.calls; most = s.most } };
 
-    ghost invariant = { λ s. (length s.bytes.items ≤ s.room) × (s.room ≤ vec_capacity s.bytes) };
+    ghost invariant = { λ s. (length s.bytes.items ≤ s.room) × (s.room ≤ vec_capacity s.bytes) × (0 < s.most) };
 }
 
 impl MemorySink {
     /// Reserves the room, so that no later call takes memory. The calls with these numbers fail.
     pub fn new(alloc: Global, room: usize, failing: Vec<u64>) -> Result<Self, Memory>
-        ensures { IfOk result (λ sink. sink ≡ record { bytes = []; room = room; calls = uncalled failing.items }) }
+        ensures { IfOk result (λ sink. sink ≡ record { bytes = []; room = room; calls = uncalled failing.items; most = 2 ^ 64 - 1 }) }
+    {
+        MemorySink::limited(alloc, room, failing, usize::MAX)
+    }
+
+    /// The same, where a call takes at most so many bytes.
+    pub fn limited(alloc: Global, room: usize, failing: Vec<u64>, most: usize) -> Result<Self, Memory>
+        requires { 0 < most }
+        ensures { IfOk result (λ sink. sink ≡ record { bytes = []; room = room; calls = uncalled failing.items; most = most }) }
     {
         let bytes = Vec::with_capacity(alloc, room)?;
         let calls = Calls::new(failing);
-        Ok(MemorySink { bytes, room, calls })
+        Ok(MemorySink {
+            bytes,
+            room,
+            calls,
+            most,
+        })
     }
 
     /// What was written.
@@ -49,7 +63,8 @@ impl Sink for MemorySink {
 
     ghost faults = { λ s. s.calls.faults };
 
-    /// Appends as many bytes as there is room for. It fails exactly where its number is listed or no room is left.
+    /// Appends as many bytes as there is room for, and no more than a call takes. It fails exactly where its number is
+    /// listed or no room is left.
     fn put(&mut self, bytes: &[u8]) -> Result<usize, Failed>
         requires { 0 < length bytes.now }
         ensures exact { is_err result ≡ put_fails self.old }
@@ -58,18 +73,19 @@ impl Sink for MemorySink {
         ensures some { IfOk result (λ n. 0 < n) }
         ensures fits { IfOk result (λ n. n ≤ length bytes.now) }
         ensures ok { IfOk result (λ n. Some self.new.bytes ≡ then_written (Some self.old.bytes) (take n bytes.now)) }
+        ensures quiet { OnOk result (self.new.calls.faults ≡ went_well self.old.calls.faults) }
         ensures err { OnErr result (Some self.new.bytes ≡ Some self.old.bytes) }
-        ensures failed { OnErr result (Rose self.old.calls.faults self.new.calls.faults) }
-        ensures faults { self.old.calls.faults ≤ self.new.calls.faults }
+        ensures failed { OnErr result (self.new.calls.faults ≡ failed_once self.old.calls.faults) }
     {
-        self.calls.begin()?;
-        let n = bytes.len().min(self.room - self.bytes.len());
-        if n == 0 {
-            self.calls.count_fault();
+        let free = self.room - self.bytes.len();
+        if self.calls.next_fails() || free == 0 {
+            self.calls.fault();
             return Err(Failed);
         }
+        let n = bytes.len().min(self.most.min(free));
         // The room was reserved, so this takes no memory and does not fail.
         self.bytes.extend_from_slice(&bytes[..n]).unwrap();
+        self.calls.well();
         Ok(n)
     }
 }

@@ -36,17 +36,21 @@ fn memory_answers(rt: HostRuntime) -> Result<(), Fail> {
         ("other", 9, 9, [Err(Failed); 4]),
     ] {
         let failing = Vec::from_slice(alloc, &[failing])?;
-        let mut shelf = MemoryShelf::in_pieces(files(alloc)?, failing, most);
+        let mut shelf = MemoryShelf::limited(files(alloc)?, failing, most);
         assert_eq!(rt; answers(&mut shelf, name), want, "{name}");
     }
-    for (room, failing, want, bytes) in [
-        (9usize, 9u64, [Ok(()); 3], "ab-170end"),
-        (4, 9, [Ok(()), Err(Failed), Err(Failed)], "ab-1"),
-        (9, 1, [Ok(()), Err(Failed), Ok(())], "abend"),
-        (0, 0, [Err(Failed); 3], ""),
+    for (room, failing, most, want, bytes) in [
+        (9usize, 9u64, 9, [Ok(()); 3], "ab-170end"),
+        (9, 9, 1, [Ok(()); 3], "ab-170end"),
+        (4, 9, 9, [Ok(()), Err(Failed), Err(Failed)], "ab-1"),
+        (9, 1, 9, [Ok(()), Err(Failed), Ok(())], "abend"),
+        (9, 4, 1, [Ok(()), Err(Failed), Ok(())], "ab-1end"),
+        (0, 0, 9, [Err(Failed); 3], ""),
     ] {
         let failing = Vec::from_slice(alloc, &[failing])?;
-        let mut sink = MemorySink::new(alloc, room, failing).ok().ok_or("memory")?;
+        let mut sink = MemorySink::limited(alloc, room, failing, most)
+            .ok()
+            .ok_or("memory")?;
         let written = [
             put_all(&mut sink, b"ab"),
             put_number(&mut sink, -170),
@@ -54,6 +58,20 @@ fn memory_answers(rt: HostRuntime) -> Result<(), Fail> {
         ];
         assert_eq!(rt; written, want, "{bytes}");
         assert_eq!(rt; sink.bytes(), bytes.as_bytes());
+    }
+    Ok(())
+}
+
+// A start after 64 others fails, and leaves no file open.
+#[test]
+fn starts_are_kept(rt: HostRuntime) -> Result<(), Fail> {
+    let failing = Vec::new(rt.alloc());
+    let mut shelf = MemoryShelf::new(files(rt.alloc())?, failing);
+    for _ in 0..64 {
+        assert_eq!(rt; shelf.start("a"), Ok(()));
+    }
+    for _ in 0..2 {
+        assert_eq!(rt; shelf.start("a"), Err(Failed));
     }
     Ok(())
 }

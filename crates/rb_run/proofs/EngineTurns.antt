@@ -4,6 +4,7 @@ use Rattle.std.proofs.lemmas.List.{take_all, length-map}
 use Rattle.rb_base.specs.declared.event.Cause.{Cause}
 use Rattle.rb_base.specs.declared.event.Cause.TheVariants.{Test, Fail, Overrun}
 use Rattle.rb_outside.specs.declared.Failed.{Failed}
+use Rattle.rb_outside.specs.Outside.{Faults}
 use Rattle.rb_outside.specs.Puts.{Puts}
 use Rattle.rb_outside.proofs.Puts.{puts_same, puts_both, puts_stopped_at}
 use Rattle.rb_syntax.specs.Tree.{Command, Assignment, Printing, Sending, Receiving, Conditional, Loop, Invocation, Failure, Recovering, Commands, NoCommand, Then, Body}
@@ -42,14 +43,14 @@ taken-other rest env Failure other = refl
 taken-other rest env (Recovering block) other = absurd (cc)
 
 -- one turn more was written, or it stopped
-pub walked : (names : Naming) (t p : ℕ) (left rest : List ℕ) (before after_it : Alone) (whole : List ℕ) (w0 w1 w2 : Option (List ℕ)) (f0 f1 f2 : ℕ) → left ≡ p ∷ rest → after_it ≡ after before →
+pub walked : (names : Naming) (t p : ℕ) (left rest : List ℕ) (before after_it : Alone) (whole : List ℕ) (w0 w1 w2 : Option (List ℕ)) (f0 f1 f2 : Faults) → left ≡ p ∷ rest → after_it ≡ after before →
     Remains (turns_text names t left before) whole w0 w1 f0 f1 → Puts {T = Unit {0}} {E = Failed} (turn_text names t before) w1 w2 f1 f2 (Ok tt) → Remains (turns_text names (t + 1) rest after_it) whole w0 w2 f0 f2
 walked names t p left rest before after_it whole w0 w1 w2 f0 f1 f2 parts same remains wrote =
     remains_same (turns_text names (t + 1) rest (after before)) (turns_text names (t + 1) rest after_it) whole w0 w2 f0 f2 (ap (turns_text names (t + 1) rest) (sym same))
     (remains_less (turn_text names t before) (turns_text names (t + 1) rest (after before)) whole w0 w1 w2 f0 f1 f2
     (remains_same (turns_text names t left before) (turns_text names t (p ∷ rest) before) whole w0 w1 f0 f1 (ap (λ ps. turns_text names t ps before) parts) remains) wrote)
 
-pub walk_stopped : {D : Type 0} (names : Naming) (t p : ℕ) (left rest : List ℕ) (before : Alone) (whole : List ℕ) (w0 w1 w2 : Option (List ℕ)) (f0 f1 f2 : ℕ) (e : Failed) (r : Result (Unit {0}) D) → IsErr r → left ≡ p ∷ rest →
+pub walk_stopped : {D : Type 0} (names : Naming) (t p : ℕ) (left rest : List ℕ) (before : Alone) (whole : List ℕ) (w0 w1 w2 : Option (List ℕ)) (f0 f1 f2 : Faults) (e : Failed) (r : Result (Unit {0}) D) → IsErr r → left ≡ p ∷ rest →
     Remains (turns_text names t left before) whole w0 w1 f0 f1 → Puts {T = Unit {0}} {E = Failed} (turn_text names t before) w1 w2 f1 f2 (Err e) → Puts whole w0 w2 f0 f2 r
 walk_stopped names t p left rest before whole w0 w1 w2 f0 f1 f2 e r h parts remains wrote =
     remains_stopped (turn_text names t before) (turns_text names (t + 1) rest (after before)) whole w0 w1 w2 f0 f1 f2 e r h
@@ -82,7 +83,7 @@ turns_text-idle names t (p ∷ ps) a idle =
     ∙ ap (turns_text names (t + 1) ps) (after-idle a idle) ∙ turns_text-idle names (t + 1) ps a idle
 
 -- the walk is over where all turns left are idle
-pub walk_idled : (names : Naming) (t : ℕ) (left : List ℕ) (a : Alone) (whole : List ℕ) (w0 w1 : Option (List ℕ)) (f0 f1 : ℕ) → is_running a ≡ false →
+pub walk_idled : (names : Naming) (t : ℕ) (left : List ℕ) (a : Alone) (whole : List ℕ) (w0 w1 : Option (List ℕ)) (f0 f1 : Faults) → is_running a ≡ false →
     Remains (turns_text names t left a) whole w0 w1 f0 f1 → Puts {T = Unit {0}} {E = Failed} whole w0 w1 f0 f1 (Ok tt)
 walk_idled names t left a whole w0 w1 f0 f1 idle remains =
     remains_none whole w0 w1 f0 f1 (remains_same (turns_text names t left a) [] whole w0 w1 f0 f1 (turns_text-idle names t left a idle) remains)
@@ -147,7 +148,7 @@ after-alternate (Tries trial stage env held) = bounded-alternate (counted trial)
 after-alternate (Fell env) = omega arith
 
 -- a whole run
-pub run_stopped : {D : Type 0} (names : Naming) (all left : List ℕ) (a : Alone) (w0 w1 w2 : Option (List ℕ)) (f0 f1 f2 : ℕ) (e : Failed) (r : Result (Unit {0}) D) → IsErr r → left ≡ all →
+pub run_stopped : {D : Type 0} (names : Naming) (all left : List ℕ) (a : Alone) (w0 w1 w2 : Option (List ℕ)) (f0 f1 f2 : Faults) (e : Failed) (r : Result (Unit {0}) D) → IsErr r → left ≡ all →
     Puts {T = Unit {0}} {E = Failed} (done_text names 0 a) w0 w1 f0 f1 (Ok tt) → Puts {T = Unit {0}} {E = Failed} (turns_text names 1 left a) w1 w2 f1 f2 (Err e) → Puts (text_alone names all a) w0 w2 f0 f2 r
 run_stopped names all left a w0 w1 w2 f0 f1 f2 e r h fresh opened walked =
     let ending = ending_text names (length all) (after_all all a) in
@@ -155,7 +156,7 @@ run_stopped names all left a w0 w1 w2 f0 f1 f2 e r h fresh opened walked =
     puts_both (done_text names 0 a) (turns_text names 1 all a ++ ending) w0 w1 w2 f0 f1 f2 tt r opened
     (puts_stopped_at (turns_text names 1 all a) ending w1 w2 f1 f2 e r h turns)
 
-pub run_finished : (names : Naming) (all left : List ℕ) (n : ℕ) (a now : Alone) (w0 w1 w2 w3 : Option (List ℕ)) (f0 f1 f2 f3 : ℕ) (r : Result (Unit {0}) Failed) → left ≡ all → n ≡ length all → now ≡ after_all left a →
+pub run_finished : (names : Naming) (all left : List ℕ) (n : ℕ) (a now : Alone) (w0 w1 w2 w3 : Option (List ℕ)) (f0 f1 f2 f3 : Faults) (r : Result (Unit {0}) Failed) → left ≡ all → n ≡ length all → now ≡ after_all left a →
     Puts {T = Unit {0}} {E = Failed} (done_text names 0 a) w0 w1 f0 f1 (Ok tt) → Puts {T = Unit {0}} {E = Failed} (turns_text names 1 left a) w1 w2 f1 f2 (Ok tt) → Puts (ending_text names n now) w2 w3 f2 f3 r →
     Puts (text_alone names all a) w0 w3 f0 f3 r
 run_finished names all left n a now w0 w1 w2 w3 f0 f1 f2 f3 r fresh counted led opened walked ended =

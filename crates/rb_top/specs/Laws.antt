@@ -1,12 +1,12 @@
 -- Laws of judgements.
--- All of it is this project's own.
-use Rattle.std.specs.Prelude.{◌≡◌, ℕ, List}
-use Rattle.rb_top.specs.Answers.{Verdict, Judges}
+use Rattle.std.specs.Prelude.{◌≡◌, ℕ, List, [], length}
+use Rattle.rb_top.specs.Words.{Command, files_of}
+use Rattle.rb_top.specs.Judgement.{Judgement, EndsWith}
 
--- two texts have one verdict at most
+-- a command ends in one way at most with the texts of its files
 abbrev pub AreJudgedOnce : Type 0
-AreJudgedOnce = (source schedule : List ℕ) (v w : Verdict) → Judges source schedule v → Judges source schedule w → v ≡ w
+AreJudgedOnce = (command : Command) (texts : List (List ℕ)) (v w : Judgement) → EndsWith command [] texts v → EndsWith command [] texts w → v ≡ w
 
--- two texts have a verdict
+-- a command ends in some way with the texts of its files
 abbrev pub AreJudged : Type 0
-AreJudged = (source schedule : List ℕ) → (verdict : Verdict) × Judges source schedule verdict
+AreJudged = (command : Command) (texts : List (List ℕ)) → length texts ≡ files_of command → (v : Judgement) × EndsWith command [] texts v

@@ -1,5 +1,4 @@
 -- A file as it is read, piece after piece.
--- All of it is this project's own.
 use Rattle.std.specs.Prelude.{◌≡◌, ◌≤◌, ℕ, List, length, take, Option, Some, None, Result, Ok, Err}
 use Rattle.rb_outside.specs.Outside.{File, Reading, bytes_of}
 use Rattle.rb_top.specs.declared.read.Unread.{Unread}

@@ -2,6 +2,7 @@
 use Rattle.std.proofs.Common.{◌≡◌, ℕ, ◌+◌, ◌-◌, Bor, arith, ◌<◌, ◌≤◌, List, [], ◌∷◌, ◌++◌, length, map, take, drop, get_or, Option, Result, Ok, Err, IsErr, refl, sym, ap, ◌∙◌, append_assoc}
 use Rattle.std.proofs.lemmas.List.{take_more, take_all, take-append-drop, append-nil}
 use Rattle.std.proofs.lemmas.Grind.{flat_map-append}
+use Rattle.rb_outside.specs.Outside.{Faults}
 use Rattle.rb_outside.specs.Puts.{Puts}
 use Rattle.rb_outside.proofs.Puts.{puts_same, puts_both, puts_stopped_at}
 use Rattle.std.specs.List.{flat_map}
@@ -16,7 +17,7 @@ line_of-spaced first (word ∷ words) =
 
 -- one element more of a list was written, each by a function
 pub puts_next : {X T U E D : Type 0} (f : X → List ℕ) (xs : List X) (i : ℕ) (d : X) → i < length xs →
-    (w0 w1 w2 : Option (List ℕ)) (f0 f1 f2 : ℕ) (v : T) (r : Result U E) →
+    (w0 w1 w2 : Option (List ℕ)) (f0 f1 f2 : Faults) (v : T) (r : Result U E) →
     Puts {T = T} {E = D} (flat_map f (take i xs)) w0 w1 f0 f1 (Ok v) → Puts (f (get_or xs i d)) w1 w2 f1 f2 r → Puts (flat_map f (take (i + 1) xs)) w0 w2 f0 f2 r
 puts_next f xs i d h w0 w1 w2 f0 f1 f2 v r p q =
     let grown : flat_map f (take (i + 1) xs) ≡ flat_map f (take i xs) ++ f (get_or xs i d) =
@@ -24,7 +25,7 @@ puts_next f xs i d h w0 w1 w2 f0 f1 f2 v r p q =
     puts_same _ _ w0 w2 f0 f2 r (sym grown) (puts_both _ _ w0 w1 w2 f0 f1 f2 v r p q)
 
 -- a write stopped within a list
-pub puts_part : {X T U E D : Type 0} (f : X → List ℕ) (xs : List X) (n : ℕ) (w0 w1 : Option (List ℕ)) (f0 f1 : ℕ) (e : E) (r : Result U D) →
+pub puts_part : {X T U E D : Type 0} (f : X → List ℕ) (xs : List X) (n : ℕ) (w0 w1 : Option (List ℕ)) (f0 f1 : Faults) (e : E) (r : Result U D) →
     IsErr r → Puts {T = T} (flat_map f (take n xs)) w0 w1 f0 f1 (Err e) → Puts (flat_map f xs) w0 w1 f0 f1 r
 puts_part f xs n w0 w1 f0 f1 e r h p =
     let parts : flat_map f (take n xs) ++ flat_map f (drop n xs) ≡ flat_map f xs =
@@ -32,7 +33,7 @@ puts_part f xs n w0 w1 f0 f1 e r h p =
     puts_same _ _ w0 w1 f0 f1 r parts (puts_stopped_at _ _ w0 w1 f0 f1 e r h p)
 
 -- a whole list was written
-pub puts_whole : {X T D : Type 0} (f : X → List ℕ) (xs : List X) (n : ℕ) (w0 w1 : Option (List ℕ)) (f0 f1 : ℕ) (r : Result T D) →
+pub puts_whole : {X T D : Type 0} (f : X → List ℕ) (xs : List X) (n : ℕ) (w0 w1 : Option (List ℕ)) (f0 f1 : Faults) (r : Result T D) →
     length xs ≤ n → Puts (flat_map f (take n xs)) w0 w1 f0 f1 r → Puts (flat_map f xs) w0 w1 f0 f1 r
 puts_whole f xs n w0 w1 f0 f1 r h p = puts_same _ _ w0 w1 f0 f1 r (ap (flat_map f) (take_all n xs h)) p
 
