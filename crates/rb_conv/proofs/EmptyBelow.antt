@@ -31,7 +31,7 @@ empty_all below whole xs n h so_far = sym (
     ∙ take_all n xs h)
 
 -- who leaves stays a member
-outside_kept : (members : List Member) → map (λ (m : Member). m.process) (all_outside members) ≡ map (λ (m : Member). m.process) members
+pub outside_kept : (members : List Member) → map (λ (m : Member). m.process) (all_outside members) ≡ map (λ (m : Member). m.process) members
 outside_kept [] = refl
 outside_kept (m ∷ ms) = ap (λ (ps : List ℕ). m.process ∷ ps) (outside_kept ms)
 

@@ -1,3 +1,5 @@
 pub mod ParentSteps
 pub mod Places
 pub mod EmptyBelow
+pub mod TalksAfterCalls
+pub mod WhoIsInside
