@@ -4,7 +4,6 @@ use Rattle.std.proofs.Math.Seq.{take-suc-set, drop-cons}
 use Rattle.std.proofs.lemmas.List.{drop-set-lt, take_all, drop_all, append-nil, get_or_default}
 use Rattle.rb_world.specs.Kind.{Membership}
 use Rattle.rb_conv.specs.declared.member.Member.{Member}
-use Rattle.rb_conv.specs.declared.member.Place.TheVariants.{Outside}
 use Rattle.rb_conv.specs.Conversations.{Conversation, all_outside, emptied, membership, memberships}
 use Rattle.rb_conv.specs.Reject.{emptied_from}
 

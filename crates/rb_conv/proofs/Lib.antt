@@ -3,3 +3,4 @@ pub mod Places
 pub mod EmptyBelow
 pub mod TalksAfterCalls
 pub mod WhoIsInside
+pub mod AllStand

@@ -3,7 +3,6 @@ use Rattle.std.proofs.Common.{◌≡◌, ◌+◌, ℕ, zero, suc, Bool, true, fa
 use Rattle.std.proofs.lemmas.List.{length-map}
 use Rattle.std.proofs.lemmas.Option.{slice_get-map}
 use Rattle.rb_base.specs.declared.names.Group.{Group}
-use Rattle.rb_base.specs.declared.names.Nested.{Nested}
 use Rattle.rb_world.specs.Kind.{Membership}
 use Rattle.rb_world.specs.Reject.{first_again, is_below, parent_of, reset_below, reset_from}
 use Rattle.rb_world.specs.Turn.{opening_talks}
@@ -11,9 +10,9 @@ use Rattle.rb_world.specs.World.{Talk, change_at}
 use Rattle.rb_conv.specs.declared.member.Member.{Member}
 use Rattle.rb_conv.specs.declared.member.Place.{Place}
 use Rattle.rb_conv.specs.declared.member.Place.TheVariants.{AtLine, Inside}
-use Rattle.rb_conv.specs.Conversations.{Conversation, arrived, conversation_at, emptied, entered, goes, goes_if, membership, memberships, one_goes, opened, opening, talks, with_members}
+use Rattle.rb_conv.specs.Conversations.{Conversation, arrived, conversation_at, emptied, entered, goes, membership, memberships, one_goes, opened, talks, with_members}
 use Rattle.rb_conv.specs.Reject.{emptied_below, emptied_from, exhausted, goes_off_line, has_next, put_back, rejected}
-use Rattle.rb_conv.specs.Laws.{MembersAfter, MembersStay, TalksAfter, TalksAreTheWorlds, talk_after}
+use Rattle.rb_conv.specs.Laws.{MembersStay, TalksAreTheWorlds, talk_after}
 use Rattle.rb_conv.proofs.EmptyBelow.{membership_kept, outside_kept}
 
 -- what is seen of a list with one element changed

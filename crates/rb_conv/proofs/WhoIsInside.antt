@@ -1,5 +1,5 @@
 -- Who is inside a conversation, and who stands at its test line, after each call: by process and conversation.
-use Rattle.std.proofs.Common.{◌≡◌, ◌+◌, ◌<◌, ℕ, zero, suc, Bool, true, false, not, cond, ◌&&◌, ◌||◌, List, [], ◌∷◌, length, map, get_or, nat_eq, Option, Some, None, refl, ap, ◌∙◌, arith, not-suc-le-zero, le_of_suc-le-suc}
+use Rattle.std.proofs.Common.{◌≡◌, ◌<◌, ℕ, zero, suc, Bool, true, false, not, cond, ◌&&◌, ◌||◌, List, [], ◌∷◌, length, map, get_or, nat_eq, Option, Some, None, refl, ap, ◌∙◌, arith, not-suc-le-zero, le_of_suc-le-suc}
 use Rattle.std.proofs.lemmas.Bool.Decides.{nat_tests}
 use Rattle.std.specs.List.{list_any}
 use Rattle.rb_world.specs.Reject.{is_below}

@@ -1,12 +1,12 @@
 -- What the calls of the table do, as a world sees it: which alternate each conversation tries and whether it is broken, and who
 -- its members are. So a machine may keep the table in the place of the world's conversations. This project's own.
 use Rattle.std.specs.Prelude.{◌≡◌, ◌<◌, ℕ, nat_eq, Bool, true, false, not, cond, ◌&&◌, ◌||◌, List, length, slice_get, Option, Some, None}
-use Rattle.std.specs.List.{list_any}
+use Rattle.std.specs.List.{IsDistinct, list_all, list_any}
 use Rattle.rb_base.specs.declared.names.Nested.{Nested}
 use Rattle.rb_world.specs.Reject.{broken_talk, first_again, is_below, next_talk, parent_of, reset_below}
 use Rattle.rb_world.specs.Turn.{opening_talks}
 use Rattle.rb_world.specs.World.{Talk, change_at}
-use Rattle.rb_conv.specs.Conversations.{Conversation, arrived, conversation_at, emptied, entered, is_inside, memberships, opening, stands, talks}
+use Rattle.rb_conv.specs.Conversations.{Conversation, all_stand, arrived, conversation_at, emptied, entered, is_inside, membership, memberships, opening, stands, talks}
 use Rattle.rb_conv.specs.Reject.{emptied_below, has_next, put_back, rejected}
 
 -- a conversation that was rejected is at its next alternate, or back at the first; without a parent it is then broken
@@ -68,3 +68,8 @@ OthersStay =
     → conversation_at (change_at c f before) d ≡ cond (nat_eq d c) (f (conversation_at before d)) (conversation_at before d))
     × ((before : List Conversation) (c d : ℕ) → d < length before → conversation_at (emptied_below c before) d
     ≡ cond (is_below (memberships before) (length before) c d) (emptied (conversation_at before d)) (conversation_at before d))
+
+-- with distinct members, all stand exactly where each declared member does
+abbrev pub AllStandByEach : Type 0
+AllStandByEach = (conversation : Conversation) → IsDistinct nat_eq (membership conversation).members
+    → all_stand conversation ≡ list_all (λ p. stands p conversation) (membership conversation).members

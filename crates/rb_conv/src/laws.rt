@@ -1,4 +1,4 @@
-ghost use Rattle.rb_conv.specs.Laws.{MembersStay, OthersStay, PlacesAreExact, TalksAreTheWorlds};
+ghost use Rattle.rb_conv.specs.Laws.{AllStandByEach, MembersStay, OthersStay, PlacesAreExact, TalksAreTheWorlds};
 
 /// At the opening and after each call the table has the alternates and the broken marks that a world has.
 pub fn talks_are_the_worlds()
@@ -18,4 +18,9 @@ pub fn places_are_exact()
 /// A change of one conversation leaves the others, and a rejection empties those below and no others.
 pub fn others_stay()
     ensures { OthersStay }
+{}
+
+/// All members stand at the test line exactly where each declared member does.
+pub fn all_stand_by_each()
+    ensures { AllStandByEach }
 {}
