@@ -38,7 +38,8 @@ pub last_small : (log : List Entry) (p : ℕ) → last_of log p ≤ length log
 last_small [] p = omega arith
 last_small (e ∷ log) p = last_small_step (eqb e.place p) (last_of log p) (length log) (last_small log p)
 
-last_is_step : (e : Entry) (log : List Entry) (p : ℕ) (d : Entry) (b : Bool) → eqb e.place p ≡ b → (n : ℕ) → (0 < n → (get_or log (n - 1) d).place ≡ p)
+last_is_step : (e : Entry) (log : List Entry) (p : ℕ) (d : Entry) (b : Bool) → eqb e.place p ≡ b → (n : ℕ)
+    → (0 < n → (get_or log (n - 1) d).place ≡ p)
     → 0 < one_more b n → (get_or (e ∷ log) (one_more b n - 1) d).place ≡ p
 last_is_step e log p d true k zero f h = eqb-true e.place p k
 last_is_step e log p d false k zero f h = absurd (omega (arith, h))
@@ -95,17 +96,20 @@ once (Some w) v o = refl
 pub record Link (log : List Entry) (f n p : ℕ) (found : Option ℤ) (e : Entry) : Type 0 where
   pub less : e.earlier < n
   pub same : (x : Entry) → 0 < e.earlier → (get_or log (e.earlier - 1) x).place ≡ p
-  pub rest : or_else (first_saved p (map saved_of (drop f (take e.earlier log)))) (Some e.value) ≡ or_else (first_saved p (map saved_of (drop f (take n log)))) found
+  pub rest : or_else (first_saved p (map saved_of (drop f (take e.earlier log)))) (Some e.value) ≡ or_else
+      (first_saved p (map saved_of (drop f (take n log)))) found
 
 pub link : (log : List Entry) → ((i : ℕ) (d : Entry) → i < length log → (get_or log i d).earlier ≡ last_of (take i log) (get_or log i d).place)
-    → (f n p : ℕ) (found : Option ℤ) (d : Entry) → f < n → n ≤ length log → (get_or log (n - 1) d).place ≡ p → Link log f n p found (get_or log (n - 1) d)
+    → (f n p : ℕ) (found : Option ℤ) (d : Entry) → f < n → n ≤ length log → (get_or log (n - 1) d).place ≡ p
+    → Link log f n p found (get_or log (n - 1) d)
 link log before f n p found d lt le is =
     let e = get_or log (n - 1) d in
     let xs = take (n - 1) log in
     let size : length xs ≡ n - 1 = length-take-le (n - 1) log (omega arith) in
     let o : e.earlier ≡ last_of xs p = before (n - 1) d (omega arith) ∙ ap (last_of xs) is in
     let small : last_of xs p ≤ n - 1 = omega (arith, last_small xs p, size) in
-    let whole : take n log ≡ xs ++ e ∷ [] = ap (λ (i : ℕ). take i log) (let h : n ≡ n - 1 + 1 = omega arith in h) ∙ take_more log (n - 1) d (omega arith) in
+    let whole : take n log ≡ xs ++ e ∷ [] = ap (λ (i : ℕ). take i log) (let h : n ≡ n - 1 + 1 = omega arith in h)
+    ∙ take_more log (n - 1) d (omega arith) in
     let a : first_saved p (map saved_of (drop f (take e.earlier log))) ≡ first_saved p (map saved_of (drop f xs)) =
     ap (λ (i : ℕ). first_saved p (map saved_of (drop f (take i log)))) o
     ∙ ap (λ (ys : List Entry). first_saved p (map saved_of (drop f ys))) (sym (take-take (last_of xs p) (n - 1) log small))
@@ -138,7 +142,8 @@ copy_is ws (m ∷ ms) log (suc k) d c h =
     let f = (get_or ms k d).first in
     let us = take m.first log in
     let vs = drop m.first log in
-    let whole : drop f log ≡ drop f us ++ vs = ap (drop f) (sym (take-append-drop m.first log)) ∙ drop-append-le f us vs (first_within ms us k d c.1 lt) in
+    let whole : drop f log ≡ drop f us ++ vs = ap (drop f) (sym (take-append-drop m.first log))
+    ∙ drop-append-le f us vs (first_within ms us k d c.1 lt) in
     let all : put_back ws (map saved_of (drop f log)) ≡ put_back (put_back ws (map saved_of vs)) (map saved_of (drop f us)) =
     ap (λ (es : List Entry). put_back ws (map saved_of es)) whole
     ∙ ap (λ (os : List Saved). put_back ws os) (map-append saved_of (drop f us) vs)

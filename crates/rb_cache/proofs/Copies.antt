@@ -79,9 +79,11 @@ pub restored-write_top : (n : ℕ) (ws : List ℤ) (p : ℕ) (v : ℤ) (r : Regi
 restored-write_top n ws p v r rs s true false i k =
     rw (i, k) (ap (λ us. take r.height us ∷ restored us rs) (put_back-new ws p v r.saved))
 restored-write_top n ws p v r rs s true true i k =
-    rw (i, k) (ap (λ us. take r.height us ∷ restored us rs) (put_back-set ws p v r.saved ∙ ap (λ b. cond b (put_back ws r.saved) (set (put_back ws r.saved) p v)) k))
+    rw (i, k) (ap (λ us. take r.height us ∷ restored us rs)
+    (put_back-set ws p v r.saved ∙ ap (λ b. cond b (put_back ws r.saved) (set (put_back ws r.saved) p v)) k))
 restored-write_top n ws p v r rs s false known i k =
-    rw i (restored-same r.height (set ws p v) ws (r ∷ rs) (omega arith, all_low n r.height rs s.2 s.1) (take-set-le r.height ws p v (grind (arith, common_steps))))
+    rw i (restored-same r.height (set ws p v) ws (r ∷ rs) (omega arith, all_low n r.height rs s.2 s.1)
+    (take-set-le r.height ws p v (grind (arith, common_steps))))
 
 pub restored-write : (n : ℕ) (ws : List ℤ) (p : ℕ) (v : ℤ) (rs : List Region) → Stacked n rs
     → restored (set ws p v) (recorded p (get_or ws p (pos 0)) rs) ≡ restored ws rs
@@ -145,4 +147,5 @@ pub restored-accepted : (n : ℕ) (ws : List ℤ) (rs : List Region) → 0 < len
     → (c : List ℤ) × (restored ws rs ≡ c ∷ restored ws (merged rs))
 restored-accepted n ws [] h s = absurd (omega (arith, h))
 restored-accepted n ws (t ∷ []) h s = (take t.height (put_back ws t.saved), refl)
-restored-accepted n ws (t ∷ l ∷ rs) h s = (take t.height (put_back ws t.saved), ap (λ (cs : List (List ℤ)). take t.height (put_back ws t.saved) ∷ cs) (sym (restored-accept n ws t l rs s)))
+restored-accepted n ws (t ∷ l ∷ rs) h s =
+    (take t.height (put_back ws t.saved), ap (λ (cs : List (List ℤ)). take t.height (put_back ws t.saved) ∷ cs) (sym (restored-accept n ws t l rs s)))

@@ -63,7 +63,8 @@ heights_in ws (r ∷ rs) a =
 map-reverse : {A B : Type 0} (f : A → B) (xs : List A) → map f (reverse xs) ≡ reverse (map f xs)
 map-reverse f [] = refl
 map-reverse f (x ∷ xs) =
-    ap (map f) (reverse-cons x xs) ∙ map-append f (reverse xs) (x ∷ []) ∙ ap (λ ys. ys ++ f x ∷ []) (map-reverse f xs) ∙ sym (reverse-cons (f x) (map f xs))
+    ap (map f) (reverse-cons x xs) ∙ map-append f (reverse xs) (x ∷ []) ∙ ap (λ ys. ys ++ f x ∷ []) (map-reverse f xs)
+    ∙ sym (reverse-cons (f x) (map f xs))
 
 pub heights_lengths : (ws : List ℤ) (cache : RecoveryCache) → Fits ws cache
     → map (λ (copy : List ℤ). length copy) (copies ws cache) ≡ map (λ (l : Level). l.height) (open_levels cache)

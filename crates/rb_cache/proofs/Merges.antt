@@ -60,7 +60,8 @@ ready_push : (log : List Entry) (e : Entry) (todo : List Entry) → AllByRecursi
     → AllByRecursion (λ (x : Entry). x.earlier ≡ last_of log x.place) todo
     → AllByRecursion (λ (x : Entry). x.earlier ≡ last_of (log ++ e ∷ []) x.place) todo
 ready_push log e [] d a = tt
-ready_push log e (x ∷ todo) d a = (a.0 ∙ sym (last_of-push log e x.place ∙ ap (λ (c : Bool). cond c (length log + 1) (last_of log x.place)) d.0), ready_push log e todo d.1 a.1)
+ready_push log e (x ∷ todo) d a =
+    (a.0 ∙ sym (last_of-push log e x.place ∙ ap (λ (c : Bool). cond c (length log + 1) (last_of log x.place)) d.0), ready_push log e todo d.1 a.1)
 
 apart : (x : ℕ) (xs : List ℕ) → IsDistinct eqb (x ∷ xs) → AllByRecursion (λ (y : ℕ). eqb x y ≡ false) xs × IsDistinct eqb xs
 unfolding IsDistinct
@@ -84,7 +85,8 @@ pub Merging-step : (n : ℕ) (l : Mark) (ms : List Mark) (s : Merge) (e : Entry)
 Merging-step n l ms s e todo m true b =
     let t = both (nat_lt e.place l.height) (nat_lt l.first e.earlier) b in
     let d = apart e.place (map place_of (map saved_of todo)) m.distinct in
-    let free : is_saved e.place (map saved_of (drop l.first s.log)) ≡ false = is_saved-last l.first s.log e.place ∙ ap (nat_lt l.first) (sym m.ready.0)
+    let free : is_saved e.place (map saved_of (drop l.first s.log)) ≡ false = is_saved-last l.first s.log e.place
+    ∙ ap (nat_lt l.first) (sym m.ready.0)
     ∙ t.1 in
     record {
       size = length-set s.stamps e.place (length s.log + 1) ∙ m.size;
@@ -97,8 +99,12 @@ Merging-step n l ms s e todo m true b =
           rw (get_or_append_left s.log (e ∷ []) x i j, take-append-le i s.log (e ∷ []) (omega arith)) (m.before i x j))
           (cases_eq i (length s.log));
       cuts = Cuts-push l ms s.log e m.cuts;
-      stacked = subst (Stacked n) (sym (regions-push l ms s.log e m.cuts.0))
-          (IsRegion-push n l.height (map saved_of (drop l.first s.log)) (saved_of e) m.stacked.0 free (lt_from_test e.place l.height t.0) m.within.0, m.stacked.1, m.stacked.2);
+      stacked = subst (Stacked n) (sym (regions-push l ms s.log e m.cuts.0)) (
+        IsRegion-push n l.height (map saved_of (drop l.first s.log)) (saved_of e) m.stacked.0 free
+            (lt_from_test e.place l.height t.0) m.within.0,
+        m.stacked.1,
+        m.stacked.2,
+      );
       ready = ready_push s.log e todo d.0 m.ready.1;
       distinct = d.1;
       within = m.within.1;
@@ -148,7 +154,8 @@ all_by_index : (P : Entry → Type 0) (xs : List Entry) → ((j : ℕ) (d : Entr
 all_by_index P [] f = tt
 all_by_index P (x ∷ xs) f = (f 0 x (omega arith), all_by_index P xs (λ j d h. f (suc j) d (omega (arith, h))))
 
-other_at : (x : ℕ) (es : List Entry) → AllByRecursion (λ (y : ℕ). eqb x y ≡ false) (map place_of (map saved_of es)) → (j : ℕ) (d : Entry) → j < length es
+other_at : (x : ℕ) (es : List Entry) → AllByRecursion (λ (y : ℕ). eqb x y ≡ false) (map place_of (map saved_of es)) → (j : ℕ) (d : Entry)
+    → j < length es
     → eqb x (get_or es j d).place ≡ false
 other_at x [] a j d h = absurd (omega (arith, h))
 other_at x (e ∷ es) a zero d h = a.0
@@ -164,16 +171,19 @@ not_before (e ∷ es) a (suc j) d h =
     ap (λ (c : Bool). c || is_saved p (map saved_of (take j es))) (eqb-flip p e.place ∙ other_at e.place es k.0 j d (omega (arith, h)))
     ∙ not_before es k.1 j d (omega (arith, h))
 
-ready_at : (f : ℕ) (log : List Entry) → f ≤ length log → {st : List ℕ} → WellStamped st log → IsDistinct eqb (map place_of (map saved_of (drop f log)))
+ready_at : (f : ℕ) (log : List Entry) → f ≤ length log → {st : List ℕ} → WellStamped st log
+    → IsDistinct eqb (map place_of (map saved_of (drop f log)))
     → (j : ℕ) (d : Entry) → j < length (drop f log) → (get_or (drop f log) j d).earlier ≡ last_of (take f log) (get_or (drop f log) j d).place
 ready_at f log le w a j d h =
     let e = get_or (drop f log) j d in
     let at : e ≡ get_or log (f + j) d = get_or-drop f log j d in
     let lt : f + j < length log = omega (arith, h, length-drop f log) in
-    let o : e.earlier ≡ last_of (take (f + j) log) e.place = subst (λ (x : Entry). x.earlier ≡ last_of (take (f + j) log) x.place) (sym at) (w.before (f + j) d lt) in
+    let o : e.earlier ≡ last_of (take (f + j) log) e.place =
+    subst (λ (x : Entry). x.earlier ≡ last_of (take (f + j) log) x.place) (sym at) (w.before (f + j) d lt) in
     let none : is_saved e.place (map saved_of (drop f (take (f + j) log))) ≡ false =
     ap (λ (xs : List Entry). is_saved e.place (map saved_of xs)) (drop-take f j log) ∙ not_before (drop f log) a j d h in
-    let few : last_of (take (f + j) log) e.place ≤ f = le_from_test f (last_of (take (f + j) log) e.place) (sym (is_saved-last f (take (f + j) log) e.place) ∙ none) in
+    let few : last_of (take (f + j) log) e.place ≤ f =
+    le_from_test f (last_of (take (f + j) log) e.place) (sym (is_saved-last f (take (f + j) log) e.place) ∙ none) in
     o ∙ sym (last_of-take f (take (f + j) log) e.place few) ∙ ap (λ (xs : List Entry). last_of xs e.place) (take-take f (f + j) log (omega arith))
 
 pub Merging-start : (n : ℕ) (t l : Mark) (ms : List Mark) (st : List ℕ) (log : List Entry) → Holds n (t ∷ l ∷ ms) st log
@@ -187,7 +197,8 @@ Merging-start n t l ms st log k = record {
       rw (get_or-take t.first log i d j, take-take i t.first log (omega arith)) (k.stamped.before i d (omega (arith, k.cuts.0)));
   cuts = k.cuts.1;
   stacked = k.stacked.2;
-  ready = all_by_index (λ (e : Entry). e.earlier ≡ last_of (take t.first log) e.place) (drop t.first log) (ready_at t.first log k.cuts.0 k.stamped k.stacked.0.distinct);
+  ready = all_by_index (λ (e : Entry). e.earlier ≡ last_of (take t.first log) e.place) (drop t.first log)
+      (ready_at t.first log k.cuts.0 k.stamped k.stacked.0.distinct);
   distinct = k.stacked.0.distinct;
   within = within_saved n (drop t.first log) k.stacked.0.within;
 }
@@ -200,10 +211,13 @@ regions-merged n t l ms st log k =
     let m = Merging-start n t l ms st log k in
     let e = merge_all-log l (record { stamps = st; log = base }) (drop t.first log) in
     ap (regions_of (l ∷ ms)) e
-    ∙ ap (λ (xs : List Entry). record { height = l.height; saved = map saved_of xs } ∷ regions_of ms (take l.first (base ++ more))) (drop-append-le l.first base more k.cuts.1.0)
-    ∙ ap (λ (xs : List Entry). record { height = l.height; saved = map saved_of (drop l.first base ++ more) } ∷ regions_of ms xs) (take-append-le l.first base more k.cuts.1.0)
+    ∙ ap (λ (xs : List Entry). record { height = l.height; saved = map saved_of xs } ∷ regions_of ms (take l.first (base ++ more)))
+    (drop-append-le l.first base more k.cuts.1.0)
+    ∙ ap (λ (xs : List Entry). record { height = l.height; saved = map saved_of (drop l.first base ++ more) } ∷ regions_of ms xs)
+    (take-append-le l.first base more k.cuts.1.0)
     ∙ ap (λ (es : List Saved). record { height = l.height; saved = es } ∷ regions_of ms (take l.first base)) (map-append saved_of (drop l.first base) more)
-    ∙ ap (λ (es : List Saved). record { height = l.height; saved = map saved_of (drop l.first base) ++ es } ∷ regions_of ms (take l.first base)) (filter_same l base (drop t.first log) m.ready)
+    ∙ ap (λ (es : List Saved). record { height = l.height; saved = map saved_of (drop l.first base) ++ es } ∷ regions_of ms (take l.first base))
+    (filter_same l base (drop t.first log) m.ready)
 
 -- with nothing around the top level
 pub record Accepted (n : ℕ) (t : Mark) (ms : List Mark) (st : List ℕ) (log : List Entry) (r : Merge) : Type 0 where
@@ -239,10 +253,18 @@ accepted n t [] st log k =
     let s : Merge = record { stamps = st; log = take t.first log } in
     let h = on_bottom n t st log k in
     let r = merge_all l s (drop t.first log) in
-    record { holds = off_bottom n r.stamps r.log (Holds-merged n l [] r (Merging-all n l [] s (drop t.first log) (Merging-start n t l [] st log h))); regions = refl }
+    record {
+      holds = off_bottom n r.stamps r.log
+          (Holds-merged n l [] r (Merging-all n l [] s (drop t.first log) (Merging-start n t l [] st log h)));
+      regions = refl;
+    }
 accepted n t (l ∷ ms) st log k =
     let s : Merge = record { stamps = st; log = take t.first log } in
-    record { holds = Holds-merged n l ms (merge_all l s (drop t.first log)) (Merging-all n l ms s (drop t.first log) (Merging-start n t l ms st log k)); regions = regions-merged n t l ms st log k }
+    record {
+      holds = Holds-merged n l ms (merge_all l s (drop t.first log))
+          (Merging-all n l ms s (drop t.first log) (Merging-start n t l ms st log k));
+      regions = regions-merged n t l ms st log k;
+    }
 
 pub pop_marks : (marks rest : List Mark) (t : Mark) → 0 < length marks → t ≡ innermost (reverse marks) → rest ≡ take (length marks - 1) marks
     → reverse marks ≡ t ∷ reverse rest

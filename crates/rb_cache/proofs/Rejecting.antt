@@ -21,7 +21,8 @@ pub record Innermost (n : ℕ) (ws : List ℤ) (k : RecoveryCache) (marks : List
   pub within : AllByRecursion (λ (s : Saved). s.place < length ws) (map saved_of (drop m.first log))
   pub touched : length (last_touched k) ≡ length log - m.first
 
-pub innermost_is : (ws : List ℤ) (k : RecoveryCache) (marks : List Mark) (st : List ℕ) (log : List Entry) (l w n : ℕ) (m : Mark) → seen marks log l w ≡ k
+pub innermost_is : (ws : List ℤ) (k : RecoveryCache) (marks : List Mark) (st : List ℕ) (log : List Entry) (l w n : ℕ) (m : Mark)
+    → seen marks log l w ≡ k
     → 0 < length (open_levels k)
     → n ≡ length marks → m ≡ get_or marks (n - 1) m → Holds w (reverse marks) st log → Fits ws k → Innermost w ws k marks st log m
 innermost_is ws k marks st log l w n m v some e at h f =
@@ -34,8 +35,10 @@ innermost_is ws k marks st log l w n m v some e at h f =
       top = t;
       is = is;
       low = low;
-      within = all_weaker (λ (s : Saved). s.place < m.height) (λ (s : Saved). s.place < length ws) (λ s lt. omega (arith, low, lt)) saved t.holds.stacked.0.below;
-      touched = ap (λ (ps : List ℕ). length ps) (last_touched-is (record { height = m.height; saved = saved }) (regions_of t.around (take m.first log)) k is) ∙ length-saved m.first log;
+      within = all_weaker (λ (s : Saved). s.place < m.height) (λ (s : Saved). s.place < length ws)
+          (λ s lt. omega (arith, low, lt)) saved t.holds.stacked.0.below;
+      touched = ap (λ (ps : List ℕ). length ps)
+          (last_touched-is (record { height = m.height; saved = saved }) (regions_of t.around (take m.first log)) k is) ∙ length-saved m.first log;
     }
 
 -- the words and the regions after a rejection
@@ -45,12 +48,14 @@ pub record Rejected (ws us : List ℤ) (k : RecoveryCache) (new : List Region) :
   pub levels : reverse (map level_of new) ≡ change_last (λ (l : Level). entered l.height) (open_levels k)
   pub fits : AllByRecursion (λ (r : Region). r.height ≤ length us) new
 
-put_back_top : (n : ℕ) (ws us : List ℤ) (r : Region) (rs : List Region) (k : RecoveryCache) (new : List Region) → Stacked n (r ∷ rs) → r ∷ rs ≡ k.regions
+put_back_top : (n : ℕ) (ws us : List ℤ) (r : Region) (rs : List Region) (k : RecoveryCache) (new : List Region) → Stacked n (r ∷ rs)
+    → r ∷ rs ≡ k.regions
     → r.height ≤ length ws
     → us ≡ take r.height (put_back ws r.saved) → new ≡ cleared k.regions → Rejected ws us k new
 put_back_top n ws us r rs k new s e low w z =
     let long : length us ≡ r.height = ap length w ∙ length-take-le r.height (put_back ws r.saved) (omega (arith, length-put_back ws r.saved, low)) in
-    let fits : AllByRecursion (λ (x : Region). x.height ≤ length us) (cleared (r ∷ rs)) = (omega (arith, long), all_low n (length us) rs s.2 (omega (arith, long, s.1))) in
+    let fits : AllByRecursion (λ (x : Region). x.height ≤ length us) (cleared (r ∷ rs)) =
+    (omega (arith, long), all_low n (length us) rs s.2 (omega (arith, long, s.1))) in
     record {
       words = w ∙ sym (last_copy-is ws r rs k e);
       copies = ap (λ (xs : List Region). reverse (restored us xs)) (z ∙ ap cleared (sym e))
@@ -67,6 +72,7 @@ pub rejected : (n : ℕ) (ws us : List ℤ) (k : RecoveryCache) (marks : List Ma
 rejected n ws us k marks st log new m h u a =
     let t = h.top in
     let z : regions_of (reverse marks) new ≡ cleared k.regions =
-    ap (λ (xs : List Mark). regions_of xs new) t.is ∙ ap (regions_of (m ∷ t.around)) a ∙ regions-undo m t.around log t.holds.cuts.0 ∙ ap cleared h.is in
+    ap (λ (xs : List Mark). regions_of xs new) t.is ∙ ap (regions_of (m ∷ t.around)) a ∙ regions-undo m t.around log t.holds.cuts.0
+    ∙ ap cleared h.is in
     let top : Region = record { height = m.height; saved = map saved_of (drop m.first log) } in
     put_back_top n ws us top (regions_of t.around (take m.first log)) k (regions_of (reverse marks) new) t.holds.stacked h.is h.low u z

@@ -49,7 +49,8 @@ pub fits-recorded : (n p : ℕ) (v : ℤ) (rs : List Region) → AllByRecursion 
 fits-recorded n p v [] a = tt
 fits-recorded n p v (r ∷ rs) a = a
 
-pub fits-merged : (n : ℕ) (rs : List Region) → AllByRecursion (λ (r : Region). r.height ≤ n) rs → AllByRecursion (λ (r : Region). r.height ≤ n) (merged rs)
+pub fits-merged : (n : ℕ) (rs : List Region) → AllByRecursion (λ (r : Region). r.height ≤ n) rs
+    → AllByRecursion (λ (r : Region). r.height ≤ n) (merged rs)
 fits-merged n [] a = tt
 fits-merged n (top ∷ []) a = tt
 fits-merged n (top ∷ r ∷ rs) a = a.1

@@ -153,7 +153,8 @@ below_all n (e ∷ es) a q h = below_all_one n q e.place (eqb q e.place) (list_a
 pub region-small : (n : ℕ) (r : Region) → IsRegion n r → length r.saved ≤ n
 region-small n r i = omega (arith, length-map r.saved place_of, length-le_from_distinct_below (places r) n i.distinct (below_all n r.saved i.within))
 
-pub IsRegion-push : (n h : ℕ) (es : List Saved) (o : Saved) → IsRegion n (record { height = h; saved = es }) → is_saved o.place es ≡ false → o.place < h
+pub IsRegion-push : (n h : ℕ) (es : List Saved) (o : Saved) → IsRegion n (record { height = h; saved = es }) → is_saved o.place es ≡ false
+    → o.place < h
     → o.place < n → IsRegion n (record { height = h; saved = es ++ o ∷ [] })
 IsRegion-push n h es o i k b w = record {
   distinct = subst (IsDistinct eqb) (sym (map-append place_of es (o ∷ []))) (distinct_push (map place_of es) o.place i.distinct k);
@@ -189,7 +190,8 @@ is_below a b h = grind (arith, common_steps)
 
 not_yet : (n : ℕ) (m : Mark) (ms : List Mark) (st : List ℕ) (log : List Entry) (p : ℕ) → Holds n (m ∷ ms) st log → p < n → get_or st p 0 ≤ m.first
     → is_saved p (map saved_of (drop m.first log)) ≡ false
-not_yet n m ms st log p k lt le = is_saved-last m.first log p ∙ not_below m.first (last_of log p) (omega (arith, k.stamped.now p (omega (arith, k.size))))
+not_yet n m ms st log p k lt le = is_saved-last m.first log p
+    ∙ not_below m.first (last_of log p) (omega (arith, k.stamped.now p (omega (arith, k.size))))
 
 pub Holds-push : (n : ℕ) (m : Mark) (ms : List Mark) (st : List ℕ) (log : List Entry) (e : Entry) → Holds n (m ∷ ms) st log → e.place < n
     → e.place < m.height → get_or st e.place 0 ≤ m.first → e.earlier ≡ get_or st e.place 0
@@ -198,8 +200,12 @@ Holds-push n m ms st log e k lt below le o = record {
   size = length-set st e.place (length log + 1) ∙ k.size;
   stamped = WellStamped-push st log e k.stamped (omega (arith, k.size)) o;
   cuts = Cuts-push m ms log e k.cuts;
-  stacked = subst (Stacked n) (sym (regions-push m ms log e k.cuts.0))
-      (IsRegion-push n m.height (map saved_of (drop m.first log)) (saved_of e) k.stacked.0 (not_yet n m ms st log e.place k lt le) below lt, k.stacked.1, k.stacked.2);
+  stacked = subst (Stacked n) (sym (regions-push m ms log e k.cuts.0)) (
+    IsRegion-push n m.height (map saved_of (drop m.first log)) (saved_of e) k.stacked.0
+        (not_yet n m ms st log e.place k lt le) below lt,
+    k.stacked.1,
+    k.stacked.2,
+  );
 }
 
 pub log-room : (n : ℕ) (m : Mark) (ms : List Mark) (st : List ℕ) (log : List Entry) (e : Entry) → Holds n (m ∷ ms) st log → e.place < n
@@ -225,9 +231,11 @@ pub regions-note : (n : ℕ) (m : Mark) (ms : List Mark) (st : List ℕ) (log : 
     → regions_of (m ∷ ms) (log ++ e ∷ []) ≡ recorded e.place e.value (regions_of (m ∷ ms) log)
 regions-note n m ms st log e k lt below le =
     regions-push m ms log e k.cuts.0
-    ∙ sym (recorded_in e.place e.value m.height (map saved_of (drop m.first log)) (regions_of ms (take m.first log)) below (not_yet n m ms st log e.place k lt le))
+    ∙ sym (recorded_in e.place e.value m.height (map saved_of (drop m.first log)) (regions_of ms (take m.first log)) below
+    (not_yet n m ms st log e.place k lt le))
 
-pub regions-known : (n : ℕ) (m : Mark) (ms : List Mark) (st : List ℕ) (log : List Entry) (p : ℕ) (v : ℤ) → Holds n (m ∷ ms) st log → p < n → p < m.height
+pub regions-known : (n : ℕ) (m : Mark) (ms : List Mark) (st : List ℕ) (log : List Entry) (p : ℕ) (v : ℤ) → Holds n (m ∷ ms) st log → p < n
+    → p < m.height
     → m.first < get_or st p 0
     → regions_of (m ∷ ms) log ≡ recorded p v (regions_of (m ∷ ms) log)
 regions-known n m ms st log p v k lt below le =
@@ -267,8 +275,10 @@ noted marks st log e d some k lt below le o =
     let n : length (m ∷ ms) ≡ length marks = ap length (sym r) ∙ length-reverse marks in
     record {
       room = subst (λ (i : ℕ). length log < i * length st) n (log-room (length st) m ms st log e h lt below le o);
-      holds = subst (λ (xs : List Mark). Holds (length st) xs (set st e.place (length log + 1)) (log ++ e ∷ [])) (sym r) (Holds-push (length st) m ms st log e h lt below le o);
-      regions = subst (λ (xs : List Mark). regions_of xs (log ++ e ∷ []) ≡ recorded e.place e.value (regions_of xs log)) (sym r) (regions-note (length st) m ms st log e h lt below le);
+      holds = subst (λ (xs : List Mark). Holds (length st) xs (set st e.place (length log + 1)) (log ++ e ∷ [])) (sym r)
+          (Holds-push (length st) m ms st log e h lt below le o);
+      regions = subst (λ (xs : List Mark). regions_of xs (log ++ e ∷ []) ≡ recorded e.place e.value (regions_of xs log)) (sym r)
+          (regions-note (length st) m ms st log e h lt below le);
     }
 
 pub lt_from_test : (a b : ℕ) → nat_lt a b ≡ true → a < b
@@ -299,10 +309,12 @@ all_last : (P : Saved → Type 0) (xs : List Saved) (x : Saved) → AllByRecursi
 all_last P [] x a = (tt, a.0)
 all_last P (y ∷ xs) x a = let h = all_last P xs x a.1 in ((a.0, h.0), h.1)
 
-pub popped_all : (P : Saved → Type 0) (f : ℕ) (log : List Entry) (e : Entry) → f ≤ length log → AllByRecursion P (map saved_of (drop f (log ++ e ∷ [])))
+pub popped_all : (P : Saved → Type 0) (f : ℕ) (log : List Entry) (e : Entry) → f ≤ length log
+    → AllByRecursion P (map saved_of (drop f (log ++ e ∷ [])))
     → AllByRecursion P (map saved_of (drop f log)) × P (saved_of e)
 popped_all P f log e le a =
-    all_last P (map saved_of (drop f log)) (saved_of e) (subst (AllByRecursion P) (ap (map saved_of) (drop-append-le f log (e ∷ []) le) ∙ map-append saved_of (drop f log) (e ∷ [])) a)
+    all_last P (map saved_of (drop f log)) (saved_of e)
+    (subst (AllByRecursion P) (ap (map saved_of) (drop-append-le f log (e ∷ []) le) ∙ map-append saved_of (drop f log) (e ∷ [])) a)
 
 pub popped_words : (ws : List ℤ) (f : ℕ) (log : List Entry) (e : Entry) → f ≤ length log
     → put_back ws (map saved_of (drop f (log ++ e ∷ []))) ≡ put_back (set ws e.place e.value) (map saved_of (drop f log))

@@ -45,19 +45,23 @@ pub levels-recorded : (p : ℕ) (v : ℤ) (rs : List Region)
     → reverse (map level_of (recorded p v rs)) ≡ change_last (joined (p ∷ [])) (reverse (map level_of rs))
 levels-recorded p v [] = refl
 levels-recorded p v (r ∷ rs) =
-    ap (λ (places : List ℕ). reverse (record { height = r.height; touched = places } ∷ map level_of rs)) (touch_one (nat_lt p r.height && not (is_saved p r.saved)) p v r.saved)
+    ap (λ (places : List ℕ). reverse (record { height = r.height; touched = places } ∷ map level_of rs))
+    (touch_one (nat_lt p r.height && not (is_saved p r.saved)) p v r.saved)
     ∙ sym (change_last-reverse (joined (p ∷ [])) (level_of r) (map level_of rs))
 
-pub levels-cleared : (rs : List Region) → reverse (map level_of (cleared rs)) ≡ change_last (λ (l : Level). entered l.height) (reverse (map level_of rs))
+pub levels-cleared : (rs : List Region)
+    → reverse (map level_of (cleared rs)) ≡ change_last (λ (l : Level). entered l.height) (reverse (map level_of rs))
 levels-cleared [] = refl
 levels-cleared (r ∷ rs) = sym (change_last-reverse (λ (l : Level). entered l.height) (level_of r) (map level_of rs))
 
 -- what an accepted level adds to the one around it
-map-cond : (b : Bool) (s : Saved) (more : List Saved) → map place_of (cond b (s ∷ more) more) ≡ cond b (s.place ∷ map place_of more) (map place_of more)
+map-cond : (b : Bool) (s : Saved) (more : List Saved)
+    → map place_of (cond b (s ∷ more) more) ≡ cond b (s.place ∷ map place_of more) (map place_of more)
 map-cond true s more = refl
 map-cond false s more = refl
 
-map-is_new : (r : Region) (saved : List Saved) → map place_of (filter (is_new r.height r.saved) saved) ≡ filter (joins (level_of r)) (map place_of saved)
+map-is_new : (r : Region) (saved : List Saved)
+    → map place_of (filter (is_new r.height r.saved) saved) ≡ filter (joins (level_of r)) (map place_of saved)
 map-is_new r [] = refl
 map-is_new r (s ∷ saved) =
     map-cond (is_new r.height r.saved s) s (filter (is_new r.height r.saved) saved)

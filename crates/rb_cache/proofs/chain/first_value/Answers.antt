@@ -34,7 +34,8 @@ loop-stamp-preserved c =
     let d : Entry = record { place = 0; value = pos 0; earlier = 0 } in
     let e : Entry = get_or log (l.stamp - 1) d in
     let before = first_saved c.args.at (map saved_of (drop c.args.first (take e.earlier log))) in
-    let k = link log c.requires.before c.args.first l.stamp c.args.at l.found d c.loop-stamp-test.true l.invariant.small (l.invariant.same d (omega arith)) in
+    let k =
+    link log c.requires.before c.args.first l.stamp c.args.at l.found d c.loop-stamp-test.true l.invariant.small (l.invariant.same d (omega arith)) in
     record {
       small = omega (arith, k.less, l.invariant.small);
       same = k.same;

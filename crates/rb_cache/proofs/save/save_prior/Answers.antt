@@ -18,7 +18,8 @@ note-requires-clause-room g c =
     let s : get_or st c.args.at 0 ≡ c.index.result.now = get_or_default st c.args.at 0 c.index.result.now c.requires.within ∙ sym c.index.ensures in
     let none : Mark = record { first = 0; height = 0 } in
     let entry : Entry = record { place = c.args.at; value = pos 0; earlier = get_or st c.args.at 0 } in
-    let n = noted c.args.marks.now st log entry none some c.requires.holds c.requires.within c.if-at-top.true (omega (arith, s, c.if-index-top.true)) refl in
+    let n =
+    noted c.args.marks.now st log entry none some c.requires.holds c.requires.within c.if-at-top.true (omega (arith, s, c.if-index-top.true)) refl in
     omega (arith, n.room, c.requires.room, c.args.arena.now.ok.0)
 
 pub returns-then-index-top-clause-holds : goal.returns-then-index-top-clause-holds
@@ -29,7 +30,8 @@ returns-then-index-top-clause-holds g c =
     let s : get_or st c.args.at 0 ≡ c.index.result.now = get_or_default st c.args.at 0 c.index.result.now c.requires.within ∙ sym c.index.ensures in
     let none : Mark = record { first = 0; height = 0 } in
     let entry : Entry = record { place = c.args.at; value = to_z w64 (of_z w64 c.read-value.result); earlier = get_or st c.args.at 0 } in
-    let n = noted c.args.marks.now st log entry none some c.requires.holds c.requires.within c.if-at-top.true (omega (arith, s, c.if-index-top.true)) refl in
+    let n =
+    noted c.args.marks.now st log entry none some c.requires.holds c.requires.within c.if-at-top.true (omega (arith, s, c.if-index-top.true)) refl in
     rw (c.note.ensures.arena, c.note.ensures.stamps) n.holds
 
 pub returns-then-index-top-clause-regions : goal.returns-then-index-top-clause-regions
@@ -43,7 +45,8 @@ returns-then-index-top-clause-regions g c =
     ∙ c.read-value.ensures.word in
     let none : Mark = record { first = 0; height = 0 } in
     let entry : Entry = record { place = c.args.at; value = to_z w64 (of_z w64 c.read-value.result); earlier = get_or st c.args.at 0 } in
-    let n = noted c.args.marks.now st log entry none some c.requires.holds c.requires.within c.if-at-top.true (omega (arith, s, c.if-index-top.true)) refl in
+    let n =
+    noted c.args.marks.now st log entry none some c.requires.holds c.requires.within c.if-at-top.true (omega (arith, s, c.if-index-top.true)) refl in
     ap (regions_of (reverse c.args.marks.now)) c.note.ensures.arena ∙ n.regions
     ∙ ap (λ (v : ℤ). recorded c.args.at v (regions_of (reverse c.args.marks.now) log)) z
 
@@ -52,8 +55,10 @@ returns-else-at-top-clause-regions g c =
     let st = c.args.stamps.now.items in
     let some : 0 < length c.args.marks.now = grind (arith, common_steps, c.if-is_empty.ensures, c.if-is_empty.false) in
     let none : Mark = record { first = 0; height = 0 } in
-    not_noted c.args.marks.now st c.args.arena.now.items c.args.at (get_or c.args.cells.now.words c.args.at (pos 0)) none some c.requires.holds c.requires.within
+    not_noted c.args.marks.now st c.args.arena.now.items c.args.at
+    (get_or c.args.cells.now.words c.args.at (pos 0)) none some c.requires.holds c.requires.within
     (λ h. elim c.else-at-top.branch [
-      | else-at-top-via-then-at-top+else-index-top w ↦ omega (arith, get_or_default st c.args.at 0 w.index.result.now c.requires.within, w.index.ensures, w.if-index-top.false)
+      | else-at-top-via-then-at-top+else-index-top w ↦ omega
+          (arith, get_or_default st c.args.at 0 w.index.result.now c.requires.within, w.index.ensures, w.if-index-top.false)
       | else-at-top-via-else-at-top w ↦ omega (arith, w.if-at-top.false, h)
     ])

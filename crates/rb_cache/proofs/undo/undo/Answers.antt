@@ -25,7 +25,9 @@ index_mut-requires g c =
     let n : length c.loop-arena.arena.items ≡ length log + 1 = ap length it ∙ length_push log e in
     let le : c.args.first ≤ length log = omega (arith, n, c.loop-arena-test.true, c.len.ensures, c.loop-arena.arena.ok.0) in
     let P = λ (o : Saved). o.place < length c.loop-arena.stamps.items in
-    let h = popped_all P c.args.first log e le (subst (λ (xs : List Entry). AllByRecursion P (map saved_of (drop c.args.first xs))) it c.loop-arena.invariant.below) in
+    let h =
+    popped_all P c.args.first log e le
+    (subst (λ (xs : List Entry). AllByRecursion P (map saved_of (drop c.args.first xs))) it c.loop-arena.invariant.below) in
     omega (arith, h.1, c.loop-arena.stamps.ok.0)
 
 pub write-requires : goal.write-requires
@@ -36,7 +38,8 @@ write-requires g c =
     let n : length c.loop-arena.arena.items ≡ length log + 1 = ap length it ∙ length_push log e in
     let le : c.args.first ≤ length log = omega (arith, n, c.loop-arena-test.true, c.len.ensures, c.loop-arena.arena.ok.0) in
     let P = λ (o : Saved). o.place < length c.loop-arena.cells.words in
-    (popped_all P c.args.first log e le (subst (λ (xs : List Entry). AllByRecursion P (map saved_of (drop c.args.first xs))) it c.loop-arena.invariant.within)).1
+    (popped_all P c.args.first log e le
+    (subst (λ (xs : List Entry). AllByRecursion P (map saved_of (drop c.args.first xs))) it c.loop-arena.invariant.within)).1
 
 pub loop-arena-preserved : goal.loop-arena-preserved
 loop-arena-preserved g c =
@@ -59,7 +62,8 @@ loop-arena-preserved g c =
       room = c.pop.ensures.capacity ∙ inv.room;
       size = length-set st e.place e.earlier ∙ inv.size;
       stamped = WellStamped-pop st log e (subst (λ (xs : List Entry). WellStamped st xs) it inv.stamped) a.1;
-      below = subst (λ (k : ℕ). AllByRecursion (λ (o : Saved). o.place < k) (map saved_of (drop c.args.first log))) (sym (length-set st e.place e.earlier)) a.0;
+      below = subst (λ (k : ℕ). AllByRecursion (λ (o : Saved). o.place < k) (map saved_of (drop c.args.first log)))
+          (sym (length-set st e.place e.earlier)) a.0;
       within = subst (λ (s : Store). AllByRecursion (λ (o : Saved). o.place < length s.words) rest) (sym c.write.ensures.words)
           (subst (λ (k : ℕ). AllByRecursion (λ (o : Saved). o.place < k) rest) (sym (length-set ws e.place (to_z w64 (of_z w64 e.value)))) b.0);
       words = ap (λ (s : Store). put_back s.words rest) c.write.ensures.words

@@ -33,4 +33,5 @@ returns-clause-fits g c =
     let i = c.self.inside in
     let ws = c.args.cells.now.words in
     let v = regions_seen i.marks.items i.arena.items i.levels i.words c.args.self.now c.self.view_is in
-    subst (AllByRecursion (λ (x : Region). x.height ≤ length ws)) (sym (c.accept_top.ensures.regions ∙ ap merged v)) (fits-merged (length ws) c.args.self.now.regions c.requires.fits)
+    subst (AllByRecursion (λ (x : Region). x.height ≤ length ws)) (sym (c.accept_top.ensures.regions ∙ ap merged v))
+    (fits-merged (length ws) c.args.self.now.regions c.requires.fits)

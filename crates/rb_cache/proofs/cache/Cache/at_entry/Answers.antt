@@ -11,7 +11,8 @@ use Rattle.rb_cache.proofs.Chains.{EntryWord, entry_word, stamp_known}
 use Rattle.rb_cache.proofs.cache.Cache.at_entry.Goals as goal
 
 -- the copy's word, from the fields
-word_seen : (ws : List ℤ) (k : RecoveryCache) (marks : List Mark) (st : List ℕ) (log : List Entry) (l w level at : ℕ) (m : Mark) → seen marks log l w ≡ k
+word_seen : (ws : List ℤ) (k : RecoveryCache) (marks : List Mark) (st : List ℕ) (log : List Entry) (l w level at : ℕ) (m : Mark)
+    → seen marks log l w ≡ k
     → Holds w (reverse marks) st log
     → level < length (open_levels k) → m ≡ get_or marks level m → at < length (copy_at ws k level)
     → EntryWord ws (copy_at ws k level) (map saved_of (drop m.first log)) at
@@ -21,7 +22,8 @@ word_seen ws k marks st log l w level at m v holds there is within =
     let saved : Mark → List Saved = λ (x : Mark). map saved_of (drop x.first log) in
     let P : List Region → Type 0 = λ (rs : List Region). at < length (copy rs) → EntryWord ws (copy rs) (saved m) at in
     let here : P (regions_of (reverse marks) log) =
-    λ h. subst (λ (x : Mark). EntryWord ws (copy (regions_of (reverse marks) log)) (saved x) at) (sym is) (entry_word ws marks log level at m holds.cuts lt h) in
+    λ h. subst (λ (x : Mark). EntryWord ws (copy (regions_of (reverse marks) log)) (saved x) at) (sym is)
+    (entry_word ws marks log level at m holds.cuts lt h) in
     subst P (regions_seen marks log l w k v) here within
 
 pub index-requires : goal.index-requires

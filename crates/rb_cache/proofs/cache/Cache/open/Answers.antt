@@ -20,9 +20,11 @@ invariant_of-self g c =
     let many = length-open_levels i.marks.items i.arena.items i.levels i.words c.args.self.now c.self.view_is in
     let at : c.len.result ≡ length i.arena.items = c.len.ensures ∙ i.arena.ok.0 in
     let top : top_height c.args.self.now.regions ≤ c.height.result =
-    subst (λ (k : ℕ). top_height c.args.self.now.regions ≤ k) (sym c.height.ensures.words) (top_fits c.args.cells.now.words c.args.self.now c.requires.fits) in
+    subst (λ (k : ℕ). top_height c.args.self.now.regions ≤ k) (sym c.height.ensures.words)
+    (top_fits c.args.cells.now.words c.args.self.now c.requires.fits) in
     let h = Holds-open i.words c.height.result (reverse i.marks.items) i.stamps.items i.arena.items c.self.invariant.holds
-    (subst (λ (rs : List Region). top_height rs ≤ c.height.result) (sym (regions_seen i.marks.items i.arena.items i.levels i.words c.args.self.now c.self.view_is)) top) in
+    (subst (λ (rs : List Region). top_height rs ≤ c.height.result)
+    (sym (regions_seen i.marks.items i.arena.items i.levels i.words c.args.self.now c.self.view_is)) top) in
     record {
       few = omega (arith, c.requires.room, i.marks.ok.0, c.put.ensures.len, many, ap (λ (k : RecoveryCache). k.limits.levels) c.self.view_is);
       marks_room = omega (arith, c.put.ensures.room, c.self.invariant.marks_room);

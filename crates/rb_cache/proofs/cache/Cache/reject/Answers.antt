@@ -16,7 +16,8 @@ undo-requires-clause-below g c =
     let m = c.index-top.result.now in
     let h = innermost_is c.args.cells.now.words c.args.self.now i.marks.items i.stamps.items i.arena.items i.levels i.words c.len.result m
     c.self.view_is c.requires.some (c.len.ensures ∙ i.marks.ok.0) c.index-top.ensures c.self.invariant.holds c.requires.fits in
-    subst (λ (n : ℕ). AllByRecursion (λ (s : Saved). s.place < n) (map saved_of (drop m.first i.arena.items))) (sym h.top.holds.size) h.top.holds.stacked.0.within
+    subst (λ (n : ℕ). AllByRecursion (λ (s : Saved). s.place < n) (map saved_of (drop m.first i.arena.items)))
+    (sym h.top.holds.size) h.top.holds.stacked.0.within
 
 pub undo-requires-clause-within : goal.undo-requires-clause-within
 undo-requires-clause-within g c =
@@ -32,7 +33,13 @@ drop_to-requires g c =
     let m = c.index-top.result.now in
     let h = innermost_is c.args.cells.now.words c.args.self.now i.marks.items i.stamps.items i.arena.items i.levels i.words c.len.result m
     c.self.view_is c.requires.some (c.len.ensures ∙ i.marks.ok.0) c.index-top.ensures c.self.invariant.holds c.requires.fits in
-    omega (arith, h.low, ap (λ (s : Store). length s.words) c.undo.ensures.cells, length-put_back c.args.cells.now.words (map saved_of (drop m.first i.arena.items)))
+    omega (
+      arith,
+      h.low,
+      ap (λ (s : Store). length s.words) c.undo.ensures.cells,
+      length-put_back c.args.cells.now.words
+          (map saved_of (drop m.first i.arena.items)),
+    )
 
 pub invariant_of-self : goal.invariant_of-self
 invariant_of-self g c =

@@ -29,7 +29,8 @@ returns g c =
     let w : c.write.new.self.words ≡ set ws at v = ap (λ (s : Store). s.words) c.write.ensures.words in
     let n : length c.write.new.self.words ≡ length ws = ap length w ∙ length-set ws at v in
     record {
-      cells = c.write.ensures.words ∙ ap (λ (x : ℤ). record { words = set ws at x; limit = c.args.cells.now.limit }) (to_z-of_z w64 c.args.value (search rules));
+      cells = c.write.ensures.words
+          ∙ ap (λ (x : ℤ). record { words = set ws at x; limit = c.args.cells.now.limit }) (to_z-of_z w64 c.args.value (search rules));
       copies = ap (λ (us : List ℤ). reverse (restored us (regions_of (reverse i.marks.items) log))) w
           ∙ ap (λ (rs : List Region). reverse (restored (set ws at v) rs)) saved
           ∙ ap reverse (restored-write i.words ws at v (regions_of (reverse i.marks.items) i.arena.items) c.self.invariant.holds.stacked)
