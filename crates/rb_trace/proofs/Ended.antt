@@ -1,9 +1,9 @@
 -- The lines of how a run ended.
-use Rattle.std.proofs.Common.{◌≡◌, ℕ, ℤ, zero, suc, ◌+◌, ◌-◌, ◌<◌, ◌≤◌, List, [], ◌∷◌, ◌++◌, length, map, take, drop, get_or, slice_get, slice_index, codes, decimal, Option, Some, None, refl, sym, ap, ◌∙◌, subst, arith, append_assoc, drop-cons, add-one, drop_of_length-le, length-drop, length-take}
-use Rattle.std.specs.List.{flat_map, AllByRecursion, AllZip}
+use Rattle.std.proofs.Common.{◌≡◌, ℕ, ℤ, zero, suc, ◌+◌, ◌<◌, ◌≤◌, List, [], ◌∷◌, ◌++◌, length, map, take, drop, get_or, slice_get, slice_index, codes, decimal, Some, refl, sym, ap, ◌∙◌, subst, arith, append_assoc, drop-cons, add-one, drop_of_length-le, length-drop, length-take}
+use Rattle.std.specs.List.{AllByRecursion, AllZip}
 use Rattle.std.specs.Fmt.{signed_decimal}
 use Rattle.std.specs.Option.{unwrap_or}
-use Rattle.std.proofs.lemmas.List.{get_or-take, get_or-drop, drop-map, length-take-le}
+use Rattle.std.proofs.lemmas.List.{get_or-take, get_or-drop, length-take-le}
 use Rattle.std.proofs.lemmas.Option.{unwrap_or-slice_get}
 use Rattle.rb_base.specs.declared.event.State.{State}
 use Rattle.rb_base.specs.declared.names.Names.{Names}
@@ -11,7 +11,7 @@ use Rattle.rb_base.specs.declared.names.ProcessNames.{ProcessNames}
 use Rattle.rb_base.specs.Lines.{belonging}
 use Rattle.rb_trace.proofs.Waiting.{from_own}
 use Rattle.rb_world.specs.World.{Status, Running, Finished, FailedWith}
-use Rattle.rb_world.specs.Text.{ProcessNaming, Naming, Final, status_words, process_lines, end_text, values_text, line_of, variable_lines, value_lines, channel_lines}
+use Rattle.rb_world.specs.Text.{ProcessNaming, Final, status_words, process_lines, end_text, values_text, line_of, variable_lines, value_lines, channel_lines}
 use Rattle.rb_trace.specs.Naming.{naming, process_naming}
 use Rattle.rb_trace.specs.Lines.{spaced}
 use Rattle.rb_trace.specs.Ending.{state_words}

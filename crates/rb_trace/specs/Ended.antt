@@ -1,5 +1,5 @@
 -- How a run ended, as it is read through `Final`, and as the texts of a world tell it.
-use Rattle.std.specs.Prelude.{◌≡◌, ℕ, ℤ, List, [], ◌∷◌, ◌++◌, map, codes, decimal}
+use Rattle.std.specs.Prelude.{◌≡◌, ℕ, ℤ, List, [], ◌∷◌, ◌++◌, map}
 use Rattle.rb_base.specs.declared.event.State.{State}
 use Rattle.rb_base.specs.declared.event.State.TheVariants as state
 use Rattle.rb_world.specs.World.{Status, Running, Finished, FailedWith}

@@ -1,4 +1,4 @@
-use Rattle.std.proofs.Common.{ℕ, List, map, take, drop}
+use Rattle.std.proofs.Common.{map, take, drop}
 use Rattle.std.specs.Fmt.{signed_decimal}
 use Rattle.rb_base.specs.Lines.{belonging}
 use Rattle.rb_trace.specs.Lines.{spaced}

@@ -1,4 +1,4 @@
-use Rattle.std.proofs.Common.{ℕ, List, drop}
+use Rattle.std.proofs.Common.{drop}
 use Rattle.rb_world.specs.Text.{channel_lines}
 use Rattle.rb_trace.proofs.Written.{Written}
 use Rattle.rb_trace.proofs.final_state.write_channels.Given as goal

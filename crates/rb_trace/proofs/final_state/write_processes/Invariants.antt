@@ -1,4 +1,4 @@
-use Rattle.std.proofs.Common.{ℕ, List, drop, map}
+use Rattle.std.proofs.Common.{drop, map}
 use Rattle.rb_trace.specs.Naming.{process_naming}
 use Rattle.rb_trace.specs.Ended.{processes_text}
 use Rattle.rb_trace.proofs.Written.{Written}
