@@ -4,7 +4,6 @@ use Rattle.std.specs.List.{list_all}
 use Rattle.std.specs.Option.{option_map}
 use Rattle.std.proofs.lemmas.List.{map-append}
 use Rattle.std.proofs.Math.Numerals.{suc-eq-add-one}
-use Rattle.rb_base.specs.declared.names.Names.{Names}
 use Rattle.rb_base.specs.declared.names.ProcessNames.{ProcessNames}
 use Rattle.rb_base.specs.declared.names.Variable.{Variable}
 use Rattle.rb_syntax.specs.declared.expression.Number.{Number}
@@ -19,7 +18,7 @@ use Rattle.rb_run.specs.Runnable.{is_scalar}
 use Rattle.rb_world.specs.Text.{VariableNaming}
 use Rattle.rb_meaning.specs.Environment.{size_of}
 use Rattle.rb_meaning.specs.Meaning.{naming_of, process_named, variables_named}
-use Rattle.rb_trace.specs.Naming.{naming, process_naming, variable_naming}
+use Rattle.rb_trace.specs.Naming.{process_naming, variable_naming}
 use Rattle.rb_world.proofs.ListFacts.{first_holds, second_holds}
 
 -- a scalar has no size
@@ -65,13 +64,14 @@ conversation_names : (conversations : List Conversation) → map (λ (conversati
 conversation_names [] = refl
 conversation_names (conversation ∷ conversations) = ap (λ (names : List (List ℕ)). conversation.name.text.now ∷ names) (conversation_names conversations)
 
-pub naming-made : (program : Program) (names : Names) (named : ProcessNames) (process : Process) →
-    program.processes.items ≡ process ∷ [] → names.processes.items ≡ named ∷ [] → process_naming named ≡ process_named (process_declaration process) →
-    names.channels.items ≡ map (λ (channel : Channel). channel.name.text.now) program.channels.items →
-    names.conversations.items ≡ map (λ (conversation : Conversation). conversation.name.text.now) program.conversations.items →
-    naming names ≡ naming_of (tree program)
-naming-made program names named process only one same channels conversations =
-    let processes = ap (map process_naming) one ∙ ap (λ p. p ∷ []) same ∙ ap (λ ps. map process_named (map process_declaration ps)) (sym only) in
-    let channels_all = channels ∙ channel_names program.channels.items in
-    let conversations_all = conversations ∙ conversation_names program.conversations.items in
-    λ j. record { processes = processes j; channels = channels_all j; conversations = conversations_all j }
+-- the names that were made, from their three lists
+pub naming-made : (program : Program) (processes : List ProcessNames) (channels conversations : List (List ℕ)) (named : ProcessNames) (process : Process) →
+    program.processes.items ≡ process ∷ [] → processes ≡ named ∷ [] → process_naming named ≡ process_named (process_declaration process) →
+    channels ≡ map (λ (channel : Channel). channel.name.text.now) program.channels.items →
+    conversations ≡ map (λ (conversation : Conversation). conversation.name.text.now) program.conversations.items →
+    record { processes = map process_naming processes; channels = channels; conversations = conversations } ≡ naming_of (tree program)
+naming-made program processes channels conversations named process only one same called talked =
+    let processes_all = ap (map process_naming) one ∙ ap (λ p. p ∷ []) same ∙ ap (λ ps. map process_named (map process_declaration ps)) (sym only) in
+    let channels_all = called ∙ channel_names program.channels.items in
+    let conversations_all = talked ∙ conversation_names program.conversations.items in
+    λ j. record { processes = processes_all j; channels = channels_all j; conversations = conversations_all j }

@@ -1,90 +1,70 @@
 -- From the answers of the call, each with its cause, to their completeness: where no cause of a fault is there, the call
 -- ends as the verdict says.
-use Rattle.std.proofs.Common.{◌≡◌, ◌⊎◌, ℕ, List, ◌++◌, Option, Some, None, refl, ap, subst, ◌∙◌, inl, inr}
-use Rattle.rb_outside.specs.Outside.{File, Reading, bytes_of, then_written}
-use Rattle.rb_top.specs.Answers.{RefusedWith, RunsTo, Judges, refused_source, refused_schedule, runs, Runs, Refuses, by_source, by_schedule, Does, RefusesIn, DoesIn, NextMissing, no_source, no_schedule, NextMissingIn, SourceRefused, Accepted, ScheduleRefused, Scene, WithRequest}
-use Rattle.rb_top.specs.Complete.{IsUnhindered, LastIsRead, EndsAsJudged}
-use Rattle.rb_top.specs.Words.{Request}
+use Rattle.std.proofs.Common.{◌≡◌, ◌⊎◌, ℕ, ◌≤◌, List, [], ◌∷◌, ◌++◌, Option, Some, None, refl, sym, ap, subst, ◌∙◌, inl, inr, arith}
+use Rattle.rb_outside.specs.Outside.{File, Start, Faults, Rose, bytes_of, failed_once, then_written}
+use Rattle.rb_outside.specs.Outside as outside
+use Rattle.rb_top.specs.Words.{Wanted, Request}
+use Rattle.rb_top.specs.Judgement.{Judgement, RefusedWith, Writes, Judges, EndsWith, refused_here, written_here}
+use Rattle.rb_top.specs.Answers.{Scene, HasRead, Ended, EndedIn, StoppedByMissing, StoppedByMissingIn, WithRequest, by_fault, by_missing}
+use Rattle.rb_top.specs.Complete.{AreStored, IsUnhindered, EndsAs, EndsAsJudged}
 use Rattle.rb_top.specs.declared.status.Status.{Status}
 use Rattle.rb_top.specs.declared.status.Status.TheVariants.{Done, Refused, Usage, ReadFault, WriteFault, Memory}
+use Rattle.rb_top.proofs.Chains.{left_of, next_stored, ends_from}
 
 -- what was written behind bytes that are told
 told_after : (old new : Option (List ℕ)) (before bytes : List ℕ) → old ≡ Some before → new ≡ then_written old bytes → new ≡ Some (before ++ bytes)
 told_after old new before bytes told e = e ∙ ap (λ w. then_written w bytes) told
 
-same_bytes : (stored : Option (List ℕ)) (a b : List ℕ) → stored ≡ Some a → stored ≡ Some b → a ≡ b
-same_bytes stored a b x y = cc
-
 not_missing : (stored : Option (List ℕ)) (a : List ℕ) → stored ≡ Some a → stored ≡ None → ⊥
 not_missing stored a x y = cc
 
-module _ (request : Request) (files : List File) (before source schedule : List ℕ) (source_stored : bytes_of files request.source ≡ Some source) (schedule_stored : bytes_of files request.schedule ≡ Some schedule) where
-  -- neither file is missing
-  none_missing : NextMissing files request → ⊥
-  none_missing (no_source missing) = not_missing (bytes_of files request.source) source source_stored missing
-  none_missing (no_schedule text tree stored accepted missing) =
-      not_missing (bytes_of files request.schedule) schedule schedule_stored missing
+-- a call that failed is a rise
+rose : (before after : Faults) → after ≡ failed_once before → Rose before after
+rose before after failed =
+    let count : after.count ≡ outside.one_more before.count = ap (λ f. f.count) failed in
+    omega arith
 
-  -- a run is that of these two texts
-  does_run : (reading : Option Reading) (text : List ℕ) → Does files request reading text → Runs source schedule text × LastIsRead files reading
-  does_run reading text d =
-      let first : d.source ≡ source = same_bytes (bytes_of files request.source) d.source source d.source_stored source_stored in
-      let second : d.schedule ≡ schedule = same_bytes (bytes_of files request.schedule) d.schedule schedule d.schedule_stored schedule_stored in (
-        subst (λ s. Runs s schedule text) first (subst (λ s. Runs d.source s text) second d.ran),
-        record {
-          name = request.schedule;
-          bytes = d.schedule;
-          stored = d.schedule_stored;
-          read = d.read;
-        },
-      )
+module _ (request : Request) (files : List File) (old new : List Start) (texts : List (List ℕ)) (stored : AreStored files request.files texts) where
+  -- a text that is written is that of the texts on the shelf
+  writes_judged : (text : List ℕ) → Ended files request old new (Writes text) → EndsWith request.command [] texts (Writes text)
+  writes_judged text ended =
+      let left = left_of files request ended.texts ended.rest ended.starts texts ended.read stored in
+      let ends = ends_from files request ended.texts ended.rest ended.starts left.left (Writes text) ended.read (written_here ended.texts left.left text ended.judged) in
+      subst (λ (ts : List (List ℕ)). EndsWith request.command [] ts (Writes text)) (sym left.parts) ends
 
-  -- a refusal is one of these two texts
-  refuses_judged : (reading : Option Reading) (line : List ℕ) → Refuses files request reading line → Judges source schedule (RefusedWith line) × LastIsRead files reading
-  refuses_judged reading line (by_source text stored refused read) =
-      let first : text ≡ source = same_bytes (bytes_of files request.source) text source stored source_stored in (
-        refused_source line (subst (λ s. SourceRefused s line) first refused),
-        record {
-          name = request.source;
-          bytes = text;
-          stored = stored;
-          read = read;
-        },
-      )
-  refuses_judged reading line (by_schedule text turns tree stored accepted listed refused read) =
-      let first : text ≡ source = same_bytes (bytes_of files request.source) text source stored source_stored in
-      let second : turns ≡ schedule = same_bytes (bytes_of files request.schedule) turns schedule listed schedule_stored in (
-        refused_schedule tree line (subst (λ s. Accepted s tree) first accepted) (subst (λ s. ScheduleRefused tree s line) second refused),
-        record {
-          name = request.schedule;
-          bytes = turns;
-          stored = listed;
-          read = read;
-        },
-      )
+  -- a refusal is one of the texts on the shelf
+  refuses_judged : (line : List ℕ) → Ended files request old new (RefusedWith line) → EndsWith request.command [] texts (RefusedWith line)
+  refuses_judged line ended =
+      let left = left_of files request ended.texts ended.rest ended.starts texts ended.read stored in
+      let ends = ends_from files request ended.texts ended.rest ended.starts left.left (RefusedWith line) ended.read (refused_here ended.texts left.left line ended.judged) in
+      subst (λ (ts : List (List ℕ)). EndsWith request.command [] ts (RefusedWith line)) (sym left.parts) ends
+
+  -- no file is missing
+  none_missing : StoppedByMissing files request old new → ⊥
+  none_missing gone =
+      let at = gone.stopped in
+      let left = left_of files request at.texts (gone.next ∷ at.rest) at.starts texts at.read stored in
+      let next = next_stored files left.left gone.next at.rest left.stored in
+      not_missing (bytes_of files gone.next.name) next.text next.stored gone.missing
 
 -- each answer, where nothing outside stands in the way
-pub completed : (request : Request) (old new : Scene) (status : Status) → WithRequest request old new status → (files : List File) (before source schedule : List ℕ) → IsUnhindered request old new files before source schedule →
-    (status ≡ Memory) ⊎ EndsAsJudged files before source schedule new status
-completed request old new Usage h files before source schedule free = absurd h
-completed request old new Done (text, does, e) files before source schedule free =
-    let done = does_run request files before source schedule free.source_stored free.schedule_stored new.reading text (subst (λ told. DoesIn told request new.reading text) free.files_told does) in
+pub completed : (request : Request) (old new : Scene) (status : Status) → WithRequest request old new status → (files : List File) (before : List ℕ) (texts : List (List ℕ)) → IsUnhindered request old new files before texts →
+    (status ≡ Memory) ⊎ EndsAsJudged request before texts new status
+completed request old new Usage h files before texts free = absurd h
+completed request old new Done (text, ended, well, all) files before texts free =
     inr (record {
-      verdict = RunsTo text;
-      judged = runs text done.0;
-      ended = (refl, told_after old.written new.written before text free.bytes_told e);
-      read = done.1;
+      judgement = Writes text;
+      judged = writes_judged request files old.starts new.starts texts free.stored text (subst (λ told. EndedIn told request old.starts new.starts (Writes text)) free.files_told ended);
+      ended = (refl, told_after old.written new.written before text free.bytes_told all.written);
     })
-completed request old new Refused (line, refuses, e) files before source schedule free =
-    let done = refuses_judged request files before source schedule free.source_stored free.schedule_stored new.reading line (subst (λ told. RefusesIn told request new.reading line) free.files_told refuses) in
+completed request old new Refused (line, ended, well, all) files before texts free =
     inr (record {
-      verdict = RefusedWith line;
-      judged = done.0;
-      ended = (refl, told_after old.written new.written before line free.bytes_told e);
-      read = done.1;
+      judgement = RefusedWith line;
+      judged = refuses_judged request files old.starts new.starts texts free.stored line (subst (λ told. EndedIn told request old.starts new.starts (RefusedWith line)) free.files_told ended);
+      ended = (refl, told_after old.written new.written before line free.bytes_told all.written);
     })
-completed request old new ReadFault (inl rose, e) files before source schedule free = absurd (free.no_read_fault rose)
-completed request old new ReadFault (inr missing, e) files before source schedule free =
-    absurd (none_missing request files before source schedule free.source_stored free.schedule_stored (subst (λ told. NextMissingIn told request) free.files_told missing))
-completed request old new WriteFault (rose, part) files before source schedule free = absurd (free.no_write_fault rose)
-completed request old new Memory h files before source schedule free = inl refl
+completed request old new ReadFault (by_fault failed stopped, nothing) files before texts free = absurd (free.no_read_fault (rose old.read_faults new.read_faults failed))
+completed request old new ReadFault (by_missing was stopped, nothing) files before texts free =
+    absurd (none_missing request files old.starts new.starts texts free.stored (subst (λ told. StoppedByMissingIn told request old.starts new.starts) free.files_told stopped))
+completed request old new WriteFault (bytes, ended, well, part) files before texts free = absurd (free.no_write_fault (rose old.write_faults new.write_faults part.failed))
+completed request old new Memory h files before texts free = inl refl

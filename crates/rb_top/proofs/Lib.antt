@@ -1,4 +1,5 @@
 pub mod Reading
+pub mod Chains
 pub mod Answering
 pub mod Judged
 pub mod Complete

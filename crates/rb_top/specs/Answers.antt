@@ -1,6 +1,6 @@
 -- What the top call answers when, what it has written by then, and which files it has started, and how far it has read them.
 use Rattle.std.specs.Prelude.{◌≡◌, ◌⊎◌, ℕ, ◌+◌, ◌<◌, ◌≤◌, true, List, [], ◌∷◌, ◌++◌, length, Option, Some, None}
-use Rattle.rb_outside.specs.Outside.{File, Start, Faults, WrotePart, bytes_of, named, failed_once, was_missing, then_written}
+use Rattle.rb_outside.specs.Outside.{File, Start, Faults, WrotePart, bytes_of, named, shut, told_starts, failed_once, was_missing, then_written}
 use Rattle.rb_top.specs.Words.{Command, Run, Wanted, Request}
 use Rattle.rb_top.specs.Judgement.{Judgement, ReadsOn, RefusedWith, Writes, Judges, usage_line}
 use Rattle.rb_top.specs.declared.status.Status.{Status}
@@ -53,11 +53,13 @@ pub record StoppedAt (files : List File) (request : Request) (old new : List Sta
   pub not_far : last.passed ≤ next.most + piece_bytes
   pub started : new ≡ last ∷ starts ++ old
 
--- it stopped at its next file for a fault
-pub record StoppedByFault (files : List File) (request : Request) (old new : List Start) : Type 0 where
-  pub next : Wanted
-  pub last : Start
-  pub stopped : StoppedAt files request old new next last
+-- It stopped at its next file for a fault: of a start or a piece that is told, or of a start that is not, since so many are
+-- told already.
+pub data StoppedByFault (files : List File) (request : Request) (old new : List Start) : Type 0 where
+  told : (next : Wanted) (last : Start) → StoppedAt files request old new next last → StoppedByFault files request old new
+  untold : (texts : List (List ℕ)) (next : Wanted) (rest : List Wanted) (starts : List Start) →
+      HasRead files request texts (next ∷ rest) starts → Judges request.command texts ReadsOn →
+      told_starts ≤ length (starts ++ old) → new ≡ shut (starts ++ old) → StoppedByFault files request old new
 
 -- it stopped at its next file, which is not there
 pub record StoppedByMissing (files : List File) (request : Request) (old new : List Start) : Type 0 where

@@ -1,5 +1,9 @@
 pub mod Words
+pub mod Asked
+pub mod Judgement
 pub mod Answers
 pub mod Read
+pub mod Stages
 pub mod Complete
 pub mod Laws
+pub mod Ending

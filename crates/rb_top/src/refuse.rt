@@ -1,6 +1,6 @@
 ghost use Rattle.std.specs.Prelude.{◌≡◌, ◌++◌, codes};
 ghost use Rattle.rb_outside.specs.Puts.{Puts};
-ghost use Rattle.rb_top.specs.Answers.{source_line, schedule_line, too_long_line, unready, usage_line};
+ghost use Rattle.rb_top.specs.Judgement.{source_line, schedule_line, too_long_line, unready, usage_line};
 
 use itoa::Buffer;
 use rb_base::{FaultName, Place, SourceFault, TextFault};

@@ -1,10 +1,29 @@
-/// How a command ends. The number of each is the program's exit status.
+ghost use Rattle.std.specs.Prelude.{◌≡◌};
+ghost use Rattle.rb_top.specs.Ending.{status_number};
+
+/// How a command ends.
 #[derive(Clone, Copy, Debug, PartialEq, Eq)]
 pub enum Status {
-    Done = 0,
-    Refused = 1,
-    Usage = 2,
-    ReadFault = 3,
-    WriteFault = 4,
-    Memory = 5,
+    Done,
+    Refused,
+    Usage,
+    ReadFault,
+    WriteFault,
+    Memory,
+}
+
+impl Status {
+    /// The exit status of the program that ends so, from 0 to 5.
+    pub fn number(self) -> u8
+        ensures { result ≡ status_number self }
+    {
+        match self {
+            Status::Done => 0,
+            Status::Refused => 1,
+            Status::Usage => 2,
+            Status::ReadFault => 3,
+            Status::WriteFault => 4,
+            Status::Memory => 5,
+        }
+    }
 }

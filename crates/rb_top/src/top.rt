@@ -1,20 +1,23 @@
-ghost use Rattle.std.specs.Prelude.{◌≡◌, ◌≤◌, ℕ, List, length, vec_len, true, MatchResult};
+ghost use Rattle.std.specs.Prelude.{◌≡◌, ◌≤◌, drop, length, true, MatchResult};
 ghost use Rattle.rb_syntax.specs.Plain.{tree};
 ghost use Rattle.rb_meaning.specs.Meaning.{naming_of};
 ghost use Rattle.rb_trace.specs.Naming.{naming};
 ghost use Rattle.rb_base.specs.Naming.{process_names};
 ghost use Rattle.rb_run.specs.Ran.{names_of};
 ghost use Rattle.rb_run.specs.Runnable.{is_runnable};
-ghost use Rattle.rb_top.specs.Words.{Request, request_of};
+ghost use Rattle.rb_base.specs.declared.limits.TheConstants.{MOST_BYTES};
+ghost use Rattle.rb_top.specs.Words.{request_of, run_of};
 ghost use Rattle.rb_top.specs.Complete.{IsComplete};
-ghost use Rattle.rb_top.specs.Answers.{Scene, WithRequest, WhereRequested, WasReadIn, HoldsTreeIn, AfterSchedule, status_of_run};
+ghost use Rattle.rb_top.specs.Answers.{Scene, WithRequest, WhereRequested};
+ghost use Rattle.rb_top.specs.Read.{WasReadIn};
+ghost use Rattle.rb_top.specs.Stages.{HoldsTreeIn, AfterSchedule, status_of_run};
 
-use crate::read::{MOST_BYTES, Unread, read_file};
+use crate::read::{Unread, read_file};
 use crate::refuse::{put_usage, refuse_long, refuse_schedule, refuse_source, refuse_unready};
-use crate::request::request;
+use crate::request::{Request, requested};
 use crate::status::Status;
 use crate::words::Words;
-use rb_base::{Memory, Names, Refusal};
+use rb_base::{MOST_BYTES, Memory, Names, Refusal};
 use rb_outside::{Failed, Shelf, Sink};
 use rb_parse::parse;
 use rb_run::{Ended, is_runnable, names, run};
@@ -26,9 +29,10 @@ use std::alloc::Global;
 /// over a schedule, or the line of the first fault of either. The source is read and judged before the
 /// schedule is started. Memory may be wanting at any time before the first byte is written.
 ///
-/// `answers` says of each answer when it comes. By `complete` a call whose files stand on the shelf, and in which no count
-/// of faults rose, ends as the verdict on the two texts says, or for want of memory. A count that stood at its last
-/// value before the call counts as risen, so `complete` says nothing there, and `answers` says what may come.
+/// `answers` says of each answer when it comes, which files were started by then, how far each was read, and what was
+/// written; after a read or a write that failed there was no other. By `complete` a call whose files stand on the shelf,
+/// and in which no count of faults rose, ends as the verdict on the texts says, or for want of memory. A count that stood
+/// at its last value before the call counts as risen, so `complete` says nothing there, and `answers` says what may come.
 pub fn command<F: Shelf, S: Sink>(
     alloc: Global,
     words: &Words,
@@ -36,20 +40,18 @@ pub fn command<F: Shelf, S: Sink>(
     out: &mut S,
 ) -> Status
     ensures files { F.files shelf.new ≡ F.files shelf.old }
-    ensures read_faults { F.faults shelf.old ≤ F.faults shelf.new }
-    ensures write_faults { S.faults out.old ≤ S.faults out.new }
     ensures answers { WhereRequested (request_of words.now)
-        (record { files = F.files shelf.old; reading = F.reading shelf.old; read_faults = F.faults shelf.old; written = S.written out.old; write_faults = S.faults out.old })
-        (record { files = F.files shelf.new; reading = F.reading shelf.new; read_faults = F.faults shelf.new; written = S.written out.new; write_faults = S.faults out.new })
+        (record { files = F.files shelf.old; starts = F.starts shelf.old; read_faults = F.faults shelf.old; written = S.written out.old; write_faults = S.faults out.old })
+        (record { files = F.files shelf.new; starts = F.starts shelf.new; read_faults = F.faults shelf.new; written = S.written out.new; write_faults = S.faults out.new })
         result }
     ensures complete { IsComplete (request_of words.now)
-        (record { files = F.files shelf.old; reading = F.reading shelf.old; read_faults = F.faults shelf.old; written = S.written out.old; write_faults = S.faults out.old })
-        (record { files = F.files shelf.new; reading = F.reading shelf.new; read_faults = F.faults shelf.new; written = S.written out.new; write_faults = S.faults out.new })
+        (record { files = F.files shelf.old; starts = F.starts shelf.old; read_faults = F.faults shelf.old; written = S.written out.old; write_faults = S.faults out.old })
+        (record { files = F.files shelf.new; starts = F.starts shelf.new; read_faults = F.faults shelf.new; written = S.written out.new; write_faults = S.faults out.new })
         result }
 {
-    match request(words) {
+    match requested(words) {
         None => status_after(put_usage(out), Status::Usage),
-        Some((source, schedule)) => run_files(alloc, source, schedule, shelf, out),
+        Some(Request::Run { source, schedule }) => run_files(alloc, source, schedule, shelf, out),
     }
 }
 
@@ -71,21 +73,19 @@ fn run_files<F: Shelf, S: Sink>(
     out: &mut S,
 ) -> Status
     ensures files { F.files shelf.new ≡ F.files shelf.old }
-    ensures read_faults { F.faults shelf.old ≤ F.faults shelf.new }
-    ensures write_faults { S.faults out.old ≤ S.faults out.new }
-    ensures answers { WithRequest (record { source = source.now; schedule = schedule.now })
-        (record { files = F.files shelf.old; reading = F.reading shelf.old; read_faults = F.faults shelf.old; written = S.written out.old; write_faults = S.faults out.old })
-        (record { files = F.files shelf.new; reading = F.reading shelf.new; read_faults = F.faults shelf.new; written = S.written out.new; write_faults = S.faults out.new })
+    ensures answers { WithRequest (run_of source.now schedule.now)
+        (record { files = F.files shelf.old; starts = F.starts shelf.old; read_faults = F.faults shelf.old; written = S.written out.old; write_faults = S.faults out.old })
+        (record { files = F.files shelf.new; starts = F.starts shelf.new; read_faults = F.faults shelf.new; written = S.written out.new; write_faults = S.faults out.new })
         result }
 {
-    match read_file(alloc, shelf, source) {
+    match read_file(alloc, shelf, source, MOST_BYTES) {
         Ok(bytes) => judge_source(alloc, source, bytes.as_slice(), schedule, shelf, out),
         Err(Unread::Fault) => Status::ReadFault,
         Err(Unread::Memory) => Status::Memory,
     }
 }
 
-// The source was read.
+// The source was read: its start is the newest, after those before the call.
 fn judge_source<F: Shelf, S: Sink>(
     alloc: Global,
     source: &str,
@@ -94,13 +94,11 @@ fn judge_source<F: Shelf, S: Sink>(
     shelf: &mut F,
     out: &mut S,
 ) -> Status
-    requires { WasReadIn (F.files shelf.old) source.now bytes.now (F.reading shelf.old) }
+    requires { WasReadIn (F.files shelf.old) source.now MOST_BYTES bytes.now (drop 1 (F.starts shelf.old)) (F.starts shelf.old) }
     ensures files { F.files shelf.new ≡ F.files shelf.old }
-    ensures read_faults { F.faults shelf.old ≤ F.faults shelf.new }
-    ensures write_faults { S.faults out.old ≤ S.faults out.new }
-    ensures answers { WithRequest (record { source = source.now; schedule = schedule.now })
-        (record { files = F.files shelf.old; reading = F.reading shelf.old; read_faults = F.faults shelf.old; written = S.written out.old; write_faults = S.faults out.old })
-        (record { files = F.files shelf.new; reading = F.reading shelf.new; read_faults = F.faults shelf.new; written = S.written out.new; write_faults = S.faults out.new })
+    ensures answers { WithRequest (run_of source.now schedule.now)
+        (record { files = F.files shelf.old; starts = drop 1 (F.starts shelf.old); read_faults = F.faults shelf.old; written = S.written out.old; write_faults = S.faults out.old })
+        (record { files = F.files shelf.new; starts = F.starts shelf.new; read_faults = F.faults shelf.new; written = S.written out.new; write_faults = S.faults out.new })
         result }
 {
     if bytes.len() > MOST_BYTES {
@@ -127,18 +125,16 @@ fn read_schedule<F: Shelf, S: Sink>(
     shelf: &mut F,
     out: &mut S,
 ) -> Status
-    requires held { HoldsTreeIn (F.files shelf.old) source.now (tree program.now) }
+    requires held { HoldsTreeIn (F.files shelf.old) source.now (tree program.now) (drop 1 (F.starts shelf.old)) (F.starts shelf.old) }
     requires runnable { is_runnable (tree program.now) ≡ true }
     ensures files { F.files shelf.new ≡ F.files shelf.old }
-    ensures read_faults { F.faults shelf.old ≤ F.faults shelf.new }
-    ensures write_faults { S.faults out.old ≤ S.faults out.new }
-    ensures answers { WithRequest (record { source = source.now; schedule = schedule.now })
-        (record { files = F.files shelf.old; reading = F.reading shelf.old; read_faults = F.faults shelf.old; written = S.written out.old; write_faults = S.faults out.old })
-        (record { files = F.files shelf.new; reading = F.reading shelf.new; read_faults = F.faults shelf.new; written = S.written out.new; write_faults = S.faults out.new })
+    ensures answers { WithRequest (run_of source.now schedule.now)
+        (record { files = F.files shelf.old; starts = drop 1 (F.starts shelf.old); read_faults = F.faults shelf.old; written = S.written out.old; write_faults = S.faults out.old })
+        (record { files = F.files shelf.new; starts = F.starts shelf.new; read_faults = F.faults shelf.new; written = S.written out.new; write_faults = S.faults out.new })
         result }
 {
     let _ = source;
-    match read_file(alloc, shelf, schedule) {
+    match read_file(alloc, shelf, schedule, MOST_BYTES) {
         Ok(bytes) => run_schedule(alloc, program, bytes.as_slice(), out),
         Err(Unread::Fault) => Status::ReadFault,
         Err(Unread::Memory) => Status::Memory,
@@ -148,7 +144,6 @@ fn read_schedule<F: Shelf, S: Sink>(
 // The schedule was read.
 fn run_schedule<S: Sink>(alloc: Global, program: &Program<'_>, bytes: &[u8], out: &mut S) -> Status
     requires { is_runnable (tree program.now) ≡ true }
-    ensures write_faults { S.faults out.old ≤ S.faults out.new }
     ensures answers { AfterSchedule (tree program.now) bytes.now (S.written out.old) (S.written out.new) (S.faults out.old) (S.faults out.new) result }
 {
     if bytes.len() > MOST_BYTES {
@@ -167,11 +162,10 @@ fn run_named<S: Sink>(
     bytes: &[u8],
     out: &mut S,
 ) -> Status
-    requires short { length bytes.now ≤ 1048576 }
+    requires short { length bytes.now ≤ MOST_BYTES }
     requires runnable { is_runnable (tree program.now) ≡ true }
     requires printed { naming names.now ≡ naming_of (tree program.now) }
     requires scheduled { process_names names.now ≡ names_of (tree program.now) }
-    ensures write_faults { S.faults out.old ≤ S.faults out.new }
     ensures answers { AfterSchedule (tree program.now) bytes.now (S.written out.old) (S.written out.new) (S.faults out.old) (S.faults out.new) result }
 {
     match Schedule::read(bytes, names) {

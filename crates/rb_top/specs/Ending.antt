@@ -1,0 +1,43 @@
+-- How the program ends: its exit status, and what stands behind its buffer.
+-- All of it is this project's own.
+use Rattle.std.specs.Prelude.{◌≡◌, ℕ, true, List, [], ◌∷◌, Option, Some, None}
+use Rattle.rb_outside.specs.Outside.{Faults}
+use Rattle.rb_top.specs.Words.{Request}
+use Rattle.rb_top.specs.Answers.{Scene, WhereRequested}
+use Rattle.rb_top.specs.declared.status.Status.{Status}
+use Rattle.rb_top.specs.declared.status.Status.TheVariants.{Done, Refused, Usage, ReadFault, WriteFault, Memory}
+
+-- the exit status of each answer
+abbrev pub status_number : Status → ℕ
+status_number Done = 0
+status_number Refused = 1
+status_number Usage = 2
+status_number ReadFault = 3
+status_number WriteFault = 4
+status_number Memory = 5
+
+-- the exit status where the words are no text, and so ask for nothing
+abbrev pub no_text : ℕ
+no_text = 6
+
+-- nothing was written to a sink yet, as far as it tells
+abbrev pub IsUnwritten : Option (List ℕ) → Type 0
+IsUnwritten None = Unit {0}
+IsUnwritten (Some bytes) = bytes ≡ []
+
+-- What a call comes to, seen at the sink behind its buffer: files, starts, faults of reads and bytes are the same, and so is
+-- the count of faults of writes; where the call's last write failed, so did the sink's last put. (Where none failed, a
+-- put that failed before the call may still be the sink's last.)
+pub record SeenBehind (told seen : Scene) : Type 0 where
+  pub files : seen.files ≡ told.files
+  pub starts : seen.starts ≡ told.starts
+  pub read_faults : seen.read_faults ≡ told.read_faults
+  pub written : seen.written ≡ told.written
+  pub write_faults : seen.write_faults.count ≡ told.write_faults.count
+  pub failed_last : told.write_faults.failed_last ≡ true → seen.write_faults.failed_last ≡ true
+
+-- The answer of a call whose bytes went through a buffer, as the scene behind the buffer shows it.
+pub record AnswersBehind (request : Option Request) (old new : Scene) (status : Status) : Type 0 where
+  pub told : Scene
+  pub answers : WhereRequested request old told status
+  pub seen : SeenBehind told new
