@@ -17,7 +17,5 @@ ProcessFits process words = AllByRecursion (LiesWithin (length words)) process.v
 -- Each process has words that its variables lie in, each channel has its two counts, and 32 bits number both.
 pub record Fits (names : Names) (words : List (List ℤ)) (sent_counts taken_counts : List ℕ) : Type 0 where
   pub processes : AllZip ProcessFits names.processes.items words
-  pub few_processes : length names.processes.items < 2 ^ 32
   pub sent : length sent_counts ≡ length names.channels.items
   pub taken : length taken_counts ≡ length names.channels.items
-  pub few_channels : length names.channels.items < 2 ^ 32

@@ -22,7 +22,6 @@ pub fn write_report<S: Sink, M: Lines>(
     lines: &mut M,
 ) -> Result<(), Failed>
     requires fit { length (M.waiting lines.old) ≡ length names.now.processes.items }
-    requires few { length names.now.processes.items < 2 ^ 32 }
     ensures text { Puts (told_text (naming names.now) turn (told_of report.now.kind report.now.events.items (M.waiting lines.old))) (S.written out.old) (S.written out.new) (S.faults out.old) (S.faults out.new) result }
     ensures none_waits { OnOk result (M.waiting lines.new ≡ replicate (length (M.waiting lines.old)) []) }
     ensures rest { M.rest lines.new ≡ M.rest lines.old }
@@ -82,7 +81,6 @@ fn write_all_released<S: Sink, M: Lines>(
     lines: &mut M,
 ) -> Result<(), Failed>
     requires fit { length (M.waiting lines.old) ≡ length names.now.processes.items }
-    requires few { length names.now.processes.items < 2 ^ 32 }
     ensures text { Puts (out_lines (naming names.now) turn 0 (M.waiting lines.old)) (S.written out.old) (S.written out.new) (S.faults out.old) (S.faults out.new) result }
     ensures none_waits { OnOk result (M.waiting lines.new ≡ replicate (length (M.waiting lines.old)) []) }
     ensures rest { M.rest lines.new ≡ M.rest lines.old }
