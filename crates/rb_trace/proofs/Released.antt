@@ -1,5 +1,5 @@
 -- The released lines of one process after another.
-use Rattle.std.proofs.Common.{◌≡◌, ℕ, ◌+◌, ◌<◌, List, [], ◌∷◌, ◌++◌, length, drop, slice_set, refl, sym, ap, ◌∙◌, add-one}
+use Rattle.std.proofs.Common.{◌≡◌, ℕ, ◌+◌, ◌<◌, List, [], ◌++◌, length, drop, slice_set, sym, ap, ◌∙◌, add-one}
 use Rattle.std.specs.List.{flat_map}
 use Rattle.rb_base.specs.Lines.{belonging}
 use Rattle.rb_world.specs.Text.{Naming, out_lines}

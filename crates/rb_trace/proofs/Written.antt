@@ -31,7 +31,7 @@ pub written_part : (whole rest part after : List ℕ) (w0 w1 w2 : Option (List �
 written_part whole rest part after w0 w1 w2 f0 f1 f2 e r so_far is p failed =
     let both : Puts {T = Unit {0}} {E = Failed} (so_far.front ++ part) w0 w2 f0 f2 (Err e) = puts_both so_far.front part w0 w1 w2 f0 f1 f2 tt (Err e) so_far.puts p in
     puts_same _ _ w0 w2 f0 f2 r (append_assoc so_far.front part after ∙ ap (λ (x : List ℕ). so_far.front ++ x) (sym is) ∙ so_far.splits)
-      (puts_stopped_at (so_far.front ++ part) after w0 w2 f0 f2 e r failed both)
+    (puts_stopped_at (so_far.front ++ part) after w0 w2 f0 f2 e r failed both)
 
 -- nothing is left
 pub written_all : (whole rest : List ℕ) (w0 w1 : Option (List ℕ)) (f0 f1 : ℕ) → Written whole rest w0 w1 f0 f1 → rest ≡ [] → Puts {T = Unit {0}} {E = Failed} whole w0 w1 f0 f1 (Ok tt)

@@ -1,9 +1,9 @@
 -- How a run ended, as it is read through `Final`, and as the texts of a world tell it.
-use Rattle.std.specs.Prelude.{◌≡◌, ℕ, ℤ, List, [], ◌∷◌, ◌++◌, map, codes, decimal}
+use Rattle.std.specs.Prelude.{◌≡◌, ℕ, ℤ, List, [], ◌∷◌, ◌++◌, map}
 use Rattle.rb_base.specs.declared.event.State.{State}
 use Rattle.rb_base.specs.declared.event.State.TheVariants as state
 use Rattle.rb_world.specs.World.{Status, Running, Finished, FailedWith}
-use Rattle.rb_world.specs.Text.{Naming, ProcessNaming, Final, line_of, variable_lines, value_lines, channel_lines}
+use Rattle.rb_world.specs.Text.{Naming, ProcessNaming, Final, line_of, variable_lines, channel_lines}
 use Rattle.rb_trace.specs.Ending.{state_words}
 
 -- the state of a process with this status and so many open levels
@@ -29,10 +29,6 @@ processes_text [] states words = []
 processes_text (p ∷ ps) [] words = []
 processes_text (p ∷ ps) (s ∷ ss) [] = []
 processes_text (p ∷ ps) (s ∷ ss) (ws ∷ wss) = process_text p s ws ++ processes_text ps ss wss
-
--- the variables and channels
-abbrev pub values_written : Naming → List (List ℤ) → List ℕ → List ℕ → List ℕ
-values_written names words sent taken = value_lines names.processes words ++ channel_lines names.channels sent taken
 
 -- processes and channels
 abbrev pub ended_text : Naming → List State → List (List ℤ) → List ℕ → List ℕ → List ℕ

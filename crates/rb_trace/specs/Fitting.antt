@@ -1,7 +1,6 @@
 -- When names fit what is written with them.
 use Rattle.std.specs.Prelude.{◌≡◌, ℕ, ℤ, ◌+◌, ◌^◌, ◌<◌, ◌≤◌, List, length}
 use Rattle.std.specs.List.{AllByRecursion, AllZip}
-use Rattle.rb_base.specs.declared.event.State.{State}
 use Rattle.rb_base.specs.declared.names.Names.{Names}
 use Rattle.rb_base.specs.declared.names.ProcessNames.{ProcessNames}
 use Rattle.rb_base.specs.declared.names.Variable.{Variable}

@@ -8,7 +8,7 @@ ghost use Rattle.rb_world.specs.Text.{Final, end_text, values_text, line_of, var
 ghost use Rattle.rb_trace.specs.Naming.{naming, process_naming, variable_naming};
 ghost use Rattle.rb_trace.specs.Lines.{spaced};
 ghost use Rattle.rb_trace.specs.Fitting.{LiesWithin, ProcessFits, Fits};
-ghost use Rattle.rb_trace.specs.Ended.{IsEndOf, process_text, processes_text, values_written, ended_text};
+ghost use Rattle.rb_trace.specs.Ended.{IsEndOf, process_text, processes_text, ended_text};
 
 use crate::ending::{put_name, put_value, write_end_line, write_status};
 use crate::line::{put, put_line};

@@ -69,7 +69,8 @@ fn tells_done(event: &Event) -> bool
 {
     match event {
         Event::Done { .. } => true,
-        Event::Reject { .. } | Event::RejectAll { .. } | Event::Error { .. } | Event::Pass { .. } => false,
+        Event::Reject { .. } | Event::RejectAll { .. } | Event::Error { .. } | Event::Pass { .. } =>
+            false,
     }
 }
 

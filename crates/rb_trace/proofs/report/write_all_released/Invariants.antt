@@ -1,4 +1,4 @@
-use Rattle.std.proofs.Common.{◌≡◌, ℕ, ◌≤◌, List, drop, length}
+use Rattle.std.proofs.Common.{◌≡◌, drop}
 use Rattle.rb_world.specs.Text.{out_lines}
 use Rattle.rb_trace.specs.Naming.{naming}
 use Rattle.rb_trace.proofs.Written.{Written}

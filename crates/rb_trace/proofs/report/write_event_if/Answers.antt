@@ -1,7 +1,7 @@
 use Rattle.std.proofs.Common.{◌≡◌, rules}
-use Rattle.rb_outside.proofs.Puts.{puts_nothing, puts_same}
+use Rattle.rb_outside.proofs.Puts.{puts_same}
 use Rattle.rb_trace.specs.Naming.{naming}
-use Rattle.rb_trace.proofs.Events.{wanted, unwanted}
+use Rattle.rb_trace.proofs.Events.{wanted}
 use Rattle.rb_trace.proofs.report.write_event_if.Goals as goal
 
 pub returns-then-tells_done-done : goal.returns-then-tells_done-done

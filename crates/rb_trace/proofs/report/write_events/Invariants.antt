@@ -1,4 +1,4 @@
-use Rattle.std.proofs.Common.{ℕ, List, take, Ok}
+use Rattle.std.proofs.Common.{take, Ok}
 use Rattle.std.specs.List.{flat_map}
 use Rattle.rb_outside.specs.declared.Failed.{Failed}
 use Rattle.rb_outside.specs.Puts.{Puts}

@@ -1,10 +1,10 @@
-use Rattle.std.proofs.Common.{◌≡◌, ℕ, ◌+◌, ◌-◌, ◌<◌, ◌≤◌, List, [], ◌∷◌, ◌++◌, length, drop, slice_set, Some, None, option_copied, Ok, refl, sym, ap, ◌∙◌, rules, arith}
+use Rattle.std.proofs.Common.{◌≡◌, ℕ, List, ◌++◌, length, drop, Some, refl, sym, ap, ◌∙◌, rules, arith}
 use Rattle.std.specs.List.{flat_map}
 use Rattle.rb_base.specs.Lines.{belonging, next_line}
 use Rattle.rb_trace.specs.Naming.{naming}
 use Rattle.rb_trace.specs.Report.{out_line}
-use Rattle.rb_trace.proofs.Written.{written_nothing, written_more, written_part, written_all}
-use Rattle.rb_trace.proofs.Waiting.{set-belonging, next_first, next_none, taken, all_taken}
+use Rattle.rb_trace.proofs.Written.{written_nothing, written_more, written_part}
+use Rattle.rb_trace.proofs.Waiting.{set-belonging, next_first, taken, all_taken}
 use Rattle.rb_trace.proofs.report.write_released.Goals as goal
 
 pub lines-init : goal.lines-init
@@ -29,8 +29,7 @@ lines-preserved g c =
     let next : next_line before p ≡ Some c.in-Some.line.now = search rules in
     let line = out_line (naming c.args.names.now) c.args.turn p in
     let splits : flat_map line (belonging before p) ≡ line c.in-Some.line.now ++ flat_map line (belonging now p) =
-    ap (flat_map line) (next_first before p c.in-Some.line.now next) ∙ ap (λ (left : List (List ℕ)). line c.in-Some.line.now ++ flat_map line left) (sym one.left) in
-    (
+    ap (flat_map line) (next_first before p c.in-Some.line.now next) ∙ ap (λ (left : List (List ℕ)). line c.in-Some.line.now ++ flat_map line left) (sym one.left) in (
       written_more _ _ (line c.in-Some.line.now) (flat_map line (belonging now p)) _ _ _ _ _ _ c.lines.invariant.0 splits c.in_ok-write_out.ensures,
       one.others,
       one.within,
@@ -44,9 +43,9 @@ returns-in_err-write_out-clause-text g c =
     let next : next_line before p ≡ Some c.in-Some.line.now = search rules in
     let line = out_line (naming c.args.names.now) c.args.turn p in
     written_part _ _ (line c.in-Some.line.now) (flat_map line (drop 1 (belonging before p))) _ _ _ _ _ _ _ c.from_residual.result c.lines.invariant.0
-      (ap (flat_map line) (next_first before p c.in-Some.line.now next)) c.in_err-write_out.ensures c.from_residual.ensures.0
+    (ap (flat_map line) (next_first before p c.in-Some.line.now next)) c.in_err-write_out.ensures c.from_residual.ensures.0
 
 pub returns-clause-none_waits : goal.returns-clause-none_waits
 returns-clause-none_waits g c =
     all_taken (g.M.Lines.waiting c.args.lines.now) (g.M.Lines.waiting c.lines.lines) (g.M.Lines.waiting c.released.follows.lender-at-none) c.args.process
-      c.lines.invariant.1 c.lines.invariant.2 c.released.follows.holds-at-none.0 (search rules)
+    c.lines.invariant.1 c.lines.invariant.2 c.released.follows.holds-at-none.0 (search rules)
