@@ -1,5 +1,5 @@
 -- What a call through a buffer comes to at the sink behind it.
-use Rattle.std.proofs.Common.{◌≡◌, ◌⊎◌, ℕ, ◌≤◌, Bool, true, false, ◌&&◌, List, [], ◌∷◌, ◌++◌, length, take, Option, Some, None, refl, sym, ap, subst, ◌∙◌, inl, inr, arith, length-append}
+use Rattle.std.proofs.Common.{◌≡◌, ◌⊎◌, ℕ, zero, suc, ◌+◌, ◌≤◌, Bool, true, false, ◌&&◌, List, [], ◌∷◌, ◌++◌, length, take, Option, Some, None, refl, sym, ap, subst, ◌∙◌, inl, inr, arith, length-append}
 use Rattle.std.proofs.lemmas.List.{length-take}
 use Rattle.std.proofs.Math.Seq.{take-append_seam, take-length}
 use Rattle.rb_outside.specs.Outside.{File, Faults, Start, Rose, WrotePart, failed_once, went_well, then_written}
@@ -15,7 +15,10 @@ use Rattle.rb_top.proofs.Complete.{completed}
 
 -- a front of a front
 take-take : (a b : ℕ) (xs : List ℕ) → a ≤ b → take a (take b xs) ≡ take a xs
-take-take a b xs le = ?
+take-take zero b xs le = refl
+take-take (suc a) zero xs le = absurd (omega (arith, le))
+take-take (suc a) (suc b) [] le = refl
+take-take (suc a) (suc b) (x ∷ xs) le = ap (λ (ys : List ℕ). x ∷ ys) (take-take a b xs (omega (arith, le)))
 
 -- a text whose end still waits is a front of what was written
 front_written : (w rest bytes : List ℕ) (k : ℕ) → k ≤ length bytes → w ++ rest ≡ take k bytes → (length w ≤ length bytes) × (w ≡ take (length w) bytes)
@@ -261,3 +264,11 @@ ends_without_memory request files now starts r f w number five same =
       seen = seen;
       complete = complete_behind request old old (record { files = files; starts = starts; read_faults = r; written = w; write_faults = f }) Memory answers seen;
     })
+
+-- a call that begins with an empty buffer begins with its sink
+pub begins_empty : (request : Option Request) (files : Option (List File)) (starts : List Start) (r fb f0 : Faults) (wb w0 : Option (List ℕ)) (mid : Scene) (s : Status) → wb ≡ w0 → fb ≡ went_well f0 →
+    WhereRequested request (record { files = files; starts = starts; read_faults = r; written = wb; write_faults = fb }) mid s →
+    WhereRequested request (record { files = files; starts = starts; read_faults = r; written = w0; write_faults = went_well f0 }) mid s
+begins_empty request files starts r fb f0 wb w0 mid s bytes faults h =
+    subst (λ w. WhereRequested request (record { files = files; starts = starts; read_faults = r; written = w; write_faults = went_well f0 }) mid s) bytes
+    (subst (λ f. WhereRequested request (record { files = files; starts = starts; read_faults = r; written = wb; write_faults = f }) mid s) faults h)
