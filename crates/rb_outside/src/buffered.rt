@@ -19,6 +19,14 @@ pub struct Buffered<S: Sink> {
     ghost holds: { (passed_on ≤ vec_len bytes) × (vec_len bytes ≤ ROOM) × (ROOM ≤ vec_capacity bytes) },
 }
 
+/// The memory of a buffer.
+pub fn buffer_memory(alloc: Global) -> Result<Vec<u8>, Memory>
+    ensures empty { IfOk result (λ bytes. bytes.items ≡ []) }
+    ensures large { IfOk result (λ bytes. ROOM ≤ vec_capacity bytes) }
+{
+    Ok(Vec::with_capacity(alloc, ROOM)?)
+}
+
 impl<S: Sink + Drop> Buffered<S> {
     /// Reserves the buffer, so that no later call takes memory.
     pub fn new(alloc: Global, sink: S) -> Result<Self, Memory>
@@ -26,17 +34,28 @@ impl<S: Sink + Drop> Buffered<S> {
         ensures well { IfOk result (λ b. b.failed ≡ false) }
         ensures waits { IfOk result (λ b. drop b.passed_on b.bytes.items ≡ []) }
     {
-        let bytes = Vec::with_capacity(alloc, ROOM)?;
-        Ok(Buffered {
-            sink,
-            bytes,
-            passed_on: 0,
-            failed: false,
-        })
+        let bytes = buffer_memory(alloc)?;
+        Ok(Buffered::over(sink, bytes))
     }
 }
 
 impl<S: Sink> Buffered<S> {
+    /// A sink behind a buffer of this memory.
+    pub fn over(sink: S, bytes: Vec<u8>) -> Self
+        requires empty { bytes.items ≡ [] }
+        requires large { ROOM ≤ vec_capacity bytes }
+        ensures sink { result.sink ≡ sink }
+        ensures well { result.failed ≡ false }
+        ensures waits { drop result.passed_on result.bytes.items ≡ [] }
+    {
+        Buffered {
+            sink,
+            bytes,
+            passed_on: 0,
+            failed: false,
+        }
+    }
+
     /// The sink behind the buffer, with what was passed on to it.
     pub fn into_sink(self) -> S
         ensures { result ≡ self.sink }

@@ -16,7 +16,7 @@ pub mod sink;
 #[cfg(test)]
 mod tests;
 
-pub use buffered::Buffered;
+pub use buffered::{Buffered, buffer_memory};
 pub use host::{HostShelf, HostSink};
 pub use memory_shelf::MemoryShelf;
 pub use memory_sink::MemorySink;

@@ -5,3 +5,4 @@ pub mod Judged
 pub mod Complete
 pub mod AllJudged
 pub mod OneProcess
+pub mod Behind

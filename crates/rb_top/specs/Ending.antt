@@ -1,9 +1,10 @@
 -- How the program ends: its exit status, and what stands behind its buffer.
 -- All of it is this project's own.
-use Rattle.std.specs.Prelude.{◌≡◌, ℕ, true, List, [], ◌∷◌, Option, Some, None}
-use Rattle.rb_outside.specs.Outside.{Faults}
+use Rattle.std.specs.Prelude.{◌≡◌, ◌⊎◌, ℕ, true, List, [], Option, Some, None}
+use Rattle.rb_outside.specs.Outside.{Faults, failed_once}
 use Rattle.rb_top.specs.Words.{Request}
 use Rattle.rb_top.specs.Answers.{Scene, WhereRequested}
+use Rattle.rb_top.specs.Complete.{IsComplete}
 use Rattle.rb_top.specs.declared.status.Status.{Status}
 use Rattle.rb_top.specs.declared.status.Status.TheVariants.{Done, Refused, Usage, ReadFault, WriteFault, Memory}
 
@@ -36,8 +37,26 @@ pub record SeenBehind (told seen : Scene) : Type 0 where
   pub write_faults : seen.write_faults.count ≡ told.write_faults.count
   pub failed_last : told.write_faults.failed_last ≡ true → seen.write_faults.failed_last ≡ true
 
--- The answer of a call whose bytes went through a buffer, as the scene behind the buffer shows it.
-pub record AnswersBehind (request : Option Request) (old new : Scene) (status : Status) : Type 0 where
+-- The exit status is the number of an answer of the call, whose bytes went through a buffer; where nothing outside stands
+-- in the way, the answer is as judged.
+pub record EndsWithNumber (request : Option Request) (old new : Scene) (number : ℕ) : Type 0 where
+  pub status : Status
+  pub is : number ≡ status_number status
   pub told : Scene
   pub answers : WhereRequested request old told status
   pub seen : SeenBehind told new
+  pub complete : IsComplete request old new status
+
+-- what is left to do for a status: the buffer was passed on, or that was a fault
+abbrev pub IsPassedOn : Status → Status → Option (List ℕ) → Option (List ℕ) → Faults → Faults → Type 0
+IsPassedOn before after waiting written f0 f1 =
+    ((after ≡ before) × (written ≡ waiting) × (f1.count ≡ f0.count)) ⊎ ((after ≡ WriteFault) × (f1 ≡ failed_once f0))
+
+-- The end of a call: what was written is passed on, unless a write failed or nothing was written.
+abbrev pub Finishes : Status → Status → Option (List ℕ) → Option (List ℕ) → Option (List ℕ) → Faults → Faults → Type 0
+Finishes Done after waiting old new f0 f1 = IsPassedOn Done after waiting new f0 f1
+Finishes Refused after waiting old new f0 f1 = IsPassedOn Refused after waiting new f0 f1
+Finishes Usage after waiting old new f0 f1 = IsPassedOn Usage after waiting new f0 f1
+Finishes ReadFault after waiting old new f0 f1 = (after ≡ ReadFault) × (new ≡ old) × (f1 ≡ f0)
+Finishes WriteFault after waiting old new f0 f1 = (after ≡ WriteFault) × (new ≡ old) × (f1 ≡ f0)
+Finishes Memory after waiting old new f0 f1 = (after ≡ Memory) × (new ≡ old) × (f1 ≡ f0)

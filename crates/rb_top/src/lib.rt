@@ -1,6 +1,7 @@
 // The top call: from words, files and a sink to a status.
 #![tactic(auto)]
 
+pub mod ending;
 pub mod laws;
 pub mod read;
 pub mod refuse;
@@ -9,6 +10,7 @@ pub mod status;
 pub mod top;
 pub mod words;
 
+pub use ending::{Carried, carry_out};
 pub use status::Status;
 pub use top::command;
 pub use words::Words;

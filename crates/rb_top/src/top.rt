@@ -7,6 +7,7 @@ ghost use Rattle.rb_run.specs.Ran.{names_of};
 ghost use Rattle.rb_run.specs.Runnable.{is_runnable};
 ghost use Rattle.rb_base.specs.declared.limits.TheConstants.{MOST_BYTES};
 ghost use Rattle.rb_top.specs.Words.{request_of, run_of};
+ghost use Rattle.rb_top.specs.Asked.{asked};
 ghost use Rattle.rb_top.specs.Complete.{IsComplete};
 ghost use Rattle.rb_top.specs.Answers.{Scene, WithRequest, WhereRequested};
 ghost use Rattle.rb_top.specs.Read.{WasReadIn};
@@ -51,12 +52,29 @@ pub fn command<F: Shelf, S: Sink>(
 {
     match requested(words) {
         None => status_after(put_usage(out), Status::Usage),
-        Some(Request::Run { source, schedule }) => run_files(alloc, source, schedule, shelf, out),
+        Some(request) => answer(alloc, request, shelf, out),
     }
 }
 
-// How the call ends after a line that was to end it with this status.
-fn status_after(written: Result<(), Failed>, status: Status) -> Status
+fn answer<F: Shelf, S: Sink>(
+    alloc: Global,
+    request: Request<'_>,
+    shelf: &mut F,
+    out: &mut S,
+) -> Status
+    ensures files { F.files shelf.new ≡ F.files shelf.old }
+    ensures answers { WithRequest (asked request.entry)
+        (record { files = F.files shelf.old; starts = F.starts shelf.old; read_faults = F.faults shelf.old; written = S.written out.old; write_faults = S.faults out.old })
+        (record { files = F.files shelf.new; starts = F.starts shelf.new; read_faults = F.faults shelf.new; written = S.written out.new; write_faults = S.faults out.new })
+        result }
+{
+    match request {
+        Request::Run { source, schedule } => run_files(alloc, source, schedule, shelf, out),
+    }
+}
+
+/// How a call ends after a write that was to end it with this status.
+pub fn status_after(written: Result<(), Failed>, status: Status) -> Status
     ensures { MatchResult written (λ _. result ≡ status) (λ _. result ≡ Status.WriteFault) }
 {
     match written {

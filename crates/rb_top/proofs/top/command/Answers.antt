@@ -1,6 +1,15 @@
 use Rattle.std.proofs.Common.{◌≡◌, Option, Some, sym, subst}
+use Rattle.rb_top.specs.Answers.{Scene}
+use Rattle.rb_top.specs.Complete.{IsComplete}
+use Rattle.rb_top.specs.Words.{Request, request_of}
+use Rattle.rb_top.specs.Asked.{asked}
+use Rattle.rb_top.proofs.Complete.{completed}
 use Rattle.rb_top.proofs.top.command.Goals as goal
 
-pub returns-in-Some-Run-clause-complete : goal.returns-in-Some-Run-clause-complete
-returns-in-Some-Run-clause-complete g c =
-    let e = c.in-Some-Run.ensures in let i = c.in-Some-Run.is in let a = c.run_files.ensures.answers in ?
+pub returns-in-Some-clause-complete : goal.returns-in-Some-clause-complete
+returns-in-Some-clause-complete g c =
+    let request : Request = asked c.in-Some.request in
+    let old : Scene = record { files = g.F.Shelf.files c.args.shelf.now; starts = g.F.Shelf.starts c.args.shelf.now; read_faults = g.F.Shelf.faults c.args.shelf.now; written = g.S.Sink.written c.args.out.now; write_faults = g.S.Sink.faults c.args.out.now } in
+    let new : Scene = record { files = g.F.Shelf.files c.answer.new.shelf; starts = g.F.Shelf.starts c.answer.new.shelf; read_faults = g.F.Shelf.faults c.answer.new.shelf; written = g.S.Sink.written c.answer.new.out; write_faults = g.S.Sink.faults c.answer.new.out } in
+    let given : request_of c.args.words.now ≡ Some request = c.in-Some.ensures in
+    subst (λ (r : Option Request). IsComplete r old new c.answer.result) (sym given) (completed request old new c.answer.result c.answer.ensures.answers)
