@@ -1,4 +1,4 @@
-ghost use Rattle.std.specs.Prelude.{◌≡◌, ◌<◌, ◌^◌, nat_eq, position, vec_len};
+ghost use Rattle.std.specs.Prelude.{◌≡◌, ◌<◌, ◌^◌, IfSome, nat_eq, position, vec_len};
 ghost use Rattle.std.specs.Cmp.Lexicographic.{pointwise};
 ghost use Rattle.rb_base.specs.Naming.{first_named, process_names};
 
@@ -17,7 +17,8 @@ impl Names {
     /// no process has it.
     pub fn process(&self, name: &[u8]) -> Option<u32>
         requires { vec_len self.now.processes < 2 ^ 32 }
-        ensures { result ≡ first_named (process_names self.now) name.now }
+        ensures first { result ≡ first_named (process_names self.now) name.now }
+        ensures known { IfSome result (λ process. process < vec_len self.now.processes) }
     {
         let place = place_of(&self.processes, name)?;
         Some(place as u32)

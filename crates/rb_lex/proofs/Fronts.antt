@@ -1,17 +1,21 @@
 -- What stands at a front is a part of the bytes that holds no LF, and a token takes a byte at least.
-use Rattle.std.proofs.Common.{◌≡◌, ℕ, pos, ◌+◌, ◌-◌, ◌^◌, ◌==◌, ◌≤◌, ◌<◌, nat_lt, nat_le, nat_eq, Bool, true, false, not, ◌&&◌, ◌||◌, cond, List, [], ◌∷◌, ◌++◌, length, take, take_while, codes, refl, ap, sym, subst, ◌∙◌, inl, inr, arith, length-take, length-append, append_assoc}
+use Rattle.std.proofs.Common.{◌≡◌, ℕ, pos, ◌+◌, ◌==◌, ◌≤◌, ◌<◌, nat_lt, nat_le, nat_eq, Bool, true, false, not, ◌&&◌, ◌||◌, cond, List, [], ◌∷◌, ◌++◌, length, take, take_while, refl, ap, sym, subst, ◌∙◌, inl, inr, arith, length-take, length-append, append_assoc}
 use Rattle.std.specs.List.{list_all, prefix_len}
 use Rattle.std.specs.Cmp.Lexicographic.{pointwise, same_text}
 use Rattle.std.proofs.lemmas.Bool.{or_cases, or_left, and_from, and_parts, not_from_false, not-false, false_from_ne_true, eqb-true, true≢false, cond_both}
 use Rattle.std.proofs.lemmas.List.{take_at, length-take-le}
 use Rattle.std.proofs.lemmas.List.Folds.{list_all-append}
 use Rattle.std.proofs.lemmas.List.Sums.{take_while-cons, prefix_len-le-length}
+use Rattle.rb_base.specs.declared.edition.Edition.{Edition}
+use Rattle.rb_base.specs.declared.edition.Edition.TheVariants.{First, Second}
+use Rattle.rb_base.specs.declared.limits.TheConstants.{LARGEST_NUMBER, LONGEST_NAME, LONGEST_TEXT}
+use Rattle.rb_base.specs.Bytes.{is_letter, is_digit, is_name_byte, digits_value}
 use Rattle.rb_lex.specs.declared.token.Kind.{Kind}
 use Rattle.rb_lex.specs.declared.token.Kind.TheVariants.{Number, Text, Mark, Name, Word}
 use Rattle.rb_base.specs.declared.fault.FaultName.{FaultName}
 use Rattle.rb_base.specs.declared.fault.FaultName.TheVariants.{X1, X2, X3, X4, X5}
-use Rattle.rb_lex.specs.Tokens.{Front, Whole, Faulty, is_one_of, is_reserved, one_marks, two_marks, digits_value, name_front, number_front, text_front, mark_front, front}
-use Rattle.rb_lex.specs.Bytes.{is_letter, is_digit, is_name_byte, is_printable}
+use Rattle.rb_lex.specs.Tokens.{Front, Whole, Faulty, is_one_of, is_reserved, one_marks, two_marks, own_marks, name_front, number_front, text_front, mark_front, front}
+use Rattle.rb_lex.specs.Bytes.{is_printable}
 
 -- no byte is LF
 abbrev pub has_no_lf : List ℕ → Bool
@@ -55,13 +59,13 @@ first_faulty : (name : FaultName) (b : ℕ) (bs : List ℕ) → FrontStands (Fau
 first_faulty name b bs = (omega arith, refl)
 
 -- names and numbers
-name-stands : (second : Bool) (b : ℕ) (bs : List ℕ) → is_letter b ≡ true → FrontStands (name_front second (take_while is_name_byte (b ∷ bs))) (b ∷ bs)
-name-stands second b bs e =
-    cond_both (nat_lt 64 (length (take_while is_name_byte (b ∷ bs)))) (Faulty X5 0) (Whole (cond (is_reserved second (take_while is_name_byte (b ∷ bs))) Word Name) (length (take_while is_name_byte (b ∷ bs)))) (λ f. FrontStands f (b ∷ bs)) (λ _. first_faulty X5 b bs) (λ _. run-stands (cond (is_reserved second (take_while is_name_byte (b ∷ bs))) Word Name) is_name_byte b bs refl (or_left (is_letter b || is_digit b) (b == 95) (or_left (is_letter b) (is_digit b) e)))
+name-stands : (edition : Edition) (b : ℕ) (bs : List ℕ) → is_letter b ≡ true → FrontStands (name_front edition (take_while is_name_byte (b ∷ bs))) (b ∷ bs)
+name-stands edition b bs e =
+    cond_both (nat_lt LONGEST_NAME (length (take_while is_name_byte (b ∷ bs)))) (Faulty X5 0) (Whole (cond (is_reserved edition (take_while is_name_byte (b ∷ bs))) Word Name) (length (take_while is_name_byte (b ∷ bs)))) (λ f. FrontStands f (b ∷ bs)) (λ _. first_faulty X5 b bs) (λ _. run-stands (cond (is_reserved edition (take_while is_name_byte (b ∷ bs))) Word Name) is_name_byte b bs refl (or_left (is_letter b || is_digit b) (b == 95) (or_left (is_letter b) (is_digit b) e)))
 
 number-stands : (b : ℕ) (bs : List ℕ) → is_digit b ≡ true → FrontStands (number_front (take_while is_digit (b ∷ bs))) (b ∷ bs)
 number-stands b bs e =
-    cond_both (nat_lt (2 ^ 63 - 1) (digits_value 0 (take_while is_digit (b ∷ bs)))) (Faulty X3 0) (Whole (Number (pos (digits_value 0 (take_while is_digit (b ∷ bs))))) (length (take_while is_digit (b ∷ bs)))) (λ f. FrontStands f (b ∷ bs)) (λ _. first_faulty X3 b bs) (λ _. run-stands (Number (pos (digits_value 0 (take_while is_digit (b ∷ bs))))) is_digit b bs refl e)
+    cond_both (nat_lt LARGEST_NUMBER (digits_value 0 (take_while is_digit (b ∷ bs)))) (Faulty X3 0) (Whole (Number (pos (digits_value 0 (take_while is_digit (b ∷ bs))))) (length (take_while is_digit (b ∷ bs)))) (λ f. FrontStands f (b ∷ bs)) (λ _. first_faulty X3 b bs) (λ _. run-stands (Number (pos (digits_value 0 (take_while is_digit (b ∷ bs))))) is_digit b bs refl e)
 
 -- one byte more
 no_lf-push : (bytes : List ℕ) (b : ℕ) → has_no_lf bytes ≡ true → not (b == 10) ≡ true → has_no_lf (bytes ++ b ∷ []) ≡ true
@@ -92,7 +96,7 @@ text-stands n passed [] e h = not_closed X2 passed [] (omega (arith, e))
 text-stands n passed (b ∷ bs) e h =
     choice (b == 34) _ _ (passed ++ b ∷ bs) (λ q. closed n passed b bs e h (ap (λ x. not (x == 10)) (eqb-true b 34 q)))
     (λ _. choice (b == 10 || b == 13) _ _ (passed ++ b ∷ bs) (λ _. not_closed X2 passed (b ∷ bs) (omega (arith, e)))
-    (λ _. choice (nat_le 256 n) _ _ (passed ++ b ∷ bs) (λ _. not_closed X4 passed (b ∷ bs) (omega (arith, e)))
+    (λ _. choice (nat_le LONGEST_TEXT n) _ _ (passed ++ b ∷ bs) (λ _. not_closed X4 passed (b ∷ bs) (omega (arith, e)))
     (λ _. choice (not (is_printable b)) _ _ (passed ++ b ∷ bs) (λ _. unprintable n passed b bs e h)
     (λ q. subst (FrontStands (text_front (n + 1) bs)) (append_assoc passed (b ∷ []) bs) (text-stands (n + 1) (passed ++ b ∷ []) bs (omega (arith, length-append passed (b ∷ []), e)) (no_lf-push passed b h (not_lf is_printable b refl (not-false (is_printable b) q))))))))
 
@@ -113,17 +117,22 @@ whole_mark n bytes h e =
     let both = and_parts (length (take n bytes) == n) (has_no_lf (take n bytes)) e in
     (h, omega (arith, length-take n bytes, eqb-true (length (take n bytes)) n both.0), both.1)
 
+-- each mark that an edition has of its own is one byte
+own-marks : (edition : Edition) → list_all (is_mark_of 1) (own_marks edition) ≡ true
+own-marks First = refl
+own-marks Second = refl
+
 -- marks
-mark-stands : (second : Bool) (b : ℕ) (bs : List ℕ) → FrontStands (mark_front second (b ∷ bs)) (b ∷ bs)
-mark-stands second b bs =
+mark-stands : (edition : Edition) (b : ℕ) (bs : List ℕ) → FrontStands (mark_front edition (b ∷ bs)) (b ∷ bs)
+mark-stands edition b bs =
     choice (is_one_of two_marks (take 2 (b ∷ bs))) _ _ (b ∷ bs) (λ e. whole_mark 2 (b ∷ bs) (omega arith) (one_of-passes (is_mark_of 2) two_marks (take 2 (b ∷ bs)) refl e))
-    (λ _. choice (is_one_of one_marks (take 1 (b ∷ bs)) || (second && is_one_of (codes ":" ∷ []) (take 1 (b ∷ bs)))) _ _ (b ∷ bs) (λ e. elim (or_cases (is_one_of one_marks (take 1 (b ∷ bs))) (second && is_one_of (codes ":" ∷ []) (take 1 (b ∷ bs))) e) [ inl h ↦ whole_mark 1 (b ∷ bs) (omega arith) (one_of-passes (is_mark_of 1) one_marks (take 1 (b ∷ bs)) refl h) | inr h ↦ whole_mark 1 (b ∷ bs) (omega arith) (one_of-passes (is_mark_of 1) (codes ":" ∷ []) (take 1 (b ∷ bs)) refl (and_parts second (is_one_of (codes ":" ∷ []) (take 1 (b ∷ bs))) h).1) ])
+    (λ _. choice (is_one_of one_marks (take 1 (b ∷ bs)) || is_one_of (own_marks edition) (take 1 (b ∷ bs))) _ _ (b ∷ bs) (λ e. elim (or_cases (is_one_of one_marks (take 1 (b ∷ bs))) (is_one_of (own_marks edition) (take 1 (b ∷ bs))) e) [ inl h ↦ whole_mark 1 (b ∷ bs) (omega arith) (one_of-passes (is_mark_of 1) one_marks (take 1 (b ∷ bs)) refl h) | inr h ↦ whole_mark 1 (b ∷ bs) (omega arith) (one_of-passes (is_mark_of 1) (own_marks edition) (take 1 (b ∷ bs)) (own-marks edition) h) ])
     (λ _. first_faulty X1 b bs))
 
 -- what stands at a front
-pub front-stands : (second : Bool) (b : ℕ) (bs : List ℕ) → FrontStands (front second (b ∷ bs)) (b ∷ bs)
-front-stands second b bs =
-    choice (is_letter b) _ _ (b ∷ bs) (name-stands second b bs)
+pub front-stands : (edition : Edition) (b : ℕ) (bs : List ℕ) → FrontStands (front edition (b ∷ bs)) (b ∷ bs)
+front-stands edition b bs =
+    choice (is_letter b) _ _ (b ∷ bs) (name-stands edition b bs)
     (λ _. choice (is_digit b) _ _ (b ∷ bs) (number-stands b bs)
     (λ _. choice (b == 34) _ _ (b ∷ bs) (λ e. text-stands 0 (b ∷ []) bs refl (ap (λ x. has_no_lf (x ∷ [])) (eqb-true b 34 e)))
-    (λ _. mark-stands second b bs)))
+    (λ _. mark-stands edition b bs)))

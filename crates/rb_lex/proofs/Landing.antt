@@ -2,6 +2,7 @@
 use Rattle.std.proofs.Common.{◌≡◌, ℕ, ◌+◌, ◌==◌, ◌≤◌, ◌<◌, Bool, true, not, List, [], ◌∷◌, ◌++◌, length, get_or, take, drop, refl, ap, sym, subst, ◌∙◌, arith, length-append}
 use Rattle.std.proofs.lemmas.Bool.{and_parts, not-true, cond-false}
 use Rattle.std.proofs.lemmas.List.{take-append-drop, length-take-le, drop_more}
+use Rattle.rb_base.specs.declared.edition.Edition.{Edition}
 use Rattle.rb_base.specs.declared.place.Place.{Place}
 use Rattle.rb_base.specs.declared.fault.SourceFault.{SourceFault}
 use Rattle.rb_lex.specs.declared.gap.Step.{Step}
@@ -79,25 +80,25 @@ one_further p b bs (Refused fault) h =
     record { before = b ∷ h.before; byte = h.byte; after = h.after; parts = ap (λ l. b ∷ l) h.parts; stands = h.stands }
 
 -- the step of `next_from-stands`
-step-stands : (s : Step) (second : Bool) (p : Place) (b : ℕ) (bs : List ℕ) → ((comment : Bool) → NextStands (place_after p b) bs (next_from second comment (place_after p b) bs)) → NextStands p (b ∷ bs) (next_by s second p b bs)
-step-stands (Pass comment) second p b bs h =
-    one_further p b bs (next_from second comment (place_after p b) bs) (h comment)
-step-stands Begin second p b bs h = cut-stands (front second (b ∷ bs)) p (b ∷ bs) (front-stands second b bs)
-step-stands Fault second p b bs h =
+step-stands : (s : Step) (edition : Edition) (p : Place) (b : ℕ) (bs : List ℕ) → ((comment : Bool) → NextStands (place_after p b) bs (next_from edition comment (place_after p b) bs)) → NextStands p (b ∷ bs) (next_by s edition p b bs)
+step-stands (Pass comment) edition p b bs h =
+    one_further p b bs (next_from edition comment (place_after p b) bs) (h comment)
+step-stands Begin edition p b bs h = cut-stands (front edition (b ∷ bs)) p (b ∷ bs) (front-stands edition b bs)
+step-stands Fault edition p b bs h =
     record { before = []; byte = b; after = bs; parts = refl; stands = refl }
 
 -- what comes next, from any place
-pub next_from-stands : (second comment : Bool) (p : Place) (bytes : List ℕ) → NextStands p bytes (next_from second comment p bytes)
-next_from-stands second comment p [] = refl
-next_from-stands second comment p (b ∷ bs) =
-    subst (NextStands p (b ∷ bs)) (sym (by_step second comment p b bs)) (step-stands (step_of comment b) second p b bs (λ c. next_from-stands second c (place_after p b) bs))
+pub next_from-stands : (edition : Edition) (comment : Bool) (p : Place) (bytes : List ℕ) → NextStands p bytes (next_from edition comment p bytes)
+next_from-stands edition comment p [] = refl
+next_from-stands edition comment p (b ∷ bs) =
+    subst (NextStands p (b ∷ bs)) (sym (by_step edition comment p b bs)) (step-stands (step_of comment b) edition p b bs (λ c. next_from-stands edition c (place_after p b) bs))
 
 -- a token that comes next stands behind a gap
-pub found-stands : (second comment : Bool) (p : Place) (bytes : List ℕ) (token : Lexeme) (at : Place) (left : List ℕ) → next_from second comment p bytes ≡ Found token at left → FoundStands p bytes token at left
-found-stands second comment p bytes token at left e = subst (NextStands p bytes) e (next_from-stands second comment p bytes)
+pub found-stands : (edition : Edition) (comment : Bool) (p : Place) (bytes : List ℕ) (token : Lexeme) (at : Place) (left : List ℕ) → next_from edition comment p bytes ≡ Found token at left → FoundStands p bytes token at left
+found-stands edition comment p bytes token at left e = subst (NextStands p bytes) e (next_from-stands edition comment p bytes)
 
 -- each token leaves fewer bytes
-pub found-progress : (second comment : Bool) (p : Place) (bytes : List ℕ) (token : Lexeme) (at : Place) (left : List ℕ) → next_from second comment p bytes ≡ Found token at left → length left < length bytes
-found-progress second comment p bytes token at left e =
-    let s = found-stands second comment p bytes token at left e in
+pub found-progress : (edition : Edition) (comment : Bool) (p : Place) (bytes : List ℕ) (token : Lexeme) (at : Place) (left : List ℕ) → next_from edition comment p bytes ≡ Found token at left → length left < length bytes
+found-progress edition comment p bytes token at left e =
+    let s = found-stands edition comment p bytes token at left e in
     omega (arith, ap length s.parts, length-append s.gap (token.text ++ left), length-append token.text left, s.some)

@@ -1,5 +1,4 @@
 pub mod Reserved
-pub mod Digits
 pub mod Steps
 pub mod Fronts
 pub mod Landing

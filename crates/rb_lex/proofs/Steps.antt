@@ -2,6 +2,7 @@
 use Rattle.std.proofs.Common.{◌≡◌, ℕ, ◌==◌, ◌≤◌, ◌-◌, Bool, true, false, cond, List, [], ◌∷◌, length, get_or, drop, take, refl, ap, ◌∙◌, arith}
 use Rattle.std.proofs.lemmas.Grind.{common_steps}
 use Rattle.std.proofs.lemmas.Bool.Decides.{nat_tests}
+use Rattle.rb_base.specs.declared.edition.Edition.{Edition}
 use Rattle.rb_base.specs.declared.place.Place.{Place}
 use Rattle.rb_base.specs.declared.fault.FaultName.TheVariants.{X1}
 use Rattle.rb_lex.specs.declared.gap.Step.{Step}
@@ -11,41 +12,41 @@ use Rattle.rb_lex.specs.Tokens.{Next, Refused, next_from}
 use Rattle.rb_lex.specs.Gaps.{HasRoom, here, step_of}
 
 -- what comes next, by the step that the first byte makes
-abbrev pub next_by : Step → Bool → Place → ℕ → List ℕ → Next
-next_by (Pass comment) second p b bs = next_from second comment (place_after p b) bs
-next_by Begin second p b bs = here second p (b ∷ bs)
-next_by Fault second p b bs = Refused (record { name = X1; place = p })
+abbrev pub next_by : Step → Edition → Place → ℕ → List ℕ → Next
+next_by (Pass comment) edition p b bs = next_from edition comment (place_after p b) bs
+next_by Begin edition p b bs = here edition p (b ∷ bs)
+next_by Fault edition p b bs = Refused (record { name = X1; place = p })
 
 -- the two cases of `by_step`, over the tests of the byte
-in_comment : (is_end goes_on second : Bool) (p : Place) (b : ℕ) (bs : List ℕ) → cond is_end (next_by (Pass false) second p b bs) (cond goes_on (next_by (Pass true) second p b bs) (next_by Fault second p b bs)) ≡ next_by (cond is_end (Pass false) (cond goes_on (Pass true) Fault)) second p b bs
-in_comment true _ second p b bs = refl
-in_comment false true second p b bs = refl
-in_comment false false second p b bs = refl
+in_comment : (is_end goes_on : Bool) (edition : Edition) (p : Place) (b : ℕ) (bs : List ℕ) → cond is_end (next_by (Pass false) edition p b bs) (cond goes_on (next_by (Pass true) edition p b bs) (next_by Fault edition p b bs)) ≡ next_by (cond is_end (Pass false) (cond goes_on (Pass true) Fault)) edition p b bs
+in_comment true _ edition p b bs = refl
+in_comment false true edition p b bs = refl
+in_comment false false edition p b bs = refl
 
-outside : (blank begins second : Bool) (p : Place) (b : ℕ) (bs : List ℕ) → cond blank (next_by (Pass false) second p b bs) (cond begins (next_by (Pass true) second p b bs) (next_by Begin second p b bs)) ≡ next_by (cond blank (Pass false) (cond begins (Pass true) Begin)) second p b bs
-outside true _ second p b bs = refl
-outside false true second p b bs = refl
-outside false false second p b bs = refl
+outside : (blank begins : Bool) (edition : Edition) (p : Place) (b : ℕ) (bs : List ℕ) → cond blank (next_by (Pass false) edition p b bs) (cond begins (next_by (Pass true) edition p b bs) (next_by Begin edition p b bs)) ≡ next_by (cond blank (Pass false) (cond begins (Pass true) Begin)) edition p b bs
+outside true _ edition p b bs = refl
+outside false true edition p b bs = refl
+outside false false edition p b bs = refl
 
 -- one step of the definition
-pub by_step : (second comment : Bool) (p : Place) (b : ℕ) (bs : List ℕ) → next_from second comment p (b ∷ bs) ≡ next_by (step_of comment b) second p b bs
-by_step second true p b bs = in_comment (b == 10) (is_comment_byte b) second p b bs
-by_step second false p b bs = outside (is_blank b) (b == 35) second p b bs
+pub by_step : (edition : Edition) (comment : Bool) (p : Place) (b : ℕ) (bs : List ℕ) → next_from edition comment p (b ∷ bs) ≡ next_by (step_of comment b) edition p b bs
+by_step edition true p b bs = in_comment (b == 10) (is_comment_byte b) edition p b bs
+by_step edition false p b bs = outside (is_blank b) (b == 35) edition p b bs
 
 -- what a slice pattern leaves after the first byte
 rest_cons : (b : ℕ) (bs : List ℕ) → take (length (b ∷ bs) - 1) (drop 1 (b ∷ bs)) ≡ bs
 rest_cons b bs = grind (arith, common_steps)
 
 -- a byte that is passed changes nothing of what comes next
-pub passed : (second comment goes_on : Bool) (p : Place) (bytes : List ℕ) → 1 ≤ length bytes → step_of comment (get_or bytes 0 0) ≡ Pass goes_on → next_from second comment p bytes ≡ next_from second goes_on (place_after p (get_or bytes 0 0)) (take (length bytes - 1) (drop 1 bytes))
-passed second comment goes_on p [] h e = absurd (omega arith)
-passed second comment goes_on p (b ∷ bs) h e =
-    rw (rest_cons b bs) (by_step second comment p b bs ∙ ap (λ s. next_by s second p b bs) e)
+pub passed : (edition : Edition) (comment goes_on : Bool) (p : Place) (bytes : List ℕ) → 1 ≤ length bytes → step_of comment (get_or bytes 0 0) ≡ Pass goes_on → next_from edition comment p bytes ≡ next_from edition goes_on (place_after p (get_or bytes 0 0)) (take (length bytes - 1) (drop 1 bytes))
+passed edition comment goes_on p [] h e = absurd (omega arith)
+passed edition comment goes_on p (b ∷ bs) h e =
+    rw (rest_cons b bs) (by_step edition comment p b bs ∙ ap (λ s. next_by s edition p b bs) e)
 
 -- where a token begins, it comes next
-pub begins : (second comment : Bool) (p : Place) (bytes : List ℕ) → 1 ≤ length bytes → step_of comment (get_or bytes 0 0) ≡ Begin → next_from second comment p bytes ≡ here second p bytes
-begins second comment p [] h e = absurd (omega arith)
-begins second comment p (b ∷ bs) h e = by_step second comment p b bs ∙ ap (λ s. next_by s second p b bs) e
+pub begins : (edition : Edition) (comment : Bool) (p : Place) (bytes : List ℕ) → 1 ≤ length bytes → step_of comment (get_or bytes 0 0) ≡ Begin → next_from edition comment p bytes ≡ here edition p bytes
+begins edition comment p [] h e = absurd (omega arith)
+begins edition comment p (b ∷ bs) h e = by_step edition comment p b bs ∙ ap (λ s. next_by s edition p b bs) e
 
 -- a byte that is passed leaves room
 pub HasRoom-after : (p : Place) (bytes : List ℕ) → 1 ≤ length bytes → HasRoom p bytes → HasRoom (place_after p (get_or bytes 0 0)) (take (length bytes - 1) (drop 1 bytes))

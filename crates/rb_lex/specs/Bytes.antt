@@ -1,23 +1,10 @@
--- Kinds of bytes, and places. The bytes of a source are ASCII: blanks are space, tab, CR and LF.
--- All of it is this project's own.
+-- Kinds of bytes that sources alone have, and places. What this crate defines is this project's own.
 use Rattle.std.specs.Prelude.{ℕ, ◌+◌, ◌==◌, nat_le, Bool, ◌&&◌, ◌||◌, if◌then◌else◌, List, [], ◌∷◌}
 use Rattle.rb_base.specs.declared.place.Place.{Place}
 
 -- a space, tab, CR or LF
 abbrev pub is_blank : ℕ → Bool
 is_blank b = b == 32 || b == 9 || b == 13 || b == 10
-
--- a letter, large or small
-abbrev pub is_letter : ℕ → Bool
-is_letter b = (nat_le 65 b && nat_le b 90) || (nat_le 97 b && nat_le b 122)
-
--- a decimal digit
-abbrev pub is_digit : ℕ → Bool
-is_digit b = nat_le 48 b && nat_le b 57
-
--- what goes on a name that a letter begins
-abbrev pub is_name_byte : ℕ → Bool
-is_name_byte b = is_letter b || is_digit b || b == 95
 
 -- what may stand in a text, beside the quotes, and in a comment
 abbrev pub is_printable : ℕ → Bool

@@ -1,6 +1,6 @@
 -- What the reading of one token answers: the point where it stands after blanks and comments, and the point after it.
--- All of it is this project's own.
 use Rattle.std.specs.Prelude.{◌≡◌, ℕ, ◌+◌, ◌*◌, ◌^◌, ◌==◌, ◌≤◌, Bool, true, false, cond, List, [], ◌∷◌, length, Option, Some, None, Result, Ok, Err}
+use Rattle.rb_base.specs.declared.edition.Edition.{Edition}
 use Rattle.rb_base.specs.declared.place.Place.{Place}
 use Rattle.rb_base.specs.declared.fault.SourceFault.{SourceFault}
 use Rattle.rb_lex.specs.declared.token.Token.{Token}
@@ -22,14 +22,14 @@ step_of true b = cond (b == 10) (Pass false) (cond (is_comment_byte b) (Pass tru
 step_of false b = cond (is_blank b) (Pass false) (cond (b == 35) (Pass true) Begin)
 
 -- what comes next where no blank and no comment stands
-abbrev pub here : Bool → Place → List ℕ → Next
-here second p [] = End p
-here second p (b ∷ bs) = cut (front second (b ∷ bs)) p (b ∷ bs)
+abbrev pub here : Edition → Place → List ℕ → Next
+here edition p [] = End p
+here edition p (b ∷ bs) = cut (front edition (b ∷ bs)) p (b ∷ bs)
 
 -- what comes next stands at the point itself, or is a fault of a comment
-abbrev pub Passes : Next → Bool → Result Point SourceFault → Type 0
-Passes next second (Ok point) = next ≡ here second point.place point.left.now
-Passes next second (Err fault) = next ≡ Refused fault
+abbrev pub Passes : Next → Edition → Result Point SourceFault → Type 0
+Passes next edition (Ok point) = next ≡ here edition point.place point.left.now
+Passes next edition (Err fault) = next ≡ Refused fault
 
 -- what comes next is the end with no byte left, or this token with the point after it
 abbrev pub ReadsToken : Next → Option Token → Point → Type 0

@@ -1,5 +1,4 @@
 -- Laws of the token lists of texts.
--- All of it is this project's own.
 use Rattle.std.specs.Prelude.{◌≡◌, ℕ, ◌+◌, ◌<◌, ◌==◌, not, ◌⊎◌, List, [], ◌∷◌, ◌++◌, length, All, AllPairs, count_by, Option, Some, None, Result, Ok, Err}
 use Rattle.std.specs.List.{suffix_len}
 use Rattle.rb_base.specs.declared.place.Place.{Place}

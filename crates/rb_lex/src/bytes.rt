@@ -1,9 +1,6 @@
 ghost use Rattle.std.specs.Prelude.{◌≡◌, ◌+◌, ◌-◌, ◌≤◌, ◌<◌, ◌^◌};
 ghost use Rattle.rb_lex.specs.Bytes.{
   is_blank,
-  is_letter,
-  is_digit,
-  is_name_byte,
   is_printable,
   is_comment_byte,
   place_after,
@@ -16,25 +13,6 @@ pub(crate) fn is_blank(b: u8) -> bool
     ensures { result ≡ is_blank b }
 {
     b == b' ' || b == b'\t' || b == b'\r' || b == b'\n'
-}
-
-pub(crate) fn is_letter(b: u8) -> bool
-    ensures { result ≡ is_letter b }
-{
-    b.is_ascii_alphabetic()
-}
-
-pub(crate) fn is_digit(b: u8) -> bool
-    ensures { result ≡ is_digit b }
-{
-    b.is_ascii_digit()
-}
-
-// What goes on a name that a letter begins.
-pub(crate) fn is_name_byte(b: u8) -> bool
-    ensures { result ≡ is_name_byte b }
-{
-    is_letter(b) || is_digit(b) || b == b'_'
 }
 
 pub(crate) fn is_printable(b: u8) -> bool

@@ -2,13 +2,13 @@ ghost use Rattle.std.specs.Prelude.{◌≡◌, ◌≤◌, ◌<◌, length};
 ghost use Rattle.rb_lex.specs.Tokens.{front};
 ghost use Rattle.rb_lex.specs.Cuts.{front_of, reach_of};
 
-use crate::bytes::{is_digit, is_letter};
 use crate::marks::mark_cut;
 use crate::numbers::number_cut;
 use crate::texts::text_cut;
 use crate::token::Kind;
 use crate::words::name_cut;
-use rb_base::FaultName;
+use rb_base::bytes::{is_digit, is_letter};
+use rb_base::{Edition, FaultName};
 
 // A token at the front of the bytes, with its size.
 #[derive(Clone, Copy)]
@@ -34,20 +34,20 @@ impl Stop {
 }
 
 // What stands at the front, where that is no blank and no comment.
-pub(crate) fn front_cut(second: bool, bytes: &[u8]) -> Result<Cut, Stop>
-    ensures value { front_of result ≡ front second bytes.now }
+pub(crate) fn front_cut(edition: Edition, bytes: &[u8]) -> Result<Cut, Stop>
+    ensures value { front_of result ≡ front edition bytes.now }
     ensures within { reach_of result ≤ length bytes.now }
 {
     match bytes {
         [b, after @ ..] => {
             if is_letter(*b) {
-                name_cut(second, bytes)
+                name_cut(edition, bytes)
             } else if is_digit(*b) {
                 number_cut(bytes)
             } else if *b == b'"' {
                 text_cut(after)
             } else {
-                mark_cut(second, bytes)
+                mark_cut(edition, bytes)
             }
         }
         [] => Err(Stop::at_front(FaultName::X1)),

@@ -1,4 +1,5 @@
-ghost use Rattle.std.specs.Prelude.{◌≡◌, ◌+◌, ◌*◌, ◌-◌, ◌^◌, ◌≤◌, length, Bool, false, IfOk};
+ghost use Rattle.std.specs.Prelude.{◌≡◌, ◌+◌, ◌*◌, ◌-◌, ◌^◌, ◌≤◌, length, false, IfOk};
+ghost use Rattle.rb_base.specs.declared.edition.Edition.{Edition};
 ghost use Rattle.rb_lex.specs.Tokens.{next_from};
 ghost use Rattle.rb_lex.specs.Gaps.{HasRoom, Passes, step_of};
 
@@ -15,7 +16,7 @@ pub(crate) struct Point<'a> {
 // Passes the blanks and comments before a token or the end.
 pub(crate) fn pass_gap<'a>(place: Place, bytes: &'a [u8]) -> Result<Point<'a>, SourceFault>
     requires { HasRoom place bytes.now }
-    ensures passes { (second : Bool) → Passes (next_from second false place bytes.now) second result }
+    ensures passes { (edition : Edition) → Passes (next_from edition false place bytes.now) edition result }
     ensures room { IfOk result (λ point. HasRoom point.place point.left.now) }
 {
     let mut place = place;

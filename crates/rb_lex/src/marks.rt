@@ -1,14 +1,14 @@
 ghost use Rattle.std.specs.Prelude.{◌≡◌, ◌≤◌, ◌∷◌, [], ◌||◌, ◌&&◌, length, codes};
-ghost use Rattle.rb_lex.specs.Tokens.{is_one_of, mark_front, one_marks, two_marks};
+ghost use Rattle.rb_lex.specs.Tokens.{is_one_of, mark_front, one_marks, two_marks, own_marks};
 ghost use Rattle.rb_lex.specs.Cuts.{front_of, reach_of};
 
 use crate::cut::{Cut, Stop};
 use crate::token::Kind;
-use rb_base::FaultName;
+use rb_base::{Edition, FaultName};
 
 // A mark of two bytes before one of one.
-pub(crate) fn mark_cut(second: bool, bytes: &[u8]) -> Result<Cut, Stop>
-    ensures value { front_of result ≡ mark_front second bytes.now }
+pub(crate) fn mark_cut(edition: Edition, bytes: &[u8]) -> Result<Cut, Stop>
+    ensures value { front_of result ≡ mark_front edition bytes.now }
     ensures within { reach_of result ≤ length bytes.now }
 {
     match bytes {
@@ -16,7 +16,7 @@ pub(crate) fn mark_cut(second: bool, bytes: &[u8]) -> Result<Cut, Stop>
             kind: Kind::Mark,
             size: 2,
         }),
-        [a, ..] if is_one_mark(second, *a) => Ok(Cut {
+        [a, ..] if is_one_mark(edition, *a) => Ok(Cut {
             kind: Kind::Mark,
             size: 1,
         }),
@@ -34,13 +34,13 @@ fn is_two_mark(a: u8, b: u8) -> bool
     }
 }
 
-fn is_one_mark(second: bool, a: u8) -> bool
-    ensures { result ≡ (is_one_of one_marks (a ∷ []) || (second && is_one_of (codes ":" ∷ []) (a ∷ []))) }
+fn is_one_mark(edition: Edition, a: u8) -> bool
+    ensures { result ≡ (is_one_of one_marks (a ∷ []) || is_one_of (own_marks edition) (a ∷ [])) }
 {
     match a {
         b';' | b',' | b'.' | b'(' | b')' | b'{' | b'}' | b'[' | b']' => true,
         b'=' | b'<' | b'>' | b'+' | b'-' | b'*' | b'/' | b'%' => true,
-        b':' => second,
+        b':' => matches!(edition, Edition::Second),
         _ => false,
     }
 }

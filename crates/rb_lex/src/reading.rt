@@ -6,7 +6,7 @@ use crate::bytes::columns_on;
 use crate::cut::{Cut, Stop, front_cut};
 use crate::gap::{Point, pass_gap};
 use crate::token::Token;
-use rb_base::{Place, SourceFault};
+use rb_base::{Edition, Place, SourceFault};
 
 // A token, or none at the end, and the point after it.
 #[derive(Clone, Copy)]
@@ -17,12 +17,12 @@ pub(crate) struct Reading<'a> {
 
 // What comes next from a place on.
 pub(crate) fn read_next<'a>(
-    second: bool,
+    edition: Edition,
     place: Place,
     bytes: &'a [u8],
 ) -> Result<Reading<'a>, SourceFault>
     requires { HasRoom place bytes.now }
-    ensures reads { Reads (next_from second false place bytes.now) result }
+    ensures reads { Reads (next_from edition false place bytes.now) result }
     ensures room { IfOk result (λ reading. HasRoom reading.after.place reading.after.left.now) }
 {
     let point = pass_gap(place, bytes)?;
@@ -32,17 +32,21 @@ pub(crate) fn read_next<'a>(
             after: point,
         });
     }
-    read_token(second, point.place, point.left)
+    read_token(edition, point.place, point.left)
 }
 
 // The token at the front of the bytes, where no blank and no comment stands.
-fn read_token<'a>(second: bool, place: Place, bytes: &'a [u8]) -> Result<Reading<'a>, SourceFault>
+fn read_token<'a>(
+    edition: Edition,
+    place: Place,
+    bytes: &'a [u8],
+) -> Result<Reading<'a>, SourceFault>
     requires some { 0 < length bytes.now }
     requires room { HasRoom place bytes.now }
-    ensures reads { Reads (here second place bytes.now) result }
+    ensures reads { Reads (here edition place bytes.now) result }
     ensures room { IfOk result (λ reading. HasRoom reading.after.place reading.after.left.now) }
 {
-    match front_cut(second, bytes) {
+    match front_cut(edition, bytes) {
         Ok(Cut { kind, size }) => {
             let (text, left) = bytes.split_at(size);
             let after = Point {

@@ -1,16 +1,14 @@
 // Each row has a source and what the lexer answers: for each token its place, kind and text, and then the end or
 // the fault.
 use crate::{Kind, Lexer, Token};
-use rb_base::{Place, SourceFault};
+use rb_base::{MOST_BYTES, Place, SourceFault};
 use std::alloc::Global;
 use std::test::Fail;
-
-const LONGEST_SOURCE: usize = 1_048_576;
 
 // What the lexer answers of a source, asked once more after the end or the fault.
 fn told(alloc: Global, source: &[u8]) -> Result<String, Fail> {
     let mut out = String::new(alloc);
-    if source.len() > LONGEST_SOURCE {
+    if source.len() > MOST_BYTES {
         return Ok(out);
     }
     let mut lexer = Lexer::new(source);
@@ -141,7 +139,7 @@ fn rows(rt: HostRuntime) -> Result<(), Fail> {
 
 // How many reserved words a source begins with.
 fn words_in_front(source: &[u8]) -> usize {
-    if source.len() > LONGEST_SOURCE {
+    if source.len() > MOST_BYTES {
         return 0;
     }
     let mut lexer = Lexer::new(source);
@@ -183,7 +181,7 @@ fn repeated(
 
 // How a source begins whose first token, or its fault, is long.
 fn is_taken(source: &[u8], size: usize) -> bool {
-    if source.len() > LONGEST_SOURCE {
+    if source.len() > MOST_BYTES {
         return false;
     }
     match Lexer::new(source).next() {

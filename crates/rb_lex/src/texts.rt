@@ -5,9 +5,7 @@ ghost use Rattle.rb_lex.specs.Cuts.{front_of, reach_of};
 use crate::bytes::is_printable;
 use crate::cut::{Cut, Stop};
 use crate::token::Kind;
-use rb_base::FaultName;
-
-const LONGEST_TEXT: usize = 256;
+use rb_base::{FaultName, LONGEST_TEXT};
 
 // A text, from the byte after its quote.
 pub(crate) fn text_cut(bytes: &[u8]) -> Result<Cut, Stop>

@@ -1,27 +1,25 @@
 ghost use Rattle.std.specs.Prelude.{◌≡◌, ◌≤◌, length, take_while, map, nat_eq};
 ghost use Rattle.std.specs.List.{prefix_len, list_any};
 ghost use Rattle.std.specs.Cmp.Lexicographic.{pointwise};
-ghost use Rattle.rb_lex.specs.Bytes.{is_name_byte};
-ghost use Rattle.rb_lex.specs.Tokens.{name_front, is_reserved, is_one_of, common_words, second_words};
+ghost use Rattle.rb_base.specs.Bytes.{is_name_byte};
+ghost use Rattle.rb_lex.specs.Tokens.{name_front, is_reserved, is_one_of, common_words, own_words};
 ghost use Rattle.rb_lex.specs.Cuts.{front_of, reach_of, of_length};
 
-use crate::bytes::is_name_byte;
 use crate::cut::{Cut, Stop};
 use crate::token::Kind;
-use rb_base::FaultName;
-
-const LONGEST_NAME: usize = 64;
+use rb_base::bytes::is_name_byte;
+use rb_base::{Edition, FaultName, LONGEST_NAME};
 
 // A name, or a reserved word.
-pub(crate) fn name_cut(second: bool, bytes: &[u8]) -> Result<Cut, Stop>
-    ensures value { front_of result ≡ name_front second (take_while is_name_byte bytes.now) }
+pub(crate) fn name_cut(edition: Edition, bytes: &[u8]) -> Result<Cut, Stop>
+    ensures value { front_of result ≡ name_front edition (take_while is_name_byte bytes.now) }
     ensures within { reach_of result ≤ length bytes.now }
 {
     let size = name_len(bytes);
     if size > LONGEST_NAME {
         return Err(Stop::at_front(FaultName::X5));
     }
-    let kind = if is_reserved(second, &bytes[..size]) {
+    let kind = if is_reserved(edition, &bytes[..size]) {
         Kind::Word
     } else {
         Kind::Name
@@ -36,10 +34,10 @@ fn name_len(bytes: &[u8]) -> usize
     bytes.iter().take_while(|b| is_name_byte(**b)).count()
 }
 
-fn is_reserved(second: bool, text: &[u8]) -> bool
-    ensures { result ≡ is_reserved second text.now }
+fn is_reserved(edition: Edition, text: &[u8]) -> bool
+    ensures { result ≡ is_reserved edition text.now }
 {
-    is_common_word(text) || (second && is_second_word(text))
+    is_common_word(text) || is_own_word(edition, text)
 }
 
 fn is_common_word(text: &[u8]) -> bool
@@ -66,10 +64,13 @@ fn words_of_length(size: usize) -> &'static [&'static [u8]]
     }
 }
 
-fn is_second_word(text: &[u8]) -> bool
-    ensures { result ≡ is_one_of second_words text.now }
+fn is_own_word(edition: Edition, text: &[u8]) -> bool
+    ensures { result ≡ is_one_of (own_words edition) text.now }
 {
-    is_listed(&[b"edition", b"every", b"some", b"sum"], text)
+    match edition {
+        Edition::First => false,
+        Edition::Second => is_listed(&[b"edition", b"every", b"some", b"sum"], text),
+    }
 }
 
 // Whether the text is one of these words.

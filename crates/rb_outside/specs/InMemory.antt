@@ -1,5 +1,4 @@
 -- What contracts say of files and of output that are kept in memory, with calls that fail by their number.
--- All of it is this project's own.
 use Rattle.std.specs.Prelude.{ℕ, ◌+◌, ◌-◌, ◌^◌, min, nat_eq, Bool, ◌||◌, List, [], ◌++◌, length, take, drop, Option, Some, None, cond}
 use Rattle.std.specs.List.{list_any}
 use Rattle.std.specs.Option.{option_map, unwrap_or}

@@ -1,4 +1,5 @@
--- What contracts say of the files that are read and of the bytes that are written. All of it is this project's own.
+-- What contracts say of the files that are read and of the bytes that are written. What this crate defines is this
+-- project's own.
 use Rattle.std.specs.Prelude.{◌≡◌, ℕ, ◌+◌, ◌-◌, ◌^◌, ◌≤◌, min, nat_eq, List, [], ◌∷◌, ◌++◌, length, take, drop, Option, Some, None, cond}
 use Rattle.std.specs.Option.{option_map}
 use Rattle.std.specs.Cmp.Lexicographic.{pointwise}

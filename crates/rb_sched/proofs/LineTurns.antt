@@ -7,7 +7,9 @@ use Rattle.std.proofs.lemmas.List.{length-replicate}
 use Rattle.std.proofs.lemmas.List.Quantifiers.{position-Some}
 use Rattle.rb_base.specs.declared.fault.FaultName.{FaultName}
 use Rattle.rb_base.specs.declared.fault.FaultName.TheVariants.{T1, T2, T3, T4}
-use Rattle.rb_sched.specs.Schedule.{Whose, One, Everyone, most_turns, is_name, is_count, digits_value, whose, numbers_from, rounds, turns_of, count_of, counted_line, line_of_words, line_turns, words_of}
+use Rattle.rb_base.specs.declared.limits.TheConstants.{MOST_TURNS}
+use Rattle.rb_base.specs.Bytes.{is_name, is_number, digits_value}
+use Rattle.rb_sched.specs.Schedule.{Whose, One, Everyone, whose, numbers_from, rounds, turns_of, count_of, counted_line, line_of_words, line_turns, words_of}
 use Rattle.rb_sched.specs.Lines.{fitting}
 use Rattle.rb_sched.proofs.TurnsLeft.{length_rounds}
 
@@ -38,28 +40,28 @@ Known-rounds k (suc n) = Known-append k (numbers_from 0 k) (rounds k n) (Known-n
 -- turns that fit, and that they do
 pub record AreTurns (before : ℕ) (turns us : List ℕ) : Type 0 where
   pub same : us ≡ turns
-  pub few : before + length us ≤ 1000000
+  pub few : before + length us ≤ MOST_TURNS
 
 -- what was let through fits
 pub fitting-Ok : (before : ℕ) (us turns : List ℕ) → fitting before us ≡ Ok turns → AreTurns before turns us
-fitting-Ok before us turns e = by_test (nat_lt most_turns (before + length us)) refl e
+fitting-Ok before us turns e = by_test (nat_lt MOST_TURNS (before + length us)) refl e
   where
-    by_test : (t : Bool) → t ≡ nat_lt 1000000 (before + length us) → cond t (Err T4) (Ok us) ≡ Ok turns → AreTurns before turns us
+    by_test : (t : Bool) → t ≡ nat_lt MOST_TURNS (before + length us) → cond t (Err T4) (Ok us) ≡ Ok turns → AreTurns before turns us
     by_test true is e = absurd (cc)
     by_test false is e = record { same = cc; few = grind (arith, nat_tests) }
 
 -- what fits is let through
-fitting-fits : (before : ℕ) (us : List ℕ) → before + length us ≤ 1000000 → fitting before us ≡ Ok us
-fitting-fits before us few = by_test (nat_lt most_turns (before + length us)) refl
+fitting-fits : (before : ℕ) (us : List ℕ) → before + length us ≤ MOST_TURNS → fitting before us ≡ Ok us
+fitting-fits before us few = by_test (nat_lt MOST_TURNS (before + length us)) refl
   where
-    by_test : (t : Bool) → t ≡ nat_lt 1000000 (before + length us) → cond t (Err T4) (Ok us) ≡ Ok us
+    by_test : (t : Bool) → t ≡ nat_lt MOST_TURNS (before + length us) → cond t (Err T4) (Ok us) ≡ Ok us
     by_test true is = absurd (grind (arith, nat_tests))
     by_test false is = refl
 
 -- what a line gives, by how many turns came before: the same fault, or the same turns where they fit
 data Gives (processes : ℕ) (line : ℕ → Result (List ℕ) FaultName) : Type 0 where
   Fault : (name : FaultName) → ((before : ℕ) → line before ≡ Err name) → Gives processes line
-  Turns : (turns : List ℕ) → Known processes turns → ((before : ℕ) → before ≤ 1000000 → line before ≡ fitting before turns) → Gives processes line
+  Turns : (turns : List ℕ) → Known processes turns → ((before : ℕ) → before ≤ MOST_TURNS → line before ≡ fitting before turns) → Gives processes line
 
 -- what a name stands for is a process
 abbrev IsWhose : ℕ → Option Whose → Type 0
@@ -97,12 +99,12 @@ length-turns_of k Everyone n = length_rounds k n
 -- a line with a name and a count
 counted_gives : (names : List (List ℕ)) (who : Option Whose) (n : ℕ) → IsWhose (length names) who → Gives (length names) (λ before. counted_line names before who n)
 counted_gives names None n known = Fault T2 (λ before. refl)
-counted_gives names (Some who) n known = by_test (n == 0 || nat_lt most_turns n)
+counted_gives names (Some who) n known = by_test (n == 0 || nat_lt MOST_TURNS n)
   where
-    by_test : (t : Bool) → Gives (length names) (λ before. cond t (Err T3) (cond (nat_lt most_turns (before + count_of (length names) who n)) (Err T4) (Ok (turns_of (length names) who n))))
+    by_test : (t : Bool) → Gives (length names) (λ before. cond t (Err T3) (cond (nat_lt MOST_TURNS (before + count_of (length names) who n)) (Err T4) (Ok (turns_of (length names) who n))))
     by_test true = Fault T3 (λ before. refl)
     by_test false = Turns (turns_of (length names) who n) (turns_of_known (length names) who n known)
-        (λ before few. ap (λ m. cond (nat_lt most_turns (before + m)) (Err T4) (Ok (turns_of (length names) who n))) (sym (length-turns_of (length names) who n)))
+        (λ before few. ap (λ m. cond (nat_lt MOST_TURNS (before + m)) (Err T4) (Ok (turns_of (length names) who n))) (sym (length-turns_of (length names) who n)))
 
 -- the same, judged for its form first
 formed_gives : (k : ℕ) (formed : Bool) (line : ℕ → Result (List ℕ) FaultName) → Gives k line → Gives k (λ before. cond formed (line before) (Err T1))
@@ -114,18 +116,18 @@ words_give : (names words : List (List ℕ)) → Gives (length names) (λ before
 words_give names [] = Turns [] tt (λ before few. sym (fitting-fits before [] (omega arith)))
 words_give names (name ∷ []) = Fault T1 (λ before. refl)
 words_give names (name ∷ count ∷ []) =
-    formed_gives (length names) (is_name name && is_count count) (λ before. counted_line names before (whose names name) (digits_value 0 count))
+    formed_gives (length names) (is_name name && is_number count) (λ before. counted_line names before (whose names name) (digits_value 0 count))
     (counted_gives names (whose names name) (digits_value 0 count) (whose_known names name))
 words_give names (name ∷ count ∷ more ∷ words) = Fault T1 (λ before. refl)
 
 -- a line that has no fault where so many turns came before has the same turns where fewer did
 pub record IsLine (names : List (List ℕ)) (line : List ℕ) (before : ℕ) (turns : List ℕ) : Type 0 where
   pub known : Known (length names) turns
-  pub few : before + length turns ≤ 1000000
+  pub few : before + length turns ≤ MOST_TURNS
   pub earlier : (fewer : ℕ) → fewer ≤ before → line_turns names fewer line ≡ Ok turns
 
 -- what is known of a line that has no fault
-pub line_known : (names : List (List ℕ)) (line : List ℕ) (before : ℕ) (turns : List ℕ) → before ≤ 1000000 → line_turns names before line ≡ Ok turns → IsLine names line before turns
+pub line_known : (names : List (List ℕ)) (line : List ℕ) (before : ℕ) (turns : List ℕ) → before ≤ MOST_TURNS → line_turns names before line ≡ Ok turns → IsLine names line before turns
 line_known names line before turns few e = by_gives (words_give names (words_of line))
   where
     by_gives : Gives (length names) (λ b. line_of_words names b (words_of line)) → IsLine names line before turns
@@ -134,6 +136,6 @@ line_known names line before turns few e = by_gives (words_give names (words_of 
         let are = fitting-Ok before us turns (sym (fits before few) ∙ e) in
         record {
           known = subst (Known (length names)) are.same known;
-          few = subst (λ xs. before + length xs ≤ 1000000) are.same are.few;
+          few = subst (λ xs. before + length xs ≤ MOST_TURNS) are.same are.few;
           earlier = λ fewer less. fits fewer (omega arith) ∙ fitting-fits fewer us (omega (arith, are.few)) ∙ ap (λ xs. Ok xs) are.same;
         }

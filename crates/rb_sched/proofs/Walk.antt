@@ -5,10 +5,12 @@ use Rattle.std.specs.Result.{IsOk, is_ok}
 use Rattle.rb_base.specs.declared.names.Names.{Names}
 use Rattle.rb_base.specs.declared.fault.TextFault.{TextFault}
 use Rattle.rb_base.specs.declared.fault.FaultName.{FaultName}
-use Rattle.rb_sched.specs.Schedule.{in_front, after_line, line_turns, lines_turns, lines_of, schedule_of, process_names, Plan, TakesTurn}
+use Rattle.rb_base.specs.declared.limits.TheConstants.{MOST_TURNS}
+use Rattle.rb_base.specs.Naming.{process_names}
+use Rattle.rb_sched.specs.Schedule.{in_front, after_line, line_turns, lines_turns, lines_of, schedule_of, Plan, TakesTurn}
 use Rattle.rb_sched.specs.Lines.{fitting}
 use Rattle.rb_sched.specs.Walk.{turns_in, GoesOn}
-use Rattle.rb_sched.proofs.WordForms.{length_process_names}
+use Rattle.rb_base.proofs.Named.{length_process_names}
 use Rattle.rb_sched.proofs.LineTurns.{Known, Known-append, fitting-Ok, line_known}
 
 -- a text's turns are those of its first line, and of the others
@@ -31,11 +33,11 @@ after_line-Ok (Err name) at others turns e = absurd (cc)
 -- what is known of the turns of some lines, where so many came before
 pub record AreLines (names : List (List ℕ)) (lines : List (List ℕ)) (before : ℕ) (turns : List ℕ) : Type 0 where
   pub known : Known (length names) turns
-  pub few : before + length turns ≤ 1000000
+  pub few : before + length turns ≤ MOST_TURNS
   pub earlier : (fewer at : ℕ) → fewer ≤ before → lines_turns names fewer at lines ≡ Ok turns
 
 -- where some lines have no fault, each turn is known, and fewer before leave them as they are
-pub lines_known : (names : List (List ℕ)) (lines : List (List ℕ)) (before at : ℕ) (turns : List ℕ) → before ≤ 1000000 → lines_turns names before at lines ≡ Ok turns → AreLines names lines before turns
+pub lines_known : (names : List (List ℕ)) (lines : List (List ℕ)) (before at : ℕ) (turns : List ℕ) → before ≤ MOST_TURNS → lines_turns names before at lines ≡ Ok turns → AreLines names lines before turns
 lines_known names [] before at turns few e =
     let none : [] ≡ turns = cc in
     subst (AreLines names [] before) none (record { known = tt; few = omega arith; earlier = λ fewer n less. refl })
@@ -52,7 +54,7 @@ lines_known names (line ∷ lines) before at turns few e =
     })
 
 -- each turn of a schedule is that of a process, and there are not too many
-pub turns_known : (names : List (List ℕ)) (text turns : List ℕ) → schedule_of names text ≡ Ok turns → AllByRecursion (λ p. p < length names) turns × (length turns ≤ 1000000)
+pub turns_known : (names : List (List ℕ)) (text turns : List ℕ) → schedule_of names text ≡ Ok turns → AllByRecursion (λ p. p < length names) turns × (length turns ≤ MOST_TURNS)
 turns_known names text turns e =
     let ls = lines_known names (lines_of text) 0 1 turns (omega arith) e in
     (ls.known, omega (arith, ls.few))
@@ -62,7 +64,7 @@ pub record ReadUpTo (names : List (List ℕ)) (text : List ℕ) (total at : ℕ)
   pub front : List ℕ
   pub goes_on : schedule_of names text ≡ in_front front (lines_turns names total at (lines_of rest))
   pub counted : total ≡ length front
-  pub few : total ≤ 1000000
+  pub few : total ≤ MOST_TURNS
 
 -- turns put in front twice
 in_front_twice : (front turns : List ℕ) (r : Result (List ℕ) TextFault) → in_front front (in_front turns r) ≡ in_front (front ++ turns) r
@@ -70,7 +72,7 @@ in_front_twice front turns (Ok later) = ap (λ xs. Ok xs) (sym (append_assoc fro
 in_front_twice front turns (Err fault) = refl
 
 -- a line more is read
-pub read_more : (names : List (List ℕ)) (text line : List ℕ) (total at : ℕ) (rest after turns : List ℕ) (sum : ℕ) → ReadUpTo names text total at rest → lines_of rest ≡ line ∷ lines_of after → line_turns names total line ≡ Ok turns → sum ≡ total + length turns → sum ≤ 1000000 → ReadUpTo names text sum (at + 1) after
+pub read_more : (names : List (List ℕ)) (text line : List ℕ) (total at : ℕ) (rest after turns : List ℕ) (sum : ℕ) → ReadUpTo names text total at rest → lines_of rest ≡ line ∷ lines_of after → line_turns names total line ≡ Ok turns → sum ≡ total + length turns → sum ≤ MOST_TURNS → ReadUpTo names text sum (at + 1) after
 read_more names text line total at rest after turns sum read cut given sum_is few = record {
   front = read.front ++ turns;
   goes_on =
@@ -84,7 +86,7 @@ read_more names text line total at rest after turns sum read cut given sum_is fe
 }
 
 -- a text without a fault has none after its first line, whose turns come first
-line_first : (names : List (List ℕ)) (text line after turns : List ℕ) → lines_of text ≡ line ∷ lines_of after → ((before : ℕ) → before ≤ 1000000 → line_turns names before line ≡ fitting before turns) → IsOk (schedule_of names text) → GoesOn names text turns after
+line_first : (names : List (List ℕ)) (text line after turns : List ℕ) → lines_of text ≡ line ∷ lines_of after → ((before : ℕ) → before ≤ MOST_TURNS → line_turns names before line ≡ fitting before turns) → IsOk (schedule_of names text) → GoesOn names text turns after
 line_first names text line after turns cut given sound = by_turns (schedule_of names text) refl sound
   where
     by_turns : (r : Result (List ℕ) TextFault) → schedule_of names text ≡ r → IsOk r → GoesOn names text turns after
@@ -92,7 +94,7 @@ line_first names text line after turns cut given sound = by_turns (schedule_of n
     by_turns (Ok all) is sound =
         let first = ap (lines_turns names 0 1) (sym cut) ∙ is in
         let s = after_line-Ok (line_turns names 0 line) 1 (λ n. lines_turns names (0 + n) 2 (lines_of after)) all first in
-        let few : 0 ≤ 1000000 = omega arith in
+        let few : 0 ≤ MOST_TURNS = omega arith in
         let are = fitting-Ok 0 turns s.front (sym (given 0 few) ∙ s.first_is) in
         let l = line_known names line 0 s.front few s.first_is in
         let ls = lines_known names (lines_of after) (0 + length s.front) 2 s.later l.few s.others_are in
@@ -103,7 +105,7 @@ line_first names text line after turns cut given sound = by_turns (schedule_of n
         }
 
 -- a line more is read off
-pub goes_on_with : (names : List (List ℕ)) (text rest line after turns : List ℕ) → GoesOn names text [] rest → lines_of rest ≡ line ∷ lines_of after → ((before : ℕ) → before ≤ 1000000 → line_turns names before line ≡ fitting before turns) → GoesOn names text turns after
+pub goes_on_with : (names : List (List ℕ)) (text rest line after turns : List ℕ) → GoesOn names text [] rest → lines_of rest ≡ line ∷ lines_of after → ((before : ℕ) → before ≤ MOST_TURNS → line_turns names before line ≡ fitting before turns) → GoesOn names text turns after
 goes_on_with names text rest line after turns so_far cut given =
     let next = line_first names rest line after turns cut given so_far.sound in
     record { sound = next.sound; joined = so_far.joined ∙ next.joined }

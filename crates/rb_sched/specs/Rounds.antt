@@ -1,6 +1,6 @@
 -- The turns that a line still gives, as rounds over processes that stand side by side.
--- All of it is this project's own.
 use Rattle.std.specs.Prelude.{◌≡◌, ℕ, zero, suc, ◌-◌, ◌<◌, ◌≤◌, List, [], ◌∷◌, ◌++◌, Option, Some, None}
+use Rattle.rb_base.specs.declared.limits.TheConstants.{MOST_TURNS}
 use Rattle.rb_sched.specs.Schedule.{numbers_from}
 
 -- so many rounds over the processes from `first` on
@@ -20,8 +20,7 @@ TakesFirst old (Some p) new = old ≡ p ∷ new
 
 -- rounds that a line may ask for: while some are left, there are processes, and one of them is next
 pub record AreRounds (first end at left : ℕ) : Type 0 where
-  pub few_processes : end ≤ 64
-  pub few_rounds : left ≤ 1000000
+  pub few_rounds : left ≤ MOST_TURNS
   -- while rounds are left there are processes
   pub some_processes : 0 < left → first < end
   -- while rounds are left one of the processes is next

@@ -1,43 +1,17 @@
--- Schedules: a text that lists the turns of a run, and its first fault. The form of the text is this project's own.
--- So is all else here.
+-- Schedules: a text that lists the turns of a run, and its first fault. The form of the text is this project's own, as is
+-- all that this crate defines.
 use Rattle.std.specs.Prelude.{◌≡◌, ℕ, zero, suc, ◌+◌, ◌-◌, ◌*◌, ◌==◌, nat_eq, nat_le, nat_lt, Bool, false, ◌&&◌, ◌||◌, cond, List, [], ◌∷◌, ◌++◌, length, map, position, codes, replicate, Option, Some, None, Result, Ok, Err}
-use Rattle.std.specs.List.{list_all}
 use Rattle.std.specs.Cmp.Lexicographic.{pointwise}
 use Rattle.rb_base.specs.declared.fault.TextFault.{TextFault}
 use Rattle.rb_base.specs.declared.fault.FaultName.{FaultName}
 use Rattle.rb_base.specs.declared.fault.FaultName.TheVariants.{T1, T2, T3, T4}
-use Rattle.rb_base.specs.declared.names.Names.{Names}
+use Rattle.rb_base.specs.declared.limits.TheConstants.{MOST_TURNS}
+use Rattle.rb_base.specs.Bytes.{is_name, is_number, digits_value}
+use Rattle.rb_base.specs.Naming.{first_named}
 
 -- a space or a tab
 abbrev pub is_space : ℕ → Bool
 is_space b = b == 32 || b == 9
-
--- a letter, large or small
-abbrev pub is_letter : ℕ → Bool
-is_letter b = (nat_le 65 b && nat_le b 90) || (nat_le 97 b && nat_le b 122)
-
--- a decimal digit
-abbrev pub is_digit : ℕ → Bool
-is_digit b = nat_le 48 b && nat_le b 57
-
--- what may stand in a name behind its first letter
-abbrev pub is_name_byte : ℕ → Bool
-is_name_byte b = is_letter b || is_digit b || b == 95
-
--- a letter, and then letters, digits and `_`
-abbrev pub is_name : List ℕ → Bool
-is_name [] = false
-is_name (b ∷ bs) = is_letter b && list_all is_name_byte bs
-
--- one or more digits
-abbrev pub is_count : List ℕ → Bool
-is_count [] = false
-is_count (d ∷ ds) = is_digit d && list_all is_digit ds
-
--- the number that decimal digits stand for, however many there are
-abbrev pub digits_value : ℕ → List ℕ → ℕ
-digits_value n [] = n
-digits_value n (d ∷ ds) = digits_value (10 * n + (d - 48)) ds
 
 -- the bytes behind the last LF are a line, unless there are none.
 abbrev pub end_line : List ℕ → List (List ℕ) → List (List ℕ)
@@ -85,7 +59,7 @@ pub data Whose : Type 0 where
 
 -- the process of this name, or all of them
 abbrev pub whose : List (List ℕ) → List ℕ → Option Whose
-whose names word = cond (pointwise nat_eq (codes "all") word) (Some Everyone) (one_of (position (λ name. pointwise nat_eq name word) names))
+whose names word = cond (pointwise nat_eq (codes "all") word) (Some Everyone) (one_of (first_named names word))
   where
     one_of : Option ℕ → Option Whose
     one_of None = None
@@ -111,16 +85,12 @@ abbrev pub count_of : ℕ → Whose → ℕ → ℕ
 count_of processes (One p) n = n
 count_of processes Everyone n = processes * n
 
--- at most this many turns in a line's count, and in a schedule
-abbrev pub most_turns : ℕ
-most_turns = 1000000
-
 -- the turns of a line whose words are a name and a count, where so many turns came before; or the least fault
 abbrev pub counted_line : List (List ℕ) → ℕ → Option Whose → ℕ → Result (List ℕ) FaultName
 counted_line names before None n = Err T2
 counted_line names before (Some who) n =
-    cond (n == 0 || nat_lt most_turns n) (Err T3)
-    (cond (nat_lt most_turns (before + count_of (length names) who n)) (Err T4)
+    cond (n == 0 || nat_lt MOST_TURNS n) (Err T3)
+    (cond (nat_lt MOST_TURNS (before + count_of (length names) who n)) (Err T4)
     (Ok (turns_of (length names) who n)))
 
 -- a line's turns, or its fault with the least number
@@ -128,7 +98,7 @@ abbrev pub line_of_words : List (List ℕ) → ℕ → List (List ℕ) → Resul
 line_of_words names before [] = Ok []
 line_of_words names before (name ∷ []) = Err T1
 line_of_words names before (name ∷ count ∷ []) =
-    cond (is_name name && is_count count) (counted_line names before (whose names name) (digits_value 0 count)) (Err T1)
+    cond (is_name name && is_number count) (counted_line names before (whose names name) (digits_value 0 count)) (Err T1)
 line_of_words names before (name ∷ count ∷ more ∷ words) = Err T1
 
 -- the turns that a line lists, where so many came before it, or its fault with the least number
@@ -154,10 +124,6 @@ lines_turns names before at (line ∷ lines) =
 -- the list of process numbers that a text stands for, or its first fault
 abbrev pub schedule_of : List (List ℕ) → List ℕ → Result (List ℕ) TextFault
 schedule_of names text = lines_turns names 0 1 (lines_of text)
-
--- the processes' names, in the order of declaration
-abbrev pub process_names : Names → List (List ℕ)
-process_names names = map (λ p. p.name) names.processes.items
 
 -- a schedule as its callers see it: all its turns, and those left
 pub record Plan : Type 0 where

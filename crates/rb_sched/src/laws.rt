@@ -1,6 +1,6 @@
 ghost use Rattle.rb_sched.specs.Laws.{TurnsNameProcesses};
 
-/// Each turn of a schedule is that of a process, and there are at most 1,000,000.
+/// Each turn of a schedule is that of a process, and there are at most as many as a schedule may have.
 pub fn turns_name_processes()
     ensures { TurnsNameProcesses }
 {}

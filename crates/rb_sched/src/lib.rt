@@ -1,7 +1,6 @@
 // Schedules: the list of turns that a text asks for, read without taking memory.
 #![tactic(auto)]
 
-mod forms;
 pub mod laws;
 mod line;
 mod rounds;

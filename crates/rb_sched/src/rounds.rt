@@ -1,7 +1,8 @@
-ghost use Rattle.std.specs.Prelude.{◌≡◌, ℕ, ◌-◌, ◌<◌, ◌≤◌, ◌↔◌, List, [], length, replicate, IsTrue};
+ghost use Rattle.std.specs.Prelude.{◌≡◌, ℕ, ◌-◌, ◌<◌, ◌≤◌, ◌^◌, ◌↔◌, List, [], length, replicate, IsTrue};
 ghost use Rattle.rb_sched.specs.Schedule.{rounds};
 ghost use Rattle.rb_sched.specs.Rounds.{turns_left, AreRounds, TakesFirst};
 
+use rb_base::MOST_TURNS;
 use std::marker::Model;
 
 /// The turns that a line still gives: rounds, each one turn of every process from `first` up to `end`.
@@ -38,8 +39,8 @@ impl Rounds {
     /// So many turns of one process.
     #[tactic(auto, using(crate::proofs::TurnsLeft::turns_left_one))]
     pub(crate) fn of_one(process: u32, count: u32) -> Self
-        requires known { process < 64 }
-        requires few { count ≤ 1000000 }
+        requires known { process < 2 ^ 32 - 1 }
+        requires few { count ≤ MOST_TURNS }
         ensures { result ≡ replicate count process }
     {
         Rounds {
@@ -53,8 +54,7 @@ impl Rounds {
     /// So many rounds of all processes.
     #[tactic(auto, using(crate::proofs::TurnsLeft::turns_left_all, crate::proofs::TurnsLeft::rounds_none))]
     pub(crate) fn of_all(processes: u32, count: u32) -> Self
-        requires known { processes ≤ 64 }
-        requires few { count ≤ 1000000 }
+        requires { count ≤ MOST_TURNS }
         ensures { result ≡ rounds processes count }
     {
         if processes == 0 {
@@ -78,14 +78,15 @@ impl Rounds {
 
     /// How many turns are left.
     #[tactic(auto, using(crate::proofs::TurnsLeft::length_turns_left))]
-    pub(crate) fn len(&self) -> u32
+    pub(crate) fn len(&self) -> u64
         ensures turns { result ≡ length self.now }
-        ensures few { result ≤ 64000000 }
+        ensures few { result ≤ 2 ^ 52 }
     {
         if self.left == 0 {
             return 0;
         }
-        (self.end - self.next) + (self.left - 1) * (self.end - self.first)
+        u64::from(self.end - self.next)
+            + u64::from(self.left - 1) * u64::from(self.end - self.first)
     }
 
     /// The process of the next turn, or `None` where none is left.

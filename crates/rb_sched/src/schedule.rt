@@ -1,11 +1,12 @@
-ghost use Rattle.std.specs.Prelude.{◌≡◌, ℕ, ◌<◌, ◌≤◌, List, ◌++◌, length, vec_len, Ok, Err, IfOk, MatchResult};
+ghost use Rattle.std.specs.Prelude.{◌≡◌, ℕ, ◌<◌, ◌≤◌, ◌^◌, List, ◌++◌, length, vec_len, Ok, Err, IfOk, MatchResult};
 ghost use Rattle.std.specs.List.{AllByRecursion};
-ghost use Rattle.rb_sched.specs.Schedule.{Plan, schedule_of, process_names, fresh, TakesTurn};
+ghost use Rattle.rb_base.specs.Naming.{process_names};
+ghost use Rattle.rb_sched.specs.Schedule.{Plan, schedule_of, fresh, TakesTurn};
 ghost use Rattle.rb_sched.specs.Walk.{turns_in, IsWalk};
 
 use crate::rounds::Rounds;
 use crate::turns::{count_turns, first_turns};
-use rb_base::{Names, TextFault};
+use rb_base::{MOST_BYTES, MOST_TURNS, Names, TextFault};
 use std::marker::Model;
 
 /// The turns of a schedule that are left. It borrows its text and the names, and takes no memory.
@@ -34,13 +35,13 @@ impl<'a> Model for Schedule<'a> {
 impl<'a> Schedule<'a> {
     /// Reads a whole schedule, and answers its first fault where it has one.
     pub fn read(text: &'a [u8], names: &'a Names) -> Result<Self, TextFault>
-        requires short { length text.now ≤ 1048576 }
-        requires few { vec_len names.now.processes ≤ 64 }
+        requires short { length text.now ≤ MOST_BYTES }
+        requires few { vec_len names.now.processes < 2 ^ 32 }
         ensures turns { MatchResult result
             (λ schedule. (turns : List ℕ) × (schedule_of (process_names names.now) text.now ≡ Ok turns) × (schedule ≡ fresh turns))
             (λ fault. schedule_of (process_names names.now) text.now ≡ Err fault) }
         ensures known { IfOk result (λ schedule. AllByRecursion (λ p. p < vec_len names.now.processes) schedule.left) }
-        ensures few { IfOk result (λ schedule. length schedule.left ≤ 1000000) }
+        ensures few { IfOk result (λ schedule. length schedule.left ≤ MOST_TURNS) }
     {
         let total = count_turns(text, names)?;
         Ok(Schedule {
@@ -55,7 +56,7 @@ impl<'a> Schedule<'a> {
     /// How many turns the whole text has.
     pub fn turns(&self) -> u32
         ensures all { result ≡ length self.now.all }
-        ensures few { result ≤ 1000000 }
+        ensures few { result ≤ MOST_TURNS }
     {
         self.total
     }

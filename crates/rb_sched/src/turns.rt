@@ -1,38 +1,38 @@
-ghost use Rattle.std.specs.Prelude.{◌≡◌, ℕ, ◌+◌, ◌≤◌, List, [], ◌++◌, length, vec_len, Ok, Err, MatchResult};
+ghost use Rattle.std.specs.Prelude.{◌≡◌, ℕ, ◌+◌, ◌<◌, ◌≤◌, ◌^◌, List, [], ◌++◌, length, vec_len, Ok, Err, MatchResult};
 ghost use Rattle.std.specs.Result.{IsOk};
-ghost use Rattle.rb_sched.specs.Schedule.{process_names, line_turns, schedule_of};
+ghost use Rattle.rb_base.specs.Naming.{process_names};
+ghost use Rattle.rb_sched.specs.Schedule.{line_turns, schedule_of};
 ghost use Rattle.rb_sched.specs.Walk.{GoesOn};
 
-use crate::forms::MOST_TURNS;
 use crate::line::line_rounds;
 use crate::rounds::Rounds;
 use crate::words::first_line;
-use rb_base::{FaultName, Names, TextFault};
+use rb_base::{FaultName, MOST_BYTES, MOST_TURNS, Names, TextFault};
 
 /// How many turns there are up to a line and with it, or the line's fault.
 fn with_line(before: u32, line: &[u8], names: &Names) -> Result<u32, FaultName>
-    requires few { vec_len names.now.processes ≤ 64 }
-    requires before { before ≤ 1000000 }
+    requires few { vec_len names.now.processes < 2 ^ 32 }
+    requires before { before ≤ MOST_TURNS }
     ensures { let answer = line_turns (process_names names.now) before line.now in
         MatchResult result
-        (λ total. (turns : List ℕ) × (answer ≡ Ok turns) × (total ≡ before + length turns) × (total ≤ 1000000))
+        (λ total. (turns : List ℕ) × (answer ≡ Ok turns) × (total ≡ before + length turns) × (total ≤ MOST_TURNS))
         (λ fault. answer ≡ Err fault) }
 {
-    let total = before + line_rounds(line, names)?.len();
-    if total > MOST_TURNS {
+    let total = u64::from(before) + line_rounds(line, names)?.len();
+    if total > u64::from(MOST_TURNS) {
         return Err(FaultName::T4);
     }
-    Ok(total)
+    Ok(total as u32)
 }
 
 /// How many turns a text has, or its first fault.
 #[tactic(auto, using(crate::proofs::Walk::read_more))]
 pub(crate) fn count_turns(text: &[u8], names: &Names) -> Result<u32, TextFault>
-    requires short { length text.now ≤ 1048576 }
-    requires few { vec_len names.now.processes ≤ 64 }
+    requires short { length text.now ≤ MOST_BYTES }
+    requires few { vec_len names.now.processes < 2 ^ 32 }
     ensures { let answer = schedule_of (process_names names.now) text.now in
         MatchResult result
-        (λ total. (turns : List ℕ) × (answer ≡ Ok turns) × (total ≡ length turns) × (total ≤ 1000000))
+        (λ total. (turns : List ℕ) × (answer ≡ Ok turns) × (total ≡ length turns) × (total ≤ MOST_TURNS))
         (λ fault. answer ≡ Err fault) }
 {
     let mut total = 0;
@@ -53,7 +53,7 @@ pub(crate) fn count_turns(text: &[u8], names: &Names) -> Result<u32, TextFault>
 /// Goes to the first line that has turns: what it gives, and the text after it. At the end there is
 /// neither.
 pub(crate) fn first_turns<'a>(text: &'a [u8], names: &Names) -> (Rounds, &'a [u8])
-    requires few { vec_len names.now.processes ≤ 64 }
+    requires few { vec_len names.now.processes < 2 ^ 32 }
     requires sound { IsOk (schedule_of (process_names names.now) text.now) }
     ensures goes_on { GoesOn (process_names names.now) text.now result.0 result.1.now }
     ensures ended { result.0 ≡ [] → result.1.now ≡ [] }

@@ -1,5 +1,4 @@
 -- One row of a plain tree after another.
--- All of it is this project's own.
 use Rattle.rb_syntax.specs.Tree.{Links, NoLink, Linked, Commands, NoCommand, Then, Alternates, NoAlternate, Alternate}
 
 -- operators with their right operands, and others after them

@@ -1,5 +1,4 @@
 -- The plain tree that a tree in memory stands for.
--- All of it is this project's own.
 use Rattle.std.specs.Prelude.{List, [], ◌∷◌, map, Option, Some, None, option_map, Box}
 use Rattle.std.specs.declared.alloc.Global.{Global}
 use Rattle.rb_syntax.specs.declared.expression.Name.{Name}

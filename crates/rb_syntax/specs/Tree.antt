@@ -2,6 +2,7 @@
 -- slices. The language's forms are those of recovery blocks (Horning, Lauer, Melliar-Smith, Randell 1974) and of
 -- conversations (Randell 1975); channels, quantified expressions and the rest are this project's own.
 use Rattle.std.specs.Prelude.{ℕ, List, Option}
+use Rattle.rb_base.specs.declared.edition.Edition.{Edition}
 use Rattle.rb_base.specs.declared.place.Place.{Place}
 use Rattle.rb_syntax.specs.declared.expression.Number.{Number}
 use Rattle.rb_syntax.specs.declared.expression.Op.{Op}
@@ -124,4 +125,4 @@ pub record Tree : Type 0 where
   pub processes : List ProcessDeclaration
   pub names : ℕ
   pub blocks : ℕ
-  pub edition : ℕ
+  pub edition : Edition

@@ -1,5 +1,6 @@
 use crate::expression::{Name, Number};
 use crate::statement::{Block, Statement, Var};
+use rb_base::Edition;
 
 /// A whole program: `names` is the number of names in the text, `blocks` that of its recoveries.
 #[derive(Debug, Drop)]
@@ -10,7 +11,7 @@ pub struct Program<'a> {
     pub processes: Vec<Process<'a>>,
     pub names: u32,
     pub blocks: u32,
-    pub edition: u32,
+    pub edition: Edition,
 }
 
 /// A channel from one process to another, with room for `size` values.

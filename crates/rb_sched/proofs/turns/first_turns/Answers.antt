@@ -1,5 +1,5 @@
 use Rattle.std.proofs.Common.{subst}
-use Rattle.rb_sched.specs.Schedule.{process_names}
+use Rattle.rb_base.specs.Naming.{process_names}
 use Rattle.rb_sched.specs.Walk.{GoesOn}
 use Rattle.rb_sched.proofs.Walk.{goes_on_with}
 use Rattle.rb_sched.proofs.turns.first_turns.Goals as goal
