@@ -4,3 +4,5 @@ pub mod Scopes
 pub mod Sites
 pub mod Rules
 pub mod Slots
+pub mod Finding
+pub mod Memory

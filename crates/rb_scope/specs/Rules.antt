@@ -10,7 +10,9 @@ use Rattle.rb_syntax.specs.declared.expression.Number.{Number}
 use Rattle.rb_syntax.specs.Tree.{Identifier, Tree}
 use Rattle.rb_meaning.specs.Environment.{same_name, natural}
 use Rattle.rb_scope.specs.Scopes.{Declared, is_array_size, meaning_of}
-use Rattle.rb_scope.specs.Sites.{Want, AProcess, AChannel, AConversation, AProcedure, AScalar, AnArray, AValue, Site, Declares, Uses, Calls, LooksBack, Sizes, Lists, Channels, Bounds, Takes, Quantifies, tree_sites}
+use Rattle.rb_scope.specs.declared.want.Want.{Want}
+use Rattle.rb_scope.specs.declared.want.Want.TheVariants.{AProcess, AChannel, AConversation, AProcedure, AScalar, AnArray, AValue}
+use Rattle.rb_scope.specs.Sites.{Site, Declares, Uses, Calls, LooksBack, Sizes, Lists, Channels, Bounds, Takes, Quantifies, tree_sites}
 use Rattle.rb_scope.specs.declared.slot.Slot.{Slot}
 use Rattle.rb_scope.specs.declared.slot.Slot.TheVariants.{Process, Channel, Conversation, Procedure, Global, Local, Counter}
 

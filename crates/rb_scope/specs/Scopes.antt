@@ -35,10 +35,10 @@ abbrev pub words_in : List Declaration → ℕ
 words_in [] = 0
 words_in (one ∷ others) = words_of one.size + words_in others
 
--- the number of elements of an array
+-- the number of elements of an array; one of a size that no array may have has none
 abbrev pub elements : Option Number → Option ℕ
 elements None = None
-elements (Some number) = Some (natural number.value)
+elements (Some number) = Some (words_of (Some number))
 
 -- variables in a row, the first of which begins at this word
 abbrev pub variables_from : (ℕ → Option ℕ → Slot) → ℕ → List Declaration → List Declared

@@ -9,17 +9,8 @@ use Rattle.rb_syntax.specs.declared.expression.Number.{Number}
 use Rattle.rb_syntax.specs.Tree.{Identifier, Expression, Literal, Variable, Former, Minus, Negation, Chained, Quantification, Reference, Refer, Scalar, Element, Links, NoLink, Linked, Declaration, Printed, Words, Amount, PrintItem, Command, Assignment, Printing, Sending, Receiving, Conditional, Loop, Invocation, Failure, Recovering, Commands, NoCommand, Then, Body, Scope, Otherwise, NoElse, Else, RecoveryBlock, Recovers, Alternates, NoAlternate, Alternate, ChannelDeclaration, ConversationDeclaration, ProcedureDeclaration, ProcessDeclaration, Tree}
 use Rattle.rb_scope.specs.Scopes.{Declared, declared, procedure_scope, process_scope, program_scope, variables_from, variables_in, words_in, words_of}
 use Rattle.rb_scope.specs.declared.slot.Slot.TheVariants.{Local, Counter}
-
--- what a use of a name wants it to stand for: among these a scalar to store in or to read as it was, an array, or the
--- present value of a scalar
-pub data Want : Type 0 where
-  AProcess : Want
-  AChannel : Want
-  AConversation : Want
-  AProcedure : Want
-  AScalar : Want
-  AnArray : Want
-  AValue : Want
+use Rattle.rb_scope.specs.declared.want.Want.{Want}
+use Rattle.rb_scope.specs.declared.want.Want.TheVariants.{AProcess, AChannel, AConversation, AProcedure, AScalar, AnArray, AValue}
 
 pub data Site : Type 0 where
   -- a name is declared in its scope, in which these declarations stand before it

@@ -1,6 +1,11 @@
 // What each name of a source stands for, and the faults of scopes and limits.
 #![tactic(auto)]
 
+mod declared;
+mod first;
+mod rules;
+mod scope;
 pub mod slot;
+mod want;
 
 pub use slot::Slot;
