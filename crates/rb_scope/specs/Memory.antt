@@ -1,8 +1,13 @@
 -- The scopes and spots that those in memory stand for.
-use Rattle.std.specs.Prelude.{List, [], ◌∷◌, map}
+use Rattle.std.specs.Prelude.{ℕ, List, [], ◌∷◌, map, Option, Some}
 use Rattle.rb_syntax.specs.Plain.{identifier}
 use Rattle.rb_scope.specs.Scopes.{Declared}
-use Rattle.rb_scope.specs.Sites.{Spot}
+use Rattle.rb_scope.specs.Sites.{Spot as PlainSpot}
+use Rattle.rb_scope.specs.declared.declared.Kind.{Kind}
+use Rattle.rb_scope.specs.declared.declared.Kind.TheVariants.{OfProcess, OfCall}
+use Rattle.rb_scope.specs.declared.spot.Spot.{Spot}
+use Rattle.rb_scope.specs.declared.slot.Slot.{Slot}
+use Rattle.rb_scope.specs.declared.slot.Slot.TheVariants.{Global, Local}
 use Rattle.rb_scope.specs.declared.declared.Declared.{Declared as Held}
 use Rattle.rb_scope.specs.declared.scope.Scopes.{Scopes, None, Within'}
 
@@ -18,3 +23,12 @@ all_held declared = map held declared
 abbrev pub scopes_of : Scopes → List (List Declared)
 scopes_of None = []
 scopes_of (Within' scope pointer around) = scope.now ∷ scopes_of around
+
+-- the spot that one in memory stands for
+abbrev pub spot_of : Spot → PlainSpot
+spot_of spot = record { scopes = scopes_of spot.scopes.now; taken = spot.taken; quantified = spot.quantified; in_test = spot.in_test }
+
+-- the slots of the variables of a process, or of a call
+abbrev pub slot_in : Kind → ℕ → Option ℕ → Slot
+slot_in OfProcess = Global
+slot_in OfCall = Local

@@ -76,10 +76,10 @@ abbrev pub take_place : Declared → List Declared → List Declared
 take_place one [] = one ∷ []
 take_place one (other ∷ others) = cond (is_before one.name.place other.name.place) (one ∷ other ∷ others) (other ∷ take_place one others)
 
--- declarations in the order of the text
+-- declarations take their places among others in turn
 abbrev pub in_text_order : List Declared → List Declared → List Declared
 in_text_order [] others = others
-in_text_order (one ∷ more) others = take_place one (in_text_order more others)
+in_text_order (one ∷ more) others = in_text_order more (take_place one others)
 
 -- The scope of the program: its channels and conversations, which a text may mix, and then its processes.
 abbrev pub program_scope : Tree → List Declared

@@ -2,9 +2,11 @@
 #![tactic(auto)]
 
 mod declared;
+mod finder;
 mod first;
 mod rules;
 mod scope;
+mod spot;
 pub mod slot;
 mod want;
 
