@@ -7,6 +7,7 @@ mod first;
 mod rules;
 mod scope;
 mod spot;
+mod sites;
 pub mod slot;
 mod want;
 

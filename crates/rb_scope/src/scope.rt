@@ -1,6 +1,7 @@
 //! Scopes, and what a name means in them.
 
 ghost use Rattle.std.specs.Prelude.{◌≡◌, [], ◌∷◌, ◌++◌, option_map, OnOk};
+ghost use Rattle.std.specs.Option.{is_some};
 ghost use Rattle.rb_scope.specs.Memory.{all_held, held, scopes_of};
 ghost use Rattle.rb_scope.specs.Scopes.{declared_in, meaning_of};
 
@@ -39,6 +40,13 @@ impl<'a> Scope<'a> {
         ensures { option_map held result ≡ declared_in name.now self.now }
     {
         find(&self.declared, name)
+    }
+
+    /// Whether a name is declared here.
+    pub(crate) fn has(&self, name: &[u8]) -> bool
+        ensures { result ≡ is_some (declared_in name.now self.now) }
+    {
+        self.find(name).is_some()
     }
 
     /// Takes one more declaration, behind the others.
