@@ -1,8 +1,10 @@
 -- The scopes and spots that those in memory stand for.
 use Rattle.std.specs.Prelude.{ℕ, List, [], ◌∷◌, map, Option, Some}
-use Rattle.rb_syntax.specs.Plain.{identifier}
+use Rattle.rb_syntax.specs.declared.expression.Quantified.{Quantified}
+use Rattle.rb_syntax.specs.Tree.{Quantification}
+use Rattle.rb_syntax.specs.Plain.{expression, identifier}
 use Rattle.rb_scope.specs.Scopes.{Declared}
-use Rattle.rb_scope.specs.Sites.{Spot as PlainSpot}
+use Rattle.rb_scope.specs.Sites.{Spot as PlainSpot, Site, expression_sites}
 use Rattle.rb_scope.specs.declared.declared.Kind.{Kind}
 use Rattle.rb_scope.specs.declared.declared.Kind.TheVariants.{OfProcess, OfCall}
 use Rattle.rb_scope.specs.declared.spot.Spot.{Spot}
@@ -32,3 +34,8 @@ spot_of spot = record { scopes = scopes_of spot.scopes.now; taken = spot.taken; 
 abbrev pub slot_in : Kind → ℕ → Option ℕ → Slot
 slot_in OfProcess = Global
 slot_in OfCall = Local
+
+-- the sites of a quantified expression in memory
+abbrev pub quantified_sites : PlainSpot → Quantified → List Site
+quantified_sites spot over =
+    expression_sites spot (Quantification over.kind over.place (identifier over.name) (expression over.low.value) (expression over.high.value) (expression over.body.value))

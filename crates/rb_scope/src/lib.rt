@@ -2,6 +2,7 @@
 #![tactic(auto)]
 
 mod declared;
+mod expression;
 mod finder;
 mod first;
 mod rules;
