@@ -1,3 +1,4 @@
 pub mod Placing
 pub mod Meanings
 pub mod Visited
+pub mod Long

@@ -5,6 +5,7 @@ mod declared;
 mod expression;
 mod finder;
 mod first;
+mod lists;
 mod rules;
 mod scope;
 mod spot;
