@@ -11,6 +11,7 @@ mod scope;
 mod spot;
 mod sites;
 pub mod slot;
+mod variables;
 mod want;
 
 pub use slot::Slot;
