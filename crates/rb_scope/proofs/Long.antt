@@ -1,11 +1,11 @@
 -- A list that may have so many entries at most: its sites tell the first that is too many.
-use Rattle.std.proofs.Common.{◌≡◌, ℕ, zero, suc, ◌+◌, ◌<◌, Bool, true, false, List, [], ◌∷◌, map, nat_eq, length, get_or, ◌≤◌, Option, Some, None, option_map, refl, sym, ap, subst, ◌∙◌, arith}
+use Rattle.std.proofs.Common.{◌≡◌, ℕ, zero, suc, ◌+◌, ◌<◌, true, false, List, [], ◌∷◌, map, nat_eq, length, get_or, ◌≤◌, Option, Some, None, option_map, refl, sym, ap, ◌∙◌, arith}
 use Rattle.std.proofs.lemmas.Bool.Decides.{nat_tests}
 use Rattle.std.specs.List.{slice_get}
 use Rattle.rb_base.specs.declared.place.Place.{Place}
 use Rattle.rb_base.specs.declared.fault.SourceFault.{SourceFault}
 use Rattle.rb_base.specs.declared.fault.FaultName.TheVariants.{S7}
-use Rattle.rb_scope.specs.Sites.{Site, Lists, list_sites}
+use Rattle.rb_scope.specs.Sites.{Lists, list_sites}
 use Rattle.rb_scope.specs.Rules.{where_broken}
 use Rattle.rb_scope.specs.Finding.{Found, visit, visited, first_after}
 

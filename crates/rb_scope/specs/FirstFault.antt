@@ -1,6 +1,6 @@
 -- The first of several faults of a source: the one with the least place, and of two at one place the one with the least number.
 -- All of this crate's definitions are this project's own.
-use Rattle.std.specs.Prelude.{◌≡◌, ℕ, nat_eq, nat_lt, Bool, true, false, cond, List, [], ◌∷◌, Option, Some, None}
+use Rattle.std.specs.Prelude.{◌≡◌, ℕ, nat_eq, nat_lt, Bool, true, false, cond, List}
 use Rattle.std.specs.List.{Contains}
 use Rattle.rb_base.specs.declared.place.Place.{Place}
 use Rattle.rb_base.specs.declared.fault.SourceFault.{SourceFault}

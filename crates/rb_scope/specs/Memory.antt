@@ -1,5 +1,5 @@
 -- The scopes and spots that those in memory stand for.
-use Rattle.std.specs.Prelude.{ℕ, List, [], ◌∷◌, map, Option, Some}
+use Rattle.std.specs.Prelude.{ℕ, List, [], ◌∷◌, map, Option}
 use Rattle.rb_syntax.specs.declared.expression.Quantified.{Quantified}
 use Rattle.rb_syntax.specs.Tree.{Quantification}
 use Rattle.rb_syntax.specs.Plain.{expression, identifier}

@@ -1,11 +1,11 @@
 -- Scopes, and what a name means: its declaration in the innermost scope around it that has one.
-use Rattle.std.specs.Prelude.{ℕ, ◌+◌, nat_eq, nat_le, Bool, true, false, cond, ◌&&◌, List, [], ◌∷◌, ◌++◌, length, Option, Some, None}
+use Rattle.std.specs.Prelude.{ℕ, ◌+◌, nat_le, Bool, cond, ◌&&◌, List, [], ◌∷◌, ◌++◌, length, Option, Some, None}
 use Rattle.rb_syntax.specs.declared.expression.Number.{Number}
 use Rattle.rb_syntax.specs.Tree.{Identifier, Declaration, ChannelDeclaration, ConversationDeclaration, ProcedureDeclaration, ProcessDeclaration, Body, Scope, Tree}
 use Rattle.rb_meaning.specs.Environment.{same_name, natural, or_else}
 use Rattle.rb_scope.specs.FirstFault.{is_before}
 use Rattle.rb_scope.specs.declared.slot.Slot.{Slot}
-use Rattle.rb_scope.specs.declared.slot.Slot.TheVariants.{Process, Channel, Conversation, Procedure, Global, Local, Counter}
+use Rattle.rb_scope.specs.declared.slot.Slot.TheVariants.{Process, Channel, Conversation, Procedure, Global, Local}
 
 -- a declaration: the name where it stands, what it stands for, and how many parameters a procedure has
 pub record Declared : Type 0 where

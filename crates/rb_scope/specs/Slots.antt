@@ -1,5 +1,5 @@
 -- What each name of a tree stands for, by the number of the name.
-use Rattle.std.specs.Prelude.{◌≡◌, ℕ, List, [], ◌∷◌, slice_get, Option, Some, None}
+use Rattle.std.specs.Prelude.{◌≡◌, ℕ, List, slice_get, Option, Some, None}
 use Rattle.std.specs.List.{All}
 use Rattle.rb_syntax.specs.Tree.{Tree}
 use Rattle.rb_scope.specs.Scopes.{Declared, meaning_of}

@@ -6,11 +6,13 @@ mod expression;
 mod finder;
 mod first;
 mod lists;
+mod operands;
 mod rules;
 mod scope;
 mod spot;
 mod sites;
 pub mod slot;
+mod statement;
 mod variables;
 mod want;
 

@@ -1,4 +1,4 @@
-use Rattle.std.proofs.Common.{◌≤◌, ap, ◌∙◌, arith}
+use Rattle.std.proofs.Common.{ap, ◌∙◌, arith}
 use Rattle.std.specs.List.{insert, position_or_len}
 use Rattle.rb_scope.specs.Memory.{all_held}
 use Rattle.rb_scope.proofs.Placing.{stands_behind, placed}
