@@ -1,6 +1,7 @@
 -- Sites that are visited in turn.
 use Rattle.std.proofs.Common.{◌≡◌, ℕ, suc, ◌+◌, ◌<◌, List, [], ◌∷◌, ◌++◌, length, get_or, drop, refl, sym, ap, ◌∙◌, add-one}
 use Rattle.std.proofs.Math.Seq.{drop-cons}
+use Rattle.std.proofs.lemmas.List.{length-map}
 use Rattle.rb_scope.specs.Sites.{Site}
 use Rattle.rb_scope.specs.Finding.{Found, visit, visited}
 
@@ -22,3 +23,6 @@ step sites part splits xs i x e h before after whole w a =
     ∙ ap (visited before) (sym (splits x (drop (i + 1) xs)))
     ∙ ap (λ ys. visited before (sites ys)) (sym (drop-at xs i x e h))
     ∙ w
+
+-- for walks over parts that are visited one after another
+pub ruleset walks = (visited_append, length-map)

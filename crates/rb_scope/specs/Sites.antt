@@ -203,9 +203,14 @@ abbrev pub channel_sites : Spot → ChannelDeclaration → List Site
 channel_sites spot channel =
     Uses AProcess channel.sender spot.scopes ∷ Uses AProcess channel.receiver spot.scopes ∷ Channels channel.size ∷ []
 
+-- the members of a conversation
+abbrev pub member_sites : Spot → List Identifier → List Site
+member_sites spot [] = []
+member_sites spot (name ∷ names) = Uses AProcess name spot.scopes ∷ member_sites spot names
+
 -- a conversation
 abbrev pub conversation_sites : Spot → ConversationDeclaration → List Site
-conversation_sites spot conversation = flat_map (λ name. Uses AProcess name spot.scopes ∷ []) conversation.members
+conversation_sites spot conversation = member_sites spot conversation.members
 
 -- all sites of a tree
 abbrev pub tree_sites : Tree → List Site

@@ -7,6 +7,7 @@ mod finder;
 mod first;
 mod lists;
 mod operands;
+mod program;
 mod rules;
 mod scope;
 mod spot;
