@@ -100,10 +100,10 @@ apart-back n [] ys a = a
 apart-back n (x ∷ xs) ys (e, a) = apart-back n xs ys a
 
 -- a name that is at none of these sites keeps its slot
-kept-slot : (found : Found) (n : ℕ) (sites : List Site) → IsApart n (flat_map number_at sites) → slice_get (visited found sites).slots n ≡ slice_get found.slots n
-kept-slot found n [] a = refl
-kept-slot found n (site ∷ sites) a =
-    kept-slot (visit found site) n sites (apart-back n (number_at site) (flat_map number_at sites) a)
+pub kept_slot : (found : Found) (n : ℕ) (sites : List Site) → IsApart n (flat_map number_at sites) → slice_get (visited found sites).slots n ≡ slice_get found.slots n
+kept_slot found n [] a = refl
+kept_slot found n (site ∷ sites) a =
+    kept_slot (visit found site) n sites (apart-back n (number_at site) (flat_map number_at sites) a)
     ∙ ap (λ slots. slice_get slots n) (visit-slots found site)
     ∙ kept-site found.slots n site (apart-front n (number_at site) (flat_map number_at sites) a)
 
@@ -132,7 +132,7 @@ below-rest most (x ∷ xs) ys (e, a) = below-rest most xs ys a
 -- a slot that is there stays, where the name is at no later site
 stands : (found : Found) (n : ℕ) (meaning : Option Declared) (sites : List Site) → StandsFor found.slots n meaning → IsApart n (flat_map number_at sites) → StandsFor (visited found sites).slots n meaning
 stands found n None sites h a = tt
-stands found n (Some one) sites h a = kept-slot found n sites a ∙ h
+stands found n (Some one) sites h a = kept_slot found n sites a ∙ h
 
 -- the slot that a name is given at a site stays
 gets : (found : Found) (site : Site) (n : ℕ) (meaning : Option Declared) (sites : List Site) → slots_after found.slots site ≡ given found.slots n meaning → n < length found.slots → IsApart n (flat_map number_at sites) → StandsFor (visited (visit found site) sites).slots n meaning
@@ -157,16 +157,16 @@ abbrev pub HaveSlots : List Slot → List Site → Type 0
 HaveSlots slots [] = Unit {0}
 HaveSlots slots (site ∷ sites) = HasItsSlot slots site × HaveSlots slots sites
 
-have-slots : (found : Found) (sites : List Site) → AreApart (flat_map number_at sites) → AreBelow (length found.slots) (flat_map number_at sites) → HaveSlots (visited found sites).slots sites
-have-slots found [] a b = tt
-have-slots found (site ∷ sites) a b =
+pub have_slots : (found : Found) (sites : List Site) → AreApart (flat_map number_at sites) → AreBelow (length found.slots) (flat_map number_at sites) → HaveSlots (visited found sites).slots sites
+have_slots found [] a b = tt
+have_slots found (site ∷ sites) a b =
     (has-slot found site sites a b,
-    have-slots (visit found site) sites (apart-rest (number_at site) (flat_map number_at sites) a)
+    have_slots (visit found site) sites (apart-rest (number_at site) (flat_map number_at sites) a)
     (subst (λ n. AreBelow n (flat_map number_at sites)) (sym (ap length (visit-slots found site) ∙ length-site found.slots site))
     (below-rest (length found.slots) (number_at site) (flat_map number_at sites) b)))
 
 -- the same by index
-slot-at : (slots : List Slot) (sites : List Site) (k : ℕ) (d : Site) → HaveSlots slots sites → k < length sites → HasItsSlot slots (get_or sites k d)
-slot-at slots [] k d h l = absurd (omega arith)
-slot-at slots (site ∷ sites) zero d h l = h.0
-slot-at slots (site ∷ sites) (suc k) d h l = slot-at slots sites k d h.1 (omega arith)
+pub slot_at : (slots : List Slot) (sites : List Site) (k : ℕ) (d : Site) → HaveSlots slots sites → k < length sites → HasItsSlot slots (get_or sites k d)
+slot_at slots [] k d h l = absurd (omega arith)
+slot_at slots (site ∷ sites) zero d h l = h.0
+slot_at slots (site ∷ sites) (suc k) d h l = slot_at slots sites k d h.1 (omega arith)

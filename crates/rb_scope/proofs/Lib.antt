@@ -5,3 +5,5 @@ pub mod Long
 pub mod Statements
 pub mod Order
 pub mod Given
+pub mod Answer
+pub mod Determined

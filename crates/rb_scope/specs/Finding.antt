@@ -1,11 +1,12 @@
 -- What is found as sites are visited in order: the first fault so far, and the slots of the names so far.
-use Rattle.std.specs.Prelude.{ℕ, cond, List, [], ◌∷◌, slice_set, Option, Some, None}
+use Rattle.std.specs.Prelude.{ℕ, cond, List, [], ◌∷◌, slice_set, replicate, Option, Some, None}
 use Rattle.rb_base.specs.declared.fault.SourceFault.{SourceFault}
 use Rattle.rb_scope.specs.FirstFault.{comes_before}
 use Rattle.rb_scope.specs.Scopes.{Declared, meaning_of}
 use Rattle.rb_scope.specs.Sites.{Site, Declares, Uses, Calls, LooksBack, Sizes, Lists, Channels, Bounds, Takes, Quantifies}
 use Rattle.rb_scope.specs.Rules.{broken_at}
 use Rattle.rb_scope.specs.declared.slot.Slot.{Slot}
+use Rattle.rb_scope.specs.declared.slot.Slot.TheVariants.{ProgramName}
 
 -- the first fault so far, and the slots so far
 pub record Found : Type 0 where
@@ -48,3 +49,7 @@ visit found site = record { first = first_after found.first (broken_at site); sl
 abbrev pub visited : Found → List Site → Found
 visited found [] = found
 visited found (site ∷ sites) = visited (visit found site) sites
+
+-- nothing found yet: each of so many names is taken for that of the program
+abbrev pub nothing_found : ℕ → Found
+nothing_found names = record { first = None; slots = replicate names ProgramName }

@@ -4,5 +4,7 @@ pub mod Scopes
 pub mod Sites
 pub mod Rules
 pub mod Slots
+pub mod Resolved
+pub mod Laws
 pub mod Finding
 pub mod Memory
