@@ -1,6 +1,5 @@
 -- What is known of a process, under the changes that turns are made of: who has a level runs; the block that is entered; text
 -- that settles, and turns that are kept.
--- All of it is this project's own.
 use Rattle.std.proofs.Common.{◌≡◌, ℕ, true, false, List, [], ◌∷◌, map, slice_get, Some, refl, sym, ap, ◌∙◌, subst, true≢false}
 use Rattle.rb_syntax.specs.Tree.{Command, Assignment, Printing, Sending, Receiving, Conditional, Loop, Invocation, Failure, Recovering, Otherwise, NoElse, Else, RecoveryBlock, Tree}
 use Rattle.rb_world.specs.Kind.{Facts, Enters}
@@ -13,18 +12,18 @@ use Rattle.rb_meaning.specs.Step.{enter, entered_items, wants, wants_first, want
 use Rattle.rb_meaning.specs.Groups.{channel_number, facts_of}
 use Rattle.rb_meaning.specs.Meaning.{tree_kind}
 use Rattle.rb_meaning.specs.Laws.{with_test}
-use Rattle.rb_meaning.proofs.Clear.{AreClear, blocks_settled, clear_settled}
-use Rattle.rb_meaning.proofs.StepsKeep.{Continues}
-use Rattle.rb_meaning.proofs.FromInside.{onto, onto-front, onto-some}
-use Rattle.rb_meaning.proofs.Points.{ArePoints, IsOwn, facts_in, facts_left}
-use Rattle.rb_meaning.proofs.Known.{Known, RunsInside}
+use Rattle.rb_meaning.proofs.RulesLeft.{AreClear, blocks_settled, clear_settled}
+use Rattle.rb_meaning.proofs.StepsKeepRules.{Continues}
+use Rattle.rb_meaning.proofs.InsideOut.{onto, onto-front, onto-some}
+use Rattle.rb_meaning.proofs.RecoveryPoints.{ArePoints, IsOwn, facts_in, facts_left}
+use Rattle.rb_meaning.proofs.KnownOfProcess.{Known, RunsInside}
 
 -- who may act runs
 receipt_runs : (c : ℕ) (otherwise : Otherwise) → status_at (wants_receipt c otherwise) ≡ Running
 receipt_runs c NoElse = refl
 receipt_runs c (Else body) = refl
 
-wants_runs : (tree : Tree) (command : Command) → status_at (wants tree command) ≡ Running
+pub wants_runs : (tree : Tree) (command : Command) → status_at (wants tree command) ≡ Running
 wants_runs tree (Assignment to e) = refl
 wants_runs tree (Printing items) = refl
 wants_runs tree (Sending channel e) = refl

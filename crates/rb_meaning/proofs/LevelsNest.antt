@@ -1,5 +1,5 @@
 -- The levels of each process of a run of a nested program are nested, and are those of members.
--- Conversations nest as Randell (1975) has it; all else is this project's own.
+-- Conversations nest as Randell (1975) has it.
 use Rattle.std.proofs.Common.{◌≡◌, ℕ, zero, suc, true, List, [], ◌∷◌, take, slice_get, Option, Some, None, refl, sym, ap, ◌∙◌, subst}
 use Rattle.rb_syntax.specs.Tree.{Tree}
 use Rattle.rb_world.specs.Kind.{Facts}
@@ -9,11 +9,11 @@ use Rattle.rb_world.specs.Nested.{AreNested, HasOutside, IsLevelOf}
 use Rattle.rb_world.proofs.ListFacts.{heads_same, none_some, some_same, tails_same}
 use Rattle.rb_meaning.specs.State.{Item, State}
 use Rattle.rb_meaning.specs.Groups.{facts_of, groups_of}
-use Rattle.rb_meaning.specs.Nesting.{is_member, members_in}
-use Rattle.rb_meaning.proofs.Clear.{AreClear}
-use Rattle.rb_meaning.proofs.FromInside.{onto, onto-some}
-use Rattle.rb_meaning.proofs.JoinsWell.{BeginWith, JoinsWell, around_join, joins_well}
-use Rattle.rb_meaning.proofs.Points.{ArePoints, IsPoint, facts_in, facts_left, point_at}
+use Rattle.rb_meaning.specs.Nesting.{alternates_of, is_member, members_in}
+use Rattle.rb_meaning.proofs.RulesLeft.{AreClear}
+use Rattle.rb_meaning.proofs.InsideOut.{onto, onto-some}
+use Rattle.rb_meaning.proofs.JoinsWell.{BeginWith, JoinsWell, around_join, joins_well, joins_with_as_many}
+use Rattle.rb_meaning.proofs.RecoveryPoints.{ArePoints, IsPoint, facts_in, facts_left, point_at}
 
 -- the facts of a level, and of those outside it
 facts_at : (outer : List Facts) (levels : List (Level State)) (i : ℕ) (level : Level State) → slice_get levels i ≡ Some level
@@ -82,6 +82,17 @@ module _ (tree : Tree) (p : ℕ) where
       let joined = level_joined levels c i points at in
       has_outside (parent_of (slice_get (groups_of tree) c)) levels i at.level at.there
       (subst (BeginWith (parent_of (slice_get (groups_of tree) c))) joined.left (around_join tree p c joined.rest joined.well))
+
+  -- a level of a conversation has as many alternates as each `converse` for it
+  pub levels_have_as_many : (levels : List (Level State)) (i c : ℕ) → ArePoints tree p [] levels → (at : IsLevelOf c levels i)
+      → alternates_of tree c ≡ Some at.level.facts.alternates
+  levels_have_as_many levels i c points at =
+      let point = point_at tree p [] i levels at.level points at.there in
+      let clear = subst (λ (items : List Item). AreClear tree p items) point.first.is point.own.clear in
+      let same : facts_of tree point.first.block ≡ at.level.facts =
+      heads_same (ap (facts_left tree) (sym point.first.is) ∙ point.left ∙ facts_at [] levels i at.level at.there) in
+      joins_with_as_many tree p c point.first.rest point.first.block clear.0 (ap (λ (f : Facts). f.conversation) same ∙ at.of_it)
+      ∙ ap (λ (f : Facts). Some f.alternates) same
 
   -- a level of a conversation is a member's
   pub levels_of_members : (levels : List (Level State)) (i c : ℕ) → ArePoints tree p [] levels → IsLevelOf c levels i

@@ -1,18 +1,18 @@
 -- Nesting: what is left of a nested program's text keeps the rules, through every step.
-pub mod Clear
-pub mod StepsKeep
-pub mod FromInside
-pub mod Points
-pub mod Known
+pub mod RulesLeft
+pub mod StepsKeepRules
+pub mod InsideOut
+pub mod RecoveryPoints
+pub mod KnownOfProcess
 pub mod KnownFacts
-pub mod KnownKept
+pub mod KnownIsKept
 pub mod NestedProgram
 pub mod JoinsWell
 pub mod LevelsNest
-pub mod Mail
-pub mod StepsPost
+pub mod MailOfSteps
+pub mod StepsChangeMail
 pub mod TreeParts
-pub mod Ends
+pub mod ChannelEnds
 pub mod StartsAndEntries
 pub mod TreeErasable
 -- The laws of the meaning.
@@ -21,7 +21,8 @@ pub mod TreeErasure
 pub mod TreeSlots
 pub mod ErasedText
 -- What a turn rejects and tells: few events, whom a rejection leaves alone, and that members go together.
-pub mod FewInTrees
-pub mod OrderedTrees
-pub mod InsideTrees
-pub mod TogetherInTrees
+pub mod FewEventsOfTurns
+pub mod WorldsAreOrdered
+pub mod RejectionsStayInside
+pub mod MembersGoTogether
+pub mod AlternatesTriedTogether

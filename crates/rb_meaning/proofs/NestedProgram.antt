@@ -1,6 +1,5 @@
 -- What the rules of nesting say of a whole program, said of each of its processes: its own statements keep them, and so do
 -- its procedures. So what is known of a process holds at the opening.
--- All of it is this project's own.
 use Rattle.std.proofs.Common.{◌≡◌, ℕ, ◌+◌, zero, suc, Bool, true, false, cond, ◌&&◌, List, [], ◌∷◌, ◌++◌, map, slice_get, Option, Some, None, refl, sym, ap, ◌∙◌, subst, arith}
 use Rattle.std.proofs.lemmas.List.{length-replicate}
 use Rattle.std.specs.List.{list_all}
@@ -11,10 +10,10 @@ use Rattle.rb_meaning.specs.Environment.{same_name}
 use Rattle.rb_meaning.specs.State.{State}
 use Rattle.rb_meaning.specs.Groups.{facts_of, procedure_among, procedures_of}
 use Rattle.rb_meaning.specs.Meaning.{opening_state, opening_states, tree_kind}
-use Rattle.rb_meaning.specs.Nesting.{IsNested, keeps_n1, keeps_n2, keeps_n4, keeps_n9, outside, uses_in, uses_in_body, uses_in_procedures, uses_in_processes, uses_of}
-use Rattle.rb_meaning.proofs.Clear.{AreKept, blocks_performed, clear_performed, kept_first, kept_second}
-use Rattle.rb_meaning.proofs.StepsKeep.{HasClearProcedures}
-use Rattle.rb_meaning.proofs.Known.{Known}
+use Rattle.rb_meaning.specs.Nesting.{IsNested, keeps_n1, keeps_n2, keeps_n4, keeps_n5, keeps_n9, outside, uses_in, uses_in_body, uses_in_procedures, uses_in_processes, uses_of}
+use Rattle.rb_meaning.proofs.RulesLeft.{AreKept, blocks_performed, clear_performed, kept_first, kept_second}
+use Rattle.rb_meaning.proofs.StepsKeepRules.{HasClearProcedures}
+use Rattle.rb_meaning.proofs.KnownOfProcess.{Known}
 use Rattle.rb_meaning.proofs.KnownFacts.{known_settled}
 
 -- two tests at once
@@ -32,9 +31,10 @@ both_of_all f g (x ∷ xs) e e' =
 -- all uses of a nested program keep the rules
 pub uses_kept : (tree : Tree) → IsNested tree → AreKept tree (uses_of tree)
 uses_kept tree nested =
-    both_of_all (keeps_n1 tree) (λ one. keeps_n2 tree one && (keeps_n4 tree one && keeps_n9 tree one)) (uses_of tree) nested.n1
-    (both_of_all (keeps_n2 tree) (λ one. keeps_n4 tree one && keeps_n9 tree one) (uses_of tree) nested.n2
-    (both_of_all (keeps_n4 tree) (keeps_n9 tree) (uses_of tree) nested.n4 nested.n9))
+    both_of_all (keeps_n1 tree) (λ one. keeps_n2 tree one && (keeps_n4 tree one && (keeps_n5 tree one && keeps_n9 tree one))) (uses_of tree) nested.n1
+    (both_of_all (keeps_n2 tree) (λ one. keeps_n4 tree one && (keeps_n5 tree one && keeps_n9 tree one)) (uses_of tree) nested.n2
+    (both_of_all (keeps_n4 tree) (λ one. keeps_n5 tree one && keeps_n9 tree one) (uses_of tree) nested.n4
+    (both_of_all (keeps_n5 tree) (keeps_n9 tree) (uses_of tree) nested.n5 nested.n9)))
 
 -- of one process, number n: its procedures and its own statements
 pub record IsProcessKept (tree : Tree) (n : ℕ) (process : ProcessDeclaration) : Type 0 where

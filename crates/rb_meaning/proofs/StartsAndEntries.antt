@@ -1,7 +1,6 @@
 -- A start that goes on has an alternate of its level's block, and who enters a conversation that lies in no other has no level.
 -- Both are said of a process that stands at no test line, since there what stands first lies outside the innermost level; and
 -- the first of one that runs, since one that failed has no level, whatever is left of its text.
--- All of it is this project's own.
 use Rattle.std.proofs.Common.{◌≡◌, ◌≤◌, ℕ, ℤ, zero, suc, Bool, true, false, List, [], ◌∷◌, slice_get, Option, Some, None, refl, sym, ap, ◌∙◌, subst, arith, true≢false}
 use Rattle.rb_syntax.specs.Tree.{Command, Assignment, Printing, Sending, Receiving, Conditional, Loop, Invocation, Failure, Recovering, Body, Otherwise, NoElse, Else, RecoveryBlock, Recovers, Alternates, NoAlternate, Alternate, Tree}
 use Rattle.rb_world.specs.Kind.{Facts, Starts, Enters, Went}
@@ -15,10 +14,10 @@ use Rattle.rb_meaning.specs.State.{Item, Perform, StartOf, TestOf, EndBlock, End
 use Rattle.rb_meaning.specs.Groups.{channel_number, count_alternates, facts_of, groups_of}
 use Rattle.rb_meaning.specs.Step.{alternate_number, alternates_in, goes, starts_body, step, step_items, wants, wants_first, wants_receipt}
 use Rattle.rb_meaning.specs.Laws.{with_test}
-use Rattle.rb_meaning.proofs.Clear.{AreClear}
-use Rattle.rb_meaning.proofs.FromInside.{onto, onto-some}
-use Rattle.rb_meaning.proofs.Points.{StartsFirst, facts_in, facts_left}
-use Rattle.rb_meaning.proofs.Known.{Known, RunsInside}
+use Rattle.rb_meaning.proofs.RulesLeft.{AreClear}
+use Rattle.rb_meaning.proofs.InsideOut.{onto, onto-some}
+use Rattle.rb_meaning.proofs.RecoveryPoints.{StartsFirst, facts_in, facts_left}
+use Rattle.rb_meaning.proofs.KnownOfProcess.{Known, RunsInside}
 use Rattle.rb_meaning.proofs.KnownFacts.{entered_block, left_away}
 use Rattle.rb_meaning.proofs.JoinsWell.{BeginWith, around_join, joins_well}
 

@@ -1,23 +1,21 @@
 -- Trees meet what erasure asks of a kind of process state.
--- All of it is this project's own.
 use Rattle.std.proofs.Common.{◌≡◌, ℕ, zero, suc, ℤ, pos, List, [], ◌∷◌, length, map, slice_get, unwrap_or, Option, refl, sym, ap, subst}
 use Rattle.rb_syntax.specs.Tree.{Tree}
 use Rattle.rb_world.specs.Kind.{Went, Held}
-use Rattle.rb_world.specs.World.{last_of}
-use Rattle.rb_world.specs.Turn.{copy_of}
-use Rattle.rb_world.proofs.Erasing.Erasable.{IsErasable, LeavesAlone, SameMail}
+use Rattle.rb_world.specs.World.{last_of, copy_of}
+use Rattle.rb_world.proofs.Erasing.ErasableKinds.{IsErasable, LeavesAlone, SameMail}
 use Rattle.rb_meaning.specs.Environment.{Environment}
 use Rattle.rb_meaning.specs.State.{State, settle, with_held}
 use Rattle.rb_meaning.specs.Step.{Result_of_step, enter, step, wants_first}
 use Rattle.rb_meaning.specs.Meaning.{environment_of}
-use Rattle.rb_meaning.proofs.Ends.{first_receives, first_sends}
-use Rattle.rb_meaning.proofs.Known.{Known}
+use Rattle.rb_meaning.proofs.ChannelEnds.{first_receives, first_sends}
+use Rattle.rb_meaning.proofs.KnownOfProcess.{Known}
 use Rattle.rb_meaning.proofs.KnownFacts.{running_inside}
 use Rattle.rb_meaning.proofs.LevelsNest.{levels_nest, levels_of_members}
-use Rattle.rb_meaning.proofs.Mail.{Posts, list_on}
+use Rattle.rb_meaning.proofs.MailOfSteps.{Posts, list_on}
 use Rattle.rb_meaning.proofs.StartsAndEntries.{outermost_alone, starts_there}
-use Rattle.rb_meaning.proofs.StepsKeep.{StepsTo}
-use Rattle.rb_meaning.proofs.StepsPost.{IsPassed, steps_post}
+use Rattle.rb_meaning.proofs.StepsKeepRules.{StepsTo}
+use Rattle.rb_meaning.proofs.StepsChangeMail.{IsPassed, steps_post}
 use Rattle.rb_meaning.proofs.TreeParts.{moves_by, parts_of}
 
 -- the lengths that an entry keeps are those of the lists

@@ -1,6 +1,5 @@
 -- Erasure for trees: what survived a run of a nested program, run alone, ends the same; and no receipt stands whose message was
 -- taken back.
--- All of it is this project's own.
 use Rattle.std.proofs.Common.{◌≡◌, ◌+◌, ℕ, zero, suc, true, not, List, [], ◌∷◌, map, replicate, slice_get, unwrap_or, Some, refl, sym, ap, ◌∙◌, subst, true≢false}
 use Rattle.std.proofs.lemmas.Bool.{eq-eqb}
 use Rattle.std.proofs.lemmas.Simd.{map-map}
@@ -11,8 +10,8 @@ use Rattle.rb_world.specs.World.{Process, World}
 use Rattle.rb_world.specs.Turn.{opening}
 use Rattle.rb_world.specs.Plain.{Ended, plain_run, survivors_of}
 use Rattle.rb_world.specs.Erased.{Rises}
-use Rattle.rb_world.proofs.Erasing.Erasure.{OpensErasably, RunsAlone}
-use Rattle.rb_world.proofs.Erasing.ErasureTheorem.{receipts_stand, survivors_run_alone}
+use Rattle.rb_world.proofs.Erasing.SurvivorsRunAlone.{OpensErasably, RunsAlone}
+use Rattle.rb_world.proofs.Erasing.ErasureOfEveryKind.{receipts_stand, survivors_run_alone}
 use Rattle.rb_world.proofs.ListFacts.{first_holds, none_some, second_holds, some_same}
 use Rattle.rb_world.proofs.Erasing.ReceiptsStand.{AreBetweenTwo}
 use Rattle.rb_meaning.specs.State.{State}
@@ -21,8 +20,8 @@ use Rattle.rb_meaning.specs.Meaning.{TreeWorld, opening_state, opening_states, r
 use Rattle.rb_meaning.specs.PlainRun.{plain_kind}
 use Rattle.rb_meaning.specs.Nesting.{IsNested, keeps_n12}
 use Rattle.rb_meaning.specs.Laws.{Erasure, NothingTakenBack}
-use Rattle.rb_meaning.proofs.Known.{Known}
-use Rattle.rb_meaning.proofs.KnownKept.{known_kept}
+use Rattle.rb_meaning.proofs.KnownOfProcess.{Known}
+use Rattle.rb_meaning.proofs.KnownIsKept.{known_kept}
 use Rattle.rb_meaning.proofs.NestedProgram.{known_opening, procedures_kept}
 use Rattle.rb_meaning.proofs.TreeErasable.{erasable}
 use Rattle.rb_meaning.proofs.TreeParts.{parts_of}

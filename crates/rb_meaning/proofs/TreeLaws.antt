@@ -1,5 +1,4 @@
 -- The laws of the meaning, of every nested program and every list of turns.
--- All of it is this project's own.
 use Rattle.std.proofs.Common.{◌≡◌, ℕ, Bool, true, false, List, refl, sym, ◌∙◌}
 use Rattle.rb_syntax.specs.Tree.{Tree}
 use Rattle.rb_world.specs.World.{Level, Process}
@@ -10,12 +9,12 @@ use Rattle.rb_meaning.specs.Meaning.{opening_states}
 use Rattle.rb_meaning.specs.Nesting.{IsNested}
 use Rattle.rb_meaning.specs.Laws.{IsIn}
 use Rattle.rb_meaning.specs.Laws.{LevelsAreNested, with_test}
-use Rattle.rb_meaning.proofs.FromInside.{onto-twice}
-use Rattle.rb_meaning.proofs.Known.{Known}
-use Rattle.rb_meaning.proofs.KnownKept.{known_kept}
+use Rattle.rb_meaning.proofs.InsideOut.{onto-twice}
+use Rattle.rb_meaning.proofs.KnownOfProcess.{Known}
+use Rattle.rb_meaning.proofs.KnownIsKept.{known_kept}
 use Rattle.rb_meaning.proofs.LevelsNest.{levels_nest}
 use Rattle.rb_meaning.proofs.NestedProgram.{known_opening, procedures_kept}
-use Rattle.rb_meaning.proofs.Points.{facts_in, facts_left}
+use Rattle.rb_meaning.proofs.RecoveryPoints.{facts_in, facts_left}
 
 -- what is known of a process holds in every world of a run
 pub run_known : (tree : Tree) → IsNested tree → (turns : List ℕ) (r : ℕ) (q : Process State State) → IsIn tree turns r q → Known tree r q

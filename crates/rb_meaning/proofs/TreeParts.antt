@@ -1,18 +1,17 @@
 -- Trees as erasure asks for them: their parts, from which come the meaning's kind and the plain run's.
--- All of it is this project's own.
 use Rattle.std.proofs.Common.{◌≡◌, ◌+◌, ℕ, ℤ, pos, nat_eq, cond, List, [], ◌∷◌, ◌++◌, length, slice_get, unwrap_or, Option, Some, refl, sym, ap, ◌∙◌, arith, length-append, add-zero}
 use Rattle.std.proofs.lemmas.List.{append-nil, length-map}
 use Rattle.rb_syntax.specs.Tree.{Tree}
 use Rattle.rb_world.specs.Kind.{Want, NothingLeft, SendsOn, ReceivesOn, MayReceiveOn, Enters, Starts, Acts}
-use Rattle.rb_world.proofs.Erasing.Erasable.{IsFront, Moves, Parts, plain, receives_on, sends_by, takes_by, takes_if, whole}
-use Rattle.rb_world.proofs.ListFacts.{none_some, some_same}
+use Rattle.rb_world.proofs.Erasing.ErasableKinds.{IsFront, Moves, Parts, plain, receives_on, sends_by, takes_by, takes_if, whole}
+use Rattle.rb_world.proofs.ListFacts.{none_some, some_same, slice_get-front}
 use Rattle.rb_meaning.specs.Environment.{Environment}
 use Rattle.rb_meaning.specs.State.{State, settle, with_held, with_kept}
 use Rattle.rb_meaning.specs.Step.{enter, step, wants_first}
 use Rattle.rb_meaning.specs.Groups.{channels_of, ends_of, groups_of}
 use Rattle.rb_meaning.specs.Meaning.{message_number, sent_on, taken_on, tree_kind}
 use Rattle.rb_meaning.specs.PlainRun.{EntryPoint, entry_point, plain_kind}
-use Rattle.rb_meaning.proofs.Mail.{Posts, Quiet, Posted, Collected, also_there, front_of_sent, list_on, sent_here, slice_get-front, taken_here}
+use Rattle.rb_meaning.proofs.MailOfSteps.{Posts, Quiet, Posted, Collected, also_there, front_of_sent, list_on, sent_here, taken_here}
 
 -- the parts of a program's kinds
 abbrev pub parts_of : Tree → Parts State Environment EntryPoint

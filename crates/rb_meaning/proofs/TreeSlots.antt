@@ -1,5 +1,4 @@
 -- Slots for trees: each message that may still be asked for lies in its slot, and slots may be read in place of lists.
--- All of it is this project's own.
 use Rattle.std.proofs.Common.{◌≡◌, ℕ, ℤ, zero, suc, List, [], length, replicate, slice_get, unwrap_or, refl}
 use Rattle.rb_syntax.specs.Tree.{Tree}
 use Rattle.rb_world.specs.Slots.{zero_slots}
@@ -8,8 +7,8 @@ use Rattle.rb_meaning.specs.Groups.{channels_of}
 use Rattle.rb_meaning.specs.Meaning.{opening_states, sent_on, tree_kind}
 use Rattle.rb_meaning.specs.Nesting.{IsNested}
 use Rattle.rb_meaning.specs.Laws.{SlotsAreRead, SlotsAreUnseen, SlotsHoldMessages}
-use Rattle.rb_meaning.proofs.Known.{Known}
-use Rattle.rb_meaning.proofs.KnownKept.{known_kept}
+use Rattle.rb_meaning.proofs.KnownOfProcess.{Known}
+use Rattle.rb_meaning.proofs.KnownIsKept.{known_kept}
 use Rattle.rb_meaning.proofs.NestedProgram.{known_opening, procedures_kept}
 use Rattle.rb_meaning.proofs.TreeErasable.{erasable}
 use Rattle.rb_meaning.proofs.TreeErasure.{each_opening}

@@ -1,4 +1,4 @@
--- Environments: the variables of a process, in frames. This project's own; scopes are those of block structure.
+-- Environments: the variables of a process, in frames. Scopes are those of block structure.
 use Rattle.std.specs.Prelude.{ℕ, ℤ, pos, negsuc, ◌+◌, nat_eq, Bool, cond, List, [], ◌∷◌, length, map, sum_by, replicate, slice_set, Option, Some, None}
 use Rattle.std.specs.List.{list_any, flat_map}
 use Rattle.std.specs.Cmp.Lexicographic.{pointwise}

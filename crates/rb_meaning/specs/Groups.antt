@@ -1,6 +1,5 @@
 -- What a program declares: channels and their ends, conversations with their members and parents, procedures. A
 -- conversation's parent is the innermost conversation around its first `converse` in the text (nesting: Randell 1975).
--- All else is this project's own.
 use Rattle.std.specs.Prelude.{ℕ, ◌+◌, Bool, false, cond, List, [], ◌∷◌, map, position, slice_get, Option, Some, None}
 use Rattle.std.specs.Option.{unwrap_or}
 use Rattle.rb_syntax.specs.Tree.{Identifier, Command, Assignment, Printing, Sending, Receiving, Conditional, Loop, Invocation, Failure, Recovering, Commands, NoCommand, Then, Body, Scope, Otherwise, NoElse, Else, RecoveryBlock, Recovers, Alternates, NoAlternate, Alternate, ChannelDeclaration, ConversationDeclaration, ProcedureDeclaration, ProcessDeclaration, Tree}
@@ -127,9 +126,10 @@ abbrev pub conversation_of : Tree → Option Identifier → Option ℕ
 conversation_of tree None = None
 conversation_of tree (Some name) = Some (conversation_number tree name.text)
 
--- a recovery block's line, conversation, turn bound and number of alternates
+-- a recovery block's number in the program, its line, conversation, turn bound and number of alternates
 abbrev pub facts_of : Tree → RecoveryBlock → Facts
 facts_of tree (Recovers number conversation place test bound alternates) = record {
+  number = number;
   line = place.line;
   conversation = conversation_of tree conversation;
   bound = natural bound.value;

@@ -1,7 +1,6 @@
 -- The laws of the meaning, of every nested program and every list of turns.
 -- That members of a conversation pass its test line together and go back together, and that conversations nest, is Randell's
--- (1975); that an alternate which fails leaves no trace is from Horning, Lauer, Melliar-Smith, Randell (1974). How they are
--- said here, and erasure, are this project's own.
+-- (1975); that an alternate which fails leaves no trace is from Horning, Lauer, Melliar-Smith, Randell (1974).
 use Rattle.std.specs.Prelude.{◌≡◌, ◌≢◌, ◌≤◌, ◌+◌, ℕ, suc, Bool, true, false, List, [], ◌∷◌, ◌++◌, length, map, filter, reverse, slice_get, Option, Some, None, Ok}
 use Rattle.rb_base.specs.declared.event.Cause.{Cause}
 use Rattle.rb_base.specs.declared.event.Event.{Event}
@@ -17,6 +16,7 @@ use Rattle.rb_world.specs.Slots.{Slots, AllLieInSlots, from_slots, with_slots, z
 use Rattle.rb_world.specs.Plain.{Ended}
 use Rattle.rb_world.specs.Standing.{is_failed}
 use Rattle.rb_world.specs.Nested.{AreNested}
+use Rattle.rb_world.specs.Present.{IsPresent}
 use Rattle.rb_world.specs.Erased.{Rises, numbered, released_in}
 use Rattle.rb_world.specs.Text.{outs_text, values_text}
 use Rattle.rb_meaning.specs.State.{Item, Perform, StartOf, TestOf, EndBlock, EndCall, State}
@@ -24,7 +24,9 @@ use Rattle.rb_meaning.specs.Groups.{channels_of, facts_of, groups_of}
 use Rattle.rb_meaning.specs.Step.{Nothing}
 use Rattle.rb_meaning.specs.Meaning.{TreeWorld, final_of, opening_states, naming_of, run_of, states_of, survivors, taken_on, tree_kind}
 use Rattle.rb_meaning.specs.PlainRun.{PlainWorld, plain_of, plain_text}
-use Rattle.rb_meaning.specs.Nesting.{IsNested, is_member, members_in}
+use Rattle.rb_meaning.specs.Nesting.{IsNested, alternates_of, is_member, members_in}
+use Rattle.rb_base.specs.declared.event.TheConstants.{MOST_EVENTS}
+use Rattle.rb_base.specs.declared.limits.TheConstants.{MOST_OPEN_LEVELS}
 
 -- the recovery blocks whose start or acceptance test is left, the innermost first
 abbrev pub blocks_left : List Item → List RecoveryBlock
@@ -163,6 +165,16 @@ abbrev pub PassedTogether : Type 0
 PassedTogether = (tree : Tree) → IsNested tree → (turns : List ℕ) (c p : ℕ)
     → GoTogether tree c p (run_of tree turns).0 (next_turn tree turns p).0 (next_turn tree turns p).1.events
 
+-- a level of conversation c tries its present alternate, and has as many alternates as each `converse` for it
+pub record TriesTheSame (tree : Tree) (w : TreeWorld) (c : ℕ) (level : Level State) : Type 0 where
+  pub present : IsPresent w.talks c level
+  pub as_many : alternates_of tree c ≡ Some level.facts.alternates
+
+-- Members try the same alternate: whoever is inside a conversation is in its present alternate, whenever it entered.
+abbrev pub TriedTogether : Type 0
+TriedTogether = (tree : Tree) → IsNested tree → (turns : List ℕ) (r i c : ℕ) (q : Process State State) (level : Level State)
+    → HasLevel (run_of tree turns).0 r i q level → level.facts.conversation ≡ Some c → TriesTheSame tree (run_of tree turns).0 c level
+
 -- an event tells a rejection
 abbrev pub is_rejection : Event → Bool
 is_rejection (Reject p line a cause) = true
@@ -171,11 +183,12 @@ is_rejection (Error p cause) = false
 is_rejection (Pass c a) = false
 is_rejection (Done p) = false
 
--- A turn makes at most 32 rejections, and of at most 64 processes it tells at most 96 events.
+-- A turn makes at most as many rejections as a process may have levels, and of at most 64 processes it tells at most as many events
+-- as a report has room for.
 abbrev pub FewEvents : Type 0
 FewEvents = (tree : Tree) (turns : List ℕ) (p : ℕ)
-    → (length (filter is_rejection (next_turn tree turns p).1.events) ≤ 32)
-    × (length tree.processes ≤ 64 → length (next_turn tree turns p).1.events ≤ 96)
+    → (length (filter is_rejection (next_turn tree turns p).1.events) ≤ MOST_OPEN_LEVELS)
+    × (length tree.processes ≤ 64 → length (next_turn tree turns p).1.events ≤ MOST_EVENTS)
 
 -- the opening of a program with a slot for each message that its channels have room for
 abbrev pub SlotWorld : Type 0

@@ -1,6 +1,5 @@
 -- The meaning of a program: each recovery point is a whole copy of the process's recoverable state, and each rejection
 -- puts that copy back (Horning, Lauer, Melliar-Smith, Randell 1974; in conversations, Randell 1975).
--- All else is this project's own.
 use Rattle.std.specs.Prelude.{ℕ, ℤ, pos, ◌+◌, List, [], ◌∷◌, ◌++◌, length, map, replicate, slice_get, Option, Some, None}
 use Rattle.std.specs.Option.{option_map, unwrap_or}
 use Rattle.rb_syntax.specs.Tree.{Declaration, ProcessDeclaration, Tree}
@@ -40,7 +39,7 @@ tree_kind tree = record {
   channels = channels_of tree;
   groups = groups_of tree;
   want = λ s. wants_first tree s.items;
-  settle = settle;
+  settle = λ copy s. settle s;
   enter = enter;
   copy = λ s. s;
   restore = λ s copy. copy;

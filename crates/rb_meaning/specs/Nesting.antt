@@ -1,6 +1,6 @@
 -- The rules of nesting, which a program must keep for recovery to leave no trace. Conversations nest properly, and inside
--- one its members speak with each other alone (Randell 1975); the rules themselves are this project's own. Each is a test of one
--- use of a conversation or a channel, and has the name of the fault that breaks it.
+-- one its members speak with each other alone (Randell 1975). Each rule is a test of one use of a conversation or a
+-- channel, and has the name of the fault that breaks it.
 use Rattle.std.specs.Prelude.{◌≡◌, ℕ, ◌+◌, nat_eq, Bool, true, false, not, ◌&&◌, List, [], ◌∷◌, ◌++◌, slice_get, Option, Some, None}
 use Rattle.std.specs.List.{list_any, list_all}
 use Rattle.rb_syntax.specs.Tree.{Identifier, Command, Assignment, Printing, Sending, Receiving, Conditional, Loop, Invocation, Failure, Recovering, Commands, NoCommand, Then, Body, Scope, Otherwise, NoElse, Else, RecoveryBlock, Recovers, Alternates, NoAlternate, Alternate, ProcedureDeclaration, ProcessDeclaration, Tree}
@@ -8,7 +8,9 @@ use Rattle.rb_world.specs.Kind.{Ends}
 use Rattle.rb_world.specs.World.{is_number}
 use Rattle.rb_world.specs.Reject.{parent_of}
 use Rattle.rb_world.specs.Turn.{members_of}
-use Rattle.rb_meaning.specs.Groups.{channel_number, channels_of, conversation_number, conversation_of, groups_of}
+use Rattle.rb_world.specs.Plain.{when}
+use Rattle.rb_meaning.specs.Environment.{or_else}
+use Rattle.rb_meaning.specs.Groups.{channel_number, channels_of, conversation_number, conversation_of, count_alternates, groups_of}
 
 -- where a statement stands: in which process, whether in one of its procedures, and in which recovery blocks, the innermost
 -- first, each with its conversation if it has one
@@ -17,9 +19,9 @@ pub record Spot : Type 0 where
   pub in_procedure : Bool
   pub around : List (Option Identifier)
 
--- what is done there: a conversation is joined, or a message is sent or received
+-- what is done there: a conversation is joined, with so many alternates, or a message is sent or received
 pub data Deed : Type 0 where
-  Joins : Deed
+  Joins : (alternates : ℕ) → Deed
   Sends : Deed
   Receives : Deed
 
@@ -34,9 +36,9 @@ abbrev pub inside : Option Identifier → Spot → Spot
 inside conversation spot = record { process = spot.process; in_procedure = spot.in_procedure; around = conversation ∷ spot.around }
 
 -- a `converse` joins its conversation; an `ensure` joins none
-abbrev pub joined : Option Identifier → Spot → List Use
-joined None spot = []
-joined (Some name) spot = record { name = name; deed = Joins; spot = spot } ∷ []
+abbrev pub joined : Option Identifier → Alternates → Spot → List Use
+joined None alternates spot = []
+joined (Some name) alternates spot = record { name = name; deed = Joins (count_alternates alternates); spot = spot } ∷ []
 
 abbrev mutual
   -- the uses in a statement, in the order of the text
@@ -68,7 +70,7 @@ abbrev mutual
   -- the same in a recovery block, which may itself be a `converse`
   pub uses_in_block : Spot → RecoveryBlock → List Use
   uses_in_block spot (Recovers number conversation place test bound alternates) =
-      joined conversation spot ++ uses_in_alternates (inside conversation spot) alternates
+      joined conversation alternates spot ++ uses_in_alternates (inside conversation spot) alternates
 
   -- the same in the alternates of a recovery block
   pub uses_in_alternates : Spot → Alternates → List Use
@@ -96,12 +98,12 @@ uses_of tree = uses_in_processes 0 tree.processes
 
 -- a rule for those who join, and one for messages
 abbrev pub if_joins : Deed → Bool → Bool
-if_joins Joins rule = rule
+if_joins (Joins alternates) rule = rule
 if_joins Sends rule = true
 if_joins Receives rule = true
 
 abbrev pub if_speaks : Deed → Bool → Bool
-if_speaks Joins rule = true
+if_speaks (Joins alternates) rule = true
 if_speaks Sends rule = rule
 if_speaks Receives rule = rule
 
@@ -144,6 +146,32 @@ keeps_n4 tree one = if_joins one.deed
     (is_same_conversation (conversation_of tree (innermost one.spot.around))
     (parent_of (slice_get (groups_of tree) (conversation_number tree one.name.text))))
 
+-- how many alternates there are where conversation c is joined, and none where it is not
+abbrev pub joined_with : Deed → Bool → Option ℕ
+joined_with (Joins alternates) of_it = when of_it (Some alternates)
+joined_with Sends of_it = None
+joined_with Receives of_it = None
+
+-- how many the first of these uses has that joins conversation c
+abbrev pub first_joined : Tree → ℕ → List Use → Option ℕ
+first_joined tree c [] = None
+first_joined tree c (one ∷ others) =
+    or_else (joined_with one.deed (nat_eq (conversation_number tree one.name.text) c)) (first_joined tree c others)
+
+-- how many alternates conversation c has, which are those of the first `converse` for it in the text
+abbrev pub alternates_of : Tree → ℕ → Option ℕ
+alternates_of tree c = first_joined tree c (uses_of tree)
+
+-- where a conversation with so many alternates is joined, it is joined with as many
+abbrev pub has_as_many : Deed → Option ℕ → Bool
+has_as_many (Joins alternates) first = is_number first alternates
+has_as_many Sends first = true
+has_as_many Receives first = true
+
+-- N5: a `converse` has as many alternates as the first `converse` for its conversation.
+abbrev pub keeps_n5 : Tree → Use → Bool
+keeps_n5 tree one = has_as_many one.deed (alternates_of tree (conversation_number tree one.name.text))
+
 -- N8: no message is sent or received in a procedure.
 abbrev pub keeps_n8 : Tree → Use → Bool
 keeps_n8 tree one = if_speaks one.deed (not one.spot.in_procedure)
@@ -151,7 +179,7 @@ keeps_n8 tree one = if_speaks one.deed (not one.spot.in_procedure)
 -- a process is this end of a channel
 abbrev pub is_end : Deed → ℕ → Option Ends → Bool
 is_end deed p None = false
-is_end Joins p (Some ends) = true
+is_end (Joins alternates) p (Some ends) = true
 is_end Sends p (Some ends) = nat_eq ends.sender p
 is_end Receives p (Some ends) = nat_eq ends.receiver p
 
@@ -184,6 +212,7 @@ pub record IsNested (tree : Tree) : Type 0 where
   pub n1 : list_all (keeps_n1 tree) (uses_of tree) ≡ true
   pub n2 : list_all (keeps_n2 tree) (uses_of tree) ≡ true
   pub n4 : list_all (keeps_n4 tree) (uses_of tree) ≡ true
+  pub n5 : list_all (keeps_n5 tree) (uses_of tree) ≡ true
   pub n8 : list_all (keeps_n8 tree) (uses_of tree) ≡ true
   pub n9 : list_all (keeps_n9 tree) (uses_of tree) ≡ true
   pub n10 : list_all (keeps_n10 tree) (uses_of tree) ≡ true

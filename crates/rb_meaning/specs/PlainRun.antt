@@ -1,5 +1,5 @@
 -- The plain run of a record over a tree. A recovery point keeps only the lengths of the sent lists, the numbers taken and
--- the environment at entry, which `prior` reads; it is never put back. This project's own.
+-- the environment at entry, which `prior` reads; it is never put back.
 use Rattle.std.specs.Prelude.{ℕ, List, [], ◌++◌, length, map, slice_get, Option, Result, Ok, Err}
 use Rattle.std.specs.Option.{option_map, unwrap_or}
 use Rattle.rb_syntax.specs.Tree.{Tree}
@@ -34,7 +34,7 @@ plain_kind tree = record {
   channels = channels_of tree;
   groups = groups_of tree;
   want = λ s. wants_first tree s.items;
-  settle = settle;
+  settle = λ point s. settle s;
   enter = enter;
   copy = entry_point;
   restore = λ s point. s;

@@ -1,6 +1,4 @@
--- The recoverable state of a process.
--- That it is what a rejection puts back is from Horning, Lauer, Melliar-Smith, Randell (1974); what belongs to it, and
--- all else, is this project's own.
+-- The recoverable state of a process, which is what a rejection puts back (Horning, Lauer, Melliar-Smith, Randell 1974).
 use Rattle.std.specs.Prelude.{ℕ, ℤ, List, [], ◌∷◌}
 use Rattle.rb_syntax.specs.Tree.{Command, Commands, NoCommand, Then, RecoveryBlock}
 use Rattle.rb_meaning.specs.Environment.{Environment, pop_frame, pop_call}

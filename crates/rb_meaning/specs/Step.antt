@@ -1,10 +1,13 @@
 -- One step of a process over its tree, for each form that may stand first.
 -- That an acceptance test comes after each alternate is from Horning, Lauer, Melliar-Smith, Randell (1974), and `prior`
--- is from Randell (1975); all else is this project's own.
-use Rattle.std.specs.Prelude.{ℕ, zero, suc, ℤ, pos, ◌+◌, ◌-◌, nat_eq, nat_lt, nat_le, Bool, true, false, cond, List, [], ◌∷◌, ◌++◌, length, sum_by, Option, Some, None, Result, Ok, Err}
+-- is from Randell (1975).
+use Rattle.std.specs.Prelude.{ℕ, zero, suc, ℤ, pos, ◌+◌, ◌-◌, nat_lt, nat_le, Bool, true, false, cond, List, [], ◌∷◌, ◌++◌, length, sum_by, Option, Some, None, Result, Ok, Err}
 use Rattle.std.specs.Fmt.{signed_decimal}
 use Rattle.rb_base.specs.declared.event.Cause.{Cause}
 use Rattle.rb_base.specs.declared.event.Cause.TheVariants.{Test, Fail, Stack, Calls, Hold}
+use Rattle.rb_base.specs.declared.edition.Edition.{Edition}
+use Rattle.rb_base.specs.declared.limits.TheConstants.{MOST_HELD_BYTES, MOST_OPEN_CALLS}
+use Rattle.rb_base.specs.Limits.{most_words}
 use Rattle.rb_syntax.specs.Tree.{Identifier, Expression, Reference, Refer, Scalar, Element, Declaration, Printed, Words, Amount, PrintItem, Command, Assignment, Printing, Sending, Receiving, Conditional, Loop, Invocation, Failure, Recovering, Commands, Body, Scope, Otherwise, NoElse, Else, RecoveryBlock, Recovers, Alternates, NoAlternate, Alternate, ProcedureDeclaration, Tree}
 use Rattle.rb_world.specs.Kind.{Want, NothingLeft, SendsOn, ReceivesOn, MayReceiveOn, Enters, Starts, Acts, Stepped, Trapped, Went, Held}
 use Rattle.rb_world.specs.World.{change_at}
@@ -26,17 +29,13 @@ abbrev pub goes : Result State Cause → Result_of_step
 goes (Ok s) = Went s tt
 goes (Err cause) = Trapped cause
 
--- the words of a process and of its frames are at most these
-abbrev pub most_words : ℕ → ℕ
-most_words edition = cond (nat_eq edition 2) 4096 2048
-
 -- at most this many calls of a process are open
 abbrev pub most_calls : ℕ
-most_calls = 256
+most_calls = MOST_OPEN_CALLS
 
 -- the held lines of a process have at most this many bytes
 abbrev pub most_held : ℕ
-most_held = 65536
+most_held = MOST_HELD_BYTES
 
 -- outside acceptance tests no accepted program reads a former value
 abbrev pub present_value : Environment → Expression → Outcome
@@ -100,25 +99,25 @@ takes s channel to v =
     Ok (with_taken (change_at channel (λ n. n + 1) s.taken) (with_environment (put_at s.environment v place) s)))
 
 -- the process goes on in this environment, unless it has too many words.
-abbrev pub within_words : ℕ → Environment → State → Result State Cause
+abbrev pub within_words : Edition → Environment → State → Result State Cause
 within_words edition env s = cond (nat_lt (most_words edition) (words env)) (Err Stack) (Ok (with_environment env s))
 
 -- a block begins: its frame is pushed, and its statements and its end come before what is left
-abbrev pub pushes : ℕ → Body → List Item → State → Result State Cause
+abbrev pub pushes : Edition → Body → List Item → State → Result State Cause
 pushes edition (Scope variables commands) rest s =
     within_words edition (push_frame (frame_of variables) s.environment) (continue_with (performed commands (EndBlock ∷ rest)) s)
 
 -- an `else` begins its block; without an `else` the process goes on
-abbrev pub pushes_else : ℕ → Otherwise → List Item → State → Result State Cause
+abbrev pub pushes_else : Edition → Otherwise → List Item → State → Result State Cause
 pushes_else edition NoElse rest s = Ok (continue_with rest s)
 pushes_else edition (Else body) rest s = pushes edition body rest s
 
 -- an `if` begins its block where its test is not 0, and else its `else`
-abbrev pub chooses : ℕ → Body → Otherwise → List Item → State → ℤ → Result State Cause
+abbrev pub chooses : Edition → Body → Otherwise → List Item → State → ℤ → Result State Cause
 chooses edition body otherwise rest s v = cond (is_zero v) (pushes_else edition otherwise rest s) (pushes edition body rest s)
 
 -- a `while` begins its block where its test is not 0, and comes again after it; else it is over
-abbrev pub repeats : ℕ → Expression → Body → List Item → State → ℤ → Result State Cause
+abbrev pub repeats : Edition → Expression → Body → List Item → State → ℤ → Result State Cause
 repeats edition test body rest s v =
     cond (is_zero v) (Ok (continue_with rest s)) (pushes edition body (Perform (Loop test body) ∷ rest) s)
 
@@ -146,7 +145,7 @@ abbrev pub open_calls : Environment → ℕ
 open_calls env = length env.calls - 1
 
 -- a call of a procedure with these values, which is a trap where the most calls are open already
-abbrev pub calls_with : ℕ → Option ProcedureDeclaration → List Item → State → List ℤ → Result State Cause
+abbrev pub calls_with : Edition → Option ProcedureDeclaration → List Item → State → List ℤ → Result State Cause
 calls_with edition None rest s values = Ok (continue_with rest s)
 calls_with edition (Some procedure) rest s values =
     cond (nat_le most_calls (open_calls s.environment)) (Err Calls)
@@ -194,7 +193,7 @@ abbrev pub test_in : RecoveryBlock → Expression
 test_in (Recovers number conversation place test bound alternates) = test
 
 -- an alternate that the block does not have is never started
-abbrev pub starts_body : ℕ → RecoveryBlock → List Item → State → Option Body → Result State Cause
+abbrev pub starts_body : Edition → RecoveryBlock → List Item → State → Option Body → Result State Cause
 starts_body edition block rest s None = Err Fail
 starts_body edition block rest s (Some body) = pushes edition body (TestOf block ∷ rest) s
 

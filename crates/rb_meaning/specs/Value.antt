@@ -1,9 +1,9 @@
 -- The value of an expression, or the trap that its evaluation meets first. `prior` gives a value just before the block
--- was entered (Randell 1975); 64-bit numbers, their traps and quantified expressions are this project's own.
--- All else is this project's own too.
+-- was entered (Randell 1975). Numbers have 64 bits, with traps, and there are quantified expressions.
 use Rattle.std.specs.Prelude.{ℕ, zero, suc, ℤ, pos, negsuc, ◌+◌, ◌-◌, ◌^◌, ◌+ℤ◌, ◌-ℤ◌, ◌*ℤ◌, neg_ℤ, int_lt, int_le, int_div, int_rem, nat_lt, Bool, true, false, not, cond, ◌&&◌, List, [], ◌∷◌, length, slice_get, Option, Some, None, Result, Ok, Err}
 use Rattle.std.specs.Ordering.{int_eq}
 use Rattle.std.specs.Option.{unwrap_or}
+use Rattle.rb_base.specs.declared.limits.TheConstants.{MOST_QUANTIFIED}
 use Rattle.rb_base.specs.declared.event.Cause.{Cause}
 use Rattle.rb_base.specs.declared.event.Cause.TheVariants.{Zero, Overflow, Index, Range}
 use Rattle.rb_syntax.specs.declared.expression.Op.{Op}
@@ -115,11 +115,13 @@ abbrev pub counter_or : Option ℤ → ℤ → ℤ
 counter_or None v = v
 counter_or (Some n) v = n
 
--- How many numbers lie from a to b; above 1,024 is a trap.
+-- so many numbers, or the trap `range` where a quantified expression may not go over so many
+abbrev pub few_numbers : ℕ → Result ℕ Cause
+few_numbers n = cond (nat_lt MOST_QUANTIFIED n) (Err Range) (Ok n)
+
+-- how many numbers lie from a to b
 abbrev pub span : ℤ → ℤ → Result ℕ Cause
-span a b =
-    cond (int_lt b a) (Ok 0)
-    (cond (int_lt (pos 1023) (b -ℤ a)) (Err Range) (Ok (natural (b -ℤ a) + 1)))
+span a b = cond (int_lt b a) (Ok 0) (few_numbers (natural (b -ℤ a) + 1))
 
 -- 1 if all of them hold, else 0; the first that does not hold decides.
 abbrev pub every_from : ℕ → ℤ → (ℤ → Outcome) → Outcome

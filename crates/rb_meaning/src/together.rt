@@ -1,7 +1,7 @@
 //! Laws of what a turn rejects and tells: how many events, what a rejection leaves alone, and that the members of a
 //! conversation pass its test line together and go back together.
 
-ghost use Rattle.rb_meaning.specs.Laws.{FewEvents, PassedTogether, RejectionsStayInside};
+ghost use Rattle.rb_meaning.specs.Laws.{FewEvents, PassedTogether, RejectionsStayInside, TriedTogether};
 
 /// A turn makes at most 32 rejections, and of at most 64 processes it tells at most 96 events.
 pub fn few_events()
@@ -18,4 +18,10 @@ pub fn rejections_stay_inside()
 /// together (Randell 1975). In every turn all that are inside keep their levels, or none is left inside, or all are put back.
 pub fn passed_together()
     ensures { PassedTogether }
+{}
+
+/// Members try alternates together: each open level of a conversation tries the conversation's present alternate, whenever it
+/// was entered, and all of them have as many.
+pub fn tried_together()
+    ensures { TriedTogether }
 {}

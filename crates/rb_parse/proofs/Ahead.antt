@@ -2,11 +2,13 @@
 use Rattle.std.proofs.Common.{◌≡◌, ℕ, zero, suc, nat_lt, ◌+◌, ◌<◌, ◌≤◌, Bool, true, false, cond, List, [], ◌∷◌, length, Option, Some, None, Ok, refl, ap, sym, ◌∙◌, arith, Err}
 use Rattle.std.proofs.lemmas.Bool.{lt-ltb, le-ltb}
 use denote.Enum.Bare.{same_true}
+use Rattle.rb_base.specs.declared.edition.Edition.{Edition}
+use Rattle.rb_base.specs.declared.limits.TheConstants.{MOST_OPEN_BRACKETS}
 use Rattle.rb_base.specs.declared.place.Place.{Place}
 use Rattle.rb_base.specs.declared.fault.SourceFault.{SourceFault}
 use Rattle.rb_lex.specs.declared.token.Token.{Token}
 use Rattle.rb_lex.specs.Reader.{Reader, lexeme_of, Answers}
-use Rattle.rb_lex.specs.Tokens.{Lexeme, Next, End, Found, Refused, AtEnd, AtFault, next_from, is_second}
+use Rattle.rb_lex.specs.Tokens.{Lexeme, Next, End, Found, Refused, AtEnd, AtFault, next_from, edition_of}
 use Rattle.rb_lex.specs.Bytes.{first_place}
 use Rattle.rb_lex.specs.TokenList.{token_and, tokens_within, tokens_left, ending_left, ending_from}
 use Rattle.rb_lex.proofs.Answered.{answers_first, answers_end, answers_fault}
@@ -15,7 +17,7 @@ use Rattle.rb_parse.specs.declared.stop.Stop.TheVariants as stops
 use Rattle.rb_parse.specs.declared.terminal.Terminal.{Terminal}
 use Rattle.rb_parse.specs.declared.terminal.Terminal.TheVariants as terminals
 use Rattle.rb_parse.specs.Allowed.{is_too_deep, too_deep, allowed, ending_allowed, allowed_of, ending_allowed_of}
-use Rattle.rb_parse.specs.Brackets.{most_open, open_after}
+use Rattle.rb_parse.specs.Brackets.{open_after}
 use Rattle.rb_parse.specs.Grammar.{Point, start_of}
 use Rattle.rb_parse.specs.Machine.{fits, look, names_after, blocks_after, Advances}
 use Rattle.rb_parse.specs.Terminals.{terminal_of}
@@ -34,11 +36,11 @@ pub next_tokens : (old new : Reader) (ahead : Option Token) → Answers old (Ok 
 next_tokens old new None a = sym (answers_end old new a).0
 next_tokens old new (Some token) a = sym (answers_first old new token a).0
 
-ended_at : (second : Bool) (at : Place) (left : List ℕ) → left ≡ [] → ending_from second at left ≡ AtEnd at
-ended_at second at left e = ap (λ bytes. ending_from second at bytes) e
+ended_at : (edition : Edition) (at : Place) (left : List ℕ) → left ≡ [] → ending_from edition at left ≡ AtEnd at
+ended_at edition at left e = ap (λ bytes. ending_from edition at bytes) e
 
 pub next_ending : (old new : Reader) (ahead : Option Token) → Answers old (Ok ahead) new → ending_left new ≡ ending_left old
-next_ending old new None a = ended_at new.second new.place new.left a.1 ∙ sym (answers_end old new a).1
+next_ending old new None a = ended_at new.edition new.place new.left a.1 ∙ sym (answers_end old new a).1
 next_ending old new (Some token) a = sym (answers_first old new token a).1
 
 few_and : (next : Next) (n : ℕ) (rest : Place → List ℕ → List Lexeme) → ((at : Place) (left : List ℕ) → length (rest at left) ≤ n) → length (token_and next rest) ≤ suc n
@@ -46,14 +48,14 @@ few_and (End at) n rest h = omega arith
 few_and (Found token at left) n rest h = omega (arith, h at left)
 few_and (Refused fault) n rest h = omega arith
 
-few_within : (n : ℕ) (second : Bool) (at : Place) (bytes : List ℕ) → length (tokens_within n second at bytes) ≤ n
-few_within zero second at bytes = omega arith
-few_within (suc n) second at bytes =
-    few_and (next_from second false at bytes) n (λ at left. tokens_within n second at left) (λ at left. few_within n second at left)
+few_within : (n : ℕ) (edition : Edition) (at : Place) (bytes : List ℕ) → length (tokens_within n edition at bytes) ≤ n
+few_within zero edition at bytes = omega arith
+few_within (suc n) edition at bytes =
+    few_and (next_from edition false at bytes) n (λ at left. tokens_within n edition at left) (λ at left. few_within n edition at left)
 
 -- there are no more tokens than bytes
 few_tokens : (reader : Reader) → length (tokens_left reader) ≤ length reader.left
-few_tokens reader = few_within (length reader.left) reader.second reader.place reader.left
+few_tokens reader = few_within (length reader.left) reader.edition reader.place reader.left
 
 names_after-le : (first : Option Terminal) (names : ℕ) → names_after first names ≤ names + 1
 names_after-le (Some terminals.Name) names = omega arith
@@ -65,7 +67,7 @@ blocks_after-le _ blocks = omega arith
 
 -- where a reader answered that nothing comes next, it stands at the end
 pub next_end : (old new : Reader) (ahead : Option Token) → Answers old (Ok ahead) new → ahead ≡ None → ending_left new ≡ AtEnd new.place
-next_end old new None a e = ended_at new.second new.place new.left a.1
+next_end old new None a e = ended_at new.edition new.place new.left a.1
 next_end old new (Some token) a e = absurd cc
 
 if_any-le : (none : Bool) (rest : List Lexeme) (n : ℕ) → length rest ≤ n → length (cond none [] rest) ≤ n
@@ -80,7 +82,7 @@ allowed-le n (token ∷ tokens) =
     omega (arith, if_any-le (is_too_deep n token) (allowed m tokens) (length tokens) (allowed-le m tokens))
 
 -- a cursor before the first token stands there
-pub begins : (source : List ℕ) (lexer after : Reader) (ahead : Option Token) → lexer ≡ record { second = is_second source; place = first_place; left = source } → Answers lexer (Ok ahead) after → position_of ahead after 0 0 0 ≡ record { point = start_of (allowed_of source); ending = ending_allowed_of source }
+pub begins : (source : List ℕ) (lexer after : Reader) (ahead : Option Token) → lexer ≡ record { edition = edition_of source; place = first_place; left = source } → Answers lexer (Ok ahead) after → position_of ahead after 0 0 0 ≡ record { point = start_of (allowed_of source); ending = ending_allowed_of source }
 begins source lexer after ahead e a =
     ap (λ left. position_before left (ending_left after) 0 0 0) (next_tokens lexer after ahead a)
     ∙ ap (λ ending. position_before (tokens_left lexer) ending 0 0 0) (next_ending lexer after ahead a)
@@ -153,15 +155,15 @@ module _ (token : Token) (held : Option Token) (terminal : Terminal) (first : Op
       })
 
   -- too many brackets are open with it
-  pub stops_deep : (new : Position) (later_brackets : ℕ) → later_brackets ≡ open_after (Some terminal) brackets → most_open < later_brackets → IsNotTaken terminal old new (stops.Token (too_deep (lexeme_of token)))
+  pub stops_deep : (new : Position) (later_brackets : ℕ) → later_brackets ≡ open_after (Some terminal) brackets → MOST_OPEN_BRACKETS < later_brackets → IsNotTaken terminal old new (stops.Token (too_deep (lexeme_of token)))
   stops_deep new later_brackets b deep =
       let e : is_too_deep brackets (lexeme_of token) ≡ true =
-      ap (λ x. nat_lt most_open (open_after x brackets)) is ∙ ap (λ x. nat_lt most_open x) (sym b) ∙ lt-ltb most_open later_brackets deep in
+      ap (λ x. nat_lt MOST_OPEN_BRACKETS (open_after x brackets)) is ∙ ap (λ x. nat_lt MOST_OPEN_BRACKETS x) (sym b) ∙ lt-ltb MOST_OPEN_BRACKETS later_brackets deep in
       stops_behind (too_deep (lexeme_of token)) new (left_by true e) (ending_by true e)
 
-  module _ (later_brackets : ℕ) (b : later_brackets ≡ open_after (Some terminal) brackets) (few : later_brackets ≤ most_open) where
+  module _ (later_brackets : ℕ) (b : later_brackets ≡ open_after (Some terminal) brackets) (few : later_brackets ≤ MOST_OPEN_BRACKETS) where
     shallow : is_too_deep brackets (lexeme_of token) ≡ false
-    shallow = ap (λ x. nat_lt most_open (open_after x brackets)) is ∙ ap (λ x. nat_lt most_open x) (sym b) ∙ le-ltb most_open later_brackets few
+    shallow = ap (λ x. nat_lt MOST_OPEN_BRACKETS (open_after x brackets)) is ∙ ap (λ x. nat_lt MOST_OPEN_BRACKETS x) (sym b) ∙ le-ltb MOST_OPEN_BRACKETS later_brackets few
 
     -- a fault follows
     pub stops_faulty : (fault : SourceFault) (after : Reader) (new : Position) → Answers lexer (Err fault) after → IsNotTaken terminal old new (stops.Token fault)

@@ -3,6 +3,7 @@
 use Rattle.std.proofs.Common.{◌≡◌, ℕ, zero, suc, ◌+◌, ◌-◌, ◌*◌, ◌≤◌, max, List, [], ◌∷◌, Some, refl, subst, arith}
 use Rattle.std.proofs.Math.Nat.{le-max_left, le-max_right}
 use Rattle.std.specs.Prelude.{take}
+use Rattle.rb_base.specs.declared.edition.Edition.TheVariants as editions
 use Rattle.rb_lex.specs.Tokens.{Lexeme}
 use Rattle.rb_parse.specs.Brackets.{open_after, open_from}
 use Rattle.rb_parse.specs.declared.level.Level.{Level}
@@ -152,7 +153,7 @@ tree_of value names = record {
   } ∷ [];
   names = names;
   blocks = 0;
-  edition = 1;
+  edition = editions.First;
 }
 
 text_derives : (n : ℕ) (e : Deeper n 2 behind_it) → DerivesTree (tree_of e.value e.later) (text n)

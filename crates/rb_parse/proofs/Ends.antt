@@ -1,8 +1,8 @@
 -- What stands behind a part and does not go on with it.
 use Rattle.std.proofs.Common.{◌≡◌, Bool, true, false, ◌||◌, Option, Some, ◌⊎◌, inl, inr, refl, ap, ◌∙◌}
 use Rattle.std.specs.Option.{is_some}
-use Rattle.rb_parse.specs.declared.edition.Edition.{Edition}
-use Rattle.rb_parse.specs.declared.edition.Edition.TheVariants as editions
+use Rattle.rb_base.specs.declared.edition.Edition.{Edition}
+use Rattle.rb_base.specs.declared.edition.Edition.TheVariants as editions
 use Rattle.rb_parse.specs.declared.level.Level.{Level}
 use Rattle.rb_parse.specs.declared.level.Level.TheVariants as levels
 use Rattle.rb_parse.specs.declared.terminal.Terminal.{Terminal}

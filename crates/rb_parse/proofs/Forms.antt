@@ -1,8 +1,8 @@
 -- What the table says of what stands first, one fact for each choice among forms that the code makes.
 use Rattle.std.proofs.Common.{◌≡◌, true, false, Option, Some, None, refl, ap}
 use Rattle.std.specs.Option.{is_some}
-use Rattle.rb_parse.specs.declared.edition.Edition.{Edition}
-use Rattle.rb_parse.specs.declared.edition.Edition.TheVariants as editions
+use Rattle.rb_base.specs.declared.edition.Edition.{Edition}
+use Rattle.rb_base.specs.declared.edition.Edition.TheVariants as editions
 use Rattle.rb_parse.specs.declared.terminal.Terminal.{Terminal}
 use Rattle.rb_parse.specs.declared.terminal.Terminal.TheVariants as terminals
 use Rattle.rb_parse.specs.ExpressionTable.{Start, begin, nothing_after, variable_after, literal_after, start_number, start_place, start_atom, start_factor, start_comparison, start_negation, start_disjunction, start_expression, quantified_after}

@@ -1,14 +1,20 @@
-pub mod Running
-pub mod Ahead
+-- What the tokens ahead are, and those that a cursor gives.
 pub mod Spelled
-pub mod Reaching
 pub mod Takes
+pub mod Splits
+pub mod Ahead
+pub mod Counted
+-- How far the code has read a part, by what stands first.
+pub mod Reaching
 pub mod Forms
 pub mod Starts
 pub mod Begun
 pub mod Receipts
 pub mod Measures
 pub mod Made
+pub mod Pushing
+-- The machine: what it accepts is derived, and what is derived it accepts.
+pub mod Running
 pub mod Sound
 pub mod StatementsSound
 pub mod ProgramSound
@@ -16,21 +22,21 @@ pub mod Accepted
 pub mod Ends
 pub mod Opens
 pub mod Complete
-pub mod Counted
-pub mod Judged
-pub mod Splits
-pub mod Verdicts
+-- What begins a text goes on to its end, so each text has one verdict.
 pub mod Samples
 pub mod ShortExpressions
 pub mod Shortest
 pub mod GoesOn
-pub mod Pushing
+pub mod Judged
+pub mod Verdicts
+-- The names and the recovery blocks of a tree, in the order of the text.
 pub mod Steps
-pub mod Ordered
 pub mod Travels
+pub mod Ordered
 pub mod Mixed
 pub mod Numbered
 pub mod Rising
+-- How deep a tree may be.
 pub mod Room
 pub mod Bounded
 pub mod Deepest

@@ -3,9 +3,9 @@ use Rattle.std.proofs.Common.{◌≡◌, ℕ, List, Option, None, Vec, sym, ap, 
 use Rattle.std.specs.declared.alloc.Global.{Global}
 use Rattle.rb_base.specs.declared.place.Place.{Place}
 use Rattle.rb_lex.specs.Tokens.{Lexeme}
-use Rattle.rb_parse.specs.declared.edition.Edition.{Edition}
+use Rattle.rb_base.specs.declared.edition.Edition.{Edition}
 use Rattle.rb_parse.specs.declared.terminal.Terminal.TheVariants as terminals
-use Rattle.rb_parse.specs.Grammar.{Point, edition_number}
+use Rattle.rb_parse.specs.Grammar.{Point}
 use Rattle.rb_parse.specs.Machine.{Advances}
 use Rattle.rb_parse.specs.Table.{tree_with}
 use Rattle.rb_syntax.proofs.Bridge.{recovery_layer, recovery_out}
@@ -36,7 +36,7 @@ process_of variables procedures commands name = record {
   commands = commands;
 }
 
-abbrev pub tree_of : List ChannelDeclaration → List ConversationDeclaration → List ProcessDeclaration → Identifier → ℕ → ℕ → ℕ → Tree
+abbrev pub tree_of : List ChannelDeclaration → List ConversationDeclaration → List ProcessDeclaration → Identifier → ℕ → ℕ → Edition → Tree
 tree_of channels conversations processes name names blocks edition = record {
   name = name;
   channels = channels;
@@ -48,9 +48,9 @@ tree_of channels conversations processes name names blocks edition = record {
 }
 
 -- a program, whose numbers are those after its last token
-pub made_program : {held name : Identifier} {channels : List ChannelDeclaration} {conversations : List ConversationDeclaration} {processes : List ProcessDeclaration} {names blocks number : ℕ} {token : Lexeme} {a b : Point} (edition : Edition) → name ≡ held → names ≡ b.names → blocks ≡ b.blocks → number ≡ edition_number edition → Advances terminals.Dot token a b → tree_with edition held (channels, conversations) processes a.names a.blocks ≡ tree_of channels conversations processes name names blocks number
-made_program {channels = channels} {conversations = conversations} {processes = processes} edition n e f g dot =
-    λ j. tree_of channels conversations processes (sym n j) (sym (e ∙ dot.names) j) (sym (f ∙ dot.blocks) j) (sym g j)
+pub made_program : {held name : Identifier} {channels : List ChannelDeclaration} {conversations : List ConversationDeclaration} {processes : List ProcessDeclaration} {names blocks : ℕ} {token : Lexeme} {a b : Point} (edition : Edition) → name ≡ held → names ≡ b.names → blocks ≡ b.blocks → Advances terminals.Dot token a b → tree_with edition held (channels, conversations) processes a.names a.blocks ≡ tree_of channels conversations processes name names blocks edition
+made_program {channels = channels} {conversations = conversations} {processes = processes} edition n e f dot =
+    λ j. tree_of channels conversations processes (sym n j) (sym (e ∙ dot.names) j) (sym (f ∙ dot.blocks) j) edition
 
 -- a recovery block in memory, without a conversation
 pub recovery_made : (number : ℕ) (place : Place) (test : Expr) (bound : Number) (alternates : Vec Block Global) → recovery_block (roll-Recovery record { number = number; conversation = None; place = place; test = test; bound = bound; alternates = alternates }) ≡ Recovers number None place (expression test) bound (alternates_of alternates.items)

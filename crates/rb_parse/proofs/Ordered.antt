@@ -3,7 +3,7 @@
 use Rattle.std.proofs.Common.{◌≡◌, ℕ, false, List, [], ◌∷◌, Some, refl, sym, ap, ap₂, ◌∙◌}
 use Rattle.rb_base.specs.declared.place.Place.{Place}
 use Rattle.rb_lex.specs.Tokens.{Lexeme}
-use Rattle.rb_parse.specs.declared.edition.Edition.{Edition}
+use Rattle.rb_base.specs.declared.edition.Edition.{Edition}
 use Rattle.rb_parse.specs.declared.terminal.Terminal.{Terminal}
 use Rattle.rb_parse.specs.declared.terminal.Terminal.TheVariants as terminals
 use Rattle.rb_parse.specs.Grammar.{Point, Takes, TakesName, TakesEnsure, chain, joined, Derives, first_edition_row, second_edition_row, program_row, no_connection_row, channels_row, conversations_row, channel_row, conversation_row, names_row, no_name_row, more_names_row, processes_row, no_process_row, more_processes_row, process_row, no_procedure_row, procedures_row, procedure_row, no_parameter_row, parameters_row, no_declaration_row, declarations_row, declaration_row, no_size_row, size_row, block_row, no_statement_row, statements_row, assignment_row, print_row, send_row, receive_row, waits_row, never_waits_row, if_row, no_else_row, else_row, while_row, call_row, fail_row, recover_row, converse_row, recovery_row, alternates_row, alternate_row, other_alternates_row, error_row, items_row, no_item_row, more_items_row, text_row, amount_row, no_argument_row, arguments_row, expressions_row, no_more_expression_row, more_expressions_row, expression_row, quantified_row, chain_row, no_link_row, links_row, disjunct_row, conjunct_row, term_row, factor_row, not_row, no_not_row, comparison_row, not_compared_row, compared_row, minus_row, no_minus_row, literal_row, variable_row, prior_row, brackets_row, place_row, no_subscript_row, subscript_row, number_row}

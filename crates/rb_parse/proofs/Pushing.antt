@@ -1,6 +1,6 @@
 -- What stands in a vector, as the plan sees it that still wants the rest.
 use Rattle.std.proofs.Common.{◌≡◌, ◌==◌, false, List, [], ◌∷◌, ◌++◌, length, map, None, refl, sym, ap, ◌∙◌}
-use Rattle.rb_parse.specs.declared.edition.Edition.{Edition}
+use Rattle.rb_base.specs.declared.edition.Edition.{Edition}
 use Rattle.rb_parse.specs.declared.level.Level.{Level}
 use Rattle.rb_parse.specs.Grammar.{Point, chain}
 use Rattle.rb_parse.specs.Machine.{Reads, look}

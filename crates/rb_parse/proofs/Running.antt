@@ -4,7 +4,7 @@ use Rattle.std.specs.Option.{is_some}
 use denote.Enum.Bare.{true_same}
 use Rattle.rb_lex.specs.Tokens.{Lexeme}
 use Rattle.rb_parse.specs.contracts.terminal.Terminal.{the_type}
-use Rattle.rb_parse.specs.declared.edition.Edition.TheVariants as editions
+use Rattle.rb_base.specs.declared.edition.Edition.TheVariants as editions
 use Rattle.rb_parse.specs.declared.level.Level.TheVariants as levels
 use Rattle.rb_parse.specs.declared.terminal.Terminal.{Terminal}
 use Rattle.rb_parse.specs.Grammar.{Point}

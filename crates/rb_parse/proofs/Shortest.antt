@@ -1,8 +1,8 @@
 -- A short text of each part, and so an end of each plan.
 use Rattle.std.proofs.Common.{◌≡◌, ℕ, ◌+◌, List, [], ◌∷◌, ◌++◌, Some, None, refl}
 use Rattle.rb_lex.specs.Tokens.{Lexeme}
-use Rattle.rb_parse.specs.declared.edition.Edition.{Edition}
-use Rattle.rb_parse.specs.declared.edition.Edition.TheVariants as editions
+use Rattle.rb_base.specs.declared.edition.Edition.{Edition}
+use Rattle.rb_base.specs.declared.edition.Edition.TheVariants as editions
 use Rattle.rb_parse.specs.declared.level.Level.TheVariants as levels
 use Rattle.rb_parse.specs.declared.terminal.Terminal.TheVariants as terminals
 use Rattle.rb_parse.specs.Grammar.{Point, Derives, first_edition_row, program_row, no_connection_row, channel_row, conversation_row, names_row, no_name_row, processes_row, no_process_row, process_row, no_procedure_row, procedure_row, no_parameter_row, no_declaration_row, declaration_row, no_size_row, block_row, no_statement_row, waits_row, no_else_row, fail_row, recovery_row, alternates_row, alternate_row, error_row, items_row, no_item_row, no_argument_row, expressions_row, no_more_expression_row, no_link_row, not_compared_row, place_row, no_subscript_row}

@@ -1,8 +1,8 @@
 -- What the machine accepts is derived: declarations and statements.
 use Rattle.std.proofs.Common.{Option, Some, refl}
 use Rattle.rb_lex.specs.Tokens.{Lexeme}
-use Rattle.rb_parse.specs.declared.edition.Edition.{Edition}
-use Rattle.rb_parse.specs.declared.edition.Edition.TheVariants as editions
+use Rattle.rb_base.specs.declared.edition.Edition.{Edition}
+use Rattle.rb_base.specs.declared.edition.Edition.TheVariants as editions
 use Rattle.rb_parse.specs.declared.terminal.Terminal.{Terminal}
 use Rattle.rb_parse.specs.declared.terminal.Terminal.TheVariants as terminals
 use Rattle.rb_parse.specs.ExpressionTable.{nothing_after, start_place, start_expression}

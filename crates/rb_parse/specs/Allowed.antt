@@ -1,17 +1,17 @@
 -- The tokens that a cursor has to give. The first bracket with which too many are open is the last of them, and the
 -- fault behind it is its own.
--- All of it is this project's own.
 use Rattle.std.specs.Prelude.{ℕ, nat_lt, Bool, cond, List, [], ◌∷◌}
+use Rattle.rb_base.specs.declared.limits.TheConstants.{MOST_OPEN_BRACKETS}
 use Rattle.rb_base.specs.declared.fault.SourceFault.{SourceFault}
 use Rattle.rb_base.specs.declared.fault.FaultName.TheVariants.{Y2}
 use Rattle.rb_lex.specs.Tokens.{Lexeme, Ending, AtFault}
 use Rattle.rb_lex.specs.TokenList.{tokens_of, ending_of}
-use Rattle.rb_parse.specs.Brackets.{most_open, open_after}
+use Rattle.rb_parse.specs.Brackets.{open_after}
 use Rattle.rb_parse.specs.Terminals.{terminal_of}
 
 -- whether too many brackets are open after a token, by how many were open before it
 abbrev pub is_too_deep : ℕ → Lexeme → Bool
-is_too_deep n token = nat_lt most_open (open_after (terminal_of token) n)
+is_too_deep n token = nat_lt MOST_OPEN_BRACKETS (open_after (terminal_of token) n)
 
 -- the fault of a bracket too many
 abbrev pub too_deep : Lexeme → SourceFault

@@ -1,14 +1,10 @@
 -- Open brackets. A text has at most so many open at any point, so that no reader of it needs more room than for these.
--- All of it is this project's own.
 use Rattle.std.specs.Prelude.{ℕ, ◌+◌, ◌-◌, ◌≤◌, List, [], ◌∷◌, take, Option, Some}
+use Rattle.rb_base.specs.declared.limits.TheConstants.{MOST_OPEN_BRACKETS}
 use Rattle.rb_lex.specs.Tokens.{Lexeme}
 use Rattle.rb_parse.specs.declared.terminal.Terminal.{Terminal}
 use Rattle.rb_parse.specs.declared.terminal.Terminal.TheVariants as terminals
 use Rattle.rb_parse.specs.Terminals.{terminal_of}
-
--- at most so many brackets are open
-abbrev pub most_open : ℕ
-most_open = 100
 
 -- how many brackets are open after a token, by how many were open before it
 abbrev pub open_after : Option Terminal → ℕ → ℕ
@@ -31,4 +27,4 @@ open_in tokens = open_from 0 tokens
 
 -- after no token are more brackets open than may be
 abbrev pub HasFewOpen : List Lexeme → Type 0
-HasFewOpen tokens = (n : ℕ) → open_in (take n tokens) ≤ most_open
+HasFewOpen tokens = (n : ℕ) → open_in (take n tokens) ≤ MOST_OPEN_BRACKETS

@@ -1,7 +1,7 @@
 -- What the code finds in what stands first.
 use Rattle.std.specs.Prelude.{◌≡◌, Bool, false, Option, Some, None}
-use Rattle.rb_parse.specs.declared.edition.Edition.{Edition}
-use Rattle.rb_parse.specs.declared.edition.Edition.TheVariants as editions
+use Rattle.rb_base.specs.declared.edition.Edition.{Edition}
+use Rattle.rb_base.specs.declared.edition.Edition.TheVariants as editions
 use Rattle.rb_parse.specs.declared.operators.Operator.{Operator}
 use Rattle.rb_parse.specs.declared.operators.Word.{Word}
 use Rattle.rb_parse.specs.declared.terminal.Terminal.{Terminal}

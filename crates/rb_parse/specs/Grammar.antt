@@ -4,8 +4,8 @@
 use Rattle.std.specs.Prelude.{◌≡◌, ℕ, List, [], ◌∷◌, Option, Some, None}
 use Rattle.rb_base.specs.declared.place.Place.{Place}
 use Rattle.rb_lex.specs.Tokens.{Lexeme}
-use Rattle.rb_parse.specs.declared.edition.Edition.{Edition}
-use Rattle.rb_parse.specs.declared.edition.Edition.TheVariants as editions
+use Rattle.rb_base.specs.declared.edition.Edition.{Edition}
+use Rattle.rb_base.specs.declared.edition.Edition.TheVariants as editions
 use Rattle.rb_parse.specs.declared.level.Level.{Level}
 use Rattle.rb_parse.specs.declared.level.Level.TheVariants as levels
 use Rattle.rb_parse.specs.declared.terminal.Terminal.TheVariants as terminals
@@ -25,11 +25,6 @@ chain first (Linked op right links) = Chained first (Linked op right links)
 -- a recovery in which a member takes part in a conversation
 abbrev pub joined : Identifier → RecoveryBlock → RecoveryBlock
 joined name (Recovers number conversation place test bound alternates) = Recovers number (Some name) place test bound alternates
-
--- the number of an edition
-abbrev pub edition_number : Edition → ℕ
-edition_number editions.First = 1
-edition_number editions.Second = 2
 
 -- what the tokens between two points derive
 pub data Derives : (part : Part) → Value part → Point → Point → Type 0 where
@@ -52,7 +47,7 @@ pub data Derives : (part : Part) → Value part → Point → Point → Type 0 w
         processes = processes;
         names = h.names;
         blocks = h.blocks;
-        edition = edition_number edition;
+        edition = edition;
       }) a h
   no_connection_row : {a : Point} → Derives Part.Connections ([], []) a a
   channels_row : {a b c : Point} {first : ChannelDeclaration} {others : List ChannelDeclaration × List ConversationDeclaration} →

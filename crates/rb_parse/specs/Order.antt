@@ -1,7 +1,6 @@
 -- The names and the recovery blocks of a tree as they stand in the text, from left to right, and those of its tokens.
 -- One reading from left to right serves both: a telling says what a name and what a recovery block adds. Each function on
 -- a part of a tree tells of the part, and then of the rest.
--- All of it is this project's own.
 use Rattle.std.specs.Prelude.{◌≡◌, ℕ, List, [], ◌∷◌, Option, Some, None}
 use Rattle.rb_base.specs.declared.place.Place.{Place}
 use Rattle.rb_lex.specs.Tokens.{Lexeme}

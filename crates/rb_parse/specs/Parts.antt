@@ -1,5 +1,5 @@
 -- The parts of a text that the rows of the grammar are about. Those that hold statements are of an edition.
-use Rattle.rb_parse.specs.declared.edition.Edition.{Edition}
+use Rattle.rb_base.specs.declared.edition.Edition.{Edition}
 use Rattle.rb_parse.specs.declared.level.Level.{Level}
 
 pub data Part : Type 0 where

@@ -1,5 +1,6 @@
 -- Where a cursor stands, and why reading stops there.
 use Rattle.std.specs.Prelude.{◌≡◌, ℕ, ◌+◌, ◌^◌, ◌≤◌, length, Bool, true, false, List, [], ◌∷◌, Option, Some, None}
+use Rattle.rb_base.specs.declared.limits.TheConstants.{MOST_OPEN_BRACKETS}
 use Rattle.rb_lex.specs.declared.token.Token.{Token}
 use Rattle.rb_lex.specs.Reader.{Reader, lexeme_of}
 use Rattle.rb_lex.specs.Tokens.{Lexeme, Ending, AtEnd, AtFault}
@@ -10,7 +11,6 @@ use Rattle.rb_parse.specs.declared.stop.Stop.{Stop}
 use Rattle.rb_parse.specs.declared.stop.Stop.TheVariants as stops
 use Rattle.rb_parse.specs.declared.terminal.Terminal.{Terminal}
 use Rattle.rb_parse.specs.Allowed.{allowed, ending_allowed}
-use Rattle.rb_parse.specs.Brackets.{most_open}
 use Rattle.rb_parse.specs.Grammar.{Point}
 use Rattle.rb_parse.specs.Machine.{Advances, Stops, fits, look, run}
 use Rattle.rb_parse.specs.Parts.{Part}
@@ -82,7 +82,7 @@ terminal_ahead (Some token) = terminal_of (lexeme_of token)
 pub record IsSound (terminal : Option Terminal) (ahead : Option Token) (reader : Reader) (brackets : ℕ) (at : Position) : Type 0 where
   pub looks : terminal ≡ look at.point.left
   pub ended : ahead ≡ None → ending_left reader ≡ AtEnd reader.place
-  pub brackets_fit : brackets ≤ most_open
+  pub brackets_fit : brackets ≤ MOST_OPEN_BRACKETS
   pub names_fit : at.point.names + length at.point.left ≤ 2 ^ 20
   pub blocks_fit : at.point.blocks + length at.point.left ≤ 2 ^ 20
 

@@ -1,13 +1,12 @@
 -- The table, last part: what the plan of a program is at the token that stands first; the plan of each part; and what a
 -- part without tokens gives.
 use Rattle.std.specs.Prelude.{ℕ, List, [], ◌∷◌, Option, Some, None}
-use Rattle.rb_parse.specs.declared.edition.Edition.{Edition}
-use Rattle.rb_parse.specs.declared.edition.Edition.TheVariants as editions
+use Rattle.rb_base.specs.declared.edition.Edition.{Edition}
+use Rattle.rb_base.specs.declared.edition.Edition.TheVariants as editions
 use Rattle.rb_parse.specs.declared.terminal.Terminal.{Terminal}
 use Rattle.rb_parse.specs.declared.terminal.Terminal.TheVariants as terminals
 pub use Rattle.rb_parse.specs.ExpressionTable.{Start, begin, nothing_after, name_of}
 use Rattle.rb_parse.specs.ExpressionTable.{start_number, start_subscript, start_place, start_atom, start_factor, start_link, start_compared, start_comparison, start_negation, start_operand, start_chain, start_expression}
-use Rattle.rb_parse.specs.Grammar.{edition_number}
 use Rattle.rb_parse.specs.Operators.{operator, comparison}
 use Rattle.rb_parse.specs.Parts.{Part}
 use Rattle.rb_parse.specs.Plans.{Value, Seen, Plan, Done, Token, Call}
@@ -85,7 +84,7 @@ tree_with edition name connections processes names blocks = record {
   processes = processes;
   names = names;
   blocks = blocks;
-  edition = edition_number edition;
+  edition = edition;
 }
 
 -- a program begins with its word

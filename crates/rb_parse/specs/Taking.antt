@@ -1,5 +1,4 @@
 -- What stands between two points of a text: tokens, each of which counts names and recoveries on.
--- All of it is this project's own.
 use Rattle.std.specs.Prelude.{◌≡◌, ℕ, ℤ, ◌+◌, ◌-◌, List, ◌∷◌, length, take, drop, Some}
 use Rattle.rb_base.specs.declared.place.Place.{Place}
 use Rattle.rb_lex.specs.declared.token.Kind.TheVariants as kinds

@@ -1,4 +1,5 @@
--- Terminals: what a token is to the grammar.
+-- Terminals: what a token is to the grammar. What this crate defines is this project's own, but for the statements that
+-- `Grammar` names as those of the literature.
 use Rattle.std.specs.Prelude.{ℕ, ℤ, pos, nat_eq, cond, List, [], ◌∷◌, codes, Option, Some, None}
 use Rattle.std.specs.Cmp.Lexicographic.{pointwise}
 use Rattle.std.specs.Ordering.{int_eq}

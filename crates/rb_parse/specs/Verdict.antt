@@ -1,5 +1,4 @@
 -- The verdict of a source: its tree, or the first fault that is met as its tokens are read in order.
--- All of it is this project's own.
 use Rattle.std.specs.Prelude.{◌≡◌, ℕ, List, [], ◌∷◌, ◌++◌}
 use Rattle.rb_base.specs.declared.place.Place.{Place}
 use Rattle.rb_base.specs.declared.fault.SourceFault.{SourceFault}
@@ -11,10 +10,6 @@ use Rattle.rb_parse.specs.Brackets.{HasFewOpen}
 use Rattle.rb_parse.specs.Grammar.{DerivesTree}
 use Rattle.rb_parse.specs.Laws.{GoesOn}
 use Rattle.rb_syntax.specs.Tree.{Tree}
-
--- a source has at most so many bytes
-abbrev pub most_bytes : ℕ
-most_bytes = 1048576
 
 -- these tokens may be read in order: they begin some text that derives a tree, and nowhere are too many brackets open
 pub record MayBegin (tokens : List Lexeme) : Type 0 where

@@ -1,5 +1,4 @@
 -- Laws of verdicts.
--- All of it is this project's own.
 use Rattle.std.specs.Prelude.{◌≡◌, ◌⊎◌, ℕ, ◌≤◌, List}
 use Rattle.rb_base.specs.declared.fault.SourceFault.{SourceFault}
 use Rattle.rb_parse.specs.Depth.{depth}

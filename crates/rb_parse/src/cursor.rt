@@ -3,7 +3,7 @@ ghost use Rattle.rb_lex.specs.Reader.{lexeme_of};
 ghost use Rattle.rb_lex.specs.Tokens.{AtFault};
 ghost use Rattle.rb_lex.specs.TokenList.{tokens_of, ending_of};
 ghost use Rattle.rb_parse.specs.Allowed.{allowed_of, ending_allowed_of};
-ghost use Rattle.rb_parse.specs.Brackets.{most_open, open_after};
+ghost use Rattle.rb_parse.specs.Brackets.{open_after};
 ghost use Rattle.rb_parse.specs.Grammar.{TakesName, TakesNumber, start_of};
 ghost use Rattle.rb_parse.specs.Machine.{Advances, blocks_after, fits, look, names_after, place_of};
 ghost use Rattle.rb_parse.specs.Reading.{EndsIf, IsNotTaken, IsPlaceOf, is_nothing, terminal_ahead};
@@ -11,12 +11,10 @@ ghost use Rattle.rb_syntax.specs.Plain.{identifier};
 
 use crate::stop::Stop;
 use crate::terminal::Terminal;
-use rb_base::{FaultName, Place, SourceFault};
+use rb_base::{FaultName, MOST_BYTES, MOST_OPEN_BRACKETS, Place, SourceFault};
 use rb_lex::{Kind, Lexer, Token};
 use rb_syntax::{Name, Number};
 use std::marker::Model;
-
-const MOST_OPEN: u32 = 100;
 
 /// Stands before a token of a source, and knows which. Contracts see the tokens left, how they end, and how many
 /// names and recoveries came before. A bracket with which too many are open is the last token, and a fault follows.
@@ -43,7 +41,7 @@ impl<'a> Model for Cursor<'a> {
 impl<'a> Cursor<'a> {
     /// Stands before the first token.
     pub(crate) fn new(source: &'a [u8]) -> Result<Self, SourceFault>
-        requires { length source.now ≤ 1048576 }
+        requires { length source.now ≤ MOST_BYTES }
         ensures ok { IfOk result (λ cursor. cursor ≡ record { point = start_of (allowed_of source.now); ending = ending_allowed_of source.now }) }
         ensures err { IfErr result (λ fault. (tokens_of source.now ≡ []) × (ending_of source.now ≡ AtFault fault)) }
     {
@@ -121,7 +119,7 @@ impl<'a> Cursor<'a> {
             return Err(Stop::Form);
         }
         let brackets = open_after(terminal, self.brackets);
-        if brackets > MOST_OPEN {
+        if brackets > MOST_OPEN_BRACKETS {
             return Err(Stop::Token(too_deep(token.place)));
         }
         match self.lexer.next() {
@@ -218,7 +216,7 @@ fn blocks_after(terminal: Terminal, blocks: u32) -> u32
 }
 
 fn open_after(terminal: Terminal, brackets: u32) -> u32
-    requires { brackets ≤ most_open }
+    requires { brackets ≤ MOST_OPEN_BRACKETS }
     ensures { result ≡ open_after (Some terminal) brackets }
 {
     match terminal {

@@ -5,7 +5,6 @@
 mod connections;
 mod cursor;
 mod declarations;
-pub mod edition;
 mod expressions;
 pub mod laws;
 pub mod level;
@@ -18,7 +17,6 @@ mod statements;
 mod stop;
 pub mod terminal;
 
-pub use edition::Edition;
 pub use level::Level;
 pub use parser::parse;
 pub use terminal::Terminal;

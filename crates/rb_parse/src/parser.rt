@@ -6,13 +6,13 @@ ghost use Rattle.rb_syntax.specs.Plain.{tree};
 use crate::cursor::Cursor;
 use crate::program::read_program;
 use crate::stop::Stop;
-use rb_base::{FaultName, Refusal, SourceFault};
+use rb_base::{FaultName, MOST_BYTES, Refusal, SourceFault};
 use rb_syntax::Program;
 use std::alloc::Global;
 
 /// The tree of a source, or the first fault that is met as its tokens are read in order. After a refusal nothing is kept.
 pub fn parse<'a>(alloc: Global, source: &'a [u8]) -> Result<Program<'a>, Refusal>
-    requires { length source.now ≤ 1048576 }
+    requires { length source.now ≤ MOST_BYTES }
     ensures ok { IfOk result (λ program. HasTree source.now (tree program)) }
     ensures err { IfErr result (IsRefusal source.now) }
 {

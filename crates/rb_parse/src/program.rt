@@ -1,5 +1,4 @@
 ghost use Rattle.std.specs.Prelude.{◌≡◌, ◌≤◌, ◌<◌, length, map, IfOk, IfErr, OnOk};
-ghost use Rattle.rb_parse.specs.Grammar.{edition_number};
 ghost use Rattle.rb_parse.specs.Machine.{Reads};
 ghost use Rattle.rb_parse.specs.Parts.{Part};
 ghost use Rattle.rb_parse.specs.Reading.{IsNotRead};
@@ -8,10 +7,10 @@ ghost use Rattle.rb_syntax.specs.Plain.{procedure_declaration, process_declarati
 use crate::connections::read_connections;
 use crate::cursor::Cursor;
 use crate::declarations::{read_declarations, read_parameters};
-use crate::edition::Edition;
 use crate::statements::{read_block, read_statements};
 use crate::stop::Stop;
 use crate::terminal::Terminal;
+use rb_base::Edition;
 use rb_syntax::{Procedure, Process, Program};
 use std::alloc::Global;
 
@@ -58,17 +57,8 @@ fn read_unmarked<'a>(
         processes,
         names: cursor.names(),
         blocks: cursor.recoveries(),
-        edition: number_of(edition),
+        edition,
     })
-}
-
-fn number_of(edition: Edition) -> u32
-    ensures { result ≡ edition_number edition }
-{
-    match edition {
-        Edition::First => 1,
-        Edition::Second => 2,
-    }
 }
 
 fn read_processes<'a>(

@@ -8,10 +8,10 @@ ghost use Rattle.rb_parse.specs.Reading.{IsNotRead};
 ghost use Rattle.rb_syntax.specs.Plain.{command, expression, print_item};
 
 use crate::cursor::Cursor;
-use crate::edition::Edition;
 use crate::expressions::{read_expression, read_place};
 use crate::stop::Stop;
 use crate::terminal::Terminal;
+use rb_base::Edition;
 use rb_syntax::{Expr, Item, ItemKind, Statement};
 use std::alloc::Global;
 

@@ -10,12 +10,12 @@ ghost use Rattle.rb_syntax.specs.Plain.{alternates_of, body, command, commands_o
 
 use crate::cursor::Cursor;
 use crate::declarations::read_declarations;
-use crate::edition::Edition;
 use crate::expressions::{read_expression, read_place};
 use crate::numbers::read_number;
 use crate::simple_statements::read_simple;
 use crate::stop::Stop;
 use crate::terminal::Terminal;
+use rb_base::Edition;
 use rb_syntax::{Block, Name, Recovery, Statement};
 use std::alloc::Global;
 

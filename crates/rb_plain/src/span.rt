@@ -1,7 +1,7 @@
 ghost use Rattle.std.specs.Prelude.{◌≡◌, ◌<◌, ◌^◌, ◌+ℤ◌, ◌≤ℤ◌, pos, IfOk};
 ghost use Rattle.rb_meaning.specs.Value.{span};
 
-use rb_base::Cause;
+use rb_base::{Cause, MOST_QUANTIFIED};
 
 /// So many numbers, from the first on.
 #[derive(Clone, Copy)]
@@ -21,9 +21,6 @@ impl Numbers {
     }
 }
 
-/// The most numbers that a quantified expression goes over.
-const MOST: i64 = 1024;
-
 /// How many numbers lie from `low` to `high`.
 pub fn span(low: i64, high: i64) -> Result<u16, Cause>
     ensures count { result ≡ span low high }
@@ -33,7 +30,7 @@ pub fn span(low: i64, high: i64) -> Result<u16, Cause>
         return Ok(0);
     }
     match high.checked_sub(low) {
-        Some(steps) if steps < MOST => Ok(steps as u16 + 1),
+        Some(steps) if steps < i64::from(MOST_QUANTIFIED) => Ok(steps as u16 + 1),
         _ => Err(Cause::Range),
     }
 }

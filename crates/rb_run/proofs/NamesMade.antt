@@ -20,7 +20,7 @@ use Rattle.rb_world.specs.Text.{VariableNaming}
 use Rattle.rb_meaning.specs.Environment.{size_of}
 use Rattle.rb_meaning.specs.Meaning.{naming_of, process_named, variables_named}
 use Rattle.rb_trace.specs.Naming.{naming, process_naming, variable_naming}
-use Rattle.rb_run.proofs.RunnableFacts.{first_holds, second_holds}
+use Rattle.rb_world.proofs.ListFacts.{first_holds, second_holds}
 
 -- a scalar has no size
 pub sizeless : (name : Identifier) (size : Option Number) → is_scalar (record { name = name; size = size }) ≡ true → size ≡ None

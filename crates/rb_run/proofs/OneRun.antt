@@ -17,7 +17,7 @@ use Rattle.rb_run.specs.Written.{done_text, turn_text, turns_text, ending_text, 
 use Rattle.rb_run.proofs.RunnableFacts.{runnable_facts, is_runnable-only}
 use Rattle.rb_run.proofs.Shapes.{shape_of, declared_shape, shape_of-frame_of, Fits}
 use Rattle.rb_run.proofs.Endings.{ending_named, end_text-lone}
-use Rattle.rb_run.proofs.Statements.{status_at-wants}
+use Rattle.rb_meaning.proofs.KnownFacts.{wants_runs}
 use Rattle.rb_run.proofs.Worlds.{lone_state, world_with, level_of, items_of, environment_in, world_going, Stands}
 use Rattle.rb_run.proofs.OneTurn.{turned-alone}
 
@@ -88,7 +88,7 @@ opening-lone : (tree : Tree) (left : Commands) (env : Environment) →
     opening (tree_kind tree) (lone_state (length tree.channels) (performed left []) env [] [] ∷ []) tt ≡ world_going tree [] left env
 opening-lone tree NoCommand env = refl
 opening-lone tree (Then first rest) env =
-    ap (λ status. world_with tree (lone_state (length tree.channels) (performed (Then first rest) []) env [] []) [] status) (status_at-wants tree first)
+    ap (λ status. world_with tree (lone_state (length tree.channels) (performed (Then first rest) []) env [] []) [] status) (wants_runs tree first)
 
 told_at_opening-lone : (tree : Tree) (names : Naming) (left : Commands) (env : Environment) →
     told_text names 0 (told_at_opening (world_going tree [] left env)) ≡ done_text names 0 (Goes left env)

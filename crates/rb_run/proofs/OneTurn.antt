@@ -1,11 +1,14 @@
 -- One turn of the one process, outside of recovery blocks and in one.
-use Rattle.std.proofs.Common.{◌≡◌, ℕ, ◌+◌, nat_lt, nat_eq, ◌≤◌, Bool, true, false, cond, List, [], ◌∷◌, ◌++◌, length, Some, None, Result, Ok, Err, refl, ap, subst, ◌∙◌, arith}
+use Rattle.std.proofs.Common.{◌≡◌, ℕ, ◌+◌, nat_lt, nat_eq, ◌≤◌, Bool, true, false, cond, List, [], ◌∷◌, ◌++◌, length, Some, None, Result, Ok, Err, refl, ap, subst, ◌∙◌, arith, le-ltb}
 use Rattle.std.specs.List.{list_all}
 use Rattle.std.proofs.lemmas.Bool.Decides.{nat_tests}
 use Rattle.std.proofs.lemmas.List.Sums.{sum_by-cons}
 use Rattle.rb_base.specs.declared.event.Cause.{Cause}
 use Rattle.rb_base.specs.declared.event.Event.TheVariants.{Error}
 use Rattle.rb_base.specs.declared.event.TurnKind.TheVariants.{Idle, Took, Undone}
+use Rattle.rb_base.specs.declared.edition.Edition.{Edition}
+use Rattle.rb_base.specs.declared.edition.Edition.TheVariants.{First, Second}
+use Rattle.rb_base.specs.Limits.{most_words}
 use Rattle.rb_syntax.specs.Tree.{Declaration, Command, Assignment, Printing, Sending, Receiving, Conditional, Loop, Invocation, Failure, Recovering, Commands, NoCommand, Then, RecoveryBlock, Recovers, ProcessDeclaration, Tree}
 use Rattle.rb_world.specs.Kind.{Enters}
 use Rattle.rb_world.specs.World.{Running, Process}
@@ -13,19 +16,20 @@ use Rattle.rb_world.specs.Turn.{Told, turn, finishes, took, stepped, acts}
 use Rattle.rb_world.specs.Text.{told_text}
 use Rattle.rb_meaning.specs.Environment.{Environment, Frame, Stored, size_of, frame_words, words}
 use Rattle.rb_meaning.specs.State.{Item, Perform, State, performed}
-use Rattle.rb_meaning.specs.Step.{most_words, goes}
+use Rattle.rb_meaning.specs.Step.{goes}
 use Rattle.rb_meaning.specs.Groups.{facts_of}
 use Rattle.rb_meaning.specs.Meaning.{TreeWorld, tree_kind, naming_of}
 use Rattle.rb_run.specs.Runnable.{names_in, is_scalar, is_simple, is_runnable_block, is_runnable_command, are_runnable}
 use Rattle.rb_run.specs.Alone.{Change, AtStart, Alone, Goes, Tries, Fell, Came, effect, first_trial, performed_alone, taken, came, after}
 use Rattle.rb_run.specs.Written.{turn_text, came_text}
-use Rattle.rb_run.proofs.RunnableFacts.{first_holds, second_holds}
+use Rattle.rb_world.proofs.ListFacts.{first_holds, second_holds}
 use Rattle.rb_run.proofs.InsideBlock.{inside, reads_outside}
 use Rattle.rb_run.proofs.Shapes.{shape_of, declared_shape, Fits, KeepsShape, effect-keeps}
 use Rattle.rb_run.proofs.Endings.{same_shape}
 use Rattle.rb_run.proofs.NamesMade.{sizeless}
 use Rattle.rb_run.proofs.Worlds.{lone_state, world_with, private_facts, world_going, world_trying, world_fallen, Stands, told_of, done_after, Matches, matches_from, told_text-took, told_text-failed}
-use Rattle.rb_run.proofs.Statements.{stepped_to, performs-effect, wants-simple, status_at-wants}
+use Rattle.rb_meaning.proofs.KnownFacts.{wants_runs}
+use Rattle.rb_run.proofs.Statements.{stepped_to, performs-effect, wants-simple}
 use Rattle.rb_run.proofs.TrialTurns.{tried-matches}
 
 -- scalars have one word each
@@ -40,15 +44,12 @@ words-scalars (d ∷ ds) (stored ∷ frame) e scalars =
     let all = sum_by-cons (λ (s : Stored). length s.values) stored frame in
     omega (arith, one, others, all)
 
-few_words : (n edition : ℕ) → n ≤ 2048 → nat_lt (most_words edition) n ≡ false
-few_words n edition few = edition-cases (nat_eq edition 2)
-  where
-    edition-cases : (b : Bool) → nat_lt (cond b 4096 2048) n ≡ false
-    edition-cases true = grind (arith, nat_tests, few)
-    edition-cases false = grind (arith, nat_tests, few)
+few_words : (n : ℕ) (edition : Edition) → n ≤ 2048 → nat_lt (most_words edition) n ≡ false
+few_words n First few = le-ltb 2048 n few
+few_words n Second few = le-ltb 4096 n (omega (arith, few))
 
 -- so there is always room for a block without variables
-roomy-scalars : (process : ProcessDeclaration) (edition : ℕ) (env : Environment) → Fits (declared_shape process.variables) env → length process.variables ≤ 2048 → list_all is_scalar process.variables ≡ true →
+roomy-scalars : (process : ProcessDeclaration) (edition : Edition) (env : Environment) → Fits (declared_shape process.variables) env → length process.variables ≤ 2048 → list_all is_scalar process.variables ≡ true →
     nat_lt (most_words edition) (words (inside env)) ≡ false
 roomy-scalars process edition env fits few scalars =
     let own = words-scalars process.variables env.globals fits.shaped scalars in
@@ -86,7 +87,7 @@ module _ (tree : Tree) (process : ProcessDeclaration) (t : ℕ) (kept : List (�
   alone-settled items NoCommand changed held = refl
   alone-settled items (Then first rest) changed held =
       ap (λ status. finishes (tree_kind tree) (world_with tree (lone_state (length tree.channels) items env [] kept) [] Running)
-      (took (world_with tree (lone_state (length tree.channels) (performed (Then first rest) []) changed held (kept ++ (t, 0) ∷ [])) [] status))) (status_at-wants tree first)
+      (took (world_with tree (lone_state (length tree.channels) (performed (Then first rest) []) changed held (kept ++ (t, 0) ∷ [])) [] status))) (wants_runs tree first)
 
   alone-matches : (items : List Item) (rest : Commands) (o : Result Change Cause) → KeepsShape (declared_shape process.variables) o → are_runnable (names_in process.variables) rest ≡ true →
       Matches tree process t (alone_ends items (stepped_to (length tree.channels) (λ e. e) (performed rest []) kept o)) (performed_alone rest env o)

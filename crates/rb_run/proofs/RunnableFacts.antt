@@ -2,17 +2,9 @@
 use Rattle.std.proofs.Common.{◌≡◌, ℕ, ◌≤◌, nat_le, Bool, true, false, ◌&&◌, List, [], ◌∷◌, length, map, refl, sym, ap, ◌∙◌, arith}
 use Rattle.std.specs.List.{list_all}
 use Rattle.std.proofs.lemmas.Bool.Decides.{nat_tests}
+use Rattle.rb_world.proofs.ListFacts.{second_holds, first_holds}
 use Rattle.rb_syntax.specs.Tree.{ProcessDeclaration, Tree}
 use Rattle.rb_run.specs.Runnable.{has_none, are_distinct, is_scalar, names_in, are_runnable, most_variables, has_one, is_runnable_process, is_runnable}
-
--- the parts of a conjunction that holds
-pub first_holds : (a b : Bool) → a && b ≡ true → a ≡ true
-first_holds true b e = refl
-first_holds false b e = absurd (cc)
-
-pub second_holds : (a b : Bool) → a && b ≡ true → b ≡ true
-second_holds true b e = e
-second_holds false b e = absurd (cc)
 
 -- a list that has nothing in it
 pub has_none-empty : {A : Type 0} (xs : List A) → has_none xs ≡ true → xs ≡ []

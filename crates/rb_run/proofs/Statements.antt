@@ -64,16 +64,3 @@ wants-simple tree names (Loop test body) simple = refl
 wants-simple tree names (Invocation procedure arguments) simple = refl
 wants-simple tree names Failure simple = refl
 wants-simple tree names (Recovering block) simple = absurd (cc)
-
--- a process goes on while a statement is left
-pub status_at-wants : (tree : Tree) (command : Command) → status_at (wants tree command) ≡ Running
-status_at-wants tree (Assignment to e) = refl
-status_at-wants tree (Printing items) = refl
-status_at-wants tree (Sending channel e) = refl
-status_at-wants tree (Receiving channel to NoElse) = refl
-status_at-wants tree (Receiving channel to (Else body)) = refl
-status_at-wants tree (Conditional test body otherwise) = refl
-status_at-wants tree (Loop test body) = refl
-status_at-wants tree (Invocation procedure arguments) = refl
-status_at-wants tree Failure = refl
-status_at-wants tree (Recovering block) = refl

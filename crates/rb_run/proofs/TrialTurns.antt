@@ -5,6 +5,7 @@ use Rattle.std.specs.List.{position}
 use Rattle.rb_base.specs.declared.event.Cause.{Cause}
 use Rattle.rb_base.specs.declared.event.Cause.TheVariants.{Test, Fail, Stack, Overrun}
 use Rattle.rb_base.specs.declared.event.TurnKind.TheVariants.{Took}
+use Rattle.rb_base.specs.Limits.{most_words}
 use Rattle.rb_syntax.specs.Tree.{Declaration, Commands, NoCommand, Then, Body, Scope, Alternates, NoAlternate, Alternate, RecoveryBlock, Recovers, ProcessDeclaration, Tree}
 use Rattle.rb_world.specs.Kind.{Stepped, Trapped, Held}
 use Rattle.rb_world.specs.World.{Running, Level, Process}
@@ -12,16 +13,18 @@ use Rattle.rb_world.specs.Turn.{Told, turn, finishes, took, bounded, stepped, ac
 use Rattle.rb_meaning.specs.Environment.{Environment, Frame, words}
 use Rattle.rb_meaning.specs.Value.{Outcome, is_zero, value}
 use Rattle.rb_meaning.specs.State.{Item, TestOf, EndBlock, State, performed}
-use Rattle.rb_meaning.specs.Step.{most_words, goes, judged as judged_step, starts_body, wants_first, alternate_number, alternates_in, test_in}
+use Rattle.rb_meaning.specs.Step.{goes, judged as judged_step, starts_body, wants_first, alternate_number, alternates_in, test_in}
 use Rattle.rb_meaning.specs.Meaning.{TreeWorld, tree_kind, naming_of}
 use Rattle.rb_run.specs.Runnable.{names_in, are_simple, is_simple_body, are_simple_alternates, are_runnable_alternates, is_private, is_bound, is_known_expression, is_runnable_block}
 use Rattle.rb_run.specs.Alone.{Change, Trial, Stage, AtStart, Within, Goes, Tries, bound_in, counted, quietly, started, performed_in, passed_unless, judged, staged, within_bound, tried, effect}
-use Rattle.rb_run.proofs.RunnableFacts.{first_holds, second_holds, has_none-empty}
+use Rattle.rb_world.proofs.ListFacts.{first_holds, second_holds}
+use Rattle.rb_run.proofs.RunnableFacts.{has_none-empty}
 use Rattle.rb_run.proofs.InsideBlock.{at_rest, inside, pop_frame-inside, reads_inside}
 use Rattle.rb_run.proofs.Shapes.{declared_shape, Fits, KeepsShape, effect-keeps}
 use Rattle.rb_run.proofs.Worlds.{lone_state, world_with, level_of, items_of, environment_in, world_going, world_trying, stage_runs, TrialRuns, told_of, done_after, Matches, matches_from, told_text-took}
 use Rattle.rb_run.proofs.Rejections.{rejected-matches}
-use Rattle.rb_run.proofs.Statements.{stepped_to, performs-effect, wants-simple, status_at-wants}
+use Rattle.rb_meaning.proofs.KnownFacts.{wants_runs}
+use Rattle.rb_run.proofs.Statements.{stepped_to, performs-effect, wants-simple}
 
 -- the place of the one level that is over, if it is
 position-cases : (over : Bool) → cond (nat_lt (cond (not over) (1 + 0) 0) 1) (Some (cond (not over) (1 + 0) 0)) None ≡ cond over (Some 0) None
@@ -87,7 +90,7 @@ module _ (tree : Tree) (process : ProcessDeclaration) (t : ℕ) (before : State)
   within-settled alternate s (Then first rest) changed held =
       ap (λ status. finishes (tree_kind tree) (world_with tree before before_levels Running)
       (took (world_with tree (lone_state (length tree.channels) (left_within (Then first rest)) (inside changed) held (kept ++ (t, alternate) ∷ []))
-      (level_of (length tree.channels) trial then_kept ∷ []) status))) (status_at-wants tree first)
+      (level_of (length tree.channels) trial then_kept ∷ []) status))) (wants_runs tree first)
 
   within-matches : (alternate : ℕ) (s : State) (rest : Commands) (changed : Environment) (held : List (List ℕ)) → Fits (declared_shape process.variables) changed → are_simple (names_in process.variables) rest ≡ true →
       Matches tree process t (step_ends alternate s (goes (Ok (lone_state (length tree.channels) (left_within rest) (inside changed) held kept)))) (quietly (Tries trial (Within rest) changed held))
@@ -112,7 +115,7 @@ module _ (tree : Tree) (process : ProcessDeclaration) (t : ℕ) (before : State)
   accepted-settled s NoCommand env held = refl
   accepted-settled s (Then first rest) env held =
       ap (λ status. finishes (tree_kind tree) (world_with tree before before_levels Running)
-      (took (world_with tree (lone_state (length tree.channels) (performed (Then first rest) []) env held (kept ++ (t, 0) ∷ [])) [] status))) (status_at-wants tree first)
+      (took (world_with tree (lone_state (length tree.channels) (performed (Then first rest) []) env held (kept ++ (t, 0) ∷ [])) [] status))) (wants_runs tree first)
 
   passed-matches : (items : List Item) (env : Environment) (held : List (List ℕ)) (fails : Bool) → Fits (declared_shape process.variables) env →
       Matches tree process t

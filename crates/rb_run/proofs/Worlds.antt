@@ -6,7 +6,7 @@ use Rattle.rb_base.specs.declared.event.Event.{Event}
 use Rattle.rb_base.specs.declared.event.Event.TheVariants.{Error, Done}
 use Rattle.rb_base.specs.declared.event.TurnKind.{TurnKind}
 use Rattle.rb_base.specs.declared.event.TurnKind.TheVariants.{Undone}
-use Rattle.rb_syntax.specs.Tree.{Commands, NoCommand, Then, RecoveryBlock, ProcessDeclaration, Tree}
+use Rattle.rb_syntax.specs.Tree.{Commands, NoCommand, Then, RecoveryBlock, Recovers, ProcessDeclaration, Tree}
 use Rattle.rb_world.specs.Kind.{Facts}
 use Rattle.rb_world.specs.World.{Status, Running, Finished, FailedWith, Level}
 use Rattle.rb_world.specs.Turn.{Told, opening_talks}
@@ -42,9 +42,14 @@ world_with tree s levels status = record {
   memory = tt;
 }
 
+-- the number of a recovery block in the program
+abbrev pub number_in : RecoveryBlock → ℕ
+number_in (Recovers number conversation place test bound alternates) = number
+
 -- what is known of an `ensure` at its entry
 abbrev pub private_facts : RecoveryBlock → Facts
 private_facts block = record {
+  number = number_in block;
   line = line_in block;
   conversation = None;
   bound = bound_in block;

@@ -1,6 +1,6 @@
 -- A process that runs alone, as the engine keeps it: no recovery block is open, or one is, or it has failed. A recovery
 -- point is a whole copy of the variables, and a rejected alternate is followed by the next (Horning, Lauer,
--- Melliar-Smith, Randell 1974); turns and their bounds are this project's own.
+-- Melliar-Smith, Randell 1974).
 use Rattle.std.specs.Prelude.{ℕ, ◌+◌, nat_lt, Bool, true, false, cond, List, [], ◌∷◌, ◌++◌, length, Option, Some, None, Result, Ok, Err}
 use Rattle.rb_base.specs.declared.event.Cause.{Cause}
 use Rattle.rb_base.specs.declared.event.Cause.TheVariants.{Test, Fail, Overrun, Hold, Inner}

@@ -1,5 +1,4 @@
 -- Held lines as they lie in memory: their bytes one after another, and beside them how many bytes each line has.
--- This project's own.
 use Rattle.std.specs.Prelude.{ℕ, List, [], ◌∷◌, take, drop}
 
 -- the lines of these lengths, in order

@@ -1,10 +1,11 @@
 -- Which trees are run so far: one process whose variables are scalars with names of their own, at most 2,048, and whose
 -- every used name is one of them; no channels, conversations or procedures. Its statements are assignments, `print` with
 -- at most 16 items, `fail`, and recovery blocks, whose alternates have no variables and no recovery block inside.
--- This project's own.
+-- What this crate defines is this project's own, but for what is said to be from the literature.
 use Rattle.std.specs.Prelude.{ℕ, pos, int_le, nat_le, nat_eq, Bool, true, false, not, ◌&&◌, ◌||◌, List, [], ◌∷◌, length, map, Option, Some, None}
 use Rattle.std.specs.List.{list_any, list_all}
 use Rattle.std.specs.Cmp.Lexicographic.{pointwise}
+use Rattle.rb_base.specs.declared.limits.TheConstants.{MOST_TURNS, MOST_WORDS_FIRST}
 use Rattle.rb_syntax.specs.declared.expression.Number.{Number}
 use Rattle.rb_syntax.specs.declared.expression.Op.{Op}
 use Rattle.rb_syntax.specs.declared.expression.Op.TheVariants.{Or, And, Eq, Ne, Lt, Le, Gt, Ge, Add, Sub, Mul, Div, Rem}
@@ -138,7 +139,7 @@ is_private (Some name) = false
 
 -- a bound of 1 to 1,000,000 turns
 abbrev pub is_bound : Number → Bool
-is_bound number = int_le (pos 1) number.value && int_le number.value (pos 1000000)
+is_bound number = int_le (pos 1) number.value && int_le number.value (pos MOST_TURNS)
 
 -- a block without variables, of simple statements
 abbrev pub is_simple_body : List (List ℕ) → Body → Bool
@@ -190,7 +191,7 @@ names_in declarations = map (λ d. d.name.text) declarations
 
 -- how many variables a process may have
 abbrev pub most_variables : ℕ
-most_variables = 2048
+most_variables = MOST_WORDS_FIRST
 
 -- a process that is run so far
 abbrev pub is_runnable_process : ProcessDeclaration → Bool

@@ -1,5 +1,5 @@
 -- What a statement and an acceptance test come to for the trial of a recovery block.
--- The acceptance test is from Horning, Lauer, Melliar-Smith, Randell (1974); all else is this project's own.
+-- The acceptance test is from Horning, Lauer, Melliar-Smith, Randell (1974).
 use Rattle.std.specs.Prelude.{Bool, true, false, cond, Option, Some, None, Ok, Err}
 use Rattle.rb_base.specs.declared.event.Cause.{Cause}
 use Rattle.rb_base.specs.declared.event.Cause.TheVariants.{Test}

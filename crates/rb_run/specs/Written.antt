@@ -47,7 +47,7 @@ abbrev pub turns_text : Naming → ℕ → List ℕ → Alone → List ℕ
 turns_text names t [] alone = []
 turns_text names t (p ∷ ps) alone = turn_text names t alone ++ turns_text names (t + 1) ps (after alone)
 
--- the ending of a run of so many turns, in which no channel was used
+-- the line that tells the values of a variable at the end of a run
 abbrev pub stored_line : List ℕ → Stored → List ℕ
 stored_line process stored = line_of ((process ++ 46 ∷ stored.name) ∷ codes "=" ∷ map signed_decimal stored.values)
 

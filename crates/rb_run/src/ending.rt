@@ -4,7 +4,7 @@ ghost use Rattle.rb_world.specs.Text.{process_word};
 ghost use Rattle.rb_trace.specs.Naming.{naming};
 ghost use Rattle.rb_run.specs.Written.{ending_with, standing_text, values_text, stored_lines, unused_line, unused_lines};
 
-use rb_base::{Names, State, Text};
+use rb_base::{MOST_WORDS_FIRST, Names, State, Text};
 use rb_outside::{Failed, Sink};
 use rb_plain::environment::Environment;
 use rb_trace::{put_line, write_end, write_status, write_variable};
@@ -17,7 +17,7 @@ pub(crate) fn write_ending<S: Sink>(
     state: State,
     environment: &Environment<'_>,
 ) -> Result<(), Failed>
-    requires { length environment.now.globals ≤ 2048 }
+    requires { length environment.now.globals ≤ MOST_WORDS_FIRST }
     ensures { Puts (ending_with (naming names.now) turns state environment.now.globals) (S.written out.old) (S.written out.new) (S.faults out.old) (S.faults out.new) result }
 {
     write_end(out, turns)?;
@@ -30,7 +30,7 @@ fn write_process<S: Sink>(
     state: State,
     environment: &Environment<'_>,
 ) -> Result<(), Failed>
-    requires { length environment.now.globals ≤ 2048 }
+    requires { length environment.now.globals ≤ MOST_WORDS_FIRST }
     ensures { Puts (standing_text (process_word (naming names.now) 0) state environment.now.globals names.now.channels.items) (S.written out.old) (S.written out.new) (S.faults out.old) (S.faults out.new) result }
 {
     let process = process_name(names);
@@ -54,7 +54,7 @@ fn write_values<S: Sink>(
     environment: &Environment<'_>,
     channels: &[Text],
 ) -> Result<(), Failed>
-    requires { length environment.now.globals ≤ 2048 }
+    requires { length environment.now.globals ≤ MOST_WORDS_FIRST }
     ensures { Puts (values_text process.now environment.now.globals channels.now) (S.written out.old) (S.written out.new) (S.faults out.old) (S.faults out.new) result }
 {
     write_variables(out, process, environment)?;
@@ -66,7 +66,7 @@ fn write_variables<S: Sink>(
     process: &[u8],
     environment: &Environment<'_>,
 ) -> Result<(), Failed>
-    requires { length environment.now.globals ≤ 2048 }
+    requires { length environment.now.globals ≤ MOST_WORDS_FIRST }
     ensures { Puts (stored_lines process.now environment.now.globals) (S.written out.old) (S.written out.new) (S.faults out.old) (S.faults out.new) result }
 {
     let mut place = 0;

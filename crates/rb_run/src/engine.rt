@@ -21,7 +21,7 @@ use crate::perform::perform;
 use crate::runnable::only_process;
 use crate::told::{Told, write_told};
 use crate::trial::{Trial, entry_of};
-use rb_base::{Cause, Event, Memory, Names, State};
+use rb_base::{Cause, Event, MOST_TURNS, MOST_WORDS_FIRST, Memory, Names, State};
 use rb_outside::{Failed, Sink};
 use rb_plain::environment::Environment;
 use rb_sched::Schedule;
@@ -133,7 +133,7 @@ impl<'p, 'a> Engine<'p, 'a> {
     ) -> Result<(), Failed>
         requires fresh { schedule.left ≡ schedule.all }
         requires even { IsEven self.old }
-        requires few { length self.old.environment.globals ≤ 2048 }
+        requires few { length self.old.environment.globals ≤ MOST_WORDS_FIRST }
         requires outside { alternate_of (alone self.old) ≡ 0 }
         ensures { Puts (text_alone (naming names.now) schedule.entry.all (alone self.old)) (S.written out.old) (S.written out.new) (S.faults out.old) (S.faults out.new) result }
     {
@@ -151,7 +151,7 @@ impl<'p, 'a> Engine<'p, 'a> {
         names: &Names,
         out: &mut S,
     ) -> Result<(), Failed>
-        requires short { length schedule.old.left ≤ 1000000 }
+        requires short { length schedule.old.left ≤ MOST_TURNS }
         requires even { IsEven self.old }
         requires outside { alternate_of (alone self.old) ≡ 0 }
         ensures sized { OnOk result (sizes self.new.environment.globals ≡ sizes self.old.environment.globals) }
@@ -419,7 +419,7 @@ impl<'p, 'a> Engine<'p, 'a> {
 
     /// Writes the ending of a run of so many turns.
     fn finish<S: Sink>(&self, turns: u32, names: &Names, out: &mut S) -> Result<(), Failed>
-        requires { length self.now.environment.globals ≤ 2048 }
+        requires { length self.now.environment.globals ≤ MOST_WORDS_FIRST }
         ensures { Puts (ending_text (naming names.now) turns (alone self.now)) (S.written out.old) (S.written out.new) (S.faults out.old) (S.faults out.new) result }
     {
         write_ending(out, turns, names, self.state(), &self.environment)

@@ -7,14 +7,11 @@ ghost use Rattle.rb_trace.specs.Naming.{naming};
 ghost use Rattle.rb_run.specs.Held.{lines_of};
 ghost use Rattle.rb_run.specs.Written.{outs_text};
 
-use rb_base::{Memory, Names};
+use rb_base::{MOST_HELD_BYTES, Memory, Names};
 use rb_outside::{Failed, Sink};
 use rb_trace::write_out;
 use std::alloc::Global;
 use std::marker::Model;
-
-/// At most so many bytes are held, with one more counted for each line.
-const MOST: usize = 65536;
 
 /// Held lines, in memory that was reserved: their bytes one after another, and beside them how many each line has.
 #[derive(Drop)]
@@ -26,13 +23,13 @@ pub(crate) struct Held {
 impl Model for Held {
     ghost use Rattle.std.specs.Prelude.{ℕ, ◌≡◌, ◌+◌, ◌≤◌, List, length, sum_by, vec_len, vec_capacity};
     ghost use Rattle.rb_run.specs.Held.{lines_of};
-    ghost use Rattle.rb_run.specs.declared.held.TheConstants.{MOST};
+    ghost use Rattle.rb_base.specs.declared.limits.TheConstants.{MOST_HELD_BYTES};
 
     ghost Value = { List (List ℕ) };
 
     ghost view = { λ h. lines_of h.lengths.items h.bytes.items };
 
-    ghost invariant = { λ h. (sum_by (λ n. n) h.lengths.items ≡ length h.bytes.items) × (length h.bytes.items + length h.lengths.items ≤ MOST) × (MOST ≤ vec_capacity h.bytes) × (MOST ≤ vec_capacity h.lengths) };
+    ghost invariant = { λ h. (sum_by (λ n. n) h.lengths.items ≡ length h.bytes.items) × (length h.bytes.items + length h.lengths.items ≤ MOST_HELD_BYTES) × (MOST_HELD_BYTES ≤ vec_capacity h.bytes) × (MOST_HELD_BYTES ≤ vec_capacity h.lengths) };
 }
 
 impl Held {
@@ -40,8 +37,8 @@ impl Held {
     pub(crate) fn reserve(alloc: Global) -> Result<Self, Memory>
         ensures { IfOk result (λ held. held ≡ []) }
     {
-        let bytes = Vec::with_capacity(alloc, MOST)?;
-        let lengths = Vec::with_capacity(alloc, MOST)?;
+        let bytes = Vec::with_capacity(alloc, MOST_HELD_BYTES)?;
+        let lengths = Vec::with_capacity(alloc, MOST_HELD_BYTES)?;
         Ok(Held { bytes, lengths })
     }
 
@@ -55,11 +52,11 @@ impl Held {
 
     /// Holds a line, if there is room for it.
     pub(crate) fn hold(&mut self, line: &[u8]) -> bool
-        ensures room { result ≡ not (nat_lt 65536 (held_bytes self.old + (length line.now + 1))) }
+        ensures room { result ≡ not (nat_lt MOST_HELD_BYTES (held_bytes self.old + (length line.now + 1))) }
         ensures held { self.new ≡ cond result (self.old ++ line.now ∷ []) self.old }
     {
         let taken = self.bytes.len() + self.lengths.len();
-        if line.len() >= MOST - taken {
+        if line.len() >= MOST_HELD_BYTES - taken {
             return false;
         }
         // The room was reserved, so neither takes memory or fails.

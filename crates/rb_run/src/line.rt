@@ -1,15 +1,12 @@
 ghost use Rattle.std.specs.Prelude.{◌≡◌, [], Some, None, IfOk, option_map};
 ghost use Rattle.rb_run.specs.Line.{added};
 
-use rb_base::Memory;
+use rb_base::{MOST_HELD_BYTES, Memory};
 use std::alloc::Global;
 use std::marker::Model;
 
-/// A line has fewer bytes than this, since one more is counted for it.
-const ROOM: usize = 65536;
-
 /// The line of a `print`, in memory that was reserved. There is none where nothing is printed, or too
-/// much.
+/// much: a line has fewer bytes than may be held, since its line end is counted too.
 #[derive(Drop)]
 pub(crate) struct Line {
     bytes: Vec<u8>,
@@ -18,13 +15,13 @@ pub(crate) struct Line {
 
 impl Model for Line {
     ghost use Rattle.std.specs.Prelude.{ℕ, ◌<◌, ◌≤◌, List, Option, Some, None, cond, vec_len, vec_capacity};
-    ghost use Rattle.rb_run.specs.declared.line.TheConstants.{ROOM};
+    ghost use Rattle.rb_base.specs.declared.limits.TheConstants.{MOST_HELD_BYTES};
 
     ghost Value = { Option (List ℕ) };
 
     ghost view = { λ l. cond l.is_there (Some l.bytes.items) None };
 
-    ghost invariant = { λ l. (vec_len l.bytes < ROOM) × (ROOM ≤ vec_capacity l.bytes) };
+    ghost invariant = { λ l. (vec_len l.bytes < MOST_HELD_BYTES) × (MOST_HELD_BYTES ≤ vec_capacity l.bytes) };
 }
 
 impl Line {
@@ -32,7 +29,7 @@ impl Line {
     pub(crate) fn reserve(alloc: Global) -> Result<Self, Memory>
         ensures { IfOk result (λ line. line ≡ None) }
     {
-        let bytes = Vec::with_capacity(alloc, ROOM)?;
+        let bytes = Vec::with_capacity(alloc, MOST_HELD_BYTES)?;
         Ok(Line {
             bytes,
             is_there: false,
@@ -51,7 +48,7 @@ impl Line {
     pub(crate) fn add(&mut self, bytes: &[u8])
         ensures { self.new ≡ added self.old bytes.now }
     {
-        if bytes.len() < ROOM - self.bytes.len() {
+        if bytes.len() < MOST_HELD_BYTES - self.bytes.len() {
             // The room was reserved, so this takes no memory and does not fail.
             self.bytes.extend_from_slice(bytes).unwrap();
         } else {

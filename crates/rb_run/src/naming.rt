@@ -4,12 +4,12 @@ ghost use Rattle.rb_syntax.specs.Plain.{tree, declaration, process_declaration};
 ghost use Rattle.rb_run.specs.Runnable.{is_runnable, is_runnable_process, is_scalar};
 ghost use Rattle.rb_meaning.specs.Meaning.{naming_of, process_named, variables_named};
 ghost use Rattle.rb_trace.specs.Naming.{naming, process_naming, variable_naming};
-ghost use Rattle.rb_sched.specs.Schedule.{process_names};
+ghost use Rattle.rb_base.specs.Naming.{process_names};
 ghost use Rattle.rb_run.specs.Ran.{names_of};
 
 use crate::runnable::only_process;
 use rb_base::names::{ProcessNames, Variable};
-use rb_base::{Memory, Names, Text};
+use rb_base::{MOST_WORDS_FIRST, Memory, Names, Text};
 use rb_syntax::{Channel, Conversation, Process, Program, Var};
 use std::alloc::Global;
 
@@ -42,7 +42,7 @@ fn named_process(alloc: Global, process: &Process<'_>) -> Result<ProcessNames, M
 
 // Scalars have one word each.
 fn named_scalars(alloc: Global, vars: &[Var<'_>]) -> Result<Vec<Variable>, Memory>
-    requires few { length vars.now ≤ 2048 }
+    requires few { length vars.now ≤ MOST_WORDS_FIRST }
     requires scalars { list_all is_scalar (map declaration vars.now) ≡ true }
     ensures { IfOk result (λ named. map variable_naming named.items ≡ variables_named 0 (map declaration vars.now)) }
 {

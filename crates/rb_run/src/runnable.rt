@@ -7,11 +7,8 @@ ghost use Rattle.rb_run.specs.Runnable.{is_scalar, is_runnable, is_runnable_proc
 ghost use Rattle.rb_syntax.specs.Plain.{body as plain_body, alternates_of, command, commands_of, declaration, identifier, process_declaration, recovery_block, tree};
 
 use crate::simple::{are_simple, is_known_expression, is_simple};
+use rb_base::{MOST_TURNS, MOST_WORDS_FIRST};
 use rb_syntax::{Block, Name, Number, Process, Program, Recovery, Statement, Var};
-
-const MOST_VARIABLES: usize = 2_048;
-
-const MOST_TURNS: i64 = 1_000_000;
 
 /// Whether a program is run so far: it has one process, of scalars with names of their own, and assignments, `print`,
 /// `fail` and recovery blocks that use no other names.
@@ -41,7 +38,7 @@ pub(crate) fn only_process<'p, 'a>(program: &'p Program<'a>) -> &'p Process<'a>
 fn is_runnable_process(process: &Process<'_>) -> bool
     ensures { result ≡ is_runnable_process (process_declaration process.now) }
 {
-    if process.vars.len() > MOST_VARIABLES {
+    if process.vars.len() > MOST_WORDS_FIRST as usize {
         return false;
     }
     let vars = process.vars.as_slice();
@@ -148,7 +145,7 @@ fn are_runnable_alternates(vars: &[Var<'_>], blocks: &[Block<'_>]) -> bool
 fn is_bound(number: Number) -> bool
     ensures { result ≡ is_bound number }
 {
-    number.value >= 1 && number.value <= MOST_TURNS
+    number.value >= 1 && number.value <= i64::from(MOST_TURNS)
 }
 
 fn are_simple_alternates(vars: &[Var<'_>], blocks: &[Block<'_>]) -> bool

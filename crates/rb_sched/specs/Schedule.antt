@@ -1,6 +1,6 @@
 -- Schedules: a text that lists the turns of a run, and its first fault. The form of the text is this project's own, as is
 -- all that this crate defines.
-use Rattle.std.specs.Prelude.{◌≡◌, ℕ, zero, suc, ◌+◌, ◌-◌, ◌*◌, ◌==◌, nat_eq, nat_le, nat_lt, Bool, false, ◌&&◌, ◌||◌, cond, List, [], ◌∷◌, ◌++◌, length, map, position, codes, replicate, Option, Some, None, Result, Ok, Err}
+use Rattle.std.specs.Prelude.{◌≡◌, ℕ, zero, suc, ◌+◌, ◌*◌, ◌==◌, nat_eq, nat_lt, Bool, ◌&&◌, ◌||◌, cond, List, [], ◌∷◌, ◌++◌, length, codes, replicate, Option, Some, None, Result, Ok, Err}
 use Rattle.std.specs.Cmp.Lexicographic.{pointwise}
 use Rattle.rb_base.specs.declared.fault.TextFault.{TextFault}
 use Rattle.rb_base.specs.declared.fault.FaultName.{FaultName}

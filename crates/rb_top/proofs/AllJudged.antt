@@ -5,7 +5,8 @@ use Rattle.std.proofs.lemmas.Bool.{ltb-true, ltb-false}
 use Rattle.rb_base.specs.declared.fault.TextFault.{TextFault}
 use Rattle.rb_meaning.specs.Meaning.{run_text}
 use Rattle.rb_base.specs.declared.fault.SourceFault.{SourceFault}
-use Rattle.rb_parse.specs.Verdict.{HasTree, RefusedFor, most_bytes}
+use Rattle.rb_parse.specs.Verdict.{HasTree, RefusedFor}
+use Rattle.rb_base.specs.declared.limits.TheConstants.{MOST_BYTES as most_bytes}
 use Rattle.rb_parse.proofs.Verdicts.{has_verdict}
 use Rattle.rb_run.specs.Ran.{names_of}
 use Rattle.rb_run.specs.Runnable.{is_runnable}

@@ -6,7 +6,8 @@ use Rattle.rb_outside.specs.declared.Failed.{Failed}
 use Rattle.rb_outside.specs.Outside.{File, Reading, Rose, IsMissing, WrotePart, bytes_of, then_written}
 use Rattle.rb_outside.specs.Puts.{Puts}
 use Rattle.rb_syntax.specs.Tree.{Tree}
-use Rattle.rb_parse.specs.Verdict.{HasTree, RefusedFor, most_bytes}
+use Rattle.rb_parse.specs.Verdict.{HasTree, RefusedFor}
+use Rattle.rb_base.specs.declared.limits.TheConstants.{MOST_BYTES as most_bytes}
 use Rattle.rb_run.specs.Runnable.{is_runnable}
 use Rattle.rb_top.specs.declared.status.Status.{Status}
 use Rattle.rb_top.specs.declared.status.Status.TheVariants.{Done, Refused, Usage, ReadFault, WriteFault, Memory}

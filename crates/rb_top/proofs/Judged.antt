@@ -1,7 +1,7 @@
 -- Two texts are judged in one way: a text has one verdict, a schedule is one list or one fault, and a run has one text.
 use Rattle.std.proofs.Common.{◌≡◌, ℕ, ◌<◌, ◌≤◌, true, false, List, length, Ok, sym, ap, subst, ◌∙◌, arith}
 use Rattle.rb_meaning.specs.Meaning.{run_text}
-use Rattle.rb_parse.specs.Verdict.{most_bytes}
+use Rattle.rb_base.specs.declared.limits.TheConstants.{MOST_BYTES as most_bytes}
 use Rattle.rb_parse.proofs.Verdicts.{has_one_verdict}
 use Rattle.rb_run.specs.Ran.{names_of}
 use Rattle.rb_run.specs.Runnable.{is_runnable}

@@ -6,7 +6,7 @@ use Rattle.rb_base.specs.declared.names.ProcessNames.{ProcessNames}
 use Rattle.rb_syntax.specs.declared.program.Program.{Program}
 use Rattle.rb_syntax.specs.Tree.{ProcessDeclaration}
 use Rattle.rb_syntax.specs.Plain.{tree, process_declaration}
-use Rattle.rb_sched.specs.Schedule.{process_names}
+use Rattle.rb_base.specs.Naming.{process_names}
 use Rattle.rb_run.specs.Ran.{names_of}
 use Rattle.rb_run.specs.Runnable.{is_runnable}
 use Rattle.rb_run.proofs.RunnableFacts.{has_one-length, has_one-tree}

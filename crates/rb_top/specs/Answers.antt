@@ -8,7 +8,8 @@ use Rattle.rb_base.specs.Words.{fault_word}
 use Rattle.rb_outside.specs.Outside.{File, Reading, Rose, WrotePart, bytes_of, then_written}
 use Rattle.rb_syntax.specs.Tree.{Tree}
 use Rattle.rb_meaning.specs.Meaning.{run_text}
-use Rattle.rb_parse.specs.Verdict.{HasTree, RefusedFor, most_bytes}
+use Rattle.rb_parse.specs.Verdict.{HasTree, RefusedFor}
+use Rattle.rb_base.specs.declared.limits.TheConstants.{MOST_BYTES as most_bytes}
 use Rattle.rb_sched.specs.Schedule.{schedule_of}
 use Rattle.rb_run.specs.declared.engine.Ended.{Ended}
 use Rattle.rb_run.specs.declared.engine.Ended.TheVariants as ends

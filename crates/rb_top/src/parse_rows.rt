@@ -1,5 +1,5 @@
 // Each row has a source and what is made of it: how many names, variables and statements its tree has, or the fault.
-use rb_base::{Refusal, SourceFault};
+use rb_base::{Edition, Refusal, SourceFault};
 use rb_parse::parse;
 use rb_syntax::Program;
 use std::alloc::Global;
@@ -107,7 +107,10 @@ fn form(alloc: Global, source: &[u8]) -> Result<String, Fail> {
     }
     match parse(alloc, source) {
         Ok(program) => {
-            let edition = program.edition;
+            let edition = match program.edition {
+                Edition::First => 1,
+                Edition::Second => 2,
+            };
             let blocks = program.blocks;
             write!(out, "edition {edition} with {blocks}")?;
         }

@@ -2,7 +2,7 @@ ghost use Rattle.std.specs.Prelude.{◌≡◌, ◌≤◌, ℕ, List, length, vec
 ghost use Rattle.rb_syntax.specs.Plain.{tree};
 ghost use Rattle.rb_meaning.specs.Meaning.{naming_of};
 ghost use Rattle.rb_trace.specs.Naming.{naming};
-ghost use Rattle.rb_sched.specs.Schedule.{process_names};
+ghost use Rattle.rb_base.specs.Naming.{process_names};
 ghost use Rattle.rb_run.specs.Ran.{names_of};
 ghost use Rattle.rb_run.specs.Runnable.{is_runnable};
 ghost use Rattle.rb_top.specs.Words.{Request, request_of};

@@ -1,5 +1,4 @@
 -- How a process's state is told.
--- All of it is this project's own.
 use Rattle.std.specs.Prelude.{ℕ, List, [], ◌∷◌, codes, decimal}
 use Rattle.rb_base.specs.declared.event.State.{State}
 use Rattle.rb_base.specs.declared.event.State.TheVariants.{Done, Failed, Running}

@@ -1,5 +1,4 @@
 -- Words of a line, each with a blank before it.
--- All of it is this project's own.
 use Rattle.std.specs.Prelude.{ℕ, List, [], ◌∷◌, ◌++◌}
 use Rattle.std.specs.List.{flat_map}
 

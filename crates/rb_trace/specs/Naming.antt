@@ -1,5 +1,4 @@
--- The names that lines speak of, from the names in memory, and how a process's state is told.
--- All of it is this project's own.
+-- The names that lines speak of, from the names in memory. What this crate defines is this project's own.
 use Rattle.std.specs.Prelude.{ℕ, List, map}
 use Rattle.rb_base.specs.declared.names.Names.{Names}
 use Rattle.rb_base.specs.declared.names.ProcessNames.{ProcessNames}

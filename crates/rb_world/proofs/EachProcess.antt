@@ -3,9 +3,9 @@ use Rattle.std.proofs.Common.{◌≡◌, ℕ, ℤ, zero, suc, Bool, true, false,
 use Rattle.rb_base.specs.declared.event.Cause.{Cause}
 use Rattle.rb_base.specs.declared.event.Cause.TheVariants.{Inner}
 use Rattle.rb_world.specs.Kind.{Facts, Kind, Went, Held}
-use Rattle.rb_world.specs.World.{Process, World, goes_on, is_inside, is_of, last_of, settled, with_process, without_last}
+use Rattle.rb_world.specs.World.{Process, World, goes_on, is_inside, is_of, last_of, settled, with_process, without_last, copy_of}
 use Rattle.rb_world.specs.Reject.{all_back, at_place, fallen, fallen_inside, put_back, raised, where_inside}
-use Rattle.rb_world.specs.Turn.{copy_of, freed, leaves, new_level, opening, run, stands_at, stands_now, turn_used}
+use Rattle.rb_world.specs.Turn.{freed, leaves, new_level, opening, run, stands_at, stands_now, turn_used}
 use Rattle.rb_world.specs.Standing.{Each}
 use Rattle.rb_world.proofs.TurnFacts.{StepsAt, EntersAt}
 use Rattle.rb_world.proofs.Invariant.{IsInvariant}

@@ -14,7 +14,7 @@ pub record IsPlainImage {S C M T D N : Type 0} (k : Kind S C M) (l : Kind T D N)
   pub channels : k.channels ≡ l.channels
   pub groups : k.groups ≡ l.groups
   pub want : (s : S) → l.want (on_state s) ≡ k.want s
-  pub settle : (s : S) → l.settle (on_state s) ≡ on_state (k.settle s)
+  pub settle : (c : Option C) (s : S) → l.settle (option_map on_copy c) (on_state s) ≡ on_state (k.settle c s)
   pub enter : (s : S) → l.enter (on_state s) ≡ on_state (k.enter s)
   pub copy : (s : S) → l.copy (on_state s) ≡ on_copy (k.copy s)
   pub accept : (s : S) → l.accept (on_state s) ≡ on_state (k.accept s)

@@ -119,7 +119,8 @@ module _ {S C M T D N : Type 0} {k : Kind S C M} {l : Kind T D N} {on_state : S 
   steps_meet_image t p alternate w cs (Went s m) =
       let e = image.keep t alternate s m in
       still_meets on_state on_copy on_memory p w (on_memory w.memory) false _ _ cs _ (map on_copy cs) _ (sym (ap (λ (x : T × N). x.1) e)) refl
-      (sym (image.settle (k.keep t alternate s m).0) ∙ ap l.settle (sym (ap (λ (x : T × N). x.0) e)))
+      (sym (image.settle (last_of cs) (k.keep t alternate s m).0)
+      ∙ ap₂ l.settle (sym (last_of-map on_copy cs)) (sym (ap (λ (x : T × N). x.0) e)))
   steps_meet_image t p alternate w cs (Held s) =
       let e = image.keep t alternate s w.memory in
       still_meets on_state on_copy on_memory p w (on_memory w.memory) true _ _ cs _ (map on_copy cs) _ (sym (ap (λ (x : T × N). x.1) e)) refl
@@ -178,7 +179,9 @@ module _ {S C M T D N : Type 0} {k : Kind S C M} {l : Kind T D N} {on_state : S 
     leave = λ m n cs s ds u e. record {
       memory = e.memory;
       copies = sym (without_last-map on_copy cs) ∙ ap without_last e.copies;
-      state = sym (image.settle (k.accept s)) ∙ ap l.settle (sym (image.accept s) ∙ ap l.accept e.state);
+      state = sym (image.settle (last_of (without_last cs)) (k.accept s))
+          ∙ ap₂ l.settle (sym (last_of-map on_copy (without_last cs)) ∙ ap last_of (sym (without_last-map on_copy cs) ∙ ap without_last e.copies))
+          (sym (image.accept s) ∙ ap l.accept e.state);
     };
     held = λ line m n s u e. sym (image.held s) ∙ ap l.held e.state;
     release = λ line m n s u e. record { memory = e.memory; copies = refl; state = sym (image.release s) ∙ ap l.release e.state };
@@ -187,7 +190,7 @@ module _ {S C M T D N : Type 0} {k : Kind S C M} {l : Kind T D N} {on_state : S 
   -- the opening
   openings_image : (m : M) (states : List S) → OpeningsMeet k l (Imaged on_state on_copy on_memory) m (on_memory m) states (map on_state states)
   openings_image m [] = tt
-  openings_image m (s ∷ states) = (record { memory = refl; copies = refl; state = sym (image.settle s) }, openings_image m states)
+  openings_image m (s ∷ states) = (record { memory = refl; copies = refl; state = sym (image.settle None s) }, openings_image m states)
 
   pub opening-image : (states : List S) (m : M) → opening l (map on_state states) (on_memory m) ≡ world_image on_state on_copy on_memory (opening k states m)
   opening-image states m =

@@ -5,10 +5,10 @@ use Rattle.rb_base.specs.declared.event.Cause.{Cause}
 use Rattle.rb_base.specs.declared.event.Cause.TheVariants.{Broken, Depth, Overrun}
 use Rattle.rb_base.specs.declared.event.Event.TheVariants.{Pass}
 use Rattle.rb_world.specs.Kind.{Facts, Kind, Want, NothingLeft, SendsOn, ReceivesOn, MayReceiveOn, Enters, Starts, Acts, Stepped, Trapped, Went, Held}
-use Rattle.rb_world.specs.World.{Level, Status, Running, Finished, FailedWith, Process, Talk, World, last_of, levels_of, talk_at, with_process}
+use Rattle.rb_world.specs.World.{Level, Status, Running, Finished, FailedWith, Process, Talk, World, last_of, levels_of, talk_at, with_process, copy_of}
 use Rattle.rb_world.specs.Channels.{has_room, message_there}
 use Rattle.rb_world.specs.Reject.{reject}
-use Rattle.rb_world.specs.Turn.{Told, accepted, accepted_at, acts, alternate_of, all_leave, all_stand, bounded, by_status, copy_of, enter_either, is_over, join, most_levels, move, moves, one_used, passed, receives, run, runs, stepped, steps, took, trapped, tried_at, turn, turn_used, waits}
+use Rattle.rb_world.specs.Turn.{Told, accepted, accepted_at, acts, alternate_of, all_leave, all_stand, bounded, by_status, enter_either, is_over, join, most_levels, move, moves, one_used, passed, receives, run, runs, stepped, steps, took, trapped, tried_at, turn, turn_used, waits}
 use Rattle.rb_world.proofs.TurnFacts.{RunsAt, MayAct, IsReady, ToSend, ToReceive, ToReceiveIfThere, ToStart, ToAct, alternate_for, StepsAt, Alone, Joining, Barred, come_to_stand}
 use Rattle.rb_world.proofs.Invariant.{Between, Within, IsInvariant}
 use Rattle.rb_world.proofs.ListFacts.{slice_get-change_at}
@@ -103,7 +103,7 @@ module _ {S C M : Type 0} {k : Kind S C M} {before : Between S C M} {during : Wi
       → facts.conversation ≡ Some c → (talk : Talk) → talk_at w c ≡ Some talk → (broken : Bool) → talk.is_broken ≡ broken
       → after t past (join k t p facts q w (Some (record { alternate = talk.alternate; is_broken = broken }))).world
   join-keeps t past p q w facts c holds may e few of_c talk at true broken =
-      laws.falls t past p q w (length q.levels) Broken holds may.runs (Barred facts c talk may.away e of_c at broken refl)
+      laws.falls t past p q w (length q.levels) Broken holds may.runs (Barred facts c talk may.away e of_c at broken refl refl)
   join-keeps t past p q w facts c holds may e few of_c talk at false whole =
       laws.opens t past p q w facts talk.alternate holds
       (record { acts = may; wants = e; few = few; entry = Joining c talk of_c at whole refl })

@@ -6,9 +6,9 @@
 use Rattle.std.specs.Prelude.{◌≡◌, ℕ, ℤ, ◌+◌, ◌<◌, ◌≤◌, suc, true, false, List, [], ◌∷◌, ◌++◌, length, position, slice_get, Option, Some, None}
 use Rattle.rb_base.specs.declared.event.Cause.{Cause}
 use Rattle.rb_world.specs.Kind.{Facts, Kind, Went, Held}
-use Rattle.rb_world.specs.World.{Level, Process, World, last_of, with_process, with_each}
+use Rattle.rb_world.specs.World.{Level, Process, World, last_of, with_process, with_each, copy_of}
 use Rattle.rb_world.specs.Reject.{fallen, parent_of, put_back, raised}
-use Rattle.rb_world.specs.Turn.{Told, all_leave, all_stand, copy_of, freed, freed_lines, is_over, moved_to, opened, turn_used}
+use Rattle.rb_world.specs.Turn.{Told, all_leave, all_stand, freed, freed_lines, is_over, moved_to, opened, turn_used}
 use Rattle.rb_world.proofs.TurnFacts.{RunsAt, StepsAt, EntersAt, MustFall, RejectsAt, left_alone, come_to_stand, all_next, all_spent, all_broken}
 
 -- turn, all that was told in the turns before, world

@@ -1,5 +1,5 @@
 -- Small facts of lists with one element changed, of options and of tests.
-use Rattle.std.proofs.Common.{◌≡◌, ◌≤◌, ◌<◌, ◌++◌, ℕ, zero, suc, List, [], ◌∷◌, length, map, take, option_map, slice_get, unwrap_or, Option, Some, None, refl, sym, ap, subst, arith, Bool, true, false, ◌&&◌, true≢false, not-suc-le-zero, le_of_suc-le-suc}
+use Rattle.std.proofs.Common.{◌≡◌, ◌≤◌, ◌<◌, ◌++◌, ℕ, zero, suc, List, [], ◌∷◌, length, map, take, option_map, slice_get, unwrap_or, Option, Some, None, refl, sym, ap, ◌∙◌, subst, arith, Bool, true, false, ◌&&◌, true≢false, not-suc-le-zero, le_of_suc-le-suc}
 use Rattle.rb_world.specs.World.{change_at, last_of, without_last}
 use Rattle.rb_world.specs.Standing.{Each}
 
@@ -90,6 +90,10 @@ pub slice_get-there : {A : Type 0} (xs : List A) (n : ℕ) → n < length xs →
 slice_get-there [] n h = absurd (not-suc-le-zero h)
 slice_get-there (x ∷ xs) zero h = (x, refl)
 slice_get-there (x ∷ xs) (suc n) h = slice_get-there xs n (le_of_suc-le-suc h)
+
+-- so none below it finds nothing
+pub nothing_within : {A : Type 0} (xs : List A) (n : ℕ) → n < length xs → slice_get xs n ≡ None → ⊥
+nothing_within xs n few none = none_some (sym none ∙ (slice_get-there xs n few).1)
 
 -- the element at the end of a list
 pub slice_get-end : {A : Type 0} (xs : List A) (y : A) → slice_get (xs ++ y ∷ []) (length xs) ≡ Some y

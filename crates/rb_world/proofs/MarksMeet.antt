@@ -1,10 +1,10 @@
 -- Lists of levels that differ in their copies alone, and what becomes of the copies when levels change.
-use Rattle.std.proofs.Common.{◌≡◌, ℕ, ◌+◌, zero, suc, Bool, cond, not, ◌||◌, List, [], ◌∷◌, ◌++◌, length, map, option_map, position, slice_get, take, Option, Some, None, refl, ap, ap₂, nat_lt}
+use Rattle.std.proofs.Common.{◌≡◌, ℕ, ◌+◌, zero, suc, Bool, cond, not, ◌||◌, List, [], ◌∷◌, ◌++◌, length, map, option_map, position, slice_get, take, Option, Some, None, refl, ap, ap₂, nat_lt, ◌∙◌}
 use Rattle.std.specs.List.{list_any, position_or_len}
 use Rattle.rb_world.specs.Kind.{Facts}
-use Rattle.rb_world.specs.World.{Level, change_at, is_number, is_of, last_of, without_last}
+use Rattle.rb_world.specs.World.{Level, change_at, is_number, is_of, last_of, without_last, copy_of}
 use Rattle.rb_world.specs.Reject.{next_alternate}
-use Rattle.rb_world.specs.Turn.{copy_of, is_last_of, is_over, one_used, tried_at}
+use Rattle.rb_world.specs.Turn.{is_last_of, is_over, one_used, tried_at}
 use Rattle.rb_world.proofs.Simulation.{copies_of}
 
 -- both hold nothing, or related things
@@ -152,6 +152,10 @@ pub copies-last : {C : Type 0} (ls : List (Level C)) → copy_of (last_of ls) �
 copies-last [] = refl
 copies-last (l ∷ []) = refl
 copies-last (l ∷ m ∷ ls) = copies-last (m ∷ ls)
+
+-- the recovery point that is innermost once the last level is gone
+pub last-front : {C : Type 0} (ls : List (Level C)) → copy_of (last_of (without_last ls)) ≡ last_of (without_last (copies_of ls))
+last-front ls = copies-last (without_last ls) ∙ ap last_of (copies-front ls)
 
 pub copies-get : {C : Type 0} (ls : List (Level C)) (j : ℕ) → slice_get (copies_of ls) j ≡ option_map (λ (l : Level C). l.copy) (slice_get ls j)
 copies-get [] j = refl

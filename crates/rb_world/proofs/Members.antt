@@ -17,3 +17,7 @@ pub mod TurnTogether
 pub mod StaysInside
 -- All worlds of runs are such worlds.
 pub mod OrderedRuns
+-- Each open level of a conversation tries its present alternate.
+pub mod PresentTalks
+pub mod PresentLevels
+pub mod PresentKept

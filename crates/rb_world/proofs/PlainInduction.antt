@@ -4,9 +4,9 @@
 use Rattle.std.proofs.Common.{◌≡◌, ◌⊎◌, ◌<◌, ℕ, ℤ, Bool, true, false, cond, List, [], ◌∷◌, ◌++◌, length, slice_get, Option, Some, None, refl, sym, subst, inl, inr, nat_lt, ltb-true, eqb-true, append_assoc, append-nil, ◌&&◌}
 use Rattle.rb_base.specs.declared.event.Event.TheVariants.{Pass}
 use Rattle.rb_world.specs.Kind.{Facts, Kind, Want, NothingLeft, SendsOn, ReceivesOn, MayReceiveOn, Enters, Starts, Acts, Stepped, Trapped, Went, Held}
-use Rattle.rb_world.specs.World.{Level, Status, Running, Finished, FailedWith, Process, World, last_of, talk_at, with_each}
+use Rattle.rb_world.specs.World.{Level, Status, Running, Finished, FailedWith, Process, World, last_of, talk_at, with_each, copy_of}
 use Rattle.rb_world.specs.Channels.{has_room, message_there}
-use Rattle.rb_world.specs.Turn.{Moved, Told, accepted, accepted_at, all_leave, all_stand, alternate_of, copy_of, finishes, freed, freed_lines, most_levels, moved_to, open_at, opened, passed, took}
+use Rattle.rb_world.specs.Turn.{Moved, Told, accepted, accepted_at, all_leave, all_stand, alternate_of, finishes, freed, freed_lines, most_levels, moved_to, open_at, opened, passed, took}
 use Rattle.rb_world.specs.Plain.{Kept, PlainEnd, Ended, StuckAt, has_alternate, no_alternate, plain_acts, plain_moves, plain_on, plain_receives, plain_run, plain_runs, plain_stepped, plain_steps, plain_told, plain_turn, plain_turned, when}
 use Rattle.rb_world.proofs.ListFacts.{first_holds, none_some, second_holds, some_same}
 use Rattle.rb_world.proofs.TurnFacts.{RunsAt, IsReady, ToSend, ToReceive, ToReceiveIfThere, ToStart, ToAct, left_alone, come_to_stand}

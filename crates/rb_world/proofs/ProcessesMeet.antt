@@ -3,12 +3,12 @@ use Rattle.std.proofs.Common.{◌≡◌, ◌≢◌, ℕ, ◌+◌, zero, suc, pre
 use Rattle.rb_base.specs.declared.event.Cause.{Cause}
 use Rattle.rb_base.specs.declared.event.Cause.TheVariants.{Inner}
 use Rattle.rb_world.specs.Kind.{Kind}
-use Rattle.rb_world.specs.World.{Level, Process, World, change_at, goes_on, is_inside, is_of, last_of, settled, status_at, without_last}
+use Rattle.rb_world.specs.World.{Level, Process, World, change_at, goes_on, is_inside, is_of, last_of, settled, status_at, without_last, copy_of}
 use Rattle.rb_world.specs.Reject.{at_place, back_to, fallen, fallen_inside, put_back, raised, where_inside}
 use Rattle.rb_world.specs.Turn.{freed, leaves, lines_freed, stands_at, stands_now, state_freed, turn_used}
 use Rattle.rb_world.proofs.ListFacts.{first_holds}
 use Rattle.rb_world.proofs.Simulation.{Shared, Related, Knowing, copies_of, IsPlainSimulation, IsSimulation}
-use Rattle.rb_world.proofs.MarksMeet.{OptionsMeet, SameMark, SameMarks, same_of, same_any, same_position, same_last_of, get_marks, last_marks, used_marks, next_marks, take_marks, front_marks, copies-used, copies-next, copies-take, copies-front, copies-get}
+use Rattle.rb_world.proofs.MarksMeet.{OptionsMeet, SameMark, SameMarks, same_of, same_any, same_position, same_last_of, get_marks, last_marks, used_marks, next_marks, take_marks, front_marks, copies-used, copies-next, copies-take, copies-front, copies-get, last-front}
 
 pub record ProcessesMeet {S C M T D N : Type 0} (related : Related S C M T D N) (m : M) (n : N) (q : Process S C) (r : Process T D) : Type 0 where
   pub states : related q.at_line m n (copies_of q.levels) q.state (copies_of r.levels) r.state
@@ -142,8 +142,12 @@ module _ {S C M T D N : Type 0} {k : Kind S C M} {l : Kind T D N} {shared : Shar
       → related true m n (copies_of ls) s (copies_of ms) u
       → ProcessesMeet related m n (settled k (k.accept s) (without_last ls)) (settled l (l.accept u) (without_last ms))
   left_meets m n s ls u ms e meets =
-      goes_on_meets m n (k.settle (k.accept s)) (without_last ls) (l.settle (l.accept u)) (without_last ms) (front_marks ls ms e)
-      (rewritten related (sym (copies-front ls)) (sym (copies-front ms)) (laws.leave m n (copies_of ls) s (copies_of ms) u meets))
+      let cs = copies_of (without_last ls) in
+      let ds = copies_of (without_last ms) in
+      goes_on_meets m n (k.settle (copy_of (last_of (without_last ls))) (k.accept s)) (without_last ls) (l.settle (copy_of (last_of (without_last ms))) (l.accept u)) (without_last ms) (front_marks ls ms e)
+      (subst₂ (λ (x : Option C) (y : Option D). related false m n cs (k.settle x (k.accept s)) ds (l.settle y (l.accept u)))
+      (sym (last-front ls)) (sym (last-front ms))
+      (rewritten related (sym (copies-front ls)) (sym (copies-front ms)) (laws.leave m n (copies_of ls) s (copies_of ms) u meets)))
 
   stood : (q : Process S C) (c : ℕ) → stands_at c q ≡ true → q.at_line ≡ true
   stood q c e = first_holds q.at_line _ e

@@ -1,6 +1,6 @@
 -- One kind with its messages read another way: where both ways agree on each message that is taken, by what is known of the
 -- world, all turns, runs and plain runs are the same.
-use Rattle.std.proofs.Common.{◌≡◌, ◌<◌, ℕ, ℤ, List, [], ◌∷◌, map, option_map, slice_get, Option, Some, None, refl, sym, ap, ap₂, ◌∙◌, subst, map-id}
+use Rattle.std.proofs.Common.{◌≡◌, ◌<◌, ℕ, ℤ, List, [], ◌∷◌, map, slice_get, Some, None, refl, sym, ap, ap₂, ◌∙◌, subst, map-id}
 use Rattle.rb_world.specs.Kind.{Kind, Stepped, Trapped, Went, Held}
 use Rattle.rb_world.specs.World.{Level, Process, World}
 use Rattle.rb_world.specs.Channels.{seen_copy}
@@ -13,6 +13,7 @@ use Rattle.rb_world.proofs.RunsMeet.{KeepsKnown, run_meets}
 use Rattle.rb_world.proofs.PlainRunsMeet.{EndsMeet, KeepsPlainKnown, plain_run_meets}
 use Rattle.rb_world.proofs.Image.{IsImage, process_image, level_image, stepped_image, world_image}
 use Rattle.rb_world.proofs.ImageRuns.{Imaged, Memories, copy_there, image_simulates, is_world_image, meets_image}
+use Rattle.std.proofs.lemmas.Iterator.Adapters.{option_map_id}
 
 -- the kind with other messages, of the present state and of a copy
 abbrev pub with_messages : {S C M : Type 0} → Kind S C M → (M → S → ℕ → ℕ → ℤ) → (M → S → C → ℕ → ℕ → ℤ) → Kind S C M
@@ -31,10 +32,6 @@ pub record ReadsSame {S C M : Type 0} (k : Kind S C M) (message : M → S → �
       → k.message_then w.memory sender.state x c (k.taken receiver.state c) ≡ message_then w.memory sender.state x c (k.taken receiver.state c)
 
 -- every kind is its own image
-same_copy : {C : Type 0} (c : Option C) → option_map (λ x. x) c ≡ c
-same_copy None = refl
-same_copy (Some x) = refl
-
 same_step : {S M : Type 0} (x : Stepped S M) → x ≡ stepped_image (λ s. s) (λ m. m) x
 same_step (Trapped cause) = refl
 same_step (Went s m) = refl
@@ -46,11 +43,11 @@ own_image k = record {
     channels = refl;
     groups = refl;
     want = λ s. refl;
-    settle = λ s. refl;
+    settle = λ c s. ap (λ x. k.settle x s) (option_map_id c);
     enter = λ s. refl;
     copy = λ s. refl;
     accept = λ s. refl;
-    step = λ alternate c s message m. ap (λ x. k.step alternate x s message m) (same_copy c) ∙ same_step (k.step alternate c s message m);
+    step = λ alternate c s message m. ap (λ x. k.step alternate x s message m) (option_map_id c) ∙ same_step (k.step alternate c s message m);
     sent = λ s c. refl;
     taken = λ s c. refl;
     sent_then = λ s x c. refl;

@@ -1,6 +1,6 @@
 -- Related kinds over whole runs: from related worlds, and from related openings. What a step may ask of the left world
 -- comes from something that holds along the run on the left, as an invariant does.
-use Rattle.std.proofs.Common.{◌≡◌, ℕ, ◌+◌, false, List, [], ◌∷◌, ◌++◌, length, map, refl, sym, ap, ap₂, subst}
+use Rattle.std.proofs.Common.{◌≡◌, ℕ, ◌+◌, false, List, [], ◌∷◌, ◌++◌, length, map, None, refl, sym, ap, ap₂, subst}
 use Rattle.std.proofs.lemmas.List.{length-map}
 use Rattle.rb_base.specs.declared.event.Event.{Event}
 use Rattle.rb_base.specs.declared.event.TurnKind.TheVariants.{Took}
@@ -56,7 +56,7 @@ abbrev pub OpeningsMeet : {S C M T D N : Type 0} → Kind S C M → Kind T D N �
 OpeningsMeet k l related m n [] [] = Unit {0}
 OpeningsMeet k l related m n [] (u ∷ us) = ⊥
 OpeningsMeet k l related m n (s ∷ ss) [] = ⊥
-OpeningsMeet k l related m n (s ∷ ss) (u ∷ us) = related false m n [] (k.settle s) [] (l.settle u) × OpeningsMeet k l related m n ss us
+OpeningsMeet k l related m n (s ∷ ss) (u ∷ us) = related false m n [] (k.settle None s) [] (l.settle None u) × OpeningsMeet k l related m n ss us
 
 -- who is done before the first turn
 same_finished : {S C M T D N : Type 0} (related : Related S C M T D N) (m : M) (n : N) (p : ℕ) (qs : List (Process S C)) (rs : List (Process T D))
@@ -79,7 +79,7 @@ module _ {S C M T D N : Type 0} {k : Kind S C M} {l : Kind T D N} {shared : Shar
   settled_meet m n [] [] e = tt
   settled_meet m n [] (u ∷ us) e = absurd e
   settled_meet m n (s ∷ ss) [] e = absurd e
-  settled_meet m n (s ∷ ss) (u ∷ us) e = (goes_on_meets laws m n (k.settle s) [] (l.settle u) [] tt e.0, settled_meet m n ss us e.1)
+  settled_meet m n (s ∷ ss) (u ∷ us) e = (goes_on_meets laws m n (k.settle None s) [] (l.settle None u) [] tt e.0, settled_meet m n ss us e.1)
 
   pub opening_meets : (m : M) (n : N) (ss : List S) (us : List T) → shared m n → OpeningsMeet k l related m n ss us
       → WorldsMeet shared related (opening k ss m) (opening l us n)

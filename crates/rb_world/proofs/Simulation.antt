@@ -61,7 +61,7 @@ StepsMeet k l shared related t p alternate w old cs ds (Went s m) (Trapped d) = 
 StepsMeet k l shared related t p alternate w old cs ds (Went s m) (Went u n) =
     let x = k.keep t alternate s m in
     let y = l.keep t alternate u n in
-    StillMeets shared related p w old false x.1 y.1 cs (k.settle x.0) ds (l.settle y.0)
+    StillMeets shared related p w old false x.1 y.1 cs (k.settle (last_of cs) x.0) ds (l.settle (last_of ds) y.0)
 StepsMeet k l shared related t p alternate w old cs ds (Went s m) (Held u) = ⊥
 StepsMeet k l shared related t p alternate w old cs ds (Held s) (Trapped d) = ⊥
 StepsMeet k l shared related t p alternate w old cs ds (Held s) (Went u n) = ⊥
@@ -110,7 +110,7 @@ pub record IsPlainSimulation {S C M T D N : Type 0} (k : Kind S C M) (l : Kind T
       StillMeets shared related p w n false x.1 y.1 (copies_of q.levels ++ k.copy x.0 ∷ []) x.0 (ds ++ l.copy y.0 ∷ []) y.0
   -- the innermost level was accepted, of a private block or by all members
   pub leave : (m : M) (n : N) (cs : List C) (s : S) (ds : List D) (u : T) → related true m n cs s ds u
-      → related false m n (without_last cs) (k.settle (k.accept s)) (without_last ds) (l.settle (l.accept u))
+      → related false m n (without_last cs) (k.settle (last_of (without_last cs)) (k.accept s)) (without_last ds) (l.settle (last_of (without_last ds)) (l.accept u))
   -- without a level the same lines are held, and they are released
   pub held : (line : Bool) (m : M) (n : N) (s : S) (u : T) → related line m n [] s [] u → k.held s ≡ l.held u
   pub release : (line : Bool) (m : M) (n : N) (s : S) (u : T) → related line m n [] s [] u → related line m n [] (k.release s) [] (l.release u)

@@ -3,7 +3,7 @@
 use Rattle.std.proofs.Common.{◌≡◌, ◌≤◌, ◌+◌, ℕ, suc, Bool, true, false, List, [], ◌∷◌, length, map, slice_get, take, Option, Some, None, refl, sym, ap, ◌∙◌, true≢false, add-one, arith, length-append, length-take}
 use Rattle.std.proofs.lemmas.List.{length-map}
 use Rattle.rb_world.specs.Kind.{Kind, Membership, Want, NothingLeft, SendsOn, ReceivesOn, MayReceiveOn, Enters, Starts, Acts}
-use Rattle.rb_world.specs.World.{Level, Process, Talk, World, change_at, status_at}
+use Rattle.rb_world.specs.World.{Level, Process, Talk, World, change_at, status_at, copy_of, last_of, without_last}
 use Rattle.rb_world.specs.Reject.{back_to, first_again, next_alternate, next_talk, broken_talk, reset_below, reset_from}
 use Rattle.rb_world.specs.Turn.{most_levels, new_level, one_used, opening, run}
 use Rattle.rb_world.proofs.Invariant.{IsInvariant}
@@ -118,11 +118,11 @@ back_to-bare k j q (Some level) h = λ e. ap (take (j + 1)) (h e) ∙ take_none 
 pub bare_kept : {S C M : Type 0} (k : Kind S C M) → KeepsEach k IsBareIfFailed
 bare_kept k = record {
   counts = λ p q h e. ap (map one_used) (h e);
-  goes = λ t p q w a v s m h at. λ _ e. whole_bare (k.want (k.settle (k.keep t a s m).0)) q.levels e;
+  goes = λ t p q w a v s m h at. λ _ e. whole_bare (k.want (k.settle (copy_of (last_of q.levels)) (k.keep t a s m).0)) q.levels e;
   opens = λ t p q w f a h at e. whole_bare (k.want (k.keep t 0 (k.enter q.state) w.memory).0) _ e;
-  accepts = λ t p q w a v s h at _ e. whole_bare (k.want (k.settle (k.accept (k.keep t a s w.memory).0))) _ e;
+  accepts = λ t p q w a v s h at _ e. whole_bare (k.want (k.settle (copy_of (last_of (without_last q.levels))) (k.accept (k.keep t a s w.memory).0))) _ e;
   stands = λ t p q w a v s h at _ e. absurd (true≢false (sym e));
-  leaves = λ p c q h _ e. whole_bare (k.want (k.settle (k.accept q.state))) _ e;
+  leaves = λ p c q h _ e. whole_bare (k.want (k.settle (copy_of (last_of (without_last q.levels))) (k.accept q.state))) _ e;
   falls = λ p q cause h e. refl;
   goes_back = λ p j q h. back_to-bare k j q (slice_get q.levels j) h;
   rises = λ p j q h e. ap (change_at j next_alternate) (h e);

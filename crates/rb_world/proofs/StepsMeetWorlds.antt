@@ -1,11 +1,11 @@
 -- In related worlds a step, an entry and a test that holds leave related worlds.
-use Rattle.std.proofs.Common.{◌≡◌, ◌⊎◌, ℕ, ℤ, Bool, true, false, List, [], ◌∷◌, ◌++◌, length, slice_get, Option, Some, None, refl, sym, ap, ap₂, ◌∙◌, subst, nat_le, ◌&&◌}
+use Rattle.std.proofs.Common.{◌≡◌, ◌⊎◌, ℕ, ℤ, Bool, true, false, List, [], ◌∷◌, ◌++◌, length, slice_get, Option, Some, None, refl, sym, ap, ap₂, ◌∙◌, subst, nat_le, ◌&&◌, subst₂}
 use Rattle.std.specs.List.{list_all}
 use Rattle.rb_base.specs.declared.event.Cause.{Cause}
 use Rattle.rb_base.specs.declared.event.Cause.TheVariants.{Broken, Depth}
 use Rattle.rb_base.specs.declared.event.Event.TheVariants.{Pass}
 use Rattle.rb_world.specs.Kind.{Facts, Kind, Membership, Enters, Starts, Stepped, Trapped, Went, Held}
-use Rattle.rb_world.specs.World.{Level, Process, Talk, World, change_at, last_of, process_levels, talk_at, with_each, with_process, with_memory}
+use Rattle.rb_world.specs.World.{Level, Process, Talk, World, change_at, last_of, process_levels, talk_at, with_each, with_process, with_memory, goes_on}
 use Rattle.rb_world.specs.Reject.{Happened, fallen, first_again, reject}
 use Rattle.rb_world.specs.Turn.{Moved, accepted, accepted_at, all_leave, all_stand, alternate_of, at_test_line, enter_either, enters, join, leaves, members_of, most_levels, moved_to, new_level, open_at, stands_there, stepped, steps, took, trapped, undone}
 use Rattle.rb_world.proofs.TurnFacts.{IsReady, come_to_stand}
@@ -108,11 +108,13 @@ module _ {S C M T D N : Type 0} {k : Kind S C M} {l : Kind T D N} {shared : Shar
 
   -- what a step comes to
   pub moved_to_meets : (p : ℕ) (w : World S C M) (v : World T D N) (m : M) (n : N) (s : S) (ls : List (Level C)) (u : T) (ms : List (Level D))
-      → StillMeets shared related p w v.memory false m n (copies_of ls) (k.settle s) (copies_of ms) (l.settle u) → SameMarks ls ms → WorldsMeet shared related w v
+      → StillMeets shared related p w v.memory false m n (copies_of ls) (k.settle (last_of (copies_of ls)) s) (copies_of ms) (l.settle (last_of (copies_of ms)) u) → SameMarks ls ms → WorldsMeet shared related w v
       → WorldsMeet shared related (moved_to k p ls w (s, m)) (moved_to l p ms v (u, n))
   moved_to_meets p w v m n s ls u ms still same meets =
-      changed_world p w v false m n (copies_of ls) (k.settle s) (copies_of ms) (l.settle u) _ _ still
-      (goes_on_meets laws m n (k.settle s) ls (l.settle u) ms same still.states) meets
+      subst₂ (λ (x : Option C) (y : Option D). WorldsMeet shared related (with_memory m (with_process p (λ _. goes_on k (k.settle x s) ls) w)) (with_memory n (with_process p (λ _. goes_on l (l.settle y u) ms) v)))
+      (sym (copies-last ls)) (sym (copies-last ms))
+      (changed_world p w v false m n (copies_of ls) (k.settle (last_of (copies_of ls)) s) (copies_of ms) (l.settle (last_of (copies_of ms)) u) _ _ still
+      (goes_on_meets laws m n (k.settle (last_of (copies_of ls)) s) ls (l.settle (last_of (copies_of ms)) u) ms same still.states) meets)
 
   -- q acts, and r is the same process on the right
   module _ (t p : ℕ) (q : Process S C) (w : World S C M) (r : Process T D) (v : World T D N) (acts : IsActing known t p q w) (both : ProcessesMeet related w.memory v.memory q r) (meets : WorldsMeet shared related w v) where

@@ -1,7 +1,6 @@
--- What a receiver can see, and how much room a sender has. That a message which recovery may take back is not yet seen
--- outside, and that a receipt which recovery may undo frees no room, is this project's own; that messages inside a
--- conversation pass between its members at once is Randell's (1975).
--- All else is this project's own too.
+-- What a receiver can see, and how much room a sender has. A message which recovery may take back is not yet seen outside,
+-- and a receipt which recovery may undo frees no room; inside a conversation messages pass between its members at once
+-- (Randell 1975).
 use Rattle.std.specs.Prelude.{ℕ, ℤ, ◌+◌, nat_lt, Bool, false, cond, List, [], ◌∷◌, slice_get, Option, Some, None}
 use Rattle.rb_world.specs.Kind.{Ends, Kind}
 use Rattle.rb_world.specs.World.{Level, Process, World, is_shared}

@@ -1,6 +1,5 @@
 -- What erasure speaks of: the lines that were released in a run, each with its turn and its process, and records whose
 -- turns rise.
--- All of it is this project's own.
 use Rattle.std.specs.Prelude.{ℕ, ◌+◌, ◌<◌, List, [], ◌∷◌, ◌++◌, map}
 use Rattle.rb_world.specs.Turn.{Told}
 use Rattle.rb_world.specs.Plain.{Kept}

@@ -1,6 +1,8 @@
 -- A kind of process state: all that the turn of a world asks of one. The tree's meaning, the word machine and the plain
 -- run of a record are kinds; levels, rejections, test lines and channels are the same for each.
--- All of it is this project's own.
+--
+-- In all files of this crate what is from a paper is marked with its year. The rest is this project's own, but for words of the
+-- field, as test line and recovery cache.
 use Rattle.std.specs.Prelude.{ℕ, ℤ, List, Option}
 use Rattle.rb_base.specs.declared.event.Cause.{Cause}
 
@@ -15,9 +17,10 @@ pub record Membership : Type 0 where
   pub members : List ℕ
   pub parent : Option ℕ
 
--- what is known of a recovery block at its entry: the line of its word `ensure`, its conversation if it has one, its turn
--- bound, and the number of its alternates
+-- what is known of a recovery block at its entry: its number, by which two that are alike in all else are told apart; the
+-- line of its word `ensure`; its conversation if it has one; its turn bound; and how many alternates it has
 pub record Facts : Type 0 where
+  pub number : ℕ
   pub line : ℕ
   pub conversation : Option ℕ
   pub bound : ℕ
@@ -39,15 +42,17 @@ pub data Stepped (S M : Type 0) : Type 0 where
   Went : (state : S) (memory : M) → Stepped S M
   Held : (state : S) → Stepped S M
 
--- A kind of process state. S is the recoverable state with what no rejection puts back, C a copy of it at an entry, and M
--- a memory that no copy holds. A state knows of which process it is.
+-- A kind of process state. S is all that belongs to one process: its recoverable state, which a rejection puts back, and beside it
+-- what a kind keeps of the process and leaves as it is. C is what an entry copies of it, M a memory of all processes that no
+-- entry copies. A state knows of which process it is.
 pub record Kind (S C M : Type 0) : Type 0 where
   pub channels : List Ends
   pub groups : List Membership
   -- what stands first
   pub want : S → Want
-  -- takes away ends of blocks and calls, which cost no turn
-  pub settle : S → S
+  -- what comes between two turns and costs none, as ends of blocks and calls do; given the innermost recovery point, since it may
+  -- read what stood there at the entry
+  pub settle : Option C → S → S
   -- puts the start of an alternate in the place of the entry
   pub enter : S → S
   -- the recovery point that an entry sets

@@ -8,5 +8,6 @@ pub mod Text
 pub mod Samples
 pub mod Standing
 pub mod Nested
+pub mod Present
 pub mod Slots
 pub mod Erased

@@ -1,6 +1,5 @@
 -- Nested levels: a level of a conversation has a level of the conversation right around it just outside it, or none outside it
 -- where no conversation lies around (nesting: Randell 1975).
--- All else is this project's own.
 use Rattle.std.specs.Prelude.{◌≡◌, ℕ, zero, suc, List, slice_get, Option, Some, None}
 use Rattle.rb_world.specs.Kind.{Membership}
 use Rattle.rb_world.specs.World.{Level}

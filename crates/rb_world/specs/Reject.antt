@@ -1,11 +1,10 @@
 -- Rejections. An alternate that fails is undone and the next is tried; where none is left the block fails, which is a
 -- failure of the alternate around it (Horning, Lauer, Melliar-Smith, Randell 1974). In a conversation all that are inside
--- go back together to the recovery line (Randell 1975). That they do so at the first failure of a member, and that a
--- member which enters later starts at the present alternate, is this project's own.
+-- go back together to the recovery line (Randell 1975). They do so at the first failure of a member, and a member which
+-- enters later starts at the present alternate.
 --
 -- A level that has no alternate left stays, put back, until the level around it is put back or the process fails; no
 -- printed byte tells that from a level that goes at once.
--- All else is this project's own.
 use Rattle.std.specs.Prelude.{ℕ, zero, suc, ◌+◌, nat_eq, nat_lt, Bool, true, false, cond, ◌||◌, List, [], ◌∷◌, length, take, position, slice_get, Option, Some, None}
 use Rattle.rb_base.specs.declared.event.Cause.{Cause}
 use Rattle.rb_base.specs.declared.event.Cause.TheVariants.{Inner}
@@ -138,8 +137,8 @@ abbrev pub reject_at : {S C M : Type 0} → Kind S C M → ℕ → ℕ → Cause
 reject_at k p j cause None w outer = (w, [])
 reject_at k p j cause (Some level) w outer = reject_either k p j cause level level.facts.conversation w outer
 
--- Rejects the innermost of the first n levels of p, from the outside in. A block without an alternate left fails, and
--- `inner` rejects the next level out; with no level, p has failed. (1974)
+-- Of the levels of p take the first n, counted from the outside: the innermost of these is rejected. If it has no alternate left
+-- its block fails, and so the next level out is rejected with the cause `inner`; where n is 0, p itself fails. (1974)
 abbrev pub reject : {S C M : Type 0} → Kind S C M → ℕ → ℕ → Cause → World S C M → Happened S C M
 reject k p zero cause w = (with_process p (fallen k cause) w, [])
 reject k p (suc j) cause w =

@@ -1,7 +1,6 @@
 -- Three small kinds of process state, on which a clause can state what is proved of every kind: a process does deeds in
 -- their order and prints lines. One kind copies all at an entry; one counts steps in its memory beside that; and one copies
 -- the number of held lines alone, and cuts them when a copy is put back.
--- All of it is this project's own.
 use Rattle.std.specs.Prelude.{◌≡◌, ◌≤◌, ◌<◌, ℕ, ℤ, ◌+◌, Bool, List, [], ◌∷◌, ◌++◌, length, slice_get, take, Option, Some, None}
 use Rattle.rb_base.specs.declared.event.Cause.TheVariants.{Fail, Overrun}
 use Rattle.rb_world.specs.Kind.{Facts, Kind, Membership, Want, NothingLeft, Enters, Starts, Acts, Stepped, Trapped, Went, Held}
@@ -70,7 +69,7 @@ copies_all groups more = record {
   channels = [];
   groups = groups;
   want = λ s. first_want s.deeds;
-  settle = λ s. s;
+  settle = λ copy s. s;
   enter = λ s. with_deeds (entered s.deeds) s;
   copy = λ s. s;
   restore = λ s copy. copy;
@@ -102,7 +101,7 @@ copies_marks groups = record {
   channels = [];
   groups = groups;
   want = λ s. first_want s.deeds;
-  settle = λ s. s;
+  settle = λ copy s. s;
   enter = λ s. with_deeds (entered s.deeds) s;
   copy = marked;
   restore = back_to_mark;

@@ -1,6 +1,5 @@
 -- Slots. A channel with room for n messages has n slots, and message number k lies in slot k modulo n. No recovery point holds
 -- them, and a rejection writes none: a message that is undone, or that nobody can ask for any more, leaves its slot as it is.
--- All of it is this project's own.
 use Rattle.std.specs.Prelude.{◌≡◌, ◌≤◌, ◌<◌, ◌+◌, ◌%◌, ℕ, ℤ, pos, List, [], replicate, map, slice_get, slice_set, Some}
 use Rattle.std.specs.Option.{option_map, unwrap_or}
 use Rattle.rb_world.specs.Kind.{Ends, Kind, Want, NothingLeft, SendsOn, ReceivesOn, MayReceiveOn, Enters, Starts, Acts, Stepped, Trapped, Went, Held}

@@ -1,6 +1,5 @@
 -- What is true of every world that a run comes to: no process comes or goes, nor a conversation; no process has more than
 -- the most levels; a process that has failed has none.
--- All of it is this project's own.
 use Rattle.std.specs.Prelude.{◌≡◌, ◌≤◌, ℕ, Bool, true, false, List, [], length, slice_get, Some}
 use Rattle.rb_world.specs.Kind.{Kind}
 use Rattle.rb_world.specs.World.{Status, Running, Finished, FailedWith, Process, World}

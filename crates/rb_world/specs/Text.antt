@@ -1,5 +1,4 @@
--- The printed text of a run, of its ending, and of records. The forms of the lines are this project's own.
--- So is all else here.
+-- The printed text of a run, of its ending, and of records.
 use Rattle.std.specs.Prelude.{ℕ, ℤ, ◌+◌, nat_eq, Bool, true, false, cond, not, List, [], ◌∷◌, ◌++◌, map, filter, take, drop, codes, slice_get, Option, Some, None, decimal}
 use Rattle.std.specs.List.{flat_map}
 use Rattle.std.specs.Option.{unwrap_or}

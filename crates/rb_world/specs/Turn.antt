@@ -1,8 +1,7 @@
 -- One turn of one process, which is one atomic event; and a run, which is a list of turns. The acceptance test is
 -- evaluated when an alternate has been completed, and a recovery point is set at the entry (Horning, Lauer,
 -- Melliar-Smith, Randell 1974); members of a conversation enter at different times and none leaves before all have
--- passed their tests (Randell 1975). Turns and turn bounds are this project's own.
--- All else is this project's own too.
+-- passed their tests (Randell 1975).
 use Rattle.std.specs.Prelude.{ℕ, ℤ, ◌+◌, nat_lt, nat_le, Bool, true, false, cond, ◌&&◌, List, [], ◌∷◌, ◌++◌, length, map, position, slice_get, Option, Some, None}
 use Rattle.std.specs.List.{list_all}
 use Rattle.rb_base.specs.declared.event.Cause.{Cause}
@@ -11,8 +10,9 @@ use Rattle.rb_base.specs.declared.event.Event.{Event}
 use Rattle.rb_base.specs.declared.event.Event.TheVariants.{Error, Pass, Done}
 use Rattle.rb_base.specs.declared.event.TurnKind.{TurnKind}
 use Rattle.rb_base.specs.declared.event.TurnKind.TheVariants.{Idle, Wait, Took, Undone}
+use Rattle.rb_base.specs.declared.limits.TheConstants.{MOST_OPEN_LEVELS}
 use Rattle.rb_world.specs.Kind.{Facts, Kind, Membership, Want, NothingLeft, SendsOn, ReceivesOn, MayReceiveOn, Enters, Starts, Acts, Stepped, Trapped, Went, Held}
-use Rattle.rb_world.specs.World.{Level, Status, Running, Finished, FailedWith, Process, Talk, World, change_at, last_of, without_last, is_of, process_levels, talk_at, with_process, with_each, with_talks, with_memory, goes_on, settled}
+use Rattle.rb_world.specs.World.{Level, Status, Running, Finished, FailedWith, Process, Talk, World, change_at, last_of, without_last, is_of, process_levels, talk_at, with_process, with_each, with_talks, with_memory, goes_on, settled, copy_of}
 use Rattle.rb_world.specs.Channels.{has_room, message_there}
 use Rattle.rb_world.specs.Reject.{Happened, first_again, fallen, reject}
 
@@ -45,7 +45,7 @@ passed event w = record { world = w; kind = Took; rejections = []; passes = even
 
 -- at most this many levels of one process are open
 abbrev pub most_levels : ℕ
-most_levels = 32
+most_levels = MOST_OPEN_LEVELS
 
 -- a trap rejects the innermost level, or fails a process without one
 abbrev pub trapped : {S C M : Type 0} → Kind S C M → ℕ → Cause → World S C M → Moved S C M
@@ -146,11 +146,6 @@ abbrev pub stepped : {S C M : Type 0} → Kind S C M → ℕ → ℕ → ℕ →
 stepped k t p alternate levels w (Trapped cause) = trapped k p cause w
 stepped k t p alternate levels w (Went s m) = took (moved_to k p levels w (k.keep t alternate s m))
 stepped k t p alternate levels w (Held s) = accepted k p levels (last_of levels) w (k.keep t alternate s w.memory)
-
--- the recovery point of a level, if there is one
-abbrev pub copy_of : {C : Type 0} → Option (Level C) → Option C
-copy_of None = None
-copy_of (Some level) = Some level.copy
 
 -- the alternate that a level tries, and 0 without a level
 abbrev pub tried_at : {C : Type 0} → Option (Level C) → ℕ

@@ -1,6 +1,6 @@
 -- Worlds: all processes with their open levels, the conversations, and the memory.
--- Levels with recovery points are from Horning, Lauer, Melliar-Smith, Randell (1974), and conversations from Randell
--- (1975); all else is this project's own.
+-- Levels with recovery points are from Horning, Lauer, Melliar-Smith, Randell (1974), and conversations from
+-- Randell (1975).
 use Rattle.std.specs.Prelude.{ℕ, zero, suc, nat_eq, Bool, false, List, [], ◌∷◌, map, slice_get, Option, Some, None}
 use Rattle.std.specs.List.{list_any}
 use Rattle.rb_base.specs.declared.event.Cause.{Cause}
@@ -48,6 +48,11 @@ abbrev pub last_of : {A : Type 0} → List A → Option A
 last_of [] = None
 last_of (x ∷ []) = Some x
 last_of (x ∷ y ∷ ys) = last_of (y ∷ ys)
+
+-- the recovery point of a level, if there is one
+abbrev pub copy_of : {C : Type 0} → Option (Level C) → Option C
+copy_of None = None
+copy_of (Some level) = Some level.copy
 
 -- a list without its last element
 abbrev pub without_last : {A : Type 0} → List A → List A
@@ -116,6 +121,6 @@ status_at Acts = Running
 abbrev pub goes_on : {S C M : Type 0} → Kind S C M → S → List (Level C) → Process S C
 goes_on k s levels = record { state = s; levels = levels; at_line = false; status = status_at (k.want s) }
 
--- the same once ends of blocks and calls were taken away
+-- the same once it has settled by the recovery point that is innermost then, if a level is left
 abbrev pub settled : {S C M : Type 0} → Kind S C M → S → List (Level C) → Process S C
-settled k s levels = goes_on k (k.settle s) levels
+settled k s levels = goes_on k (k.settle (copy_of (last_of levels)) s) levels

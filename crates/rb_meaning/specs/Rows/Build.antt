@@ -4,6 +4,8 @@
 use Prim.Native.String.{String}
 use Rattle.std.specs.Prelude.{ℕ, zero, suc, pos, ◌+◌, List, [], ◌∷◌, ◌++◌, replicate, codes, Some, None}
 use Rattle.rb_base.specs.declared.place.Place.{Place}
+use Rattle.rb_base.specs.declared.edition.Edition.{Edition}
+use Rattle.rb_base.specs.declared.edition.Edition.TheVariants.{First, Second}
 use Rattle.rb_syntax.specs.declared.expression.Number.{Number}
 use Rattle.rb_syntax.specs.declared.expression.Op.{Op}
 use Rattle.rb_syntax.specs.declared.expression.Quantifier.{Quantifier}
@@ -133,7 +135,7 @@ abbrev pub process_called : String → List Declaration → List ProcedureDeclar
 process_called p variables procedures cs =
     record { name = called p; variables = variables; procedures = procedures; commands = in_order cs }
 
-abbrev pub program_in : ℕ → String → List ChannelDeclaration → List ConversationDeclaration → List ProcessDeclaration → Tree
+abbrev pub program_in : Edition → String → List ChannelDeclaration → List ConversationDeclaration → List ProcessDeclaration → Tree
 program_in edition x channels conversations processes = record {
   name = called x;
   channels = channels;
@@ -145,10 +147,10 @@ program_in edition x channels conversations processes = record {
 }
 
 abbrev pub program_called : String → List ChannelDeclaration → List ConversationDeclaration → List ProcessDeclaration → Tree
-program_called x channels conversations processes = program_in 1 x channels conversations processes
+program_called x channels conversations processes = program_in First x channels conversations processes
 
 abbrev pub program_of_edition_2 : String → List ChannelDeclaration → List ConversationDeclaration → List ProcessDeclaration → Tree
-program_of_edition_2 x channels conversations processes = program_in 2 x channels conversations processes
+program_of_edition_2 x channels conversations processes = program_in Second x channels conversations processes
 
 -- turns: so many of one process, and so many rounds of the first n processes
 abbrev pub first : ℕ

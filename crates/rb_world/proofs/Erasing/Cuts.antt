@@ -4,7 +4,7 @@ use Rattle.std.specs.Prelude.{◌≡◌, ◌≤◌, ◌+◌, ℕ, zero, suc, nat
 use Rattle.rb_world.specs.World.{Level, Process}
 use Rattle.rb_world.specs.Standing.{is_failed}
 use Rattle.rb_world.specs.Nested.{IsLevelOf}
-use Rattle.rb_world.proofs.Erasing.Erasable.{Parts}
+use Rattle.rb_world.proofs.Erasing.ErasableKinds.{Parts}
 
 -- a level as a plain run has it
 abbrev pub plain_level : {S E P : Type 0} → Parts S E P → Level S → Level P

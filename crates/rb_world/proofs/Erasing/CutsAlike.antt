@@ -7,10 +7,10 @@ use Rattle.rb_world.specs.World.{Level, Process, World}
 use Rattle.rb_world.specs.Standing.{is_failed}
 use Rattle.rb_world.specs.Nested.{IsLevelOf}
 use Rattle.rb_world.specs.Turn.{Told}
-use Rattle.rb_world.proofs.Erasing.Erasable.{Nothing, Parts}
+use Rattle.rb_world.proofs.Erasing.ErasableKinds.{Nothing, Parts}
 use Rattle.rb_world.proofs.Erasing.Cuts.{plain_levels, shown_at, shown, AreOwn, ShowsOne, Alive, Lost}
 use Rattle.rb_world.proofs.Erasing.ErasureInvariant.{ShowsCut, AllShown}
-use Rattle.rb_world.proofs.Erasing.CutsElsewhere.{IsChanged, changed_there, shows_changed}
+use Rattle.rb_world.proofs.Erasing.OtherProcessesInCuts.{IsChanged, changed_there, shows_changed}
 use Rattle.rb_world.proofs.ListFacts.{none_some, some_same}
 
 -- a level without its alternate and its turns

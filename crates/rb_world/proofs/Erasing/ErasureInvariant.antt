@@ -11,7 +11,7 @@ use Rattle.rb_world.specs.Turn.{Moved, Told}
 use Rattle.rb_world.specs.Plain.{Ended, plain_moves, plain_run, survivors_of}
 use Rattle.rb_world.specs.Standing.{Each, is_failed}
 use Rattle.rb_world.specs.Erased.{Rises, numbered, released_in}
-use Rattle.rb_world.proofs.Erasing.Erasable.{Nothing, Parts, plain, IsFront}
+use Rattle.rb_world.proofs.Erasing.ErasableKinds.{Nothing, Parts, plain, IsFront}
 use Rattle.rb_world.proofs.Erasing.Cuts.{IsConsistent, Shows}
 
 -- What holds of each process alone, in all phases of a turn: each recovery point's messages are the first of those of the points

@@ -9,7 +9,7 @@ use Rattle.rb_world.proofs.Invariant.{IsInvariant}
 use Rattle.rb_world.proofs.EachProcess.{KeepsEach, settled_each}
 use Rattle.rb_world.proofs.StandingFacts.{status_at-whole}
 use Rattle.rb_world.proofs.ListFacts.{Each-change_at, Each-map, none_some, slice_get-change_at, some_same}
-use Rattle.rb_world.proofs.Erasing.Erasable.{Nothing, Parts, whole, IsErasable}
+use Rattle.rb_world.proofs.Erasing.ErasableKinds.{Nothing, Parts, whole, IsErasable}
 use Rattle.rb_world.proofs.Erasing.ErasureInvariant.{IsGrounded, IsQuiet, IsSpentOut, NoLevel, Grounded, GroundedWithin, StillGrounded, GroundedBefore, GroundedDuring, GroundedAfter}
 use Rattle.rb_world.proofs.Erasing.GroundedFacts.{used-grounded, raised-grounded, back-grounded, goes-grounded, accepts-grounded, stands-grounded, leaves-grounded, opens-grounded, falls-grounded, freed-grounded, freed-quiet}
 use Rattle.rb_world.proofs.Erasing.GroundedWorlds.{Each-becomes, reset-breaks, first-breaks, next-breaks, broken-breaks, opening-breaks, back-quiet, place-quiet, map_none, spent_one, set-grounded, all_back-grounded, all_raised-grounded, all_broken-grounded, falls_empty}

@@ -4,15 +4,15 @@ use Rattle.std.proofs.Common.{◌≡◌, ◌≤◌, ◌+◌, ℕ, ℤ, Bool, tru
 use Rattle.std.proofs.lemmas.Option.{slice_get_within}
 use Rattle.rb_base.specs.declared.event.Cause.{Cause}
 use Rattle.rb_world.specs.Kind.{Facts, Went, Held}
-use Rattle.rb_world.specs.World.{Level, Process, World, change_at, goes_on, last_of, settled, without_last}
+use Rattle.rb_world.specs.World.{Level, Process, World, change_at, goes_on, last_of, settled, without_last, copy_of}
 use Rattle.rb_world.specs.Reject.{back_to, fallen, next_alternate, put_back, raised}
-use Rattle.rb_world.specs.Turn.{copy_of, freed, leaves, new_level, one_used, stands_at, stands_now, state_freed, turn_used}
+use Rattle.rb_world.specs.Turn.{freed, leaves, new_level, one_used, stands_at, stands_now, state_freed, turn_used}
 use Rattle.rb_world.specs.Standing.{is_failed}
 use Rattle.rb_world.proofs.TurnFacts.{StepsAt, EntersAt}
 use Rattle.rb_world.proofs.EachProcess.{KeepsEach}
 use Rattle.rb_world.proofs.StandingFacts.{back_to-bare, status_at-whole}
 use Rattle.rb_world.proofs.ListFacts.{none_some, some_same}
-use Rattle.rb_world.proofs.Erasing.Erasable.{Nothing, Parts, whole, IsFront, SameMail, IsErasable}
+use Rattle.rb_world.proofs.Erasing.ErasableKinds.{Nothing, Parts, whole, IsFront, SameMail, IsErasable}
 use Rattle.rb_world.proofs.Erasing.ErasureInvariant.{IsGrounded, IsQuiet}
 use Rattle.rb_world.proofs.LevelFacts.{AreFrom, ComesFrom, IsOldOrNew, IsOld, IsNew, from_next, from_same, from_used, from_without_last, get_more, get_take, some_none}
 

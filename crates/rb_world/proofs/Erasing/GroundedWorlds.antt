@@ -10,7 +10,7 @@ use Rattle.rb_world.specs.Nested.{HasOutside, IsLevelOf}
 use Rattle.rb_world.proofs.TurnFacts.{RunsAt, MustFall, NoLevelLeft, Barred}
 use Rattle.rb_world.proofs.EachProcess.{KeepsEach}
 use Rattle.rb_world.proofs.ListFacts.{Each-change_at, Each-map, none_some, some_same}
-use Rattle.rb_world.proofs.Erasing.Erasable.{Nothing, Parts, whole, IsErasable}
+use Rattle.rb_world.proofs.Erasing.ErasableKinds.{Nothing, Parts, whole, IsErasable}
 use Rattle.rb_world.proofs.Erasing.ErasureInvariant.{IsGrounded, IsQuiet, BreaksOutside, IsSpentOut, NoLevel, OneSpent, GroundedWithin}
 use Rattle.rb_world.proofs.LevelFacts.{level_at_place, no_place, some_none, take_first, take_some}
 use Rattle.rb_world.proofs.Erasing.GroundedFacts.{raised-grounded, back-grounded, falls-grounded}
@@ -147,6 +147,6 @@ module _ {S E P : Type 0} {x : Parts S E P} {Known : ℕ → Process S S → Typ
       → MustFall (whole x) q w left cause → x.held q.state ≡ []
   falls_empty p left cause q w h runs (NoLevelLeft none) =
       spent_empty p q (h.ground.each p q runs.there) (h.ground.quiet p q runs.there) (h.spent q runs.there none)
-  falls_empty p left cause q w h runs (Barred facts c talk line wants of_c at broken _) =
+  falls_empty p left cause q w h runs (Barred facts c talk line wants of_c at broken _ _) =
       h.ground.quiet p q runs.there
       (laws.outermost p q facts c (h.ground.each p q runs.there).known line wants of_c (h.ground.talks c talk at broken))

@@ -7,7 +7,7 @@ use Rattle.rb_world.specs.World.{Level, Process, is_number, last_of, settled, wi
 use Rattle.rb_world.specs.Nested.{IsLevelOf}
 use Rattle.rb_world.specs.Turn.{is_last_of, leaves, stands_at}
 use Rattle.rb_world.proofs.ListFacts.{some_same, second_holds}
-use Rattle.rb_world.proofs.Erasing.Erasable.{Parts, whole}
+use Rattle.rb_world.proofs.Erasing.ErasableKinds.{Parts, whole}
 use Rattle.rb_world.proofs.Erasing.Cuts.{IsConsistent}
 use Rattle.rb_world.proofs.LastLevels.{last_or_before, slice_get-last}
 

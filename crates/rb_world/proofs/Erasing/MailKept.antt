@@ -2,7 +2,7 @@
 -- taken than was sent.
 use Rattle.std.proofs.Common.{◌≡◌, ◌≤◌, ℕ, zero, suc, List, [], ◌∷◌, map, slice_get, Some, refl, sym, ap, ap₂, ◌∙◌, subst, subst₂}
 use Rattle.rb_world.specs.World.{Process, World, change_at}
-use Rattle.rb_world.proofs.Erasing.Erasable.{Nothing, Parts, SameMail}
+use Rattle.rb_world.proofs.Erasing.ErasableKinds.{Nothing, Parts, SameMail}
 use Rattle.rb_world.proofs.Erasing.ErasureInvariant.{AreSent}
 use Rattle.rb_world.proofs.ListFacts.{none_some, some_same}
 

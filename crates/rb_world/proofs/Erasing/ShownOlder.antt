@@ -2,11 +2,11 @@
 use Rattle.std.proofs.Common.{◌≡◌, ◌≤◌, ◌<◌, ◌+◌, ℕ, false, List, ◌++◌, length, take, slice_get, Some, sym, ap, ap₂, ◌∙◌, arith, true≢false}
 use Rattle.rb_world.specs.World.{Level, Status, Running, Process}
 use Rattle.rb_world.specs.Standing.{is_failed}
-use Rattle.rb_world.proofs.Erasing.Erasable.{Parts}
+use Rattle.rb_world.proofs.Erasing.ErasableKinds.{Parts}
 use Rattle.rb_world.proofs.Erasing.Cuts.{plain_levels, shown_at, shown, ShowsOne, Alive, Lost, Shows}
 use Rattle.rb_world.proofs.ListFacts.{slice_get-front, slice_get-there, take-front}
-use Rattle.rb_world.proofs.Erasing.ShownFacts.{IsShown, get_shown}
-use Rattle.rb_world.proofs.Erasing.PresentShown.{as_is, shown_present}
+use Rattle.rb_world.proofs.Erasing.ShownWorlds.{IsShown, get_shown}
+use Rattle.rb_world.proofs.Erasing.PresentProcess.{as_is, shown_present}
 
 module _ {S E P : Type 0} (x : Parts S E P) where
   -- the recovery point at which a process is shown

@@ -10,17 +10,11 @@ use Rattle.rb_world.specs.World.{Level, Process, World, change_at, is_inside, le
 use Rattle.rb_world.specs.Reject.{Happened, after_event, all_back, exhausted_next, fallen, fallen_inside, next_alternate, parent_of, private_next, put_back, raised, reject, reject_at, reject_either, together_next, where_inside}
 use Rattle.rb_world.specs.Nested.{AreNested, HasOutside, IsLevelOf}
 use Rattle.rb_world.proofs.TurnFacts.{all_broken, all_next, all_spent}
-use Rattle.rb_world.proofs.ListFacts.{none_some, slice_get-change_at, slice_get-change_other}
+use Rattle.rb_world.proofs.ListFacts.{none_some, slice_get-change_at, slice_get-change_other, nothing_within}
 use Rattle.rb_world.proofs.LevelFacts.{any_level}
 use Rattle.rb_world.proofs.Members.PlaceFacts.{conversation_out, not_of}
 use Rattle.rb_world.proofs.Members.Cascade.{AllBack, AllFallen, AllNested, Alone, AreBackAt, EndsIn, Ends, HasCome, HaveFallen, IsLast, IsOutsideOf, KeepsTalks, LeavesOthers, NoneYet, Now, OneBefore}
 use Rattle.rb_world.proofs.Members.CascadeSteps.{InsideIt, OutsideIt, Place, changed_inside, inside_parent, is_back, place, place_found, private_come, put_back_outer, stays_outside, together_come}
-
--- who has so many elements has each of them
-there_within : {A : Type 0} (xs : List A) (i : ℕ) → i < length xs → slice_get xs i ≡ None → ⊥
-there_within [] i within e = omega arith
-there_within (x ∷ xs) zero within e = none_some (sym e)
-there_within (x ∷ xs) (suc i) within e = there_within xs i (omega arith) e
 
 -- what is looked up after two changes of each element
 twice : {A : Type 0} (f g : A → A) (xs : List A) (r : ℕ) {x : A} → slice_get xs r ≡ Some x → slice_get (map g (map f xs)) r ≡ Some (g (f x))
@@ -192,7 +186,7 @@ module _ {S C M : Type 0} (k : Kind S C M) (p : ℕ) (u : Process S C) (v : Worl
       → HasCome k p u v (suc j) last w → j < length u.levels
       → ((next : Option ℕ) (x : World S C M) → HasCome k p u v j next x → Ends k p u v next (outer x))
       → (level : Option (Level C)) → slice_get u.levels j ≡ level → Ends k p u v last (reject_at k p j cause level w outer)
-  reject_at-ends j cause last w outer come within rest None e = absurd (there_within u.levels j within e)
+  reject_at-ends j cause last w outer come within rest None e = absurd (nothing_within u.levels j within e)
   reject_at-ends j cause last w outer come within rest (Some level) e = reject_either-ends j cause last level w outer come e rest level.facts.conversation refl
 
   -- a cascade that has so many levels left

@@ -1,12 +1,12 @@
 -- What becomes of the levels of a conversation in a cascade of rejections: of all that are inside at once.
-use Rattle.std.proofs.Common.{◌≡◌, ◌≢◌, ◌⊎◌, inl, inr, ◌<◌, ◌≤◌, ℕ, zero, suc, Bool, true, false, List, [], ◌∷◌, length, slice_get, Some, refl, sym, ap, ◌∙◌, subst, true≢false, arith}
+use Rattle.std.proofs.Common.{◌≡◌, ◌≢◌, ◌⊎◌, inl, inr, ◌<◌, ◌≤◌, ℕ, Bool, true, false, length, slice_get, Some, refl, sym, ap, ◌∙◌, subst, true≢false, arith}
 use Rattle.std.specs.List.{list_any}
 use Rattle.std.proofs.lemmas.Bool.{cases_lt}
 use Rattle.std.proofs.lemmas.Option.{slice_get_within}
 use Rattle.rb_world.specs.Kind.{Kind}
 use Rattle.rb_world.specs.World.{Process, World, is_inside}
 use Rattle.rb_world.specs.Nested.{IsLevelOf}
-use Rattle.rb_world.proofs.ListFacts.{some_same}
+use Rattle.rb_world.proofs.ListFacts.{some_same, slice_get-there}
 use Rattle.rb_world.proofs.NestedSame.{same_number}
 use Rattle.rb_world.proofs.LevelFacts.{any_level}
 use Rattle.rb_world.proofs.Members.PlaceFacts.{PassesAt, any_found, any_none, inside_level, same_around}
@@ -19,12 +19,6 @@ use Rattle.rb_world.proofs.Members.CountedTurns.{carries_same}
 pub data Where {S C M : Type 0} (c e j : ℕ) (v : World S C M) : Type 0 where
   Apart : ((r i : ℕ) (q : Process S C) → slice_get v.processes r ≡ Some q → IsLevelOf c q.levels i → IsLevelOf e q.levels j → i < j) → Where c e j v
   Within : (r i : ℕ) (q : Process S C) → slice_get v.processes r ≡ Some q → IsLevelOf c q.levels i → IsLevelOf e q.levels j → j ≤ i → Where c e j v
-
--- what is within a list is there
-there_is : {A : Type 0} (xs : List A) (i : ℕ) → i < length xs → (x : A) × (slice_get xs i ≡ Some x)
-there_is [] i below = absurd (omega arith)
-there_is (x ∷ xs) zero below = (x, refl)
-there_is (x ∷ xs) (suc i) below = there_is xs i (omega arith)
 
 -- who is inside e keeps the levels further out
 abbrev pub KeepOuter : {S C M : Type 0} → World S C M → ℕ → ℕ → World S C M → Type 0
@@ -123,5 +117,5 @@ module _ {S C M : Type 0} (k : Kind S C M) (p : ℕ) (u : Process S C) (v : Worl
       → slice_get v.processes r ≡ Some q → IsLevelOf c q.levels i → IsLevelOf e q.levels j → j ≤ i → length later.processes ≡ length v.processes → IsLeft c later
   within_left c e j r i q later at others leave here own own' within size s y after =
       let below : s < length later.processes = slice_get_within later.processes s y after in
-      let before : (x : Process S C) × (slice_get v.processes s ≡ Some x) = there_is v.processes s (omega arith) in
+      let before : (x : Process S C) × (slice_get v.processes s ≡ Some x) = slice_get-there v.processes s (omega arith) in
       left_at c e j r i q later at others leave here own own' within s before.0 y before.1 after (is_inside e before.0) refl

@@ -4,10 +4,10 @@ use Rattle.rb_world.specs.World.{Level, Process, Status, World}
 use Rattle.rb_world.specs.Turn.{freed, opening, run}
 use Rattle.rb_world.proofs.Induction.{run-keeps}
 use Rattle.rb_world.proofs.EachProcess.{KeepsEach}
-use Rattle.rb_world.proofs.Erasing.Erasable.{Nothing, Parts, whole, IsErasable}
+use Rattle.rb_world.proofs.Erasing.ErasableKinds.{Nothing, Parts, whole, IsErasable}
 use Rattle.rb_world.proofs.Erasing.ErasureInvariant.{Grounded}
 use Rattle.rb_world.proofs.Erasing.Grounded.{grounded_kept, opening_grounded}
-use Rattle.rb_world.proofs.Erasing.Erasure.{OpensErasably}
+use Rattle.rb_world.proofs.Erasing.SurvivorsRunAlone.{OpensErasably}
 use Rattle.rb_world.proofs.Members.Together.{IsOrdered}
 
 module _ {S E P : Type 0} {x : Parts S E P} {Known : ℕ → Process S S → Type 0} (keeps : KeepsEach (whole x) Known) (laws : IsErasable x Known) where

@@ -6,10 +6,10 @@ use Rattle.rb_base.specs.declared.event.Cause.{Cause}
 use Rattle.rb_base.specs.declared.event.Cause.TheVariants.{Broken, Depth, Overrun}
 use Rattle.rb_base.specs.declared.event.Event.TheVariants.{Pass}
 use Rattle.rb_world.specs.Kind.{Facts, Kind, Want, NothingLeft, SendsOn, ReceivesOn, MayReceiveOn, Enters, Starts, Acts, Stepped, Trapped, Went, Held}
-use Rattle.rb_world.specs.World.{Level, Status, Running, Finished, FailedWith, Process, Talk, World, last_of, levels_of, talk_at, with_process}
+use Rattle.rb_world.specs.World.{Level, Status, Running, Finished, FailedWith, Process, Talk, World, last_of, levels_of, talk_at, with_process, copy_of}
 use Rattle.rb_world.specs.Channels.{has_room, message_there}
 use Rattle.rb_world.specs.Reject.{fallen, reject}
-use Rattle.rb_world.specs.Turn.{Moved, accepted, accepted_at, acts, alternate_of, all_leave, all_stand, bounded, by_status, copy_of, enter_either, idles, is_over, join, most_levels, move, moved_to, moves, opened, passed, receives, runs, stepped, steps, took, trapped, tried_at, turn_used, undone, waits}
+use Rattle.rb_world.specs.Turn.{Moved, accepted, accepted_at, acts, alternate_of, all_leave, all_stand, bounded, by_status, enter_either, idles, is_over, join, most_levels, move, moved_to, moves, opened, passed, receives, runs, stepped, steps, took, trapped, tried_at, turn_used, undone, waits}
 use Rattle.rb_world.proofs.TurnFacts.{RunsAt, come_to_stand, left_alone}
 use Rattle.rb_world.proofs.ListFacts.{none_some, slice_get-change_at}
 
@@ -43,7 +43,7 @@ pub record Outcomes {S C M : Type 0} (k : Kind S C M) (p : ℕ) (w : World S C M
       → P (undone (reject k p n cause (counted p q w)))
 
 -- what is found stands within the list
-position_within : {A : Type 0} (test : A → Bool) (xs : List A) (j : ℕ) → position test xs ≡ Some j → j < length xs
+pub position_within : {A : Type 0} (test : A → Bool) (xs : List A) (j : ℕ) → position test xs ≡ Some j → j < length xs
 position_within test [] j e = absurd (none_some e)
 position_within test (x ∷ xs) j e = (position-Some test (x ∷ xs) j x e).0
 

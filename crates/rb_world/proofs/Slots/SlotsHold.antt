@@ -5,7 +5,7 @@ use Rattle.rb_world.specs.World.{Process, World, change_at}
 use Rattle.rb_world.specs.Standing.{Each}
 use Rattle.rb_world.specs.Slots.{Slots, LieInSlots, size_on}
 use Rattle.rb_world.proofs.ListFacts.{none_some, some_same}
-use Rattle.rb_world.proofs.Erasing.Erasable.{Nothing, Parts, whole}
+use Rattle.rb_world.proofs.Erasing.ErasableKinds.{Nothing, Parts, whole}
 use Rattle.rb_world.proofs.Slots.SlotsKept.{TakesRise, KeepsSlots}
 
 -- a channel has as many slots as its size

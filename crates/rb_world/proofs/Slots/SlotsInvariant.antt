@@ -2,13 +2,13 @@
 use Rattle.std.proofs.Common.{◌≡◌, ℕ, ℤ, Bool, true, false, cond, List, [], ◌∷◌, position, slice_get, option_map, Option, Some, None, refl, sym, ◌∙◌, subst, arith}
 use Rattle.rb_base.specs.declared.event.Cause.TheVariants.{Inner}
 use Rattle.rb_world.specs.Kind.{Ends, Kind, Stepped, Held}
-use Rattle.rb_world.specs.World.{Level, Process, Running, Status, World, change_at, is_inside, is_of, last_of, settled, status_at, with_each, with_memory, with_process, without_last}
+use Rattle.rb_world.specs.World.{Level, Process, Running, Status, World, change_at, is_inside, is_of, last_of, settled, status_at, with_each, with_memory, with_process, without_last, copy_of}
 use Rattle.rb_world.specs.Reject.{all_back, at_place, broken_talk, fallen, fallen_inside, first_again, next_talk, put_back, raised, reset_below, where_inside}
-use Rattle.rb_world.specs.Turn.{copy_of, freed, leaves, stands_at, stands_now, turn_used}
+use Rattle.rb_world.specs.Turn.{freed, leaves, stands_at, stands_now, turn_used}
 use Rattle.rb_world.specs.Slots.{Slots, with_slots}
 use Rattle.rb_world.proofs.TurnFacts.{StepsAt}
 use Rattle.rb_world.proofs.Invariant.{IsInvariantUnder}
-use Rattle.rb_world.proofs.Erasing.Erasable.{Nothing, Parts, whole, IsFront, SameMail, IsErasable}
+use Rattle.rb_world.proofs.Erasing.ErasableKinds.{Nothing, Parts, whole, IsFront, SameMail, IsErasable}
 use Rattle.rb_world.proofs.Erasing.ErasureInvariant.{Grounded, GroundedWithin, StillGrounded}
 use Rattle.rb_world.proofs.Slots.UnderSlots.{bare, held_bare, put_back-bare, steps-bare, went_bare}
 use Rattle.rb_world.proofs.Slots.SlotsKept.{KeepsSlots, fallen_keeps, left_keeps, moved_keeps, opened_keeps, put_back_keeps, raised_keeps, same_front, stays_keeps, used_keeps}

@@ -8,7 +8,7 @@ use Rattle.rb_world.specs.Reject.{back_to, fallen, next_alternate, put_back, rai
 use Rattle.rb_world.specs.Turn.{one_used, turn_used}
 use Rattle.rb_world.proofs.LevelFacts.{get_take, get_without_last}
 use Rattle.rb_world.proofs.ListFacts.{none_some, some_same}
-use Rattle.rb_world.proofs.Erasing.Erasable.{Parts, whole, IsFront, SameMail}
+use Rattle.rb_world.proofs.Erasing.ErasableKinds.{Parts, whole, IsFront, SameMail}
 
 -- on channel c, no number taken, now or in a recovery point, lies below the number that room is counted from
 pub record TakesRise {S E P : Type 0} (x : Parts S E P) (c : ℕ) (q : Process S S) : Type 0 where

@@ -6,7 +6,7 @@ use Rattle.rb_world.specs.World.{Process, Talk, World, settled, with_each, with_
 use Rattle.rb_world.specs.Slots.{Slots, put_slot, slots_after, with_slots}
 use Rattle.rb_world.proofs.ListFacts.{slice_get-change_other}
 use Rattle.rb_world.proofs.TurnFacts.{StepsAt}
-use Rattle.rb_world.proofs.Erasing.Erasable.{Nothing, Parts, whole, sends_by, Moves, IsErasable}
+use Rattle.rb_world.proofs.Erasing.ErasableKinds.{Nothing, Parts, whole, sends_by, Moves, IsErasable}
 use Rattle.rb_world.proofs.Slots.UnderSlots.{bare, steps-bare}
 use Rattle.rb_world.proofs.Slots.SlotsKept.{stays_keeps}
 use Rattle.rb_world.proofs.Slots.SlotsHold.{comes_changed, comes_mapped, HoldsOn, Keeping, holds_on}

@@ -9,7 +9,7 @@ use Rattle.rb_world.specs.Channels.{has_room, has_room_for, has_room_on, room_fr
 use Rattle.rb_world.specs.Slots.{Slots, LieInSlots, put_slot, size_on, slot_of, slots_after, stepped_with_slots}
 use Rattle.rb_world.proofs.ListFacts.{some_same, slice_get-change_at}
 use Rattle.rb_world.proofs.TurnFacts.{IsReady, ToSend, ToReceive, ToReceiveIfThere, ToStart, ToAct}
-use Rattle.rb_world.proofs.Erasing.Erasable.{Nothing, Parts, whole, sends_by, SameMail, Moves, IsErasable}
+use Rattle.rb_world.proofs.Erasing.ErasableKinds.{Nothing, Parts, whole, sends_by, SameMail, Moves, IsErasable}
 use Rattle.rb_world.proofs.Slots.UnderSlots.{bare}
 use Rattle.rb_world.proofs.Slots.SlotsRead.{mods_differ, put_other, put_read, put_sized}
 use Rattle.rb_world.proofs.Slots.SlotsKept.{TakesRise, moved_keeps, moved_rises, room_over, stays_keeps}

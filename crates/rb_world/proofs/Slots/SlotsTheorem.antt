@@ -1,6 +1,6 @@
 -- Slots over whole runs: they hold all messages that may still be asked for; slots that are written beside the messages change nothing; and
 -- a run whose messages are read from their slots is the same.
-use Rattle.std.proofs.Common.{◌≡◌, ◌<◌, ℕ, pos, zero, suc, List, [], ◌∷◌, replicate, slice_get, option_map, Option, Some, None, refl, sym, ap, ◌∙◌, subst, map-id, arith}
+use Rattle.std.proofs.Common.{◌≡◌, ◌<◌, ℕ, pos, zero, suc, List, [], ◌∷◌, replicate, slice_get, option_map, Some, refl, sym, ap, ◌∙◌, subst, map-id, arith}
 use Rattle.std.proofs.lemmas.Option.{slice_get-map}
 use Rattle.std.proofs.lemmas.List.{length-replicate}
 use Rattle.rb_world.specs.Kind.{Ends, Kind, Stepped, Trapped, Went, Held}
@@ -17,14 +17,15 @@ use Rattle.rb_world.proofs.RunsMeet.{KeepsKnown, WithPast, invariant_knows}
 use Rattle.rb_world.proofs.Image.{IsImage, stepped_image}
 use Rattle.rb_world.proofs.ImageRuns.{opening_run-image}
 use Rattle.rb_world.proofs.Reread.{ReadsSame, run-reread}
-use Rattle.rb_world.proofs.Erasing.Erasable.{Nothing, Parts, whole, IsErasable}
+use Rattle.rb_world.proofs.Erasing.ErasableKinds.{Nothing, Parts, whole, IsErasable}
 use Rattle.rb_world.proofs.Erasing.ErasureInvariant.{Grounded, GroundedWithin, StillGrounded}
 use Rattle.rb_world.proofs.Erasing.Grounded.{grounded_kept, opening_grounded}
-use Rattle.rb_world.proofs.Erasing.FreedShown.{IsImageAt, get_mapped}
+use Rattle.rb_world.proofs.Erasing.SameLinesReleased.{IsImageAt, get_mapped}
 use Rattle.rb_world.proofs.Slots.UnderSlots.{bare, under_slots}
 use Rattle.rb_world.proofs.Slots.SlotsKept.{TakesRise}
 use Rattle.rb_world.proofs.Slots.SlotsHold.{HoldsOn}
 use Rattle.rb_world.proofs.Slots.SlotsInvariant.{holds_kept}
+use Rattle.std.proofs.lemmas.Iterator.Adapters.{option_map_id}
 
 -- opening states of which all is known, that hold no line, and have sent nothing
 pub record OpensWithSlots {S E P : Type 0} (x : Parts S E P) (Known : ℕ → Process S S → Type 0) (states : List S) : Type 0 where
@@ -38,21 +39,17 @@ same_step_but_slots k s slots (Trapped cause) = refl
 same_step_but_slots k s slots (Went t m) = refl
 same_step_but_slots k s slots (Held t) = refl
 
-same_copy : {C : Type 0} (c : Option C) → option_map (λ x. x) c ≡ c
-same_copy None = refl
-same_copy (Some x) = refl
-
 pub slots_image : {S C M : Type 0} (k : Kind S C M) → IsImage (with_slots k) k (λ s. s) (λ c. c) (λ m. m.0)
 slots_image k = record {
   plain = record {
     channels = refl;
     groups = refl;
     want = λ s. refl;
-    settle = λ s. refl;
+    settle = λ c s. ap (λ x. k.settle x s) (option_map_id c);
     enter = λ s. refl;
     copy = λ s. refl;
     accept = λ s. refl;
-    step = λ alternate c s message m. ap (λ x. k.step alternate x s message m.0) (same_copy c) ∙ same_step_but_slots k s m.1 (k.step alternate c s message m.0);
+    step = λ alternate c s message m. ap (λ x. k.step alternate x s message m.0) (option_map_id c) ∙ same_step_but_slots k s m.1 (k.step alternate c s message m.0);
     sent = λ s c. refl;
     taken = λ s c. refl;
     sent_then = λ s x c. refl;

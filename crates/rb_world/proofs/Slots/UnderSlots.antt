@@ -2,10 +2,10 @@
 use Rattle.std.proofs.Common.{◌≡◌, ℕ, ℤ, Bool, List, [], ◌∷◌, ◌++◌, map, position, slice_get, Option, Some, None, ◌+◌, nat_lt, refl, sym, ap, ap₂, ◌∙◌, subst}
 use Rattle.rb_base.specs.declared.event.Cause.{Cause}
 use Rattle.rb_world.specs.Kind.{Ends, Facts, Kind, Stepped, Trapped, Went, Held}
-use Rattle.rb_world.specs.World.{Level, Process, Status, World, change_at, is_of, last_of, with_process, with_each, with_talks}
+use Rattle.rb_world.specs.World.{Level, Process, Status, World, change_at, is_of, last_of, with_process, with_each, with_talks, copy_of}
 use Rattle.rb_world.specs.Channels.{has_room_on, has_room_for, message_on, message_between, first_message, room_from, seen_copy}
 use Rattle.rb_world.specs.Reject.{all_back, at_place, back_to, broken_talk, fallen_inside, first_again, next_talk, put_back, raised, where_inside}
-use Rattle.rb_world.specs.Turn.{copy_of, freed, lines_freed}
+use Rattle.rb_world.specs.Turn.{freed, lines_freed}
 use Rattle.rb_world.specs.Slots.{Slots, stepped_with_slots, with_slots}
 use Rattle.rb_world.proofs.TurnFacts.{RunsAt, MayAct, IsReady, ToSend, ToReceive, ToReceiveIfThere, ToStart, ToAct, StepsAt, IsEntry, Alone, Joining, EntersAt, MustFall, NoLevelLeft, Barred, RejectsAt}
 use Rattle.rb_world.proofs.Invariant.{Between, Within, IsInvariant}
@@ -128,7 +128,7 @@ module _ {S C M : Type 0} (k : Kind S C M) where
 
   falls-bare : {q : Process S C} {w : World S C (M × Slots)} {left : ℕ} {cause : Cause} → MustFall (with_slots k) q w left cause → MustFall k q (bare w) left cause
   falls-bare (NoLevelLeft none) = NoLevelLeft none
-  falls-bare (Barred facts c talk away wants of_c there broken is) = Barred facts c talk away wants of_c there broken is
+  falls-bare (Barred facts c talk away wants of_c there broken left is) = Barred facts c talk away wants of_c there broken left is
 
   rejects-bare : {p : ℕ} {q : Process S C} {w : World S C (M × Slots)} {j : ℕ} {level : Level C} → RejectsAt p q w j level → RejectsAt p q (bare w) j level
   rejects-bare at = record { runs = runs-bare at.runs; place = at.place }

@@ -3,7 +3,7 @@ use Rattle.rb_parse.proofs.Forms.{program_unmarked}
 use Rattle.rb_parse.proofs.Reaching.{begins, by_part, by_terminal, complete, exit_missed, exit_sure, exit_within, last_start, starts}
 use Rattle.rb_parse.specs.ExpressionTable.{nothing_after}
 use Rattle.rb_parse.specs.Parts.{Part}
-use Rattle.rb_parse.specs.declared.edition.Edition.TheVariants as editions
+use Rattle.rb_base.specs.declared.edition.Edition.TheVariants as editions
 use Rattle.rb_parse.proofs.program.read_program.Goals as goal
 
 pub returns-in_err-take-clause-err : goal.returns-in_err-take-clause-err

@@ -36,4 +36,4 @@ returns-in_err-take-4-clause-err c =
 
 pub returns-clause-ok : goal.returns-clause-ok
 returns-clause-ok c =
-    same_value (made_program c.args.edition (c.in_ok-name.ensures.ok).is c.names.ensures c.recoveries.ensures c.number_of.ensures c.in_ok-take-4.ensures.ok) (complete (by_terminal (by_terminal (by_part (by_part (by_terminal (by_terminal (starts _ refl c.in_ok-take.ensures.ok) (name_taken c.in_ok-name.ensures.ok)) c.in_ok-take-2.ensures.ok) c.in_ok-connections.ensures.ok) c.in_ok-processes.ensures.ok) c.in_ok-take-3.ensures.ok) c.in_ok-take-4.ensures.ok))
+    same_value (made_program c.args.edition (c.in_ok-name.ensures.ok).is c.names.ensures c.recoveries.ensures c.in_ok-take-4.ensures.ok) (complete (by_terminal (by_terminal (by_part (by_part (by_terminal (by_terminal (starts _ refl c.in_ok-take.ensures.ok) (name_taken c.in_ok-name.ensures.ok)) c.in_ok-take-2.ensures.ok) c.in_ok-connections.ensures.ok) c.in_ok-processes.ensures.ok) c.in_ok-take-3.ensures.ok) c.in_ok-take-4.ensures.ok))

@@ -15,7 +15,7 @@ use Rattle.rb_syntax.specs.Plain.{alternates_of, expression, otherwise, recovery
 use Rattle.rb_syntax.specs.Tree.{NoElse, Receiving, Recovering, Recovers}
 use Rattle.std.specs.Option.{is_some}
 use Rattle.rb_parse.specs.declared.stop.Stop.TheVariants as stops
-use Rattle.rb_parse.specs.declared.edition.Edition.TheVariants as editions
+use Rattle.rb_base.specs.declared.edition.Edition.TheVariants as editions
 use Rattle.rb_parse.proofs.statements.+statement.Goals as goal
 
 pub read_statements-statements-init : goal.read_statements-statements-init

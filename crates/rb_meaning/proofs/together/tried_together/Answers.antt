@@ -1,0 +1,5 @@
+use Rattle.rb_meaning.proofs.AlternatesTriedTogether.{tried_together as together}
+use Rattle.rb_meaning.proofs.together.tried_together.Goals as goal
+
+pub returns : goal.returns
+returns c = together
