@@ -159,11 +159,12 @@ HaveSlots slots (site ∷ sites) = HasItsSlot slots site × HaveSlots slots site
 
 pub have_slots : (found : Found) (sites : List Site) → AreApart (flat_map number_at sites) → AreBelow (length found.slots) (flat_map number_at sites) → HaveSlots (visited found sites).slots sites
 have_slots found [] a b = tt
-have_slots found (site ∷ sites) a b =
-    (has-slot found site sites a b,
-    have_slots (visit found site) sites (apart-rest (number_at site) (flat_map number_at sites) a)
-    (subst (λ n. AreBelow n (flat_map number_at sites)) (sym (ap length (visit-slots found site) ∙ length-site found.slots site))
-    (below-rest (length found.slots) (number_at site) (flat_map number_at sites) b)))
+have_slots found (site ∷ sites) a b = (
+  has-slot found site sites a b,
+  have_slots (visit found site) sites (apart-rest (number_at site) (flat_map number_at sites) a)
+      (subst (λ n. AreBelow n (flat_map number_at sites)) (sym (ap length (visit-slots found site) ∙ length-site found.slots site))
+      (below-rest (length found.slots) (number_at site) (flat_map number_at sites) b)),
+)
 
 -- the same by index
 pub slot_at : (slots : List Slot) (sites : List Site) (k : ℕ) (d : Site) → HaveSlots slots sites → k < length sites → HasItsSlot slots (get_or sites k d)

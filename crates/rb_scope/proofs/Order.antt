@@ -38,11 +38,11 @@ earlier-along l c n l' c' n' k d m h i =
     let b : l' ≤ k = first-le k d m l' c' n' i in
     not-earlier k d m l c n (omega arith)
     (λ e. let p : l ≡ l' = omega arith in let q : l' ≡ k = omega arith in
-      let x : c ≤ c' = second-le l' c' n' l c n h p in let y : c' ≤ d = second-le k d m l' c' n' i q in omega arith)
+    let x : c ≤ c' = second-le l' c' n' l c n h p in let y : c' ≤ d = second-le k d m l' c' n' i q in omega arith)
     (λ e f. let p : l ≡ l' = omega arith in let q : l' ≡ k = omega arith in
-      let x : c ≤ c' = second-le l' c' n' l c n h p in let y : c' ≤ d = second-le k d m l' c' n' i q in
-      let v : c ≡ c' = omega arith in let w : c' ≡ d = omega arith in
-      let z : n ≤ n' = third-le l' c' n' l c n h p v in let t : n' ≤ m = third-le k d m l' c' n' i q w in omega arith)
+    let x : c ≤ c' = second-le l' c' n' l c n h p in let y : c' ≤ d = second-le k d m l' c' n' i q in
+    let v : c ≡ c' = omega arith in let w : c' ≡ d = omega arith in
+    let z : n ≤ n' = third-le l' c' n' l c n h p v in let t : n' ≤ m = third-le k d m l' c' n' i q w in omega arith)
 
 -- the same of faults
 pub comes_before-self : (a : SourceFault) → comes_before a a ≡ false
@@ -72,12 +72,14 @@ IsLeast one faults = IsIn one faults × NoneBefore one faults
 
 -- the first of two and of others is the first of all
 chosen : (first fault r : SourceFault) (faults : List SourceFault) (b : Bool) → comes_before fault first ≡ b → IsLeast r (cond b fault first ∷ faults) → IsLeast r (first ∷ fault ∷ faults)
-chosen first fault r faults true e (i, (h, n)) =
-    (elim i [ inl p ↦ inr (inl p) | inr p ↦ inr (inr p) ],
-    (comes_before-along r fault first h (comes_before-once fault first e), (h, n)))
-chosen first fault r faults false e (i, (h, n)) =
-    (elim i [ inl p ↦ inl p | inr p ↦ inr (inr p) ],
-    (h, (comes_before-along r first fault h e, n)))
+chosen first fault r faults true e (i, (h, n)) = (
+  elim i [ inl p ↦ inr (inl p) | inr p ↦ inr (inr p) ],
+  (comes_before-along r fault first h (comes_before-once fault first e), (h, n)),
+)
+chosen first fault r faults false e (i, (h, n)) = (
+  elim i [ inl p ↦ inl p | inr p ↦ inr (inr p) ],
+  (h, (comes_before-along r first fault h e, n)),
+)
 
 -- what is kept as the first is the first
 kept : (first r : SourceFault) (faults : List SourceFault) → first_after (Some first) faults ≡ Some r → IsLeast r (first ∷ faults)

@@ -1,15 +1,16 @@
 // What each name of a source stands for, and the faults of scopes and limits.
 #![tactic(auto)]
 
+mod checked;
 mod declared;
 mod expression;
 mod finder;
 mod first;
 pub mod laws;
 mod lists;
+mod naming;
 mod operands;
 mod program;
-pub mod resolve;
 mod rules;
 mod scope;
 mod sites;
@@ -19,5 +20,6 @@ mod statement;
 mod variables;
 mod want;
 
-pub use resolve::Checked;
+pub use checked::{Checked, resolve};
+pub use naming::names;
 pub use slot::Slot;

@@ -55,7 +55,11 @@ pub(crate) fn count_conversations(conversations: &[Conversation<'_>], finder: &m
     ensures { finder.new ≡ visited finder.old (list_sites (λ one. one.name.place) most_connections 0 (map conversation_declaration conversations.now)) }
 {
     if conversations.len() > MOST_CONNECTIONS {
-        finder.note(true, FaultName::S7, conversations[MOST_CONNECTIONS].name.place);
+        finder.note(
+            true,
+            FaultName::S7,
+            conversations[MOST_CONNECTIONS].name.place,
+        );
     }
 }
 

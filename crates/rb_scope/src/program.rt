@@ -191,10 +191,7 @@ fn visit_conversations(all: &[Conversation<'_>], spot: &Spot<'_, '_>, finder: &m
 }
 
 /// The declarations of the program.
-fn program_declared<'a>(
-    alloc: Global,
-    program: &Program<'a>,
-) -> Result<Vec<Declared<'a>>, Memory>
+fn program_declared<'a>(alloc: Global, program: &Program<'a>) -> Result<Vec<Declared<'a>>, Memory>
     ensures { IfOk result (λ declared. all_held declared.items ≡ program_scope (tree program.now)) }
 {
     let mut declared = Vec::new(alloc);

@@ -32,7 +32,9 @@ impl<'a> Scope<'a> {
     pub(crate) fn new(alloc: Global) -> Self
         ensures { result ≡ [] }
     {
-        Scope { declared: Vec::new(alloc) }
+        Scope {
+            declared: Vec::new(alloc),
+        }
     }
 
     /// The first declaration of a name.

@@ -40,12 +40,7 @@ pub(crate) fn uses(finder: &mut Finder, want: Want, name: Name<'_>, scopes: &Sco
 
 /// A procedure is called with so many arguments.
 #[tactic(auto, unfolding(crate::specs::Finding::visit))]
-pub(crate) fn calls(
-    finder: &mut Finder,
-    name: Name<'_>,
-    arguments: usize,
-    scopes: &Scopes<'_, '_>,
-)
+pub(crate) fn calls(finder: &mut Finder, name: Name<'_>, arguments: usize, scopes: &Scopes<'_, '_>)
     ensures { finder.new ≡ visit finder.old (Calls (identifier name.entry) arguments (scopes_of scopes.now)) }
 {
     if let Some(one) = scopes.meaning_of(name.text) {
@@ -75,7 +70,11 @@ pub(crate) fn sizes(finder: &mut Finder, size: Number)
 pub(crate) fn channels(finder: &mut Finder, size: Number)
     ensures { finder.new ≡ visit finder.old (Channels size) }
 {
-    finder.note(is_outside(MOST_CHANNEL_SIZE, size), FaultName::S8, size.place);
+    finder.note(
+        is_outside(MOST_CHANNEL_SIZE, size),
+        FaultName::S8,
+        size.place,
+    );
 }
 
 /// A recovery block has this turn bound.
@@ -88,7 +87,14 @@ pub(crate) fn bounds(finder: &mut Finder, bound: Number)
 
 /// A variable takes some of the words of its process, behind those of the variables before it.
 #[tactic(auto, unfolding(crate::specs::Finding::visit))]
-pub(crate) fn takes(finder: &mut Finder, most: u32, before: u32, after: u32, words: u32, place: Place)
+pub(crate) fn takes(
+    finder: &mut Finder,
+    most: u32,
+    before: u32,
+    after: u32,
+    words: u32,
+    place: Place,
+)
     requires { after ≡ before + words }
     ensures { finder.new ≡ visit finder.old (Takes most before words place) }
 {

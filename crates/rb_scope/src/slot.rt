@@ -9,16 +9,10 @@ pub enum Slot {
     Conversation(u32),
     Procedure(u32),
     /// A variable of the process: its first word among the words of these, and the number of elements of an array.
-    Global {
-        at: u32,
-        size: Option<u32>,
-    },
+    Global { at: u32, size: Option<u32> },
     /// A parameter, or a variable of a block: its first word above the base of the running call, and the number of
     /// elements of an array.
-    Local {
-        at: u32,
-        size: Option<u32>,
-    },
+    Local { at: u32, size: Option<u32> },
     /// The name of a quantified expression: how many quantified expressions stand around that one.
     Counter(u32),
 }

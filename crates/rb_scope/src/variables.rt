@@ -76,7 +76,11 @@ pub(crate) fn visit_sizes(variables: &[Var<'_>], finder: &mut Finder)
 }
 
 /// Visits the words that the variables of a process take.
-pub(crate) fn visit_words(most: u32, variables: &[Var<'_>], finder: &mut Finder) -> Result<(), Memory>
+pub(crate) fn visit_words(
+    most: u32,
+    variables: &[Var<'_>],
+    finder: &mut Finder,
+) -> Result<(), Memory>
     ensures { OnOk result (finder.new ≡ visited finder.old (words_sites most 0 (map declaration variables.now))) }
 {
     let mut before = 0;

@@ -1,6 +1,6 @@
 use Rattle.rb_syntax.specs.Plain.{tree}
 use Rattle.rb_scope.proofs.Answer.{found_none, found_first}
-use Rattle.rb_scope.proofs.resolve.resolve.Goals as goal
+use Rattle.rb_scope.proofs.checked.resolve.Goals as goal
 
 pub returns-in-Ok-slots-clause-resolved : goal.returns-in-Ok-slots-clause-resolved
 returns-in-Ok-slots-clause-resolved c =
