@@ -14,6 +14,7 @@ use std::rt::Files;
 pub struct HostShelf<'a, R: Files> {
     runtime: &'a R,
     file: Option<R::File>,
+    attempts: usize,
     faults: FaultCount,
 }
 
@@ -26,8 +27,18 @@ impl<'a, R: Files> HostShelf<'a, R> {
         HostShelf {
             runtime,
             file: None,
+            attempts: 0,
             faults: FaultCount::new(),
         }
+    }
+}
+
+impl<R: Files> HostShelf<'_, R> {
+    /// How many starts there were, whether they went well or not.
+    pub fn attempts(&self) -> usize
+        ensures { result ≡ self.now.attempts }
+    {
+        self.attempts
     }
 }
 
@@ -40,6 +51,7 @@ impl<R: Files> Shelf for HostShelf<'_, R> {
 
     fn start(&mut self, name: &str) -> Result<(), Failed> {
         self.file = None;
+        self.attempts = self.attempts.saturating_add(1);
         let Ok(file) = fs::open(self.runtime, name) else {
             self.faults.fault();
             return Err(Failed);

@@ -4,7 +4,7 @@ use Rattle.std.specs.List.{list_all}
 use Rattle.std.proofs.lemmas.Bool.Decides.{nat_tests}
 use Rattle.rb_world.proofs.ListFacts.{second_holds, first_holds}
 use Rattle.rb_syntax.specs.Tree.{ProcessDeclaration, Tree}
-use Rattle.rb_run.specs.Runnable.{has_none, are_distinct, is_scalar, names_in, are_runnable, most_variables, has_one, is_runnable_process, is_runnable}
+use Rattle.rb_run.specs.Runnable.{is_first, has_none, are_distinct, is_scalar, names_in, are_runnable, most_variables, has_one, is_runnable_process, is_runnable}
 
 -- a list that has nothing in it
 pub has_none-empty : {A : Type 0} (xs : List A) → has_none xs ≡ true → xs ≡ []
@@ -39,7 +39,8 @@ pub has_one-tree : (tree : Tree) → is_runnable tree ≡ true → has_one tree.
 has_one-tree tree runs =
     let none = has_none tree.conversations in
     let one = has_one tree.processes in
-    second_holds none one (second_holds (has_none tree.channels) (none && one) runs)
+    let channels = has_none tree.channels in
+    second_holds none one (second_holds channels (none && one) (second_holds (is_first tree.edition) (channels && (none && one)) runs))
 
 -- the only process is one that is run so far
 pub is_runnable-only : (tree : Tree) (process : ProcessDeclaration) → tree.processes ≡ process ∷ [] → is_runnable tree ≡ true → is_runnable_process process ≡ true

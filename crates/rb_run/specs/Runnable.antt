@@ -1,15 +1,22 @@
--- Which trees are run so far: one process whose variables are scalars with names of their own, at most 2,048, and whose
+-- Which trees are run so far: those of the first edition with one process whose variables are scalars with names of their own, at most 2,048, and whose
 -- every used name is one of them; no channels, conversations or procedures. Its statements are assignments, `print` with
 -- at most 16 items, `fail`, and recovery blocks, whose alternates have no variables and no recovery block inside.
 -- What this crate defines is this project's own, but for what is said to be from the literature.
 use Rattle.std.specs.Prelude.{ℕ, pos, int_le, nat_le, nat_eq, Bool, true, false, not, ◌&&◌, ◌||◌, List, [], ◌∷◌, length, map, Option, Some, None}
 use Rattle.std.specs.List.{list_any, list_all}
 use Rattle.std.specs.Cmp.Lexicographic.{pointwise}
+use Rattle.rb_base.specs.declared.edition.Edition.{Edition}
+use Rattle.rb_base.specs.declared.edition.Edition.TheVariants.{First, Second}
 use Rattle.rb_base.specs.declared.limits.TheConstants.{MOST_TURNS, MOST_WORDS_FIRST}
 use Rattle.rb_syntax.specs.declared.expression.Number.{Number}
 use Rattle.rb_syntax.specs.declared.expression.Op.{Op}
 use Rattle.rb_syntax.specs.declared.expression.Op.TheVariants.{Or, And, Eq, Ne, Lt, Le, Gt, Ge, Add, Sub, Mul, Div, Rem}
 use Rattle.rb_syntax.specs.Tree.{Identifier, Expression, Literal, Variable, Former, Minus, Negation, Chained, Quantification, Reference, Refer, Scalar, Element, Links, NoLink, Linked, Declaration, Printed, Words, Amount, Command, Assignment, Printing, Sending, Receiving, Conditional, Loop, Invocation, Failure, Recovering, Commands, NoCommand, Then, Body, Scope, RecoveryBlock, Recovers, Alternates, NoAlternate, Alternate, ProcessDeclaration, Tree}
+
+-- the first edition
+abbrev pub is_first : Edition → Bool
+is_first First = true
+is_first Second = false
 
 -- a list has nothing in it
 abbrev pub has_none : {A : Type 0} → List A → Bool
@@ -207,4 +214,4 @@ has_one (process ∷ other ∷ others) = false
 
 -- a tree that is run so far
 abbrev pub is_runnable : Tree → Bool
-is_runnable tree = has_none tree.channels && (has_none tree.conversations && has_one tree.processes)
+is_runnable tree = is_first tree.edition && (has_none tree.channels && (has_none tree.conversations && has_one tree.processes))

@@ -3,24 +3,36 @@
 ghost use Rattle.std.specs.Prelude.{◌≡◌, ◌∷◌, [], ◌&&◌, true, length, map, nat_eq, nat_le, option_map};
 ghost use Rattle.std.specs.List.{list_all, list_any};
 ghost use Rattle.std.specs.Cmp.Lexicographic.{pointwise};
-ghost use Rattle.rb_run.specs.Runnable.{is_scalar, is_runnable, is_runnable_process, names_in, are_distinct, is_among, is_bound, is_runnable_block, is_runnable_command, are_runnable, is_simple_body, are_simple_alternates, are_runnable_alternates, is_private};
+ghost use Rattle.rb_run.specs.Runnable.{is_first, is_scalar, is_runnable, is_runnable_process, names_in, are_distinct, is_among, is_bound, is_runnable_block, is_runnable_command, are_runnable, is_simple_body, are_simple_alternates, are_runnable_alternates, is_private};
 ghost use Rattle.rb_syntax.specs.Plain.{body as plain_body, alternates_of, command, commands_of, declaration, identifier, process_declaration, recovery_block, tree};
 
 use crate::simple::{are_simple, is_known_expression, is_simple};
-use rb_base::{MOST_TURNS, MOST_WORDS_FIRST};
+use rb_base::{Edition, MOST_TURNS, MOST_WORDS_FIRST};
 use rb_syntax::{Block, Name, Number, Process, Program, Recovery, Statement, Var};
 
-/// Whether a program is run so far: it has one process, of scalars with names of their own, and assignments, `print`,
-/// `fail` and recovery blocks that use no other names.
+/// Whether a program is run so far: it is of the first edition and has one process, of scalars with names of their own,
+/// and assignments, `print`, `fail` and recovery blocks that use no other names.
 pub fn is_runnable(program: &Program<'_>) -> bool
     ensures { result ≡ is_runnable (tree program.now) }
 {
+    if !is_first(program.edition) {
+        return false;
+    }
     if !program.channels.is_empty() || !program.conversations.is_empty() {
         return false;
     }
     match program.processes.as_slice() {
         [process] => is_runnable_process(process),
         _ => false,
+    }
+}
+
+fn is_first(edition: Edition) -> bool
+    ensures { result ≡ is_first edition }
+{
+    match edition {
+        Edition::First => true,
+        Edition::Second => false,
     }
 }
 

@@ -10,6 +10,7 @@ use rb_outside::{Buffered, Shelf, Sink, buffer_memory};
 use std::alloc::Global;
 
 /// The sink that a command wrote to, and the exit status of the program that ends so.
+#[derive(Drop)]
 pub struct Carried<S> {
     pub sink: S,
     pub number: u8,

@@ -1,5 +1,5 @@
 use crate::{Status, Words, command};
-use rb_outside::{Failed, MemoryShelf, MemorySink, Sink};
+use rb_outside::{MemoryShelf, MemorySink};
 use std::alloc::{AllocError, Global};
 use std::test::Fail;
 
@@ -8,24 +8,6 @@ const SOURCE: &str = "program a; process p { var x; x := 1; print \"x\", x; } en
 const SCHEDULE: &str = "p 2";
 
 const WANTED: &str = "2 out p x 1\n2 done p\nend 2\np done\np.x = 1\n";
-
-/// A sink that takes one byte at each call.
-#[derive(Drop)]
-struct OneByte {
-    sink: MemorySink,
-}
-
-impl Sink for OneByte {
-    ghost use Rattle.std.specs.Prelude.{Some};
-
-    ghost written = { λ s. Some s.sink.bytes };
-
-    ghost faults = { λ s. s.sink.calls.faults };
-
-    fn put(&mut self, bytes: &[u8]) -> Result<usize, Failed> {
-        self.sink.put(&bytes[..1])
-    }
-}
 
 /// What stands in the way of a run: the number of a call that fails, or how much room the sink has.
 #[derive(Clone, Copy)]
@@ -67,16 +49,19 @@ fn shelf_of(alloc: Global, failing: u64) -> Result<MemoryShelf, AllocError> {
     files.push(named(alloc, "a", SOURCE)?)?;
     files.push(named(alloc, "b", SCHEDULE)?)?;
     let failing = Vec::from_slice(alloc, &[failing])?;
-    Ok(MemoryShelf::in_pieces(files, failing, 1))
+    Ok(MemoryShelf::limited(files, failing, 1))
 }
 
-fn sink_of(alloc: Global, failing: u64, room: usize) -> Result<OneByte, Fail> {
+// A sink that takes one byte at each call.
+fn sink_of(alloc: Global, failing: u64, room: usize) -> Result<MemorySink, Fail> {
     let failing = Vec::from_slice(alloc, &[failing])?;
-    let sink = MemorySink::new(alloc, room, failing).ok().ok_or("memory")?;
-    Ok(OneByte { sink })
+    let sink = MemorySink::limited(alloc, room, failing, 1)
+        .ok()
+        .ok_or("memory")?;
+    Ok(sink)
 }
 
-fn ran(alloc: Global, limit: Limit) -> Result<(Status, OneByte), Fail> {
+fn ran(alloc: Global, limit: Limit) -> Result<(Status, MemorySink), Fail> {
     let (bad_read, bad_write, room) = limits(limit);
     let mut shelf = shelf_of(alloc, bad_read)?;
     let mut sink = sink_of(alloc, bad_write, room)?;
@@ -105,7 +90,7 @@ fn stops_at_each_fault(rt: HostRuntime) -> Result<(), Fail> {
         let limit = limit_row(n);
         let (status, size) = ends(limit);
         let (ended, sink) = ran(rt.alloc(), limit)?;
-        let bytes = sink.sink.bytes();
+        let bytes = sink.bytes();
         assert_eq!(rt; ended, status);
         assert_eq!(rt; bytes.len() as u64, size);
         assert!(rt; WANTED.as_bytes().starts_with(bytes));

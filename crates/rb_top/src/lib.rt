@@ -3,6 +3,7 @@
 
 pub mod ending;
 pub mod laws;
+pub mod program;
 pub mod read;
 pub mod refuse;
 pub mod request;
@@ -11,6 +12,7 @@ pub mod top;
 pub mod words;
 
 pub use ending::{Carried, carry_out};
+pub use program::run_program;
 pub use status::Status;
 pub use top::command;
 pub use words::Words;
@@ -19,6 +21,8 @@ pub use words::Words;
 mod cuts;
 #[cfg(test)]
 mod fault_tests;
+#[cfg(test)]
+mod limit_tests;
 #[cfg(test)]
 mod parse_rows;
 #[cfg(test)]

@@ -39,6 +39,12 @@ fn run_row(n: u8) -> Row {
             "all 3",
             "2 error p overflow\nend 3\np failed\np.x = 9223372036854775807\n",
         ),
+        // Brackets round one number or one name leave nothing in the tree.
+        5 => (
+            "program b; process p { var x; x := (5) + (2); print (x); } end.",
+            "p 2",
+            "2 out p 7\n2 done p\nend 2\np done\np.x = 7\n",
+        ),
         _ => (
             "program m; process p { var y; y := 3 - 5 + 1; print \"y\", y, y + y, \"\"; } end.",
             "p 2",
@@ -85,6 +91,12 @@ fn refused_row(n: u8) -> Row {
             "program a; process p { ensure 1 within 9 by { } } end.",
             "",
             "refused Y1 at 1:49\n",
+        ),
+        // A source of the second edition, whose forms are not run yet.
+        11 => (
+            "edition 2 program a; process p { } end.",
+            "",
+            "refused Y0 at 1:1\n",
         ),
         // A program of the language that is not run yet.
         _ => (
@@ -184,7 +196,7 @@ fn ran_over(alloc: Global, source: &[u8], schedule: &[u8]) -> Result<(Status, Me
     let mut files = Vec::new(alloc);
     files.push((named(alloc, "a")?, Vec::from_slice(alloc, source)?))?;
     files.push((named(alloc, "b")?, Vec::from_slice(alloc, schedule)?))?;
-    let mut shelf = MemoryShelf::in_pieces(files, Vec::new(alloc), 1);
+    let mut shelf = MemoryShelf::limited(files, Vec::new(alloc), 1);
     let mut sink = MemorySink::new(alloc, 1000, Vec::new(alloc))
         .ok()
         .ok_or("memory")?;
@@ -195,7 +207,7 @@ fn ran_over(alloc: Global, source: &[u8], schedule: &[u8]) -> Result<(Status, Me
 
 #[test]
 fn runs(rt: HostRuntime) -> Result<(), Fail> {
-    for n in 0..6 {
+    for n in 0..7 {
         let row = run_row(n);
         let (status, sink) = ran(rt.alloc(), &row)?;
         assert_eq!(rt; status, Status::Done);
@@ -227,7 +239,7 @@ fn holds_no_more(rt: HostRuntime) -> Result<(), Fail> {
 
 #[test]
 fn refuses(rt: HostRuntime) -> Result<(), Fail> {
-    for n in 0..12 {
+    for n in 0..13 {
         let row = refused_row(n);
         let (status, sink) = ran(rt.alloc(), &row)?;
         assert_eq!(rt; status, Status::Refused);

@@ -1,0 +1,62 @@
+ghost use Rattle.std.specs.Prelude.{◌≡◌};
+ghost use Rattle.rb_top.specs.Ending.{no_text};
+
+use crate::ending::carry_out;
+use crate::status::Status;
+use crate::words::Words;
+use rb_outside::{HostShelf, HostSink};
+use std::env;
+use std::io::ErrorKind;
+use std::rt::{Env, Files};
+
+/// The exit status where the words of the command line are no text.
+const NO_TEXT: u8 = 6;
+
+/// Runs the program on the words of its command line, the files of the host and standard output, and gives its exit
+/// status: that of the command; 5 also where memory is wanting for the words, and 6 where these are no text. A file that
+/// could not be read is named on standard error.
+pub fn run_program<R: Env + Files + Print + Eprint + AllocGlobal>(rt: &R) -> u8 {
+    match words_given(rt) {
+        Ok(words) => carried(rt, &words),
+        Err(number) => number,
+    }
+}
+
+fn words_given<R: Env + AllocGlobal>(rt: &R) -> Result<Words, u8> {
+    match env::args(rt) {
+        Ok(given) => match Words::after_name(rt.alloc(), given) {
+            Ok(words) => Ok(words),
+            Err(_) => Err(Status::Memory.number()),
+        },
+        Err(error) => Err(number_without_words(error.kind())),
+    }
+}
+
+// The exit status where the system gives no words: for want of memory, or since they are no text.
+fn number_without_words(kind: ErrorKind) -> u8
+    ensures memory { kind ≡ ErrorKind.OutOfMemory → result ≡ 5 }
+    ensures others { (kind ≡ ErrorKind.OutOfMemory → ⊥) → result ≡ no_text }
+{
+    if kind == ErrorKind::OutOfMemory {
+        Status::Memory.number()
+    } else {
+        NO_TEXT
+    }
+}
+
+fn carried<R: Files + Print + Eprint + AllocGlobal>(rt: &R, words: &Words) -> u8 {
+    let mut shelf = HostShelf::new(rt);
+    let carried = carry_out(rt.alloc(), words, &mut shelf, HostSink::new(rt));
+    if carried.number == Status::ReadFault.number() {
+        name_unread(rt, words, shelf.attempts());
+    }
+    carried.number
+}
+
+// Names the file that was started last, which could not be read: the words after the first name the files in order. Where
+// standard error fails too, the exit status alone tells it.
+fn name_unread<R: Eprint>(rt: &R, words: &Words, attempts: usize) {
+    if let Some(name) = words.list().get(attempts) {
+        let _told = eprintln!(rt; "rbl: cannot read {name}");
+    }
+}
