@@ -111,7 +111,10 @@ fn runs_at_each_limit(rt: HostRuntime) -> Result<(), Fail> {
         let (source, schedule) = texts(rt.alloc(), limit)?;
         let (status, sink) = ran(rt.alloc(), source.as_str(), schedule.as_str())?;
         assert_eq!(rt; status, Status::Done, "{limit:?}");
-        assert!(rt; sink.bytes().ends_with(last_bytes(limit).as_bytes()), "{limit:?}");
+        assert!(rt;
+            sink.bytes().ends_with(last_bytes(limit).as_bytes()),
+            "{limit:?}"
+        );
     }
     Ok(())
 }
