@@ -94,7 +94,7 @@ fn refused_row(n: u8) -> Row {
         ),
         // A source of the second edition, whose forms are not run yet.
         11 => (
-            "edition 2 program a; process p { } end.",
+            "edition 2; program a; process p { } end.",
             "",
             "refused Y0 at 1:1\n",
         ),
