@@ -1,5 +1,6 @@
 // Programs at the limits of the language: each of them runs to its end.
 use crate::{Status, Words, command};
+use rb_base::MOST_BYTES;
 use rb_outside::{MemoryShelf, MemorySink};
 use std::alloc::Global;
 use std::test::Fail;
@@ -23,8 +24,6 @@ const LIMITS: [Limit; 6] = [
     Limit::Name,
     Limit::PrintedText,
 ];
-
-const MOST_BYTES: usize = 1048576;
 
 // A source and a schedule at a limit.
 fn texts(alloc: Global, limit: Limit) -> Result<(String, String), Fail> {
