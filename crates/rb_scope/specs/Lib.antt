@@ -6,5 +6,6 @@ pub mod Rules
 pub mod Slots
 pub mod Resolved
 pub mod Laws
+pub mod Few
 pub mod Finding
 pub mod Memory

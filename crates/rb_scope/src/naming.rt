@@ -2,10 +2,11 @@ ghost use Rattle.std.specs.Prelude.{◌≡◌, map, option_map, Some, IfOk};
 ghost use Rattle.rb_syntax.specs.Plain.{channel_declaration, conversation_declaration, declaration, process_declaration, tree};
 ghost use Rattle.rb_meaning.specs.Environment.{size_of};
 ghost use Rattle.rb_meaning.specs.Meaning.{naming_of, process_named, variables_named};
+ghost use Rattle.rb_scope.specs.Few.{HasFewEntries};
 ghost use Rattle.rb_trace.specs.Naming.{naming, process_naming, variable_naming};
 
 use crate::checked::Checked;
-use crate::rules::sum;
+use crate::rules::{count, sum};
 use rb_base::names::{ProcessNames, Variable};
 use rb_base::{Memory, Names, Text};
 use rb_syntax::{Channel, Conversation, Number, Process, Var};
@@ -14,11 +15,16 @@ use std::alloc::Global;
 /// The names that a program's printed lines and its schedules speak of: of each process with its variables, their first
 /// words and sizes, of each channel and of each conversation, in the order of declaration.
 pub fn names(alloc: Global, checked: &Checked<'_>) -> Result<Names, Memory>
-    ensures { IfOk result (λ names. naming names ≡ naming_of (tree checked.now.program)) }
+    ensures named { IfOk result (λ names. naming names ≡ naming_of (tree checked.now.program)) }
+    ensures few { IfOk result HasFewEntries }
 {
     let processes = named_processes(alloc, &checked.program.processes)?;
     let channels = channel_names(alloc, &checked.program.channels)?;
     let conversations = conversation_names(alloc, &checked.program.conversations)?;
+    // No list is longer than numbers of 32 bits can tell.
+    count(processes.len())?;
+    count(channels.len())?;
+    count(conversations.len())?;
     Ok(Names {
         processes,
         channels,
