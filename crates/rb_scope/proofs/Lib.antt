@@ -7,3 +7,4 @@ pub mod Order
 pub mod Given
 pub mod Answer
 pub mod Determined
+pub mod Sample

@@ -17,6 +17,8 @@ mod sites;
 pub mod slot;
 mod spot;
 mod statement;
+#[cfg(test)]
+mod tests;
 mod variables;
 mod want;
 

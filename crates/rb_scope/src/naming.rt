@@ -1,11 +1,11 @@
-ghost use Rattle.std.specs.Prelude.{◌≡◌, ◌<◌, ◌^◌, map, option_map, vec_len, Some, IfOk};
+ghost use Rattle.std.specs.Prelude.{◌≡◌, map, option_map, Some, IfOk};
 ghost use Rattle.rb_syntax.specs.Plain.{channel_declaration, conversation_declaration, declaration, process_declaration, tree};
 ghost use Rattle.rb_meaning.specs.Environment.{size_of};
 ghost use Rattle.rb_meaning.specs.Meaning.{naming_of, process_named, variables_named};
 ghost use Rattle.rb_trace.specs.Naming.{naming, process_naming, variable_naming};
 
 use crate::checked::Checked;
-use crate::rules::sum;
+use crate::rules::{count, sum};
 use rb_base::names::{ProcessNames, Variable};
 use rb_base::{Memory, Names, Text};
 use rb_syntax::{Channel, Conversation, Number, Process, Var};
@@ -16,25 +16,18 @@ use std::alloc::Global;
 pub fn names(alloc: Global, checked: &Checked<'_>) -> Result<Names, Memory>
     ensures { IfOk result (λ names. naming names ≡ naming_of (tree checked.now.program)) }
 {
-    let processes = numbered(named_processes(alloc, &checked.program.processes)?)?;
-    let channels = numbered(channel_names(alloc, &checked.program.channels)?)?;
-    let conversations = numbered(conversation_names(alloc, &checked.program.conversations)?)?;
+    let processes = named_processes(alloc, &checked.program.processes)?;
+    let channels = channel_names(alloc, &checked.program.channels)?;
+    let conversations = conversation_names(alloc, &checked.program.conversations)?;
+    // No list is longer than numbers of 32 bits can tell.
+    count(processes.len())?;
+    count(channels.len())?;
+    count(conversations.len())?;
     Ok(Names {
         processes,
         channels,
         conversations,
     })
-}
-
-// A list whose entries have numbers of 32 bits; a longer one is no list that memory has room for.
-fn numbered<T: Drop>(list: Vec<T>) -> Result<Vec<T>, Memory>
-    ensures same { IfOk result (λ kept. kept.items ≡ list.items) }
-    ensures few { IfOk result (λ kept. vec_len kept < 2 ^ 32) }
-{
-    if list.len() > u32::MAX as usize {
-        return Err(Memory);
-    }
-    Ok(list)
 }
 
 fn named_processes(alloc: Global, processes: &[Process<'_>]) -> Result<Vec<ProcessNames>, Memory>
