@@ -38,7 +38,7 @@ impl Lines for Queue {
     }
 }
 
-// A process that is done, with one word, and no channel.
+// A process that is done, with one word, and a channel on which three values were sent and one was taken.
 #[derive(Drop)]
 struct Ended<L: Ledger> {
     word: i64,
@@ -52,9 +52,9 @@ impl<L: Ledger> Final for Ended<L> {
 
     ghost words = { λ end. (end.word ∷ []) ∷ [] };
 
-    ghost sent = { λ end. [] };
+    ghost sent = { λ end. 3 ∷ [] };
 
-    ghost taken = { λ end. [] };
+    ghost taken = { λ end. 1 ∷ [] };
 
     fn state(&self, _p: u32) -> State {
         State::Done
@@ -66,18 +66,18 @@ impl<L: Ledger> Final for Ended<L> {
     }
 
     fn sent(&self, _channel: u32, _steps: &mut Steps<L>) -> i64 {
-        0
+        3
     }
 
     fn taken(&self, _channel: u32, _steps: &mut Steps<L>) -> i64 {
-        0
+        1
     }
 }
 
-// A process `p` with a variable `x`.
+// A process `p` with a variable `x`, and a channel `c`.
 fn names_of_one(alloc: Global) -> Result<Names, Memory>
     ensures one { IfOk result (λ names. length names.processes.items ≡ 1) }
-    ensures fits { IfOk result (λ names. (word : ℤ) → Fits names ((word ∷ []) ∷ []) [] []) }
+    ensures fits { IfOk result (λ names. (word : ℤ) → Fits names ((word ∷ []) ∷ []) (3 ∷ []) (1 ∷ [])) }
 {
     let name = Text::from_slice(alloc, b"p")?;
     let mut variables = Vec::new(alloc);
@@ -88,9 +88,11 @@ fn names_of_one(alloc: Global) -> Result<Names, Memory>
     })?;
     let mut processes = Vec::new(alloc);
     processes.push(ProcessNames { name, variables })?;
+    let mut channels = Vec::new(alloc);
+    channels.push(Text::from_slice(alloc, b"c")?)?;
     Ok(Names {
         processes,
-        channels: Vec::new(alloc),
+        channels,
         conversations: Vec::new(alloc),
     })
 }
@@ -100,7 +102,7 @@ fn write_both<L: Ledger>(blank: Blank, out: &mut MemorySink, names: &Names, end:
     requires parts { blank.parts ≡ L.parts }
     requires backed { 0 < blank.parts }
     requires one { length names.now.processes.items ≡ 1 }
-    requires fits { (word : ℤ) → Fits names.now ((word ∷ []) ∷ []) [] [] }
+    requires fits { (word : ℤ) → Fits names.now ((word ∷ []) ∷ []) (3 ∷ []) (1 ∷ []) }
 {
     let mut steps = Steps::start(blank);
     write_end(out, 2, names, end, &mut steps).is_ok()
@@ -120,7 +122,7 @@ fn writes_a_turn_and_an_ending(rt: HostRuntime) -> Result<(), Fail> {
         kind: TurnKind::Took,
         events,
     };
-    let mut out = MemorySink::new(alloc, 64, Vec::new(alloc))?;
+    let mut out = MemorySink::new(alloc, 128, Vec::new(alloc))?;
     assert!(rt; write_report(&mut out, 2, &report, &names, &mut queue).is_ok());
     let end = Ended::<Brand> {
         word: -1,
@@ -129,7 +131,7 @@ fn writes_a_turn_and_an_ending(rt: HostRuntime) -> Result<(), Fail> {
     assert!(rt; write_both(Blank::new(1), &mut out, &names, &end));
     assert_eq!(rt;
         out.bytes(),
-        b"2 out p x 1\n2 done p\nend 2\np done\np.x = -1\np.x = -1\n".as_slice()
+        b"2 out p x 1\n2 done p\nend 2\np done\np.x = -1\nc sent 3 taken 1\np.x = -1\nc sent 3 taken 1\n".as_slice()
     );
     Ok(())
 }
