@@ -4,5 +4,6 @@ pub mod Merges
 pub mod Chains
 pub mod Views
 pub mod Seen
+pub mod Rejecting
 pub mod LawsHold
 pub mod Mirror

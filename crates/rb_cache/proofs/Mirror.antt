@@ -1,8 +1,8 @@
 -- Whole copies that are kept beside a cache, as the test keeps them.
-use Rattle.std.proofs.Common.{◌≡◌, ℕ, ◌+◌, ◌-◌, ◌<◌, ◌≤◌, ℤ, true, false, List, [], ◌∷◌, ◌++◌, Option, Some, None, map, take, length, get_or, refl, sym, ◌∙◌, ap, arith}
+use Rattle.std.proofs.Common.{◌≡◌, ℕ, ◌-◌, ℤ, true, List, [], ◌∷◌, ◌++◌, Option, Some, None, map, take, length, sym, ◌∙◌, ap, arith}
 use Rattle.std.specs.Prelude.{option_to_list}
 use Rattle.std.specs.Option.{is_some}
-use Rattle.std.proofs.lemmas.List.{length-map, length-reverse, length_push, take-map, append-nil}
+use Rattle.std.proofs.lemmas.List.{length-map, length-reverse, length_push, take-map}
 use Rattle.std.proofs.Math.Seq.{take-append_seam}
 use Rattle.rb_cache.specs.Copies.{RecoveryCache, open_levels, copies}
 use Rattle.rb_cache.proofs.Views.{length-levels, length-restored}
@@ -16,7 +16,8 @@ popped old new (Some x) e s =
     sym (ap (λ (i : ℕ). take i old) n ∙ ap (take (length new)) e ∙ take-append_seam new (x ∷ []))
 popped old new None e s = cc
 
-pub mirrored-accept : {X : Type 0} (f : X → List ℤ) (old new : List X) (o : Option X) (ws : List ℤ) (cache : RecoveryCache) (after : List (List ℤ)) → old ≡ new ++ option_to_list o → is_some o ≡ true
+pub mirrored-accept : {X : Type 0} (f : X → List ℤ) (old new : List X) (o : Option X) (ws : List ℤ) (cache : RecoveryCache) (after : List (List ℤ))
+    → old ≡ new ++ option_to_list o → is_some o ≡ true
     → map f old ≡ copies ws cache → after ≡ take (length (open_levels cache) - 1) (copies ws cache) → map f new ≡ after
 mirrored-accept f old new o ws cache after e s m a =
     let n : length old - 1 ≡ length (open_levels cache) - 1 = omega (arith, length-map old f, ap length m, length-copies ws cache) in

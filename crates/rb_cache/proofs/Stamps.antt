@@ -55,10 +55,12 @@ eqb-flip a b = grind (arith, common_steps)
 pub is_saved-last : (f : ℕ) (log : List Entry) (p : ℕ) → is_saved p (map saved_of (drop f log)) ≡ nat_lt f (last_of log p)
 is_saved-last zero [] p = refl
 is_saved-last (suc f) [] p = grind (arith, common_steps)
-is_saved-last zero (e ∷ log) p = ap (λ b. b || is_saved p (map saved_of log)) (eqb-flip p e.place) ∙ has_start (eqb e.place p) (is_saved p (map saved_of log)) (last_of log p) (is_saved-last zero log p)
+is_saved-last zero (e ∷ log) p = ap (λ b. b || is_saved p (map saved_of log)) (eqb-flip p e.place)
+    ∙ has_start (eqb e.place p) (is_saved p (map saved_of log)) (last_of log p) (is_saved-last zero log p)
 is_saved-last (suc f) (e ∷ log) p = has_step f (eqb e.place p) (is_saved p (map saved_of (drop f log))) (last_of log p) (is_saved-last f log p)
 
-WellStamped-push_now : (st : List ℕ) (log : List Entry) (e : Entry) → WellStamped st log → (p : ℕ) → p < length st → (b : Bool) → eqb e.place p ≡ b → get_or (set st e.place (length log + 1)) p 0 ≡ last_of (log ++ e ∷ []) p
+WellStamped-push_now : (st : List ℕ) (log : List Entry) (e : Entry) → WellStamped st log → (p : ℕ) → p < length st → (b : Bool) → eqb e.place p ≡ b
+    → get_or (set st e.place (length log + 1)) p 0 ≡ last_of (log ++ e ∷ []) p
 WellStamped-push_now st log e w p h true k =
     let q : p ≡ e.place = sym (eqb-true e.place p k) in
     ap (λ j. get_or (set st e.place (length log + 1)) j 0) q ∙ get_or-set_same st e.place (length log + 1) 0 (omega arith)
@@ -67,13 +69,15 @@ WellStamped-push_now st log e w p h false k =
     get_or-set_other st e.place p (length log + 1) 0 (λ q. eqb-false e.place p k (sym q)) ∙ w.now p h
     ∙ sym (last_of-push log e p ∙ ap (λ c. cond c (length log + 1) (last_of log p)) k)
 
-pub WellStamped-push_last : (log : List Entry) (e : Entry) (i : ℕ) (d : Entry) → e.earlier ≡ last_of log e.place → i ≡ length log → (get_or (log ++ e ∷ []) i d).earlier ≡ last_of (take i (log ++ e ∷ [])) (get_or (log ++ e ∷ []) i d).place
+pub WellStamped-push_last : (log : List Entry) (e : Entry) (i : ℕ) (d : Entry) → e.earlier ≡ last_of log e.place → i ≡ length log
+    → (get_or (log ++ e ∷ []) i d).earlier ≡ last_of (take i (log ++ e ∷ [])) (get_or (log ++ e ∷ []) i d).place
 WellStamped-push_last log e i d o k =
     let x : get_or (log ++ e ∷ []) i d ≡ e = get_or_push log e d i (sym k) in
     let t : take i (log ++ e ∷ []) ≡ log = take-append-le i log (e ∷ []) (omega arith) ∙ take_all i log (omega arith) in
     rw (x, t) o
 
-pub WellStamped-push : (st : List ℕ) (log : List Entry) (e : Entry) → WellStamped st log → e.place < length st → e.earlier ≡ get_or st e.place 0 → WellStamped (set st e.place (length log + 1)) (log ++ e ∷ [])
+pub WellStamped-push : (st : List ℕ) (log : List Entry) (e : Entry) → WellStamped st log → e.place < length st → e.earlier ≡ get_or st e.place 0
+    → WellStamped (set st e.place (length log + 1)) (log ++ e ∷ [])
 WellStamped-push st log e w lt o = record {
   now = λ p h. WellStamped-push_now st log e w p (omega (arith, length-set st e.place (length log + 1))) (eqb e.place p) refl;
   before = λ i d h. ⊎_elim
@@ -84,7 +88,8 @@ WellStamped-push st log e w lt o = record {
 }
 
 -- the last entry goes
-WellStamped-pop_now : (st : List ℕ) (log : List Entry) (e : Entry) → WellStamped st (log ++ e ∷ []) → e.earlier ≡ last_of log e.place → (p : ℕ) → p < length st → (b : Bool) → eqb e.place p ≡ b → get_or (set st e.place e.earlier) p 0 ≡ last_of log p
+WellStamped-pop_now : (st : List ℕ) (log : List Entry) (e : Entry) → WellStamped st (log ++ e ∷ []) → e.earlier ≡ last_of log e.place → (p : ℕ)
+    → p < length st → (b : Bool) → eqb e.place p ≡ b → get_or (set st e.place e.earlier) p 0 ≡ last_of log p
 WellStamped-pop_now st log e w o p h true k =
     let q : p ≡ e.place = sym (eqb-true e.place p k) in
     ap (λ j. get_or (set st e.place e.earlier) j 0) q ∙ get_or-set_same st e.place e.earlier 0 (omega arith) ∙ o ∙ ap (last_of log) (sym q)
@@ -92,7 +97,8 @@ WellStamped-pop_now st log e w o p h false k =
     get_or-set_other st e.place p e.earlier 0 (λ q. eqb-false e.place p k (sym q)) ∙ w.now p h
     ∙ (last_of-push log e p ∙ ap (λ c. cond c (length log + 1) (last_of log p)) k)
 
-pub WellStamped-pop : (st : List ℕ) (log : List Entry) (e : Entry) → WellStamped st (log ++ e ∷ []) → e.place < length st → WellStamped (set st e.place e.earlier) log
+pub WellStamped-pop : (st : List ℕ) (log : List Entry) (e : Entry) → WellStamped st (log ++ e ∷ []) → e.place < length st
+    → WellStamped (set st e.place e.earlier) log
 WellStamped-pop st log e w lt =
     let o : e.earlier ≡ last_of log e.place =
     let h = w.before (length log) e (omega (arith, length_push log e)) in
@@ -112,7 +118,8 @@ pub regions-push : (m : Mark) (ms : List Mark) (log : List Entry) (e : Entry) �
 regions-push m ms log e h =
     rw (drop-append-le m.first log (e ∷ []) h, take-append-le m.first log (e ∷ []) h, map-append saved_of (drop m.first log) (e ∷ [])) refl
 
-pub regions-open : (h : ℕ) (ms : List Mark) (log : List Entry) → regions_of (record { first = length log; height = h } ∷ ms) log ≡ record { height = h; saved = [] } ∷ regions_of ms log
+pub regions-open : (h : ℕ) (ms : List Mark) (log : List Entry)
+    → regions_of (record { first = length log; height = h } ∷ ms) log ≡ record { height = h; saved = [] } ∷ regions_of ms log
 regions-open h ms log = rw (drop_all (length log) log (omega arith), take_all (length log) log (omega arith)) refl
 
 -- regions
@@ -146,7 +153,9 @@ below_all n (e ∷ es) a q h = below_all_one n q e.place (eqb q e.place) (list_a
 pub region-small : (n : ℕ) (r : Region) → IsRegion n r → length r.saved ≤ n
 region-small n r i = omega (arith, length-map r.saved place_of, length-le_from_distinct_below (places r) n i.distinct (below_all n r.saved i.within))
 
-pub IsRegion-push : (n h : ℕ) (es : List Saved) (o : Saved) → IsRegion n (record { height = h; saved = es }) → is_saved o.place es ≡ false → o.place < h → o.place < n → IsRegion n (record { height = h; saved = es ++ o ∷ [] })
+pub IsRegion-push : (n h : ℕ) (es : List Saved) (o : Saved) → IsRegion n (record { height = h; saved = es }) → is_saved o.place es ≡ false
+    → o.place < h
+    → o.place < n → IsRegion n (record { height = h; saved = es ++ o ∷ [] })
 IsRegion-push n h es o i k b w = record {
   distinct = subst (IsDistinct eqb) (sym (map-append place_of es (o ∷ []))) (distinct_push (map place_of es) o.place i.distinct k);
   below = all_push _ es o i.below b;
@@ -164,7 +173,8 @@ pub empty_region : (n h : ℕ) → IsRegion n (record { height = h; saved = [] }
 unfolding IsDistinct
 empty_region n h = record { distinct = tt; below = tt; within = tt }
 
-pub Holds-open : (n h : ℕ) (ms : List Mark) (st : List ℕ) (log : List Entry) → Holds n ms st log → top_height (regions_of ms log) ≤ h → Holds n (record { first = length log; height = h } ∷ ms) st log
+pub Holds-open : (n h : ℕ) (ms : List Mark) (st : List ℕ) (log : List Entry) → Holds n ms st log → top_height (regions_of ms log) ≤ h
+    → Holds n (record { first = length log; height = h } ∷ ms) st log
 Holds-open n h ms st log k le = record {
   size = k.size;
   stamped = k.stamped;
@@ -178,26 +188,36 @@ not_below a b h = grind (arith, common_steps)
 is_below : (a b : ℕ) → a < b → nat_lt a b ≡ true
 is_below a b h = grind (arith, common_steps)
 
-not_yet : (n : ℕ) (m : Mark) (ms : List Mark) (st : List ℕ) (log : List Entry) (p : ℕ) → Holds n (m ∷ ms) st log → p < n → get_or st p 0 ≤ m.first → is_saved p (map saved_of (drop m.first log)) ≡ false
-not_yet n m ms st log p k lt le = is_saved-last m.first log p ∙ not_below m.first (last_of log p) (omega (arith, k.stamped.now p (omega (arith, k.size))))
+not_yet : (n : ℕ) (m : Mark) (ms : List Mark) (st : List ℕ) (log : List Entry) (p : ℕ) → Holds n (m ∷ ms) st log → p < n → get_or st p 0 ≤ m.first
+    → is_saved p (map saved_of (drop m.first log)) ≡ false
+not_yet n m ms st log p k lt le = is_saved-last m.first log p
+    ∙ not_below m.first (last_of log p) (omega (arith, k.stamped.now p (omega (arith, k.size))))
 
-pub Holds-push : (n : ℕ) (m : Mark) (ms : List Mark) (st : List ℕ) (log : List Entry) (e : Entry) → Holds n (m ∷ ms) st log → e.place < n → e.place < m.height → get_or st e.place 0 ≤ m.first → e.earlier ≡ get_or st e.place 0 → Holds n (m ∷ ms) (set st e.place (length log + 1)) (log ++ e ∷ [])
+pub Holds-push : (n : ℕ) (m : Mark) (ms : List Mark) (st : List ℕ) (log : List Entry) (e : Entry) → Holds n (m ∷ ms) st log → e.place < n
+    → e.place < m.height → get_or st e.place 0 ≤ m.first → e.earlier ≡ get_or st e.place 0
+    → Holds n (m ∷ ms) (set st e.place (length log + 1)) (log ++ e ∷ [])
 Holds-push n m ms st log e k lt below le o = record {
   size = length-set st e.place (length log + 1) ∙ k.size;
   stamped = WellStamped-push st log e k.stamped (omega (arith, k.size)) o;
   cuts = Cuts-push m ms log e k.cuts;
-  stacked = subst (Stacked n) (sym (regions-push m ms log e k.cuts.0))
-      (IsRegion-push n m.height (map saved_of (drop m.first log)) (saved_of e) k.stacked.0 (not_yet n m ms st log e.place k lt le) below lt, k.stacked.1, k.stacked.2);
+  stacked = subst (Stacked n) (sym (regions-push m ms log e k.cuts.0)) (
+    IsRegion-push n m.height (map saved_of (drop m.first log)) (saved_of e) k.stacked.0
+        (not_yet n m ms st log e.place k lt le) below lt,
+    k.stacked.1,
+    k.stacked.2,
+  );
 }
 
-pub log-room : (n : ℕ) (m : Mark) (ms : List Mark) (st : List ℕ) (log : List Entry) (e : Entry) → Holds n (m ∷ ms) st log → e.place < n → e.place < m.height → get_or st e.place 0 ≤ m.first → e.earlier ≡ get_or st e.place 0 → length log < length (m ∷ ms) * n
+pub log-room : (n : ℕ) (m : Mark) (ms : List Mark) (st : List ℕ) (log : List Entry) (e : Entry) → Holds n (m ∷ ms) st log → e.place < n
+    → e.place < m.height → get_or st e.place 0 ≤ m.first → e.earlier ≡ get_or st e.place 0 → length log < length (m ∷ ms) * n
 log-room n m ms st log e k lt below le o =
     let h = Holds-push n m ms st log e k lt below le o in
     let a = log-small n (m ∷ ms) (log ++ e ∷ []) h.cuts h.stacked in
     omega (arith, a, length_push log e)
 
 -- what a push adds to the regions
-pub recorded_in : (p : ℕ) (v : ℤ) (h : ℕ) (es : List Saved) (rs : List Region) → p < h → is_saved p es ≡ false → recorded p v (record { height = h; saved = es } ∷ rs) ≡ record { height = h; saved = es ++ record { place = p; value = v } ∷ [] } ∷ rs
+pub recorded_in : (p : ℕ) (v : ℤ) (h : ℕ) (es : List Saved) (rs : List Region) → p < h → is_saved p es ≡ false
+    → recorded p v (record { height = h; saved = es } ∷ rs) ≡ record { height = h; saved = es ++ record { place = p; value = v } ∷ [] } ∷ rs
 recorded_in p v h es rs lt k = let i : nat_lt p h ≡ true = is_below p h lt in rw (i, k) refl
 
 pub recorded_above : (p : ℕ) (v : ℤ) (r : Region) (rs : List Region) → r.height ≤ p → recorded p v (r ∷ rs) ≡ r ∷ rs
@@ -206,24 +226,30 @@ recorded_above p v r rs le = let i : nat_lt p r.height ≡ false = not_below p r
 pub recorded_known : (p : ℕ) (v : ℤ) (r : Region) (rs : List Region) → p < r.height → is_saved p r.saved ≡ true → recorded p v (r ∷ rs) ≡ r ∷ rs
 recorded_known p v r rs lt k = let i : nat_lt p r.height ≡ true = is_below p r.height lt in rw (i, k) refl
 
-pub regions-note : (n : ℕ) (m : Mark) (ms : List Mark) (st : List ℕ) (log : List Entry) (e : Entry) → Holds n (m ∷ ms) st log → e.place < n → e.place < m.height → get_or st e.place 0 ≤ m.first
+pub regions-note : (n : ℕ) (m : Mark) (ms : List Mark) (st : List ℕ) (log : List Entry) (e : Entry) → Holds n (m ∷ ms) st log → e.place < n
+    → e.place < m.height → get_or st e.place 0 ≤ m.first
     → regions_of (m ∷ ms) (log ++ e ∷ []) ≡ recorded e.place e.value (regions_of (m ∷ ms) log)
 regions-note n m ms st log e k lt below le =
     regions-push m ms log e k.cuts.0
-    ∙ sym (recorded_in e.place e.value m.height (map saved_of (drop m.first log)) (regions_of ms (take m.first log)) below (not_yet n m ms st log e.place k lt le))
+    ∙ sym (recorded_in e.place e.value m.height (map saved_of (drop m.first log)) (regions_of ms (take m.first log)) below
+    (not_yet n m ms st log e.place k lt le))
 
-pub regions-known : (n : ℕ) (m : Mark) (ms : List Mark) (st : List ℕ) (log : List Entry) (p : ℕ) (v : ℤ) → Holds n (m ∷ ms) st log → p < n → p < m.height → m.first < get_or st p 0
+pub regions-known : (n : ℕ) (m : Mark) (ms : List Mark) (st : List ℕ) (log : List Entry) (p : ℕ) (v : ℤ) → Holds n (m ∷ ms) st log → p < n
+    → p < m.height
+    → m.first < get_or st p 0
     → regions_of (m ∷ ms) log ≡ recorded p v (regions_of (m ∷ ms) log)
 regions-known n m ms st log p v k lt below le =
     sym (recorded_known p v (record { height = m.height; saved = map saved_of (drop m.first log) }) (regions_of ms (take m.first log)) below
     (is_saved-last m.first log p ∙ is_below m.first (last_of log p) (omega (arith, k.stamped.now p (omega (arith, k.size))))))
 
 -- the top region goes back
-pub regions-undo : (m : Mark) (ms : List Mark) (log : List Entry) → m.first ≤ length log → regions_of (m ∷ ms) (take m.first log) ≡ cleared (regions_of (m ∷ ms) log)
+pub regions-undo : (m : Mark) (ms : List Mark) (log : List Entry) → m.first ≤ length log
+    → regions_of (m ∷ ms) (take m.first log) ≡ cleared (regions_of (m ∷ ms) log)
 regions-undo m ms log h =
     rw (drop_all m.first (take m.first log) (omega (arith, length-take-le m.first log h)), take-take m.first m.first log (omega arith)) refl
 
-pub Holds-undo : (n : ℕ) (m : Mark) (ms : List Mark) (st us : List ℕ) (log : List Entry) → Holds n (m ∷ ms) st log → WellStamped us (take m.first log) → length us ≡ length st → Holds n (m ∷ ms) us (take m.first log)
+pub Holds-undo : (n : ℕ) (m : Mark) (ms : List Mark) (st us : List ℕ) (log : List Entry) → Holds n (m ∷ ms) st log → WellStamped us (take m.first log)
+    → length us ≡ length st → Holds n (m ∷ ms) us (take m.first log)
 Holds-undo n m ms st us log k w e = record {
   size = e ∙ k.size;
   stamped = w;
@@ -237,8 +263,10 @@ pub record Noted (marks : List Mark) (st : List ℕ) (log : List Entry) (e : Ent
   pub holds : Holds (length st) (reverse marks) (set st e.place (length log + 1)) (log ++ e ∷ [])
   pub regions : regions_of (reverse marks) (log ++ e ∷ []) ≡ recorded e.place e.value (regions_of (reverse marks) log)
 
-pub noted : (marks : List Mark) (st : List ℕ) (log : List Entry) (e : Entry) (d : Mark) → 0 < length marks → Holds (length st) (reverse marks) st log → e.place < length st
-    → e.place < (get_or marks (length marks - 1) d).height → get_or st e.place 0 ≤ (get_or marks (length marks - 1) d).first → e.earlier ≡ get_or st e.place 0 → Noted marks st log e
+pub noted : (marks : List Mark) (st : List ℕ) (log : List Entry) (e : Entry) (d : Mark) → 0 < length marks → Holds (length st) (reverse marks) st log
+    → e.place < length st
+    → e.place < (get_or marks (length marks - 1) d).height → get_or st e.place 0 ≤ (get_or marks (length marks - 1) d).first
+    → e.earlier ≡ get_or st e.place 0 → Noted marks st log e
 noted marks st log e d some k lt below le o =
     let m = get_or marks (length marks - 1) d in
     let ms = reverse (take (length marks - 1) marks) in
@@ -247,8 +275,10 @@ noted marks st log e d some k lt below le o =
     let n : length (m ∷ ms) ≡ length marks = ap length (sym r) ∙ length-reverse marks in
     record {
       room = subst (λ (i : ℕ). length log < i * length st) n (log-room (length st) m ms st log e h lt below le o);
-      holds = subst (λ (xs : List Mark). Holds (length st) xs (set st e.place (length log + 1)) (log ++ e ∷ [])) (sym r) (Holds-push (length st) m ms st log e h lt below le o);
-      regions = subst (λ (xs : List Mark). regions_of xs (log ++ e ∷ []) ≡ recorded e.place e.value (regions_of xs log)) (sym r) (regions-note (length st) m ms st log e h lt below le);
+      holds = subst (λ (xs : List Mark). Holds (length st) xs (set st e.place (length log + 1)) (log ++ e ∷ [])) (sym r)
+          (Holds-push (length st) m ms st log e h lt below le o);
+      regions = subst (λ (xs : List Mark). regions_of xs (log ++ e ∷ []) ≡ recorded e.place e.value (regions_of xs log)) (sym r)
+          (regions-note (length st) m ms st log e h lt below le);
     }
 
 pub lt_from_test : (a b : ℕ) → nat_lt a b ≡ true → a < b
@@ -260,10 +290,14 @@ le_from_test a b h = grind (arith, common_steps)
 not_noted_in : (m : Mark) (ms : List Mark) (st : List ℕ) (log : List Entry) (p : ℕ) (v : ℤ) → Holds (length st) (m ∷ ms) st log → p < length st
     → (p < m.height → m.first < get_or st p 0) → (b : Bool) → nat_lt p m.height ≡ b → regions_of (m ∷ ms) log ≡ recorded p v (regions_of (m ∷ ms) log)
 not_noted_in m ms st log p v h lt le true i = let below = lt_from_test p m.height i in regions-known (length st) m ms st log p v h lt below (le below)
-not_noted_in m ms st log p v h lt le false i = sym (recorded_above p v (record { height = m.height; saved = map saved_of (drop m.first log) }) (regions_of ms (take m.first log)) (le_from_test p m.height i))
+not_noted_in m ms st log p v h lt le false i =
+    let top : Region = record { height = m.height; saved = map saved_of (drop m.first log) } in
+    sym (recorded_above p v top (regions_of ms (take m.first log)) (le_from_test p m.height i))
 
-pub not_noted : (marks : List Mark) (st : List ℕ) (log : List Entry) (p : ℕ) (v : ℤ) (d : Mark) → 0 < length marks → Holds (length st) (reverse marks) st log → p < length st
-    → (p < (get_or marks (length marks - 1) d).height → (get_or marks (length marks - 1) d).first < get_or st p 0) → regions_of (reverse marks) log ≡ recorded p v (regions_of (reverse marks) log)
+pub not_noted : (marks : List Mark) (st : List ℕ) (log : List Entry) (p : ℕ) (v : ℤ) (d : Mark) → 0 < length marks
+    → Holds (length st) (reverse marks) st log → p < length st
+    → (p < (get_or marks (length marks - 1) d).height → (get_or marks (length marks - 1) d).first < get_or st p 0)
+    → regions_of (reverse marks) log ≡ recorded p v (regions_of (reverse marks) log)
 not_noted marks st log p v d some k lt le =
     let m = get_or marks (length marks - 1) d in
     let ms = reverse (take (length marks - 1) marks) in
@@ -275,11 +309,15 @@ all_last : (P : Saved → Type 0) (xs : List Saved) (x : Saved) → AllByRecursi
 all_last P [] x a = (tt, a.0)
 all_last P (y ∷ xs) x a = let h = all_last P xs x a.1 in ((a.0, h.0), h.1)
 
-pub popped_all : (P : Saved → Type 0) (f : ℕ) (log : List Entry) (e : Entry) → f ≤ length log → AllByRecursion P (map saved_of (drop f (log ++ e ∷ []))) → AllByRecursion P (map saved_of (drop f log)) × P (saved_of e)
+pub popped_all : (P : Saved → Type 0) (f : ℕ) (log : List Entry) (e : Entry) → f ≤ length log
+    → AllByRecursion P (map saved_of (drop f (log ++ e ∷ [])))
+    → AllByRecursion P (map saved_of (drop f log)) × P (saved_of e)
 popped_all P f log e le a =
-    all_last P (map saved_of (drop f log)) (saved_of e) (subst (AllByRecursion P) (ap (map saved_of) (drop-append-le f log (e ∷ []) le) ∙ map-append saved_of (drop f log) (e ∷ [])) a)
+    all_last P (map saved_of (drop f log)) (saved_of e)
+    (subst (AllByRecursion P) (ap (map saved_of) (drop-append-le f log (e ∷ []) le) ∙ map-append saved_of (drop f log) (e ∷ [])) a)
 
-pub popped_words : (ws : List ℤ) (f : ℕ) (log : List Entry) (e : Entry) → f ≤ length log → put_back ws (map saved_of (drop f (log ++ e ∷ []))) ≡ put_back (set ws e.place e.value) (map saved_of (drop f log))
+pub popped_words : (ws : List ℤ) (f : ℕ) (log : List Entry) (e : Entry) → f ≤ length log
+    → put_back ws (map saved_of (drop f (log ++ e ∷ []))) ≡ put_back (set ws e.place e.value) (map saved_of (drop f log))
 popped_words ws f log e le =
     ap (λ (es : List Saved). put_back ws es) (ap (map saved_of) (drop-append-le f log (e ∷ []) le) ∙ map-append saved_of (drop f log) (e ∷ []))
     ∙ put_back-append ws (map saved_of (drop f log)) (saved_of e ∷ [])
@@ -290,9 +328,11 @@ pub record Top (n : ℕ) (marks : List Mark) (st : List ℕ) (log : List Entry) 
   pub is : reverse marks ≡ m ∷ around
   pub holds : Holds n (m ∷ around) st log
 
-pub top_is : (n : ℕ) (marks : List Mark) (st : List ℕ) (log : List Entry) (m : Mark) → 0 < length marks → m ≡ get_or marks (length marks - 1) m → Holds n (reverse marks) st log → Top n marks st log m
+pub top_is : (n : ℕ) (marks : List Mark) (st : List ℕ) (log : List Entry) (m : Mark) → 0 < length marks → m ≡ get_or marks (length marks - 1) m
+    → Holds n (reverse marks) st log → Top n marks st log m
 top_is n marks st log m some e k =
-    let r : reverse marks ≡ m ∷ reverse (take (length marks - 1) marks) = reverse-last marks m some ∙ ap (λ (x : Mark). x ∷ reverse (take (length marks - 1) marks)) (sym e) in
+    let r : reverse marks ≡ m ∷ reverse (take (length marks - 1) marks) = reverse-last marks m some
+    ∙ ap (λ (x : Mark). x ∷ reverse (take (length marks - 1) marks)) (sym e) in
     record { around = reverse (take (length marks - 1) marks); is = r; holds = subst (λ (xs : List Mark). Holds n xs st log) r k }
 
 pub all_weaker : (P Q : Saved → Type 0) → ((e : Saved) → P e → Q e) → (es : List Saved) → AllByRecursion P es → AllByRecursion Q es

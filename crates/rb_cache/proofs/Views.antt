@@ -1,8 +1,7 @@
 -- From the outermost in: the copies and the levels, as contracts see them.
-use Rattle.std.proofs.Common.{◌≡◌, ℕ, suc, ◌+◌, ◌-◌, ◌<◌, ◌≤◌, ℤ, Bool, true, false, cond, not, ◌&&◌, eqb, nat_lt, List, [], ◌∷◌, ◌++◌, map, filter, reverse, take, length, get_or, refl, sym, ◌∙◌, ap, arith}
+use Rattle.std.proofs.Common.{◌≡◌, ℕ, suc, ◌-◌, ◌<◌, ℤ, Bool, true, false, cond, not, ◌&&◌, nat_lt, List, [], ◌∷◌, ◌++◌, map, filter, reverse, take, length, refl, sym, ◌∙◌, ap, arith}
 use Rattle.std.proofs.lemmas.List.{append-nil, map-append, reverse-append, length-map, length-reverse, length_push, get_or_push}
 use Rattle.std.proofs.Math.Seq.{take-append_seam}
-use Rattle.std.specs.List.{AllByRecursion, list_any}
 use Rattle.rb_cache.specs.Undo.{Saved, Region, put_back}
 use Rattle.rb_cache.specs.Copies.{Level, place_of, level_of, restored, last_or, entered, joins, joined, change_last, accepted}
 use Rattle.rb_cache.specs.Regions.{is_saved, is_new, recorded, cleared, merged, Stacked}
@@ -37,26 +36,32 @@ accepted-reverse top l ls =
     ap accepted (reverse-append (top ∷ l ∷ []) ls) ∙ accepted-append (reverse ls) l top ∙ sym (reverse-cons (joined top.touched l) ls)
 
 -- what a write adds to a level
-touch_one : (b : Bool) (p : ℕ) (v : ℤ) (saved : List Saved) → map place_of (elim b [ true ↦ saved ++ record { place = p; value = v } ∷ [] | false ↦ saved ]) ≡ map place_of saved ++ cond b (p ∷ []) []
+touch_one : (b : Bool) (p : ℕ) (v : ℤ) (saved : List Saved)
+    → map place_of (elim b [ true ↦ saved ++ record { place = p; value = v } ∷ [] | false ↦ saved ]) ≡ map place_of saved ++ cond b (p ∷ []) []
 touch_one true p v saved = map-append place_of saved (record { place = p; value = v } ∷ [])
 touch_one false p v saved = sym (append-nil (map place_of saved))
 
-pub levels-recorded : (p : ℕ) (v : ℤ) (rs : List Region) → reverse (map level_of (recorded p v rs)) ≡ change_last (joined (p ∷ [])) (reverse (map level_of rs))
+pub levels-recorded : (p : ℕ) (v : ℤ) (rs : List Region)
+    → reverse (map level_of (recorded p v rs)) ≡ change_last (joined (p ∷ [])) (reverse (map level_of rs))
 levels-recorded p v [] = refl
 levels-recorded p v (r ∷ rs) =
-    ap (λ (places : List ℕ). reverse (record { height = r.height; touched = places } ∷ map level_of rs)) (touch_one (nat_lt p r.height && not (is_saved p r.saved)) p v r.saved)
+    ap (λ (places : List ℕ). reverse (record { height = r.height; touched = places } ∷ map level_of rs))
+    (touch_one (nat_lt p r.height && not (is_saved p r.saved)) p v r.saved)
     ∙ sym (change_last-reverse (joined (p ∷ [])) (level_of r) (map level_of rs))
 
-pub levels-cleared : (rs : List Region) → reverse (map level_of (cleared rs)) ≡ change_last (λ (l : Level). entered l.height) (reverse (map level_of rs))
+pub levels-cleared : (rs : List Region)
+    → reverse (map level_of (cleared rs)) ≡ change_last (λ (l : Level). entered l.height) (reverse (map level_of rs))
 levels-cleared [] = refl
 levels-cleared (r ∷ rs) = sym (change_last-reverse (λ (l : Level). entered l.height) (level_of r) (map level_of rs))
 
 -- what an accepted level adds to the one around it
-map-cond : (b : Bool) (s : Saved) (more : List Saved) → map place_of (cond b (s ∷ more) more) ≡ cond b (s.place ∷ map place_of more) (map place_of more)
+map-cond : (b : Bool) (s : Saved) (more : List Saved)
+    → map place_of (cond b (s ∷ more) more) ≡ cond b (s.place ∷ map place_of more) (map place_of more)
 map-cond true s more = refl
 map-cond false s more = refl
 
-map-is_new : (r : Region) (saved : List Saved) → map place_of (filter (is_new r.height r.saved) saved) ≡ filter (joins (level_of r)) (map place_of saved)
+map-is_new : (r : Region) (saved : List Saved)
+    → map place_of (filter (is_new r.height r.saved) saved) ≡ filter (joins (level_of r)) (map place_of saved)
 map-is_new r [] = refl
 map-is_new r (s ∷ saved) =
     map-cond (is_new r.height r.saved s) s (filter (is_new r.height r.saved) saved)
@@ -78,10 +83,12 @@ length-restored ws [] = refl
 length-restored ws (r ∷ rs) = ap suc (length-restored (put_back ws r.saved) rs)
 
 -- the copies after a level was opened, and once one was accepted
-pub copies-open : (ws : List ℤ) (rs : List Region) → reverse (restored ws (record { height = length ws; saved = [] } ∷ rs)) ≡ reverse (restored ws rs) ++ ws ∷ []
+pub copies-open : (ws : List ℤ) (rs : List Region)
+    → reverse (restored ws (record { height = length ws; saved = [] } ∷ rs)) ≡ reverse (restored ws rs) ++ ws ∷ []
 copies-open ws rs = ap reverse (restored-open ws rs) ∙ reverse-cons ws (restored ws rs)
 
-pub copies-accepted : (n : ℕ) (ws : List ℤ) (rs : List Region) → 0 < length rs → Stacked n rs → reverse (restored ws (merged rs)) ≡ take (length (reverse (map level_of rs)) - 1) (reverse (restored ws rs))
+pub copies-accepted : (n : ℕ) (ws : List ℤ) (rs : List Region) → 0 < length rs → Stacked n rs
+    → reverse (restored ws (merged rs)) ≡ take (length (reverse (map level_of rs)) - 1) (reverse (restored ws rs))
 copies-accepted n ws rs some s =
     let k = restored-accepted n ws rs some s in
     let inner = reverse (restored ws (merged rs)) in

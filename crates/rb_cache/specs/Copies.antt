@@ -1,7 +1,7 @@
 -- What contracts see of a recovery cache: a whole copy of the words for each open level, and the places that were
 -- touched in it. The view as a list of whole copies is this project's own.
-use Rattle.std.specs.Prelude.{ℕ, ◌-◌, ◌≤◌, ℤ, Bool, eqb, nat_lt, not, ◌&&◌, List, [], ◌∷◌, ◌++◌, map, filter, take, reverse, length, get_or}
-use Rattle.std.specs.List.{AllByRecursion, list_any}
+use Rattle.std.specs.Prelude.{ℕ, ◌-◌, ◌<◌, ◌≤◌, ℤ, Bool, eqb, nat_lt, not, ◌&&◌, List, [], ◌∷◌, ◌++◌, map, filter, take, reverse, length, get_or}
+use Rattle.std.specs.List.{AllByRecursion, IsDistinct, list_any}
 use Rattle.rb_cache.specs.Undo.{Saved, Region, put_back}
 
 -- how many levels may be open, and below which place words are written
@@ -19,6 +19,7 @@ pub record Level : Type 0 where
   pub height : ℕ
   pub touched : List ℕ
 
+-- the place of what was saved
 abbrev pub place_of : Saved → ℕ
 place_of s = s.place
 
@@ -58,6 +59,11 @@ last_touched cache = (last_or (open_levels cache) (record { height = 0; touched 
 -- there are at least as many words as at the entry of each open level
 abbrev pub Fits : List ℤ → RecoveryCache → Type 0
 Fits words cache = AllByRecursion (λ (r : Region). r.height ≤ length words) cache.regions
+
+-- the places touched in a level are distinct and below its height
+pub record IsLevel (level : Level) : Type 0 where
+  pub distinct : IsDistinct eqb level.touched
+  pub below : AllByRecursion (λ (p : ℕ). p < level.height) level.touched
 
 -- a level at its entry, and once it was put back
 abbrev pub entered : ℕ → Level

@@ -1,5 +1,5 @@
 -- How the innermost level's entries are merged into the level around it, one by one.
-use Rattle.std.specs.Prelude.{ℕ, ◌+◌, Bool, cond, nat_lt, not, ◌&&◌, slice_set, List, [], ◌∷◌, ◌++◌, length}
+use Rattle.std.specs.Prelude.{ℕ, ◌+◌, Bool, cond, nat_lt, not, ◌&&◌, slice_set, List, [], ◌∷◌, ◌++◌, take, length}
 use Rattle.rb_cache.specs.declared.entry.Entry.{Entry}
 use Rattle.rb_cache.specs.declared.entry.Mark.{Mark}
 
@@ -7,6 +7,10 @@ use Rattle.rb_cache.specs.declared.entry.Mark.{Mark}
 pub record Merge : Type 0 where
   pub stamps : List ℕ
   pub log : List Entry
+
+-- the first entries of the arena are those so far
+abbrev pub so_far : List ℕ → ℕ → List Entry → Merge
+so_far stamps kept arena = record { stamps = stamps; log = take kept arena }
 
 -- an entry is kept if its place is below the level's height and was not saved there before
 abbrev pub is_merged : Mark → Entry → Bool

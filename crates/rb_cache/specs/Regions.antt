@@ -17,11 +17,6 @@ abbrev pub top_height : List Region → ℕ
 top_height [] = 0
 top_height (r ∷ rs) = r.height
 
--- the places of the innermost region
-abbrev pub top_places : List Region → List ℕ
-top_places [] = []
-top_places (r ∷ rs) = places r
-
 -- the place is below a height, and no value of it was saved
 abbrev pub is_new : ℕ → List Saved → Saved → Bool
 is_new height saved s = nat_lt s.place height && not (is_saved s.place saved)

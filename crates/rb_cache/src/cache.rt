@@ -1,5 +1,6 @@
 ghost use Rattle.std.specs.Prelude.{◌≡◌, ℕ, ◌+◌, ◌-◌, ◌<◌, ◌≤◌, pos, List, [], ◌∷◌, ◌++◌, length, take, slice_set, get_or, IfOk};
-ghost use Rattle.rb_cache.specs.Copies.{open_levels, copies, copy_at, last_copy, last_touched, Fits, entered, joined, change_last, accepted};
+ghost use Rattle.std.specs.List.{AllByRecursion};
+ghost use Rattle.rb_cache.specs.Copies.{open_levels, copies, copy_at, last_copy, last_touched, Fits, IsLevel, entered, joined, change_last, accepted};
 
 use crate::chain::{first_value, stamp_at};
 use crate::entry::{Entry, Mark};
@@ -43,7 +44,7 @@ impl Model for Cache {
 impl Cache {
     /// No level is open. At most `levels` can be, over words whose places below `words` are written. All that can be
     /// needed is reserved here: a mark for each level, a stamp for each word, and `levels` times `words` entries.
-    /// No other call takes memory.
+    /// No other call takes memory; `Memory` if it is wanting.
     pub fn new(alloc: Global, levels: u32, words: u32) -> Result<Self, Memory>
         ensures { IfOk result (λ cache. cache ≡ record { regions = []; limits = record { levels = levels; words = words } }) }
     {
@@ -59,10 +60,12 @@ impl Cache {
         })
     }
 
-    /// How many levels are open.
+    /// How many levels are open. The places touched in each are distinct and below its height.
     pub fn levels(&self) -> u32
-        ensures { result ≡ length (open_levels self.now) }
+        ensures count { result ≡ length (open_levels self.now) }
+        ensures touched { AllByRecursion IsLevel (open_levels self.now) }
     {
+        // Read for its range: there are at most so many marks.
         let _levels = self.levels;
         self.marks.len() as u32
     }
@@ -83,7 +86,8 @@ impl Cache {
         put(&mut self.marks, mark);
     }
 
-    /// Changes the word at a place, and no copy. At most two ticks.
+    /// Changes the word at a place, and no copy. If the place is below the innermost level's height, it is touched in
+    /// that level from now on. At most two ticks.
     pub fn write<L: Ledger>(
         &mut self,
         cells: &mut Cells<L>,

@@ -11,6 +11,7 @@ use std::sync::ledger::{Blank, Ledger};
 use std::test::Fail;
 
 const LEVELS: u32 = 4;
+
 const WORDS: u32 = 24;
 
 /// A linear congruential generator (Knuth's MMIX).
@@ -101,6 +102,7 @@ impl<L: Ledger> Trial<L> {
         }
         Ok(())
     }
+
     fn reject(&mut self, alloc: Global) -> Result<(), Memory> {
         if self.copies.len() > 0 {
             let top = self.copies.len() - 1;

@@ -40,7 +40,7 @@ fn push_all<L: Ledger>(words: &mut Vec<i64>, n: u32, steps: &mut Steps<L>)
 }
 
 impl<L: Ledger> Cells<L> {
-    /// No words yet, and room for `limit` of them. No other call takes memory.
+    /// No words yet, and room for `limit` of them. No other call takes memory; `Memory` if it is wanting.
     pub fn new(alloc: Global, limit: u32) -> Result<Self, Memory>
         ensures { IfOk result (λ cells. cells ≡ record { words = []; limit = limit }) }
     {
@@ -57,6 +57,7 @@ impl<L: Ledger> Cells<L> {
         ensures words { result ≡ length self.now.words }
         ensures limit { result ≤ self.now.limit }
     {
+        // Read for its range: there are at most so many words.
         let _limit = self.limit;
         self.words.len() as u32
     }

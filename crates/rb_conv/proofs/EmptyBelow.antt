@@ -4,7 +4,6 @@ use Rattle.std.proofs.Math.Seq.{take-suc-set, drop-cons}
 use Rattle.std.proofs.lemmas.List.{drop-set-lt, take_all, drop_all, append-nil, get_or_default}
 use Rattle.rb_world.specs.Kind.{Membership}
 use Rattle.rb_conv.specs.declared.member.Member.{Member}
-use Rattle.rb_conv.specs.declared.member.Place.TheVariants.{Outside}
 use Rattle.rb_conv.specs.Conversations.{Conversation, all_outside, emptied, membership, memberships}
 use Rattle.rb_conv.specs.Reject.{emptied_from}
 
@@ -31,7 +30,7 @@ empty_all below whole xs n h so_far = sym (
     ∙ take_all n xs h)
 
 -- who leaves stays a member
-outside_kept : (members : List Member) → map (λ (m : Member). m.process) (all_outside members) ≡ map (λ (m : Member). m.process) members
+pub outside_kept : (members : List Member) → map (λ (m : Member). m.process) (all_outside members) ≡ map (λ (m : Member). m.process) members
 outside_kept [] = refl
 outside_kept (m ∷ ms) = ap (λ (ps : List ℕ). m.process ∷ ps) (outside_kept ms)
 

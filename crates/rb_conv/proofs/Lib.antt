@@ -1,3 +1,6 @@
 pub mod ParentSteps
 pub mod Places
 pub mod EmptyBelow
+pub mod TalksAfterCalls
+pub mod WhoIsInside
+pub mod AllStand

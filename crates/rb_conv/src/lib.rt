@@ -2,6 +2,7 @@
 #![tactic(auto)]
 
 mod conversation;
+pub mod laws;
 mod member;
 mod rejection;
 mod table;

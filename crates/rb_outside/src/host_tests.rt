@@ -1,10 +1,9 @@
 use crate::{Failed, HostShelf, HostSink, Shelf, Sink, put_all};
 use std::cell::Cell;
 use std::fmt::Display;
-use std::fs;
-use std::io;
 use std::rt::Files;
 use std::test::Fail;
+use std::{fs, io};
 
 const NAME: &str = "rb_outside_test_file";
 

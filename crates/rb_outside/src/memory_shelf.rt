@@ -2,7 +2,6 @@ ghost use Rattle.std.specs.Prelude.{◌≡◌, ◌+◌, ◌-◌, ◌^◌, ◌<�
 ghost use Rattle.rb_outside.specs.Outside.{IsMissing, IsOpen, Starts, FailsToStart, Reads, bytes_of, went_well, failed_once, was_missing};
 ghost use Rattle.rb_outside.specs.InMemory.{fails, start_fails, after_call, after_start, counted_as, piece_of, after_piece, uncalled, started_bytes};
 ghost use Rattle.rb_outside.specs.Started.{stored_files, name_at, closed, all_kept, Finds, IsReading};
-
 ghost use Rattle.std.specs.Prelude.{◌||◌, ◌==◌, None, MatchOption, cond};
 ghost use Rattle.std.specs.Option.{option_map};
 ghost use Rattle.arrayvec.specs.ArrayVec.{array_vec_len};
@@ -144,11 +143,7 @@ fn find(files: &[(Vec<u8>, Vec<u8>)], name: &[u8]) -> Option<usize>
 }
 
 // Keeps a start as the newest. Where no more are kept, it tells that no file is open.
-fn tell(
-    newest: &mut Option<Started>,
-    earlier: &mut ArrayVec<Started, EARLIER>,
-    started: Started,
-)
+fn tell(newest: &mut Option<Started>, earlier: &mut ArrayVec<Started, EARLIER>, started: Started)
     ensures newest { newest.new ≡ cond (array_vec_len earlier.old == 63) (option_map closed newest.old) (Some started) }
     ensures earlier { earlier.new.items ≡ cond (array_vec_len earlier.old == 63) earlier.old.items (all_kept newest.old earlier.old.items) }
 {

@@ -36,7 +36,12 @@ impl MemorySink {
     }
 
     /// The same, where a call takes at most so many bytes.
-    pub fn limited(alloc: Global, room: usize, failing: Vec<u64>, most: usize) -> Result<Self, Memory>
+    pub fn limited(
+        alloc: Global,
+        room: usize,
+        failing: Vec<u64>,
+        most: usize,
+    ) -> Result<Self, Memory>
         requires { 0 < most }
         ensures { IfOk result (λ sink. sink ≡ record { bytes = []; room = room; calls = uncalled failing.items; most = most }) }
     {

@@ -7,7 +7,7 @@ ghost use Rattle.rb_run.specs.Written.{ending_with, standing_text, values_text, 
 use rb_base::{MOST_WORDS_FIRST, Names, State, Text};
 use rb_outside::{Failed, Sink};
 use rb_plain::environment::Environment;
-use rb_trace::{put_line, write_end, write_status, write_variable};
+use rb_trace::{put_line, write_end_line, write_status, write_variable};
 
 /// Writes the ending of a run of so many turns, in which no channel was used.
 pub(crate) fn write_ending<S: Sink>(
@@ -20,7 +20,7 @@ pub(crate) fn write_ending<S: Sink>(
     requires { length environment.now.globals ≤ MOST_WORDS_FIRST }
     ensures { Puts (ending_with (naming names.now) turns state environment.now.globals) (S.written out.old) (S.written out.new) (S.faults out.old) (S.faults out.new) result }
 {
-    write_end(out, turns)?;
+    write_end_line(out, turns)?;
     write_process(out, names, state, environment)
 }
 

@@ -32,8 +32,8 @@ module _ (source schedule : List ℕ) where
   refused_then tree line accepted refused = (
     RefusedWith line,
     later [] source (schedule ∷ []) (RefusedWith line) at_first
-    (later (source ∷ []) schedule [] (RefusedWith line) (source_accepted source tree accepted)
-    (refused_here (source ∷ schedule ∷ []) [] line (schedule_refused source schedule line tree accepted refused))),
+        (later (source ∷ []) schedule [] (RefusedWith line) (source_accepted source tree accepted)
+        (refused_here (source ∷ schedule ∷ []) [] line (schedule_refused source schedule line tree accepted refused))),
   )
 
   -- the source runs over the schedule
@@ -41,9 +41,9 @@ module _ (source schedule : List ℕ) where
   ran tree turns accepted short e = (
     Writes (run_text tree turns),
     later [] source (schedule ∷ []) (Writes (run_text tree turns)) at_first
-    (later (source ∷ []) schedule [] (Writes (run_text tree turns)) (source_accepted source tree accepted)
-    (written_here (source ∷ schedule ∷ []) [] (run_text tree turns)
-    (runs source schedule (run_text tree turns) tree accepted (record { turns = turns; short = short; listed = e; is = refl })))),
+        (later (source ∷ []) schedule [] (Writes (run_text tree turns)) (source_accepted source tree accepted)
+        (written_here (source ∷ schedule ∷ []) [] (run_text tree turns)
+        (runs source schedule (run_text tree turns) tree accepted (record { turns = turns; short = short; listed = e; is = refl })))),
   )
 
   -- the schedule is a list of turns, or has a first fault

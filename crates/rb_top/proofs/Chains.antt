@@ -38,7 +38,7 @@ left_of files request read rest starts texts (one_more earlier wanted others bef
     record {
       left = next.others;
       parts = back.parts ∙ ap (λ (ts : List (List ℕ)). earlier ++ ts) next.is ∙ ap (λ (t : List ℕ). earlier ++ t ∷ next.others) same
-      ∙ sym (append_assoc earlier (bytes ∷ []) next.others);
+          ∙ sym (append_assoc earlier (bytes ∷ []) next.others);
       stored = next.after;
     }
 

@@ -42,8 +42,8 @@ piece_of_front files name old earlier others new buffer before n p has =
       omega arith,
       p.read ∙ ap (λ (xs : List ℕ). take n (drop old.passed xs)) same ∙ ap (λ k. take n (drop k has.all)) passed,
       p.moved ∙ ap (λ (xs : List Start). record { file = old.file; passed = old.passed + n; went = true } ∷ xs) rest
-      ∙ ap (λ (f : Option (List ℕ)). record { file = f; passed = old.passed + n; went = true } ∷ others) file
-      ∙ ap (λ k. record { file = Some name; passed = k + n; went = true } ∷ others) passed,
+          ∙ ap (λ (f : Option (List ℕ)). record { file = f; passed = old.passed + n; went = true } ∷ others) file
+          ∙ ap (λ k. record { file = Some name; passed = k + n; went = true } ∷ others) passed,
       λ zero. sym passed ∙ p.end zero ∙ size,
     )
 
@@ -107,7 +107,7 @@ started_front (Some files) name old new (is, (bytes, stored)) =
       front = refl;
       within = omega arith;
       started = is ∙ ap (λ (f : Option (List ℕ)). record { file = f; passed = 0; went = true } ∷ old) (named_stored files name bytes stored)
-      ∙ ap (λ (xs : List Start). record { file = Some name; passed = 0; went = true } ∷ xs) (sym others);
+          ∙ ap (λ (xs : List Start). record { file = Some name; passed = 0; went = true } ∷ xs) (sym others);
     }
 
 -- a file at whose front the shelf stands is open

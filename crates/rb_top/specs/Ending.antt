@@ -1,5 +1,4 @@
 -- How the program ends: its exit status, and what stands behind its buffer.
--- All of it is this project's own.
 use Rattle.std.specs.Prelude.{◌≡◌, ◌⊎◌, ℕ, true, List, [], Option, Some, None}
 use Rattle.rb_outside.specs.Outside.{Faults, failed_once}
 use Rattle.rb_top.specs.Words.{Request}

@@ -1,5 +1,4 @@
 -- A file as it is read, piece after piece.
--- All of it is this project's own.
 use Rattle.std.specs.Prelude.{◌≡◌, ◌≤◌, ◌+◌, ℕ, true, false, List, ◌∷◌, length, take, Option, Some, None, Result, Ok, Err}
 use Rattle.rb_outside.specs.Outside.{File, Faults, Start, IsOpen, IsUntold, begun, bytes_of, named, failed_once, was_missing}
 use Rattle.rb_top.specs.Answers.{IsRead, piece_bytes}

@@ -1,5 +1,4 @@
 -- How the top call stands after each of its stages.
--- All of it is this project's own.
 use Rattle.std.specs.Prelude.{◌≡◌, ◌⊎◌, ℕ, true, List, ◌∷◌, Option, Some, None, Result, Ok, Err}
 use Rattle.rb_outside.specs.Outside.{File, Faults, Start, WrotePart, bytes_of, failed_once, then_written}
 use Rattle.rb_syntax.specs.Tree.{Tree}

@@ -1,4 +1,4 @@
--- The words of a command line, and what they ask for.
+-- The words of a command line, and what they ask for. All of it is this project's own.
 use Rattle.std.specs.Prelude.{ℕ, nat_eq, Bool, false, not, cond, ◌&&◌, List, [], ◌∷◌, codes, Option, Some, None}
 use Rattle.std.specs.Cmp.Lexicographic.{pointwise}
 use Rattle.rb_base.specs.declared.limits.TheConstants.{MOST_BYTES}

@@ -1,5 +1,6 @@
 // Programs at the limits of the language: each of them runs to its end.
 use crate::{Status, Words, command};
+use rb_base::MOST_BYTES;
 use rb_outside::{MemoryShelf, MemorySink};
 use std::alloc::Global;
 use std::test::Fail;
@@ -23,8 +24,6 @@ const LIMITS: [Limit; 6] = [
     Limit::Name,
     Limit::PrintedText,
 ];
-
-const MOST_BYTES: usize = 1048576;
 
 // A source and a schedule at a limit.
 fn texts(alloc: Global, limit: Limit) -> Result<(String, String), Fail> {
@@ -111,7 +110,10 @@ fn runs_at_each_limit(rt: HostRuntime) -> Result<(), Fail> {
         let (source, schedule) = texts(rt.alloc(), limit)?;
         let (status, sink) = ran(rt.alloc(), source.as_str(), schedule.as_str())?;
         assert_eq!(rt; status, Status::Done, "{limit:?}");
-        assert!(rt; sink.bytes().ends_with(last_bytes(limit).as_bytes()), "{limit:?}");
+        assert!(rt;
+            sink.bytes().ends_with(last_bytes(limit).as_bytes()),
+            "{limit:?}"
+        );
     }
     Ok(())
 }

@@ -1,1 +1,6 @@
 pub mod Spaced
+pub mod Written
+pub mod Waiting
+pub mod Released
+pub mod Events
+pub mod Ended

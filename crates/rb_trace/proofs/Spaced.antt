@@ -7,7 +7,7 @@ use Rattle.rb_outside.specs.Puts.{Puts}
 use Rattle.rb_outside.proofs.Puts.{puts_same, puts_both, puts_stopped_at}
 use Rattle.std.specs.List.{flat_map}
 use Rattle.rb_world.specs.Text.{line_of}
-use Rattle.rb_trace.specs.Lines.{spaced, spaced_word}
+use Rattle.rb_trace.specs.Lines.{spaced}
 
 -- a line is its first word, the others with a blank before each, and LF
 pub line_of-spaced : (first : List ℕ) (others : List (List ℕ)) → line_of (first ∷ others) ≡ first ++ (spaced others ++ 10 ∷ [])

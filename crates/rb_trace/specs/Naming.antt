@@ -1,5 +1,6 @@
--- The names that lines speak of, from the names in memory. What this crate defines is this project's own.
-use Rattle.std.specs.Prelude.{ℕ, List, map}
+-- The names that lines speak of, from the names in memory, and how a process's state is told. What this crate defines is this
+-- project's own.
+use Rattle.std.specs.Prelude.{map}
 use Rattle.rb_base.specs.declared.names.Names.{Names}
 use Rattle.rb_base.specs.declared.names.ProcessNames.{ProcessNames}
 use Rattle.rb_base.specs.declared.names.Variable.{Variable}

@@ -11,7 +11,7 @@ use rb_base::State;
 use rb_outside::{Failed, Sink};
 
 /// Writes the line that ends a run of so many turns.
-pub fn write_end<S: Sink>(out: &mut S, turns: u32) -> Result<(), Failed>
+pub fn write_end_line<S: Sink>(out: &mut S, turns: u32) -> Result<(), Failed>
     ensures { Puts (line_of (codes "end" ∷ decimal turns ∷ [])) (S.written out.old) (S.written out.new) (S.faults out.old) (S.faults out.new) result }
 {
     let mut buffer = Buffer::new();
@@ -46,7 +46,7 @@ pub fn write_variable<S: Sink>(
 }
 
 // The two names, with a dot between them.
-fn put_name<S: Sink>(out: &mut S, process: &[u8], variable: &[u8]) -> Result<(), Failed>
+pub(crate) fn put_name<S: Sink>(out: &mut S, process: &[u8], variable: &[u8]) -> Result<(), Failed>
     ensures { Puts (process.now ++ 46 ∷ variable.now) (S.written out.old) (S.written out.new) (S.faults out.old) (S.faults out.new) result }
 {
     put(out, process)?;
@@ -84,7 +84,7 @@ fn put_values<S: Sink>(out: &mut S, values: &[i64]) -> Result<(), Failed>
     Ok(())
 }
 
-fn put_value<S: Sink>(out: &mut S, value: &i64) -> Result<(), Failed>
+pub(crate) fn put_value<S: Sink>(out: &mut S, value: &i64) -> Result<(), Failed>
     ensures { Puts (codes " " ++ signed_decimal value.now) (S.written out.old) (S.written out.new) (S.faults out.old) (S.faults out.new) result }
 {
     let mut buffer = Buffer::new();

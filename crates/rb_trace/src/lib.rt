@@ -3,8 +3,14 @@
 
 pub mod ending;
 pub mod event;
+pub mod final_state;
 pub mod line;
+pub mod report;
+#[cfg(test)]
+mod tests;
 
-pub use ending::{write_end, write_status, write_variable};
+pub use ending::{write_end_line, write_status, write_variable};
 pub use event::{write_event, write_out};
+pub use final_state::{write_end, write_values};
 pub use line::put_line;
+pub use report::write_report;

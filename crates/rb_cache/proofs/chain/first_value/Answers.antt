@@ -13,7 +13,8 @@ or_none (Some v) = refl
 pub loop-stamp-init : goal.loop-stamp-init
 loop-stamp-init c = record {
   small = omega (arith, c.requires.last, last_small c.args.arena.now c.args.at);
-  same = λ d h. ap (λ (i : ℕ). (get_or c.args.arena.now (i - 1) d).place) c.requires.last ∙ last_is c.args.arena.now c.args.at d (omega (arith, c.requires.last, h));
+  same = λ d h. ap (λ (i : ℕ). (get_or c.args.arena.now (i - 1) d).place) c.requires.last
+      ∙ last_is c.args.arena.now c.args.at d (omega (arith, c.requires.last, h));
   rest = or_none (first_saved c.args.at (map saved_of (drop c.args.first (take c.args.last c.args.arena.now))))
       ∙ ap (λ (i : ℕ). first_saved c.args.at (map saved_of (drop c.args.first (take i c.args.arena.now)))) c.requires.last
       ∙ sym (beyond c.args.first c.args.arena.now c.args.at);
@@ -21,11 +22,22 @@ loop-stamp-init c = record {
 
 pub loop-stamp-smaller : goal.loop-stamp-smaller
 loop-stamp-smaller c =
+    let l = c.loop-stamp in
     let d : Entry = record { place = 0; value = pos 0; earlier = 0 } in
-    (link c.args.arena.now c.requires.before c.args.first c.loop-stamp.stamp c.args.at c.loop-stamp.found d c.loop-stamp-test.true c.loop-stamp.invariant.small (c.loop-stamp.invariant.same d (omega arith))).less
+    let here = l.invariant.same d (omega arith) in
+    (link c.args.arena.now c.requires.before c.args.first l.stamp c.args.at l.found d c.loop-stamp-test.true l.invariant.small here).less
 
 pub loop-stamp-preserved : goal.loop-stamp-preserved
 loop-stamp-preserved c =
+    let l = c.loop-stamp in
+    let log = c.args.arena.now in
     let d : Entry = record { place = 0; value = pos 0; earlier = 0 } in
-    let k = link c.args.arena.now c.requires.before c.args.first c.loop-stamp.stamp c.args.at c.loop-stamp.found d c.loop-stamp-test.true c.loop-stamp.invariant.small (c.loop-stamp.invariant.same d (omega arith)) in
-    record { small = omega (arith, k.less, c.loop-stamp.invariant.small); same = k.same; rest = ap (λ (v : ℤ). or_else (first_saved c.args.at (map saved_of (drop c.args.first (take (get_or c.args.arena.now (c.loop-stamp.stamp - 1) d).earlier c.args.arena.now)))) (Some v)) (to_z-of_z w64 (get_or c.args.arena.now (c.loop-stamp.stamp - 1) d).value (search rules)) ∙ k.rest ∙ c.loop-stamp.invariant.rest }
+    let e : Entry = get_or log (l.stamp - 1) d in
+    let before = first_saved c.args.at (map saved_of (drop c.args.first (take e.earlier log))) in
+    let k =
+    link log c.requires.before c.args.first l.stamp c.args.at l.found d c.loop-stamp-test.true l.invariant.small (l.invariant.same d (omega arith)) in
+    record {
+      small = omega (arith, k.less, l.invariant.small);
+      same = k.same;
+      rest = ap (λ (v : ℤ). or_else before (Some v)) (to_z-of_z w64 e.value (search rules)) ∙ k.rest ∙ l.invariant.rest;
+    }

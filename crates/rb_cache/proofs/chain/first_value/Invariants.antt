@@ -9,7 +9,8 @@ invariant-loop-stamp l =
     record {
       small : l.stamp ≤ length l.arena;
       same : (d : Entry) → 0 < l.stamp → (get_or l.arena (l.stamp - 1) d).place ≡ l.at;
-      rest : or_else (first_saved l.at (map saved_of (drop l.first (take l.stamp l.arena)))) l.found ≡ first_saved l.at (map saved_of (drop l.first l.arena));
+      rest : or_else (first_saved l.at (map saved_of (drop l.first (take l.stamp l.arena)))) l.found ≡ first_saved l.at
+          (map saved_of (drop l.first l.arena));
     }
 
 abbrev pub decreases-loop-stamp : goal.decreases-loop-stamp

@@ -12,5 +12,6 @@ invariant-loop-i l =
       size : length l.arena.items ≡ length l.fn.arena.items;
       room : vec_capacity l.arena ≡ vec_capacity l.fn.arena;
       within : AllByRecursion (λ (e : Entry). e.place < length l.stamps.items) (drop l.i l.arena.items);
-      rest : merge_all l.lower (record { stamps = l.stamps.items; log = take l.kept l.arena.items }) (drop l.i l.arena.items) ≡ merge_all l.lower (record { stamps = l.fn.stamps.items; log = take l.first l.fn.arena.items }) (drop l.first l.fn.arena.items);
+      rest : merge_all l.lower (record { stamps = l.stamps.items; log = take l.kept l.arena.items }) (drop l.i l.arena.items)
+          ≡ merge_all l.lower (record { stamps = l.fn.stamps.items; log = take l.first l.fn.arena.items }) (drop l.first l.fn.arena.items);
     }

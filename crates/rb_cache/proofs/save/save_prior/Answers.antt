@@ -2,6 +2,8 @@ use Rattle.std.proofs.Common.{◌≡◌, ◌<◌, ℤ, sym, ◌∙◌, ap, rever
 use Rattle.std.proofs.lemmas.List.{get_or_default}
 use Rattle.std.proofs.lemmas.Int.{to_z-of_z}
 use Rattle.std.proofs.lemmas.Grind.{common_steps}
+use Rattle.rb_cache.specs.declared.entry.Entry.{Entry}
+use Rattle.rb_cache.specs.declared.entry.Mark.{Mark}
 use Rattle.rb_cache.specs.Regions.{recorded}
 use Rattle.rb_cache.specs.Arena.{regions_of}
 use Rattle.rb_cache.proofs.Stamps.{noted, not_noted}
@@ -14,7 +16,10 @@ note-requires-clause-room g c =
     let log = c.args.arena.now.items in
     let some : 0 < length c.args.marks.now = grind (arith, common_steps, c.if-is_empty.ensures, c.if-is_empty.false) in
     let s : get_or st c.args.at 0 ≡ c.index.result.now = get_or_default st c.args.at 0 c.index.result.now c.requires.within ∙ sym c.index.ensures in
-    let n = noted c.args.marks.now st log (record { place = c.args.at; value = pos 0; earlier = get_or st c.args.at 0 }) (record { first = 0; height = 0 }) some c.requires.holds c.requires.within c.if-at-top.true (omega (arith, s, c.if-index-top.true)) refl in
+    let none : Mark = record { first = 0; height = 0 } in
+    let entry : Entry = record { place = c.args.at; value = pos 0; earlier = get_or st c.args.at 0 } in
+    let n =
+    noted c.args.marks.now st log entry none some c.requires.holds c.requires.within c.if-at-top.true (omega (arith, s, c.if-index-top.true)) refl in
     omega (arith, n.room, c.requires.room, c.args.arena.now.ok.0)
 
 pub returns-then-index-top-clause-holds : goal.returns-then-index-top-clause-holds
@@ -23,7 +28,10 @@ returns-then-index-top-clause-holds g c =
     let log = c.args.arena.now.items in
     let some : 0 < length c.args.marks.now = grind (arith, common_steps, c.if-is_empty.ensures, c.if-is_empty.false) in
     let s : get_or st c.args.at 0 ≡ c.index.result.now = get_or_default st c.args.at 0 c.index.result.now c.requires.within ∙ sym c.index.ensures in
-    let n = noted c.args.marks.now st log (record { place = c.args.at; value = to_z w64 (of_z w64 c.read-value.result); earlier = get_or st c.args.at 0 }) (record { first = 0; height = 0 }) some c.requires.holds c.requires.within c.if-at-top.true (omega (arith, s, c.if-index-top.true)) refl in
+    let none : Mark = record { first = 0; height = 0 } in
+    let entry : Entry = record { place = c.args.at; value = to_z w64 (of_z w64 c.read-value.result); earlier = get_or st c.args.at 0 } in
+    let n =
+    noted c.args.marks.now st log entry none some c.requires.holds c.requires.within c.if-at-top.true (omega (arith, s, c.if-index-top.true)) refl in
     rw (c.note.ensures.arena, c.note.ensures.stamps) n.holds
 
 pub returns-then-index-top-clause-regions : goal.returns-then-index-top-clause-regions
@@ -33,16 +41,24 @@ returns-then-index-top-clause-regions g c =
     let ws = c.args.cells.now.words in
     let some : 0 < length c.args.marks.now = grind (arith, common_steps, c.if-is_empty.ensures, c.if-is_empty.false) in
     let s : get_or st c.args.at 0 ≡ c.index.result.now = get_or_default st c.args.at 0 c.index.result.now c.requires.within ∙ sym c.index.ensures in
-    let z : to_z w64 (of_z w64 c.read-value.result) ≡ get_or ws c.args.at (pos 0) = to_z-of_z w64 c.read-value.result (search rules) ∙ c.read-value.ensures.word in
-    let n = noted c.args.marks.now st log (record { place = c.args.at; value = to_z w64 (of_z w64 c.read-value.result); earlier = get_or st c.args.at 0 }) (record { first = 0; height = 0 }) some c.requires.holds c.requires.within c.if-at-top.true (omega (arith, s, c.if-index-top.true)) refl in
-    ap (regions_of (reverse c.args.marks.now)) c.note.ensures.arena ∙ n.regions ∙ ap (λ (v : ℤ). recorded c.args.at v (regions_of (reverse c.args.marks.now) log)) z
+    let z : to_z w64 (of_z w64 c.read-value.result) ≡ get_or ws c.args.at (pos 0) = to_z-of_z w64 c.read-value.result (search rules)
+    ∙ c.read-value.ensures.word in
+    let none : Mark = record { first = 0; height = 0 } in
+    let entry : Entry = record { place = c.args.at; value = to_z w64 (of_z w64 c.read-value.result); earlier = get_or st c.args.at 0 } in
+    let n =
+    noted c.args.marks.now st log entry none some c.requires.holds c.requires.within c.if-at-top.true (omega (arith, s, c.if-index-top.true)) refl in
+    ap (regions_of (reverse c.args.marks.now)) c.note.ensures.arena ∙ n.regions
+    ∙ ap (λ (v : ℤ). recorded c.args.at v (regions_of (reverse c.args.marks.now) log)) z
 
 pub returns-else-at-top-clause-regions : goal.returns-else-at-top-clause-regions
 returns-else-at-top-clause-regions g c =
     let st = c.args.stamps.now.items in
     let some : 0 < length c.args.marks.now = grind (arith, common_steps, c.if-is_empty.ensures, c.if-is_empty.false) in
-    not_noted c.args.marks.now st c.args.arena.now.items c.args.at (get_or c.args.cells.now.words c.args.at (pos 0)) (record { first = 0; height = 0 }) some c.requires.holds c.requires.within
+    let none : Mark = record { first = 0; height = 0 } in
+    not_noted c.args.marks.now st c.args.arena.now.items c.args.at
+    (get_or c.args.cells.now.words c.args.at (pos 0)) none some c.requires.holds c.requires.within
     (λ h. elim c.else-at-top.branch [
-      | else-at-top-via-then-at-top+else-index-top w ↦ omega (arith, get_or_default st c.args.at 0 w.index.result.now c.requires.within, w.index.ensures, w.if-index-top.false)
+      | else-at-top-via-then-at-top+else-index-top w ↦ omega
+          (arith, get_or_default st c.args.at 0 w.index.result.now c.requires.within, w.index.ensures, w.if-index-top.false)
       | else-at-top-via-else-at-top w ↦ omega (arith, w.if-at-top.false, h)
     ])

@@ -25,7 +25,9 @@ index_mut-requires g c =
     let n : length c.loop-arena.arena.items ≡ length log + 1 = ap length it ∙ length_push log e in
     let le : c.args.first ≤ length log = omega (arith, n, c.loop-arena-test.true, c.len.ensures, c.loop-arena.arena.ok.0) in
     let P = λ (o : Saved). o.place < length c.loop-arena.stamps.items in
-    let h = popped_all P c.args.first log e le (subst (λ (xs : List Entry). AllByRecursion P (map saved_of (drop c.args.first xs))) it c.loop-arena.invariant.below) in
+    let h =
+    popped_all P c.args.first log e le
+    (subst (λ (xs : List Entry). AllByRecursion P (map saved_of (drop c.args.first xs))) it c.loop-arena.invariant.below) in
     omega (arith, h.1, c.loop-arena.stamps.ok.0)
 
 pub write-requires : goal.write-requires
@@ -36,7 +38,8 @@ write-requires g c =
     let n : length c.loop-arena.arena.items ≡ length log + 1 = ap length it ∙ length_push log e in
     let le : c.args.first ≤ length log = omega (arith, n, c.loop-arena-test.true, c.len.ensures, c.loop-arena.arena.ok.0) in
     let P = λ (o : Saved). o.place < length c.loop-arena.cells.words in
-    (popped_all P c.args.first log e le (subst (λ (xs : List Entry). AllByRecursion P (map saved_of (drop c.args.first xs))) it c.loop-arena.invariant.within)).1
+    (popped_all P c.args.first log e le
+    (subst (λ (xs : List Entry). AllByRecursion P (map saved_of (drop c.args.first xs))) it c.loop-arena.invariant.within)).1
 
 pub loop-arena-preserved : goal.loop-arena-preserved
 loop-arena-preserved g c =
@@ -51,19 +54,22 @@ loop-arena-preserved g c =
     let Q = λ (o : Saved). o.place < length c.loop-arena.cells.words in
     let b = popped_all Q c.args.first log e le (subst (λ (xs : List Entry). AllByRecursion Q (map saved_of (drop c.args.first xs))) it inv.within) in
     let st = c.loop-arena.stamps.items in
+    let ws = c.loop-arena.cells.words in
+    let rest = map saved_of (drop c.args.first log) in
     record {
       first = le;
       front = front_of c.args.arena.now.items c.loop-arena.arena.items log e inv.front it;
       room = c.pop.ensures.capacity ∙ inv.room;
       size = length-set st e.place e.earlier ∙ inv.size;
       stamped = WellStamped-pop st log e (subst (λ (xs : List Entry). WellStamped st xs) it inv.stamped) a.1;
-      below = subst (λ (k : ℕ). AllByRecursion (λ (o : Saved). o.place < k) (map saved_of (drop c.args.first log))) (sym (length-set st e.place e.earlier)) a.0;
-      within = subst (λ (s : Store). AllByRecursion (λ (o : Saved). o.place < length s.words) (map saved_of (drop c.args.first log))) (sym c.write.ensures.words)
-          (subst (λ (k : ℕ). AllByRecursion (λ (o : Saved). o.place < k) (map saved_of (drop c.args.first log))) (sym (length-set c.loop-arena.cells.words e.place (to_z w64 (of_z w64 e.value)))) b.0);
-      words = ap (λ (s : Store). put_back s.words (map saved_of (drop c.args.first log))) c.write.ensures.words
-          ∙ ap (λ (v : ℤ). put_back (set c.loop-arena.cells.words e.place v) (map saved_of (drop c.args.first log))) (to_z-of_z w64 e.value (search rules))
-          ∙ sym (popped_words c.loop-arena.cells.words c.args.first log e le)
-          ∙ ap (λ (xs : List Entry). put_back c.loop-arena.cells.words (map saved_of (drop c.args.first xs))) (sym it)
+      below = subst (λ (k : ℕ). AllByRecursion (λ (o : Saved). o.place < k) (map saved_of (drop c.args.first log)))
+          (sym (length-set st e.place e.earlier)) a.0;
+      within = subst (λ (s : Store). AllByRecursion (λ (o : Saved). o.place < length s.words) rest) (sym c.write.ensures.words)
+          (subst (λ (k : ℕ). AllByRecursion (λ (o : Saved). o.place < k) rest) (sym (length-set ws e.place (to_z w64 (of_z w64 e.value)))) b.0);
+      words = ap (λ (s : Store). put_back s.words rest) c.write.ensures.words
+          ∙ ap (λ (v : ℤ). put_back (set ws e.place v) rest) (to_z-of_z w64 e.value (search rules))
+          ∙ sym (popped_words ws c.args.first log e le)
+          ∙ ap (λ (xs : List Entry). put_back ws (map saved_of (drop c.args.first xs))) (sym it)
           ∙ inv.words;
       limit = ap (λ (s : Store). s.limit) c.write.ensures.words ∙ inv.limit;
       ticks = omega (arith, c.write.ensures.ticks, inv.ticks, n);

@@ -1,7 +1,7 @@
-use Rattle.std.proofs.Common.{◌≡◌, ℕ, Bool, List, cond, length, get_or, sym, ap, ◌∙◌, arith}
+use Rattle.std.proofs.Common.{◌≡◌, ℕ, Bool, List, cond, length, get_or, ap, ◌∙◌, arith}
 use Rattle.rb_world.specs.Kind.{Membership}
 use Rattle.rb_world.specs.Reject.{is_below}
-use Rattle.rb_conv.specs.Conversations.{Conversation, emptied, membership, memberships}
+use Rattle.rb_conv.specs.Conversations.{emptied, membership, memberships}
 use Rattle.rb_conv.proofs.EmptyBelow.{empty_all, empty_more, membership_kept, memberships_kept}
 use Rattle.rb_conv.proofs.rejection.empty_below.Goals as goal
 

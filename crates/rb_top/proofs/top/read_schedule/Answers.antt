@@ -15,9 +15,9 @@ pub returns-in-Err-Fault-clause-answers : goal.returns-in-Err-Fault-clause-answe
 returns-in-Err-Fault-clause-answers g c =
     let mid = g.F.Shelf.starts c.args.shelf.now in (
       schedule_fault (g.F.Shelf.files c.args.shelf.now) (g.F.Shelf.files c.read_file.new.shelf) c.args.source.now c.args.schedule.now (tree c.args.program.now)
-      (drop 1 mid) mid (g.F.Shelf.starts c.read_file.new.shelf) (g.F.Shelf.faults c.args.shelf.now) (g.F.Shelf.faults c.read_file.new.shelf)
-      (g.S.Sink.faults c.args.out.now) (g.S.Sink.faults c.args.out.now) (g.S.Sink.written c.args.out.now) (g.S.Sink.written c.args.out.now)
-      c.requires.held (rw c.in-Err-Fault.field-0-is at c.in-Err-Fault.ensures.err),
+          (drop 1 mid) mid (g.F.Shelf.starts c.read_file.new.shelf) (g.F.Shelf.faults c.args.shelf.now) (g.F.Shelf.faults c.read_file.new.shelf)
+          (g.S.Sink.faults c.args.out.now) (g.S.Sink.faults c.args.out.now) (g.S.Sink.written c.args.out.now) (g.S.Sink.written c.args.out.now)
+          c.requires.held (rw c.in-Err-Fault.field-0-is at c.in-Err-Fault.ensures.err),
       record { written = refl; faults = refl },
     )
 

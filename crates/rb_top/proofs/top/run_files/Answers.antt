@@ -27,12 +27,12 @@ returns-in-Ok-clause-answers g c =
 
 pub returns-in-Err-Fault-clause-answers : goal.returns-in-Err-Fault-clause-answers
 returns-in-Err-Fault-clause-answers g c = (
-      source_fault (g.F.Shelf.files c.args.shelf.now) (g.F.Shelf.files c.read_file.new.shelf) c.args.source.now c.args.schedule.now
+  source_fault (g.F.Shelf.files c.args.shelf.now) (g.F.Shelf.files c.read_file.new.shelf) c.args.source.now c.args.schedule.now
       (g.F.Shelf.starts c.args.shelf.now) (g.F.Shelf.starts c.read_file.new.shelf) (g.F.Shelf.faults c.args.shelf.now) (g.F.Shelf.faults c.read_file.new.shelf)
       (g.S.Sink.faults c.args.out.now) (g.S.Sink.faults c.args.out.now) (g.S.Sink.written c.args.out.now) (g.S.Sink.written c.args.out.now)
       (rw c.in-Err-Fault.field-0-is at c.in-Err-Fault.ensures.err),
-      record { written = refl; faults = refl },
-    )
+  record { written = refl; faults = refl },
+)
 
 pub returns-in-Err-Memory-clause-answers : goal.returns-in-Err-Memory-clause-answers
 returns-in-Err-Memory-clause-answers g c =

@@ -15,9 +15,11 @@ returns-in-Err g c =
     let refused : ScheduleRefused (tree c.args.program.now) c.args.bytes.now line =
     bad_schedule c.in-Err.fault c.requires.short (ap (λ (names : List (List ℕ)). schedule_of names c.args.bytes.now) (sym c.requires.scheduled) ∙ c.in-Err.ensures.turns) refl in
     let Q : Status → Type 0 = λ status. AfterSchedule (tree c.args.program.now) c.args.bytes.now (g.S.Sink.written c.args.out.now) (g.S.Sink.written c.refuse_schedule.new.out) (g.S.Sink.faults c.args.out.now) (g.S.Sink.faults c.refuse_schedule.new.out) status in
-    record { answers = line_answer _ c.status_after.result line _ _ (g.S.Sink.faults c.args.out.now) (g.S.Sink.faults c.refuse_schedule.new.out) c.refuse_schedule.ensures c.status_after.ensures Q
-    (λ whole quiet. (line, refused, whole, quiet))
-    (λ part failed. (line, inr refused, part, failed)) }
+    record {
+      answers = line_answer _ c.status_after.result line _ _ (g.S.Sink.faults c.args.out.now) (g.S.Sink.faults c.refuse_schedule.new.out) c.refuse_schedule.ensures c.status_after.ensures Q
+          (λ whole quiet. (line, refused, whole, quiet))
+          (λ part failed. (line, inr refused, part, failed));
+    }
 
 pub run-requires-clause-known : goal.run-requires-clause-known
 run-requires-clause-known g c =

@@ -1,4 +1,4 @@
-use Rattle.std.proofs.Common.{[], ◌∷◌}
+use Rattle.std.proofs.Common.{◌∷◌}
 use Rattle.rb_outside.proofs.Puts.{puts_both}
 use Rattle.rb_trace.proofs.ending.put_name.Goals as goal
 

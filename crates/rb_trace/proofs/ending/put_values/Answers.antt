@@ -1,4 +1,4 @@
-use Rattle.std.proofs.Common.{List, ℕ, ℤ, map, sym}
+use Rattle.std.proofs.Common.{ℤ, sym}
 use Rattle.std.proofs.lemmas.List.Folds.{flat_map-map}
 use Rattle.std.specs.Fmt.{signed_decimal}
 use Rattle.rb_outside.proofs.Puts.{puts_nothing, puts_same}

@@ -1,8 +1,7 @@
-use Rattle.std.proofs.Common.{ℕ, List, Bor, [], ◌∷◌, ◌++◌, map, sym, codes}
+use Rattle.std.proofs.Common.{[], ◌∷◌, map}
 use Rattle.std.specs.Fmt.{signed_decimal}
-use Rattle.rb_outside.proofs.Puts.{puts_both, puts_same}
+use Rattle.rb_outside.proofs.Puts.{puts_both}
 use Rattle.rb_trace.specs.Lines.{spaced}
-use Rattle.rb_trace.proofs.Spaced.{line_of-spaced}
 use Rattle.rb_trace.proofs.ending.put_values_line.Goals as goal
 
 pub returns : goal.returns

@@ -1,4 +1,4 @@
-use Rattle.std.proofs.Common.{◌≡◌, List, ℕ, [], ◌∷◌, ◌++◌, map, codes, ap, sym}
+use Rattle.std.proofs.Common.{List, ℕ, [], ◌∷◌, ◌++◌, map, codes, ap, sym}
 use Rattle.std.specs.Fmt.{signed_decimal}
 use Rattle.rb_outside.proofs.Puts.{puts_both, puts_same}
 use Rattle.rb_trace.specs.Lines.{spaced}

@@ -1,6 +1,5 @@
-use Rattle.std.proofs.Common.{List, ℕ, Bor, map, sym}
+use Rattle.std.proofs.Common.{List, ℕ, Bor, sym}
 use Rattle.std.proofs.lemmas.List.Folds.{flat_map-map}
-use Rattle.std.proofs.Common.{◌<◌, length}
 use Rattle.rb_outside.proofs.Puts.{puts_nothing, puts_same}
 use Rattle.rb_trace.specs.Lines.{spaced_word}
 use Rattle.rb_trace.proofs.Spaced.{puts_next, puts_part, puts_whole}

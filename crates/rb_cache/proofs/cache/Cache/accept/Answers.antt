@@ -1,9 +1,8 @@
-use Rattle.std.proofs.Common.{◌≡◌, ◌<◌, ◌≤◌, List, map, reverse, length, sym, ◌∙◌, ap, subst, arith}
+use Rattle.std.proofs.Common.{◌<◌, ◌≤◌, List, map, reverse, length, sym, ◌∙◌, ap, subst, arith}
 use Rattle.std.specs.List.{AllByRecursion}
 use Rattle.rb_cache.specs.Undo.{Region}
-use Rattle.rb_cache.specs.Copies.{RecoveryCache, level_of, restored}
+use Rattle.rb_cache.specs.Copies.{level_of, restored}
 use Rattle.rb_cache.specs.Regions.{merged, Stacked}
-use Rattle.rb_cache.specs.Arena.{regions_of}
 use Rattle.rb_cache.proofs.Views.{length-levels, copies-accepted, levels-merged}
 use Rattle.rb_cache.proofs.Seen.{length-open_levels, regions_seen, fits-merged}
 use Rattle.rb_cache.proofs.cache.Cache.accept.Goals as goal
@@ -20,7 +19,8 @@ returns-clause-copies g c =
     let v = regions_seen i.marks.items i.arena.items i.levels i.words c.args.self.now c.self.view_is in
     let s : Stacked i.words c.args.self.now.regions = subst (Stacked i.words) v c.self.invariant.holds.stacked in
     let some : 0 < length c.args.self.now.regions = omega (arith, c.requires.some, length-levels c.args.self.now.regions) in
-    ap (λ (rs : List Region). reverse (restored ws rs)) (c.accept_top.ensures.regions ∙ ap merged v) ∙ copies-accepted i.words ws c.args.self.now.regions some s
+    ap (λ (rs : List Region). reverse (restored ws rs)) (c.accept_top.ensures.regions ∙ ap merged v)
+    ∙ copies-accepted i.words ws c.args.self.now.regions some s
 
 pub returns-clause-levels : goal.returns-clause-levels
 returns-clause-levels g c =
@@ -33,4 +33,5 @@ returns-clause-fits g c =
     let i = c.self.inside in
     let ws = c.args.cells.now.words in
     let v = regions_seen i.marks.items i.arena.items i.levels i.words c.args.self.now c.self.view_is in
-    subst (AllByRecursion (λ (x : Region). x.height ≤ length ws)) (sym (c.accept_top.ensures.regions ∙ ap merged v)) (fits-merged (length ws) c.args.self.now.regions c.requires.fits)
+    subst (AllByRecursion (λ (x : Region). x.height ≤ length ws)) (sym (c.accept_top.ensures.regions ∙ ap merged v))
+    (fits-merged (length ws) c.args.self.now.regions c.requires.fits)

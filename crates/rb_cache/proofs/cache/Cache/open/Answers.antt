@@ -1,10 +1,8 @@
-use Rattle.std.proofs.Common.{◌≡◌, ◌≤◌, ◌∷◌, [], ℕ, List, sym, ◌∙◌, ap, map, reverse, length, subst, arith}
+use Rattle.std.proofs.Common.{◌≡◌, ◌≤◌, ℕ, List, sym, ◌∙◌, ap, map, reverse, length, subst, arith, rules}
 use Rattle.std.specs.List.{AllByRecursion}
-use Rattle.rb_cache.specs.declared.entry.Mark.{Mark}
 use Rattle.rb_cache.specs.Undo.{Region}
 use Rattle.rb_cache.specs.Copies.{RecoveryCache, level_of, restored, entered}
 use Rattle.rb_cache.specs.Regions.{top_height}
-use Rattle.rb_cache.specs.Arena.{regions_of, Holds}
 use Rattle.rb_cache.proofs.Stamps.{reverse-push, Holds-open}
 use Rattle.rb_cache.proofs.Views.{reverse-cons, copies-open}
 use Rattle.rb_cache.proofs.Seen.{length-open_levels, regions_seen, top_fits, opened}
@@ -13,40 +11,36 @@ use Rattle.rb_cache.proofs.cache.Cache.open.Goals as goal
 pub put-requires : goal.put-requires
 put-requires g c =
     let i = c.self.inside in
-    omega (arith, c.self.invariant.marks_room, c.requires.room, i.marks.ok.0, length-open_levels i.marks.items i.arena.items i.levels i.words c.args.self.now c.self.view_is, ap (λ (k : RecoveryCache). k.limits.levels) c.self.view_is)
+    let many = length-open_levels i.marks.items i.arena.items i.levels i.words c.args.self.now c.self.view_is in
+    omega (arith, c.self.invariant.marks_room, c.requires.room, i.marks.ok.0, many, ap (λ (k : RecoveryCache). k.limits.levels) c.self.view_is)
 
 pub invariant_of-self : goal.invariant_of-self
 invariant_of-self g c =
     let i = c.self.inside in
+    let many = length-open_levels i.marks.items i.arena.items i.levels i.words c.args.self.now c.self.view_is in
     let at : c.len.result ≡ length i.arena.items = c.len.ensures ∙ i.arena.ok.0 in
     let top : top_height c.args.self.now.regions ≤ c.height.result =
-    subst (λ (k : ℕ). top_height c.args.self.now.regions ≤ k) (sym c.height.ensures.words) (top_fits c.args.cells.now.words c.args.self.now c.requires.fits) in
+    subst (λ (k : ℕ). top_height c.args.self.now.regions ≤ k) (sym c.height.ensures.words)
+    (top_fits c.args.cells.now.words c.args.self.now c.requires.fits) in
     let h = Holds-open i.words c.height.result (reverse i.marks.items) i.stamps.items i.arena.items c.self.invariant.holds
-    (subst (λ (rs : List Region). top_height rs ≤ c.height.result) (sym (regions_seen i.marks.items i.arena.items i.levels i.words c.args.self.now c.self.view_is)) top) in
+    (subst (λ (rs : List Region). top_height rs ≤ c.height.result)
+    (sym (regions_seen i.marks.items i.arena.items i.levels i.words c.args.self.now c.self.view_is)) top) in
     record {
-      few = omega (arith, c.requires.room, i.marks.ok.0, c.put.ensures.len, length-open_levels i.marks.items i.arena.items i.levels i.words c.args.self.now c.self.view_is, ap (λ (k : RecoveryCache). k.limits.levels) c.self.view_is);
+      few = omega (arith, c.requires.room, i.marks.ok.0, c.put.ensures.len, many, ap (λ (k : RecoveryCache). k.limits.levels) c.self.view_is);
       marks_room = omega (arith, c.put.ensures.room, c.self.invariant.marks_room);
       arena_room = c.self.invariant.arena_room;
       holds = rw (c.put.ensures.items, reverse-push, at) h;
     }
 
-pub returns-clause-copies : goal.returns-clause-copies
-returns-clause-copies g c =
+pub returns : goal.returns
+returns g c =
     let i = c.self.inside in
     let ws = c.args.cells.now.words in
-    let r = opened i.marks.items c.put.new.items.items i.arena.items c.len.result c.height.result i.levels i.words ws c.args.self.now c.self.view_is c.put.ensures.items (c.len.ensures ∙ i.arena.ok.0) c.height.ensures.words in
-    ap (λ (rs : List Region). reverse (restored ws rs)) r ∙ copies-open ws c.args.self.now.regions
-
-pub returns-clause-levels : goal.returns-clause-levels
-returns-clause-levels g c =
-    let i = c.self.inside in
-    let ws = c.args.cells.now.words in
-    let r = opened i.marks.items c.put.new.items.items i.arena.items c.len.result c.height.result i.levels i.words ws c.args.self.now c.self.view_is c.put.ensures.items (c.len.ensures ∙ i.arena.ok.0) c.height.ensures.words in
-    ap (λ (rs : List Region). reverse (map level_of rs)) r ∙ reverse-cons (entered (length ws)) (map level_of c.args.self.now.regions)
-
-pub returns-clause-fits : goal.returns-clause-fits
-returns-clause-fits g c =
-    let i = c.self.inside in
-    let ws = c.args.cells.now.words in
-    let r = opened i.marks.items c.put.new.items.items i.arena.items c.len.result c.height.result i.levels i.words ws c.args.self.now c.self.view_is c.put.ensures.items (c.len.ensures ∙ i.arena.ok.0) c.height.ensures.words in
-    subst (AllByRecursion (λ (x : Region). x.height ≤ length ws)) (sym r) (omega arith, c.requires.fits)
+    let r = opened i.marks.items c.put.new.items.items i.arena.items c.len.result c.height.result i.levels i.words ws c.args.self.now
+    c.self.view_is c.put.ensures.items (c.len.ensures ∙ i.arena.ok.0) c.height.ensures.words in
+    record {
+      copies = ap (λ (rs : List Region). reverse (restored ws rs)) r ∙ copies-open ws c.args.self.now.regions;
+      levels = ap (λ (rs : List Region). reverse (map level_of rs)) r ∙ reverse-cons (entered (length ws)) (map level_of c.args.self.now.regions);
+      fits = subst (AllByRecursion (λ (x : Region). x.height ≤ length ws)) (sym r) (omega arith, c.requires.fits);
+      limits = search rules;
+    }

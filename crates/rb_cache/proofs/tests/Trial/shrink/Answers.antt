@@ -13,7 +13,9 @@ invariant_of-self g c =
     let inv = c.self.invariant in
     let h = c.args.height in
     let P = λ (copy : List ℤ). length copy ≤ h in
-    let low = recursion_from_All P (map vec_items i.copies.items) (All-map P vec_items i.copies.items (rw c.deref.ensures.value at (c.are_within.ensures.0 c.if-are_within.true))) in
+    let low =
+    recursion_from_All P (map vec_items i.copies.items)
+    (All-map P vec_items i.copies.items (rw c.deref.ensures.value at (c.are_within.ensures.0 c.if-are_within.true))) in
     let s = ap (λ (store : Store). store.words) c.drop_to.ensures in
     let k = shrunk i.cells.words i.cache h inv.fits (omega (arith, c.if-height.true, c.height.ensures.words)) (subst (AllByRecursion P) inv.each low) in
     record {

@@ -1,0 +1,180 @@
+//! The sites of a statement.
+
+ghost use Rattle.std.specs.Prelude.{◌≡◌, option_map, OnOk};
+ghost use Rattle.rb_syntax.specs.Plain.{alternates_of, body as plain_body, command, commands_of, identifier, recovery_block};
+ghost use Rattle.rb_scope.specs.Sites.{alternates_sites, body_sites, command_sites, commands_sites, joined_sites, recovery_sites};
+ghost use Rattle.rb_scope.specs.Finding.{visited};
+ghost use Rattle.rb_scope.specs.Memory.{spot_of};
+
+use crate::expression::{visit_expression, visit_reference};
+use crate::finder::Finder;
+use crate::lists::count_items;
+use crate::operands::{visit_arguments, visit_items};
+use crate::rules::{sum, words_in};
+use crate::scope::Scopes;
+use crate::sites::{bounds, calls, uses};
+use crate::spot::Spot;
+use crate::variables::block_scope;
+use crate::want::Want;
+use rb_base::Memory;
+use rb_syntax::{Block, Name, Recovery, Statement};
+use std::alloc::Global;
+
+/// Visits the sites of a statement.
+#[cycle(statement)]
+#[tactic(auto, using(rb_syntax::proofs::Bridge::trees, crate::proofs::Visited::visited_append))]
+fn visit_statement<'a>(
+    alloc: Global,
+    statement: &Statement<'a>,
+    spot: &Spot<'_, 'a>,
+    finder: &mut Finder,
+) -> Result<(), Memory>
+    ensures { OnOk result (finder.new ≡ visited finder.old (command_sites (spot_of spot.now) (command statement.now))) }
+{
+    match statement {
+        Statement::Assign(target, value) => {
+            visit_reference(alloc, target, Want::AScalar, spot, finder)?;
+            visit_expression(alloc, value, spot, finder)?;
+            Ok(())
+        }
+        Statement::Print(items) => {
+            count_items(items, finder);
+            visit_items(alloc, items, spot, finder)?;
+            Ok(())
+        }
+        Statement::Send(channel, value) => {
+            uses(finder, Want::AChannel, *channel, spot.scopes);
+            visit_expression(alloc, value, spot, finder)?;
+            Ok(())
+        }
+        Statement::Receive(channel, target, otherwise) => {
+            uses(finder, Want::AChannel, *channel, spot.scopes);
+            visit_reference(alloc, target, Want::AScalar, spot, finder)?;
+            match otherwise {
+                None => Ok(()),
+                Some(block) => {
+                    visit_block(alloc, block, spot, finder)?;
+                    Ok(())
+                }
+            }
+        }
+        Statement::If(test, block, otherwise) => {
+            visit_expression(alloc, test, spot, finder)?;
+            visit_block(alloc, block, spot, finder)?;
+            match otherwise {
+                None => Ok(()),
+                Some(other) => {
+                    visit_block(alloc, other, spot, finder)?;
+                    Ok(())
+                }
+            }
+        }
+        Statement::While(test, block) => {
+            visit_expression(alloc, test, spot, finder)?;
+            visit_block(alloc, block, spot, finder)?;
+            Ok(())
+        }
+        Statement::Call(procedure, arguments) => {
+            uses(finder, Want::AProcedure, *procedure, spot.scopes);
+            calls(finder, *procedure, arguments.len(), spot.scopes);
+            visit_arguments(alloc, arguments, spot, finder)?;
+            Ok(())
+        }
+        Statement::Fail => Ok(()),
+        Statement::Recover(recovery) => {
+            visit_recovery(alloc, recovery, spot, finder)?;
+            Ok(())
+        }
+    }
+}
+
+/// Visits the sites of statements in order.
+#[cycle(statement)]
+#[tactic(auto, using(rb_syntax::proofs::Bridge::trees, crate::proofs::Visited::visited_append))]
+pub(crate) fn visit_statements<'a>(
+    alloc: Global,
+    statements: &[Statement<'a>],
+    spot: &Spot<'_, 'a>,
+    finder: &mut Finder,
+) -> Result<(), Memory>
+    ensures { OnOk result (finder.new ≡ visited finder.old (commands_sites (spot_of spot.now) (commands_of statements.now))) }
+{
+    for statement in statements {
+        visit_statement(alloc, statement, spot, finder)?;
+    }
+    Ok(())
+}
+
+/// Visits the sites of a block.
+#[cycle(statement)]
+#[tactic(auto, using(rb_syntax::proofs::Bridge::trees, crate::proofs::Visited::visited_append))]
+fn visit_block<'a>(
+    alloc: Global,
+    block: &Block<'a>,
+    spot: &Spot<'_, 'a>,
+    finder: &mut Finder,
+) -> Result<(), Memory>
+    ensures { OnOk result (finder.new ≡ visited finder.old (body_sites (spot_of spot.now) (plain_body block.now))) }
+{
+    let scope = block_scope(alloc, &block.vars, spot.taken, finder)?;
+    let scopes = Scopes::Within(&scope, spot.scopes);
+    let words = words_in(&block.vars)?;
+    let inner = Spot {
+        scopes: &scopes,
+        taken: sum(spot.taken, words)?,
+        quantified: spot.quantified,
+        in_test: spot.in_test,
+    };
+    visit_statements(alloc, &block.body, &inner, finder)?;
+    Ok(())
+}
+
+/// Visits the sites of a recovery block, whose test stands outside its alternates.
+#[cycle(statement)]
+#[tactic(auto, using(rb_syntax::proofs::Bridge::trees, crate::proofs::Visited::visited_append))]
+fn visit_recovery<'a>(
+    alloc: Global,
+    recovery: &Recovery<'a>,
+    spot: &Spot<'_, 'a>,
+    finder: &mut Finder,
+) -> Result<(), Memory>
+    ensures { OnOk result (finder.new ≡ visited finder.old (recovery_sites (spot_of spot.now) (recovery_block recovery.now))) }
+{
+    visit_joined(recovery.conversation, spot, finder);
+    let test = Spot {
+        scopes: spot.scopes,
+        taken: spot.taken,
+        quantified: spot.quantified,
+        in_test: true,
+    };
+    visit_expression(alloc, &recovery.test, &test, finder)?;
+    bounds(finder, recovery.bound);
+    visit_alternates(alloc, &recovery.alternates, spot, finder)?;
+    Ok(())
+}
+
+/// Visits the name of the conversation that is joined, if one is.
+fn visit_joined(conversation: Option<Name<'_>>, spot: &Spot<'_, '_>, finder: &mut Finder)
+    ensures { finder.new ≡ visited finder.old (joined_sites (spot_of spot.now) (option_map identifier conversation.entry)) }
+{
+    if let Some(name) = conversation {
+        uses(finder, Want::AConversation, name, spot.scopes);
+    }
+}
+
+/// Visits the sites of alternates in order.
+#[cycle(statement)]
+#[tactic(auto, using(rb_syntax::proofs::Bridge::trees, crate::proofs::Visited::visited_append))]
+fn visit_alternates<'a>(
+    alloc: Global,
+    alternates: &[Block<'a>],
+    spot: &Spot<'_, 'a>,
+    finder: &mut Finder,
+) -> Result<(), Memory>
+    ensures { OnOk result (finder.new ≡ visited finder.old (alternates_sites (spot_of spot.now) (alternates_of alternates.now))) }
+{
+    for block in alternates {
+        visit_block(alloc, block, spot, finder)?;
+    }
+    Ok(())
+}

@@ -1,0 +1,13 @@
+/// What a use of a name wants it to stand for.
+#[derive(Clone, Copy, Debug, PartialEq, Eq)]
+pub enum Want {
+    AProcess,
+    AChannel,
+    AConversation,
+    AProcedure,
+    /// A scalar to store in, or to read as it was before the recovery block.
+    AScalar,
+    AnArray,
+    /// The present value of a scalar.
+    AValue,
+}

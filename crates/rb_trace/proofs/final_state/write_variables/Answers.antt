@@ -1,0 +1,56 @@
+use Rattle.std.proofs.Common.{◌≡◌, ℕ, List, length, get_or, ap, sym, ◌∙◌, arith}
+use Rattle.std.proofs.lemmas.List.Folds.{flat_map-map}
+use Rattle.rb_base.specs.declared.names.Variable.{Variable}
+use Rattle.rb_base.specs.Lines.{belonging}
+use Rattle.rb_outside.proofs.Puts.{puts_nothing, puts_same}
+use Rattle.rb_world.specs.Text.{variable_line}
+use Rattle.rb_trace.specs.Naming.{variable_naming}
+use Rattle.rb_trace.specs.Fitting.{LiesWithin}
+use Rattle.rb_trace.proofs.Spaced.{puts_next, puts_part, puts_whole}
+use Rattle.rb_trace.proofs.Ended.{each_at}
+use Rattle.rb_trace.proofs.final_state.write_variables.Goals as goal
+
+pub loop-variable-init : goal.loop-variable-init
+loop-variable-init g c = puts_nothing _ _ _
+
+pub write_words-requires-clause-within : goal.write_words-requires-clause-within
+write_words-requires-clause-within g c =
+    let items = c.args.process.now.variables.items in
+    let same = c.deref-variable-items.ensures.value in
+    let is : c.variable-item.result ≡ get_or items c.loop-variable.variable-index c.variable-item.result =
+    c.variable-item.is ∙ ap (λ (xs : List Variable). get_or xs c.loop-variable.variable-index c.variable-item.result) same in
+    each_at (LiesWithin (length (belonging (g.M.Final.words c.args.end.now) c.args.p))) items c.loop-variable.variable-index c.variable-item.result c.requires.0 (omega (arith, c.loop-variable-test.true, ap length same)) is
+
+pub loop-variable-preserved : goal.loop-variable-preserved
+loop-variable-preserved g c =
+    let items = c.args.process.now.variables.items in
+    let words = belonging (g.M.Final.words c.args.end.now) c.args.p in
+    let each : Variable → List ℕ = λ variable. variable_line c.args.process.now.name words (variable_naming variable) in
+    let same = c.deref-variable-items.ensures.value in
+    let is : c.variable-item.result ≡ get_or items c.loop-variable.variable-index c.variable-item.result =
+    c.variable-item.is ∙ ap (λ (xs : List Variable). get_or xs c.loop-variable.variable-index c.variable-item.result) same in
+    let line = ap (λ (name : List ℕ). variable_line name words (variable_naming c.variable-item.result)) c.as_bytes.ensures ∙ ap each is in
+    puts_next each items c.loop-variable.variable-index c.variable-item.result (omega (arith, c.loop-variable-test.true, ap length same)) _ _ _ _ _ _ _ _ c.loop-variable.invariant
+    (puts_same _ _ _ _ _ _ _ line c.in_ok-write_words.ensures)
+
+pub returns-in_err-write_words : goal.returns-in_err-write_words
+returns-in_err-write_words g c =
+    let items = c.args.process.now.variables.items in
+    let words = belonging (g.M.Final.words c.args.end.now) c.args.p in
+    let each : Variable → List ℕ = λ variable. variable_line c.args.process.now.name words (variable_naming variable) in
+    let same = c.deref-variable-items.ensures.value in
+    let is : c.variable-item.result ≡ get_or items c.loop-variable.variable-index c.variable-item.result =
+    c.variable-item.is ∙ ap (λ (xs : List Variable). get_or xs c.loop-variable.variable-index c.variable-item.result) same in
+    let line = ap (λ (name : List ℕ). variable_line name words (variable_naming c.variable-item.result)) c.as_bytes.ensures ∙ ap each is in
+    let next = puts_next each items c.loop-variable.variable-index c.variable-item.result (omega (arith, c.loop-variable-test.true, ap length same)) _ _ _ _ _ _ _ _ c.loop-variable.invariant
+    (puts_same _ _ _ _ _ _ _ line c.in_err-write_words.ensures) in
+    puts_same _ _ _ _ _ _ _ (sym (flat_map-map (variable_line c.args.process.now.name words) variable_naming items))
+    (puts_part each items _ _ _ _ _ _ c.from_residual.result c.from_residual.ensures.0 next)
+
+pub returns : goal.returns
+returns g c =
+    let items = c.args.process.now.variables.items in
+    let words = belonging (g.M.Final.words c.args.end.now) c.args.p in
+    let each : Variable → List ℕ = λ variable. variable_line c.args.process.now.name words (variable_naming variable) in
+    puts_same _ _ _ _ _ _ _ (sym (flat_map-map (variable_line c.args.process.now.name words) variable_naming items))
+    (puts_whole each items _ _ _ _ _ _ (omega (arith, c.loop-variable-test.false, ap length c.deref-variable-items.ensures.value)) c.loop-variable.invariant)
