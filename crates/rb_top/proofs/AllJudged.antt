@@ -12,7 +12,7 @@ use Rattle.rb_run.specs.Ran.{names_of}
 use Rattle.rb_run.specs.Runnable.{is_runnable}
 use Rattle.rb_sched.specs.Schedule.{schedule_of}
 use Rattle.rb_syntax.specs.Tree.{Tree}
-use Rattle.rb_top.specs.Words.{Command, Run, files_of}
+use Rattle.rb_top.specs.Words.{Run}
 use Rattle.rb_top.specs.Judgement.{Judgement, RefusedWith, Writes, at_first, source_refused, source_accepted, schedule_refused, runs, EndsWith, refused_here, written_here, later, SourceRefused, long_source, bad_source, unready_source, unready, Accepted, ScheduleRefused, long_schedule, bad_schedule, source_line, schedule_line, too_long_line}
 use Rattle.rb_top.specs.Laws.{AreJudged}
 

@@ -1,14 +1,14 @@
 -- What a call through a buffer comes to at the sink behind it.
-use Rattle.std.proofs.Common.{◌≡◌, ◌⊎◌, ℕ, zero, suc, ◌+◌, ◌≤◌, Bool, true, false, ◌&&◌, List, [], ◌∷◌, ◌++◌, length, take, Option, Some, None, refl, sym, ap, subst, ◌∙◌, inl, inr, arith, length-append}
+use Rattle.std.proofs.Common.{◌≡◌, ℕ, zero, suc, ◌+◌, ◌≤◌, Bool, true, false, ◌&&◌, List, [], ◌∷◌, ◌++◌, length, take, Option, Some, None, refl, sym, ap, subst, ◌∙◌, inl, inr, arith, length-append}
 use Rattle.std.proofs.lemmas.List.{length-take}
 use Rattle.std.proofs.Math.Seq.{take-append_seam, take-length}
-use Rattle.rb_outside.specs.Outside.{File, Faults, Start, Rose, WrotePart, failed_once, went_well, then_written}
+use Rattle.rb_outside.specs.Outside.{File, Faults, Start, WrotePart, failed_once, went_well, then_written}
 use Rattle.rb_outside.proofs.Puts.{failed_after}
 use Rattle.rb_top.specs.Words.{Command, Run, Request}
 use Rattle.rb_top.specs.Judgement.{usage_line}
 use Rattle.rb_top.specs.Answers.{Scene, nothing_yet, between, RanOutIn, ReadFails, by_fault, by_missing, WritesByThen, WritesAll, WritesPart, WritesNothing, WithoutRequest, WithRequest, WhereRequested}
-use Rattle.rb_top.specs.Complete.{IsUnhindered, EndsAs, EndsAsJudged, IsComplete}
-use Rattle.rb_top.specs.Ending.{IsUnwritten, SeenBehind, EndsWithNumber, IsPassedOn, Finishes, status_number}
+use Rattle.rb_top.specs.Complete.{IsUnhindered, EndsAs, IsComplete}
+use Rattle.rb_top.specs.Ending.{IsUnwritten, SeenBehind, EndsWithNumber, Finishes, status_number}
 use Rattle.rb_top.specs.declared.status.Status.{Status}
 use Rattle.rb_top.specs.declared.status.Status.TheVariants.{Done, Refused, Usage, ReadFault, WriteFault, Memory}
 use Rattle.rb_top.proofs.Complete.{completed}

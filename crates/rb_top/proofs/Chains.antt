@@ -1,8 +1,8 @@
 -- The files that a command has read, one after another, against the texts that stand on the shelf.
-use Rattle.std.proofs.Common.{◌≡◌, ℕ, List, [], ◌∷◌, ◌++◌, Option, Some, None, refl, sym, ap, subst, ◌∙◌, append_assoc}
+use Rattle.std.proofs.Common.{◌≡◌, ℕ, List, [], ◌∷◌, ◌++◌, Option, Some, refl, sym, ap, subst, ◌∙◌, append_assoc}
 use Rattle.rb_outside.specs.Outside.{File, Start, bytes_of}
-use Rattle.rb_top.specs.Words.{Command, Wanted, Request}
-use Rattle.rb_top.specs.Judgement.{Judgement, ReadsOn, Judges, EndsWith, later}
+use Rattle.rb_top.specs.Words.{Wanted, Request}
+use Rattle.rb_top.specs.Judgement.{Judgement, EndsWith, later}
 use Rattle.rb_top.specs.Answers.{HasRead, nothing_yet, one_more}
 use Rattle.rb_top.specs.Complete.{AreStored}
 

@@ -3,9 +3,9 @@ use Rattle.std.proofs.Common.{◌≡◌, ◌⊎◌, ℕ, ◌+◌, ◌<◌, ◌�
 use Rattle.std.specs.Option.{option_map}
 use Rattle.std.proofs.lemmas.List.{length-take-le, take-append-drop}
 use Rattle.std.proofs.Math.Seq.{take-append-add}
-use Rattle.rb_outside.specs.Outside.{File, Faults, Start, Starts, FailsToStart, IsMissing, IsOpen, Passes, Reads, bytes_of, named, begun, failed_once, was_missing, went_well}
+use Rattle.rb_outside.specs.Outside.{File, Faults, Start, Starts, FailsToStart, IsMissing, IsOpen, Passes, Reads, bytes_of, named, failed_once, was_missing, went_well}
 use Rattle.rb_outside.proofs.Puts.{failed_after}
-use Rattle.rb_top.specs.Answers.{IsRead, piece_bytes}
+use Rattle.rb_top.specs.Answers.{piece_bytes}
 use Rattle.rb_top.specs.Read.{OnUnread, HasFront, HasFrontIn, StandsAt, StandsAtIn, ReadOn, PassedOn, WasRead, WasReadIn, StopsForFaultIn, StopsForMemory, at_start, untold, missing, within}
 use Rattle.rb_top.specs.declared.read.Unread.{Unread}
 use Rattle.rb_top.specs.declared.read.Unread.TheVariants.{Fault, Memory}

@@ -20,6 +20,8 @@ pub use words::Words;
 #[cfg(test)]
 mod cuts;
 #[cfg(test)]
+mod ending_tests;
+#[cfg(test)]
 mod fault_tests;
 #[cfg(test)]
 mod limit_tests;

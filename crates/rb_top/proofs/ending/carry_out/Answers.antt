@@ -1,5 +1,5 @@
-use Rattle.std.proofs.Common.{◌≡◌, ◌&&◌, ℕ, List, Option, drop, refl, sym, ap, subst, ◌∙◌}
-use Rattle.rb_outside.specs.Outside.{Faults, went_well, then_written}
+use Rattle.std.proofs.Common.{◌≡◌, ◌&&◌, drop, refl, sym, ap, subst, ◌∙◌}
+use Rattle.rb_outside.specs.Outside.{went_well, then_written}
 use Rattle.rb_outside.proofs.Written.{then_written-nil}
 use Rattle.rb_top.specs.Words.{request_of}
 use Rattle.rb_top.specs.Answers.{Scene}

@@ -1,4 +1,4 @@
-use Rattle.std.proofs.Common.{◌≡◌, Option, List, refl, drop, sym, subst}
+use Rattle.std.proofs.Common.{Option, List, refl, drop, sym, subst}
 use Rattle.rb_base.specs.declared.limits.TheConstants.{MOST_BYTES}
 use Rattle.rb_outside.specs.Outside.{File}
 use Rattle.rb_top.specs.Answers.{Scene, WithRequest}
