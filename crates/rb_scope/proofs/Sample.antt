@@ -1,6 +1,6 @@
 -- A small tree, for the tests: its names have numbers of their own.
-use Rattle.std.proofs.Common.{◌≡◌, ℕ, zero, suc, ◌<◌, nat_eq, false, List, [], ◌∷◌, length, get_or, map, refl, sym, ap, subst, ◌∙◌, arith}
-use Rattle.std.specs.List.{All, IsDistinct}
+use Rattle.std.proofs.Common.{◌≡◌, ℕ, zero, suc, ◌<◌, nat_eq, List, [], ◌∷◌, length, get_or, map, refl, sym, ap, subst, ◌∙◌, arith}
+use Rattle.std.specs.List.{IsDistinct}
 use Rattle.std.proofs.lemmas.Map.Keys.{IsDistinct-cons}
 use Rattle.rb_base.specs.declared.place.Place.{Place}
 use Rattle.rb_base.specs.declared.edition.Edition.{Edition}
@@ -41,11 +41,11 @@ none = tt
 own : (a c s r p : List ℕ) (here there : Place) (size : Number) (blocks : ℕ) (edition : Edition) → HasOwnNumbers (one_channel a c s r p here there size blocks edition)
 own a c s r p here there size blocks edition = record {
   distinct =
-    IsDistinct-cons nat_eq 0 (1 ∷ 4 ∷ 2 ∷ 3 ∷ []) (refl, (refl, (refl, (refl, tt))))
-    (IsDistinct-cons nat_eq 1 (4 ∷ 2 ∷ 3 ∷ []) (refl, (refl, (refl, tt)))
-    (IsDistinct-cons nat_eq 4 (2 ∷ 3 ∷ []) (refl, (refl, tt))
-    (IsDistinct-cons nat_eq 2 (3 ∷ []) (refl, tt)
-    (IsDistinct-cons nat_eq 3 [] tt none))));
+      IsDistinct-cons nat_eq 0 (1 ∷ 4 ∷ 2 ∷ 3 ∷ []) (refl, (refl, (refl, (refl, tt))))
+      (IsDistinct-cons nat_eq 1 (4 ∷ 2 ∷ 3 ∷ []) (refl, (refl, (refl, tt)))
+      (IsDistinct-cons nat_eq 4 (2 ∷ 3 ∷ []) (refl, (refl, tt))
+      (IsDistinct-cons nat_eq 2 (3 ∷ []) (refl, tt)
+      (IsDistinct-cons nat_eq 3 [] tt none))));
   within = λ k d h. below-at 5 (0 ∷ 1 ∷ 4 ∷ 2 ∷ 3 ∷ []) k d (omega arith, (omega arith, (omega arith, (omega arith, (omega arith, tt))))) h;
 }
 
@@ -56,6 +56,6 @@ own_numbers program channel process a c s r p here there name count channels one
     let channels_same = ap (map channel_declaration) channels ∙ ap (λ x. x ∷ []) channel_same in
     let processes_same = ap (map process_declaration) processes ∙ ap (λ x. x ∷ []) four in
     let same : tree program ≡ one_channel a c s r p here there channel.size program.blocks program.edition =
-      λ j. record { name = name j; channels = channels_same j; conversations = map conversation_declaration (conversations j); processes = processes_same j; names = count j; blocks = program.blocks; edition = program.edition }
+    λ j. record { name = name j; channels = channels_same j; conversations = map conversation_declaration (conversations j); processes = processes_same j; names = count j; blocks = program.blocks; edition = program.edition }
     in
     subst HasOwnNumbers (sym same) (own a c s r p here there channel.size program.blocks program.edition)
