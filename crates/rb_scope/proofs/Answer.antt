@@ -1,5 +1,5 @@
 -- What is found behind all sites of a tree is its answer: its slots, or its first fault.
-use Rattle.std.proofs.Common.{◌≡◌, ℕ, zero, suc, ◌+◌, ◌<◌, nat_eq, Bool, true, false, List, [], ◌∷◌, length, get_or, replicate, Option, Some, None, refl, sym, ap, subst, ◌∙◌, arith}
+use Rattle.std.proofs.Common.{◌≡◌, ℕ, zero, suc, ◌<◌, nat_eq, false, List, [], ◌∷◌, replicate, Some, None, refl, sym, ap, subst, ◌∙◌, arith}
 use Rattle.std.specs.List.{All, AllByRecursion, IsDistinct, flat_map, slice_get}
 use Rattle.std.proofs.lemmas.Bool.Decides.{nat_tests}
 use Rattle.std.proofs.lemmas.List.{length-replicate}
@@ -7,7 +7,7 @@ use Rattle.std.proofs.lemmas.Map.Keys.{IsDistinct-head, IsDistinct-tail}
 use Rattle.rb_base.specs.declared.fault.SourceFault.{SourceFault}
 use Rattle.rb_syntax.specs.Tree.{Tree}
 use Rattle.rb_scope.specs.FirstFault.{IsFirstOf}
-use Rattle.rb_scope.specs.Sites.{Site, tree_sites}
+use Rattle.rb_scope.specs.Sites.{tree_sites}
 use Rattle.rb_scope.specs.Rules.{faults_of}
 use Rattle.rb_scope.specs.Slots.{AreSlots, HasOwnNumbers, number_at, numbers_in}
 use Rattle.rb_scope.specs.Resolved.{IsResolved}
@@ -15,7 +15,7 @@ use Rattle.rb_scope.specs.Finding.{Found, visited, nothing_found}
 use Rattle.rb_scope.specs.declared.slot.Slot.{Slot}
 use Rattle.rb_scope.specs.declared.slot.Slot.TheVariants.{ProgramName}
 use Rattle.rb_scope.proofs.Order.{first_kept, nothing_kept}
-use Rattle.rb_scope.proofs.Given.{IsApart, AreApart, AreBelow, HaveSlots, have_slots, kept_slot, slot_at, visited_first, visited_length}
+use Rattle.rb_scope.proofs.Given.{IsApart, AreApart, AreBelow, have_slots, kept_slot, slot_at, visited_first, visited_length}
 
 -- numbers that differ
 apart-of : (n : ℕ) (ns : List ℕ) → AllByRecursion (λ m. nat_eq n m ≡ false) ns → IsApart n ns

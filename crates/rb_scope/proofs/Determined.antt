@@ -1,12 +1,12 @@
 -- The laws of scopes.
-use Rattle.std.proofs.Common.{◌≡◌, ℕ, zero, suc, ◌+◌, ◌<◌, ◌≤◌, ◌⊎◌, inl, inr, nat_eq, nat_lt, Bool, true, false, cond, List, [], ◌∷◌, ◌++◌, length, get_or, Option, Some, None, refl, sym, ap, subst, ◌∙◌, arith}
+use Rattle.std.proofs.Common.{◌≡◌, ℕ, zero, suc, ◌<◌, ◌⊎◌, inl, inr, Bool, true, false, List, [], ◌∷◌, ◌++◌, length, get_or, Option, Some, None, refl, sym, ap, subst, ◌∙◌, arith}
 use Rattle.std.proofs.lemmas.Bool.Decides.{nat_tests}
-use Rattle.std.specs.List.{All, Contains, flat_map, slice_get}
+use Rattle.std.specs.List.{Contains, flat_map}
 use Rattle.rb_base.specs.declared.place.Place.{Place}
 use Rattle.rb_base.specs.declared.fault.SourceFault.{SourceFault}
 use Rattle.rb_base.specs.declared.fault.FaultName.{FaultName}
 use Rattle.rb_base.specs.declared.fault.FaultName.TheVariants.{S1, S2, S3, S4, S5, S6, S7, S8, S9, S10, S11}
-use Rattle.rb_scope.specs.FirstFault.{IsFirstOf, comes_before, is_before, number_of}
+use Rattle.rb_scope.specs.FirstFault.{IsFirstOf, comes_before, number_of}
 use Rattle.rb_scope.specs.Finding.{first_after}
 use Rattle.rb_scope.specs.Laws.{AreJudged, HaveOneFirst, SlotsAreDetermined, AgreeAt, AgreeOn}
 use Rattle.rb_scope.specs.Rules.{broken_at, faults_of, where_broken, misused}

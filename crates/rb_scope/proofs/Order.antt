@@ -1,9 +1,9 @@
 -- Faults are in a row: which comes before which, and the first so far of several.
-use Rattle.std.proofs.Common.{◌≡◌, ℕ, zero, suc, ◌+◌, ◌<◌, ◌≤◌, ◌⊎◌, inl, inr, nat_eq, nat_lt, Bool, true, false, cond, List, [], ◌∷◌, ◌++◌, length, get_or, Option, Some, None, refl, sym, ap, subst, ◌∙◌, arith}
+use Rattle.std.proofs.Common.{◌≡◌, ℕ, zero, suc, ◌<◌, ◌≤◌, ◌⊎◌, inl, inr, nat_eq, nat_lt, Bool, true, false, cond, List, [], ◌∷◌, length, get_or, Some, None, refl, sym, ap, subst, ◌∙◌, arith}
 use Rattle.std.proofs.lemmas.Bool.Decides.{nat_tests}
 use Rattle.std.specs.List.{Contains}
 use Rattle.rb_base.specs.declared.fault.SourceFault.{SourceFault}
-use Rattle.rb_scope.specs.FirstFault.{comes_before, number_of, is_before, IsFirstOf}
+use Rattle.rb_scope.specs.FirstFault.{comes_before, number_of, IsFirstOf}
 use Rattle.rb_scope.specs.Finding.{first_with, first_after}
 
 -- three numbers before three others: the first that differ decide

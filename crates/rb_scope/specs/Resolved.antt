@@ -1,6 +1,5 @@
 -- What it means that a tree is resolved, or refused.
 use Rattle.std.specs.Prelude.{◌≡◌, List, []}
-use Rattle.rb_base.specs.declared.fault.SourceFault.{SourceFault}
 use Rattle.rb_base.specs.declared.fault.Refusal.{Refusal}
 use Rattle.rb_base.specs.declared.fault.Refusal.TheVariants.{Fault, Memory}
 use Rattle.rb_syntax.specs.Tree.{Tree}

@@ -1,18 +1,17 @@
 //! The sites of a statement.
 
 ghost use Rattle.std.specs.Prelude.{◌≡◌, option_map, OnOk};
-ghost use Rattle.rb_syntax.specs.Plain.{alternates_of, body as plain_body, command, commands_of, identifier, recovery_block};
-ghost use Rattle.rb_scope.specs.Sites.{alternates_sites, body_sites, command_sites, commands_sites, joined_sites, recovery_sites};
+ghost use Rattle.rb_syntax.specs.Plain.{alternates_of, body as plain_body, command, commands_of, identifier, otherwise as plain_otherwise, recovery_block};
+ghost use Rattle.rb_scope.specs.Sites.{alternates_sites, body_sites, command_sites, commands_sites, joined_sites, otherwise_sites, recovery_sites};
 ghost use Rattle.rb_scope.specs.Finding.{visited};
 ghost use Rattle.rb_scope.specs.Memory.{spot_of};
 
-use crate::expression::{visit_expression, visit_reference};
+use crate::expression::visit_expression;
 use crate::finder::Finder;
-use crate::lists::count_items;
-use crate::operands::{visit_arguments, visit_items};
+use crate::operands::{visit_assignment, visit_call, visit_printing, visit_receipt, visit_sending};
 use crate::rules::{sum, words_in};
 use crate::scope::Scopes;
-use crate::sites::{bounds, calls, uses};
+use crate::sites::{bounds, uses};
 use crate::spot::Spot;
 use crate::variables::block_scope;
 use crate::want::Want;
@@ -33,41 +32,27 @@ fn visit_statement<'a>(
 {
     match statement {
         Statement::Assign(target, value) => {
-            visit_reference(alloc, target, Want::AScalar, spot, finder)?;
-            visit_expression(alloc, value, spot, finder)?;
+            visit_assignment(alloc, target, value, spot, finder)?;
             Ok(())
         }
         Statement::Print(items) => {
-            count_items(items, finder);
-            visit_items(alloc, items, spot, finder)?;
+            visit_printing(alloc, items, spot, finder)?;
             Ok(())
         }
         Statement::Send(channel, value) => {
-            uses(finder, Want::AChannel, *channel, spot.scopes);
-            visit_expression(alloc, value, spot, finder)?;
+            visit_sending(alloc, *channel, value, spot, finder)?;
             Ok(())
         }
         Statement::Receive(channel, target, otherwise) => {
-            uses(finder, Want::AChannel, *channel, spot.scopes);
-            visit_reference(alloc, target, Want::AScalar, spot, finder)?;
-            match otherwise {
-                None => Ok(()),
-                Some(block) => {
-                    visit_block(alloc, block, spot, finder)?;
-                    Ok(())
-                }
-            }
+            visit_receipt(alloc, *channel, target, spot, finder)?;
+            visit_otherwise(alloc, otherwise, spot, finder)?;
+            Ok(())
         }
         Statement::If(test, block, otherwise) => {
             visit_expression(alloc, test, spot, finder)?;
             visit_block(alloc, block, spot, finder)?;
-            match otherwise {
-                None => Ok(()),
-                Some(other) => {
-                    visit_block(alloc, other, spot, finder)?;
-                    Ok(())
-                }
-            }
+            visit_otherwise(alloc, otherwise, spot, finder)?;
+            Ok(())
         }
         Statement::While(test, block) => {
             visit_expression(alloc, test, spot, finder)?;
@@ -75,14 +60,32 @@ fn visit_statement<'a>(
             Ok(())
         }
         Statement::Call(procedure, arguments) => {
-            uses(finder, Want::AProcedure, *procedure, spot.scopes);
-            calls(finder, *procedure, arguments.len(), spot.scopes);
-            visit_arguments(alloc, arguments, spot, finder)?;
+            visit_call(alloc, *procedure, arguments, spot, finder)?;
             Ok(())
         }
         Statement::Fail => Ok(()),
         Statement::Recover(recovery) => {
             visit_recovery(alloc, recovery, spot, finder)?;
+            Ok(())
+        }
+    }
+}
+
+/// Visits the sites of an `else`, if there is one.
+#[cycle(statement)]
+#[tactic(auto, using(rb_syntax::proofs::Bridge::trees, crate::proofs::Visited::visited_append))]
+fn visit_otherwise<'a>(
+    alloc: Global,
+    otherwise: &Option<Block<'a>>,
+    spot: &Spot<'_, 'a>,
+    finder: &mut Finder,
+) -> Result<(), Memory>
+    ensures { OnOk result (finder.new ≡ visited finder.old (otherwise_sites (spot_of spot.now) (plain_otherwise otherwise.now))) }
+{
+    match otherwise {
+        None => Ok(()),
+        Some(block) => {
+            visit_block(alloc, block, spot, finder)?;
             Ok(())
         }
     }

@@ -1,10 +1,9 @@
-use Rattle.std.proofs.Common.{refl, sym, ◌∙◌}
+use Rattle.std.proofs.Common.{refl}
 use Rattle.rb_syntax.specs.declared.statement.Block.{Block}
 use Rattle.rb_syntax.specs.declared.statement.Statement.{Statement}
 use Rattle.rb_syntax.specs.Plain.{alternates_of, body, command, commands_of}
 use Rattle.rb_scope.specs.Sites.{alternates_sites, body_sites, command_sites, commands_sites}
 use Rattle.rb_scope.specs.Memory.{spot_of}
-use Rattle.rb_scope.proofs.Statements.{invokes}
 use Rattle.rb_scope.proofs.Visited.{step}
 use Rattle.rb_scope.proofs.statement.+statement.Goals as goal
 
@@ -21,8 +20,3 @@ visit_alternates-loop-block-preserved t c =
     step (λ blocks. alternates_sites spot (alternates_of blocks)) (λ (block : Block). body_sites spot (body block)) (λ x xs. refl)
     c.args.alternates.now c.loop-block.block-index c.block-item.result c.block-item.is c.loop-block-test.true
     c.loop-block.finder c.visit_block.new.finder _ c.loop-block.invariant c.in_ok-visit_block.ensures
-
-pub visit_statement-returns-in_ok-visit_arguments-in-Call : goal.visit_statement-returns-in_ok-visit_arguments-in-Call
-visit_statement-returns-in_ok-visit_arguments-in-Call t c =
-    invokes (spot_of c.args.spot.now) c.args.finder.now _ _ _ c.args.statement.now c.in-Call.procedure c.in-Call.arguments _ _ c.in-Call.is (c.len.ensures ∙ sym c.deref-in-Call.ensures.len) c.deref-in-Call.ensures.value
-    c.uses-in-Call.ensures c.calls.ensures c.in_ok-visit_arguments-in-Call.ensures
