@@ -1,11 +1,11 @@
 -- The table of a scope: the place of the first declaration of each name.
-use Rattle.std.proofs.Common.{◌≡◌, ℕ, zero, suc, ◌+◌, ◌<◌, ◌≤◌, nat_lt, Bool, true, false, cond, ◌||◌, List, [], ◌∷◌, ◌++◌, length, get_or, take, drop, slice_get, Option, Some, None, refl, sym, ap, subst, ◌∙◌, arith, add-one}
+use Rattle.std.proofs.Common.{◌≡◌, ℕ, zero, suc, ◌+◌, ◌<◌, ◌≤◌, nat_lt, Bool, true, false, cond, ◌||◌, List, [], ◌∷◌, ◌++◌, length, get_or, take, drop, slice_get, Option, Some, None, refl, sym, ap, ◌∙◌, arith, add-one}
 use Rattle.std.proofs.lemmas.Bool.Decides.{nat_tests}
 use Rattle.std.proofs.Math.Seq.{drop-cons}
 use Rattle.std.specs.List.{list_any}
 use Rattle.rb_meaning.specs.Environment.{same_name}
 use Rattle.rb_scope.specs.Scopes.{Declared as Plain, declared_in}
-use Rattle.rb_scope.specs.Sites.{Site, Declares, scope_sites}
+use Rattle.rb_scope.specs.Sites.{Declares, scope_sites}
 use Rattle.rb_scope.specs.Finding.{Found, visit, visited}
 use Rattle.rb_scope.specs.declared.declared.Declared.{Declared}
 use Rattle.rb_scope.specs.Memory.{held, all_held, place_from}

@@ -1,4 +1,4 @@
-use Rattle.std.proofs.Common.{◌≡◌, ◌∙◌, sym, ap, subst, slice_set, take, Some}
+use Rattle.std.proofs.Common.{◌≡◌, ◌∙◌, sym, ap, slice_set, take, Some}
 use Rattle.rb_base.specs.declared.fault.FaultName.TheVariants.{S2}
 use Rattle.rb_scope.specs.Rules.{is_declared_twice, where_broken}
 use Rattle.rb_scope.specs.Scopes.{Declared}

@@ -1,7 +1,6 @@
 use Rattle.std.proofs.Common.{◌≡◌, ◌∙◌, sym, ap, take, Some, None}
 use Rattle.std.specs.List.{list_any}
 use Rattle.rb_scope.specs.Memory.{place_from}
-use Rattle.rb_scope.specs.Scopes.{Declared}
 use Rattle.rb_scope.proofs.Places.{before, has_name, never}
 use Rattle.rb_scope.proofs.scope.Scope.is_before.Goals as goal
 
