@@ -1,5 +1,5 @@
 pub mod Placing
-pub mod Meanings
+pub mod Places
 pub mod Visited
 pub mod Long
 pub mod Order

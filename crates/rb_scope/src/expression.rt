@@ -1,11 +1,11 @@
 //! The sites of an expression.
 
-ghost use Rattle.std.specs.Prelude.{◌≡◌, map, OnOk};
+ghost use Rattle.std.specs.Prelude.{◌≡◌, [], ◌∷◌, IfOk, OnOk};
 ghost use Rattle.std.specs.List.{flat_map};
 ghost use Rattle.rb_syntax.specs.Plain.{expression as plain, reference, links_of};
-ghost use Rattle.rb_scope.specs.Sites.{expression_sites, reference_sites, links_sites};
-ghost use Rattle.rb_scope.specs.Finding.{visited};
-ghost use Rattle.rb_scope.specs.Memory.{quantified_sites, spot_of};
+ghost use Rattle.rb_scope.specs.Sites.{Declares, expression_sites, reference_sites, links_sites};
+ghost use Rattle.rb_scope.specs.Finding.{visit, visited};
+ghost use Rattle.rb_scope.specs.Memory.{held, quantified_sites, spot_of};
 
 use crate::declared::Declared;
 use crate::finder::Finder;
@@ -100,6 +100,22 @@ fn visit_links<'a>(
     Ok(())
 }
 
+/// The scope of one declaration, which is visited.
+fn counter_scope<'a>(
+    alloc: Global,
+    one: Declared<'a>,
+    finder: &mut Finder,
+) -> Result<Scope<'a>, Memory>
+    ensures scope { IfOk result (λ scope. scope ≡ held one.entry ∷ []) }
+    ensures found { OnOk result (finder.new ≡ visit finder.old (Declares [] (held one.entry))) }
+{
+    let mut declared = Vec::new(alloc);
+    declared.push(one)?;
+    let scope = Scope::new(alloc, declared)?;
+    declares(finder, &scope, 0);
+    Ok(scope)
+}
+
 /// Visits the sites of a quantified expression.
 #[cycle(expression)]
 #[tactic(auto, using(rb_syntax::proofs::Bridge::trees, crate::proofs::Visited::visited_append))]
@@ -116,9 +132,8 @@ fn visit_quantified<'a>(
         slot: Slot::Counter(spot.quantified),
         parameters: 0,
     };
-    let mut scope = Scope::new(alloc);
     quantifies(finder, spot.quantified, over.place);
-    declares(finder, &scope, one);
+    let scope = counter_scope(alloc, one, finder)?;
     let limits = Spot {
         scopes: spot.scopes,
         taken: spot.taken,
@@ -127,7 +142,6 @@ fn visit_quantified<'a>(
     };
     visit_expression(alloc, &over.low, &limits, finder)?;
     visit_expression(alloc, &over.high, &limits, finder)?;
-    scope.push(one)?;
     let scopes = Scopes::Within(&scope, spot.scopes);
     let body = Spot {
         scopes: &scopes,

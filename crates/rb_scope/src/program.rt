@@ -39,7 +39,7 @@ fn procedure_scope<'a>(
     add_parameters(&mut declared, &procedure.params)?;
     let first = count(procedure.params.len())?;
     add_variables(&mut declared, Kind::OfCall, first, &procedure.block.vars)?;
-    let scope = scope_of(alloc, &declared, finder)?;
+    let scope = scope_of(alloc, declared, finder)?;
     visit_sizes(&procedure.block.vars, finder);
     Ok(scope)
 }
@@ -98,7 +98,7 @@ fn process_scope<'a>(
     let mut declared = Vec::new(alloc);
     add_variables(&mut declared, Kind::OfProcess, 0, &process.vars)?;
     add_procedures(&mut declared, &process.procedures)?;
-    let scope = scope_of(alloc, &declared, finder)?;
+    let scope = scope_of(alloc, declared, finder)?;
     visit_sizes(&process.vars, finder);
     Ok(scope)
 }
@@ -211,7 +211,7 @@ pub(crate) fn visit_program<'a>(
     ensures { OnOk result (finder.new ≡ visited finder.old (tree_sites (tree program.now))) }
 {
     let declared = program_declared(alloc, program)?;
-    let scope = scope_of(alloc, &declared, finder)?;
+    let scope = scope_of(alloc, declared, finder)?;
     count_channels(&program.channels, finder);
     count_conversations(&program.conversations, finder);
     count_processes(program.edition, &program.processes, finder);

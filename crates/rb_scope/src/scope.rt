@@ -1,19 +1,22 @@
 //! Scopes, and what a name means in them.
 
-ghost use Rattle.std.specs.Prelude.{◌≡◌, [], ◌∷◌, ◌++◌, option_map, OnOk};
-ghost use Rattle.std.specs.Option.{is_some};
-ghost use Rattle.rb_scope.specs.Memory.{all_held, held, scopes_of};
+ghost use Rattle.std.specs.Prelude.{◌≡◌, ◌<◌, length, option_map, slice_get, take, Some, IfOk};
+ghost use Rattle.std.specs.List.{list_any};
+ghost use Rattle.rb_meaning.specs.Environment.{same_name};
+ghost use Rattle.rb_scope.specs.Memory.{all_held, held, scopes_of, IsIndex};
 ghost use Rattle.rb_scope.specs.Scopes.{declared_in, meaning_of};
 
 use crate::declared::Declared;
 use rb_base::Memory;
 use std::alloc::Global;
+use std::collections::HashMap;
 use std::marker::Model;
 
-/// The declarations of a scope, in the order of the text.
+/// The declarations of a scope, in the order of the text, and the place of the first of each name among them.
 #[derive(Drop)]
 pub(crate) struct Scope<'a> {
     declared: Vec<Declared<'a>>,
+    places: HashMap<&'a [u8], usize>,
 }
 
 impl<'a> Model for Scope<'a> {
@@ -22,18 +25,44 @@ impl<'a> Model for Scope<'a> {
 
     ghost Value = { List Plain };
 
-    ghost use Rattle.rb_scope.specs.Memory.{all_held};
+    ghost use Rattle.rb_scope.specs.Memory.{all_held, IsIndex};
 
     ghost view = { λ scope. all_held scope.declared.items };
+
+    ghost invariant = { λ scope. IsIndex scope.places scope.declared.items };
 }
 
 impl<'a> Scope<'a> {
-    /// A scope without declarations.
-    pub(crate) fn new(alloc: Global) -> Self
-        ensures { result ≡ [] }
+    /// A scope of these declarations.
+    pub(crate) fn new(alloc: Global, declared: Vec<Declared<'a>>) -> Result<Self, Memory>
+        ensures { IfOk result (λ scope. scope ≡ all_held declared.entry.items) }
     {
-        Scope {
-            declared: Vec::new(alloc),
+        let places = index(alloc, &declared)?;
+        Ok(Scope { declared, places })
+    }
+
+    /// How many declarations it has.
+    pub(crate) fn len(&self) -> usize
+        ensures { result ≡ length self.now }
+    {
+        self.declared.len()
+    }
+
+    /// A declaration by its place.
+    pub(crate) fn at(&self, place: usize) -> Declared<'a>
+        requires { place < length self.now }
+        ensures { slice_get self.now place ≡ Some (held result) }
+    {
+        self.declared[place]
+    }
+
+    /// Whether a name is declared before a place.
+    pub(crate) fn is_before(&self, name: &[u8], place: usize) -> bool
+        ensures { result ≡ list_any (λ one. same_name one.name.text name.now) (take place self.now) }
+    {
+        match self.places.get(name) {
+            None => false,
+            Some(first) => *first < place,
         }
     }
 
@@ -41,36 +70,25 @@ impl<'a> Scope<'a> {
     pub(crate) fn find(&self, name: &[u8]) -> Option<Declared<'a>>
         ensures { option_map held result ≡ declared_in name.now self.now }
     {
-        find(&self.declared, name)
-    }
-
-    /// Whether a name is declared here.
-    pub(crate) fn has(&self, name: &[u8]) -> bool
-        ensures { result ≡ is_some (declared_in name.now self.now) }
-    {
-        self.find(name).is_some()
-    }
-
-    /// Takes one more declaration, behind the others.
-    pub(crate) fn push(&mut self, one: Declared<'a>) -> Result<(), Memory>
-        ensures { OnOk result (self.new ≡ self.old ++ held one.entry ∷ []) }
-    {
-        self.declared.push(one)?;
-        Ok(())
+        match self.places.get(name) {
+            None => None,
+            Some(first) => Some(self.declared[*first]),
+        }
     }
 }
 
-fn find<'a>(declared: &[Declared<'a>], name: &[u8]) -> Option<Declared<'a>>
-    ensures { option_map held result ≡ declared_in name.now (all_held declared.now) }
+/// The place of the first declaration of each name.
+fn index<'a>(alloc: Global, declared: &[Declared<'a>]) -> Result<HashMap<&'a [u8], usize>, Memory>
+    ensures { IfOk result (λ places. IsIndex places declared.now) }
 {
-    let mut rest = declared;
-    'declared: while let [one, after @ ..] = rest {
-        if one.name.text == name {
-            return Some(*one);
-        }
-        rest = after;
+    let mut places = HashMap::new(alloc);
+    let mut place = declared.len();
+    'places: while place > 0 {
+        place -= 1;
+        // The earlier of two of one name takes the place of the later.
+        places.insert(declared[place].name.text, place)?;
     }
-    None
+    Ok(places)
 }
 
 /// The scopes around a place, the innermost first.

@@ -1,12 +1,12 @@
 //! What each site of a tree adds to what is found.
 
-ghost use Rattle.std.specs.Prelude.{◌≡◌, ◌+◌};
+ghost use Rattle.std.specs.Prelude.{◌≡◌, ◌+◌, ◌<◌, length, slice_get, take, Some};
 ghost use Rattle.rb_syntax.specs.Plain.{identifier};
 ghost use Rattle.rb_scope.specs.Sites.{Declares, Uses, Calls, LooksBack, Sizes, Channels, Bounds, Takes, Quantifies};
 ghost use Rattle.rb_scope.specs.Finding.{visit};
-ghost use Rattle.rb_scope.specs.Memory.{held, scopes_of};
+ghost use Rattle.rb_scope.specs.Memory.{scopes_of};
+ghost use Rattle.rb_scope.specs.Scopes.{Declared};
 
-use crate::declared::Declared;
 use crate::finder::Finder;
 use crate::rules::{MOST_CHANNEL_SIZE, fits, is_array_size, is_outside};
 use crate::scope::{Scope, Scopes};
@@ -15,11 +15,13 @@ use rb_base::limits::MOST_TURNS;
 use rb_base::{FaultName, Place};
 use rb_syntax::{Name, Number};
 
-/// A name is declared in a scope, in which others stand before it.
-pub(crate) fn declares(finder: &mut Finder, earlier: &Scope<'_>, one: Declared<'_>)
-    ensures { finder.new ≡ visit finder.old (Declares earlier.now (held one.entry)) }
+/// The name at a place of a scope is declared there.
+pub(crate) fn declares(finder: &mut Finder, scope: &Scope<'_>, place: usize)
+    requires { place < length scope.now }
+    ensures { (one : Declared) → slice_get scope.now place ≡ Some one → finder.new ≡ visit finder.old (Declares (take place scope.now) one) }
 {
-    let known = earlier.has(one.name.text);
+    let one = scope.at(place);
+    let known = scope.is_before(one.name.text, place);
     finder.note(known, FaultName::S2, one.name.place);
     finder.give(one.name.id, one.slot);
 }

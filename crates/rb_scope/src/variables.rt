@@ -21,20 +21,24 @@ use std::alloc::Global;
 /// A scope of these declarations, each of which is visited behind those before it.
 pub(crate) fn scope_of<'a>(
     alloc: Global,
-    declared: &[Declared<'a>],
+    declared: Vec<Declared<'a>>,
     finder: &mut Finder,
 ) -> Result<Scope<'a>, Memory>
-    ensures scope { IfOk result (λ scope. scope ≡ all_held declared.now) }
-    ensures found { OnOk result (finder.new ≡ visited finder.old (scope_sites [] (all_held declared.now))) }
+    ensures scope { IfOk result (λ scope. scope ≡ all_held declared.entry.items) }
+    ensures found { OnOk result (finder.new ≡ visited finder.old (scope_sites [] (all_held declared.entry.items))) }
 {
-    let mut scope = Scope::new(alloc);
-    let mut rest = declared;
-    'declared: while let [one, after @ ..] = rest {
-        declares(finder, &scope, *one);
-        scope.push(*one)?;
-        rest = after;
-    }
+    let scope = Scope::new(alloc, declared)?;
+    visit_scope(&scope, finder);
     Ok(scope)
+}
+
+/// Visits the declarations of a scope in order.
+fn visit_scope(scope: &Scope<'_>, finder: &mut Finder)
+    ensures { finder.new ≡ visited finder.old (scope_sites [] scope.now) }
+{
+    for place in 0..scope.len() {
+        declares(finder, scope, place);
+    }
 }
 
 /// The scope of a block, whose variables begin at this word of the running call.
@@ -50,7 +54,7 @@ pub(crate) fn block_scope<'a>(
 {
     let mut declared = Vec::new(alloc);
     add_variables(&mut declared, Kind::OfCall, first, variables)?;
-    let scope = scope_of(alloc, &declared, finder)?;
+    let scope = scope_of(alloc, declared, finder)?;
     visit_sizes(variables, finder);
     Ok(scope)
 }
