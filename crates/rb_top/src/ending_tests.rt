@@ -9,13 +9,7 @@ const SOURCE: &str = "program a; process p { print \"x\"; } end.";
 // The words, the put of the sink that fails, its room, the exit status, and what has reached the sink.
 fn row(n: u8) -> (&'static str, u64, usize, u8, &'static str) {
     match n {
-        0 => (
-            "run a b",
-            9,
-            99,
-            0,
-            "1 out p x\n1 done p\nend 1\np done\n",
-        ),
+        0 => ("run a b", 9, 99, 0, "1 out p x\n1 done p\nend 1\np done\n"),
         1 => ("run a a", 9, 99, 1, "refused T1 at 1\n"),
         2 => ("go", 9, 99, 2, "usage: rbl run SOURCE SCHEDULE\n"),
         3 => ("run a c", 9, 99, 3, ""),
@@ -25,7 +19,12 @@ fn row(n: u8) -> (&'static str, u64, usize, u8, &'static str) {
     }
 }
 
-fn carried(alloc: Global, line: &str, bad_put: u64, room: usize) -> Result<Carried<MemorySink>, Fail> {
+fn carried(
+    alloc: Global,
+    line: &str,
+    bad_put: u64,
+    room: usize,
+) -> Result<Carried<MemorySink>, Fail> {
     let mut files = Vec::new(alloc);
     for (name, text) in [("a", SOURCE), ("b", "p 1")] {
         let name = Vec::from_slice(alloc, name.as_bytes())?;
