@@ -1,10 +1,8 @@
 -- The conversations that a tree declares, as they lie in memory.
-use Rattle.std.specs.Prelude.{◌≡◌, ℕ, List, map}
+use Rattle.std.specs.Prelude.{ℕ, List, map}
 use Rattle.rb_base.specs.declared.names.Group.{Group}
 use Rattle.rb_base.specs.declared.names.Nested.{Nested}
-use Rattle.rb_syntax.specs.Tree.{Tree}
 use Rattle.rb_world.specs.Kind.{Membership}
-use Rattle.rb_meaning.specs.Groups.{groups_of}
 
 -- a conversation's members and its parent
 abbrev pub membership : Group → Membership

@@ -1,5 +1,5 @@
 -- What holds of every tree that keeps the rules of nesting.
-use Rattle.std.specs.Prelude.{◌≡◌, ◌⊎◌, List, []}
+use Rattle.std.specs.Prelude.{◌≡◌, ◌⊎◌, []}
 use Rattle.rb_base.specs.declared.fault.SourceFault.{SourceFault}
 use Rattle.rb_syntax.specs.Tree.{Tree}
 use Rattle.rb_meaning.specs.Nesting.{IsNested}

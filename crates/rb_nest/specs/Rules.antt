@@ -1,16 +1,14 @@
 -- The rules of nesting: for each use of a conversation or a channel, and for each declaration of one, the rules that it may
 -- break, each told as a fault at its place. That conversations nest, and that inside one its members speak with each other alone,
 -- is Randell's (1975); all else that this crate defines is this project's own.
-use Rattle.std.specs.Prelude.{ℕ, ◌+◌, nat_eq, nat_le, nat_lt, Bool, true, false, not, cond, ◌&&◌, ◌||◌, List, [], ◌∷◌, ◌++◌, length, slice_get, Option, Some, None}
+use Rattle.std.specs.Prelude.{ℕ, ◌+◌, nat_eq, nat_lt, Bool, true, false, not, cond, ◌&&◌, List, [], ◌∷◌, ◌++◌, length, Option, Some, None}
 use Rattle.std.specs.List.{list_any, list_all, flat_map}
-use Rattle.rb_base.specs.declared.place.Place.{Place}
 use Rattle.rb_base.specs.declared.fault.SourceFault.{SourceFault}
-use Rattle.rb_base.specs.declared.fault.FaultName.{FaultName}
 use Rattle.rb_base.specs.declared.fault.FaultName.TheVariants.{N1, N2, N3, N4, N5, N6, N7, N8, N9, N10, N11, N12, N13}
 use Rattle.rb_syntax.specs.Tree.{Identifier, ChannelDeclaration, ConversationDeclaration, Tree}
 use Rattle.rb_meaning.specs.Environment.{same_name}
 use Rattle.rb_meaning.specs.Groups.{conversation_number, ends_of, process_number}
-use Rattle.rb_meaning.specs.Nesting.{Use, Deed, Joins, Sends, Receives, if_joins, innermost, is_converse, is_member, keeps_n1, keeps_n2, keeps_n4, keeps_n5, keeps_n8, keeps_n9, keeps_n10, keeps_n12, members_in, uses_of}
+use Rattle.rb_meaning.specs.Nesting.{Use, Deed, Joins, Sends, Receives, if_joins, innermost, is_member, keeps_n1, keeps_n2, keeps_n4, keeps_n5, keeps_n8, keeps_n9, keeps_n10, keeps_n12, members_in, uses_of}
 use Rattle.rb_scope.specs.Rules.{where_broken}
 
 -- the members of the innermost conversation around, if one is

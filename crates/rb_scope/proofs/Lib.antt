@@ -6,4 +6,5 @@ pub mod Statements
 pub mod Order
 pub mod Given
 pub mod Answer
+pub mod OneFirst
 pub mod Determined
