@@ -5,5 +5,6 @@ pub mod Long
 pub mod Order
 pub mod Given
 pub mod Answer
+pub mod OneFirst
 pub mod Determined
 pub mod Sample

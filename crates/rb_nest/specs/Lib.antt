@@ -1,0 +1,4 @@
+-- What is said of nesting: the rules that conversations and channels keep, and the first fault.
+pub mod Rules
+pub mod Groups
+pub mod Laws
