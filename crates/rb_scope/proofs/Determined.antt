@@ -1,6 +1,5 @@
 -- The laws of scopes.
-use Rattle.std.proofs.Common.{◌≡◌, ℕ, zero, suc, true, List, Option, Some, None, refl, sym, ◌∙◌, get_or}
-use Rattle.std.specs.List.{flat_map}
+use Rattle.std.proofs.Common.{ℕ, zero, suc, true, List, Option, Some, None, refl, sym, ◌∙◌, get_or}
 use Rattle.rb_base.specs.declared.fault.FaultName.{FaultName}
 use Rattle.rb_base.specs.declared.fault.FaultName.TheVariants.{S1, S2, S3, S4, S5, S6, S7, S8, S9, S10, S11}
 use Rattle.rb_scope.specs.Laws.{AreJudged, HaveOneFirst, SlotsAreDetermined, AgreeAt, AgreeOn}

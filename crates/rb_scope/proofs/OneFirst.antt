@@ -1,11 +1,11 @@
 -- Of several faults whose names follow from their numbers one is the first, and only one.
-use Rattle.std.proofs.Common.{◌≡◌, ℕ, zero, suc, ◌+◌, ◌<◌, ◌≤◌, ◌⊎◌, inl, inr, nat_eq, nat_lt, Bool, true, false, cond, List, [], ◌∷◌, ◌++◌, length, get_or, Option, Some, None, refl, sym, ap, subst, ◌∙◌, arith}
+use Rattle.std.proofs.Common.{◌≡◌, ℕ, zero, suc, ◌<◌, ◌⊎◌, inl, inr, Bool, true, false, List, [], ◌∷◌, ◌++◌, length, get_or, Option, Some, None, refl, sym, ap, subst, ◌∙◌, arith}
 use Rattle.std.proofs.lemmas.Bool.Decides.{nat_tests}
 use Rattle.std.specs.List.{Contains, flat_map}
 use Rattle.rb_base.specs.declared.place.Place.{Place}
 use Rattle.rb_base.specs.declared.fault.SourceFault.{SourceFault}
 use Rattle.rb_base.specs.declared.fault.FaultName.{FaultName}
-use Rattle.rb_scope.specs.FirstFault.{IsFirstOf, comes_before, is_before, number_of}
+use Rattle.rb_scope.specs.FirstFault.{IsFirstOf, comes_before, number_of}
 use Rattle.rb_scope.specs.Finding.{first_after}
 use Rattle.rb_scope.specs.Rules.{where_broken}
 use Rattle.rb_scope.proofs.Order.{earlier, first_kept, nothing_kept}
