@@ -13,4 +13,5 @@ pub mod Rows
 pub mod Meanings
 pub mod NamesInFrames
 pub mod ExpressionsInFrames
+pub mod CommandsInFrames
 pub mod Sample

@@ -1,4 +1,4 @@
-use Rattle.rb_scope.proofs.ExpressionsInFrames.{printed_known}
+use Rattle.rb_scope.proofs.CommandsInFrames.{commands_known}
 use Rattle.rb_scope.proofs.laws.resolved_in_frames.Goals as goal
 
 pub returns : goal.returns
