@@ -14,4 +14,5 @@ pub mod Meanings
 pub mod NamesInFrames
 pub mod ExpressionsInFrames
 pub mod CommandsInFrames
+pub mod DistinctNames
 pub mod Sample
