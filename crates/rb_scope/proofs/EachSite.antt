@@ -1,7 +1,7 @@
 -- A fact of each site of a list is one of each site of its parts; and each site of a tree that is resolved keeps its rule, and has
 -- its slot.
-use Rattle.std.proofs.Common.{◌≡◌, Bool, true, false, List, [], ◌∷◌, ◌++◌, refl, sym, ap, ◌∙◌}
-use Rattle.std.specs.List.{AllByRecursion, flat_map}
+use Rattle.std.proofs.Common.{◌≡◌, ℕ, zero, suc, Bool, true, false, List, [], ◌∷◌, ◌++◌, Option, Some, None, refl, subst}
+use Rattle.std.specs.List.{AllByRecursion, flat_map, slice_get}
 use Rattle.std.proofs.lemmas.List.Elements.{recursion_from_All}
 use Rattle.rb_base.specs.declared.place.Place.{Place}
 use Rattle.rb_base.specs.declared.fault.SourceFault.{SourceFault}
@@ -41,6 +41,18 @@ all_both P Q (x ∷ xs) p q = ((p.0, q.0), all_both P Q xs p.1 q.1)
 pub all_weaker : {A : Type 0} (P Q : A → Type 0) (xs : List A) → ((x : A) → P x → Q x) → AllByRecursion P xs → AllByRecursion Q xs
 all_weaker P Q [] holds all = tt
 all_weaker P Q (x ∷ xs) holds all = (holds x all.0, all_weaker P Q xs holds all.1)
+
+-- both parts
+pub all_append : {A : Type 0} (P : A → Type 0) (xs ys : List A) → AllByRecursion P xs → AllByRecursion P ys → AllByRecursion P (xs ++ ys)
+all_append P [] ys p q = q
+all_append P (x ∷ xs) ys p q = (p.0, all_append P xs ys p.1 q)
+
+-- the one at a number
+pub all_at : {A : Type 0} (P : A → Type 0) (xs : List A) (i : ℕ) (x : A) → AllByRecursion P xs → slice_get xs i ≡ Some x → P x
+all_at P [] i x all e = absurd (cc)
+all_at P (y ∷ xs) zero x all e =
+    let same : y ≡ x = cc in subst P same all.0
+all_at P (y ∷ xs) (suc i) x all e = all_at P xs i x all.1 e
 
 -- lists without an element, end to end
 first-empty : {A : Type 0} (xs ys : List A) → xs ++ ys ≡ [] → xs ≡ []

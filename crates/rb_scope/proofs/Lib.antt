@@ -15,4 +15,6 @@ pub mod NamesInFrames
 pub mod ExpressionsInFrames
 pub mod CommandsInFrames
 pub mod DistinctNames
+pub mod ProgramNames
+pub mod ResolvedInFrames
 pub mod Sample
