@@ -17,4 +17,5 @@ pub mod CommandsInFrames
 pub mod DistinctNames
 pub mod ProgramNames
 pub mod ResolvedInFrames
+pub mod WithinLimits
 pub mod Sample
