@@ -18,4 +18,5 @@ pub mod DistinctNames
 pub mod ProgramNames
 pub mod ResolvedInFrames
 pub mod WithinLimits
+pub mod FrameSample
 pub mod Sample
