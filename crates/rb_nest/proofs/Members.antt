@@ -1,8 +1,8 @@
 -- Members that stand once, and what is looked up of a conversation.
-use Rattle.std.proofs.Common.{◌≡◌, ℕ, zero, suc, ◌+◌, nat_eq, Bool, true, false, cond, ◌||◌, ◌&&◌, List, [], ◌∷◌, ◌++◌, map, slice_get, Option, Some, None, option_map, refl, sym, ap, ◌∙◌, arith}
+use Rattle.std.proofs.Common.{◌≡◌, ℕ, zero, suc, ◌+◌, nat_eq, Bool, true, false, cond, ◌||◌, ◌&&◌, List, [], ◌∷◌, ◌++◌, length, get_or, map, nat_lt, ◌<◌, ◌≤◌, slice_get, Option, Some, None, option_map, refl, sym, ap, ◌∙◌, arith}
 use Rattle.std.proofs.lemmas.Bool.Decides.{nat_tests}
 use Rattle.std.proofs.lemmas.List.Folds.{list_any-append}
-use Rattle.std.proofs.lemmas.Option.{slice_get-map}
+use Rattle.std.proofs.lemmas.Option.{slice_get-map, slice_get_past, slice_get_read}
 use Rattle.std.specs.List.{list_all, list_any}
 use Rattle.rb_syntax.specs.Tree.{ConversationDeclaration, Tree}
 use Rattle.rb_world.specs.Kind.{Membership}
@@ -104,8 +104,8 @@ none-of : (tree : Tree) (number : ℕ) (found : Option Facts) (there : Option Co
 none-of tree number found None e h = refl
 none-of tree number found (Some c) e h = absurd (cc)
 
-pub no_conversation : (tree : Tree) (items : List Facts) (number : ℕ) → map known items ≡ known_from tree 0 tree.conversations → slice_get items number ≡ None → slice_get (groups_of tree) number ≡ None
-no_conversation tree items number e h =
+none-there : (tree : Tree) (items : List Facts) (number : ℕ) → map known items ≡ known_from tree 0 tree.conversations → slice_get items number ≡ None → slice_get (groups_of tree) number ≡ None
+none-there tree items number e h =
     slice_get-map (membership_of tree) tree.conversations number
     ∙ none-of tree number (slice_get items number) (slice_get tree.conversations number) h (looked-up tree items number e)
 
@@ -119,7 +119,18 @@ known-as tree number facts found (Some c) e h g =
       alternates = ap (λ (k : Known). k.alternates) same;
     }
 
-pub conversation_known : (tree : Tree) (items : List Facts) (number : ℕ) (facts : Facts) → map known items ≡ known_from tree 0 tree.conversations → slice_get items number ≡ Some facts → IsKnownAs tree number facts
-conversation_known tree items number facts e h =
+known-there : (tree : Tree) (items : List Facts) (number : ℕ) (facts : Facts) → map known items ≡ known_from tree 0 tree.conversations → slice_get items number ≡ Some facts → IsKnownAs tree number facts
+known-there tree items number facts e h =
     known-as tree number facts (slice_get items number) (slice_get tree.conversations number) h (looked-up tree items number e)
     (slice_get-map (membership_of tree) tree.conversations number)
+
+-- what a look-up by number gives
+pub no_conversation : (tree : Tree) (items all : List Facts) (number : ℕ) → all ≡ items → map known items ≡ known_from tree 0 tree.conversations → false ≡ nat_lt number (length all) → slice_get (groups_of tree) number ≡ None
+no_conversation tree items all number same e h =
+    let past : length all ≤ number = grind (arith, nat_tests) in
+    none-there tree items number e (ap (λ xs. slice_get xs number) (sym same) ∙ slice_get_past all number past)
+
+pub conversation_known : (tree : Tree) (items all : List Facts) (number : ℕ) (facts : Facts) → all ≡ items → map known items ≡ known_from tree 0 tree.conversations → true ≡ nat_lt number (length all) → facts ≡ get_or all number facts → IsKnownAs tree number facts
+conversation_known tree items all number facts same e h at =
+    let within : number < length all = grind (arith, nat_tests) in
+    known-there tree items number facts e (ap (λ xs. slice_get xs number) (sym same) ∙ slice_get_read all (length all) number facts refl within at)

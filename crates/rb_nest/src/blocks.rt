@@ -32,7 +32,7 @@ impl Blocks<'_, '_> {
         ensures { result ≡ first_answer (λ number. number) (numbers_of self.now) }
     {
         let mut rest = self;
-        'blocks: while let Blocks::Within(joined, around) = rest {
+        'around: while let Blocks::Within(joined, around) = rest {
             if let Some(joined) = joined {
                 return Some(joined.number);
             }
@@ -46,7 +46,7 @@ impl Blocks<'_, '_> {
         ensures { result ≡ list_all is_converse (blocks_of self.now) }
     {
         let mut rest = self;
-        'blocks: while let Blocks::Within(joined, around) = rest {
+        'around: while let Blocks::Within(joined, around) = rest {
             if joined.is_none() {
                 return false;
             }
@@ -61,7 +61,7 @@ impl Blocks<'_, '_> {
     {
         let mut conversations = 0;
         let mut rest = self;
-        'blocks: while let Blocks::Within(joined, around) = rest {
+        'around: while let Blocks::Within(joined, around) = rest {
             if joined.is_some() {
                 conversations += 1;
                 if conversations == MOST_NESTED {

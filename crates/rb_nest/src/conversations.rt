@@ -120,7 +120,7 @@ fn note_members(
 
 /// Whether one of these names has this text.
 fn is_named(names: &[Name<'_>], text: &[u8]) -> bool
-    ensures { result ≡ list_any (λ other. same_name other.text text.now) (map identifier (reverse names.now)) }
+    ensures { result ≡ list_any (λ name. same_name name.text.now text.now) (reverse names.now) }
 {
     // The last one is found at once, however many there are.
     names.iter().rev().any(|name| name.text == text)

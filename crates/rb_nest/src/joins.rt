@@ -1,6 +1,6 @@
 //! The uses that join a conversation.
 
-ghost use Rattle.std.specs.Prelude.{◌≡◌, None, unwrap_or, IfOk};
+ghost use Rattle.std.specs.Prelude.{◌≡◌, None, reverse, unwrap_or, IfOk};
 ghost use Rattle.std.specs.List.{list_any};
 ghost use Rattle.rb_nest.specs.Answers.{first_answer};
 ghost use Rattle.rb_nest.specs.Memory.{all_held, held};
@@ -41,7 +41,7 @@ pub(crate) fn is_joined(joins: &[Use<'_>], process: usize, name: &[u8]) -> bool
 
 /// Whether one of these joins the same conversation in the same process.
 pub(crate) fn is_joined_before(joins: &[Use<'_>], one: &Use<'_>) -> bool
-    ensures { result ≡ list_any (joins_like (held one.now)) (all_held joins.now) }
+    ensures { result ≡ list_any (λ other. joins_like (held one.now) (held other)) (reverse joins.now) }
 {
     // The last one of a process is found at once, however many there are.
     joins.iter().rev().any(|other| one.joins_like(other))

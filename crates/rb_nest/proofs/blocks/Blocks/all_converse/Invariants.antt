@@ -4,5 +4,5 @@ use Rattle.rb_meaning.specs.Nesting.{is_converse}
 use Rattle.rb_nest.specs.Blocks.{blocks_of}
 use Rattle.rb_nest.proofs.blocks.Blocks.all_converse.Given as goal
 
-abbrev pub invariant-blocks : goal.invariant-blocks
-invariant-blocks l = list_all is_converse (blocks_of l.rest) ≡ list_all is_converse (blocks_of l.initial.rest)
+abbrev pub invariant-around : goal.invariant-around
+invariant-around l = list_all is_converse (blocks_of l.rest) ≡ list_all is_converse (blocks_of l.initial.rest)
