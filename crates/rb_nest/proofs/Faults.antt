@@ -1,22 +1,15 @@
 -- The faults of uses, told of uses or of their summaries.
 use Rattle.std.proofs.Common.{◌≡◌, Bool, true, false, not, cond, ◌&&◌, List, [], ◌∷◌, ◌++◌, map, nat_eq, Option, Some, None, slice_get, refl, sym, ap, ◌∙◌}
 use Rattle.std.specs.List.{list_any}
-use Rattle.rb_base.specs.declared.fault.SourceFault.{SourceFault}
 use Rattle.rb_syntax.specs.Tree.{Identifier, Tree}
 use Rattle.rb_world.specs.Kind.{Ends}
 use Rattle.rb_meaning.specs.Environment.{same_name}
 use Rattle.rb_meaning.specs.Groups.{channel_number, channels_of, conversation_of}
 use Rattle.rb_meaning.specs.Nesting.{Deed, Joins, Sends, Receives, Spot, Use, innermost, speaks_inside}
-use Rattle.rb_scope.specs.Finding.{first_after, first_with}
 use Rattle.rb_nest.specs.Rules.{joins_too, members_around, use_faults, uses_faults}
-use Rattle.std.proofs.lemmas.List.{map-append}
+use Rattle.std.proofs.lemmas.List.{append-nil, map-append}
 use Rattle.rb_nest.proofs.FirstAnswers.{any-joins, any-map}
-use Rattle.rb_nest.specs.Summary.{Summary, is_join, joins_among, joins_like, members_within, speaks_within, summaries_faults, summary, summary_faults, with_join}
-
--- what is found behind faults, and then behind others
-pub after_append : (first : Option SourceFault) (xs ys : List SourceFault) → first_after first (xs ++ ys) ≡ first_after (first_after first xs) ys
-after_append first [] ys = refl
-after_append first (x ∷ xs) ys = after_append (Some (first_with first x)) xs ys
+use Rattle.rb_nest.specs.Summary.{Summary, deed_faults, is_join, joins_among, joins_like, members_within, speaks_within, summaries_faults, summary, with_join}
 
 members-same : (tree : Tree) (around : Option Identifier) → members_within tree (conversation_of tree around) ≡ members_around tree around
 members-same tree None = refl
@@ -26,13 +19,18 @@ speaks-same : (tree : Tree) (around : Option Identifier) (ends : Option Ends) �
 speaks-same tree None ends = refl
 speaks-same tree (Some name) ends = refl
 
+twice-not : (b : Bool) → not (not b) ≡ b
+twice-not true = refl
+twice-not false = refl
+
 -- the rules of a use
-of-use : (tree : Tree) (earlier : List Use) (name : Identifier) (d : Deed) (spot : Spot) → summary_faults tree (list_any (joins_too (record { name = name; deed = d; spot = spot })) earlier) (summary tree (record { name = name; deed = d; spot = spot })) ≡ use_faults tree earlier (record { name = name; deed = d; spot = spot })
-of-use tree earlier name (Joins n) spot = rw (members-same tree (innermost spot.around)) refl
+of-use : (tree : Tree) (earlier : List Use) (name : Identifier) (d : Deed) (spot : Spot) → deed_faults tree (list_any (joins_too (record { name = name; deed = d; spot = spot })) earlier) (summary tree (record { name = name; deed = d; spot = spot })) d ≡ use_faults tree earlier (record { name = name; deed = d; spot = spot })
+of-use tree earlier name (Joins n) spot =
+    rw (members-same tree (innermost spot.around), twice-not (list_any (joins_too (record { name = name; deed = Joins n; spot = spot })) earlier)) refl
 of-use tree earlier name Sends spot =
-    rw (speaks-same tree (innermost spot.around) (slice_get (channels_of tree) (channel_number tree name.text))) refl
+    rw (speaks-same tree (innermost spot.around) (slice_get (channels_of tree) (channel_number tree name.text)), twice-not spot.in_procedure, append-nil) refl
 of-use tree earlier name Receives spot =
-    rw (speaks-same tree (innermost spot.around) (slice_get (channels_of tree) (channel_number tree name.text))) refl
+    rw (speaks-same tree (innermost spot.around) (slice_get (channels_of tree) (channel_number tree name.text)), twice-not spot.in_procedure, append-nil) refl
 
 -- whether a `converse` for its conversation stands before it
 like-too : (tree : Tree) (one : Use) (name : Identifier) (d : Deed) (spot : Spot) → joins_like (summary tree one) (summary tree (record { name = name; deed = d; spot = spot })) ≡ joins_too one (record { name = name; deed = d; spot = spot })
@@ -69,7 +67,7 @@ told-more tree earlier one =
 pub all_faults : (tree : Tree) (earlier uses : List Use) → summaries_faults tree (joins_among (map (summary tree) earlier)) (map (summary tree) uses) ≡ uses_faults tree earlier uses
 all_faults tree earlier [] = refl
 all_faults tree earlier (one ∷ others) =
-    ap (λ b. summary_faults tree b (summary tree one) ++ summaries_faults tree (with_join (joins_among (map (summary tree) earlier)) (summary tree one)) (map (summary tree) others)) (again-same tree one earlier)
+    ap (λ b. deed_faults tree b (summary tree one) one.deed ++ summaries_faults tree (with_join (joins_among (map (summary tree) earlier)) (summary tree one)) (map (summary tree) others)) (again-same tree one earlier)
     ∙ ap (λ faults. faults ++ summaries_faults tree (with_join (joins_among (map (summary tree) earlier)) (summary tree one)) (map (summary tree) others)) (of-use tree earlier one.name one.deed one.spot)
     ∙ ap (λ joins. use_faults tree earlier one ++ summaries_faults tree joins (map (summary tree) others)) (told-more tree earlier one)
     ∙ ap (λ faults. use_faults tree earlier one ++ faults) (all_faults tree (earlier ++ one ∷ []) others)

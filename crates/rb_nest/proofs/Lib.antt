@@ -2,6 +2,7 @@ pub mod Accepted
 pub mod FirstFaults
 pub mod Places
 pub mod InTurn
+pub mod After
 pub mod Around
 pub mod FirstAnswers
 pub mod Parents

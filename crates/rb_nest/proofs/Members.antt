@@ -1,15 +1,17 @@
 -- Members that stand once, and what is looked up of a conversation.
-use Rattle.std.proofs.Common.{◌≡◌, ℕ, zero, suc, ◌+◌, nat_eq, Bool, true, false, cond, ◌||◌, ◌&&◌, List, [], ◌∷◌, ◌++◌, length, get_or, map, nat_lt, ◌<◌, ◌≤◌, slice_get, Option, Some, None, option_map, refl, sym, ap, ◌∙◌, arith}
+use Rattle.std.proofs.Common.{◌≡◌, ℕ, zero, suc, ◌+◌, nat_eq, Bool, true, false, not, cond, ◌||◌, ◌&&◌, List, [], ◌∷◌, ◌++◌, length, get_or, map, nat_lt, ◌<◌, ◌≤◌, slice_get, Option, Some, None, option_map, refl, sym, ap, ◌∙◌, arith}
 use Rattle.std.proofs.lemmas.Bool.Decides.{nat_tests}
 use Rattle.std.proofs.lemmas.List.Folds.{list_any-append}
 use Rattle.std.proofs.lemmas.Option.{slice_get-map, slice_get_past, slice_get_read}
 use Rattle.std.specs.List.{list_all, list_any}
+use Rattle.std.specs.Option.{is_some, option_eq}
 use Rattle.rb_syntax.specs.Tree.{ConversationDeclaration, Tree}
 use Rattle.rb_world.specs.Kind.{Membership}
 use Rattle.rb_world.specs.Reject.{parent_of}
 use Rattle.rb_world.specs.Turn.{members_of}
+use Rattle.rb_world.specs.World.{is_number}
 use Rattle.rb_meaning.specs.Groups.{groups_of, membership_of}
-use Rattle.rb_meaning.specs.Nesting.{alternates_of, is_member, members_in}
+use Rattle.rb_meaning.specs.Nesting.{alternates_of, is_member, is_same_conversation, members_in}
 use Rattle.rb_nest.specs.Members.{Known, known, known_from, known_of, with_member, with_members}
 use Rattle.rb_nest.specs.declared.conversations.Facts.{Facts}
 
@@ -134,3 +136,20 @@ pub conversation_known : (tree : Tree) (items all : List Facts) (number : ℕ) (
 conversation_known tree items all number facts same e h at =
     let within : number < length all = grind (arith, nat_tests) in
     known-there tree items number facts e (ap (λ xs. slice_get xs number) (sym same) ∙ slice_get_read all (length all) number facts refl within at)
+
+-- what two tests of two conversations, or of none, say
+pub none_same : (within : Option ℕ) (b : Bool) → is_some within ≡ not b → b ≡ is_same_conversation within None
+none_same None true e = refl
+none_same None false e = absurd (cc)
+none_same (Some c) true e = absurd (cc)
+none_same (Some c) false e = refl
+
+pub same_parent : (parent within : Option ℕ) → option_eq nat_eq parent within ≡ is_same_conversation within parent
+same_parent None None = refl
+same_parent None (Some c) = refl
+same_parent (Some d) None = refl
+same_parent (Some d) (Some c) = refl
+
+pub same_count : (alternates : Option ℕ) (n : ℕ) → option_eq nat_eq alternates (Some n) ≡ is_number alternates n
+same_count None n = refl
+same_count (Some m) n = refl

@@ -6,10 +6,11 @@ use Rattle.rb_base.specs.declared.fault.FaultName.TheVariants.{N1, N2, N3, N4, N
 use Rattle.rb_syntax.specs.Tree.{Identifier, Tree}
 use Rattle.rb_world.specs.Kind.{Ends}
 use Rattle.rb_world.specs.Reject.{parent_of}
+use Rattle.rb_world.specs.World.{is_number}
 use Rattle.rb_world.specs.Plain.{when}
 use Rattle.rb_meaning.specs.Environment.{same_name}
 use Rattle.rb_meaning.specs.Groups.{channel_number, channels_of, conversation_number, conversation_of, groups_of}
-use Rattle.rb_meaning.specs.Nesting.{Deed, Joins, Sends, Receives, Use, alternates_of, has_as_many, have_both, if_joins, if_speaks, innermost, is_converse, is_end, is_member, is_same_conversation, joined_with, members_in, uses_of}
+use Rattle.rb_meaning.specs.Nesting.{Deed, Joins, Sends, Receives, Use, alternates_of, have_both, innermost, is_converse, is_end, is_member, is_same_conversation, joined_with, members_in, uses_of}
 use Rattle.rb_scope.specs.Rules.{where_broken}
 use Rattle.rb_nest.specs.Rules.{are_among, conversations_around, most_nested}
 
@@ -83,19 +84,33 @@ abbrev pub speaks_within : Tree → Option ℕ → Option Ends → Bool
 speaks_within tree None ends = true
 speaks_within tree (Some c) ends = have_both (members_in tree c) ends
 
--- the rules of a use, where a `converse` for its conversation stands before it in its process or not
-abbrev pub summary_faults : Tree → Bool → Summary → List SourceFault
-summary_faults tree again one =
-    where_broken (not (if_joins one.deed (not one.in_procedure && one.all_converse))) N1 one.name.place
-    ++ (where_broken (not (if_joins one.deed (is_member one.process (members_in tree one.number)))) N2 one.name.place
-    ++ (where_broken (not (if_joins one.deed (are_among (members_in tree one.number) (members_within tree one.within)))) N3 one.name.place
-    ++ (where_broken (not (if_joins one.deed (is_same_conversation one.within (parent_of (slice_get (groups_of tree) one.number))))) N4 one.name.place
-    ++ (where_broken (not (has_as_many one.deed (alternates_of tree one.number))) N5 one.name.place
-    ++ (where_broken (not (if_joins one.deed (not again))) N7 one.name.place
-    ++ (where_broken (not (if_speaks one.deed (not one.in_procedure))) N8 one.name.place
-    ++ (where_broken (not (if_speaks one.deed (is_end one.deed one.process (slice_get (channels_of tree) one.number)))) N9 one.name.place
-    ++ (where_broken (not (if_speaks one.deed (speaks_within tree one.within (slice_get (channels_of tree) one.number)))) N10 one.name.place
-    ++ where_broken (not (if_joins one.deed one.has_room)) N13 one.name.place))))))))
+-- a `converse` stands in no procedure, and in no alternate of an `ensure`
+abbrev pub may_join : Summary → Bool
+may_join one = not one.in_procedure && one.all_converse
+
+-- the rules of a `converse` with so many alternates, where another for its conversation stands before it in its process or not
+abbrev pub join_faults : Tree → Bool → ℕ → Summary → List SourceFault
+join_faults tree again alternates one =
+    where_broken (not (may_join one)) N1 one.name.place
+    ++ (where_broken (not (is_member one.process (members_in tree one.number))) N2 one.name.place
+    ++ (where_broken (not (are_among (members_in tree one.number) (members_within tree one.within))) N3 one.name.place
+    ++ (where_broken (not (is_same_conversation one.within (parent_of (slice_get (groups_of tree) one.number)))) N4 one.name.place
+    ++ (where_broken (not (is_number (alternates_of tree one.number) alternates)) N5 one.name.place
+    ++ (where_broken again N7 one.name.place
+    ++ where_broken (not one.has_room) N13 one.name.place)))))
+
+-- the rules of a message
+abbrev pub message_faults : Tree → Deed → Summary → List SourceFault
+message_faults tree deed one =
+    where_broken one.in_procedure N8 one.name.place
+    ++ (where_broken (not (is_end deed one.process (slice_get (channels_of tree) one.number))) N9 one.name.place
+    ++ where_broken (not (speaks_within tree one.within (slice_get (channels_of tree) one.number))) N10 one.name.place)
+
+-- the rules of a use by what is done
+abbrev pub deed_faults : Tree → Bool → Summary → Deed → List SourceFault
+deed_faults tree again one (Joins alternates) = join_faults tree again alternates one
+deed_faults tree again one Sends = message_faults tree Sends one
+deed_faults tree again one Receives = message_faults tree Receives one
 
 -- the `converse`s so far, and this one if it is one
 abbrev pub with_join : List Summary → Summary → List Summary
@@ -105,4 +120,4 @@ with_join joins one = cond (is_join one.deed) (joins ++ one ∷ []) joins
 abbrev pub summaries_faults : Tree → List Summary → List Summary → List SourceFault
 summaries_faults tree joins [] = []
 summaries_faults tree joins (one ∷ others) =
-    summary_faults tree (list_any (joins_like one) joins) one ++ summaries_faults tree (with_join joins one) others
+    deed_faults tree (list_any (joins_like one) joins) one one.deed ++ summaries_faults tree (with_join joins one) others

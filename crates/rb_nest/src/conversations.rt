@@ -8,7 +8,7 @@ ghost use Rattle.rb_meaning.specs.Groups.{process_number};
 ghost use Rattle.rb_meaning.specs.Nesting.{is_member};
 ghost use Rattle.rb_scope.specs.Finding.{first_after};
 ghost use Rattle.rb_nest.specs.Rules.{conversation_faults, members_faults};
-ghost use Rattle.rb_nest.specs.Members.{known, known_from, known_of, with_members};
+ghost use Rattle.rb_nest.specs.Members.{known, known_from, known_of, member_faults, with_members};
 
 use crate::found::note;
 use crate::look_up::process_number;
@@ -108,13 +108,25 @@ fn note_members(
     ensures { first.new ≡ first_after first.old (members_faults (tree uses.now.program.now) conversation.now [] (map identifier members.now)) }
 {
     for (index, name) in members.iter().enumerate() {
-        if is_named(&members[..index], name.text) {
-            note(first, true, FaultName::N11, name.place);
-        } else {
-            let process = process_number(uses.program, name.text);
-            let absent = !uses.is_joined(process, conversation);
-            note(first, absent, FaultName::N6, name.place);
-        }
+        note_member(uses, conversation, &members[..index], *name, first);
+    }
+}
+
+fn note_member(
+    uses: &Uses<'_, '_>,
+    conversation: &[u8],
+    earlier: &[Name<'_>],
+    name: Name<'_>,
+    first: &mut Option<SourceFault>,
+)
+    ensures { first.new ≡ first_after first.old (member_faults (tree uses.now.program.now) conversation.now (reverse earlier.now) name.entry) }
+{
+    if is_named(earlier, name.text) {
+        note(first, true, FaultName::N11, name.place);
+    } else {
+        let process = process_number(uses.program, name.text);
+        let absent = !uses.is_joined(process, conversation);
+        note(first, absent, FaultName::N6, name.place);
     }
 }
 

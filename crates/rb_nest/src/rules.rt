@@ -1,17 +1,17 @@
 //! The rules of uses.
 
-ghost use Rattle.std.specs.Prelude.{◌≡◌, false, [], map, slice_get, OnOk};
-ghost use Rattle.std.specs.List.{list_all};
+ghost use Rattle.std.specs.Prelude.{◌≡◌, [], map, slice_get, OnOk};
+ghost use Rattle.std.specs.List.{list_all, list_any};
 ghost use Rattle.rb_syntax.specs.Plain.{tree};
 ghost use Rattle.rb_world.specs.Reject.{parent_of};
 ghost use Rattle.rb_world.specs.World.{is_number};
 ghost use Rattle.rb_meaning.specs.Groups.{channels_of, groups_of};
-ghost use Rattle.rb_meaning.specs.Nesting.{Joins, alternates_of, is_end, is_member, is_same_conversation, members_in, uses_of};
+ghost use Rattle.rb_meaning.specs.Nesting.{alternates_of, is_end, is_member, is_same_conversation, members_in, uses_of};
 ghost use Rattle.rb_scope.specs.Finding.{first_after};
 ghost use Rattle.rb_nest.specs.Rules.{are_among, uses_faults};
 ghost use Rattle.rb_nest.specs.Members.{ends_alone, known, known_from};
-ghost use Rattle.rb_nest.specs.Memory.{deed_of, held};
-ghost use Rattle.rb_nest.specs.Summary.{is_join, members_within, speaks_within, summary_faults};
+ghost use Rattle.rb_nest.specs.Memory.{all_held, deed_of, held};
+ghost use Rattle.rb_nest.specs.Summary.{deed_faults, join_faults, joins_like, members_within, message_faults, speaks_within, with_join};
 
 use crate::conversations::{Facts, is_member};
 use crate::ends::Ends;
@@ -58,8 +58,14 @@ impl Rules<'_, '_, '_> {
     {
         match self.conversations.get(number) {
             None => true,
-            Some(facts) => facts.members.iter().all(|member| self.is_member(*member, around)),
+            Some(facts) => self.are_members(&facts.members, around),
         }
+    }
+
+    fn are_members(&self, members: &[usize], around: usize) -> bool
+        ensures { result ≡ list_all (λ m. is_member m (members_in (tree self.now.uses.now.program.now) around)) members.now }
+    {
+        members.iter().all(|member| self.is_member(*member, around))
     }
 
     /// Whether this is the conversation right around another, or neither is there.
@@ -68,7 +74,7 @@ impl Rules<'_, '_, '_> {
     {
         match self.conversations.get(number) {
             None => within.is_none(),
-            Some(facts) => within == facts.parent,
+            Some(facts) => facts.parent == within,
         }
     }
 
@@ -111,7 +117,8 @@ impl Rules<'_, '_, '_> {
         }
     }
 
-    /// Notes the rules that the join of a conversation with so many alternates breaks.
+    /// Notes the rules that a `converse` with so many alternates breaks.
+    #[tactic(auto, using(crate::proofs::After::after_append))]
     fn note_join(
         &self,
         again: bool,
@@ -119,12 +126,10 @@ impl Rules<'_, '_, '_> {
         one: &Use<'_>,
         first: &mut Option<SourceFault>,
     )
-        requires { deed_of one.now.deed ≡ Joins alternates }
-        ensures { first.new ≡ first_after first.old (summary_faults (tree self.now.uses.now.program.now) again (held one.now)) }
+        ensures { first.new ≡ first_after first.old (join_faults (tree self.now.uses.now.program.now) again alternates (held one.now)) }
     {
         let place = one.name.place;
-        let stands_inside = one.in_procedure || !one.all_converse;
-        note(first, stands_inside, FaultName::N1, place);
+        note(first, !one.may_join(), FaultName::N1, place);
         let is_member = self.is_member(one.process, one.number);
         note(first, !is_member, FaultName::N2, place);
         let are_among = self.are_among(one.number, one.within);
@@ -138,16 +143,44 @@ impl Rules<'_, '_, '_> {
     }
 
     /// Notes the rules that a message breaks.
-    fn note_message(&self, again: bool, one: &Use<'_>, first: &mut Option<SourceFault>)
-        requires { is_join (deed_of one.now.deed) ≡ false }
-        ensures { first.new ≡ first_after first.old (summary_faults (tree self.now.uses.now.program.now) again (held one.now)) }
+    #[tactic(auto, using(crate::proofs::After::after_append))]
+    fn note_message(&self, deed: Deed, one: &Use<'_>, first: &mut Option<SourceFault>)
+        ensures { first.new ≡ first_after first.old (message_faults (tree self.now.uses.now.program.now) (deed_of deed) (held one.now)) }
     {
         let place = one.name.place;
         note(first, one.in_procedure, FaultName::N8, place);
-        let is_end = self.is_end(one.deed, one.process, one.number);
+        let is_end = self.is_end(deed, one.process, one.number);
         note(first, !is_end, FaultName::N9, place);
         let speaks_within = self.speaks_within(one.within, one.number);
         note(first, !speaks_within, FaultName::N10, place);
+    }
+
+    /// Notes the rules that a use breaks. A `converse` is then one of those before the uses that follow.
+    fn note_use<'a>(
+        &self,
+        one: &Use<'a>,
+        joins: &mut Vec<Use<'a>>,
+        first: &mut Option<SourceFault>,
+    ) -> Result<(), Memory>
+        ensures found { OnOk result (first.new ≡ first_after first.old (deed_faults (tree self.now.uses.now.program.now) (list_any (joins_like (held one.now)) (all_held joins.old.items)) (held one.now) (deed_of one.now.deed))) }
+        ensures joins { OnOk result (all_held joins.new.items ≡ with_join (all_held joins.old.items) (held one.now)) }
+    {
+        match one.deed {
+            Deed::Joins(alternates) => {
+                let again = is_joined_before(joins, one);
+                self.note_join(again, alternates, one, first);
+                joins.push(*one)?;
+                Ok(())
+            }
+            Deed::Sends => {
+                self.note_message(Deed::Sends, one, first);
+                Ok(())
+            }
+            Deed::Receives => {
+                self.note_message(Deed::Receives, one, first);
+                Ok(())
+            }
+        }
     }
 
     /// Notes the rules that each use breaks.
@@ -159,17 +192,8 @@ impl Rules<'_, '_, '_> {
         ensures { OnOk result (first.new ≡ first_after first.old (uses_faults (tree self.now.uses.now.program.now) [] (uses_of (tree self.now.uses.now.program.now)))) }
     {
         let mut joins = Vec::new(alloc);
-        let mut rest = self.uses.all();
-        'uses: while let [one, after @ ..] = rest {
-            match one.deed {
-                Deed::Joins(alternates) => {
-                    let again = is_joined_before(&joins, one);
-                    self.note_join(again, alternates, one, first);
-                    joins.push(*one)?;
-                }
-                Deed::Sends | Deed::Receives => self.note_message(false, one, first),
-            }
-            rest = after;
+        for one in self.uses.all() {
+            self.note_use(one, &mut joins, first)?;
         }
         Ok(())
     }

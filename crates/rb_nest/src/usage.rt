@@ -2,7 +2,7 @@
 
 ghost use Rattle.std.specs.Prelude.{◌≡◌};
 ghost use Rattle.rb_nest.specs.Memory.{deed_of, held};
-ghost use Rattle.rb_nest.specs.Summary.{is_join, joins_at, joins_like};
+ghost use Rattle.rb_nest.specs.Summary.{is_join, joins_at, joins_like, may_join};
 
 use rb_syntax::Name;
 
@@ -38,6 +38,13 @@ impl Use<'_> {
             Deed::Joins(_) => true,
             Deed::Sends | Deed::Receives => false,
         }
+    }
+
+    /// Whether a `converse` may stand here: in no procedure, and in no alternate of an `ensure`.
+    pub(crate) fn may_join(&self) -> bool
+        ensures { result ≡ may_join (held self.now) }
+    {
+        !self.in_procedure && self.all_converse
     }
 
     /// Whether a process joins the conversation of this name.
