@@ -1,9 +1,13 @@
 -- Questions to lists, and to those among uses that join a conversation.
-use Rattle.std.proofs.Common.{◌≡◌, Bool, true, false, cond, ◌||◌, List, [], ◌∷◌, ◌++◌, map, filter, Option, Some, None, refl, sym, ap, ◌∙◌}
+use Rattle.std.proofs.Common.{◌≡◌, Bool, true, false, cond, ◌||◌, List, [], ◌∷◌, ◌++◌, map, reverse, Option, Some, None, refl, sym, ap, ◌∙◌}
 use Rattle.std.specs.List.{list_any}
+use Rattle.std.proofs.lemmas.List.{reverse-append}
+use Rattle.std.proofs.lemmas.List.Folds.{list_any-append}
 use Rattle.rb_meaning.specs.Environment.{or_else}
 use Rattle.rb_nest.specs.Answers.{first_answer}
-use Rattle.rb_nest.specs.Summary.{Summary, is_join, joins_among}
+use Rattle.rb_nest.specs.Memory.{all_held, held}
+use Rattle.rb_nest.specs.Summary.{Summary, is_join, joins_among, joins_like}
+use Rattle.rb_nest.specs.declared.usage.Use.{Use}
 
 or-assoc : {B : Type 0} (a b c : Option B) → or_else (or_else a b) c ≡ or_else a (or_else b c)
 or-assoc None b c = refl
@@ -44,3 +48,24 @@ pub any-joins : (t : Summary → Bool) → ((one : Summary) → is_join one.deed
 any-joins t h [] = refl
 any-joins t h (one ∷ uses) =
     join-any t one (joins_among uses) (is_join one.deed) (h one) ∙ ap (λ b. t one || b) (any-joins t h uses)
+
+-- a test passes in either direction
+or-last : (a b : Bool) → a || (b || false) ≡ b || a
+or-last true true = refl
+or-last true false = refl
+or-last false true = refl
+or-last false false = refl
+
+pub any-reverse : {A : Type 0} (t : A → Bool) (xs : List A) → list_any t (reverse xs) ≡ list_any t xs
+any-reverse t [] = refl
+any-reverse t (x ∷ xs) =
+    ap (list_any t) (reverse-append (x ∷ []) xs)
+    ∙ list_any-append t (reverse xs) (x ∷ [])
+    ∙ or-last (list_any t (reverse xs)) (t x)
+    ∙ ap (λ b. t x || b) (any-reverse t xs)
+
+-- whether one of these joins the same conversation, looked for from behind
+pub joins_back : (one : Use) (joins : List Use) → list_any (λ (other : Use). joins_like (held one) (held other)) (reverse joins) ≡ list_any (joins_like (held one)) (all_held joins)
+joins_back one joins =
+    any-reverse (λ (other : Use). joins_like (held one) (held other)) joins
+    ∙ sym (any-map (joins_like (held one)) (λ (other : Use). joins_like (held one) (held other)) held (λ other. refl) joins)

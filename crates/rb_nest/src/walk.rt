@@ -157,7 +157,6 @@ fn add_message<'a>(
 }
 
 /// Adds the use of a conversation, if one is joined, and answers it with its number.
-#[tactic(auto, using(crate::proofs::Around::counted))]
 fn add_join<'a>(
     conversation: Option<Name<'a>>,
     alternates: &[Block<'a>],

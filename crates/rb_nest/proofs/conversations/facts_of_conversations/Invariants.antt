@@ -10,8 +10,9 @@ use Rattle.rb_nest.proofs.conversations.facts_of_conversations.Given as goal
 abbrev pub invariant-loop-number : goal.invariant-loop-number
 invariant-loop-number l =
     let whole = tree l.uses.program.now in
-    let others = map conversation_declaration (drop l.number l.uses.program.now.conversations.items) in
+    let all = map conversation_declaration l.conversation-items in
+    let others = map conversation_declaration (drop l.number l.conversation-items) in
     record {
-      facts : map known l.all.items ++ known_from whole l.number others ≡ known_from whole 0 whole.conversations;
-      found : first_after l.first (flat_map (conversation_faults whole) others) ≡ first_after l.fn.first (flat_map (conversation_faults whole) whole.conversations);
+      facts : map known l.all.items ++ known_from whole l.number others ≡ known_from whole 0 all;
+      found : first_after l.first (flat_map (conversation_faults whole) others) ≡ first_after l.fn.first (flat_map (conversation_faults whole) all);
     }
