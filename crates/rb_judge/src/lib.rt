@@ -1,7 +1,4 @@
 // The verdict on a source: accepted with all that is made of it, or refused for its first fault.
 #![tactic(auto)]
 
-pub mod judge;
 pub mod laws;
-
-pub use judge::{Judged, judge};
