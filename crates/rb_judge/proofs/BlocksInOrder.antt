@@ -54,7 +54,8 @@ within number place {n = n} {k = k} {rest = rest} s = record {
 }
 
 mutual
-  command_splits : (n : ℕ) (command : Command) (rest : List Recovery) → Splits n (blocks_in_command command) (CommandNumbered n command) (command_told recoveries_alone command rest) rest
+  command_splits : (n : ℕ) (command : Command) (rest : List Recovery)
+      → Splits n (blocks_in_command command) (CommandNumbered n command) (command_told recoveries_alone command rest) rest
   command_splits n (Assignment to value) rest = flat n (no_reference to (expression_told recoveries_alone value rest) ∙ no_expression value rest)
   command_splits n (Printing items) rest = flat n (no_items items rest)
   command_splits n (Sending channel value) rest = flat n (no_expression value rest)
@@ -68,43 +69,51 @@ mutual
   command_splits n Failure rest = nothing n rest
   command_splits n (Recovering block) rest = recovery_splits n block rest
 
-  commands_splits : (n : ℕ) (commands : Commands) (rest : List Recovery) → Splits n (blocks_in commands) (CommandsNumbered n commands) (commands_told recoveries_alone commands rest) rest
+  commands_splits : (n : ℕ) (commands : Commands) (rest : List Recovery)
+      → Splits n (blocks_in commands) (CommandsNumbered n commands) (commands_told recoveries_alone commands rest) rest
   commands_splits n NoCommand rest = nothing n rest
   commands_splits n (Then first others) rest =
       both (command_splits n first (commands_told recoveries_alone others rest)) (commands_splits (n + blocks_in_command first) others rest)
 
-  body_splits : (n : ℕ) (body : Body) (rest : List Recovery) → Splits n (blocks_in_body body) (BodyNumbered n body) (body_told recoveries_alone body rest) rest
+  body_splits : (n : ℕ) (body : Body) (rest : List Recovery)
+      → Splits n (blocks_in_body body) (BodyNumbered n body) (body_told recoveries_alone body rest) rest
   body_splits n (Scope variables commands) rest =
       behind (no_declarations variables (commands_told recoveries_alone commands rest)) (commands_splits n commands rest)
 
-  otherwise_splits : (n : ℕ) (otherwise : Otherwise) (rest : List Recovery) → Splits n (blocks_in_otherwise otherwise) (OtherwiseNumbered n otherwise) (otherwise_told recoveries_alone otherwise rest) rest
+  otherwise_splits : (n : ℕ) (otherwise : Otherwise) (rest : List Recovery)
+      → Splits n (blocks_in_otherwise otherwise) (OtherwiseNumbered n otherwise) (otherwise_told recoveries_alone otherwise rest) rest
   otherwise_splits n NoElse rest = nothing n rest
   otherwise_splits n (Else body) rest = body_splits n body rest
 
-  recovery_splits : (n : ℕ) (block : RecoveryBlock) (rest : List Recovery) → Splits n (blocks_in_recovery block) (RecoveryNumbered n block) (recovery_told recoveries_alone block rest) rest
+  recovery_splits : (n : ℕ) (block : RecoveryBlock) (rest : List Recovery)
+      → Splits n (blocks_in_recovery block) (RecoveryNumbered n block) (recovery_told recoveries_alone block rest) rest
   recovery_splits n (Recovers number conversation place test bound alternates) rest =
       behind (no_conversation conversation (recovery_at number place ∷ expression_told recoveries_alone test (alternates_told recoveries_alone alternates rest)))
       (within number place (behind (no_expression test (alternates_told recoveries_alone alternates rest)) (alternates_splits (n + 1) alternates rest)))
 
-  alternates_splits : (n : ℕ) (alternates : Alternates) (rest : List Recovery) → Splits n (blocks_in_alternates alternates) (AlternatesNumbered n alternates) (alternates_told recoveries_alone alternates rest) rest
+  alternates_splits : (n : ℕ) (alternates : Alternates) (rest : List Recovery)
+      → Splits n (blocks_in_alternates alternates) (AlternatesNumbered n alternates) (alternates_told recoveries_alone alternates rest) rest
   alternates_splits n NoAlternate rest = nothing n rest
   alternates_splits n (Alternate body others) rest =
       both (body_splits n body (alternates_told recoveries_alone others rest)) (alternates_splits (n + blocks_in_body body) others rest)
 
-procedures_splits : (n : ℕ) (procedures : List ProcedureDeclaration) (rest : List Recovery) → Splits n (blocks_in_procedures procedures) (ProceduresNumbered n procedures) (each (procedure_told recoveries_alone) procedures rest) rest
+procedures_splits : (n : ℕ) (procedures : List ProcedureDeclaration) (rest : List Recovery)
+    → Splits n (blocks_in_procedures procedures) (ProceduresNumbered n procedures) (each (procedure_told recoveries_alone) procedures rest) rest
 procedures_splits n [] rest = nothing n rest
 procedures_splits n (procedure ∷ others) rest =
     let later : List Recovery = each (procedure_told recoveries_alone) others rest in
     behind (no_names procedure.parameters (body_told recoveries_alone procedure.body later))
     (both (body_splits n procedure.body later) (procedures_splits (n + blocks_in_body procedure.body) others rest))
 
-process_splits : (n : ℕ) (process : ProcessDeclaration) (rest : List Recovery) → Splits n (blocks_in_process process) (ProcessNumbered n process) (process_told recoveries_alone process rest) rest
+process_splits : (n : ℕ) (process : ProcessDeclaration) (rest : List Recovery)
+    → Splits n (blocks_in_process process) (ProcessNumbered n process) (process_told recoveries_alone process rest) rest
 process_splits n process rest =
     let commands : List Recovery = commands_told recoveries_alone process.commands rest in
     behind (no_declarations process.variables (each (procedure_told recoveries_alone) process.procedures commands))
     (both (procedures_splits n process.procedures commands) (commands_splits (n + blocks_in_procedures process.procedures) process.commands rest))
 
-processes_splits : (n : ℕ) (processes : List ProcessDeclaration) (rest : List Recovery) → Splits n (blocks_in_processes processes) (ProcessesNumbered n processes) (each (process_told recoveries_alone) processes rest) rest
+processes_splits : (n : ℕ) (processes : List ProcessDeclaration) (rest : List Recovery)
+    → Splits n (blocks_in_processes processes) (ProcessesNumbered n processes) (each (process_told recoveries_alone) processes rest) rest
 processes_splits n [] rest = nothing n rest
 processes_splits n (process ∷ others) rest =
     both (process_splits n process (each (process_told recoveries_alone) others rest)) (processes_splits (n + blocks_in_process process) others rest)

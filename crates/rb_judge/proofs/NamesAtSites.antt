@@ -59,12 +59,14 @@ no_size : (n : ℕ) (size : Option Number) (rest : List Identifier) → IsTold n
 no_size n None rest = nothing n rest
 no_size n (Some size) rest = record { as_often = (nothing n rest).as_often }
 
-pub no_sizes : (n : ℕ) (variables : List Declaration) (rest : List Identifier) → IsTold n rest (flat_map (λ one. size_sites one.size) variables) rest
+pub no_sizes : (n : ℕ) (variables : List Declaration) (rest : List Identifier)
+    → IsTold n rest (flat_map (λ one. size_sites one.size) variables) rest
 no_sizes n [] rest = nothing n rest
 no_sizes n (one ∷ others) rest = both (no_size n one.size rest) (no_sizes n others rest)
 
 mutual
-  pub expression_names : (n : ℕ) (spot : Spot) (e : Expression) (rest : List Identifier) → IsTold n (expression_told names_alone e rest) (expression_sites spot e) rest
+  pub expression_names : (n : ℕ) (spot : Spot) (e : Expression) (rest : List Identifier)
+      → IsTold n (expression_told names_alone e rest) (expression_sites spot e) rest
   expression_names n spot (Literal number) rest = nothing n rest
   expression_names n spot (Variable reference) rest = reference_names n spot AValue reference rest
   expression_names n spot (Former place reference) rest = record { as_often = (reference_names n spot AScalar reference rest).as_often }
@@ -83,42 +85,50 @@ mutual
             (expression_names n (within (counter name spot ∷ []) 0 inside) body rest)))).as_often;
       }
 
-  pub reference_names : (n : ℕ) (spot : Spot) (want : Want) (r : Reference) (rest : List Identifier) → IsTold n (reference_told names_alone r rest) (reference_sites spot want r) rest
+  pub reference_names : (n : ℕ) (spot : Spot) (want : Want) (r : Reference) (rest : List Identifier)
+      → IsTold n (reference_told names_alone r rest) (reference_sites spot want r) rest
   reference_names n spot want (Refer name Scalar) rest = using want name spot.scopes (nothing n rest)
   reference_names n spot want (Refer name (Element index)) rest = using _ name spot.scopes (expression_names n spot index rest)
 
-  pub links_names : (n : ℕ) (spot : Spot) (links : Links) (rest : List Identifier) → IsTold n (links_told names_alone links rest) (links_sites spot links) rest
+  pub links_names : (n : ℕ) (spot : Spot) (links : Links) (rest : List Identifier)
+      → IsTold n (links_told names_alone links rest) (links_sites spot links) rest
   links_names n spot NoLink rest = nothing n rest
   links_names n spot (Linked op right links) rest =
       both (expression_names n spot right (links_told names_alone links rest)) (links_names n spot links rest)
 
-arguments_names : (n : ℕ) (spot : Spot) (arguments : List Expression) (rest : List Identifier) → IsTold n (each (expression_told names_alone) arguments rest) (flat_map (expression_sites spot) arguments) rest
+arguments_names : (n : ℕ) (spot : Spot) (arguments : List Expression) (rest : List Identifier)
+    → IsTold n (each (expression_told names_alone) arguments rest) (flat_map (expression_sites spot) arguments) rest
 arguments_names n spot [] rest = nothing n rest
 arguments_names n spot (argument ∷ arguments) rest =
     both (expression_names n spot argument (each (expression_told names_alone) arguments rest)) (arguments_names n spot arguments rest)
 
-printed_names : (n : ℕ) (spot : Spot) (what : Printed) (rest : List Identifier) → IsTold n (printed_told names_alone what rest) (printed_sites spot what) rest
+printed_names : (n : ℕ) (spot : Spot) (what : Printed) (rest : List Identifier)
+    → IsTold n (printed_told names_alone what rest) (printed_sites spot what) rest
 printed_names n spot (Words text) rest = nothing n rest
 printed_names n spot (Amount value) rest = expression_names n spot value rest
 
-items_names : (n : ℕ) (spot : Spot) (items : List PrintItem) (rest : List Identifier) → IsTold n (each (item_told names_alone) items rest) (flat_map (λ item. printed_sites spot item.what) items) rest
+items_names : (n : ℕ) (spot : Spot) (items : List PrintItem) (rest : List Identifier)
+    → IsTold n (each (item_told names_alone) items rest) (flat_map (λ item. printed_sites spot item.what) items) rest
 items_names n spot [] rest = nothing n rest
 items_names n spot (item ∷ items) rest =
     both (printed_names n spot item.what (each (item_told names_alone) items rest)) (items_names n spot items rest)
 
-joined_names : (n : ℕ) (spot : Spot) (conversation : Option Identifier) (rest : List Identifier) → IsTold n (if_named names_alone conversation rest) (joined_sites spot conversation) rest
+joined_names : (n : ℕ) (spot : Spot) (conversation : Option Identifier) (rest : List Identifier)
+    → IsTold n (if_named names_alone conversation rest) (joined_sites spot conversation) rest
 joined_names n spot None rest = nothing n rest
 joined_names n spot (Some name) rest = using _ name spot.scopes (nothing n rest)
 
 -- variables are told as they are declared in a scope
-pub variables_names : (n : ℕ) (slot : ℕ → Option ℕ → Slot) (at : ℕ) (earlier : List Declared) (variables : List Declaration) (rest : List Identifier)
+pub variables_names : (n : ℕ) (slot : ℕ → Option ℕ
+    → Slot) (at : ℕ) (earlier : List Declared) (variables : List Declaration) (rest : List Identifier)
     → IsTold n (each (declaration_told names_alone) variables rest) (scope_sites earlier (variables_from slot at variables)) rest
 variables_names n slot at earlier [] rest = nothing n rest
 variables_names n slot at earlier (one ∷ others) rest =
     declaring earlier _ (variables_names n slot (at + words_of one.size) (earlier ++ _ ∷ []) others rest)
 
 mutual
-  pub command_names : (n : ℕ) (spot : Spot) (command : Command) (rest : List Identifier) → IsTold n (command_told names_alone command rest) (command_sites spot command) rest
+  pub command_names : (n : ℕ) (spot : Spot) (command : Command) (rest : List Identifier)
+      → IsTold n (command_told names_alone command rest) (command_sites spot command) rest
   command_names n spot (Assignment to value) rest =
       both (reference_names n spot AScalar to (expression_told names_alone value rest)) (expression_names n spot value rest)
   command_names n spot (Printing items) rest =
@@ -137,29 +147,34 @@ mutual
   command_names n spot Failure rest = nothing n rest
   command_names n spot (Recovering block) rest = recovery_names n spot block rest
 
-  pub commands_names : (n : ℕ) (spot : Spot) (commands : Commands) (rest : List Identifier) → IsTold n (commands_told names_alone commands rest) (commands_sites spot commands) rest
+  pub commands_names : (n : ℕ) (spot : Spot) (commands : Commands) (rest : List Identifier)
+      → IsTold n (commands_told names_alone commands rest) (commands_sites spot commands) rest
   commands_names n spot NoCommand rest = nothing n rest
   commands_names n spot (Then first others) rest =
       both (command_names n spot first (commands_told names_alone others rest)) (commands_names n spot others rest)
 
-  pub body_names : (n : ℕ) (spot : Spot) (body : Body) (rest : List Identifier) → IsTold n (body_told names_alone body rest) (body_sites spot body) rest
+  pub body_names : (n : ℕ) (spot : Spot) (body : Body) (rest : List Identifier)
+      → IsTold n (body_told names_alone body rest) (body_sites spot body) rest
   body_names n spot (Scope variables commands) rest =
       let told : List Identifier = commands_told names_alone commands rest in
       both (variables_names n Local spot.taken [] variables told)
       (both (no_sizes n variables told)
       (commands_names n (within (variables_from Local spot.taken variables) (words_in variables) spot) commands rest))
 
-  pub otherwise_names : (n : ℕ) (spot : Spot) (otherwise : Otherwise) (rest : List Identifier) → IsTold n (otherwise_told names_alone otherwise rest) (otherwise_sites spot otherwise) rest
+  pub otherwise_names : (n : ℕ) (spot : Spot) (otherwise : Otherwise) (rest : List Identifier)
+      → IsTold n (otherwise_told names_alone otherwise rest) (otherwise_sites spot otherwise) rest
   otherwise_names n spot NoElse rest = nothing n rest
   otherwise_names n spot (Else body) rest = body_names n spot body rest
 
-  pub recovery_names : (n : ℕ) (spot : Spot) (block : RecoveryBlock) (rest : List Identifier) → IsTold n (recovery_told names_alone block rest) (recovery_sites spot block) rest
+  pub recovery_names : (n : ℕ) (spot : Spot) (block : RecoveryBlock) (rest : List Identifier)
+      → IsTold n (recovery_told names_alone block rest) (recovery_sites spot block) rest
   recovery_names n spot (Recovers number conversation place test bound alternates) rest =
       let told : List Identifier = alternates_told names_alone alternates rest in
       both (joined_names n spot conversation (expression_told names_alone test told))
       (both (expression_names n (tested spot) test told) (record { as_often = (alternates_names n spot alternates rest).as_often }))
 
-  pub alternates_names : (n : ℕ) (spot : Spot) (alternates : Alternates) (rest : List Identifier) → IsTold n (alternates_told names_alone alternates rest) (alternates_sites spot alternates) rest
+  pub alternates_names : (n : ℕ) (spot : Spot) (alternates : Alternates) (rest : List Identifier)
+      → IsTold n (alternates_told names_alone alternates rest) (alternates_sites spot alternates) rest
   alternates_names n spot NoAlternate rest = nothing n rest
   alternates_names n spot (Alternate body others) rest =
       both (body_names n spot body (alternates_told names_alone others rest)) (alternates_names n spot others rest)

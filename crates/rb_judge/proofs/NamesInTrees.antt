@@ -30,7 +30,8 @@ at_scope n earlier [] = refl
 at_scope n earlier (one ∷ others) = let later = at_scope n (earlier ++ one ∷ []) others in omega arith
 
 -- a declaration that takes its place among others is one more
-among-take_place : (n : ℕ) (one : Declared) (others : List Declared) → among n (take_place one others) ≡ hit n one.name.id + among n others
+among-take_place : (n : ℕ) (one : Declared) (others : List Declared)
+    → among n (take_place one others) ≡ hit n one.name.id + among n others
 among-take_place n one [] = refl
 among-take_place n one (other ∷ others) =
     let later = among-take_place n one others in
@@ -75,7 +76,8 @@ procedures_names n k spot (one ∷ others) rest =
     omega arith
 
 -- the words that variables take have no names
-no_words : (n most before : ℕ) (variables : List Declaration) (rest : List Identifier) → IsTold n rest (words_sites most before variables) rest
+no_words : (n most before : ℕ) (variables : List Declaration) (rest : List Identifier)
+    → IsTold n rest (words_sites most before variables) rest
 no_words n most before [] rest = nothing n rest
 no_words n most before (one ∷ others) rest = record { as_often = (no_words n most (before + words_of one.size) others rest).as_often }
 
@@ -119,7 +121,8 @@ channels_names : (n k : ℕ) (spot : Spot) (channels : List ChannelDeclaration) 
 channels_names n k spot [] rest = omega arith
 channels_names n k spot (one ∷ others) rest = let later = channels_names n (k + 1) spot others rest in omega arith
 
-members_names : (n : ℕ) (spot : Spot) (members : List Identifier) (rest : List Identifier) → IsTold n (each names_alone.name members rest) (member_sites spot members) rest
+members_names : (n : ℕ) (spot : Spot) (members : List Identifier) (rest : List Identifier)
+    → IsTold n (each names_alone.name members rest) (member_sites spot members) rest
 members_names n spot [] rest = nothing n rest
 members_names n spot (name ∷ names) rest = using _ name spot.scopes (members_names n spot names rest)
 

@@ -24,7 +24,8 @@ mutual
   no_links NoLink rest = refl
   no_links (Linked op right links) rest = no_expression right (links_told recoveries_alone links rest) ∙ no_links links rest
 
-pub no_arguments : (arguments : List Expression) (rest : List Recovery) → each (expression_told recoveries_alone) arguments rest ≡ rest
+pub no_arguments : (arguments : List Expression) (rest : List Recovery)
+    → each (expression_told recoveries_alone) arguments rest ≡ rest
 no_arguments [] rest = refl
 no_arguments (argument ∷ arguments) rest =
     no_expression argument (each (expression_told recoveries_alone) arguments rest) ∙ no_arguments arguments rest
@@ -41,7 +42,8 @@ pub no_names : (names : List Identifier) (rest : List Recovery) → each recover
 no_names [] rest = refl
 no_names (name ∷ names) rest = no_names names rest
 
-pub no_declarations : (variables : List Declaration) (rest : List Recovery) → each (declaration_told recoveries_alone) variables rest ≡ rest
+pub no_declarations : (variables : List Declaration) (rest : List Recovery)
+    → each (declaration_told recoveries_alone) variables rest ≡ rest
 no_declarations [] rest = refl
 no_declarations (one ∷ others) rest = no_declarations others rest
 

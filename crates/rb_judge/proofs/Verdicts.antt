@@ -27,7 +27,8 @@ by_scopes : (source : List ℕ) (tree : Tree) → HasTree source tree
 by_scopes source tree h (inl scoped) = by_nesting source tree h scoped (nesting.are_judged tree)
 by_scopes source tree h (inr (fault, first)) = inr (fault, in_scopes tree h first)
 
-by_text : (source : List ℕ) → ((tree : Tree) × HasTree source tree) ⊎ ((fault : SourceFault) × RefusedFor source fault) → IsJudgedSomehow source
+by_text : (source : List ℕ) → ((tree : Tree) × HasTree source tree) ⊎ ((fault : SourceFault) × RefusedFor source fault)
+    → IsJudgedSomehow source
 by_text source (inl (tree, h)) = by_scopes source tree h (scopes.are_judged tree)
 by_text source (inr (fault, r)) = inr (fault, in_text r)
 

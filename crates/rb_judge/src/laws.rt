@@ -2,6 +2,7 @@
 
 ghost use Rattle.rb_meaning.specs.Nesting.{IsNested};
 ghost use Rattle.rb_meaning.specs.Laws.{HasNestedLevels, HoldsMessagesInSlots, IsAlwaysErased, IsErasedInText, KeepsRejectionsInside, PassesTogether, ReadsFromSlots, TakesNothingBack, TriesTogether};
+ghost use Rattle.rb_scope.specs.Limits.{HasDistinctNames, IsWithinLimits};
 ghost use Rattle.rb_judge.specs.Laws.{HaveVerdicts, HaveOneVerdict, IsShallow, OfEveryAccepted, ParsedAreNumbered, ParsedHaveOwnNumbers};
 
 /// Each source is accepted or refused.
@@ -27,6 +28,16 @@ pub fn parsed_are_numbered()
 /// An accepted source is nested as the laws of the meaning ask.
 pub fn accepted_are_nested()
     ensures { OfEveryAccepted IsNested }
+{}
+
+/// It is within the limits: its lists are short, and its sizes and turn bounds lie in their ranges.
+pub fn accepted_are_within_limits()
+    ensures { OfEveryAccepted IsWithinLimits }
+{}
+
+/// Its processes, channels and conversations have names of their own.
+pub fn accepted_have_distinct_names()
+    ensures { OfEveryAccepted HasDistinctNames }
 {}
 
 /// At most 901 of its statements and expressions stand inside each other.
