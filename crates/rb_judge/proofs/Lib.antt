@@ -9,3 +9,4 @@ pub mod OwnNumbers
 -- Verdicts, and what holds of accepted sources.
 pub mod Verdicts
 pub mod Accepted
+pub mod Stages
