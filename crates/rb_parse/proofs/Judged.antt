@@ -7,21 +7,21 @@ use Rattle.rb_base.specs.declared.fault.FaultName.TheVariants.{Y1}
 use Rattle.rb_lex.proofs.Lists.{has_list}
 use Rattle.rb_lex.specs.Tokens.{Lexeme, Ending, AtEnd, AtFault, Tokens}
 use Rattle.rb_lex.specs.TokenList.{tokens_of, ending_of}
-use Rattle.rb_parse.specs.Allowed.{too_deep, allowed_of, ending_allowed_of}
-use Rattle.rb_parse.specs.declared.stop.Stop.{Stop}
-use Rattle.rb_parse.specs.declared.stop.Stop.TheVariants as stops
-use Rattle.rb_parse.specs.Grammar.{Point, DerivesTree, start_of}
-use Rattle.rb_parse.specs.Laws.{GoesOn}
-use Rattle.rb_parse.specs.Machine.{Accepted, Refused, Reads, Stops, run, whole}
-use Rattle.rb_parse.specs.Parts.{Part}
-use Rattle.rb_parse.specs.Plans.{Done}
-use Rattle.rb_parse.specs.Reading.{Position, Exhausts, IsNotRead, IsPlaceOf, is_nothing}
-use Rattle.rb_parse.specs.Verdict.{RefusedFor, bad_token, stray_token, early_end, deep_bracket, HasTree}
-use Rattle.rb_parse.proofs.Accepted.{accepted_derives}
-use Rattle.rb_parse.proofs.Counted.{Given, all_given, last_given, few_none, given, is_given}
-use Rattle.rb_parse.proofs.GoesOn.{EndsIn, refused_left, first_bad_token, ends_too_early, exhausted_goes_on, nothing_goes_on}
-use Rattle.rb_parse.proofs.Reaching.{at_form, at_token}
-use Rattle.rb_parse.proofs.Running.{run_done, run_too_long}
+use Rattle.rb_grammar.specs.Allowed.{too_deep, allowed_of, ending_allowed_of}
+use Rattle.rb_grammar.specs.declared.stop.Stop.{Stop}
+use Rattle.rb_grammar.specs.declared.stop.Stop.TheVariants as stops
+use Rattle.rb_grammar.specs.Grammar.{Point, DerivesTree, start_of}
+use Rattle.rb_grammar.specs.Laws.{GoesOn}
+use Rattle.rb_grammar.specs.Machine.{Accepted, Refused, Reads, Stops, run, whole}
+use Rattle.rb_grammar.specs.Parts.{Part}
+use Rattle.rb_grammar.specs.Plans.{Done}
+use Rattle.rb_grammar.specs.Reading.{Position, Exhausts, IsNotRead, IsPlaceOf, is_nothing}
+use Rattle.rb_grammar.specs.Verdict.{RefusedFor, bad_token, stray_token, early_end, deep_bracket, HasTree}
+use Rattle.rb_grammar.proofs.Accepted.{accepted_derives}
+use Rattle.rb_grammar.proofs.Counted.{Given, all_given, last_given, few_none, given, is_given}
+use Rattle.rb_grammar.proofs.GoesOn.{EndsIn, refused_left, first_bad_token, ends_too_early, exhausted_goes_on, nothing_goes_on}
+use Rattle.rb_grammar.proofs.Reaching.{at_form, at_token}
+use Rattle.rb_grammar.proofs.Running.{run_done, run_too_long}
 use Rattle.rb_syntax.specs.Tree.{Tree}
 
 nothing_left : (left : List Lexeme) → is_nothing left ≡ true → left ≡ []
@@ -67,7 +67,8 @@ same_name : (fault : SourceFault) → fault.name ≡ Y1 → fault ≡ y1_at faul
 same_name fault e = ap (λ name. let f : SourceFault = record { name = name; place = fault.place } in f) e
 
 -- a tree of all tokens
-pub tree_by : (source : List ℕ) (tree : Tree) (at : Place) → DerivesTree tree (allowed_of source) → ending_allowed_of source ≡ AtEnd at → Counted source → HasTree source tree
+pub tree_by : (source : List ℕ) (tree : Tree) (at : Place) → DerivesTree tree (allowed_of source) →
+    ending_allowed_of source ≡ AtEnd at → Counted source → HasTree source tree
 tree_by source tree at d e (all_given few same ends) = record {
   tokens = tokens_of source;
   at = at;
@@ -79,7 +80,8 @@ tree_by source tree at d e (last_given before after token is same ends few many)
     absurd (let never : AtFault (too_deep token) ≡ AtEnd at = sym ends ∙ e in cc)
 
 -- a fault behind tokens that were all taken
-pub fault_by : (source : List ℕ) (fault : SourceFault) → GoesOn (allowed_of source) → ending_allowed_of source ≡ AtFault fault → Counted source → RefusedFor source fault
+pub fault_by : (source : List ℕ) (fault : SourceFault) → GoesOn (allowed_of source) → ending_allowed_of source ≡ AtFault fault →
+    Counted source → RefusedFor source fault
 fault_by source fault g e (all_given few same ends) =
     bad_token (record {
       tokens = tokens_of source;
@@ -102,7 +104,8 @@ fault_by source fault g e (last_given before after token is same ends few many) 
     })
 
 -- a text that ends before its tree does
-pub early_by : (source : List ℕ) (fault : SourceFault) (at : Place) → run whole (start_of (allowed_of source)) ≡ Refused [] → ending_allowed_of source ≡ AtEnd at → fault ≡ record { name = Y1; place = at } → Counted source → RefusedFor source fault
+pub early_by : (source : List ℕ) (fault : SourceFault) (at : Place) → run whole (start_of (allowed_of source)) ≡ Refused [] →
+    ending_allowed_of source ≡ AtEnd at → fault ≡ record { name = Y1; place = at } → Counted source → RefusedFor source fault
 early_by source fault at r e is (all_given few same ends) =
     let early = ends_too_early (tokens_of source) (subst (λ ts. run whole (start_of ts) ≡ Refused []) same r) in
     early_end (record {
@@ -117,7 +120,9 @@ early_by source fault at r e is (last_given before after token tokens_are same e
     absurd (let never : AtFault (too_deep token) ≡ AtEnd at = sym ends ∙ e in cc)
 
 -- a token that no row takes
-pub stray_by : (source : List ℕ) (fault : SourceFault) (before after : List Lexeme) (token : Lexeme) → allowed_of source ≡ before ++ (token ∷ after) → run whole (start_of (allowed_of source)) ≡ Refused (token ∷ after) → fault ≡ record { name = Y1; place = token.place } → RefusedFor source fault
+pub stray_by : (source : List ℕ) (fault : SourceFault) (before after : List Lexeme) (token : Lexeme) →
+    allowed_of source ≡ before ++ (token ∷ after) → run whole (start_of (allowed_of source)) ≡ Refused (token ∷ after) →
+    fault ≡ record { name = Y1; place = token.place } → RefusedFor source fault
 stray_by source fault before after token e r is =
     let bad = first_bad_token before after token (subst (λ ts. run whole (start_of ts) ≡ Refused (token ∷ after)) e r) in
     let all = is_given 0 (tokens_of source) before token after (omega arith) e in
@@ -132,7 +137,9 @@ stray_by source fault before after token e r is =
       is = is;
     })
 
-stray_from : (source : List ℕ) (fault : SourceFault) (left : List Lexeme) → EndsIn (allowed_of source) left → run whole (start_of (allowed_of source)) ≡ Refused left → IsPlaceOf left (ending_allowed_of source) fault.place → fault.name ≡ Y1 → RefusedFor source fault
+stray_from : (source : List ℕ) (fault : SourceFault) (left : List Lexeme) → EndsIn (allowed_of source) left →
+    run whole (start_of (allowed_of source)) ≡ Refused left → IsPlaceOf left (ending_allowed_of source) fault.place →
+    fault.name ≡ Y1 → RefusedFor source fault
 stray_from source fault [] ends r at named =
     early_by source fault fault.place r at (same_name fault named) (counted source)
 stray_from source fault (token ∷ after) ends r at named =
@@ -142,32 +149,43 @@ stray_from source fault (token ∷ after) ends r at named =
 abbrev beginning : List ℕ → Position
 beginning source = record { point = start_of (allowed_of source); ending = ending_allowed_of source }
 
-pub tree_told : (source : List ℕ) (tree : Tree) (at now : Position) → at ≡ beginning source → now.ending ≡ at.ending → Reads Part.Program tree at.point now.point → is_nothing now.point.left ≡ true → (end : Place) × (now.ending ≡ AtEnd end) → HasTree source tree
+pub tree_told : (source : List ℕ) (tree : Tree) (at now : Position) → at ≡ beginning source → now.ending ≡ at.ending →
+    Reads Part.Program tree at.point now.point → is_nothing now.point.left ≡ true → (end : Place) × (now.ending ≡ AtEnd end) →
+    HasTree source tree
 tree_told source tree at now begun same r none ended =
     let all = read_all (subst (λ p. Reads Part.Program tree p.point now.point) begun r) none in
     tree_by source tree ended.0 (accepted_derives (allowed_of source) tree all) (sym (same ∙ ap (λ p. p.ending) begun) ∙ ended.1) (counted source)
 
-stray_told : (source : List ℕ) (fault : SourceFault) (at now : Position) → at ≡ beginning source → now.ending ≡ at.ending → run whole at.point ≡ Refused now.point.left → IsPlaceOf now.point.left now.ending fault.place → fault.name ≡ Y1 → RefusedFor source fault
+stray_told : (source : List ℕ) (fault : SourceFault) (at now : Position) → at ≡ beginning source → now.ending ≡ at.ending →
+    run whole at.point ≡ Refused now.point.left → IsPlaceOf now.point.left now.ending fault.place → fault.name ≡ Y1 →
+    RefusedFor source fault
 stray_told source fault at now begun same r here named =
     let stops : run whole (start_of (allowed_of source)) ≡ Refused now.point.left =
     subst (λ p. run whole p.point ≡ Refused now.point.left) begun r in
-    stray_from source fault now.point.left (refused_left (allowed_of source) 0 0 whole now.point.left stops) stops (subst (λ e. IsPlaceOf now.point.left e fault.place) (same ∙ ap (λ p. p.ending) begun) here) named
+    stray_from source fault now.point.left (refused_left (allowed_of source) 0 0 whole now.point.left stops) stops
+    (subst (λ e. IsPlaceOf now.point.left e fault.place) (same ∙ ap (λ p. p.ending) begun) here) named
 
 -- a token behind a whole program
-pub more_told : (source : List ℕ) (fault : SourceFault) (tree : Tree) (at now : Position) → at ≡ beginning source → now.ending ≡ at.ending → Reads Part.Program tree at.point now.point → is_nothing now.point.left ≡ false → IsPlaceOf now.point.left now.ending fault.place → fault.name ≡ Y1 → RefusedFor source fault
+pub more_told : (source : List ℕ) (fault : SourceFault) (tree : Tree) (at now : Position) → at ≡ beginning source →
+    now.ending ≡ at.ending → Reads Part.Program tree at.point now.point → is_nothing now.point.left ≡ false →
+    IsPlaceOf now.point.left now.ending fault.place → fault.name ≡ Y1 → RefusedFor source fault
 more_told source fault tree at now begun same r some here named =
     stray_told source fault at now begun same (read_part r some) here named
 
 -- a form that is not there
-pub form_told : (source : List ℕ) (fault : SourceFault) (stop : Stop) (at now : Position) → at ≡ beginning source → now.ending ≡ at.ending → IsNotRead Part.Program at now stop → stop ≡ stops.Form → IsPlaceOf now.point.left now.ending fault.place → fault.name ≡ Y1 → RefusedFor source fault
+pub form_told : (source : List ℕ) (fault : SourceFault) (stop : Stop) (at now : Position) → at ≡ beginning source →
+    now.ending ≡ at.ending → IsNotRead Part.Program at now stop → stop ≡ stops.Form →
+    IsPlaceOf now.point.left now.ending fault.place → fault.name ≡ Y1 → RefusedFor source fault
 form_told source fault stop at now begun same h e here named =
     stray_told source fault at now begun same (read_none (at_form h e)) here named
 
 -- a fault behind tokens that were all taken
-pub fault_told : (source : List ℕ) (fault : SourceFault) (stop : Stop) (at now : Position) → at ≡ beginning source → IsNotRead Part.Program at now stop → stop ≡ stops.Token fault → RefusedFor source fault
+pub fault_told : (source : List ℕ) (fault : SourceFault) (stop : Stop) (at now : Position) → at ≡ beginning source →
+    IsNotRead Part.Program at now stop → stop ≡ stops.Token fault → RefusedFor source fault
 fault_told source fault stop at now begun h e =
     let told = at_token fault h e in
-    fault_by source fault (exhausted_goes_on (allowed_of source) (subst (λ p. Exhausts Part.Program p.point) begun told.1)) (ap (λ p. p.ending) (sym begun) ∙ told.0) (counted source)
+    fault_by source fault (exhausted_goes_on (allowed_of source) (subst (λ p. Exhausts Part.Program p.point) begun told.1))
+    (ap (λ p. p.ending) (sym begun) ∙ told.0) (counted source)
 
 -- a fault before any token
 pub first_told : (source : List ℕ) (fault : SourceFault) → tokens_of source ≡ [] → ending_of source ≡ AtFault fault → RefusedFor source fault

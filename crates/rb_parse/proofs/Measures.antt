@@ -1,7 +1,7 @@
 -- How deep the parts of an expression may nest before a token is taken.
 use Rattle.std.proofs.Common.{ℕ}
-use Rattle.rb_parse.specs.declared.level.Level.{Level}
-use Rattle.rb_parse.specs.declared.level.Level.TheVariants as levels
+use Rattle.rb_grammar.specs.declared.level.Level.{Level}
+use Rattle.rb_grammar.specs.declared.level.Level.TheVariants as levels
 
 abbrev pub chain_rank : Level → ℕ
 chain_rank levels.Disjunction = 30

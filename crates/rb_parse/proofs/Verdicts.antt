@@ -6,16 +6,16 @@ use Rattle.rb_base.specs.declared.fault.SourceFault.{SourceFault}
 use Rattle.rb_base.specs.declared.place.Place.{Place}
 use Rattle.rb_lex.proofs.Lists.{one_list}
 use Rattle.rb_lex.specs.Tokens.{Lexeme, Ending, AtEnd, AtFault, Tokens}
-use Rattle.rb_parse.specs.Allowed.{too_deep, allowed_of, ending_allowed_of}
-use Rattle.rb_parse.specs.Grammar.{DerivesTree, start_of}
-use Rattle.rb_parse.specs.Laws.{GoesOn}
-use Rattle.rb_parse.specs.Machine.{Outcome, Accepted, Refused, run, whole}
-use Rattle.rb_parse.specs.Verdict.{MayBegin, HasTree, RefusedFor, bad_token, stray_token, early_end, deep_bracket}
-use Rattle.rb_parse.specs.VerdictLaws.{HasVerdict, HasOneVerdict}
-use Rattle.rb_parse.proofs.Accepted.{accepted_derives}
-use Rattle.rb_parse.proofs.Complete.{one_tree}
-use Rattle.rb_parse.proofs.Counted.{few_before}
-use Rattle.rb_parse.proofs.GoesOn.{EndsIn, refused_left, ends_too_early}
+use Rattle.rb_grammar.specs.Allowed.{too_deep, allowed_of, ending_allowed_of}
+use Rattle.rb_grammar.specs.Grammar.{DerivesTree, start_of}
+use Rattle.rb_grammar.specs.Laws.{GoesOn}
+use Rattle.rb_grammar.specs.Machine.{Outcome, Accepted, Refused, run, whole}
+use Rattle.rb_grammar.specs.Verdict.{MayBegin, HasTree, RefusedFor, bad_token, stray_token, early_end, deep_bracket}
+use Rattle.rb_grammar.specs.VerdictLaws.{HasVerdict, HasOneVerdict}
+use Rattle.rb_grammar.proofs.Accepted.{accepted_derives}
+use Rattle.rb_grammar.proofs.Complete.{one_tree}
+use Rattle.rb_grammar.proofs.Counted.{few_before}
+use Rattle.rb_grammar.proofs.GoesOn.{EndsIn, refused_left, ends_too_early}
 use Rattle.rb_parse.proofs.Judged.{begins_on, counted, y1_at, tree_by, fault_by, early_by, stray_by}
 use Rattle.rb_parse.proofs.Splits.{Compared, same, shorter, longer, compared}
 use Rattle.rb_syntax.specs.Tree.{Tree}
@@ -25,7 +25,8 @@ derived_goes_on : (tokens : List Lexeme) (tree : Tree) → DerivesTree tree toke
 derived_goes_on tokens tree d = ([], tree, subst (λ ts. DerivesTree tree ts) (sym (append-nil tokens)) d)
 
 -- what the machine makes of the tokens that a cursor gives, and how these end, gives the verdict
-verdict_of : (source : List ℕ) (outcome : Outcome) (ending : Ending) → run whole (start_of (allowed_of source)) ≡ outcome → ending_allowed_of source ≡ ending → ((tree : Tree) × HasTree source tree) ⊎ ((fault : SourceFault) × RefusedFor source fault)
+verdict_of : (source : List ℕ) (outcome : Outcome) (ending : Ending) → run whole (start_of (allowed_of source)) ≡ outcome →
+    ending_allowed_of source ≡ ending → ((tree : Tree) × HasTree source tree) ⊎ ((fault : SourceFault) × RefusedFor source fault)
 verdict_of source (Accepted tree) (AtEnd at) r e =
     inl (tree, tree_by source tree at (accepted_derives (allowed_of source) tree r) e (counted source))
 verdict_of source (Accepted tree) (AtFault fault) r e =
@@ -81,8 +82,10 @@ fault_of (AtFault fault) = fault
 
 -- why a text is refused: for how its tokens end, or for one of them
 data Why (bytes : List ℕ) (fault : SourceFault) : Type 0 where
-  by_ending : (tokens : List Lexeme) (ending : Ending) → Tokens bytes tokens ending → MayBegin tokens → ((at : Place) (tree : Tree) → ending ≡ AtEnd at → DerivesTree tree tokens → ⊥) → fault ≡ fault_of ending → Why bytes fault
-  by_break : (before after : List Lexeme) (token : Lexeme) (ending : Ending) → Tokens bytes (before ++ token ∷ after) ending → Break before token → Faulty before token fault → Why bytes fault
+  by_ending : (tokens : List Lexeme) (ending : Ending) → Tokens bytes tokens ending → MayBegin tokens →
+      ((at : Place) (tree : Tree) → ending ≡ AtEnd at → DerivesTree tree tokens → ⊥) → fault ≡ fault_of ending → Why bytes fault
+  by_break : (before after : List Lexeme) (token : Lexeme) (ending : Ending) → Tokens bytes (before ++ token ∷ after) ending →
+      Break before token → Faulty before token fault → Why bytes fault
 
 why : (bytes : List ℕ) (fault : SourceFault) → RefusedFor bytes fault → Why bytes fault
 why bytes fault (bad_token b) =
@@ -121,4 +124,9 @@ one_tree_told bytes t u h i =
     one_tree i.tokens t u (subst (λ ts. DerivesTree t ts) one.0 h.derived) i.derived
 
 pub has_one_verdict : HasOneVerdict
-has_one_verdict bytes = (one_tree_told bytes, λ f g h i. one_fault bytes f g (why bytes f h) (why bytes g i), λ tree fault h i. not_refused bytes tree fault h (why bytes fault i))
+has_one_verdict bytes = (
+  one_tree_told bytes,
+  λ f g h i. one_fault bytes f g (why bytes f h) (why bytes g i),
+  λ tree fault h i.
+      not_refused bytes tree fault h (why bytes fault i),
+)

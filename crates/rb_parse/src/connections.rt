@@ -1,14 +1,12 @@
+//! Channels and conversations.
 ghost use Rattle.std.specs.Prelude.{◌≡◌, ◌≤◌, ◌<◌, length, map, IfOk, IfErr, OnOk};
-ghost use Rattle.rb_parse.specs.Machine.{Reads};
-ghost use Rattle.rb_parse.specs.Parts.{Part};
-ghost use Rattle.rb_parse.specs.Reading.{IsNotRead};
+ghost use Rattle.rb_grammar.specs.Machine.{Reads};
+ghost use Rattle.rb_grammar.specs.Parts.{Part};
+ghost use Rattle.rb_grammar.specs.Reading.{IsNotRead};
 ghost use Rattle.rb_syntax.specs.Plain.{channel_declaration, conversation_declaration};
 
-use crate::cursor::Cursor;
 use crate::declarations::read_names;
-use crate::numbers::read_number;
-use crate::stop::Stop;
-use crate::terminal::Terminal;
+use rb_grammar::{Cursor, Stop, Terminal, read_number};
 use rb_syntax::{Channel, Conversation};
 use std::alloc::Global;
 

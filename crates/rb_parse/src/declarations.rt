@@ -1,13 +1,11 @@
+//! Declarations of variables, and lists of names.
 ghost use Rattle.std.specs.Prelude.{◌≡◌, ◌≤◌, ◌<◌, length, map, IfOk, IfErr, OnOk};
-ghost use Rattle.rb_parse.specs.Machine.{Reads};
-ghost use Rattle.rb_parse.specs.Parts.{Part};
-ghost use Rattle.rb_parse.specs.Reading.{IsNotRead};
+ghost use Rattle.rb_grammar.specs.Machine.{Reads};
+ghost use Rattle.rb_grammar.specs.Parts.{Part};
+ghost use Rattle.rb_grammar.specs.Reading.{IsNotRead};
 ghost use Rattle.rb_syntax.specs.Plain.{declaration, identifier};
 
-use crate::cursor::Cursor;
-use crate::numbers::read_number;
-use crate::stop::Stop;
-use crate::terminal::Terminal;
+use rb_grammar::{Cursor, Stop, Terminal, read_number};
 use rb_syntax::{Name, Number, Var};
 use std::alloc::Global;
 

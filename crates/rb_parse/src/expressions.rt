@@ -1,18 +1,17 @@
+//! Expressions, by the levels of their operators.
 ghost use Rattle.std.specs.Prelude.{◌≡◌, ◌≤◌, ◌<◌, length, true, false, Some, IfOk, IfErr, OnOk};
-ghost use Rattle.rb_parse.specs.Finding.{FindsOperator, FindsQuantifier};
-ghost use Rattle.rb_parse.specs.Grammar.{chain};
-ghost use Rattle.rb_parse.specs.Machine.{Reads, fits, look};
-ghost use Rattle.rb_parse.specs.Operators.{comparison, quantifier};
-ghost use Rattle.rb_parse.specs.Parts.{Part};
-ghost use Rattle.rb_parse.specs.Reading.{IsNotRead};
+ghost use Rattle.rb_grammar.specs.Finding.{FindsOperator, FindsQuantifier};
+ghost use Rattle.rb_grammar.specs.Grammar.{chain};
+ghost use Rattle.rb_grammar.specs.Machine.{Reads, fits, look};
+ghost use Rattle.rb_grammar.specs.Operators.{comparison, quantifier};
+ghost use Rattle.rb_grammar.specs.Parts.{Part};
+ghost use Rattle.rb_grammar.specs.Reading.{IsNotRead};
 ghost use Rattle.rb_syntax.specs.Plain.{expression, links_of, reference, subscript};
 
-use crate::cursor::Cursor;
-use crate::level::Level;
-use crate::numbers::read_number;
-use crate::operators::{Operator, Word, find_comparison, find_operator, find_quantifier};
-use crate::stop::Stop;
-use crate::terminal::Terminal;
+use rb_grammar::{
+    Cursor, Level, Operator, Stop, Terminal, Word, find_comparison, find_operator, find_quantifier,
+    read_number,
+};
 use rb_syntax::{Expr, Link, Quantified, Target};
 use std::alloc::Global;
 

@@ -1,5 +1,6 @@
-ghost use Rattle.rb_parse.specs.Laws.{DepthIsBounded, DepthIsReached, EndsTooEarly, FirstBadToken, HasOneTree, NamesAreThose, NamesCountUp, NamesInOrder, NamesRise, RecoveriesCountUp, RecoveriesInOrder, RecoveriesRise};
-ghost use Rattle.rb_parse.specs.VerdictLaws.{HasOneVerdict, HasVerdict, TreesAreShallow};
+//! What is true of the grammar and of the verdicts of texts.
+ghost use Rattle.rb_grammar.specs.Laws.{DepthIsBounded, DepthIsReached, EndsTooEarly, FirstBadToken, HasOneTree, NamesAreThose, NamesCountUp, NamesInOrder, NamesRise, RecoveriesCountUp, RecoveriesInOrder, RecoveriesRise};
+ghost use Rattle.rb_grammar.specs.VerdictLaws.{HasOneVerdict, HasVerdict, TreesAreShallow};
 
 /// A text derives one tree at most.
 pub fn has_one_tree()

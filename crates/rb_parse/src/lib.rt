@@ -1,22 +1,16 @@
-// The parser: from the bytes of a source to its tree, or to the first fault. Its tests stand in rb_top: a crate with tests is
-// proved twice, and this one takes the longest.
+//! The parser: from the bytes of a source to its tree, or to the first fault. Its tests stand in rb_top: a crate with tests is
+//! proved twice, and this one takes long. Wrong bodies that must be refused are those of rb_grammar (`must-fail`), since each
+//! edit of a crate asks for one more proof of it from nothing.
 #![tactic(auto)]
 
 mod connections;
-mod cursor;
 mod declarations;
 mod expressions;
 pub mod laws;
-pub mod level;
-mod numbers;
-mod operators;
 pub mod parser;
 mod program;
 mod simple_statements;
 mod statements;
-mod stop;
-pub mod terminal;
 
-pub use level::Level;
 pub use parser::parse;
-pub use terminal::Terminal;
+pub use rb_grammar::{Level, Terminal};

@@ -1,12 +1,12 @@
+//! From the bytes of a source to its tree, or to the first fault.
 ghost use Rattle.std.specs.Prelude.{◌≡◌, ◌≤◌, length, IfOk, IfErr};
-ghost use Rattle.rb_parse.specs.Reading.{IsPlaceOf};
-ghost use Rattle.rb_parse.specs.Verdict.{HasTree, IsRefusal};
+ghost use Rattle.rb_grammar.specs.Reading.{IsPlaceOf};
+ghost use Rattle.rb_grammar.specs.Verdict.{HasTree, IsRefusal};
 ghost use Rattle.rb_syntax.specs.Plain.{tree};
 
-use crate::cursor::Cursor;
 use crate::program::read_program;
-use crate::stop::Stop;
 use rb_base::{FaultName, MOST_BYTES, Refusal, SourceFault};
+use rb_grammar::{Cursor, Stop};
 use rb_syntax::Program;
 use std::alloc::Global;
 

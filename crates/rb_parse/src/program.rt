@@ -1,16 +1,15 @@
+//! Programs, processes and procedures.
 ghost use Rattle.std.specs.Prelude.{◌≡◌, ◌≤◌, ◌<◌, length, map, IfOk, IfErr, OnOk};
-ghost use Rattle.rb_parse.specs.Machine.{Reads};
-ghost use Rattle.rb_parse.specs.Parts.{Part};
-ghost use Rattle.rb_parse.specs.Reading.{IsNotRead};
+ghost use Rattle.rb_grammar.specs.Machine.{Reads};
+ghost use Rattle.rb_grammar.specs.Parts.{Part};
+ghost use Rattle.rb_grammar.specs.Reading.{IsNotRead};
 ghost use Rattle.rb_syntax.specs.Plain.{procedure_declaration, process_declaration, tree};
 
 use crate::connections::read_connections;
-use crate::cursor::Cursor;
 use crate::declarations::{read_declarations, read_parameters};
 use crate::statements::{read_block, read_statements};
-use crate::stop::Stop;
-use crate::terminal::Terminal;
 use rb_base::Edition;
+use rb_grammar::{Cursor, Stop, Terminal};
 use rb_syntax::{Procedure, Process, Program};
 use std::alloc::Global;
 

@@ -1,17 +1,16 @@
+//! Statements that have no block.
 ghost use Rattle.std.specs.Prelude.{◌≡◌, ◌≤◌, ◌<◌, length, map, true, false, IfOk, IfErr, OnOk};
 ghost use Rattle.std.specs.Option.{is_some};
-ghost use Rattle.rb_parse.specs.ExpressionTable.{start_expression, start_sum};
-ghost use Rattle.rb_parse.specs.Grammar.{between_quotes};
-ghost use Rattle.rb_parse.specs.Machine.{Reads, fits, look};
-ghost use Rattle.rb_parse.specs.Parts.{Part};
-ghost use Rattle.rb_parse.specs.Reading.{IsNotRead};
+ghost use Rattle.rb_grammar.specs.ExpressionTable.{start_expression, start_sum};
+ghost use Rattle.rb_grammar.specs.Grammar.{between_quotes};
+ghost use Rattle.rb_grammar.specs.Machine.{Reads, fits, look};
+ghost use Rattle.rb_grammar.specs.Parts.{Part};
+ghost use Rattle.rb_grammar.specs.Reading.{IsNotRead};
 ghost use Rattle.rb_syntax.specs.Plain.{command, expression, print_item};
 
-use crate::cursor::Cursor;
 use crate::expressions::{read_expression, read_place};
-use crate::stop::Stop;
-use crate::terminal::Terminal;
 use rb_base::Edition;
+use rb_grammar::{Cursor, Stop, Terminal};
 use rb_syntax::{Expr, Item, ItemKind, Statement};
 use std::alloc::Global;
 

@@ -1,21 +1,18 @@
+//! Blocks, the statements that have blocks, and recovery blocks.
 ghost use Rattle.std.specs.Prelude.{◌≡◌, ◌≤◌, ◌<◌, length, true, IfOk, IfErr, OnOk};
 ghost use Rattle.std.specs.Option.{is_some};
-ghost use Rattle.rb_parse.specs.Finding.{may_not_wait};
-ghost use Rattle.rb_parse.specs.Grammar.{joined};
-ghost use Rattle.rb_parse.specs.Machine.{Reads, fits, look};
-ghost use Rattle.rb_parse.specs.Parts.{Part};
-ghost use Rattle.rb_parse.specs.Reading.{IsNotRead};
-ghost use Rattle.rb_parse.specs.StatementTable.{start_statement};
+ghost use Rattle.rb_grammar.specs.Grammar.{joined};
+ghost use Rattle.rb_grammar.specs.Machine.{Reads, fits, look};
+ghost use Rattle.rb_grammar.specs.Parts.{Part};
+ghost use Rattle.rb_grammar.specs.Reading.{IsNotRead};
+ghost use Rattle.rb_grammar.specs.StatementTable.{start_statement};
 ghost use Rattle.rb_syntax.specs.Plain.{alternates_of, body, command, commands_of, identifier, otherwise, recovery_block};
 
-use crate::cursor::Cursor;
 use crate::declarations::read_declarations;
 use crate::expressions::{read_expression, read_place};
-use crate::numbers::read_number;
 use crate::simple_statements::read_simple;
-use crate::stop::Stop;
-use crate::terminal::Terminal;
 use rb_base::Edition;
+use rb_grammar::{Cursor, Stop, Terminal, may_not_wait, read_no_alternate, read_number};
 use rb_syntax::{Block, Name, Recovery, Statement};
 use std::alloc::Global;
 
@@ -203,16 +200,6 @@ fn read_receipt_end<'a>(
     }
 }
 
-// Whether a receipt goes on with a block here.
-fn may_not_wait(edition: Edition, first: Option<Terminal>) -> bool
-    ensures { result ≡ may_not_wait edition first }
-{
-    match edition {
-        Edition::First => false,
-        Edition::Second => matches!(first, Some(Terminal::Else)),
-    }
-}
-
 #[cycle(statement)]
 #[tactic(auto, using(rb_syntax::proofs::Bridge::trees))]
 fn read_recover<'a>(
@@ -311,8 +298,7 @@ fn read_alternates<'a>(
         let alternate = read_alternate(alloc, cursor, edition)?;
         alternates.push(alternate)?;
     }
-    cursor.take(Terminal::Error)?;
-    cursor.take(Terminal::Semicolon)?;
+    read_no_alternate(cursor)?;
     Ok(alternates)
 }
 

@@ -1,24 +1,28 @@
 use Rattle.std.proofs.Common.{refl, sym, ◌∙◌, arith}
-use Rattle.rb_parse.proofs.Forms.{connections_channel, connections_conversation}
-use Rattle.rb_parse.proofs.Pushing.{channel_step, connections_end, connections_init, conversation_step}
-use Rattle.rb_parse.proofs.Reaching.{begins_here, by_part, exit_memory, exit_within, within}
-use Rattle.rb_parse.proofs.Starts.{no_connections, some_channel, some_conversation}
-use Rattle.rb_parse.specs.Parts.{Part}
-use Rattle.rb_parse.specs.Table.{channels_after, conversations_after}
-use Rattle.rb_parse.specs.declared.stop.Stop.TheVariants as stops
+use Rattle.rb_grammar.proofs.Forms.{connections_channel, connections_conversation}
+use Rattle.rb_grammar.proofs.Pushing.{channel_step, connections_end, connections_init, conversation_step}
+use Rattle.rb_grammar.proofs.Reaching.{begins_here, by_part, exit_memory, exit_within, within}
+use Rattle.rb_grammar.proofs.Starts.{no_connections, some_channel, some_conversation}
+use Rattle.rb_grammar.specs.Parts.{Part}
+use Rattle.rb_grammar.specs.Table.{channels_after, conversations_after}
+use Rattle.rb_grammar.specs.declared.stop.Stop.TheVariants as stops
 use Rattle.rb_parse.proofs.connections.read_connections.Goals as goal
 
 pub connections-init : goal.connections-init
 connections-init c =
     record {
-      reached = connections_init c.new-channels.result.items c.new-conversations.result.items c.args.cursor.now.point c.new-channels.ensures.items c.new-conversations.ensures.items;
+      reached = connections_init c.new-channels.result.items c.new-conversations.result.items c.args.cursor.now.point
+          c.new-channels.ensures.items c.new-conversations.ensures.items;
       ending = refl;
       shorter = omega arith;
     }
 
 pub returns-in_err-channel-clause-err : goal.returns-in_err-channel-clause-err
 returns-in_err-channel-clause-err c =
-    exit_within c.from_residual.result c.from_residual.ensures.1 c.connections.invariant.ending (within c.connections.invariant.reached (begins_here Part.Channel _ channels_after (connections_channel _ (some_channel _ (sym c.if-stands_at.ensures))) (some_channel _ (sym c.if-stands_at.ensures)))) c.in_err-channel.ensures.err
+    exit_within c.from_residual.result c.from_residual.ensures.1 c.connections.invariant.ending
+    (within c.connections.invariant.reached (begins_here Part.Channel _ channels_after
+    (connections_channel _ (some_channel _ (sym c.if-stands_at.ensures))) (some_channel _ (sym c.if-stands_at.ensures))))
+    c.in_err-channel.ensures.err
 
 pub returns-in_err-push-clause-err : goal.returns-in_err-push-clause-err
 returns-in_err-push-clause-err c =
@@ -26,7 +30,11 @@ returns-in_err-push-clause-err c =
 
 pub returns-in_err-conversation-clause-err : goal.returns-in_err-conversation-clause-err
 returns-in_err-conversation-clause-err c =
-    exit_within c.from_residual-in_err-conversation.result c.from_residual-in_err-conversation.ensures.1 c.connections.invariant.ending (within c.connections.invariant.reached (begins_here Part.Conversation _ conversations_after (connections_conversation _ (some_conversation _ (sym c.if-stands_at-2.ensures))) (some_conversation _ (sym c.if-stands_at-2.ensures)))) c.in_err-conversation.ensures.err
+    exit_within c.from_residual-in_err-conversation.result c.from_residual-in_err-conversation.ensures.1
+    c.connections.invariant.ending (within c.connections.invariant.reached
+    (begins_here Part.Conversation _ conversations_after (connections_conversation _
+    (some_conversation _ (sym c.if-stands_at-2.ensures))) (some_conversation _ (sym c.if-stands_at-2.ensures))))
+    c.in_err-conversation.ensures.err
 
 pub returns-in_err-push-2-clause-err : goal.returns-in_err-push-2-clause-err
 returns-in_err-push-2-clause-err c =
@@ -34,12 +42,17 @@ returns-in_err-push-2-clause-err c =
 
 pub returns-else-stands_at-2-clause-ok : goal.returns-else-stands_at-2-clause-ok
 returns-else-stands_at-2-clause-ok c =
-    connections_end c.connections.channels.items c.connections.conversations.items c.connections.invariant.reached (no_connections _ (sym c.if-stands_at.ensures) (sym c.if-stands_at-2.ensures))
+    connections_end c.connections.channels.items c.connections.conversations.items c.connections.invariant.reached
+    (no_connections _ (sym c.if-stands_at.ensures) (sym c.if-stands_at-2.ensures))
 
 pub connections-preserved : goal.connections-preserved
 connections-preserved c =
     record {
-      reached = conversation_step c.connections.channels.items c.connections.conversations.items c.push-then-stands_at-2.new.self.items c.in_ok-conversation.conversation c.in_ok-push-2.ensures.items c.connections.invariant.reached (by_part (begins_here Part.Conversation _ conversations_after (connections_conversation _ (some_conversation _ (sym c.if-stands_at-2.ensures))) (some_conversation _ (sym c.if-stands_at-2.ensures))) c.in_ok-conversation.ensures.ok);
+      reached = conversation_step c.connections.channels.items c.connections.conversations.items
+          c.push-then-stands_at-2.new.self.items c.in_ok-conversation.conversation c.in_ok-push-2.ensures.items
+          c.connections.invariant.reached (by_part (begins_here Part.Conversation _ conversations_after
+          (connections_conversation _ (some_conversation _ (sym c.if-stands_at-2.ensures)))
+          (some_conversation _ (sym c.if-stands_at-2.ensures))) c.in_ok-conversation.ensures.ok);
       ending = c.in_ok-conversation.ensures.ending ∙ c.connections.invariant.ending;
       shorter = omega (arith, c.in_ok-conversation.ensures.shorter, c.connections.invariant.shorter);
     }
@@ -47,7 +60,11 @@ connections-preserved c =
 pub connections-preserved-in-Continue-branch-2 : goal.connections-preserved-in-Continue-branch-2
 connections-preserved-in-Continue-branch-2 c =
     record {
-      reached = channel_step c.connections.channels.items c.push.new.self.items c.connections.conversations.items c.in_ok-channel.channel c.in_ok-push.ensures.items c.connections.invariant.reached (by_part (begins_here Part.Channel _ channels_after (connections_channel _ (some_channel _ (sym c.if-stands_at.ensures))) (some_channel _ (sym c.if-stands_at.ensures))) c.in_ok-channel.ensures.ok);
+      reached = channel_step c.connections.channels.items c.push.new.self.items c.connections.conversations.items
+          c.in_ok-channel.channel c.in_ok-push.ensures.items c.connections.invariant.reached
+          (by_part (begins_here Part.Channel _ channels_after
+          (connections_channel _ (some_channel _ (sym c.if-stands_at.ensures))) (some_channel _ (sym c.if-stands_at.ensures)))
+          c.in_ok-channel.ensures.ok);
       ending = c.in_ok-channel.ensures.ending ∙ c.connections.invariant.ending;
       shorter = omega (arith, c.in_ok-channel.ensures.shorter, c.connections.invariant.shorter);
     }

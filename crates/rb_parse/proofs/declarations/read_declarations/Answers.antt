@@ -1,10 +1,10 @@
 use Rattle.std.proofs.Common.{refl, sym, ◌∙◌, arith}
-use Rattle.rb_parse.specs.declared.stop.Stop.TheVariants as stops
-use Rattle.rb_parse.specs.Parts.{Part}
-use Rattle.rb_parse.specs.StatementTable.{declarations_after}
-use Rattle.rb_parse.proofs.Starts.{some_declaration, no_declarations}
-use Rattle.rb_parse.proofs.Pushing.{vars_init, vars_step, vars_end}
-use Rattle.rb_parse.proofs.Reaching.{begins_here, by_part, exit_memory, exit_within, within}
+use Rattle.rb_grammar.specs.declared.stop.Stop.TheVariants as stops
+use Rattle.rb_grammar.specs.Parts.{Part}
+use Rattle.rb_grammar.specs.StatementTable.{declarations_after}
+use Rattle.rb_grammar.proofs.Starts.{some_declaration, no_declarations}
+use Rattle.rb_grammar.proofs.Pushing.{vars_init, vars_step, vars_end}
+use Rattle.rb_grammar.proofs.Reaching.{begins_here, by_part, exit_memory, exit_within, within}
 use Rattle.rb_parse.proofs.declarations.read_declarations.Goals as goal
 
 pub vars-init : goal.vars-init
@@ -16,7 +16,9 @@ vars-init c = record {
 
 pub returns-in_err-var-clause-err : goal.returns-in_err-var-clause-err
 returns-in_err-var-clause-err c =
-    exit_within c.from_residual.result c.from_residual.ensures.1 c.vars.invariant.ending (within c.vars.invariant.reached (begins_here Part.Declaration _ declarations_after refl (some_declaration _ (sym c.vars-test.ensures)))) c.in_err-var.ensures.err
+    exit_within c.from_residual.result c.from_residual.ensures.1 c.vars.invariant.ending
+    (within c.vars.invariant.reached (begins_here Part.Declaration _ declarations_after refl
+    (some_declaration _ (sym c.vars-test.ensures)))) c.in_err-var.ensures.err
 
 pub returns-in_err-push-clause-err : goal.returns-in_err-push-clause-err
 returns-in_err-push-clause-err c =
@@ -24,7 +26,9 @@ returns-in_err-push-clause-err c =
 
 pub vars-preserved : goal.vars-preserved
 vars-preserved c = record {
-  reached = vars_step c.vars.vars.items c.push.new.self.items c.in_ok-var.var c.in_ok-push.ensures.items c.vars.invariant.reached (by_part (begins_here Part.Declaration _ declarations_after refl (some_declaration _ (sym c.vars-test.ensures))) c.in_ok-var.ensures.ok);
+  reached = vars_step c.vars.vars.items c.push.new.self.items c.in_ok-var.var c.in_ok-push.ensures.items c.vars.invariant.reached
+      (by_part (begins_here Part.Declaration _ declarations_after refl (some_declaration _ (sym c.vars-test.ensures)))
+      c.in_ok-var.ensures.ok);
   ending = c.in_ok-var.ensures.ending ∙ c.vars.invariant.ending;
   shorter = omega (arith, c.in_ok-var.ensures.shorter, c.vars.invariant.shorter);
 }

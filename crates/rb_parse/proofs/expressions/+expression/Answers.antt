@@ -1,69 +1,117 @@
 use Rattle.std.proofs.Common.{refl, sym, ap, subst, ◌∙◌, arith, [], ◌∷◌, ◌++◌, IfErr}
-use Rattle.rb_parse.proofs.Begun.{compared_found, link_begun, operator_fits, word_found}
-use Rattle.rb_parse.proofs.Forms.{atom_place, expression_chain, factor_atom, negation_comparison, quantified_begun}
-use Rattle.rb_parse.proofs.Pushing.{links_end, links_init, links_step}
-use Rattle.rb_parse.proofs.Reaching.{begins, by_part, by_terminal, complete, exhausts, exhausts_within, exit_first, exit_memory, exit_missed, exit_sure, exit_within, last_start, passes, same_value, starts, unread, within}
-use Rattle.rb_parse.proofs.Starts.{fits_same, no_place, no_subscript, some_place}
-use Rattle.rb_parse.proofs.Takes.{name_taken}
-use Rattle.rb_parse.specs.ExpressionTable.{chain_after, compared_after, nothing_after, quantified_after, start_compared, start_link, variable_after}
-use Rattle.rb_parse.specs.Machine.{Reads, Stops}
-use Rattle.rb_parse.specs.Operators.{comparison, operator, quantifier}
-use Rattle.rb_parse.specs.Parts.{Part}
-use Rattle.rb_parse.specs.Reading.{Exhausts, Stopped}
+use Rattle.rb_grammar.proofs.Begun.{compared_found, link_begun, operator_fits, word_found}
+use Rattle.rb_grammar.proofs.Forms.{atom_place, expression_chain, factor_atom, negation_comparison, quantified_begun}
+use Rattle.rb_grammar.proofs.Pushing.{links_end, links_init, links_step}
+use Rattle.rb_grammar.proofs.Reaching.{begins, by_part, by_terminal, complete, exhausts, exhausts_within, exit_first, exit_memory}
+use Rattle.rb_grammar.proofs.Reaching.{exit_missed, exit_sure, exit_within, last_start, passes, same_value, starts, unread}
+use Rattle.rb_grammar.proofs.Reaching.{within}
+use Rattle.rb_grammar.proofs.Starts.{fits_same, no_place, no_subscript, some_place}
+use Rattle.rb_grammar.proofs.Takes.{name_taken}
+use Rattle.rb_grammar.specs.ExpressionTable.{chain_after, compared_after, nothing_after, quantified_after, start_compared, start_link, variable_after}
+use Rattle.rb_grammar.specs.Machine.{Reads, Stops}
+use Rattle.rb_grammar.specs.Operators.{comparison, operator, quantifier}
+use Rattle.rb_grammar.specs.Parts.{Part}
+use Rattle.rb_grammar.specs.Reading.{Exhausts, Stopped}
 use Rattle.rb_syntax.proofs.Bridge.{expression_neg, expression_not, expression_prior, expression_quantified, expression_value}
 use Rattle.rb_syntax.specs.Plain.{expression, links_of, subscript}
 use Rattle.rb_syntax.specs.Tree.{Element, Minus, Negation, NoLink, Quantification, Refer, Scalar}
-use Rattle.rb_parse.specs.declared.stop.Stop.TheVariants as stops
-use Rattle.rb_parse.specs.declared.level.Level.TheVariants as levels
+use Rattle.rb_grammar.specs.declared.stop.Stop.TheVariants as stops
+use Rattle.rb_grammar.specs.declared.level.Level.TheVariants as levels
 use Rattle.rb_parse.proofs.expressions.+expression.Goals as goal
 
 pub read_expression-returns-in_err-value-in-None-clause-err : goal.read_expression-returns-in_err-value-in-None-clause-err
 read_expression-returns-in_err-value-in-None-clause-err t c =
-    exit_within c.from_residual.result c.from_residual.ensures.1 refl (begins (Part.Chain levels.Disjunction) c.args.cursor.now.point nothing_after (expression_chain _ (ap quantifier (sym c.look.ensures) ∙ c.in-None.ensures)) refl refl) c.in_err-value-in-None.ensures.err
+    exit_within c.from_residual.result c.from_residual.ensures.1 refl
+    (begins (Part.Chain levels.Disjunction) c.args.cursor.now.point nothing_after
+    (expression_chain _ (ap quantifier (sym c.look.ensures) ∙ c.in-None.ensures)) refl refl) c.in_err-value-in-None.ensures.err
 
 pub read_expression-returns-in_ok-value-in-None-clause-ok : goal.read_expression-returns-in_ok-value-in-None-clause-ok
 read_expression-returns-in_ok-value-in-None-clause-ok t c =
-    complete (by_part (begins (Part.Chain levels.Disjunction) c.args.cursor.now.point nothing_after (expression_chain _ (ap quantifier (sym c.look.ensures) ∙ c.in-None.ensures)) refl refl) c.in_ok-value-in-None.ensures.ok)
+    complete (by_part (begins (Part.Chain levels.Disjunction) c.args.cursor.now.point nothing_after
+    (expression_chain _ (ap quantifier (sym c.look.ensures) ∙ c.in-None.ensures)) refl refl) c.in_ok-value-in-None.ensures.ok)
 
 pub read_quantified-returns-in_err-token-clause-err : goal.read_quantified-returns-in_err-token-clause-err
 read_quantified-returns-in_err-token-clause-err t c =
-    exit_sure _ c.from_residual.result c.from_residual.ensures.1 refl (fits_same _ _ c.requires.1) (last_start (quantified_after c.args.word.kind) (quantified_begun c.args.word.terminal c.args.word.kind (word_found c.requires))) c.in_err-token.ensures.err
+    exit_sure _ c.from_residual.result c.from_residual.ensures.1 refl (fits_same _ _ c.requires.1)
+    (last_start (quantified_after c.args.word.kind) (quantified_begun c.args.word.terminal c.args.word.kind
+    (word_found c.requires))) c.in_err-token.ensures.err
 
 pub read_quantified-returns-in_err-name-clause-err : goal.read_quantified-returns-in_err-name-clause-err
 read_quantified-returns-in_err-name-clause-err t c =
-    exit_missed c.from_residual-in_err-name.result c.from_residual-in_err-name.ensures.1 c.in_ok-token.ensures.ending (starts (quantified_after c.args.word.kind) (quantified_begun c.args.word.terminal c.args.word.kind (word_found c.requires)) c.in_ok-token.ensures.ok) c.in_err-name.ensures.err
+    exit_missed c.from_residual-in_err-name.result c.from_residual-in_err-name.ensures.1 c.in_ok-token.ensures.ending
+    (starts (quantified_after c.args.word.kind) (quantified_begun c.args.word.terminal c.args.word.kind (word_found c.requires))
+    c.in_ok-token.ensures.ok) c.in_err-name.ensures.err
 
 pub read_quantified-returns-in_err-take-clause-err : goal.read_quantified-returns-in_err-take-clause-err
 read_quantified-returns-in_err-take-clause-err t c =
-    exit_missed c.from_residual-in_err-take.result c.from_residual-in_err-take.ensures.1 (c.in_ok-name.ensures.ending ∙ c.in_ok-token.ensures.ending) (by_terminal (starts (quantified_after c.args.word.kind) (quantified_begun c.args.word.terminal c.args.word.kind (word_found c.requires)) c.in_ok-token.ensures.ok) (name_taken c.in_ok-name.ensures.ok)) c.in_err-take.ensures.err
+    exit_missed c.from_residual-in_err-take.result c.from_residual-in_err-take.ensures.1
+    (c.in_ok-name.ensures.ending ∙ c.in_ok-token.ensures.ending)
+    (by_terminal (starts (quantified_after c.args.word.kind)
+    (quantified_begun c.args.word.terminal c.args.word.kind (word_found c.requires)) c.in_ok-token.ensures.ok)
+    (name_taken c.in_ok-name.ensures.ok)) c.in_err-take.ensures.err
 
 pub read_quantified-returns-in_err-low-clause-err : goal.read_quantified-returns-in_err-low-clause-err
 read_quantified-returns-in_err-low-clause-err t c =
-    exit_within c.from_residual-in_err-low.result c.from_residual-in_err-low.ensures.1 (c.in_ok-take.ensures.ending ∙ c.in_ok-name.ensures.ending ∙ c.in_ok-token.ensures.ending) (by_terminal (by_terminal (starts (quantified_after c.args.word.kind) (quantified_begun c.args.word.terminal c.args.word.kind (word_found c.requires)) c.in_ok-token.ensures.ok) (name_taken c.in_ok-name.ensures.ok)) c.in_ok-take.ensures.ok) c.in_err-low.ensures.err
+    exit_within c.from_residual-in_err-low.result c.from_residual-in_err-low.ensures.1
+    (c.in_ok-take.ensures.ending ∙ c.in_ok-name.ensures.ending ∙ c.in_ok-token.ensures.ending)
+    (by_terminal (by_terminal (starts (quantified_after c.args.word.kind)
+    (quantified_begun c.args.word.terminal c.args.word.kind (word_found c.requires)) c.in_ok-token.ensures.ok)
+    (name_taken c.in_ok-name.ensures.ok)) c.in_ok-take.ensures.ok) c.in_err-low.ensures.err
 
 pub read_quantified-returns-in_err-take-2-clause-err : goal.read_quantified-returns-in_err-take-2-clause-err
 read_quantified-returns-in_err-take-2-clause-err t c =
-    exit_missed c.from_residual-in_err-take-2.result c.from_residual-in_err-take-2.ensures.1 (c.in_ok-low.ensures.ending ∙ c.in_ok-take.ensures.ending ∙ c.in_ok-name.ensures.ending ∙ c.in_ok-token.ensures.ending) (by_part (by_terminal (by_terminal (starts (quantified_after c.args.word.kind) (quantified_begun c.args.word.terminal c.args.word.kind (word_found c.requires)) c.in_ok-token.ensures.ok) (name_taken c.in_ok-name.ensures.ok)) c.in_ok-take.ensures.ok) c.in_ok-low.ensures.ok) c.in_err-take-2.ensures.err
+    exit_missed c.from_residual-in_err-take-2.result c.from_residual-in_err-take-2.ensures.1
+    (c.in_ok-low.ensures.ending ∙ c.in_ok-take.ensures.ending ∙ c.in_ok-name.ensures.ending ∙ c.in_ok-token.ensures.ending)
+    (by_part (by_terminal (by_terminal (starts (quantified_after c.args.word.kind)
+    (quantified_begun c.args.word.terminal c.args.word.kind (word_found c.requires)) c.in_ok-token.ensures.ok)
+    (name_taken c.in_ok-name.ensures.ok)) c.in_ok-take.ensures.ok) c.in_ok-low.ensures.ok) c.in_err-take-2.ensures.err
 
 pub read_quantified-returns-in_err-high-clause-err : goal.read_quantified-returns-in_err-high-clause-err
 read_quantified-returns-in_err-high-clause-err t c =
-    exit_within c.from_residual-in_err-high.result c.from_residual-in_err-high.ensures.1 (c.in_ok-take-2.ensures.ending ∙ c.in_ok-low.ensures.ending ∙ c.in_ok-take.ensures.ending ∙ c.in_ok-name.ensures.ending ∙ c.in_ok-token.ensures.ending) (by_terminal (by_part (by_terminal (by_terminal (starts (quantified_after c.args.word.kind) (quantified_begun c.args.word.terminal c.args.word.kind (word_found c.requires)) c.in_ok-token.ensures.ok) (name_taken c.in_ok-name.ensures.ok)) c.in_ok-take.ensures.ok) c.in_ok-low.ensures.ok) c.in_ok-take-2.ensures.ok) c.in_err-high.ensures.err
+    exit_within c.from_residual-in_err-high.result c.from_residual-in_err-high.ensures.1
+    (c.in_ok-take-2.ensures.ending ∙ c.in_ok-low.ensures.ending ∙ c.in_ok-take.ensures.ending ∙ c.in_ok-name.ensures.ending ∙
+    c.in_ok-token.ensures.ending) (by_terminal (by_part (by_terminal
+    (by_terminal (starts (quantified_after c.args.word.kind)
+    (quantified_begun c.args.word.terminal c.args.word.kind (word_found c.requires)) c.in_ok-token.ensures.ok)
+    (name_taken c.in_ok-name.ensures.ok)) c.in_ok-take.ensures.ok) c.in_ok-low.ensures.ok) c.in_ok-take-2.ensures.ok)
+    c.in_err-high.ensures.err
 
 pub read_quantified-returns-in_err-take-3-clause-err : goal.read_quantified-returns-in_err-take-3-clause-err
 read_quantified-returns-in_err-take-3-clause-err t c =
-    exit_missed c.from_residual-in_err-take-3.result c.from_residual-in_err-take-3.ensures.1 (c.in_ok-high.ensures.ending ∙ c.in_ok-take-2.ensures.ending ∙ c.in_ok-low.ensures.ending ∙ c.in_ok-take.ensures.ending ∙ c.in_ok-name.ensures.ending ∙ c.in_ok-token.ensures.ending) (by_part (by_terminal (by_part (by_terminal (by_terminal (starts (quantified_after c.args.word.kind) (quantified_begun c.args.word.terminal c.args.word.kind (word_found c.requires)) c.in_ok-token.ensures.ok) (name_taken c.in_ok-name.ensures.ok)) c.in_ok-take.ensures.ok) c.in_ok-low.ensures.ok) c.in_ok-take-2.ensures.ok) c.in_ok-high.ensures.ok) c.in_err-take-3.ensures.err
+    exit_missed c.from_residual-in_err-take-3.result c.from_residual-in_err-take-3.ensures.1
+    (c.in_ok-high.ensures.ending ∙ c.in_ok-take-2.ensures.ending ∙ c.in_ok-low.ensures.ending ∙ c.in_ok-take.ensures.ending ∙
+    c.in_ok-name.ensures.ending ∙ c.in_ok-token.ensures.ending)
+    (by_part (by_terminal (by_part (by_terminal (by_terminal
+    (starts (quantified_after c.args.word.kind) (quantified_begun c.args.word.terminal c.args.word.kind (word_found c.requires))
+    c.in_ok-token.ensures.ok) (name_taken c.in_ok-name.ensures.ok)) c.in_ok-take.ensures.ok) c.in_ok-low.ensures.ok)
+    c.in_ok-take-2.ensures.ok) c.in_ok-high.ensures.ok) c.in_err-take-3.ensures.err
 
 pub read_quantified-returns-in_err-body-clause-err : goal.read_quantified-returns-in_err-body-clause-err
 read_quantified-returns-in_err-body-clause-err t c =
-    exit_within c.from_residual-in_err-body.result c.from_residual-in_err-body.ensures.1 (c.in_ok-take-3.ensures.ending ∙ c.in_ok-high.ensures.ending ∙ c.in_ok-take-2.ensures.ending ∙ c.in_ok-low.ensures.ending ∙ c.in_ok-take.ensures.ending ∙ c.in_ok-name.ensures.ending ∙ c.in_ok-token.ensures.ending) (by_terminal (by_part (by_terminal (by_part (by_terminal (by_terminal (starts (quantified_after c.args.word.kind) (quantified_begun c.args.word.terminal c.args.word.kind (word_found c.requires)) c.in_ok-token.ensures.ok) (name_taken c.in_ok-name.ensures.ok)) c.in_ok-take.ensures.ok) c.in_ok-low.ensures.ok) c.in_ok-take-2.ensures.ok) c.in_ok-high.ensures.ok) c.in_ok-take-3.ensures.ok) c.in_err-body.ensures.err
+    exit_within c.from_residual-in_err-body.result c.from_residual-in_err-body.ensures.1
+    (c.in_ok-take-3.ensures.ending ∙ c.in_ok-high.ensures.ending ∙ c.in_ok-take-2.ensures.ending ∙ c.in_ok-low.ensures.ending ∙
+    c.in_ok-take.ensures.ending ∙ c.in_ok-name.ensures.ending ∙ c.in_ok-token.ensures.ending)
+    (by_terminal (by_part (by_terminal (by_part (by_terminal
+    (by_terminal (starts (quantified_after c.args.word.kind)
+    (quantified_begun c.args.word.terminal c.args.word.kind (word_found c.requires)) c.in_ok-token.ensures.ok)
+    (name_taken c.in_ok-name.ensures.ok)) c.in_ok-take.ensures.ok) c.in_ok-low.ensures.ok) c.in_ok-take-2.ensures.ok)
+    c.in_ok-high.ensures.ok) c.in_ok-take-3.ensures.ok) c.in_err-body.ensures.err
 
 pub read_quantified-returns-clause-ok : goal.read_quantified-returns-clause-ok
 read_quantified-returns-clause-ok t c =
-    same_value (ap (λ name. Quantification c.args.word.kind c.in_ok-token.token.place name (expression c.in_ok-low.low.value) (expression c.in_ok-high.high.value) (expression c.in_ok-body.body.value)) (sym (c.in_ok-name.ensures.ok).is) ∙ sym (expression_quantified c.args.word.kind c.in_ok-token.token.place c.in_ok-name.name c.in_ok-low.low c.in_ok-high.high c.in_ok-body.body)) (complete (by_part (by_terminal (by_part (by_terminal (by_part (by_terminal (by_terminal (starts (quantified_after c.args.word.kind) (quantified_begun c.args.word.terminal c.args.word.kind (word_found c.requires)) c.in_ok-token.ensures.ok) (name_taken c.in_ok-name.ensures.ok)) c.in_ok-take.ensures.ok) c.in_ok-low.ensures.ok) c.in_ok-take-2.ensures.ok) c.in_ok-high.ensures.ok) c.in_ok-take-3.ensures.ok) c.in_ok-body.ensures.ok))
+    same_value (ap (λ name. Quantification c.args.word.kind c.in_ok-token.token.place name (expression c.in_ok-low.low.value)
+    (expression c.in_ok-high.high.value) (expression c.in_ok-body.body.value)) (sym (c.in_ok-name.ensures.ok).is) ∙ sym
+    (expression_quantified c.args.word.kind c.in_ok-token.token.place c.in_ok-name.name c.in_ok-low.low c.in_ok-high.high
+    c.in_ok-body.body)) (complete (by_part (by_terminal (by_part
+    (by_terminal (by_part (by_terminal (by_terminal (starts (quantified_after c.args.word.kind)
+    (quantified_begun c.args.word.terminal c.args.word.kind (word_found c.requires)) c.in_ok-token.ensures.ok)
+    (name_taken c.in_ok-name.ensures.ok)) c.in_ok-take.ensures.ok) c.in_ok-low.ensures.ok) c.in_ok-take-2.ensures.ok)
+    c.in_ok-high.ensures.ok) c.in_ok-take-3.ensures.ok) c.in_ok-body.ensures.ok))
 
 pub read_boxed-returns-in_err-value-clause-err : goal.read_boxed-returns-in_err-value-clause-err
 read_boxed-returns-in_err-value-clause-err t c =
-    exit_within c.from_residual.result c.from_residual.ensures.1 refl (unread (Part.Chain c.args.level) c.args.cursor.now.point) c.in_err-value.ensures.err
+    exit_within c.from_residual.result c.from_residual.ensures.1 refl (unread (Part.Chain c.args.level) c.args.cursor.now.point)
+    c.in_err-value.ensures.err
 
 pub read_boxed-returns-in_err-held-clause-err : goal.read_boxed-returns-in_err-held-clause-err
 read_boxed-returns-in_err-held-clause-err t c =
@@ -71,15 +119,20 @@ read_boxed-returns-in_err-held-clause-err t c =
 
 pub read_boxed-returns-clause-ok : goal.read_boxed-returns-clause-ok
 read_boxed-returns-clause-ok t c =
-    same_value (ap expression (sym c.in_ok-held.ensures.ok)) (complete (by_part (unread (Part.Chain c.args.level) c.args.cursor.now.point) c.in_ok-value.ensures.ok))
+    same_value (ap expression (sym c.in_ok-held.ensures.ok))
+    (complete (by_part (unread (Part.Chain c.args.level) c.args.cursor.now.point) c.in_ok-value.ensures.ok))
 
 pub read_chain-returns-in_err-first-clause-err : goal.read_chain-returns-in_err-first-clause-err
 read_chain-returns-in_err-first-clause-err t c =
-    exit_within c.from_residual.result c.from_residual.ensures.1 refl (begins (Part.Operand c.args.level) c.args.cursor.now.point (chain_after c.args.level) refl refl refl) c.in_err-first.ensures.err
+    exit_within c.from_residual.result c.from_residual.ensures.1 refl
+    (begins (Part.Operand c.args.level) c.args.cursor.now.point (chain_after c.args.level) refl refl refl)
+    c.in_err-first.ensures.err
 
 pub read_chain-returns-in_err-links-clause-err : goal.read_chain-returns-in_err-links-clause-err
 read_chain-returns-in_err-links-clause-err t c =
-    exit_within c.from_residual-in_err-links.result c.from_residual-in_err-links.ensures.1 c.in_ok-first.ensures.ending (by_part (begins (Part.Operand c.args.level) c.args.cursor.now.point (chain_after c.args.level) refl refl refl) c.in_ok-first.ensures.ok) c.in_err-links.ensures.err
+    exit_within c.from_residual-in_err-links.result c.from_residual-in_err-links.ensures.1 c.in_ok-first.ensures.ending
+    (by_part (begins (Part.Operand c.args.level) c.args.cursor.now.point (chain_after c.args.level) refl refl refl)
+    c.in_ok-first.ensures.ok) c.in_err-links.ensures.err
 
 pub read_chain-returns-in_err-value-clause-err : goal.read_chain-returns-in_err-value-clause-err
 read_chain-returns-in_err-value-clause-err t c =
@@ -87,7 +140,9 @@ read_chain-returns-in_err-value-clause-err t c =
 
 pub read_chain-returns-clause-ok : goal.read_chain-returns-clause-ok
 read_chain-returns-clause-ok t c =
-    same_value (sym c.in_ok-value.ensures.ok) (complete (by_part (by_part (begins (Part.Operand c.args.level) c.args.cursor.now.point (chain_after c.args.level) refl refl refl) c.in_ok-first.ensures.ok) c.in_ok-links.ensures.ok))
+    same_value (sym c.in_ok-value.ensures.ok) (complete (by_part
+    (by_part (begins (Part.Operand c.args.level) c.args.cursor.now.point (chain_after c.args.level) refl refl refl)
+    c.in_ok-first.ensures.ok) c.in_ok-links.ensures.ok))
 
 pub read_links-links-init : goal.read_links-links-init
 read_links-links-init t c =
@@ -99,16 +154,24 @@ read_links-links-init t c =
 
 pub read_links-returns-in_err-take-clause-err : goal.read_links-returns-in_err-take-clause-err
 read_links-returns-in_err-take-clause-err t c =
-    exit_sure _ c.from_residual.result c.from_residual.ensures.1 c.links.invariant.ending (operator_fits c.args.level c.in-Some.ensures c.look.ensures) (λ l. exhausts_within c.links.invariant.reached (exhausts (link_begun c.args.level c.in-Some.ensures l.takes) l.ended)) c.in_err-take.ensures.err
+    exit_sure _ c.from_residual.result c.from_residual.ensures.1 c.links.invariant.ending
+    (operator_fits c.args.level c.in-Some.ensures c.look.ensures)
+    (λ l. exhausts_within c.links.invariant.reached (exhausts (link_begun c.args.level c.in-Some.ensures l.takes) l.ended))
+    c.in_err-take.ensures.err
 
 pub read_links-returns-in_err-right-clause-err : goal.read_links-returns-in_err-right-clause-err
 read_links-returns-in_err-right-clause-err t c =
-    exit_within c.from_residual-in_err-right.result c.from_residual-in_err-right.ensures.1 (c.in_ok-take.ensures.ending ∙ c.links.invariant.ending) (within c.links.invariant.reached (link_begun c.args.level c.in-Some.ensures c.in_ok-take.ensures.ok)) c.in_err-right.ensures.err
+    exit_within c.from_residual-in_err-right.result c.from_residual-in_err-right.ensures.1
+    (c.in_ok-take.ensures.ending ∙ c.links.invariant.ending)
+    (within c.links.invariant.reached (link_begun c.args.level c.in-Some.ensures c.in_ok-take.ensures.ok))
+    c.in_err-right.ensures.err
 
 pub read_links-links-preserved : goal.read_links-links-preserved
 read_links-links-preserved t c =
     record {
-      reached = links_step c.args.level c.links.links.items c.push.new.self.items (record { op = c.in-Some.field-0.op; right = c.in_ok-right.right }) c.in_ok-push.ensures.items c.links.invariant.reached (by_part (link_begun c.args.level c.in-Some.ensures c.in_ok-take.ensures.ok) c.in_ok-right.ensures.ok);
+      reached = links_step c.args.level c.links.links.items c.push.new.self.items
+          (record { op = c.in-Some.field-0.op; right = c.in_ok-right.right }) c.in_ok-push.ensures.items c.links.invariant.reached
+          (by_part (link_begun c.args.level c.in-Some.ensures c.in_ok-take.ensures.ok) c.in_ok-right.ensures.ok);
       ending = c.in_ok-right.ensures.ending ∙ c.in_ok-take.ensures.ending ∙ c.links.invariant.ending;
       shorter = omega (arith, c.in_ok-take.ensures.shorter, c.in_ok-right.ensures.shorter, c.links.invariant.shorter);
     }
@@ -119,39 +182,68 @@ read_links-returns-in_err-push-clause-err t c =
 
 pub read_links-returns-clause-ok : goal.read_links-returns-clause-ok
 read_links-returns-clause-ok t c =
-    links_end c.args.level c.links.links.items c.links.invariant.reached (ap (λ first. start_link c.args.level (operator first c.args.level)) (sym c.look.ensures) ∙ ap (start_link c.args.level) c.in_default.ensures)
+    links_end c.args.level c.links.links.items c.links.invariant.reached
+    (ap (λ first. start_link c.args.level (operator first c.args.level)) (sym c.look.ensures) ∙ ap (start_link c.args.level)
+    c.in_default.ensures)
 
 pub read_operand-returns-in_err-conjunction-in-Disjunction-clause-err : goal.read_operand-returns-in_err-conjunction-in-Disjunction-clause-err
 read_operand-returns-in_err-conjunction-in-Disjunction-clause-err t c =
-    subst (λ level. IfErr c.from_residual.result (Stopped (Stops (Part.Operand level) c.args.cursor.now.point c.read_chain.new.cursor.point) (Exhausts (Part.Operand level) c.args.cursor.now.point) c.args.cursor.now.ending)) (sym c.in-Disjunction.is) (exit_within c.from_residual.result c.from_residual.ensures.1 refl (begins (Part.Chain levels.Conjunction) c.args.cursor.now.point nothing_after refl refl refl) c.in_err-conjunction-in-Disjunction.ensures.err)
+    subst (λ level. IfErr c.from_residual.result (Stopped (Stops (Part.Operand level) c.args.cursor.now.point
+    c.read_chain.new.cursor.point) (Exhausts (Part.Operand level) c.args.cursor.now.point) c.args.cursor.now.ending))
+    (sym c.in-Disjunction.is) (exit_within c.from_residual.result c.from_residual.ensures.1 refl
+    (begins (Part.Chain levels.Conjunction) c.args.cursor.now.point nothing_after refl refl refl)
+    c.in_err-conjunction-in-Disjunction.ensures.err)
 
 pub read_operand-returns-in_ok-conjunction-in-Disjunction-clause-ok : goal.read_operand-returns-in_ok-conjunction-in-Disjunction-clause-ok
 read_operand-returns-in_ok-conjunction-in-Disjunction-clause-ok t c =
-    subst (λ level. Reads (Part.Operand level) (expression c.in_ok-conjunction-in-Disjunction.conjunction) c.args.cursor.now.point c.read_chain.new.cursor.point) (sym c.in-Disjunction.is) (complete (by_part (begins (Part.Chain levels.Conjunction) c.args.cursor.now.point nothing_after refl refl refl) c.in_ok-conjunction-in-Disjunction.ensures.ok))
+    subst (λ level. Reads (Part.Operand level) (expression c.in_ok-conjunction-in-Disjunction.conjunction) c.args.cursor.now.point
+    c.read_chain.new.cursor.point) (sym c.in-Disjunction.is)
+    (complete (by_part (begins (Part.Chain levels.Conjunction) c.args.cursor.now.point nothing_after refl refl refl)
+    c.in_ok-conjunction-in-Disjunction.ensures.ok))
 
 pub read_operand-returns-in_err-negation-in-Conjunction-clause-err : goal.read_operand-returns-in_err-negation-in-Conjunction-clause-err
 read_operand-returns-in_err-negation-in-Conjunction-clause-err t c =
-    subst (λ level. IfErr c.from_residual-in_err-negation-in-Conjunction.result (Stopped (Stops (Part.Operand level) c.args.cursor.now.point c.read_negation.new.cursor.point) (Exhausts (Part.Operand level) c.args.cursor.now.point) c.args.cursor.now.ending)) (sym c.in-Conjunction.is) (exit_within c.from_residual-in_err-negation-in-Conjunction.result c.from_residual-in_err-negation-in-Conjunction.ensures.1 refl (begins Part.Negation c.args.cursor.now.point nothing_after refl refl refl) c.in_err-negation-in-Conjunction.ensures.err)
+    subst (λ level. IfErr c.from_residual-in_err-negation-in-Conjunction.result
+    (Stopped (Stops (Part.Operand level) c.args.cursor.now.point c.read_negation.new.cursor.point)
+    (Exhausts (Part.Operand level) c.args.cursor.now.point) c.args.cursor.now.ending)) (sym c.in-Conjunction.is)
+    (exit_within c.from_residual-in_err-negation-in-Conjunction.result c.from_residual-in_err-negation-in-Conjunction.ensures.1
+    refl (begins Part.Negation c.args.cursor.now.point nothing_after refl refl refl) c.in_err-negation-in-Conjunction.ensures.err)
 
 pub read_operand-returns-in_ok-negation-in-Conjunction-clause-ok : goal.read_operand-returns-in_ok-negation-in-Conjunction-clause-ok
 read_operand-returns-in_ok-negation-in-Conjunction-clause-ok t c =
-    subst (λ level. Reads (Part.Operand level) (expression c.in_ok-negation-in-Conjunction.negation) c.args.cursor.now.point c.read_negation.new.cursor.point) (sym c.in-Conjunction.is) (complete (by_part (begins Part.Negation c.args.cursor.now.point nothing_after refl refl refl) c.in_ok-negation-in-Conjunction.ensures.ok))
+    subst (λ level. Reads (Part.Operand level) (expression c.in_ok-negation-in-Conjunction.negation) c.args.cursor.now.point
+    c.read_negation.new.cursor.point) (sym c.in-Conjunction.is)
+    (complete (by_part (begins Part.Negation c.args.cursor.now.point nothing_after refl refl refl)
+    c.in_ok-negation-in-Conjunction.ensures.ok))
 
 pub read_operand-returns-in_err-product-in-Sum-clause-err : goal.read_operand-returns-in_err-product-in-Sum-clause-err
 read_operand-returns-in_err-product-in-Sum-clause-err t c =
-    subst (λ level. IfErr c.from_residual-in_err-product-in-Sum.result (Stopped (Stops (Part.Operand level) c.args.cursor.now.point c.read_chain-in-Sum.new.cursor.point) (Exhausts (Part.Operand level) c.args.cursor.now.point) c.args.cursor.now.ending)) (sym c.in-Sum.is) (exit_within c.from_residual-in_err-product-in-Sum.result c.from_residual-in_err-product-in-Sum.ensures.1 refl (begins (Part.Chain levels.Product) c.args.cursor.now.point nothing_after refl refl refl) c.in_err-product-in-Sum.ensures.err)
+    subst (λ level. IfErr c.from_residual-in_err-product-in-Sum.result
+    (Stopped (Stops (Part.Operand level) c.args.cursor.now.point c.read_chain-in-Sum.new.cursor.point)
+    (Exhausts (Part.Operand level) c.args.cursor.now.point) c.args.cursor.now.ending)) (sym c.in-Sum.is)
+    (exit_within c.from_residual-in_err-product-in-Sum.result c.from_residual-in_err-product-in-Sum.ensures.1 refl
+    (begins (Part.Chain levels.Product) c.args.cursor.now.point nothing_after refl refl refl) c.in_err-product-in-Sum.ensures.err)
 
 pub read_operand-returns-in_ok-product-in-Sum-clause-ok : goal.read_operand-returns-in_ok-product-in-Sum-clause-ok
 read_operand-returns-in_ok-product-in-Sum-clause-ok t c =
-    subst (λ level. Reads (Part.Operand level) (expression c.in_ok-product-in-Sum.product) c.args.cursor.now.point c.read_chain-in-Sum.new.cursor.point) (sym c.in-Sum.is) (complete (by_part (begins (Part.Chain levels.Product) c.args.cursor.now.point nothing_after refl refl refl) c.in_ok-product-in-Sum.ensures.ok))
+    subst (λ level. Reads (Part.Operand level) (expression c.in_ok-product-in-Sum.product) c.args.cursor.now.point
+    c.read_chain-in-Sum.new.cursor.point) (sym c.in-Sum.is)
+    (complete (by_part (begins (Part.Chain levels.Product) c.args.cursor.now.point nothing_after refl refl refl)
+    c.in_ok-product-in-Sum.ensures.ok))
 
 pub read_operand-returns-in_err-factor-in-Product-clause-err : goal.read_operand-returns-in_err-factor-in-Product-clause-err
 read_operand-returns-in_err-factor-in-Product-clause-err t c =
-    subst (λ level. IfErr c.from_residual-in_err-factor-in-Product.result (Stopped (Stops (Part.Operand level) c.args.cursor.now.point c.read_factor.new.cursor.point) (Exhausts (Part.Operand level) c.args.cursor.now.point) c.args.cursor.now.ending)) (sym c.in-Product.is) (exit_within c.from_residual-in_err-factor-in-Product.result c.from_residual-in_err-factor-in-Product.ensures.1 refl (begins Part.Factor c.args.cursor.now.point nothing_after refl refl refl) c.in_err-factor-in-Product.ensures.err)
+    subst (λ level. IfErr c.from_residual-in_err-factor-in-Product.result
+    (Stopped (Stops (Part.Operand level) c.args.cursor.now.point c.read_factor.new.cursor.point)
+    (Exhausts (Part.Operand level) c.args.cursor.now.point) c.args.cursor.now.ending)) (sym c.in-Product.is)
+    (exit_within c.from_residual-in_err-factor-in-Product.result c.from_residual-in_err-factor-in-Product.ensures.1 refl
+    (begins Part.Factor c.args.cursor.now.point nothing_after refl refl refl) c.in_err-factor-in-Product.ensures.err)
 
 pub read_operand-returns-in_ok-factor-in-Product-clause-ok : goal.read_operand-returns-in_ok-factor-in-Product-clause-ok
 read_operand-returns-in_ok-factor-in-Product-clause-ok t c =
-    subst (λ level. Reads (Part.Operand level) (expression c.in_ok-factor-in-Product.factor) c.args.cursor.now.point c.read_factor.new.cursor.point) (sym c.in-Product.is) (complete (by_part (begins Part.Factor c.args.cursor.now.point nothing_after refl refl refl) c.in_ok-factor-in-Product.ensures.ok))
+    subst (λ level. Reads (Part.Operand level) (expression c.in_ok-factor-in-Product.factor) c.args.cursor.now.point
+    c.read_factor.new.cursor.point) (sym c.in-Product.is) (complete
+    (by_part (begins Part.Factor c.args.cursor.now.point nothing_after refl refl refl) c.in_ok-factor-in-Product.ensures.ok))
 
 pub read_negation-returns-in_err-take-clause-err : goal.read_negation-returns-in_err-take-clause-err
 read_negation-returns-in_err-take-clause-err t c =
@@ -159,7 +251,8 @@ read_negation-returns-in_err-take-clause-err t c =
 
 pub read_negation-returns-in_err-operand-clause-err : goal.read_negation-returns-in_err-operand-clause-err
 read_negation-returns-in_err-operand-clause-err t c =
-    exit_within c.from_residual-in_err-operand.result c.from_residual-in_err-operand.ensures.1 c.in_ok-take.ensures.ending (starts _ refl c.in_ok-take.ensures.ok) c.in_err-operand.ensures.err
+    exit_within c.from_residual-in_err-operand.result c.from_residual-in_err-operand.ensures.1 c.in_ok-take.ensures.ending
+    (starts _ refl c.in_ok-take.ensures.ok) c.in_err-operand.ensures.err
 
 pub read_negation-returns-in_err-held-clause-err : goal.read_negation-returns-in_err-held-clause-err
 read_negation-returns-in_err-held-clause-err t c =
@@ -167,23 +260,30 @@ read_negation-returns-in_err-held-clause-err t c =
 
 pub read_negation-returns-in_ok-held-clause-ok : goal.read_negation-returns-in_ok-held-clause-ok
 read_negation-returns-in_ok-held-clause-ok t c =
-    same_value (ap (λ e. Negation (expression e)) (sym c.in_ok-held.ensures.ok) ∙ sym (expression_not c.in_ok-held.held)) (complete (by_part (starts _ refl c.in_ok-take.ensures.ok) c.in_ok-operand.ensures.ok))
+    same_value (ap (λ e. Negation (expression e)) (sym c.in_ok-held.ensures.ok) ∙ sym (expression_not c.in_ok-held.held))
+    (complete (by_part (starts _ refl c.in_ok-take.ensures.ok) c.in_ok-operand.ensures.ok))
 
 pub read_negation-returns-in_err-value-clause-err : goal.read_negation-returns-in_err-value-clause-err
 read_negation-returns-in_err-value-clause-err t c =
-    exit_within c.from_residual-in_err-value.result c.from_residual-in_err-value.ensures.1 refl (begins Part.Comparison c.args.cursor.now.point nothing_after (negation_comparison _ (sym c.if-stands_at.ensures)) refl refl) c.in_err-value.ensures.err
+    exit_within c.from_residual-in_err-value.result c.from_residual-in_err-value.ensures.1 refl
+    (begins Part.Comparison c.args.cursor.now.point nothing_after (negation_comparison _ (sym c.if-stands_at.ensures)) refl refl)
+    c.in_err-value.ensures.err
 
 pub read_negation-returns-in_ok-value-clause-ok : goal.read_negation-returns-in_ok-value-clause-ok
 read_negation-returns-in_ok-value-clause-ok t c =
-    complete (by_part (begins Part.Comparison c.args.cursor.now.point nothing_after (negation_comparison _ (sym c.if-stands_at.ensures)) refl refl) c.in_ok-value.ensures.ok)
+    complete (by_part (begins Part.Comparison c.args.cursor.now.point nothing_after
+    (negation_comparison _ (sym c.if-stands_at.ensures)) refl refl) c.in_ok-value.ensures.ok)
 
 pub read_comparison-returns-in_err-left-clause-err : goal.read_comparison-returns-in_err-left-clause-err
 read_comparison-returns-in_err-left-clause-err t c =
-    exit_within c.from_residual.result c.from_residual.ensures.1 refl (begins (Part.Chain levels.Sum) c.args.cursor.now.point compared_after refl refl refl) c.in_err-left.ensures.err
+    exit_within c.from_residual.result c.from_residual.ensures.1 refl
+    (begins (Part.Chain levels.Sum) c.args.cursor.now.point compared_after refl refl refl) c.in_err-left.ensures.err
 
 pub read_comparison-returns-in_err-links-clause-err : goal.read_comparison-returns-in_err-links-clause-err
 read_comparison-returns-in_err-links-clause-err t c =
-    exit_within c.from_residual-in_err-links.result c.from_residual-in_err-links.ensures.1 c.in_ok-left.ensures.ending (by_part (begins (Part.Chain levels.Sum) c.args.cursor.now.point compared_after refl refl refl) c.in_ok-left.ensures.ok) c.in_err-links.ensures.err
+    exit_within c.from_residual-in_err-links.result c.from_residual-in_err-links.ensures.1 c.in_ok-left.ensures.ending
+    (by_part (begins (Part.Chain levels.Sum) c.args.cursor.now.point compared_after refl refl refl) c.in_ok-left.ensures.ok)
+    c.in_err-links.ensures.err
 
 pub read_comparison-returns-in_err-value-clause-err : goal.read_comparison-returns-in_err-value-clause-err
 read_comparison-returns-in_err-value-clause-err t c =
@@ -191,19 +291,24 @@ read_comparison-returns-in_err-value-clause-err t c =
 
 pub read_comparison-returns-clause-ok : goal.read_comparison-returns-clause-ok
 read_comparison-returns-clause-ok t c =
-    same_value (sym c.in_ok-value.ensures.ok) (complete (by_part (by_part (begins (Part.Chain levels.Sum) c.args.cursor.now.point compared_after refl refl refl) c.in_ok-left.ensures.ok) c.in_ok-links.ensures.ok))
+    same_value (sym c.in_ok-value.ensures.ok) (complete (by_part
+    (by_part (begins (Part.Chain levels.Sum) c.args.cursor.now.point compared_after refl refl refl) c.in_ok-left.ensures.ok)
+    c.in_ok-links.ensures.ok))
 
 pub read_compared-returns-in-None-clause-ok : goal.read_compared-returns-in-None-clause-ok
 read_compared-returns-in-None-clause-ok t c =
-    same_value (ap links_of (sym c.new.ensures.items)) (passes NoLink _ (ap start_compared (ap comparison (sym c.look.ensures) ∙ c.in-None.ensures)) refl)
+    same_value (ap links_of (sym c.new.ensures.items)) (passes NoLink _
+    (ap start_compared (ap comparison (sym c.look.ensures) ∙ c.in-None.ensures)) refl)
 
 pub read_right-returns-in_err-take-clause-err : goal.read_right-returns-in_err-take-clause-err
 read_right-returns-in_err-take-clause-err t c =
-    exit_sure _ c.from_residual.result c.from_residual.ensures.1 refl (fits_same _ _ c.requires.1) (last_start _ (compared_found c.requires)) c.in_err-take.ensures.err
+    exit_sure _ c.from_residual.result c.from_residual.ensures.1 refl (fits_same _ _ c.requires.1)
+    (last_start _ (compared_found c.requires)) c.in_err-take.ensures.err
 
 pub read_right-returns-in_err-right-clause-err : goal.read_right-returns-in_err-right-clause-err
 read_right-returns-in_err-right-clause-err t c =
-    exit_within c.from_residual-in_err-right.result c.from_residual-in_err-right.ensures.1 c.in_ok-take.ensures.ending (starts _ (compared_found c.requires) c.in_ok-take.ensures.ok) c.in_err-right.ensures.err
+    exit_within c.from_residual-in_err-right.result c.from_residual-in_err-right.ensures.1 c.in_ok-take.ensures.ending
+    (starts _ (compared_found c.requires) c.in_ok-take.ensures.ok) c.in_err-right.ensures.err
 
 pub read_right-returns-in_err-push-clause-err : goal.read_right-returns-in_err-push-clause-err
 read_right-returns-in_err-push-clause-err t c =
@@ -211,7 +316,9 @@ read_right-returns-in_err-push-clause-err t c =
 
 pub read_right-returns-clause-ok : goal.read_right-returns-clause-ok
 read_right-returns-clause-ok t c =
-    same_value (ap links_of (sym (c.in_ok-push.ensures.items ∙ ap (λ held. held ++ (record { op = c.args.operator.op; right = c.in_ok-right.right } ∷ [])) c.new-links.ensures.items))) (complete (by_part (starts _ (compared_found c.requires) c.in_ok-take.ensures.ok) c.in_ok-right.ensures.ok))
+    same_value (ap links_of (sym (c.in_ok-push.ensures.items ∙ ap
+    (λ held. held ++ (record { op = c.args.operator.op; right = c.in_ok-right.right } ∷ [])) c.new-links.ensures.items)))
+    (complete (by_part (starts _ (compared_found c.requires) c.in_ok-take.ensures.ok) c.in_ok-right.ensures.ok))
 
 pub read_factor-returns-in_err-take-clause-err : goal.read_factor-returns-in_err-take-clause-err
 read_factor-returns-in_err-take-clause-err t c =
@@ -219,7 +326,8 @@ read_factor-returns-in_err-take-clause-err t c =
 
 pub read_factor-returns-in_err-operand-clause-err : goal.read_factor-returns-in_err-operand-clause-err
 read_factor-returns-in_err-operand-clause-err t c =
-    exit_within c.from_residual-in_err-operand.result c.from_residual-in_err-operand.ensures.1 c.in_ok-take.ensures.ending (starts _ refl c.in_ok-take.ensures.ok) c.in_err-operand.ensures.err
+    exit_within c.from_residual-in_err-operand.result c.from_residual-in_err-operand.ensures.1 c.in_ok-take.ensures.ending
+    (starts _ refl c.in_ok-take.ensures.ok) c.in_err-operand.ensures.err
 
 pub read_factor-returns-in_err-held-clause-err : goal.read_factor-returns-in_err-held-clause-err
 read_factor-returns-in_err-held-clause-err t c =
@@ -227,23 +335,31 @@ read_factor-returns-in_err-held-clause-err t c =
 
 pub read_factor-returns-in_ok-held-clause-ok : goal.read_factor-returns-in_ok-held-clause-ok
 read_factor-returns-in_ok-held-clause-ok t c =
-    same_value (ap (λ e. Minus (expression e)) (sym c.in_ok-held.ensures.ok) ∙ sym (expression_neg c.in_ok-held.held)) (complete (by_part (starts _ refl c.in_ok-take.ensures.ok) c.in_ok-operand.ensures.ok))
+    same_value (ap (λ e. Minus (expression e)) (sym c.in_ok-held.ensures.ok) ∙ sym (expression_neg c.in_ok-held.held))
+    (complete (by_part (starts _ refl c.in_ok-take.ensures.ok) c.in_ok-operand.ensures.ok))
 
 pub read_factor-returns-in_err-value-clause-err : goal.read_factor-returns-in_err-value-clause-err
 read_factor-returns-in_err-value-clause-err t c =
-    exit_within c.from_residual-in_err-value.result c.from_residual-in_err-value.ensures.1 refl (begins Part.Atom c.args.cursor.now.point nothing_after (factor_atom _ (sym c.if-stands_at.ensures)) refl refl) c.in_err-value.ensures.err
+    exit_within c.from_residual-in_err-value.result c.from_residual-in_err-value.ensures.1 refl
+    (begins Part.Atom c.args.cursor.now.point nothing_after (factor_atom _ (sym c.if-stands_at.ensures)) refl refl)
+    c.in_err-value.ensures.err
 
 pub read_factor-returns-in_ok-value-clause-ok : goal.read_factor-returns-in_ok-value-clause-ok
 read_factor-returns-in_ok-value-clause-ok t c =
-    complete (by_part (begins Part.Atom c.args.cursor.now.point nothing_after (factor_atom _ (sym c.if-stands_at.ensures)) refl refl) c.in_ok-value.ensures.ok)
+    complete (by_part (begins Part.Atom c.args.cursor.now.point nothing_after (factor_atom _ (sym c.if-stands_at.ensures)) refl
+    refl) c.in_ok-value.ensures.ok)
 
 pub read_atom-returns-in_err-target-clause-err : goal.read_atom-returns-in_err-target-clause-err
 read_atom-returns-in_err-target-clause-err t c =
-    exit_within c.from_residual.result c.from_residual.ensures.1 refl (begins Part.Place c.args.cursor.now.point variable_after (atom_place _ (some_place _ (sym c.if-stands_at.ensures))) refl refl) c.in_err-target.ensures.err
+    exit_within c.from_residual.result c.from_residual.ensures.1 refl
+    (begins Part.Place c.args.cursor.now.point variable_after (atom_place _ (some_place _ (sym c.if-stands_at.ensures))) refl
+    refl) c.in_err-target.ensures.err
 
 pub read_atom-returns-in_ok-target-clause-ok : goal.read_atom-returns-in_ok-target-clause-ok
 read_atom-returns-in_ok-target-clause-ok t c =
-    same_value (sym (expression_value c.in_ok-target.target)) (complete (by_part (begins Part.Place c.args.cursor.now.point variable_after (atom_place _ (some_place _ (sym c.if-stands_at.ensures))) refl refl) c.in_ok-target.ensures.ok))
+    same_value (sym (expression_value c.in_ok-target.target))
+    (complete (by_part (begins Part.Place c.args.cursor.now.point variable_after
+    (atom_place _ (some_place _ (sym c.if-stands_at.ensures))) refl refl) c.in_ok-target.ensures.ok))
 
 pub read_prior-returns-in_err-token-clause-err : goal.read_prior-returns-in_err-token-clause-err
 read_prior-returns-in_err-token-clause-err t c =
@@ -251,11 +367,13 @@ read_prior-returns-in_err-token-clause-err t c =
 
 pub read_prior-returns-in_err-target-clause-err : goal.read_prior-returns-in_err-target-clause-err
 read_prior-returns-in_err-target-clause-err t c =
-    exit_within c.from_residual-in_err-target.result c.from_residual-in_err-target.ensures.1 c.in_ok-token.ensures.ending (starts _ refl c.in_ok-token.ensures.ok) c.in_err-target.ensures.err
+    exit_within c.from_residual-in_err-target.result c.from_residual-in_err-target.ensures.1 c.in_ok-token.ensures.ending
+    (starts _ refl c.in_ok-token.ensures.ok) c.in_err-target.ensures.err
 
 pub read_prior-returns-clause-ok : goal.read_prior-returns-clause-ok
 read_prior-returns-clause-ok t c =
-    same_value (sym (expression_prior c.in_ok-token.token.place c.in_ok-target.target)) (complete (by_part (starts _ refl c.in_ok-token.ensures.ok) c.in_ok-target.ensures.ok))
+    same_value (sym (expression_prior c.in_ok-token.token.place c.in_ok-target.target))
+    (complete (by_part (starts _ refl c.in_ok-token.ensures.ok) c.in_ok-target.ensures.ok))
 
 pub read_brackets-returns-in_err-take-clause-err : goal.read_brackets-returns-in_err-take-clause-err
 read_brackets-returns-in_err-take-clause-err t c =
@@ -263,11 +381,14 @@ read_brackets-returns-in_err-take-clause-err t c =
 
 pub read_brackets-returns-in_err-value-clause-err : goal.read_brackets-returns-in_err-value-clause-err
 read_brackets-returns-in_err-value-clause-err t c =
-    exit_within c.from_residual-in_err-value.result c.from_residual-in_err-value.ensures.1 c.in_ok-take.ensures.ending (starts _ refl c.in_ok-take.ensures.ok) c.in_err-value.ensures.err
+    exit_within c.from_residual-in_err-value.result c.from_residual-in_err-value.ensures.1 c.in_ok-take.ensures.ending
+    (starts _ refl c.in_ok-take.ensures.ok) c.in_err-value.ensures.err
 
 pub read_brackets-returns-in_err-take-2-clause-err : goal.read_brackets-returns-in_err-take-2-clause-err
 read_brackets-returns-in_err-take-2-clause-err t c =
-    exit_missed c.from_residual-in_err-take-2.result c.from_residual-in_err-take-2.ensures.1 (c.in_ok-value.ensures.ending ∙ c.in_ok-take.ensures.ending) (by_part (starts _ refl c.in_ok-take.ensures.ok) c.in_ok-value.ensures.ok) c.in_err-take-2.ensures.err
+    exit_missed c.from_residual-in_err-take-2.result c.from_residual-in_err-take-2.ensures.1
+    (c.in_ok-value.ensures.ending ∙ c.in_ok-take.ensures.ending)
+    (by_part (starts _ refl c.in_ok-take.ensures.ok) c.in_ok-value.ensures.ok) c.in_err-take-2.ensures.err
 
 pub read_brackets-returns-clause-ok : goal.read_brackets-returns-clause-ok
 read_brackets-returns-clause-ok t c =
@@ -279,11 +400,13 @@ read_place-returns-in_err-name-clause-err t c =
 
 pub read_place-returns-in_err-index-clause-err : goal.read_place-returns-in_err-index-clause-err
 read_place-returns-in_err-index-clause-err t c =
-    exit_within c.from_residual-in_err-index.result c.from_residual-in_err-index.ensures.1 c.in_ok-name.ensures.ending (starts _ refl (name_taken c.in_ok-name.ensures.ok)) c.in_err-index.ensures.err
+    exit_within c.from_residual-in_err-index.result c.from_residual-in_err-index.ensures.1 c.in_ok-name.ensures.ending
+    (starts _ refl (name_taken c.in_ok-name.ensures.ok)) c.in_err-index.ensures.err
 
 pub read_place-returns-clause-ok : goal.read_place-returns-clause-ok
 read_place-returns-clause-ok t c =
-    same_value (ap (λ name. Refer name (subscript c.in_ok-index.index)) (sym (c.in_ok-name.ensures.ok).is)) (complete (by_part (starts _ refl (name_taken c.in_ok-name.ensures.ok)) c.in_ok-index.ensures.ok))
+    same_value (ap (λ name. Refer name (subscript c.in_ok-index.index)) (sym (c.in_ok-name.ensures.ok).is))
+    (complete (by_part (starts _ refl (name_taken c.in_ok-name.ensures.ok)) c.in_ok-index.ensures.ok))
 
 pub read_subscript-returns-in_err-take-clause-err : goal.read_subscript-returns-in_err-take-clause-err
 read_subscript-returns-in_err-take-clause-err t c =
@@ -291,11 +414,14 @@ read_subscript-returns-in_err-take-clause-err t c =
 
 pub read_subscript-returns-in_err-index-clause-err : goal.read_subscript-returns-in_err-index-clause-err
 read_subscript-returns-in_err-index-clause-err t c =
-    exit_within c.from_residual-in_err-index.result c.from_residual-in_err-index.ensures.1 c.in_ok-take.ensures.ending (starts _ refl c.in_ok-take.ensures.ok) c.in_err-index.ensures.err
+    exit_within c.from_residual-in_err-index.result c.from_residual-in_err-index.ensures.1 c.in_ok-take.ensures.ending
+    (starts _ refl c.in_ok-take.ensures.ok) c.in_err-index.ensures.err
 
 pub read_subscript-returns-in_err-take-2-clause-err : goal.read_subscript-returns-in_err-take-2-clause-err
 read_subscript-returns-in_err-take-2-clause-err t c =
-    exit_missed c.from_residual-in_err-take-2.result c.from_residual-in_err-take-2.ensures.1 (c.in_ok-index.ensures.ending ∙ c.in_ok-take.ensures.ending) (by_part (starts _ refl c.in_ok-take.ensures.ok) c.in_ok-index.ensures.ok) c.in_err-take-2.ensures.err
+    exit_missed c.from_residual-in_err-take-2.result c.from_residual-in_err-take-2.ensures.1
+    (c.in_ok-index.ensures.ending ∙ c.in_ok-take.ensures.ending)
+    (by_part (starts _ refl c.in_ok-take.ensures.ok) c.in_ok-index.ensures.ok) c.in_err-take-2.ensures.err
 
 pub read_subscript-returns-in_err-held-clause-err : goal.read_subscript-returns-in_err-held-clause-err
 read_subscript-returns-in_err-held-clause-err t c =
@@ -303,7 +429,8 @@ read_subscript-returns-in_err-held-clause-err t c =
 
 pub read_subscript-returns-in_ok-held-clause-ok : goal.read_subscript-returns-in_ok-held-clause-ok
 read_subscript-returns-in_ok-held-clause-ok t c =
-    same_value (ap (λ e. Element (expression e)) (sym c.in_ok-held.ensures.ok)) (complete (by_terminal (by_part (starts _ refl c.in_ok-take.ensures.ok) c.in_ok-index.ensures.ok) c.in_ok-take-2.ensures.ok))
+    same_value (ap (λ e. Element (expression e)) (sym c.in_ok-held.ensures.ok))
+    (complete (by_terminal (by_part (starts _ refl c.in_ok-take.ensures.ok) c.in_ok-index.ensures.ok) c.in_ok-take-2.ensures.ok))
 
 pub read_subscript-returns-else-stands_at-clause-ok : goal.read_subscript-returns-else-stands_at-clause-ok
 read_subscript-returns-else-stands_at-clause-ok t c =

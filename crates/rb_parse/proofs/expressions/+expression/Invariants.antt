@@ -1,9 +1,9 @@
 use Rattle.std.proofs.Common.{length, ◌≡◌, ◌≤◌, ◌*◌, ◌+◌}
 use Rattle.rb_parse.proofs.Measures.{chain_rank, operand_rank}
-use Rattle.rb_parse.proofs.Pushing.{after_links}
-use Rattle.rb_parse.proofs.Reaching.{Reaches}
-use Rattle.rb_parse.specs.Parts.{Part}
-use Rattle.rb_parse.specs.Plans.{Call}
+use Rattle.rb_grammar.proofs.Pushing.{after_links}
+use Rattle.rb_grammar.proofs.Reaching.{Reaches}
+use Rattle.rb_grammar.specs.Parts.{Part}
+use Rattle.rb_grammar.specs.Plans.{Call}
 use Rattle.rb_parse.proofs.expressions.+expression.Given as goal
 
 abbrev pub decreases-read_expression : goal.decreases-read_expression

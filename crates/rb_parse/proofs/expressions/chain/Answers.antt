@@ -1,5 +1,5 @@
 use Rattle.std.proofs.Common.{◌==◌, sym, ap, ◌∙◌}
-use Rattle.rb_parse.proofs.Pushing.{chain_links}
+use Rattle.rb_grammar.proofs.Pushing.{chain_links}
 use Rattle.rb_syntax.proofs.Bridge.{expression_chain}
 use Rattle.rb_syntax.specs.Plain.{expression, links_of}
 use Rattle.rb_syntax.specs.Tree.{Chained}

@@ -1,5 +1,5 @@
 use Rattle.std.proofs.Common.{refl, sym}
-use Rattle.rb_parse.proofs.Reaching.{by_terminal, complete, exit_missed, exit_sure, last_start, same_value, starts}
+use Rattle.rb_grammar.proofs.Reaching.{by_terminal, complete, exit_missed, exit_sure, last_start, same_value, starts}
 use Rattle.rb_syntax.proofs.Bridge.{command_fail}
 use Rattle.rb_parse.proofs.simple_statements.read_fail.Goals as goal
 
@@ -9,7 +9,8 @@ returns-in_err-take-clause-err c =
 
 pub returns-in_err-take-2-clause-err : goal.returns-in_err-take-2-clause-err
 returns-in_err-take-2-clause-err c =
-    λ edition. exit_missed c.from_residual-in_err-take-2.result c.from_residual-in_err-take-2.ensures.1 c.in_ok-take.ensures.ending (starts _ refl c.in_ok-take.ensures.ok) c.in_err-take-2.ensures.err
+    λ edition. exit_missed c.from_residual-in_err-take-2.result c.from_residual-in_err-take-2.ensures.1
+    c.in_ok-take.ensures.ending (starts _ refl c.in_ok-take.ensures.ok) c.in_err-take-2.ensures.err
 
 pub returns-clause-ok : goal.returns-clause-ok
 returns-clause-ok c =

@@ -1,8 +1,8 @@
 use Rattle.std.proofs.Common.{length, ◌≡◌, ◌<◌}
-use Rattle.rb_parse.proofs.Pushing.{after_items}
-use Rattle.rb_parse.proofs.Reaching.{Reaches}
-use Rattle.rb_parse.specs.Parts.{Part}
-use Rattle.rb_parse.specs.Plans.{Call}
+use Rattle.rb_grammar.proofs.Pushing.{after_items}
+use Rattle.rb_grammar.proofs.Reaching.{Reaches}
+use Rattle.rb_grammar.specs.Parts.{Part}
+use Rattle.rb_grammar.specs.Plans.{Call}
 use Rattle.rb_parse.proofs.simple_statements.read_items.Given as goal
 
 -- those so far, and those to come, are those of the part

@@ -1,5 +1,5 @@
 use Rattle.std.proofs.Common.{refl, sym, ◌∙◌}
-use Rattle.rb_parse.proofs.Reaching.{by_part, by_terminal, complete, exit_missed, exit_sure, exit_within, last_start, same_value, starts}
+use Rattle.rb_grammar.proofs.Reaching.{by_part, by_terminal, complete, exit_missed, exit_sure, exit_within, last_start, same_value, starts}
 use Rattle.rb_syntax.proofs.Bridge.{command_print}
 use Rattle.rb_parse.proofs.simple_statements.read_print.Goals as goal
 
@@ -9,12 +9,16 @@ returns-in_err-take-clause-err c =
 
 pub returns-in_err-items-clause-err : goal.returns-in_err-items-clause-err
 returns-in_err-items-clause-err c =
-    λ edition. exit_within c.from_residual-in_err-items.result c.from_residual-in_err-items.ensures.1 c.in_ok-take.ensures.ending (starts _ refl c.in_ok-take.ensures.ok) c.in_err-items.ensures.err
+    λ edition. exit_within c.from_residual-in_err-items.result c.from_residual-in_err-items.ensures.1 c.in_ok-take.ensures.ending
+    (starts _ refl c.in_ok-take.ensures.ok) c.in_err-items.ensures.err
 
 pub returns-in_err-take-2-clause-err : goal.returns-in_err-take-2-clause-err
 returns-in_err-take-2-clause-err c =
-    λ edition. exit_missed c.from_residual-in_err-take-2.result c.from_residual-in_err-take-2.ensures.1 (c.in_ok-items.ensures.ending ∙ c.in_ok-take.ensures.ending) (by_part (starts _ refl c.in_ok-take.ensures.ok) c.in_ok-items.ensures.ok) c.in_err-take-2.ensures.err
+    λ edition. exit_missed c.from_residual-in_err-take-2.result c.from_residual-in_err-take-2.ensures.1
+    (c.in_ok-items.ensures.ending ∙ c.in_ok-take.ensures.ending)
+    (by_part (starts _ refl c.in_ok-take.ensures.ok) c.in_ok-items.ensures.ok) c.in_err-take-2.ensures.err
 
 pub returns-clause-ok : goal.returns-clause-ok
 returns-clause-ok c =
-    λ edition. same_value (sym (command_print c.in_ok-items.items)) (complete (by_terminal (by_part (starts _ refl c.in_ok-take.ensures.ok) c.in_ok-items.ensures.ok) c.in_ok-take-2.ensures.ok))
+    λ edition. same_value (sym (command_print c.in_ok-items.items))
+    (complete (by_terminal (by_part (starts _ refl c.in_ok-take.ensures.ok) c.in_ok-items.ensures.ok) c.in_ok-take-2.ensures.ok))

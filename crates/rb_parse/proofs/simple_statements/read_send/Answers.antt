@@ -1,6 +1,6 @@
 use Rattle.std.proofs.Common.{refl, sym, ap, ◌∙◌}
-use Rattle.rb_parse.proofs.Reaching.{by_part, by_terminal, complete, exit_missed, exit_sure, exit_within, last_start, same_value, starts}
-use Rattle.rb_parse.proofs.Takes.{name_taken}
+use Rattle.rb_grammar.proofs.Reaching.{by_part, by_terminal, complete, exit_missed, exit_sure, exit_within, last_start, same_value, starts}
+use Rattle.rb_grammar.proofs.Takes.{name_taken}
 use Rattle.rb_syntax.proofs.Bridge.{command_send}
 use Rattle.rb_syntax.specs.Plain.{expression}
 use Rattle.rb_syntax.specs.Tree.{Sending}
@@ -12,16 +12,25 @@ returns-in_err-take-clause-err c =
 
 pub returns-in_err-channel-clause-err : goal.returns-in_err-channel-clause-err
 returns-in_err-channel-clause-err c =
-    λ edition. exit_missed c.from_residual-in_err-channel.result c.from_residual-in_err-channel.ensures.1 c.in_ok-take.ensures.ending (starts _ refl c.in_ok-take.ensures.ok) c.in_err-channel.ensures.err
+    λ edition. exit_missed c.from_residual-in_err-channel.result c.from_residual-in_err-channel.ensures.1
+    c.in_ok-take.ensures.ending (starts _ refl c.in_ok-take.ensures.ok) c.in_err-channel.ensures.err
 
 pub returns-in_err-value-clause-err : goal.returns-in_err-value-clause-err
 returns-in_err-value-clause-err c =
-    λ edition. exit_within c.from_residual-in_err-value.result c.from_residual-in_err-value.ensures.1 (c.in_ok-channel.ensures.ending ∙ c.in_ok-take.ensures.ending) (by_terminal (starts _ refl c.in_ok-take.ensures.ok) (name_taken c.in_ok-channel.ensures.ok)) c.in_err-value.ensures.err
+    λ edition. exit_within c.from_residual-in_err-value.result c.from_residual-in_err-value.ensures.1
+    (c.in_ok-channel.ensures.ending ∙ c.in_ok-take.ensures.ending)
+    (by_terminal (starts _ refl c.in_ok-take.ensures.ok) (name_taken c.in_ok-channel.ensures.ok)) c.in_err-value.ensures.err
 
 pub returns-in_err-take-2-clause-err : goal.returns-in_err-take-2-clause-err
 returns-in_err-take-2-clause-err c =
-    λ edition. exit_missed c.from_residual-in_err-take-2.result c.from_residual-in_err-take-2.ensures.1 (c.in_ok-value.ensures.ending ∙ c.in_ok-channel.ensures.ending ∙ c.in_ok-take.ensures.ending) (by_part (by_terminal (starts _ refl c.in_ok-take.ensures.ok) (name_taken c.in_ok-channel.ensures.ok)) c.in_ok-value.ensures.ok) c.in_err-take-2.ensures.err
+    λ edition. exit_missed c.from_residual-in_err-take-2.result c.from_residual-in_err-take-2.ensures.1
+    (c.in_ok-value.ensures.ending ∙ c.in_ok-channel.ensures.ending ∙ c.in_ok-take.ensures.ending)
+    (by_part (by_terminal (starts _ refl c.in_ok-take.ensures.ok) (name_taken c.in_ok-channel.ensures.ok))
+    c.in_ok-value.ensures.ok) c.in_err-take-2.ensures.err
 
 pub returns-clause-ok : goal.returns-clause-ok
 returns-clause-ok c =
-    λ edition. same_value (ap (λ name. Sending name (expression c.in_ok-value.value)) (sym (c.in_ok-channel.ensures.ok).is) ∙ sym (command_send c.in_ok-channel.channel c.in_ok-value.value)) (complete (by_terminal (by_part (by_terminal (starts _ refl c.in_ok-take.ensures.ok) (name_taken c.in_ok-channel.ensures.ok)) c.in_ok-value.ensures.ok) c.in_ok-take-2.ensures.ok))
+    λ edition. same_value (ap (λ name. Sending name (expression c.in_ok-value.value)) (sym (c.in_ok-channel.ensures.ok).is) ∙ sym
+    (command_send c.in_ok-channel.channel c.in_ok-value.value))
+    (complete (by_terminal (by_part (by_terminal (starts _ refl c.in_ok-take.ensures.ok) (name_taken c.in_ok-channel.ensures.ok))
+    c.in_ok-value.ensures.ok) c.in_ok-take-2.ensures.ok))

@@ -1,20 +1,21 @@
 use Rattle.std.proofs.Common.{None, refl, sym, ap, ◌∙◌, arith}
-use Rattle.rb_parse.proofs.Forms.{other_alternate, statement_recovery}
-use Rattle.rb_parse.proofs.Made.{recovery_made}
-use Rattle.rb_parse.proofs.Pushing.{alternates_end, alternates_init, alternates_step, statements_end, statements_init, statements_step}
-use Rattle.rb_parse.proofs.Reaching.{begins, begins_here, by_part, by_terminal, complete, exit_first, exit_first_within, exit_memory, exit_missed, exit_sure, exit_within, last_start, passes, same_value, starts, within}
-use Rattle.rb_parse.proofs.Receipts.{else_begins, else_stands, no_other_alternate, no_receipt_end, receipt_else, receipt_wait, wait_begins}
-use Rattle.rb_parse.proofs.Starts.{no_alternate, no_block, no_else, no_recovery, no_statements, same_statements, some_alternate, some_recovery}
-use Rattle.rb_parse.proofs.Takes.{name_taken}
-use Rattle.rb_parse.specs.Finding.{may_not_wait}
-use Rattle.rb_parse.specs.Grammar.{joined}
-use Rattle.rb_parse.specs.Parts.{Part}
-use Rattle.rb_parse.specs.StatementTable.{alternates_after, recovering_after, start_statement, statements_after}
+use Rattle.rb_grammar.proofs.Forms.{other_alternate, statement_recovery}
+use Rattle.rb_grammar.proofs.Made.{recovery_made}
+use Rattle.rb_grammar.proofs.Pushing.{alternates_end, alternates_init, alternates_step, statements_end, statements_init, statements_step}
+use Rattle.rb_grammar.proofs.Reaching.{begins, begins_here, by_part, by_terminal, complete, exit_first, exit_memory, exit_missed}
+use Rattle.rb_grammar.proofs.Reaching.{exit_sure, exit_within, last_start, passes, same_value, starts, within}
+use Rattle.rb_grammar.proofs.Receipts.{else_begins, else_stands, no_receipt_end, receipt_else, receipt_wait, wait_begins}
+use Rattle.rb_grammar.proofs.Starts.{no_alternate, no_block, no_else, no_recovery, no_statements, same_statements, some_alternate, some_recovery}
+use Rattle.rb_grammar.proofs.Takes.{name_taken}
+use Rattle.rb_grammar.specs.Finding.{may_not_wait}
+use Rattle.rb_grammar.specs.Grammar.{joined}
+use Rattle.rb_grammar.specs.Parts.{Part}
+use Rattle.rb_grammar.specs.StatementTable.{alternates_after, recovering_after, start_statement, statements_after}
 use Rattle.rb_syntax.proofs.Bridge.{command_if, command_receive, command_recover, command_while}
 use Rattle.rb_syntax.specs.Plain.{alternates_of, expression, otherwise, recovery_block, reference}
 use Rattle.rb_syntax.specs.Tree.{NoElse, Receiving, Recovering, Recovers}
 use Rattle.std.specs.Option.{is_some}
-use Rattle.rb_parse.specs.declared.stop.Stop.TheVariants as stops
+use Rattle.rb_grammar.specs.declared.stop.Stop.TheVariants as stops
 use Rattle.rb_base.specs.declared.edition.Edition.TheVariants as editions
 use Rattle.rb_parse.proofs.statements.+statement.Goals as goal
 
@@ -28,7 +29,10 @@ read_statements-statements-init t c =
 
 pub read_statements-returns-in_err-statement-clause-err : goal.read_statements-returns-in_err-statement-clause-err
 read_statements-returns-in_err-statement-clause-err t c =
-    exit_within c.from_residual.result c.from_residual.ensures.1 c.statements.invariant.ending (within c.statements.invariant.reached (begins_here (Part.Statement c.args.edition) _ (statements_after c.args.edition) refl (sym (same_statements c.args.edition _) ∙ ap (λ first. is_some (start_statement editions.First first)) (sym c.look.ensures) ∙ sym c.statements-test.ensures))) c.in_err-statement.ensures.err
+    exit_within c.from_residual.result c.from_residual.ensures.1 c.statements.invariant.ending
+    (within c.statements.invariant.reached (begins_here (Part.Statement c.args.edition) _ (statements_after c.args.edition) refl
+    (sym (same_statements c.args.edition _) ∙ ap (λ first. is_some (start_statement editions.First first)) (sym c.look.ensures) ∙
+    sym c.statements-test.ensures))) c.in_err-statement.ensures.err
 
 pub read_statements-returns-in_err-push-clause-err : goal.read_statements-returns-in_err-push-clause-err
 read_statements-returns-in_err-push-clause-err t c =
@@ -37,34 +41,48 @@ read_statements-returns-in_err-push-clause-err t c =
 pub read_statements-statements-preserved : goal.read_statements-statements-preserved
 read_statements-statements-preserved t c =
     record {
-      reached = statements_step c.args.edition c.statements.statements.items c.push.new.self.items c.in_ok-statement.statement c.in_ok-push.ensures.items c.statements.invariant.reached (by_part (begins_here (Part.Statement c.args.edition) _ (statements_after c.args.edition) refl (sym (same_statements c.args.edition _) ∙ ap (λ first. is_some (start_statement editions.First first)) (sym c.look.ensures) ∙ sym c.statements-test.ensures)) c.in_ok-statement.ensures.ok);
+      reached = statements_step c.args.edition c.statements.statements.items c.push.new.self.items c.in_ok-statement.statement
+          c.in_ok-push.ensures.items c.statements.invariant.reached
+          (by_part (begins_here (Part.Statement c.args.edition) _ (statements_after c.args.edition) refl
+          (sym (same_statements c.args.edition _) ∙ ap (λ first. is_some (start_statement editions.First first))
+          (sym c.look.ensures) ∙ sym c.statements-test.ensures)) c.in_ok-statement.ensures.ok);
       ending = c.in_ok-statement.ensures.ending ∙ c.statements.invariant.ending;
       shorter = omega (arith, c.in_ok-statement.ensures.shorter, c.statements.invariant.shorter);
     }
 
 pub read_statements-returns-clause-ok : goal.read_statements-returns-clause-ok
 read_statements-returns-clause-ok t c =
-    statements_end c.args.edition c.statements.statements.items c.statements.invariant.reached (no_statements c.args.edition _ (ap (λ first. is_some (start_statement editions.First first)) (sym c.look.ensures) ∙ sym c.statements-test.ensures))
+    statements_end c.args.edition c.statements.statements.items c.statements.invariant.reached
+    (no_statements c.args.edition _ (ap (λ first. is_some (start_statement editions.First first)) (sym c.look.ensures) ∙ sym
+    c.statements-test.ensures))
 
 pub read_block-returns-in_err-take-clause-err : goal.read_block-returns-in_err-take-clause-err
 read_block-returns-in_err-take-clause-err t c =
-    exit_first (Part.Block c.args.edition) _ refl (no_block c.args.edition _) refl c.from_residual.result c.from_residual.ensures.1 refl c.in_err-take.ensures.err
+    exit_first (Part.Block c.args.edition) _ refl (no_block c.args.edition _) refl c.from_residual.result
+    c.from_residual.ensures.1 refl c.in_err-take.ensures.err
 
 pub read_block-returns-in_err-vars-clause-err : goal.read_block-returns-in_err-vars-clause-err
 read_block-returns-in_err-vars-clause-err t c =
-    exit_within c.from_residual-in_err-vars.result c.from_residual-in_err-vars.ensures.1 c.in_ok-take.ensures.ending (starts _ refl c.in_ok-take.ensures.ok) c.in_err-vars.ensures.err
+    exit_within c.from_residual-in_err-vars.result c.from_residual-in_err-vars.ensures.1 c.in_ok-take.ensures.ending
+    (starts _ refl c.in_ok-take.ensures.ok) c.in_err-vars.ensures.err
 
 pub read_block-returns-in_err-body-clause-err : goal.read_block-returns-in_err-body-clause-err
 read_block-returns-in_err-body-clause-err t c =
-    exit_within c.from_residual-in_err-body.result c.from_residual-in_err-body.ensures.1 (c.in_ok-vars.ensures.ending ∙ c.in_ok-take.ensures.ending) (by_part (starts _ refl c.in_ok-take.ensures.ok) c.in_ok-vars.ensures.ok) c.in_err-body.ensures.err
+    exit_within c.from_residual-in_err-body.result c.from_residual-in_err-body.ensures.1
+    (c.in_ok-vars.ensures.ending ∙ c.in_ok-take.ensures.ending)
+    (by_part (starts _ refl c.in_ok-take.ensures.ok) c.in_ok-vars.ensures.ok) c.in_err-body.ensures.err
 
 pub read_block-returns-in_err-take-2-clause-err : goal.read_block-returns-in_err-take-2-clause-err
 read_block-returns-in_err-take-2-clause-err t c =
-    exit_missed c.from_residual-in_err-take-2.result c.from_residual-in_err-take-2.ensures.1 (c.in_ok-body.ensures.ending ∙ c.in_ok-vars.ensures.ending ∙ c.in_ok-take.ensures.ending) (by_part (by_part (starts _ refl c.in_ok-take.ensures.ok) c.in_ok-vars.ensures.ok) c.in_ok-body.ensures.ok) c.in_err-take-2.ensures.err
+    exit_missed c.from_residual-in_err-take-2.result c.from_residual-in_err-take-2.ensures.1
+    (c.in_ok-body.ensures.ending ∙ c.in_ok-vars.ensures.ending ∙ c.in_ok-take.ensures.ending)
+    (by_part (by_part (starts _ refl c.in_ok-take.ensures.ok) c.in_ok-vars.ensures.ok) c.in_ok-body.ensures.ok)
+    c.in_err-take-2.ensures.err
 
 pub read_block-returns-clause-ok : goal.read_block-returns-clause-ok
 read_block-returns-clause-ok t c =
-    complete (by_terminal (by_part (by_part (starts _ refl c.in_ok-take.ensures.ok) c.in_ok-vars.ensures.ok) c.in_ok-body.ensures.ok) c.in_ok-take-2.ensures.ok)
+    complete (by_terminal (by_part (by_part (starts _ refl c.in_ok-take.ensures.ok) c.in_ok-vars.ensures.ok)
+    c.in_ok-body.ensures.ok) c.in_ok-take-2.ensures.ok)
 
 pub read_if-returns-in_err-take-clause-err : goal.read_if-returns-in_err-take-clause-err
 read_if-returns-in_err-take-clause-err t c =
@@ -72,19 +90,27 @@ read_if-returns-in_err-take-clause-err t c =
 
 pub read_if-returns-in_err-test-clause-err : goal.read_if-returns-in_err-test-clause-err
 read_if-returns-in_err-test-clause-err t c =
-    exit_within c.from_residual-in_err-test.result c.from_residual-in_err-test.ensures.1 c.in_ok-take.ensures.ending (starts _ refl c.in_ok-take.ensures.ok) c.in_err-test.ensures.err
+    exit_within c.from_residual-in_err-test.result c.from_residual-in_err-test.ensures.1 c.in_ok-take.ensures.ending
+    (starts _ refl c.in_ok-take.ensures.ok) c.in_err-test.ensures.err
 
 pub read_if-returns-in_err-block-clause-err : goal.read_if-returns-in_err-block-clause-err
 read_if-returns-in_err-block-clause-err t c =
-    exit_within c.from_residual-in_err-block.result c.from_residual-in_err-block.ensures.1 (c.in_ok-test.ensures.ending ∙ c.in_ok-take.ensures.ending) (by_part (starts _ refl c.in_ok-take.ensures.ok) c.in_ok-test.ensures.ok) c.in_err-block.ensures.err
+    exit_within c.from_residual-in_err-block.result c.from_residual-in_err-block.ensures.1
+    (c.in_ok-test.ensures.ending ∙ c.in_ok-take.ensures.ending)
+    (by_part (starts _ refl c.in_ok-take.ensures.ok) c.in_ok-test.ensures.ok) c.in_err-block.ensures.err
 
 pub read_if-returns-in_err-otherwise-clause-err : goal.read_if-returns-in_err-otherwise-clause-err
 read_if-returns-in_err-otherwise-clause-err t c =
-    exit_within c.from_residual-in_err-otherwise.result c.from_residual-in_err-otherwise.ensures.1 (c.in_ok-block.ensures.ending ∙ c.in_ok-test.ensures.ending ∙ c.in_ok-take.ensures.ending) (by_part (by_part (starts _ refl c.in_ok-take.ensures.ok) c.in_ok-test.ensures.ok) c.in_ok-block.ensures.ok) c.in_err-otherwise.ensures.err
+    exit_within c.from_residual-in_err-otherwise.result c.from_residual-in_err-otherwise.ensures.1
+    (c.in_ok-block.ensures.ending ∙ c.in_ok-test.ensures.ending ∙ c.in_ok-take.ensures.ending)
+    (by_part (by_part (starts _ refl c.in_ok-take.ensures.ok) c.in_ok-test.ensures.ok) c.in_ok-block.ensures.ok)
+    c.in_err-otherwise.ensures.err
 
 pub read_if-returns-clause-ok : goal.read_if-returns-clause-ok
 read_if-returns-clause-ok t c =
-    same_value (sym (command_if c.in_ok-test.test c.in_ok-block.block.vars c.in_ok-block.block.body c.in_ok-otherwise.otherwise)) (complete (by_part (by_part (by_part (starts _ refl c.in_ok-take.ensures.ok) c.in_ok-test.ensures.ok) c.in_ok-block.ensures.ok) c.in_ok-otherwise.ensures.ok))
+    same_value (sym (command_if c.in_ok-test.test c.in_ok-block.block.vars c.in_ok-block.block.body c.in_ok-otherwise.otherwise))
+    (complete (by_part (by_part (by_part (starts _ refl c.in_ok-take.ensures.ok) c.in_ok-test.ensures.ok)
+    c.in_ok-block.ensures.ok) c.in_ok-otherwise.ensures.ok))
 
 pub read_else-returns-in_err-take-clause-err : goal.read_else-returns-in_err-take-clause-err
 read_else-returns-in_err-take-clause-err t c =
@@ -92,7 +118,8 @@ read_else-returns-in_err-take-clause-err t c =
 
 pub read_else-returns-in_err-block-clause-err : goal.read_else-returns-in_err-block-clause-err
 read_else-returns-in_err-block-clause-err t c =
-    exit_within c.from_residual-in_err-block.result c.from_residual-in_err-block.ensures.1 c.in_ok-take.ensures.ending (starts _ refl c.in_ok-take.ensures.ok) c.in_err-block.ensures.err
+    exit_within c.from_residual-in_err-block.result c.from_residual-in_err-block.ensures.1 c.in_ok-take.ensures.ending
+    (starts _ refl c.in_ok-take.ensures.ok) c.in_err-block.ensures.err
 
 pub read_else-returns-in_ok-block-clause-ok : goal.read_else-returns-in_ok-block-clause-ok
 read_else-returns-in_ok-block-clause-ok t c =
@@ -108,15 +135,19 @@ read_while-returns-in_err-take-clause-err t c =
 
 pub read_while-returns-in_err-test-clause-err : goal.read_while-returns-in_err-test-clause-err
 read_while-returns-in_err-test-clause-err t c =
-    exit_within c.from_residual-in_err-test.result c.from_residual-in_err-test.ensures.1 c.in_ok-take.ensures.ending (starts _ refl c.in_ok-take.ensures.ok) c.in_err-test.ensures.err
+    exit_within c.from_residual-in_err-test.result c.from_residual-in_err-test.ensures.1 c.in_ok-take.ensures.ending
+    (starts _ refl c.in_ok-take.ensures.ok) c.in_err-test.ensures.err
 
 pub read_while-returns-in_err-block-clause-err : goal.read_while-returns-in_err-block-clause-err
 read_while-returns-in_err-block-clause-err t c =
-    exit_within c.from_residual-in_err-block.result c.from_residual-in_err-block.ensures.1 (c.in_ok-test.ensures.ending ∙ c.in_ok-take.ensures.ending) (by_part (starts _ refl c.in_ok-take.ensures.ok) c.in_ok-test.ensures.ok) c.in_err-block.ensures.err
+    exit_within c.from_residual-in_err-block.result c.from_residual-in_err-block.ensures.1
+    (c.in_ok-test.ensures.ending ∙ c.in_ok-take.ensures.ending)
+    (by_part (starts _ refl c.in_ok-take.ensures.ok) c.in_ok-test.ensures.ok) c.in_err-block.ensures.err
 
 pub read_while-returns-clause-ok : goal.read_while-returns-clause-ok
 read_while-returns-clause-ok t c =
-    same_value (sym (command_while c.in_ok-test.test c.in_ok-block.block.vars c.in_ok-block.block.body)) (complete (by_part (by_part (starts _ refl c.in_ok-take.ensures.ok) c.in_ok-test.ensures.ok) c.in_ok-block.ensures.ok))
+    same_value (sym (command_while c.in_ok-test.test c.in_ok-block.block.vars c.in_ok-block.block.body))
+    (complete (by_part (by_part (starts _ refl c.in_ok-take.ensures.ok) c.in_ok-test.ensures.ok) c.in_ok-block.ensures.ok))
 
 pub read_receive-returns-in_err-take-clause-err : goal.read_receive-returns-in_err-take-clause-err
 read_receive-returns-in_err-take-clause-err t c =
@@ -124,35 +155,54 @@ read_receive-returns-in_err-take-clause-err t c =
 
 pub read_receive-returns-in_err-channel-clause-err : goal.read_receive-returns-in_err-channel-clause-err
 read_receive-returns-in_err-channel-clause-err t c =
-    exit_missed c.from_residual-in_err-channel.result c.from_residual-in_err-channel.ensures.1 c.in_ok-take.ensures.ending (starts _ refl c.in_ok-take.ensures.ok) c.in_err-channel.ensures.err
+    exit_missed c.from_residual-in_err-channel.result c.from_residual-in_err-channel.ensures.1 c.in_ok-take.ensures.ending
+    (starts _ refl c.in_ok-take.ensures.ok) c.in_err-channel.ensures.err
 
 pub read_receive-returns-in_err-place-clause-err : goal.read_receive-returns-in_err-place-clause-err
 read_receive-returns-in_err-place-clause-err t c =
-    exit_within c.from_residual-in_err-place.result c.from_residual-in_err-place.ensures.1 (c.in_ok-channel.ensures.ending ∙ c.in_ok-take.ensures.ending) (by_terminal (starts _ refl c.in_ok-take.ensures.ok) (name_taken c.in_ok-channel.ensures.ok)) c.in_err-place.ensures.err
+    exit_within c.from_residual-in_err-place.result c.from_residual-in_err-place.ensures.1
+    (c.in_ok-channel.ensures.ending ∙ c.in_ok-take.ensures.ending)
+    (by_terminal (starts _ refl c.in_ok-take.ensures.ok) (name_taken c.in_ok-channel.ensures.ok)) c.in_err-place.ensures.err
 
 pub read_receive-returns-in_err-otherwise-clause-err : goal.read_receive-returns-in_err-otherwise-clause-err
 read_receive-returns-in_err-otherwise-clause-err t c =
-    exit_within c.from_residual-in_err-otherwise.result c.from_residual-in_err-otherwise.ensures.1 (c.in_ok-place.ensures.ending ∙ c.in_ok-channel.ensures.ending ∙ c.in_ok-take.ensures.ending) (by_part (by_terminal (starts _ refl c.in_ok-take.ensures.ok) (name_taken c.in_ok-channel.ensures.ok)) c.in_ok-place.ensures.ok) c.in_err-otherwise.ensures.err
+    exit_within c.from_residual-in_err-otherwise.result c.from_residual-in_err-otherwise.ensures.1
+    (c.in_ok-place.ensures.ending ∙ c.in_ok-channel.ensures.ending ∙ c.in_ok-take.ensures.ending)
+    (by_part (by_terminal (starts _ refl c.in_ok-take.ensures.ok) (name_taken c.in_ok-channel.ensures.ok))
+    c.in_ok-place.ensures.ok) c.in_err-otherwise.ensures.err
 
 pub read_receive-returns-clause-ok : goal.read_receive-returns-clause-ok
 read_receive-returns-clause-ok t c =
-    same_value (ap (λ name. Receiving name (reference c.in_ok-place.place) (otherwise c.in_ok-otherwise.otherwise)) (sym (c.in_ok-channel.ensures.ok).is) ∙ sym (command_receive c.in_ok-channel.channel c.in_ok-place.place c.in_ok-otherwise.otherwise)) (complete (by_part (by_part (by_terminal (starts _ refl c.in_ok-take.ensures.ok) (name_taken c.in_ok-channel.ensures.ok)) c.in_ok-place.ensures.ok) c.in_ok-otherwise.ensures.ok))
+    same_value (ap (λ name. Receiving name (reference c.in_ok-place.place) (otherwise c.in_ok-otherwise.otherwise))
+    (sym (c.in_ok-channel.ensures.ok).is) ∙ sym (command_receive c.in_ok-channel.channel c.in_ok-place.place
+    c.in_ok-otherwise.otherwise)) (complete (by_part (by_part
+    (by_terminal (starts _ refl c.in_ok-take.ensures.ok) (name_taken c.in_ok-channel.ensures.ok)) c.in_ok-place.ensures.ok)
+    c.in_ok-otherwise.ensures.ok))
 
 pub read_receipt_end-returns-in_err-take-clause-err : goal.read_receipt_end-returns-in_err-take-clause-err
 read_receipt_end-returns-in_err-take-clause-err t c =
-    exit_sure _ c.from_residual.result c.from_residual.ensures.1 refl (else_stands c.args.edition _ (ap (may_not_wait c.args.edition) (sym c.look.ensures) ∙ sym c.if-may_not_wait.ensures)) (last_start receipt_else (else_begins c.args.edition _ (ap (may_not_wait c.args.edition) (sym c.look.ensures) ∙ sym c.if-may_not_wait.ensures))) c.in_err-take.ensures.err
+    exit_sure _ c.from_residual.result c.from_residual.ensures.1 refl
+    (else_stands c.args.edition _ (ap (may_not_wait c.args.edition) (sym c.look.ensures) ∙ sym c.if-may_not_wait.ensures))
+    (last_start receipt_else (else_begins c.args.edition _ (ap (may_not_wait c.args.edition) (sym c.look.ensures) ∙ sym
+    c.if-may_not_wait.ensures))) c.in_err-take.ensures.err
 
 pub read_receipt_end-returns-in_err-block-clause-err : goal.read_receipt_end-returns-in_err-block-clause-err
 read_receipt_end-returns-in_err-block-clause-err t c =
-    exit_within c.from_residual-in_err-block.result c.from_residual-in_err-block.ensures.1 c.in_ok-take.ensures.ending (starts receipt_else (else_begins c.args.edition _ (ap (may_not_wait c.args.edition) (sym c.look.ensures) ∙ sym c.if-may_not_wait.ensures)) c.in_ok-take.ensures.ok) c.in_err-block.ensures.err
+    exit_within c.from_residual-in_err-block.result c.from_residual-in_err-block.ensures.1 c.in_ok-take.ensures.ending
+    (starts receipt_else (else_begins c.args.edition _ (ap (may_not_wait c.args.edition) (sym c.look.ensures) ∙ sym
+    c.if-may_not_wait.ensures)) c.in_ok-take.ensures.ok) c.in_err-block.ensures.err
 
 pub read_receipt_end-returns-in_ok-block-clause-ok : goal.read_receipt_end-returns-in_ok-block-clause-ok
 read_receipt_end-returns-in_ok-block-clause-ok t c =
-    complete (by_part (starts receipt_else (else_begins c.args.edition _ (ap (may_not_wait c.args.edition) (sym c.look.ensures) ∙ sym c.if-may_not_wait.ensures)) c.in_ok-take.ensures.ok) c.in_ok-block.ensures.ok)
+    complete (by_part (starts receipt_else (else_begins c.args.edition _
+    (ap (may_not_wait c.args.edition) (sym c.look.ensures) ∙ sym c.if-may_not_wait.ensures)) c.in_ok-take.ensures.ok)
+    c.in_ok-block.ensures.ok)
 
 pub read_receipt_end-returns-in_err-take-2-clause-err : goal.read_receipt_end-returns-in_err-take-2-clause-err
 read_receipt_end-returns-in_err-take-2-clause-err t c =
-    exit_first (Part.ReceiptEnd c.args.edition) receipt_wait (wait_begins c.args.edition) (no_receipt_end c.args.edition _ (ap (may_not_wait c.args.edition) (sym c.look.ensures) ∙ sym c.if-may_not_wait.ensures)) refl c.from_residual-in_err-take-2.result c.from_residual-in_err-take-2.ensures.1 refl c.in_err-take-2.ensures.err
+    exit_first (Part.ReceiptEnd c.args.edition) receipt_wait (wait_begins c.args.edition)
+    (no_receipt_end c.args.edition _ (ap (may_not_wait c.args.edition) (sym c.look.ensures) ∙ sym c.if-may_not_wait.ensures)) refl
+    c.from_residual-in_err-take-2.result c.from_residual-in_err-take-2.ensures.1 refl c.in_err-take-2.ensures.err
 
 pub read_receipt_end-returns-in_ok-take-2-clause-ok : goal.read_receipt_end-returns-in_ok-take-2-clause-ok
 read_receipt_end-returns-in_ok-take-2-clause-ok t c =
@@ -160,11 +210,15 @@ read_receipt_end-returns-in_ok-take-2-clause-ok t c =
 
 pub read_recover-returns-in_err-recovery-clause-err : goal.read_recover-returns-in_err-recovery-clause-err
 read_recover-returns-in_err-recovery-clause-err t c =
-    exit_within c.from_residual.result c.from_residual.ensures.1 refl (begins (Part.Recovery c.args.edition) c.args.cursor.now.point recovering_after (statement_recovery c.args.edition _ (some_recovery c.args.edition _ c.requires)) refl refl) c.in_err-recovery.ensures.err
+    exit_within c.from_residual.result c.from_residual.ensures.1 refl
+    (begins (Part.Recovery c.args.edition) c.args.cursor.now.point recovering_after
+    (statement_recovery c.args.edition _ (some_recovery c.args.edition _ c.requires)) refl refl) c.in_err-recovery.ensures.err
 
 pub read_recover-returns-clause-ok : goal.read_recover-returns-clause-ok
 read_recover-returns-clause-ok t c =
-    same_value (sym (command_recover c.in_ok-recovery.recovery)) (complete (by_part (begins (Part.Recovery c.args.edition) c.args.cursor.now.point recovering_after (statement_recovery c.args.edition _ (some_recovery c.args.edition _ c.requires)) refl refl) c.in_ok-recovery.ensures.ok))
+    same_value (sym (command_recover c.in_ok-recovery.recovery))
+    (complete (by_part (begins (Part.Recovery c.args.edition) c.args.cursor.now.point recovering_after
+    (statement_recovery c.args.edition _ (some_recovery c.args.edition _ c.requires)) refl refl) c.in_ok-recovery.ensures.ok))
 
 pub read_converse-returns-in_err-take-clause-err : goal.read_converse-returns-in_err-take-clause-err
 read_converse-returns-in_err-take-clause-err t c =
@@ -172,43 +226,65 @@ read_converse-returns-in_err-take-clause-err t c =
 
 pub read_converse-returns-in_err-name-clause-err : goal.read_converse-returns-in_err-name-clause-err
 read_converse-returns-in_err-name-clause-err t c =
-    exit_missed c.from_residual-in_err-name.result c.from_residual-in_err-name.ensures.1 c.in_ok-take.ensures.ending (starts _ refl c.in_ok-take.ensures.ok) c.in_err-name.ensures.err
+    exit_missed c.from_residual-in_err-name.result c.from_residual-in_err-name.ensures.1 c.in_ok-take.ensures.ending
+    (starts _ refl c.in_ok-take.ensures.ok) c.in_err-name.ensures.err
 
 pub read_converse-returns-in_err-recovery-clause-err : goal.read_converse-returns-in_err-recovery-clause-err
 read_converse-returns-in_err-recovery-clause-err t c =
-    exit_within c.from_residual-in_err-recovery.result c.from_residual-in_err-recovery.ensures.1 (c.in_ok-name.ensures.ending ∙ c.in_ok-take.ensures.ending) (by_terminal (starts _ refl c.in_ok-take.ensures.ok) (name_taken c.in_ok-name.ensures.ok)) c.in_err-recovery.ensures.err
+    exit_within c.from_residual-in_err-recovery.result c.from_residual-in_err-recovery.ensures.1
+    (c.in_ok-name.ensures.ending ∙ c.in_ok-take.ensures.ending)
+    (by_terminal (starts _ refl c.in_ok-take.ensures.ok) (name_taken c.in_ok-name.ensures.ok)) c.in_err-recovery.ensures.err
 
 pub read_converse-returns-clause-ok : goal.read_converse-returns-clause-ok
 read_converse-returns-clause-ok t c =
-    same_value (ap (λ name. Recovering (joined name (recovery_block c.in_ok-recovery.recovery))) (sym (c.in_ok-name.ensures.ok).is) ∙ ap Recovering (sym c.join.ensures) ∙ sym (command_recover c.join.result)) (complete (by_part (by_terminal (starts _ refl c.in_ok-take.ensures.ok) (name_taken c.in_ok-name.ensures.ok)) c.in_ok-recovery.ensures.ok))
+    same_value (ap (λ name. Recovering (joined name (recovery_block c.in_ok-recovery.recovery)))
+    (sym (c.in_ok-name.ensures.ok).is) ∙ ap Recovering (sym c.join.ensures) ∙ sym (command_recover c.join.result))
+    (complete (by_part (by_terminal (starts _ refl c.in_ok-take.ensures.ok) (name_taken c.in_ok-name.ensures.ok))
+    c.in_ok-recovery.ensures.ok))
 
 pub read_recovery-returns-in_err-token-clause-err : goal.read_recovery-returns-in_err-token-clause-err
 read_recovery-returns-in_err-token-clause-err t c =
-    exit_first (Part.Recovery c.args.edition) _ refl (no_recovery c.args.edition _) refl c.from_residual.result c.from_residual.ensures.1 refl c.in_err-token.ensures.err
+    exit_first (Part.Recovery c.args.edition) _ refl (no_recovery c.args.edition _) refl c.from_residual.result
+    c.from_residual.ensures.1 refl c.in_err-token.ensures.err
 
 pub read_recovery-returns-in_err-test-clause-err : goal.read_recovery-returns-in_err-test-clause-err
 read_recovery-returns-in_err-test-clause-err t c =
-    exit_within c.from_residual-in_err-test.result c.from_residual-in_err-test.ensures.1 c.in_ok-token.ensures.ending (starts _ refl c.in_ok-token.ensures.ok) c.in_err-test.ensures.err
+    exit_within c.from_residual-in_err-test.result c.from_residual-in_err-test.ensures.1 c.in_ok-token.ensures.ending
+    (starts _ refl c.in_ok-token.ensures.ok) c.in_err-test.ensures.err
 
 pub read_recovery-returns-in_err-take-clause-err : goal.read_recovery-returns-in_err-take-clause-err
 read_recovery-returns-in_err-take-clause-err t c =
-    exit_missed c.from_residual-in_err-take.result c.from_residual-in_err-take.ensures.1 (c.in_ok-test.ensures.ending ∙ c.in_ok-token.ensures.ending) (by_part (starts _ refl c.in_ok-token.ensures.ok) c.in_ok-test.ensures.ok) c.in_err-take.ensures.err
+    exit_missed c.from_residual-in_err-take.result c.from_residual-in_err-take.ensures.1
+    (c.in_ok-test.ensures.ending ∙ c.in_ok-token.ensures.ending)
+    (by_part (starts _ refl c.in_ok-token.ensures.ok) c.in_ok-test.ensures.ok) c.in_err-take.ensures.err
 
 pub read_recovery-returns-in_err-bound-clause-err : goal.read_recovery-returns-in_err-bound-clause-err
 read_recovery-returns-in_err-bound-clause-err t c =
-    exit_within c.from_residual-in_err-bound.result c.from_residual-in_err-bound.ensures.1 (c.in_ok-take.ensures.ending ∙ c.in_ok-test.ensures.ending ∙ c.in_ok-token.ensures.ending) (by_terminal (by_part (starts _ refl c.in_ok-token.ensures.ok) c.in_ok-test.ensures.ok) c.in_ok-take.ensures.ok) c.in_err-bound.ensures.err
+    exit_within c.from_residual-in_err-bound.result c.from_residual-in_err-bound.ensures.1
+    (c.in_ok-take.ensures.ending ∙ c.in_ok-test.ensures.ending ∙ c.in_ok-token.ensures.ending)
+    (by_terminal (by_part (starts _ refl c.in_ok-token.ensures.ok) c.in_ok-test.ensures.ok) c.in_ok-take.ensures.ok)
+    c.in_err-bound.ensures.err
 
 pub read_recovery-returns-in_err-alternates-clause-err : goal.read_recovery-returns-in_err-alternates-clause-err
 read_recovery-returns-in_err-alternates-clause-err t c =
-    exit_within c.from_residual-in_err-alternates.result c.from_residual-in_err-alternates.ensures.1 (c.in_ok-bound.ensures.ending ∙ c.in_ok-take.ensures.ending ∙ c.in_ok-test.ensures.ending ∙ c.in_ok-token.ensures.ending) (by_part (by_terminal (by_part (starts _ refl c.in_ok-token.ensures.ok) c.in_ok-test.ensures.ok) c.in_ok-take.ensures.ok) c.in_ok-bound.ensures.ok) c.in_err-alternates.ensures.err
+    exit_within c.from_residual-in_err-alternates.result c.from_residual-in_err-alternates.ensures.1
+    (c.in_ok-bound.ensures.ending ∙ c.in_ok-take.ensures.ending ∙ c.in_ok-test.ensures.ending ∙ c.in_ok-token.ensures.ending)
+    (by_part (by_terminal (by_part (starts _ refl c.in_ok-token.ensures.ok) c.in_ok-test.ensures.ok) c.in_ok-take.ensures.ok)
+    c.in_ok-bound.ensures.ok) c.in_err-alternates.ensures.err
 
 pub read_recovery-returns-clause-ok : goal.read_recovery-returns-clause-ok
 read_recovery-returns-clause-ok t c =
-    same_value (ap (λ number. Recovers number None c.in_ok-token.token.place (expression c.in_ok-test.test) c.in_ok-bound.bound (alternates_of c.in_ok-alternates.alternates.items)) (sym c.recoveries-number.ensures) ∙ sym (recovery_made c.recoveries-number.result c.in_ok-token.token.place c.in_ok-test.test c.in_ok-bound.bound c.in_ok-alternates.alternates)) (complete (by_part (by_part (by_terminal (by_part (starts _ refl c.in_ok-token.ensures.ok) c.in_ok-test.ensures.ok) c.in_ok-take.ensures.ok) c.in_ok-bound.ensures.ok) c.in_ok-alternates.ensures.ok))
+    same_value (ap (λ number. Recovers number None c.in_ok-token.token.place (expression c.in_ok-test.test) c.in_ok-bound.bound
+    (alternates_of c.in_ok-alternates.alternates.items)) (sym c.recoveries-number.ensures) ∙ sym
+    (recovery_made c.recoveries-number.result c.in_ok-token.token.place c.in_ok-test.test c.in_ok-bound.bound
+    c.in_ok-alternates.alternates)) (complete (by_part (by_part
+    (by_terminal (by_part (starts _ refl c.in_ok-token.ensures.ok) c.in_ok-test.ensures.ok) c.in_ok-take.ensures.ok)
+    c.in_ok-bound.ensures.ok) c.in_ok-alternates.ensures.ok))
 
 pub read_alternates-returns-in_err-first-clause-err : goal.read_alternates-returns-in_err-first-clause-err
 read_alternates-returns-in_err-first-clause-err t c =
-    exit_within c.from_residual.result c.from_residual.ensures.1 refl (begins (Part.Alternate c.args.edition) _ (alternates_after c.args.edition) refl refl refl) c.in_err-first.ensures.err
+    exit_within c.from_residual.result c.from_residual.ensures.1 refl
+    (begins (Part.Alternate c.args.edition) _ (alternates_after c.args.edition) refl refl refl) c.in_err-first.ensures.err
 
 pub read_alternates-returns-in_err-push-clause-err : goal.read_alternates-returns-in_err-push-clause-err
 read_alternates-returns-in_err-push-clause-err t c =
@@ -217,14 +293,19 @@ read_alternates-returns-in_err-push-clause-err t c =
 pub read_alternates-alternates-init : goal.read_alternates-alternates-init
 read_alternates-alternates-init t c =
     record {
-      reached = alternates_init c.args.edition c.new-alternates.result.items _ c.in_ok-first.first c.new-alternates.ensures.items c.in_ok-push.ensures.items (by_part (begins (Part.Alternate c.args.edition) _ (alternates_after c.args.edition) refl refl refl) c.in_ok-first.ensures.ok);
+      reached = alternates_init c.args.edition c.new-alternates.result.items _ c.in_ok-first.first c.new-alternates.ensures.items
+          c.in_ok-push.ensures.items (by_part (begins (Part.Alternate c.args.edition) _ (alternates_after c.args.edition) refl
+          refl refl) c.in_ok-first.ensures.ok);
       ending = c.in_ok-first.ensures.ending;
       shorter = c.in_ok-first.ensures.shorter;
     }
 
 pub read_alternates-returns-in_err-alternate-clause-err : goal.read_alternates-returns-in_err-alternate-clause-err
 read_alternates-returns-in_err-alternate-clause-err t c =
-    exit_within c.from_residual-in_err-alternate.result c.from_residual-in_err-alternate.ensures.1 c.alternates.invariant.ending (within c.alternates.invariant.reached (begins (Part.Alternate c.args.edition) _ (alternates_after c.args.edition) (other_alternate c.args.edition _ (some_alternate c.args.edition _ (sym c.alternates-test.ensures))) refl refl)) c.in_err-alternate.ensures.err
+    exit_within c.from_residual-in_err-alternate.result c.from_residual-in_err-alternate.ensures.1 c.alternates.invariant.ending
+    (within c.alternates.invariant.reached (begins (Part.Alternate c.args.edition) _ (alternates_after c.args.edition)
+    (other_alternate c.args.edition _ (some_alternate c.args.edition _ (sym c.alternates-test.ensures))) refl refl))
+    c.in_err-alternate.ensures.err
 
 pub read_alternates-returns-in_err-push-2-clause-err : goal.read_alternates-returns-in_err-push-2-clause-err
 read_alternates-returns-in_err-push-2-clause-err t c =
@@ -233,34 +314,40 @@ read_alternates-returns-in_err-push-2-clause-err t c =
 pub read_alternates-alternates-preserved : goal.read_alternates-alternates-preserved
 read_alternates-alternates-preserved t c =
     record {
-      reached = alternates_step c.args.edition c.alternates.alternates.items c.push-in-alternates.new.self.items c.in_ok-alternate.alternate c.in_ok-push-2.ensures.items c.alternates.invariant.reached (by_part (begins (Part.Alternate c.args.edition) _ (alternates_after c.args.edition) (other_alternate c.args.edition _ (some_alternate c.args.edition _ (sym c.alternates-test.ensures))) refl refl) c.in_ok-alternate.ensures.ok);
+      reached = alternates_step c.args.edition c.alternates.alternates.items c.push-in-alternates.new.self.items
+          c.in_ok-alternate.alternate c.in_ok-push-2.ensures.items c.alternates.invariant.reached
+          (by_part (begins (Part.Alternate c.args.edition) _ (alternates_after c.args.edition)
+          (other_alternate c.args.edition _ (some_alternate c.args.edition _ (sym c.alternates-test.ensures))) refl refl)
+          c.in_ok-alternate.ensures.ok);
       ending = c.in_ok-alternate.ensures.ending ∙ c.alternates.invariant.ending;
       shorter = omega (arith, c.in_ok-alternate.ensures.shorter, c.alternates.invariant.shorter);
     }
 
-pub read_alternates-returns-in_err-take-clause-err : goal.read_alternates-returns-in_err-take-clause-err
-read_alternates-returns-in_err-take-clause-err t c =
-    exit_first_within c.from_residual-in_err-take.result c.from_residual-in_err-take.ensures.1 c.alternates.invariant.ending _ refl (no_other_alternate c.args.edition _ (sym c.alternates-test.ensures)) refl c.alternates.invariant.reached c.in_err-take.ensures.err
-
-pub read_alternates-returns-in_err-take-2-clause-err : goal.read_alternates-returns-in_err-take-2-clause-err
-read_alternates-returns-in_err-take-2-clause-err t c =
-    exit_missed c.from_residual-in_err-take-2.result c.from_residual-in_err-take-2.ensures.1 (c.in_ok-take.ensures.ending ∙ c.alternates.invariant.ending) (within c.alternates.invariant.reached (starts _ refl c.in_ok-take.ensures.ok)) c.in_err-take-2.ensures.err
+pub read_alternates-returns-in_err-read_no_alternate-clause-err : goal.read_alternates-returns-in_err-read_no_alternate-clause-err
+read_alternates-returns-in_err-read_no_alternate-clause-err t c =
+    exit_within c.from_residual-in_err-read_no_alternate.result c.from_residual-in_err-read_no_alternate.ensures.1
+    c.alternates.invariant.ending c.alternates.invariant.reached (c.in_err-read_no_alternate.ensures.err c.args.edition)
 
 pub read_alternates-returns-clause-ok : goal.read_alternates-returns-clause-ok
 read_alternates-returns-clause-ok t c =
-    alternates_end c.args.edition c.alternates.alternates.items c.alternates.invariant.reached (complete (by_terminal (starts _ refl c.in_ok-take.ensures.ok) c.in_ok-take-2.ensures.ok))
+    alternates_end c.args.edition c.alternates.alternates.items c.alternates.invariant.reached
+    (c.in_ok-read_no_alternate.ensures.ok c.args.edition)
 
 pub read_alternate-returns-in_err-take-clause-err : goal.read_alternate-returns-in_err-take-clause-err
 read_alternate-returns-in_err-take-clause-err t c =
-    exit_first (Part.Alternate c.args.edition) _ refl (no_alternate c.args.edition _) refl c.from_residual.result c.from_residual.ensures.1 refl c.in_err-take.ensures.err
+    exit_first (Part.Alternate c.args.edition) _ refl (no_alternate c.args.edition _) refl c.from_residual.result
+    c.from_residual.ensures.1 refl c.in_err-take.ensures.err
 
 pub read_alternate-returns-in_err-block-clause-err : goal.read_alternate-returns-in_err-block-clause-err
 read_alternate-returns-in_err-block-clause-err t c =
-    exit_within c.from_residual-in_err-block.result c.from_residual-in_err-block.ensures.1 c.in_ok-take.ensures.ending (starts _ refl c.in_ok-take.ensures.ok) c.in_err-block.ensures.err
+    exit_within c.from_residual-in_err-block.result c.from_residual-in_err-block.ensures.1 c.in_ok-take.ensures.ending
+    (starts _ refl c.in_ok-take.ensures.ok) c.in_err-block.ensures.err
 
 pub read_alternate-returns-in_err-take-2-clause-err : goal.read_alternate-returns-in_err-take-2-clause-err
 read_alternate-returns-in_err-take-2-clause-err t c =
-    exit_missed c.from_residual-in_err-take-2.result c.from_residual-in_err-take-2.ensures.1 (c.in_ok-block.ensures.ending ∙ c.in_ok-take.ensures.ending) (by_part (starts _ refl c.in_ok-take.ensures.ok) c.in_ok-block.ensures.ok) c.in_err-take-2.ensures.err
+    exit_missed c.from_residual-in_err-take-2.result c.from_residual-in_err-take-2.ensures.1
+    (c.in_ok-block.ensures.ending ∙ c.in_ok-take.ensures.ending)
+    (by_part (starts _ refl c.in_ok-take.ensures.ok) c.in_ok-block.ensures.ok) c.in_err-take-2.ensures.err
 
 pub read_alternate-returns-clause-ok : goal.read_alternate-returns-clause-ok
 read_alternate-returns-clause-ok t c =

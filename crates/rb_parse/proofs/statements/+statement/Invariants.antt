@@ -1,8 +1,8 @@
 use Rattle.std.proofs.Common.{length, ◌≡◌, ◌≤◌, ◌<◌, ◌*◌, ◌+◌}
-use Rattle.rb_parse.proofs.Pushing.{after_alternates, after_statements}
-use Rattle.rb_parse.proofs.Reaching.{Reaches}
-use Rattle.rb_parse.specs.Parts.{Part}
-use Rattle.rb_parse.specs.Plans.{Call}
+use Rattle.rb_grammar.proofs.Pushing.{after_alternates, after_statements}
+use Rattle.rb_grammar.proofs.Reaching.{Reaches}
+use Rattle.rb_grammar.specs.Parts.{Part}
+use Rattle.rb_grammar.specs.Plans.{Call}
 use Rattle.rb_parse.proofs.statements.+statement.Given as goal
 
 abbrev pub decreases-read_statements : goal.decreases-read_statements
@@ -47,7 +47,8 @@ decreases-read_alternate l = 32 * length l.cursor.now.point.left + 17
 -- those so far, and those to come, are those of the part
 abbrev pub invariant-read_statements-statements : goal.invariant-read_statements-statements
 invariant-read_statements-statements l = record {
-  reached : Reaches (Part.Statements l.edition) l.fn.cursor.point (Call (Part.Statements l.edition) (after_statements l.statements.items)) l.cursor.point;
+  reached : Reaches (Part.Statements l.edition) l.fn.cursor.point
+      (Call (Part.Statements l.edition) (after_statements l.statements.items)) l.cursor.point;
   ending : l.cursor.ending ≡ l.fn.cursor.ending;
   shorter : length l.cursor.point.left ≤ length l.fn.cursor.point.left;
 }
@@ -58,7 +59,8 @@ decreases-read_statements-statements l = length l.cursor.point.left
 -- those so far, and those to come, are those of the part
 abbrev pub invariant-read_alternates-alternates : goal.invariant-read_alternates-alternates
 invariant-read_alternates-alternates l = record {
-  reached : Reaches (Part.Alternates l.edition) l.fn.cursor.point (Call (Part.OtherAlternates l.edition) (after_alternates l.alternates.items)) l.cursor.point;
+  reached : Reaches (Part.Alternates l.edition) l.fn.cursor.point
+      (Call (Part.OtherAlternates l.edition) (after_alternates l.alternates.items)) l.cursor.point;
   ending : l.cursor.ending ≡ l.fn.cursor.ending;
   shorter : length l.cursor.point.left < length l.fn.cursor.point.left;
 }

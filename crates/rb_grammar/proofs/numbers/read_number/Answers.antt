@@ -1,0 +1,26 @@
+use Rattle.std.proofs.Common.{refl, sym, pos}
+use Rattle.rb_grammar.proofs.Complete.{number_read}
+use Rattle.rb_grammar.proofs.Reaching.{complete, exit_first, exit_sure, last_start, same_value, starts}
+use Rattle.rb_grammar.proofs.Starts.{no_number}
+use Rattle.rb_grammar.proofs.Takes.{two_is}
+use Rattle.rb_grammar.specs.Parts.{Part}
+use Rattle.rb_lex.specs.Reader.{lexeme_of}
+use Rattle.std.specs.Ordering.{int_eq}
+use Rattle.rb_grammar.proofs.numbers.read_number.Goals as goal
+
+pub returns-in_err-token-clause-err : goal.returns-in_err-token-clause-err
+returns-in_err-token-clause-err c =
+    exit_sure _ c.from_residual.result c.from_residual.ensures.1 refl (sym c.if-stands_at.ensures) (last_start _ refl) c.in_err-token.ensures.err
+
+pub returns-in_ok-token-clause-ok : goal.returns-in_ok-token-clause-ok
+returns-in_ok-token-clause-ok c =
+    same_value (two_is (lexeme_of c.in_ok-token.token) (c.in_ok-token.ensures.ok).is) (complete (starts _ refl c.in_ok-token.ensures.ok))
+
+pub returns-in_err-number-clause-err : goal.returns-in_err-number-clause-err
+returns-in_err-number-clause-err c =
+    exit_first Part.Number _ refl (no_number _ (sym c.if-stands_at.ensures)) refl c.from_residual-in_err-number.result
+    c.from_residual-in_err-number.ensures.1 refl c.in_err-number.ensures.err
+
+pub returns-in_ok-number-clause-ok : goal.returns-in_ok-number-clause-ok
+returns-in_ok-number-clause-ok c =
+    number_read c.in_ok-number.ensures.ok (int_eq (c.in_ok-number.ensures.ok).value (pos 2)) refl

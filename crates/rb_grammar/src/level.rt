@@ -1,0 +1,14 @@
+//! The levels of operators.
+/// How strongly operators bind, from the weakest on. Those of one level make one chain; a comparison, which stands
+/// between `and` and the sums, has one operator at most and is no level.
+#[derive(Clone, Copy, Debug, PartialEq, Eq)]
+pub enum Level {
+    /// `or`
+    Disjunction,
+    /// `and`
+    Conjunction,
+    /// `+` and `-`
+    Sum,
+    /// `*`, `/` and `%`
+    Product,
+}
