@@ -1,9 +1,9 @@
 -- The recovery blocks of a tree whose recovery blocks count up from 0 as they are told are numbered part by part.
 use Rattle.std.proofs.Common.{◌≡◌, ℕ, ◌+◌, List, [], ◌∷◌, length, map, sym, subst, ◌∙◌, arith}
 use Rattle.rb_base.specs.declared.place.Place.{Place}
-use Rattle.rb_parse.specs.Laws.{CountUp}
-use Rattle.rb_parse.specs.Order.{Recovery, alternates_told, body_told, command_told, commands_told, each, expression_told, otherwise_told, procedure_told, process_told, recoveries_alone, recovery_at, recovery_told}
-use Rattle.rb_parse.proofs.Numbered.{recoveries_count_up}
+use Rattle.rb_grammar.specs.Laws.{CountUp}
+use Rattle.rb_grammar.specs.Order.{Recovery, alternates_told, body_told, command_told, commands_told, each, expression_told, otherwise_told, procedure_told, process_told, recoveries_alone, recovery_at, recovery_told}
+use Rattle.rb_grammar.proofs.Numbered.{recoveries_count_up}
 use Rattle.rb_syntax.specs.Numbered.{AlternatesNumbered, BodyNumbered, CommandNumbered, CommandsNumbered, OtherwiseNumbered, ProceduresNumbered, ProcessNumbered, ProcessesNumbered, RecoveryNumbered, blocks_in, blocks_in_alternates, blocks_in_body, blocks_in_command, blocks_in_otherwise, blocks_in_procedures, blocks_in_process, blocks_in_processes, blocks_in_recovery}
 use Rattle.rb_syntax.specs.Tree.{Command, Assignment, Printing, Sending, Receiving, Conditional, Loop, Invocation, Failure, Recovering, Commands, NoCommand, Then, Body, Scope, Otherwise, NoElse, Else, RecoveryBlock, Recovers, Alternates, NoAlternate, Alternate, ProcedureDeclaration, ProcessDeclaration}
 use Rattle.rb_judge.specs.Laws.{ParsedAreNumbered}

@@ -8,7 +8,7 @@ use Rattle.std.proofs.lemmas.List.Sorted.{sum_by-IsPermutation}
 use Rattle.std.proofs.lemmas.Map.Keys.{IsDistinct-cons}
 use Rattle.std.specs.List.{All, AllByRecursion, IsDistinct}
 use Rattle.std.specs.List.Sorted.{IsPermutation}
-use Rattle.rb_parse.specs.Laws.{CountUp}
+use Rattle.rb_grammar.specs.Laws.{CountUp}
 use Rattle.rb_syntax.specs.Tree.{Identifier}
 
 -- one for the number itself, and none for every other

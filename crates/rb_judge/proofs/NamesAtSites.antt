@@ -3,7 +3,7 @@
 use Rattle.std.proofs.Common.{◌≡◌, ℕ, ◌+◌, List, [], ◌∷◌, ◌++◌, Option, Some, None, arith}
 use Rattle.std.specs.List.{flat_map}
 use Rattle.rb_base.specs.declared.place.Place.{Place}
-use Rattle.rb_parse.specs.Order.{alternates_told, body_told, command_told, commands_told, declaration_told, each, expression_told, if_named, item_told, links_told, names_alone, otherwise_told, printed_told, recovery_told, reference_told}
+use Rattle.rb_grammar.specs.Order.{alternates_told, body_told, command_told, commands_told, declaration_told, each, expression_told, if_named, item_told, links_told, names_alone, otherwise_told, printed_told, recovery_told, reference_told}
 use Rattle.rb_syntax.specs.declared.expression.Number.{Number}
 use Rattle.rb_syntax.specs.Tree.{Identifier, Expression, Literal, Variable, Former, Minus, Negation, Chained, Quantification, Reference, Refer, Scalar, Element, Links, NoLink, Linked, Declaration, Printed, Words, Amount, PrintItem, Command, Assignment, Printing, Sending, Receiving, Conditional, Loop, Invocation, Failure, Recovering, Commands, NoCommand, Then, Body, Scope, Otherwise, NoElse, Else, RecoveryBlock, Recovers, Alternates, NoAlternate, Alternate}
 use Rattle.rb_scope.specs.Scopes.{Declared, variables_from, words_in, words_of}

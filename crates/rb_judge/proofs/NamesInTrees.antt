@@ -5,7 +5,7 @@ use Rattle.std.specs.List.{flat_map}
 use Rattle.rb_base.specs.Limits.{most_words}
 use Rattle.rb_base.specs.declared.place.Place.{Place}
 use Rattle.rb_base.specs.declared.edition.Edition.{Edition}
-use Rattle.rb_parse.specs.Order.{body_told, channel_told, commands_told, conversation_told, declaration_told, each, names_alone, procedure_told, process_told, tree_names}
+use Rattle.rb_grammar.specs.Order.{body_told, channel_told, commands_told, conversation_told, declaration_told, each, names_alone, procedure_told, process_told, tree_names}
 use Rattle.rb_syntax.specs.Tree.{Identifier, Declaration, Body, Scope, ChannelDeclaration, ConversationDeclaration, ProcedureDeclaration, ProcessDeclaration, Tree}
 use Rattle.rb_scope.specs.FirstFault.{is_before}
 use Rattle.rb_scope.specs.Scopes.{Declared, channels_from, conversations_from, in_text_order, parameters_from, procedures_from, process_scope, processes_from, program_scope, take_place, variables_from, words_in, words_of}

@@ -1,6 +1,6 @@
 -- Names and expressions have no recovery blocks, so where recovery blocks alone are told nothing is told of them.
 use Rattle.std.proofs.Common.{◌≡◌, List, [], ◌∷◌, Option, Some, None, refl, ◌∙◌}
-use Rattle.rb_parse.specs.Order.{Recovery, declaration_told, each, expression_told, if_named, item_told, links_told, printed_told, recoveries_alone, reference_told}
+use Rattle.rb_grammar.specs.Order.{Recovery, declaration_told, each, expression_told, if_named, item_told, links_told, printed_told, recoveries_alone, reference_told}
 use Rattle.rb_syntax.specs.Tree.{Identifier, Expression, Literal, Variable, Former, Minus, Negation, Chained, Quantification, Reference, Refer, Scalar, Element, Links, NoLink, Linked, Declaration, Words, Amount, Printed, PrintItem}
 
 mutual

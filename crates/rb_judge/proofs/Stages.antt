@@ -6,8 +6,8 @@ use Rattle.rb_syntax.specs.Plain.{tree}
 use Rattle.rb_syntax.specs.Tree.{Tree}
 use Rattle.rb_meaning.specs.Meaning.{naming_of}
 use Rattle.rb_trace.specs.Naming.{naming}
-use Rattle.rb_parse.specs.Verdict as texts
-use Rattle.rb_parse.specs.Verdict.{HasTree}
+use Rattle.rb_grammar.specs.Verdict as texts
+use Rattle.rb_grammar.specs.Verdict.{HasTree}
 use Rattle.rb_scope.specs.InFrames.{Resolved}
 use Rattle.rb_scope.specs.Resolved as scopes
 use Rattle.rb_scope.specs.Resolved.{IsResolved}

@@ -3,7 +3,7 @@
 use Rattle.std.proofs.Common.{◌≡◌, ℕ, ◌⊎◌, inl, inr, List, [], subst, arith}
 use Rattle.rb_base.specs.declared.fault.SourceFault.{SourceFault}
 use Rattle.rb_syntax.specs.Tree.{Tree}
-use Rattle.rb_parse.specs.Verdict.{HasTree, RefusedFor}
+use Rattle.rb_grammar.specs.Verdict.{HasTree, RefusedFor}
 use Rattle.rb_parse.proofs.Verdicts.{has_one_verdict, has_verdict}
 use Rattle.rb_scope.specs.FirstFault.{IsFirstOf}
 use Rattle.rb_scope.specs.Rules.{faults_of}

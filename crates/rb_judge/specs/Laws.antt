@@ -3,8 +3,8 @@ use Rattle.std.specs.Prelude.{◌≡◌, ◌⊎◌, ℕ, ◌≤◌, List}
 use Rattle.rb_base.specs.declared.fault.SourceFault.{SourceFault}
 use Rattle.rb_syntax.specs.Tree.{Tree}
 use Rattle.rb_syntax.specs.Numbered.{IsNumbered}
-use Rattle.rb_parse.specs.Depth.{depth}
-use Rattle.rb_parse.specs.Verdict.{HasTree}
+use Rattle.rb_grammar.specs.Depth.{depth}
+use Rattle.rb_grammar.specs.Verdict.{HasTree}
 use Rattle.rb_scope.specs.Slots.{HasOwnNumbers}
 use Rattle.rb_judge.specs.Verdict.{IsAccepted, IsRefusedFor}
 

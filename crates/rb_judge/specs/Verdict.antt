@@ -3,7 +3,7 @@
 use Rattle.std.specs.Prelude.{◌≡◌, ℕ, List, []}
 use Rattle.rb_base.specs.declared.fault.SourceFault.{SourceFault}
 use Rattle.rb_syntax.specs.Tree.{Tree}
-use Rattle.rb_parse.specs.Verdict.{HasTree, RefusedFor}
+use Rattle.rb_grammar.specs.Verdict.{HasTree, RefusedFor}
 use Rattle.rb_scope.specs.FirstFault.{IsFirstOf}
 use Rattle.rb_scope.specs.Rules.{faults_of}
 use Rattle.rb_nest.specs.Rules.{nesting_faults}
