@@ -65,9 +65,14 @@ later-in_row : (x : List ℕ) (k : ℕ) (first : ProcedureDeclaration) (procedur
     → IsInRow x (k + 1) procedures one → IsInRow x k (first ∷ procedures) one
 later-in_row x k first procedures None other there = tt
 later-in_row x k first procedures (Some one) other there =
-    let number : k + 1 + there.1 ≡ k + suc there.1 = omega arith in
-    (there.0, suc there.1, there.2 ∙ ap Procedure number,
-    ap (λ b. cond b (Some first) (procedure_among x procedures)) other ∙ there.3, there.4, there.5)
+    let number : k + 1 + there.1 ≡ k + suc there.1 = omega arith in (
+      there.0,
+      suc there.1,
+      there.2 ∙ ap Procedure number,
+      ap (λ b. cond b (Some first) (procedure_among x procedures)) other ∙ there.3,
+      there.4,
+      there.5,
+    )
 
 first_in_row : (x : List ℕ) (k : ℕ) (first : ProcedureDeclaration) (procedures : List ProcedureDeclaration) (rest : Option Declared) (named : Bool) → same_name first.name.text x ≡ named
     → IsInRow x (k + 1) procedures rest
