@@ -24,7 +24,7 @@ pub enum Request<'a> {
 
 /// What the words ask for, if they give a command. `Memory` may come for any words.
 pub fn requested(alloc: Global, words: &Words) -> Result<Option<Request<'_>>, Memory>
-    ensures { IfOk result (λ request. option_map asked request ≡ request_of words.now) }
+    ensures { IfOk result (λ request. request_of words.now ≡ option_map asked request) }
 {
     let words = words.list();
     if !are_plain(words) {
