@@ -18,12 +18,19 @@ use Rattle.rb_top.specs.Read.{WasRead, WasReadIn, StandsAt, StandsAtIn, StopsFor
 use Rattle.rb_top.specs.Read as stops
 use Rattle.rb_top.specs.Stages.{HasReadSince, HasReadIn, StageEnds, status_of_unread}
 
--- a line was written whole, or stopped
-pub line_answer : (r : Result (Unit {0}) Failed) (status : Status) (line : List ℕ) (w0 w1 : Option (List ℕ)) (f0 f1 : Faults) →
-    Puts line w0 w1 f0 f1 r → MatchResult r (λ _. status ≡ Refused) (λ _. status ≡ WriteFault) → (Q : Status → Type 0) →
-    (w1 ≡ then_written w0 line → f1.count ≡ f0.count → Q Refused) → (WrotePart w0 w1 line → f1 ≡ failed_once f0 → Q WriteFault) → Q status
-line_answer (Ok done) status line w0 w1 f0 f1 p e Q whole part = subst Q (sym e) (whole p.ok p.quiet)
-line_answer (Err failed) status line w0 w1 f0 f1 p e Q whole part = subst Q (sym e) (part p.err p.failed)
+-- ---- what was written
+
+-- a stage that wrote the line of a refusal
+pub line_ends : (judged : Judgement → Type 0) (r : Result (Unit {0}) Failed) (status : Status) (line : List ℕ) (w0 w1 : Option (List ℕ)) (f0 f1 : Faults) →
+    Puts line w0 w1 f0 f1 r → MatchResult r (λ _. status ≡ Refused) (λ _. status ≡ WriteFault) → judged (RefusedWith line) → StageEnds judged w0 w1 f0 f1 status
+line_ends judged (Ok done) status line w0 w1 f0 f1 p e refused = subst (StageEnds judged w0 w1 f0 f1) (sym e) (line, refused, p.ok, p.quiet)
+line_ends judged (Err failed) status line w0 w1 f0 f1 p e refused = subst (StageEnds judged w0 w1 f0 f1) (sym e) (line, inr refused, p.err, p.failed)
+
+-- a stage that wrote its text
+pub text_ends : (judged : Judgement → Type 0) (r : Result (Unit {0}) Failed) (status : Status) (text : List ℕ) (w0 w1 : Option (List ℕ)) (f0 f1 : Faults) →
+    Puts text w0 w1 f0 f1 r → MatchResult r (λ _. status ≡ Done) (λ _. status ≡ WriteFault) → judged (Writes text) → StageEnds judged w0 w1 f0 f1 status
+text_ends judged (Ok done) status text w0 w1 f0 f1 p e written = subst (StageEnds judged w0 w1 f0 f1) (sym e) (text, written, p.ok, p.quiet)
+text_ends judged (Err failed) status text w0 w1 f0 f1 p e written = subst (StageEnds judged w0 w1 f0 f1) (sym e) (text, inl written, p.err, p.failed)
 
 -- ---- what was read of a file
 
@@ -96,7 +103,7 @@ module _ (files : List File) (request : Request) (texts : List (List ℕ)) (next
       within next last (stopped_at last refl at.not_far at.started) refl
 
 -- a file that is not too long is the next of the texts
-reads_text : (files : Option (List File)) (request : Request) (texts : List (List ℕ)) (next : Wanted) (rest : List Wanted) (old mid now : List Start) (bytes : List ℕ) →
+pub reads_text : (files : Option (List File)) (request : Request) (texts : List (List ℕ)) (next : Wanted) (rest : List Wanted) (old mid now : List Start) (bytes : List ℕ) →
     HasReadIn files request texts (next ∷ rest) old mid → Judges request.command texts ReadsOn → WasReadIn files next.name next.most bytes mid now → length bytes ≤ next.most →
     HasReadIn files request (texts ++ bytes ∷ []) rest old now
 reads_text None request texts next rest old mid now bytes since goes_on was short = tt

@@ -1,9 +1,14 @@
 -- The source of a command, which several commands read and judge first, and the file after it.
-use Rattle.std.proofs.Common.{◌≡◌, ◌⊎◌, ℕ, ◌<◌, ◌≤◌, true, List, [], ◌∷◌, ◌++◌, length, Option, refl, inl, inr, arith}
+use Rattle.std.proofs.Common.{◌≡◌, ◌⊎◌, ℕ, ◌<◌, ◌≤◌, true, List, [], ◌∷◌, ◌++◌, length, Option, Result, Ok, Err, refl, inl, inr, arith}
 use Rattle.rb_base.specs.declared.limits.TheConstants.{MOST_BYTES}
 use Rattle.rb_outside.specs.Outside.{File, Faults, Start}
 use Rattle.rb_syntax.specs.Tree.{Tree}
+use Rattle.rb_meaning.specs.Meaning.{run_text}
+use Rattle.rb_sched.specs.Schedule.{schedule_of}
+use Rattle.rb_run.specs.Ran.{Ran, names_of}
 use Rattle.rb_run.specs.Runnable.{is_runnable}
+use Rattle.rb_run.specs.declared.engine.Ended.{Ended}
+use Rattle.rb_run.specs.declared.engine.Ended.TheVariants as ends
 use Rattle.rb_top.specs.Words.{Command, Wanted, Request, run_of, text_named}
 use Rattle.rb_top.specs.declared.status.Status.{Status}
 use Rattle.rb_top.specs.declared.status.Status.TheVariants.{Done, Refused, Usage, ReadFault, WriteFault, Memory}
@@ -11,7 +16,7 @@ use Rattle.rb_top.specs.Judgement.{Judgement, ReadsOn, RefusedWith, Writes, Sour
 use Rattle.rb_top.specs.Judgement.{JudgesSource, at_first, source_refused, source_accepted, RunGoesOn, unready_tree, ready_tree, schedule_refused, runs, Judges}
 use Rattle.rb_top.specs.Answers.{Scene, WithRequest}
 use Rattle.rb_top.specs.Read.{WasReadIn}
-use Rattle.rb_top.specs.Stages.{HasReadIn, HasSource, EndsForSource, StageEnds}
+use Rattle.rb_top.specs.Stages.{HasReadIn, HasSource, EndsForSource, StageEnds, status_of_run}
 use Rattle.rb_top.proofs.Answering.{next_judged, nothing_read, reads_text}
 
 -- how a stage ends that judged so also tells of what follows from its judgement
@@ -84,3 +89,12 @@ schedule_judged files others source schedule tree old mid now bytes r0 r1 f0 f1 
     has.read (source_accepted has.source tree [] ReadsOn has.accepted (ready_tree ready)) was well
     (λ short j h. source_accepted has.source tree (bytes ∷ []) j has.accepted h)
     (λ long text longer j h. source_accepted has.source tree (text ∷ []) j has.accepted (long_schedules tree bytes text long longer j h)) ends
+
+-- the source runs over its schedule
+pub run_ends : (tree : Tree) (schedule turns : List ℕ) (r : Result (Unit {0}) Ended) (w0 w1 : Option (List ℕ)) (f0 f1 : Faults) → length schedule ≤ MOST_BYTES →
+    schedule_of (names_of tree) schedule ≡ Ok turns → Ran (run_text tree turns) w0 w1 f0 f1 r → StageEnds (RunGoesOn tree (schedule ∷ [])) w0 w1 f0 f1 (status_of_run r)
+run_ends tree schedule turns (Ok done) w0 w1 f0 f1 short listed ran =
+    (run_text tree turns, runs schedule _ (record { turns = turns; short = short; listed = listed; is = refl }), ran.0, ran.1)
+run_ends tree schedule turns (Err ends.WriteFault) w0 w1 f0 f1 short listed ran =
+    (run_text tree turns, inl (runs schedule _ (record { turns = turns; short = short; listed = listed; is = refl })), ran.0, ran.1)
+run_ends tree schedule turns (Err ends.Memory) w0 w1 f0 f1 short listed ran = ran
