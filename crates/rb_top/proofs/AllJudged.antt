@@ -1,20 +1,42 @@
--- Two texts have a verdict: a source has one, a schedule is a list or a fault, and the rest is decided by its test.
+-- Texts have a verdict: a source has one, a schedule is a list or a fault, and the rest is decided by its test.
 use Rattle.std.proofs.Common.{◌≡◌, ◌⊎◌, ℕ, ◌≤◌, Bool, true, false, List, [], ◌∷◌, length, Result, Ok, Err, refl, inl, inr, arith}
 use Rattle.std.specs.Prelude.{nat_lt}
 use Rattle.std.proofs.lemmas.Bool.{ltb-true, ltb-false}
-use Rattle.rb_base.specs.declared.fault.TextFault.{TextFault}
-use Rattle.rb_meaning.specs.Meaning.{run_text}
 use Rattle.rb_base.specs.declared.fault.SourceFault.{SourceFault}
-use Rattle.rb_parse.specs.Verdict.{HasTree, RefusedFor}
+use Rattle.rb_base.specs.declared.fault.TextFault.{TextFault}
 use Rattle.rb_base.specs.declared.limits.TheConstants.{MOST_BYTES}
-use Rattle.rb_parse.proofs.Verdicts.{has_verdict}
+use Rattle.rb_meaning.specs.Meaning.{run_text}
 use Rattle.rb_run.specs.Ran.{names_of}
 use Rattle.rb_run.specs.Runnable.{is_runnable}
 use Rattle.rb_sched.specs.Schedule.{schedule_of}
 use Rattle.rb_syntax.specs.Tree.{Tree}
-use Rattle.rb_top.specs.Words.{Run}
-use Rattle.rb_top.specs.Judgement.{Judgement, RefusedWith, Writes, at_first, source_refused, source_accepted, schedule_refused, runs, EndsWith, refused_here, written_here, later, SourceRefused, long_source, bad_source, unready_source, unready, Accepted, ScheduleRefused, long_schedule, bad_schedule, source_line, schedule_line, too_long_line}
+use Rattle.rb_top.specs.Verdict.{IsAccepted, IsRefusedFor}
+use Rattle.rb_top.specs.Words.{Run, Check}
+use Rattle.rb_top.specs.Judgement.{Judgement, ReadsOn, RefusedWith, Writes, too_long_line, source_line, schedule_line, accepted_line, unready, SourceRefused, long_source, bad_source, Accepted}
+use Rattle.rb_top.specs.Judgement.{ScheduleRefused, long_schedule, bad_schedule, at_first, source_refused, source_accepted, unready_tree, ready_tree, schedule_refused, runs, accepts}
+use Rattle.rb_top.specs.Judgement.{EndsWith, refused_here, written_here, later}
 use Rattle.rb_top.specs.Laws.{AreJudged}
+use Rattle.rb_top.proofs.Verdicts.{have_verdicts}
+
+-- ---- a source
+
+-- it is refused with a line, or accepted with a tree
+abbrev Sourced : List ℕ → Type 0
+Sourced source = ((line : List ℕ) × SourceRefused source line) ⊎ ((tree : Tree) × Accepted source tree)
+
+by_verdict : (source : List ℕ) → length source ≤ MOST_BYTES → ((tree : Tree) × IsAccepted source tree) ⊎ ((fault : SourceFault) × IsRefusedFor source fault) →
+    Sourced source
+by_verdict source short (inl (tree, accepted)) = inr (tree, record { short = short; accepted = accepted })
+by_verdict source short (inr (fault, bad)) = inl (source_line fault, bad_source fault short bad refl)
+
+by_length : (source : List ℕ) (long : Bool) → nat_lt MOST_BYTES (length source) ≡ long → Sourced source
+by_length source true e = inl (too_long_line, long_source (ltb-true MOST_BYTES (length source) e) refl)
+by_length source false e = by_verdict source (ltb-false MOST_BYTES (length source) e) (have_verdicts source)
+
+sourced : (source : List ℕ) → Sourced source
+sourced source = by_length source (nat_lt MOST_BYTES (length source)) refl
+
+-- ---- `run`
 
 module _ (source schedule : List ℕ) where
   abbrev Judged : Type 0
@@ -27,58 +49,80 @@ module _ (source schedule : List ℕ) where
     later [] source (schedule ∷ []) (RefusedWith line) at_first (refused_here (source ∷ []) (schedule ∷ []) line (source_refused source line refused)),
   )
 
-  -- the schedule is refused
-  refused_then : (tree : Tree) (line : List ℕ) → Accepted source tree → ScheduleRefused tree schedule line → Judged
-  refused_then tree line accepted refused = (
-    RefusedWith line,
-    later [] source (schedule ∷ []) (RefusedWith line) at_first
-        (later (source ∷ []) schedule [] (RefusedWith line) (source_accepted source tree accepted)
-        (refused_here (source ∷ schedule ∷ []) [] line (schedule_refused source schedule line tree accepted refused))),
-  )
+  module _ (tree : Tree) (accepted : Accepted source tree) where
+    -- its tree is not run yet
+    not_yet : is_runnable tree ≡ false → Judged
+    not_yet unfit =
+        let line = source_line unready in (
+          RefusedWith line,
+          later [] source (schedule ∷ []) (RefusedWith line) at_first
+              (refused_here (source ∷ []) (schedule ∷ []) line (source_accepted source tree [] (RefusedWith line) accepted (unready_tree line unfit refl))),
+        )
 
-  -- the source runs over the schedule
-  ran : (tree : Tree) (turns : List ℕ) → Accepted source tree → length schedule ≤ MOST_BYTES → schedule_of (names_of tree) schedule ≡ Ok turns → Judged
-  ran tree turns accepted short e = (
-    Writes (run_text tree turns),
-    later [] source (schedule ∷ []) (Writes (run_text tree turns)) at_first
-        (later (source ∷ []) schedule [] (Writes (run_text tree turns)) (source_accepted source tree accepted)
-        (written_here (source ∷ schedule ∷ []) [] (run_text tree turns)
-        (runs source schedule (run_text tree turns) tree accepted (record { turns = turns; short = short; listed = e; is = refl })))),
-  )
+    -- the schedule is refused
+    refused_then : is_runnable tree ≡ true → (line : List ℕ) → ScheduleRefused tree schedule line → Judged
+    refused_then fit line refused = (
+      RefusedWith line,
+      later [] source (schedule ∷ []) (RefusedWith line) at_first
+          (later (source ∷ []) schedule [] (RefusedWith line) (source_accepted source tree [] ReadsOn accepted (ready_tree fit))
+          (refused_here (source ∷ schedule ∷ []) [] line
+          (source_accepted source tree (schedule ∷ []) (RefusedWith line) accepted (schedule_refused schedule line refused)))),
+    )
 
-  -- the schedule is a list of turns, or has a first fault
-  listed : (tree : Tree) (read : Result (List ℕ) TextFault) → Accepted source tree → length schedule ≤ MOST_BYTES → schedule_of (names_of tree) schedule ≡ read → Judged
-  listed tree (Ok turns) accepted short e = ran tree turns accepted short e
-  listed tree (Err fault) accepted short e = refused_then tree (schedule_line fault) accepted (bad_schedule fault short e refl)
+    -- the source runs over the schedule
+    ran : is_runnable tree ≡ true → (turns : List ℕ) → length schedule ≤ MOST_BYTES → schedule_of (names_of tree) schedule ≡ Ok turns → Judged
+    ran fit turns short e =
+        let text = run_text tree turns in (
+          Writes text,
+          later [] source (schedule ∷ []) (Writes text) at_first
+              (later (source ∷ []) schedule [] (Writes text) (source_accepted source tree [] ReadsOn accepted (ready_tree fit))
+              (written_here (source ∷ schedule ∷ []) [] text
+              (source_accepted source tree (schedule ∷ []) (Writes text) accepted (runs schedule text (record { turns = turns; short = short; listed = e; is = refl }))))),
+        )
 
-  -- the schedule is too long, or not
-  scheduled : (long : Bool) (tree : Tree) → Accepted source tree → nat_lt MOST_BYTES (length schedule) ≡ long → Judged
-  scheduled true tree accepted e = refused_then tree too_long_line accepted (long_schedule (ltb-true MOST_BYTES (length schedule) e) refl)
-  scheduled false tree accepted e =
-      listed tree (schedule_of (names_of tree) schedule) accepted (ltb-false MOST_BYTES (length schedule) e) refl
+    -- the schedule is a list of turns, or has a first fault
+    listed : is_runnable tree ≡ true → (read : Result (List ℕ) TextFault) → length schedule ≤ MOST_BYTES → schedule_of (names_of tree) schedule ≡ read → Judged
+    listed fit (Ok turns) short e = ran fit turns short e
+    listed fit (Err fault) short e = refused_then fit (schedule_line fault) (bad_schedule fault short e refl)
 
-  -- the tree is run, or not yet
-  ready : (runnable : Bool) (tree : Tree) → length source ≤ MOST_BYTES → HasTree source tree → is_runnable tree ≡ runnable → Judged
-  ready true tree short has e =
-      scheduled (nat_lt MOST_BYTES (length schedule)) tree (record { short = short; derived = has; runnable = e }) refl
-  ready false tree short has e = refused_first (source_line unready) (unready_source tree short has e refl)
+    -- the schedule is too long, or not
+    scheduled : is_runnable tree ≡ true → (long : Bool) → nat_lt MOST_BYTES (length schedule) ≡ long → Judged
+    scheduled fit true e = refused_then fit too_long_line (long_schedule (ltb-true MOST_BYTES (length schedule) e) refl)
+    scheduled fit false e = listed fit (schedule_of (names_of tree) schedule) (ltb-false MOST_BYTES (length schedule) e) refl
 
-  -- the source has a tree, or a first fault
-  parsed : length source ≤ MOST_BYTES → ((tree : Tree) × HasTree source tree) ⊎ ((fault : SourceFault) × RefusedFor source fault) → Judged
-  parsed short (inl (tree, has)) = ready (is_runnable tree) tree short has refl
-  parsed short (inr (fault, bad)) = refused_first (source_line fault) (bad_source fault short bad refl)
+    -- the tree is run, or not yet
+    ready : (runnable : Bool) → is_runnable tree ≡ runnable → Judged
+    ready true e = scheduled e (nat_lt MOST_BYTES (length schedule)) refl
+    ready false e = not_yet e
 
-  -- the source is too long, or not
-  judged : (long : Bool) → nat_lt MOST_BYTES (length source) ≡ long → Judged
-  judged true e = refused_first too_long_line (long_source (ltb-true MOST_BYTES (length source) e) refl)
-  judged false e = parsed (ltb-false MOST_BYTES (length source) e) (has_verdict source)
+  judged : Sourced source → Judged
+  judged (inl (line, refused)) = refused_first line refused
+  judged (inr (tree, accepted)) = ready tree accepted (is_runnable tree) refl
 
 -- `run` reads two texts
-two_judged : (texts : List (List ℕ)) → length texts ≡ 2 → (v : Judgement) × EndsWith Run [] texts v
-two_judged [] two = absurd (omega (arith, two))
-two_judged (source ∷ []) two = absurd (omega (arith, two))
-two_judged (source ∷ schedule ∷ []) two = judged source schedule (nat_lt MOST_BYTES (length source)) refl
-two_judged (source ∷ schedule ∷ other ∷ more) two = absurd (omega (arith, two))
+run_judged : (texts : List (List ℕ)) → length texts ≡ 2 → (v : Judgement) × EndsWith Run [] texts v
+run_judged [] two = absurd (omega (arith, two))
+run_judged (source ∷ []) two = absurd (omega (arith, two))
+run_judged (source ∷ schedule ∷ []) two = judged source schedule (sourced source)
+run_judged (source ∷ schedule ∷ other ∷ more) two = absurd (omega (arith, two))
+
+-- ---- `check`
+
+checked : (source : List ℕ) → Sourced source → (v : Judgement) × EndsWith Check [] (source ∷ []) v
+checked source (inl (line, refused)) =
+    (RefusedWith line, later [] source [] (RefusedWith line) at_first (refused_here (source ∷ []) [] line (source_refused source line refused)))
+checked source (inr (tree, accepted)) = (
+  Writes accepted_line,
+  later [] source [] (Writes accepted_line) at_first
+      (written_here (source ∷ []) [] accepted_line (source_accepted source tree [] (Writes accepted_line) accepted (accepts accepted_line refl))),
+)
+
+-- `check` reads one
+check_judged : (texts : List (List ℕ)) → length texts ≡ 1 → (v : Judgement) × EndsWith Check [] texts v
+check_judged [] one = absurd (omega (arith, one))
+check_judged (source ∷ []) one = checked source (sourced source)
+check_judged (source ∷ other ∷ more) one = absurd (omega (arith, one))
 
 pub are_judged : AreJudged
-are_judged Run texts two = two_judged texts two
+are_judged Run texts two = run_judged texts two
+are_judged Check texts one = check_judged texts one

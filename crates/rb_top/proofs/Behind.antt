@@ -4,11 +4,12 @@ use Rattle.std.proofs.lemmas.List.{length-take}
 use Rattle.std.proofs.Math.Seq.{take-append_seam, take-length}
 use Rattle.rb_outside.specs.Outside.{File, Faults, Start, WrotePart, failed_once, went_well, then_written}
 use Rattle.rb_outside.proofs.Puts.{failed_after}
-use Rattle.rb_top.specs.Words.{Command, Run, Request}
+use Rattle.rb_top.specs.Words.{Command, Run, Check, Request}
 use Rattle.rb_top.specs.Judgement.{usage_line}
 use Rattle.rb_top.specs.Answers.{Scene, nothing_yet, between, RanOutIn, ReadFails, by_fault, by_missing, WritesByThen, WritesAll, WritesPart, WritesNothing, WithoutRequest, WithRequest, WhereRequested}
 use Rattle.rb_top.specs.Complete.{IsUnhindered, EndsAs, IsComplete}
 use Rattle.rb_top.specs.Ending.{IsUnwritten, SeenBehind, EndsWithNumber, Finishes, status_number}
+use Rattle.rb_top.proofs.Answering.{memory_at_once}
 use Rattle.rb_top.specs.declared.status.Status.{Status}
 use Rattle.rb_top.specs.declared.status.Status.TheVariants.{Done, Refused, Usage, ReadFault, WriteFault, Memory}
 use Rattle.rb_top.proofs.Complete.{completed}
@@ -191,6 +192,7 @@ module _ (files0 : Option (List File)) (starts0 : List Start) (r0 : Faults) (w0 
 
   writes_by_then : (command : Command) → WritesByThen command old mid → WritesByThen command old (at_sink mid.write_faults)
   writes_by_then Run none = passed_none none
+  writes_by_then Check none = passed_none none
 
   behind_some : (request : Request) (s t : Status) → WithRequest request old mid s → Finishes s t told w1 w2 s1 s2 → Seen (Some request) old new t
   behind_some request Usage t h f = absurd h
@@ -234,27 +236,13 @@ module _ (files0 : Option (List File)) (starts0 : List Start) (r0 : Faults) (w0 
       }
 
 -- memory was wanting before anything was done
-wanted_memory : (request : Option Request) (files : Option (List File)) (starts : List Start) (r f : Faults) (w : Option (List ℕ)) →
-    WhereRequested request (record { files = files; starts = starts; read_faults = r; written = w; write_faults = f })
-    (record { files = files; starts = starts; read_faults = r; written = w; write_faults = f }) Memory
-wanted_memory None files starts r f w = (record { starts = refl; faults = refl }, record { written = refl; faults = refl })
-wanted_memory (Some request) files starts r f w = (out files, refl, nothing request.command)
-  where
-    out : (told : Option (List File)) → RanOutIn told request starts starts
-    out None = tt
-    out (Some stored) = between [] request.files [] nothing_yet refl
-
-    nothing : (command : Command) → WritesByThen command (record { files = files; starts = starts; read_faults = r; written = w; write_faults = f })
-        (record { files = files; starts = starts; read_faults = r; written = w; write_faults = f })
-    nothing Run = record { written = refl; faults = refl }
-
 pub ends_without_memory : (request : Option Request) (files now : Option (List File)) (starts : List Start) (r f : Faults) (w : Option (List ℕ)) (number : ℕ) → number ≡ 5 → now ≡ files →
     EndsWithNumber request (record { files = files; starts = starts; read_faults = r; written = w; write_faults = went_well f })
     (record { files = now; starts = starts; read_faults = r; written = w; write_faults = f }) number
 ends_without_memory request files now starts r f w number five same =
     let old : Scene = record { files = files; starts = starts; read_faults = r; written = w; write_faults = went_well f } in
     let seen : SeenBehind old (record { files = files; starts = starts; read_faults = r; written = w; write_faults = f }) = seen_well files starts r w f.count f refl in
-    let answers = wanted_memory request files starts r (went_well f) w in
+    let answers = memory_at_once request old in
     subst (λ (told : Option (List File)). EndsWithNumber request old (record { files = told; starts = starts; read_faults = r; written = w; write_faults = f }) number) (sym same)
     (record {
       status = Memory;

@@ -1,15 +1,16 @@
--- Two texts are judged in one way: a text has one verdict, a schedule is one list or one fault, and a run has one text.
-use Rattle.std.proofs.Common.{◌≡◌, ℕ, ◌<◌, ◌≤◌, true, false, List, [], ◌∷◌, ◌++◌, length, Ok, refl, sym, ap, subst, ◌∙◌, arith}
+-- Texts are judged in one way: a source has one verdict, a schedule is one list or one fault, and a run has one text.
+use Rattle.std.proofs.Common.{◌≡◌, ℕ, ◌<◌, ◌≤◌, true≢false, List, [], ◌∷◌, ◌++◌, length, Ok, refl, sym, ap, subst, ◌∙◌, arith}
 use Rattle.rb_meaning.specs.Meaning.{run_text}
 use Rattle.rb_base.specs.declared.limits.TheConstants.{MOST_BYTES}
-use Rattle.rb_parse.proofs.Verdicts.{has_one_verdict}
 use Rattle.rb_run.specs.Ran.{names_of}
-use Rattle.rb_run.specs.Runnable.{is_runnable}
 use Rattle.rb_sched.specs.Schedule.{schedule_of}
 use Rattle.rb_syntax.specs.Tree.{Tree}
-use Rattle.rb_top.specs.Words.{Command, Run}
-use Rattle.rb_top.specs.Judgement.{Judgement, ReadsOn, RefusedWith, Writes, JudgesRun, at_first, source_refused, source_accepted, schedule_refused, runs, Judges, EndsWith, refused_here, written_here, later, SourceRefused, long_source, bad_source, unready_source, Accepted, ScheduleRefused, long_schedule, bad_schedule, ScheduleRuns, source_line, schedule_line}
+use Rattle.rb_top.specs.Words.{Command, Run, Check}
+use Rattle.rb_top.specs.Judgement.{Judgement, ReadsOn, RefusedWith, Writes, SourceRefused, long_source, bad_source, source_line, Accepted}
+use Rattle.rb_top.specs.Judgement.{ScheduleRefused, long_schedule, bad_schedule, schedule_line, ScheduleRuns, JudgesSource, at_first, source_refused, source_accepted}
+use Rattle.rb_top.specs.Judgement.{RunGoesOn, unready_tree, ready_tree, schedule_refused, runs, CheckGoesOn, accepts, Judges, EndsWith, refused_here, written_here, later}
 use Rattle.rb_top.specs.Laws.{AreJudgedOnce}
+use Rattle.rb_top.proofs.Verdicts.{have_one_verdict}
 
 not_both_lengths : (text : List ℕ) {P : Type 0} → MOST_BYTES < length text → length text ≤ MOST_BYTES → P
 not_both_lengths text long short = absurd (omega (arith, long, short))
@@ -18,31 +19,18 @@ not_both_lengths text long short = absurd (omega (arith, long, short))
 source_once : (source line other : List ℕ) → SourceRefused source line → SourceRefused source other → line ≡ other
 source_once source line other (long_source long a) (long_source again b) = a ∙ sym b
 source_once source line other (long_source long a) (bad_source fault short bad b) = not_both_lengths source long short
-source_once source line other (long_source long a) (unready_source tree short has not_yet b) = not_both_lengths source long short
 source_once source line other (bad_source fault short bad a) (long_source long b) = not_both_lengths source long short
 source_once source line other (bad_source fault short bad a) (bad_source second again worse b) =
-    a ∙ ap source_line ((has_one_verdict source).1 fault second bad worse) ∙ sym b
-source_once source line other (bad_source fault short bad a) (unready_source tree again has not_yet b) =
-    absurd ((has_one_verdict source).2 tree fault has bad)
-source_once source line other (unready_source tree short has not_yet a) (long_source long b) = not_both_lengths source long short
-source_once source line other (unready_source tree short has not_yet a) (bad_source fault again bad b) =
-    absurd ((has_one_verdict source).2 tree fault has bad)
-source_once source line other (unready_source tree short has not_yet a) (unready_source second again had yet b) = a ∙ sym b
-
-runs_and_not : (tree : Tree) → is_runnable tree ≡ true → is_runnable tree ≡ false → ⊥
-runs_and_not tree a b = cc
+    a ∙ ap source_line ((have_one_verdict source).1 fault second bad worse) ∙ sym b
 
 -- a source that is accepted is not refused
 accepted_stands : (source line : List ℕ) (tree : Tree) → Accepted source tree → SourceRefused source line → ⊥
 accepted_stands source line tree a (long_source long e) = not_both_lengths source long a.short
-accepted_stands source line tree a (bad_source fault short bad e) = (has_one_verdict source).2 tree fault a.derived bad
-accepted_stands source line tree a (unready_source other short has not_yet e) =
-    let same : other ≡ tree = (has_one_verdict source).0 other tree has a.derived in
-    runs_and_not tree a.runnable (subst (λ t. is_runnable t ≡ false) same not_yet)
+accepted_stands source line tree a (bad_source fault short bad e) = (have_one_verdict source).2 tree fault a.accepted bad
 
 -- with one tree
 accepted_once : (source : List ℕ) (tree other : Tree) → Accepted source tree → Accepted source other → tree ≡ other
-accepted_once source tree other a b = (has_one_verdict source).0 tree other a.derived b.derived
+accepted_once source tree other a b = (have_one_verdict source).0 tree other a.accepted b.accepted
 
 -- one line for a schedule
 schedule_once : (tree : Tree) (text line other : List ℕ) → ScheduleRefused tree text line → ScheduleRefused tree text other → line ≡ other
@@ -67,29 +55,36 @@ run_once tree schedule text other r s =
 run_stands : (tree : Tree) (schedule text line : List ℕ) → ScheduleRuns tree schedule text → ScheduleRefused tree schedule line → ⊥
 run_stands tree schedule text line r refused = listed_stands tree schedule line r.turns r.short r.listed refused
 
--- `run` makes one thing of what it has read
-runs_once : (texts : List (List ℕ)) (v w : Judgement) → JudgesRun texts v → JudgesRun texts w → v ≡ w
-runs_once texts v w at_first at_first = refl
-runs_once texts v w (source_refused source line r) (source_refused again other s) = ap RefusedWith (source_once source line other r s)
-runs_once texts v w (source_refused source line r) (source_accepted again tree a) = absurd (accepted_stands source line tree a r)
-runs_once texts v w (source_accepted source tree a) (source_refused again line r) = absurd (accepted_stands source line tree a r)
-runs_once texts v w (source_accepted source tree a) (source_accepted again other b) = refl
-runs_once texts v w (schedule_refused source schedule line tree a r) (schedule_refused one two other second b s) =
-    let same : tree ≡ second = accepted_once source tree second a b in
-    ap RefusedWith (schedule_once second schedule line other (subst (λ t. ScheduleRefused t schedule line) same r) s)
-runs_once texts v w (schedule_refused source schedule line tree a r) (runs one two text second b s) =
-    let same : tree ≡ second = accepted_once source tree second a b in
-    absurd (run_stands second schedule text line s (subst (λ t. ScheduleRefused t schedule line) same r))
-runs_once texts v w (runs source schedule text tree a r) (schedule_refused one two line second b s) =
-    let same : second ≡ tree = accepted_once source second tree b a in
-    absurd (run_stands tree schedule text line r (subst (λ t. ScheduleRefused t schedule line) same s))
-runs_once texts v w (runs source schedule text tree a r) (runs one two other second b s) =
-    let same : tree ≡ second = accepted_once source tree second a b in
-    ap Writes (run_once second schedule text other (subst (λ t. ScheduleRuns t schedule text) same r) s)
+-- `run` goes on in one way from an accepted source
+runs_once : (tree : Tree) (texts : List (List ℕ)) (v w : Judgement) → RunGoesOn tree texts v → RunGoesOn tree texts w → v ≡ w
+runs_once tree texts v w (unready_tree line n a) (unready_tree other m b) = ap RefusedWith (a ∙ sym b)
+runs_once tree texts v w (unready_tree line n a) (ready_tree y) = absurd (true≢false (sym y ∙ n))
+runs_once tree texts v w (ready_tree y) (unready_tree line n a) = absurd (true≢false (sym y ∙ n))
+runs_once tree texts v w (ready_tree y) (ready_tree z) = refl
+runs_once tree texts v w (schedule_refused schedule line r) (schedule_refused again other s) = ap RefusedWith (schedule_once tree schedule line other r s)
+runs_once tree texts v w (schedule_refused schedule line r) (runs again text s) = absurd (run_stands tree schedule text line s r)
+runs_once tree texts v w (runs schedule text r) (schedule_refused again line s) = absurd (run_stands tree schedule text line r s)
+runs_once tree texts v w (runs schedule text r) (runs again other s) = ap Writes (run_once tree schedule text other r s)
+
+-- and so does `check`
+checks_once : (tree : Tree) (texts : List (List ℕ)) (v w : Judgement) → CheckGoesOn tree texts v → CheckGoesOn tree texts w → v ≡ w
+checks_once tree texts v w (accepts text a) (accepts other b) = ap Writes (a ∙ sym b)
+
+module _ (goes_on : Tree → List (List ℕ) → Judgement → Type 0)
+    (once : (tree : Tree) (texts : List (List ℕ)) (v w : Judgement) → goes_on tree texts v → goes_on tree texts w → v ≡ w) where
+  -- a command that looks at a source first makes one thing of what it has read
+  source_judged_once : (texts : List (List ℕ)) (v w : Judgement) → JudgesSource goes_on texts v → JudgesSource goes_on texts w → v ≡ w
+  source_judged_once texts v w at_first at_first = refl
+  source_judged_once texts v w (source_refused source line r) (source_refused again other s) = ap RefusedWith (source_once source line other r s)
+  source_judged_once texts v w (source_refused source line r) (source_accepted again tree more j a on) = absurd (accepted_stands source line tree a r)
+  source_judged_once texts v w (source_accepted source tree more j a on) (source_refused again line r) = absurd (accepted_stands source line tree a r)
+  source_judged_once texts v w (source_accepted source tree more j a on) (source_accepted again other others k b off) =
+      once other more j k (subst (λ t. goes_on t more j) (accepted_once source tree other a b) on) off
 
 -- each command makes one thing of what it has read
 judges_once : (command : Command) (texts : List (List ℕ)) (v w : Judgement) → Judges command texts v → Judges command texts w → v ≡ w
-judges_once Run texts v w r s = runs_once texts v w r s
+judges_once Run texts v w r s = source_judged_once RunGoesOn runs_once texts v w r s
+judges_once Check texts v w r s = source_judged_once CheckGoesOn checks_once texts v w r s
 
 refused_goes_on : (line : List ℕ) → RefusedWith line ≡ ReadsOn → ⊥
 refused_goes_on line e = cc

@@ -1,8 +1,11 @@
 pub mod Reading
 pub mod Chains
 pub mod Answering
+pub mod Sources
+pub mod Verdicts
 pub mod Judged
 pub mod Complete
 pub mod AllJudged
 pub mod OneProcess
 pub mod Behind
+pub mod CommandLine

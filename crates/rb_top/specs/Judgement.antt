@@ -7,11 +7,11 @@ use Rattle.rb_base.specs.Words.{fault_word}
 use Rattle.rb_syntax.specs.Tree.{Tree}
 use Rattle.rb_meaning.specs.Meaning.{run_text}
 use Rattle.rb_base.specs.declared.limits.TheConstants.{MOST_BYTES}
-use Rattle.rb_parse.specs.Verdict.{HasTree, RefusedFor}
+use Rattle.rb_top.specs.Verdict.{IsAccepted, IsRefusedFor}
 use Rattle.rb_sched.specs.Schedule.{schedule_of}
 use Rattle.rb_run.specs.Ran.{names_of}
 use Rattle.rb_run.specs.Runnable.{is_runnable}
-use Rattle.rb_top.specs.Words.{Command, Run}
+use Rattle.rb_top.specs.Words.{Command, Run, Check}
 
 -- the line for a text that is too long
 abbrev pub too_long_line : List ℕ
@@ -28,23 +28,25 @@ schedule_line fault = codes "refused " ++ (fault_word fault.name ++ (codes " at 
 
 -- the line for words that give no command
 abbrev pub usage_line : List ℕ
-usage_line = codes "usage: rbl run SOURCE SCHEDULE\n"
+usage_line = codes "usage: rbl run SOURCE SCHEDULE | check SOURCE\n"
 
--- the fault of a source that has a tree, of a form that is not run yet
+-- the line for a source that is accepted
+abbrev pub accepted_line : List ℕ
+accepted_line = codes "accepted\n"
+
+-- the fault of an accepted source whose tree is of a form that is not run yet
 abbrev pub unready : SourceFault
 unready = record { name = Y0; place = record { line = 1; column = 1 } }
 
--- The verdict on a source alone: too long, or its first fault, or a tree that is not run yet.
+-- The verdict on a source alone: too long, or its first fault.
 pub data SourceRefused (source : List ℕ) (line : List ℕ) : Type 0 where
   long_source : MOST_BYTES < length source → line ≡ too_long_line → SourceRefused source line
-  bad_source : (fault : SourceFault) → length source ≤ MOST_BYTES → RefusedFor source fault → line ≡ source_line fault → SourceRefused source line
-  unready_source : (tree : Tree) → length source ≤ MOST_BYTES → HasTree source tree → is_runnable tree ≡ false → line ≡ source_line unready → SourceRefused source line
+  bad_source : (fault : SourceFault) → length source ≤ MOST_BYTES → IsRefusedFor source fault → line ≡ source_line fault → SourceRefused source line
 
 -- a source that is accepted, with its tree
 pub record Accepted (source : List ℕ) (tree : Tree) : Type 0 where
   pub short : length source ≤ MOST_BYTES
-  pub derived : HasTree source tree
-  pub runnable : is_runnable tree ≡ true
+  pub accepted : IsAccepted source tree
 
 -- The verdict on a schedule for an accepted source.
 pub data ScheduleRefused (tree : Tree) (text : List ℕ) (line : List ℕ) : Type 0 where
@@ -64,19 +66,29 @@ pub data Judgement : Type 0 where
   RefusedWith : (line : List ℕ) → Judgement
   Writes : (text : List ℕ) → Judgement
 
--- `run`: the source is judged first, and the schedule is read only where the source was accepted
-pub data JudgesRun : List (List ℕ) → Judgement → Type 0 where
-  at_first : JudgesRun [] ReadsOn
-  source_refused : (source line : List ℕ) → SourceRefused source line → JudgesRun (source ∷ []) (RefusedWith line)
-  source_accepted : (source : List ℕ) (tree : Tree) → Accepted source tree → JudgesRun (source ∷ []) ReadsOn
-  schedule_refused : (source schedule line : List ℕ) (tree : Tree) → Accepted source tree → ScheduleRefused tree schedule line →
-      JudgesRun (source ∷ schedule ∷ []) (RefusedWith line)
-  runs : (source schedule text : List ℕ) (tree : Tree) → Accepted source tree → ScheduleRuns tree schedule text →
-      JudgesRun (source ∷ schedule ∷ []) (Writes text)
+-- A command that looks at a source first: it reads it, and where the source is refused, so is the command; what it makes of an
+-- accepted source and of the texts after it is its own.
+pub data JudgesSource (goes_on : Tree → List (List ℕ) → Judgement → Type 0) : List (List ℕ) → Judgement → Type 0 where
+  at_first : JudgesSource goes_on [] ReadsOn
+  source_refused : (source line : List ℕ) → SourceRefused source line → JudgesSource goes_on (source ∷ []) (RefusedWith line)
+  source_accepted : (source : List ℕ) (tree : Tree) (more : List (List ℕ)) (judgement : Judgement) → Accepted source tree → goes_on tree more judgement →
+      JudgesSource goes_on (source ∷ more) judgement
+
+-- `run`, with an accepted source: it is refused where its tree is of a form that is not run yet; else the schedule is read
+pub data RunGoesOn (tree : Tree) : List (List ℕ) → Judgement → Type 0 where
+  unready_tree : (line : List ℕ) → is_runnable tree ≡ false → line ≡ source_line unready → RunGoesOn tree [] (RefusedWith line)
+  ready_tree : is_runnable tree ≡ true → RunGoesOn tree [] ReadsOn
+  schedule_refused : (schedule line : List ℕ) → ScheduleRefused tree schedule line → RunGoesOn tree (schedule ∷ []) (RefusedWith line)
+  runs : (schedule text : List ℕ) → ScheduleRuns tree schedule text → RunGoesOn tree (schedule ∷ []) (Writes text)
+
+-- `check`, with an accepted source: it says so
+pub data CheckGoesOn (tree : Tree) : List (List ℕ) → Judgement → Type 0 where
+  accepts : (text : List ℕ) → text ≡ accepted_line → CheckGoesOn tree [] (Writes text)
 
 -- what each command makes of the texts that it has read
 abbrev pub Judges : Command → List (List ℕ) → Judgement → Type 0
-Judges Run texts judgement = JudgesRun texts judgement
+Judges Run texts judgement = JudgesSource RunGoesOn texts judgement
+Judges Check texts judgement = JudgesSource CheckGoesOn texts judgement
 
 -- The judgement with which a command ends: these texts were read already, and these are those of the files after them.
 pub data EndsWith (command : Command) : List (List ℕ) → List (List ℕ) → Judgement → Type 0 where

@@ -1,43 +1,60 @@
 -- How the top call stands after each of its stages.
-use Rattle.std.specs.Prelude.{◌≡◌, ◌⊎◌, ℕ, true, List, ◌∷◌, Option, Some, None, Result, Ok, Err}
-use Rattle.rb_outside.specs.Outside.{File, Faults, Start, WrotePart, bytes_of, failed_once, then_written}
+use Rattle.std.specs.Prelude.{◌≡◌, ◌⊎◌, ℕ, List, [], ◌∷◌, ◌++◌, Option, Some, None, Result, Ok, Err}
+use Rattle.rb_outside.specs.Outside.{File, Faults, Start, WrotePart, failed_once, then_written}
 use Rattle.rb_syntax.specs.Tree.{Tree}
-use Rattle.rb_base.specs.declared.limits.TheConstants.{MOST_BYTES}
 use Rattle.rb_run.specs.declared.engine.Ended.{Ended}
 use Rattle.rb_run.specs.declared.engine.Ended.TheVariants as ends
-use Rattle.rb_top.specs.Judgement.{Accepted, ScheduleRefused, ScheduleRuns}
-use Rattle.rb_top.specs.Answers.{IsRead}
+use Rattle.rb_top.specs.Judgement.{Judgement, ReadsOn, RefusedWith, Writes, Accepted, SourceRefused}
+use Rattle.rb_top.specs.Words.{Wanted, Request}
+use Rattle.rb_top.specs.Answers.{HasRead}
+use Rattle.rb_top.specs.declared.read.Unread.{Unread}
+use Rattle.rb_top.specs.declared.read.Unread.TheVariants as unread
 use Rattle.rb_top.specs.declared.status.Status.{Status}
 use Rattle.rb_top.specs.declared.status.Status.TheVariants.{Done, Refused, Usage, ReadFault, WriteFault, Memory}
 
--- the file of this name holds an accepted source with this tree, and was read; its start is the newest, after the others
-pub record HoldsTree (files : List File) (name : List ℕ) (tree : Tree) (others now : List Start) : Type 0 where
-  pub source : List ℕ
-  pub passed : ℕ
-  pub stored : bytes_of files name ≡ Some source
-  pub read : IsRead MOST_BYTES source passed
-  pub accepted : Accepted source tree
-  pub started : now ≡ record { file = Some name; passed = passed; went = true } ∷ others
+-- the command has read these texts, and these files are left: these are the starts since it began
+pub record HasReadSince (files : List File) (request : Request) (texts : List (List ℕ)) (rest : List Wanted) (old now : List Start) : Type 0 where
+  pub starts : List Start
+  pub read : HasRead files request texts rest starts
+  pub started : now ≡ starts ++ old
 
 -- the same, where files are told
-abbrev pub HoldsTreeIn : Option (List File) → List ℕ → Tree → List Start → List Start → Type 0
-HoldsTreeIn None name tree others now = Unit {0}
-HoldsTreeIn (Some files) name tree others now = HoldsTree files name tree others now
+abbrev pub HasReadIn : Option (List File) → Request → List (List ℕ) → List Wanted → List Start → List Start → Type 0
+HasReadIn None request texts rest old now = Unit {0}
+HasReadIn (Some files) request texts rest old now = HasReadSince files request texts rest old now
 
--- each answer once the source was accepted and these bytes of the schedule were read
-abbrev pub AfterSchedule : Tree → List ℕ → Option (List ℕ) → Option (List ℕ) → Faults → Faults → Status → Type 0
-AfterSchedule tree schedule old new before after Done =
-    (text : List ℕ) × ScheduleRuns tree schedule text × (new ≡ then_written old text) × (after.count ≡ before.count)
-AfterSchedule tree schedule old new before after Refused =
-    (line : List ℕ) × ScheduleRefused tree schedule line × (new ≡ then_written old line) × (after.count ≡ before.count)
-AfterSchedule tree schedule old new before after Usage = ⊥
-AfterSchedule tree schedule old new before after ReadFault = ⊥
-AfterSchedule tree schedule old new before after WriteFault =
-    (bytes : List ℕ) × (ScheduleRuns tree schedule bytes ⊎ ScheduleRefused tree schedule bytes) × WrotePart old new bytes × (after ≡ failed_once before)
-AfterSchedule tree schedule old new before after Memory = (new ≡ old) × (after ≡ before)
+-- the command has read an accepted source with this tree, and these files are left
+pub record HasSource (files : Option (List File)) (request : Request) (tree : Tree) (rest : List Wanted) (old now : List Start) : Type 0 where
+  pub source : List ℕ
+  pub accepted : Accepted source tree
+  pub read : HasReadIn files request (source ∷ []) rest old now
+
+-- what a refused source comes to
+abbrev pub EndsForSource : List ℕ → Judgement → Type 0
+EndsForSource source ReadsOn = ⊥
+EndsForSource source (RefusedWith line) = SourceRefused source line
+EndsForSource source (Writes text) = ⊥
+
+-- How a stage ends that reads nothing more: it judged so, and wrote the text or the line of the refusal, or a write failed; or
+-- memory was wanting, before it wrote.
+abbrev pub StageEnds : (Judgement → Type 0) → Option (List ℕ) → Option (List ℕ) → Faults → Faults → Status → Type 0
+StageEnds judged old new before after Done =
+    (text : List ℕ) × judged (Writes text) × (new ≡ then_written old text) × (after.count ≡ before.count)
+StageEnds judged old new before after Refused =
+    (line : List ℕ) × judged (RefusedWith line) × (new ≡ then_written old line) × (after.count ≡ before.count)
+StageEnds judged old new before after Usage = ⊥
+StageEnds judged old new before after ReadFault = ⊥
+StageEnds judged old new before after WriteFault =
+    (bytes : List ℕ) × (judged (Writes bytes) ⊎ judged (RefusedWith bytes)) × WrotePart old new bytes × (after ≡ failed_once before)
+StageEnds judged old new before after Memory = (new ≡ old) × (after ≡ before)
 
 -- how the call ends after a run
 abbrev pub status_of_run : Result (Unit {0}) Ended → Status
 status_of_run (Ok done) = Done
 status_of_run (Err ends.WriteFault) = WriteFault
 status_of_run (Err ends.Memory) = Memory
+
+-- and where a file was not read
+abbrev pub status_of_unread : Unread → Status
+status_of_unread unread.Fault = ReadFault
+status_of_unread unread.Memory = Memory

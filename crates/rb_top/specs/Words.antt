@@ -1,11 +1,13 @@
 -- The words of a command line, and what they ask for. All of it is this project's own.
-use Rattle.std.specs.Prelude.{ℕ, nat_eq, Bool, false, not, cond, ◌&&◌, List, [], ◌∷◌, codes, Option, Some, None}
+use Rattle.std.specs.Prelude.{ℕ, nat_eq, Bool, false, not, cond, List, [], ◌∷◌, codes, Option, Some, None}
+use Rattle.std.specs.List.{list_all}
 use Rattle.std.specs.Cmp.Lexicographic.{pointwise}
 use Rattle.rb_base.specs.declared.limits.TheConstants.{MOST_BYTES}
 
 -- a command, with what its words give it beside files
 pub data Command : Type 0 where
   Run : Command
+  Check : Command
 
 -- a file that a command reads: its name, and how many bytes it may have at most
 pub record Wanted : Type 0 where
@@ -20,8 +22,9 @@ pub record Request : Type 0 where
 -- how many files a command reads
 abbrev pub files_of : Command → ℕ
 files_of Run = 2
+files_of Check = 1
 
--- a word that may name a file: not empty, and without `-` at its front
+-- a word that may follow a command's name: not empty, and without `-` at its front
 abbrev pub is_plain_word : List ℕ → Bool
 is_plain_word [] = false
 is_plain_word (b ∷ bs) = not (nat_eq b 45)
@@ -34,16 +37,38 @@ text_named name = record { name = name; most = MOST_BYTES }
 abbrev pub run_of : List ℕ → List ℕ → Request
 run_of source schedule = record { command = Run; files = text_named source ∷ text_named schedule ∷ [] }
 
--- a run, where the first word is `run` and the two after it may name files
-abbrev pub run_request : List ℕ → List ℕ → List ℕ → Option Request
-run_request command source schedule =
-    cond (pointwise nat_eq command (codes "run") && (is_plain_word source && is_plain_word schedule))
-    (Some (run_of source schedule)) None
+-- a check of the source under a name
+abbrev pub check_of : List ℕ → Request
+check_of source = record { command = Check; files = text_named source ∷ [] }
 
--- what the words ask for: `run`, a source and a schedule, or nothing
+-- what `run` and these words ask for: they are two names
+abbrev pub run_with : List (List ℕ) → Option Request
+run_with [] = None
+run_with (a ∷ []) = None
+run_with (a ∷ b ∷ []) = Some (run_of a b)
+run_with (a ∷ b ∷ c ∷ more) = None
+
+-- what `check` and these words ask for: they are one name
+abbrev pub check_with : List (List ℕ) → Option Request
+check_with [] = None
+check_with (a ∷ []) = Some (check_of a)
+check_with (a ∷ b ∷ more) = None
+
+-- the name of a command, and what it asks for with the words that follow
+pub record Form : Type 0 where
+  pub name : List ℕ
+  pub with : List (List ℕ) → Option Request
+
+-- the commands
+abbrev pub forms : List Form
+forms = record { name = codes "run"; with = run_with } ∷ record { name = codes "check"; with = check_with } ∷ []
+
+-- what the first of these commands that has this name asks for with these words
+abbrev pub named_in : List Form → List ℕ → List (List ℕ) → Option Request
+named_in [] name words = None
+named_in (form ∷ others) name words = cond (pointwise nat_eq form.name name) (form.with words) (named_in others name words)
+
+-- what the words ask for: the first is the name of a command, and plain words follow as that command takes them
 abbrev pub request_of : List (List ℕ) → Option Request
 request_of [] = None
-request_of (a ∷ []) = None
-request_of (a ∷ b ∷ []) = None
-request_of (a ∷ b ∷ c ∷ []) = run_request a b c
-request_of (a ∷ b ∷ c ∷ d ∷ more) = None
+request_of (name ∷ words) = cond (list_all is_plain_word words) (named_in forms name words) None

@@ -3,8 +3,8 @@ ghost use Rattle.rb_outside.specs.Outside.{went_well};
 ghost use Rattle.rb_top.specs.Words.{request_of};
 ghost use Rattle.rb_top.specs.Ending.{IsUnwritten, EndsWithNumber, Finishes};
 
-use crate::status::Status;
-use crate::top::{command, status_after};
+use crate::status::{Status, status_after};
+use crate::top::command;
 use crate::words::Words;
 use rb_outside::{Buffered, Shelf, Sink, buffer_memory};
 use std::alloc::Global;

@@ -1,12 +1,16 @@
-// The top call: from words, files and a sink to a status.
+//! The top call: from words, files and a sink to a status.
 #![tactic(auto)]
 
+pub mod check;
 pub mod ending;
+pub mod judge;
 pub mod laws;
 pub mod program;
 pub mod read;
 pub mod refuse;
 pub mod request;
+pub mod run;
+pub mod source;
 pub mod status;
 pub mod top;
 pub mod words;

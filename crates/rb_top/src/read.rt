@@ -1,8 +1,11 @@
+//! A file that is read in pieces.
 ghost use Rattle.std.specs.Prelude.{◌≡◌, ◌+◌, ◌≤◌, [], drop, IfOk, OnOk, OnErr, vec_len};
 ghost use Rattle.rb_outside.specs.Outside.{IsOpen, failed_once};
 ghost use Rattle.rb_top.specs.Read.{OnUnread, HasFrontIn, StandsAtIn, ReadOn, PassedOn, WasReadIn, StopsForFaultIn, StopsForMemory};
 ghost use Rattle.rb_top.specs.Answers.{piece_bytes};
+ghost use Rattle.rb_top.specs.Stages.{status_of_unread};
 
+use crate::status::Status;
 use rb_outside::Shelf;
 use std::alloc::Global;
 
@@ -14,6 +17,18 @@ const PIECE: usize = 4096;
 pub enum Unread {
     Fault,
     Memory,
+}
+
+impl Unread {
+    /// How the call ends.
+    pub fn status(self) -> Status
+        ensures { result ≡ status_of_unread self }
+    {
+        match self {
+            Unread::Fault => Status::ReadFault,
+            Unread::Memory => Status::Memory,
+        }
+    }
 }
 
 /// Reads a file to its end, or until it is above so many bytes, by less than a piece of 4,096. The file is started once;

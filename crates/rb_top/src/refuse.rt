@@ -1,6 +1,7 @@
+//! The lines of refusals, and those that a command answers with.
 ghost use Rattle.std.specs.Prelude.{◌≡◌, ◌++◌, codes};
 ghost use Rattle.rb_outside.specs.Puts.{Puts};
-ghost use Rattle.rb_top.specs.Judgement.{source_line, schedule_line, too_long_line, unready, usage_line};
+ghost use Rattle.rb_top.specs.Judgement.{source_line, schedule_line, too_long_line, accepted_line, unready, usage_line};
 
 use itoa::Buffer;
 use rb_base::{FaultName, Place, SourceFault, TextFault};
@@ -67,5 +68,12 @@ pub fn refuse_long<S: Sink>(out: &mut S) -> Result<(), Failed>
 pub fn put_usage<S: Sink>(out: &mut S) -> Result<(), Failed>
     ensures { Puts usage_line (S.written out.old) (S.written out.new) (S.faults out.old) (S.faults out.new) result }
 {
-    put(out, b"usage: rbl run SOURCE SCHEDULE\n")
+    put(out, b"usage: rbl run SOURCE SCHEDULE | check SOURCE\n")
+}
+
+/// Writes the line of a source that is accepted.
+pub fn put_accepted<S: Sink>(out: &mut S) -> Result<(), Failed>
+    ensures { Puts accepted_line (S.written out.old) (S.written out.new) (S.faults out.old) (S.faults out.new) result }
+{
+    put(out, b"accepted\n")
 }

@@ -1,38 +1,127 @@
-ghost use Rattle.std.specs.Prelude.{◌≡◌, Some, MatchOption, None};
+//! What the words of the command line ask for. They are read with `clap`.
+ghost use Rattle.std.specs.Prelude.{◌≡◌, IfOk, None, [], false, map, option_and_then, option_map, string_bytes};
+ghost use Rattle.std.specs.List.{list_all};
+ghost use Rattle.clap.specs.Words.{app_of, first_of, first_value, found_of, subcommand_rows_of};
+ghost use Rattle.clap.specs.declared.builder.command.Command.TheViews.{out-Command as fields_of};
 ghost use Rattle.rb_top.specs.Words.{request_of, is_plain_word};
 ghost use Rattle.rb_top.specs.Asked.{asked};
+ghost use Rattle.rb_top.specs.CommandLine.{program, program_alone, command_with, request_given};
 
 use crate::words::Words;
+use clap::error::ErrorKind;
+use clap::{Arg, ArgMatches, Command};
+use rb_base::Memory;
+use std::alloc::{AllocError, Global};
 
 /// What the words ask for, with the names of the files that are read for it.
 #[derive(Clone, Copy, Debug)]
 pub enum Request<'a> {
     /// The run of a source over a schedule.
     Run { source: &'a str, schedule: &'a str },
+    /// The check of a source.
+    Check { source: &'a str },
 }
 
-/// What the words ask for, if they give a command.
-pub fn requested(words: &Words) -> Option<Request<'_>>
-    ensures { MatchOption result (request_of words.now ≡ None) (λ given. request_of words.now ≡ Some (asked given)) }
+/// What the words ask for, if they give a command. `Memory` may come for any words.
+pub fn requested(alloc: Global, words: &Words) -> Result<Option<Request<'_>>, Memory>
+    ensures { IfOk result (λ request. request_of words.now ≡ option_map asked request) }
 {
-    let [command, source, schedule] = words.list() else {
-        return None;
-    };
-    let source = source.as_str();
-    let schedule = schedule.as_str();
-    if command.as_str() == "run" && is_plain(source) && is_plain(schedule) {
-        Some(Request::Run { source, schedule })
-    } else {
-        None
+    let words = words.list();
+    if !are_plain(words) {
+        return Ok(None);
+    }
+    match command_line(alloc)?.try_get_matches_from(words) {
+        Ok(matches) => Ok(request_in(&matches)),
+        Err(error) => none_unless_memory(error.kind()),
     }
 }
 
-// Not empty, and without `-` at its front.
+// Words that are refused for this give no command, unless memory was wanting.
+fn none_unless_memory<'a>(kind: ErrorKind) -> Result<Option<Request<'a>>, Memory>
+    ensures { IfOk result (λ request. (request ≡ None) × (kind ≡ ErrorKind.OutOfMemory → ⊥)) }
+{
+    if kind == ErrorKind::OutOfMemory {
+        return Err(Memory);
+    }
+    Ok(None)
+}
+
+// Words of which none is empty or has `-` at its front.
+fn are_plain(words: &[String]) -> bool
+    ensures { result ≡ list_all (λ word. is_plain_word (string_bytes word)) words.now }
+{
+    for word in words {
+        if !is_plain(word.as_str()) {
+            return false;
+        }
+    }
+    true
+}
+
 fn is_plain(word: &str) -> bool
     ensures { result ≡ is_plain_word word.now }
 {
     match word.as_bytes() {
         [] => false,
         [first, ..] => *first != b'-',
+    }
+}
+
+// The program with its commands.
+fn command_line<'a>(alloc: Global) -> Result<Command<'a>, AllocError>
+    ensures { IfOk result (λ line. app_of line ≡ program) }
+{
+    program_alone(alloc)
+        .subcommand(command_with(alloc, "run", &["SOURCE", "SCHEDULE"])?)?
+        .subcommand(command_with(alloc, "check", &["SOURCE"])?)
+}
+
+// The program, of which one command has to be named; `help` is none.
+fn program_alone<'a>(alloc: Global) -> Command<'a>
+    ensures { app_of result ≡ program_alone }
+{
+    Command::new(alloc, "rbl")
+        .no_binary_name(true)
+        .disable_help_flag(true)
+        .disable_help_subcommand(true)
+        .subcommand_required(true)
+}
+
+// A command that takes as many words as these, which name them.
+fn command_with<'a>(
+    alloc: Global,
+    name: &'a str,
+    words: &[&'a str],
+) -> Result<Command<'a>, AllocError>
+    ensures app { IfOk result (λ command. app_of command ≡ record { top = command_with name.entry.now (map (λ w. w.now) words.now); subs = [] }) }
+    ensures local { IfOk result (λ command. (fields_of command).has_globals ≡ false) }
+{
+    let mut command = Command::new(alloc, name);
+    for word in words {
+        command = command.arg(Arg::new(alloc, word).required(true))?;
+    }
+    Ok(command)
+}
+
+// The command that was found, with its words.
+fn request_in<'a>(matches: &ArgMatches<'a>) -> Option<Request<'a>>
+    ensures { option_map asked result ≡ option_and_then (λ s. request_given s.0 (λ id. first_of id s.1)) (subcommand_rows_of matches.now) }
+{
+    let (name, given) = matches.subcommand()?;
+    request_given(name, given)
+}
+
+fn request_given<'a>(name: &str, given: &ArgMatches<'a>) -> Option<Request<'a>>
+    ensures { option_map asked result ≡ request_given name.now (first_value (found_of given.now)) }
+{
+    match name {
+        "run" => given
+            .get_str("SOURCE")
+            .zip(given.get_str("SCHEDULE"))
+            .map(|(source, schedule)| Request::Run { source, schedule }),
+        "check" => given
+            .get_str("SOURCE")
+            .map(|source| Request::Check { source }),
+        _ => None,
     }
 }

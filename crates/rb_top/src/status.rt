@@ -1,5 +1,8 @@
-ghost use Rattle.std.specs.Prelude.{◌≡◌};
+//! How a command ends.
+ghost use Rattle.std.specs.Prelude.{◌≡◌, MatchResult};
 ghost use Rattle.rb_top.specs.Ending.{status_number};
+
+use rb_outside::Failed;
 
 /// How a command ends.
 #[derive(Clone, Copy, Debug, PartialEq, Eq)]
@@ -25,5 +28,15 @@ impl Status {
             Status::WriteFault => 4,
             Status::Memory => 5,
         }
+    }
+}
+
+/// How a call ends after a write that was to end it with this status.
+pub fn status_after(written: Result<(), Failed>, status: Status) -> Status
+    ensures { MatchResult written (λ _. result ≡ status) (λ _. result ≡ Status.WriteFault) }
+{
+    match written {
+        Ok(()) => status,
+        Err(_) => Status::WriteFault,
     }
 }

@@ -1,34 +1,23 @@
-ghost use Rattle.std.specs.Prelude.{◌≡◌, ◌≤◌, drop, length, true, MatchResult};
-ghost use Rattle.rb_syntax.specs.Plain.{tree};
-ghost use Rattle.rb_meaning.specs.Meaning.{naming_of};
-ghost use Rattle.rb_trace.specs.Naming.{naming};
-ghost use Rattle.rb_base.specs.Naming.{process_names};
-ghost use Rattle.rb_run.specs.Ran.{names_of};
-ghost use Rattle.rb_run.specs.Runnable.{is_runnable};
-ghost use Rattle.rb_base.specs.declared.limits.TheConstants.{MOST_BYTES};
-ghost use Rattle.rb_top.specs.Words.{request_of, run_of};
+//! The top call: from words to a status.
+ghost use Rattle.std.specs.Prelude.{◌≡◌};
+ghost use Rattle.rb_top.specs.Words.{request_of};
 ghost use Rattle.rb_top.specs.Asked.{asked};
 ghost use Rattle.rb_top.specs.Complete.{IsComplete};
 ghost use Rattle.rb_top.specs.Answers.{Scene, WithRequest, WhereRequested};
-ghost use Rattle.rb_top.specs.Read.{WasReadIn};
-ghost use Rattle.rb_top.specs.Stages.{HoldsTreeIn, AfterSchedule, status_of_run};
 
-use crate::read::{Unread, read_file};
-use crate::refuse::{put_usage, refuse_long, refuse_schedule, refuse_source, refuse_unready};
+use crate::check::check_file;
+use crate::refuse::put_usage;
 use crate::request::{Request, requested};
-use crate::status::Status;
+use crate::run::run_files;
+use crate::status::{Status, status_after};
 use crate::words::Words;
-use rb_base::{MOST_BYTES, Memory, Names, Refusal};
-use rb_outside::{Failed, Shelf, Sink};
-use rb_parse::parse;
-use rb_run::{Ended, is_runnable, names, run};
-use rb_sched::Schedule;
-use rb_syntax::Program;
+use rb_outside::{Shelf, Sink};
 use std::alloc::Global;
 
-/// Carries out the command that the words give: `run SOURCE SCHEDULE` writes the text of the run of a source
-/// over a schedule, or the line of the first fault of either. The source is read and judged before the
-/// schedule is started. Memory may be wanting at any time before the first byte is written.
+/// Carries out the command that the words give. `run SOURCE SCHEDULE` writes the text of the run of a source over a
+/// schedule, or the line of the first fault of either; the source is read and judged before the schedule is started.
+/// `check SOURCE` says that a source is accepted, or writes the line of its first fault. Memory may be wanting at any time
+/// before the first byte is written.
 ///
 /// `answers` says of each answer when it comes, which files were started by then, how far each was read, and what was
 /// written; after a read or a write that failed there was no other. By `complete` a call whose files stand on the shelf,
@@ -50,7 +39,10 @@ pub fn command<F: Shelf, S: Sink>(
         (record { files = F.files shelf.new; starts = F.starts shelf.new; read_faults = F.faults shelf.new; written = S.written out.new; write_faults = S.faults out.new })
         result }
 {
-    match requested(words) {
+    let Ok(given) = requested(alloc, words) else {
+        return Status::Memory;
+    };
+    match given {
         None => status_after(put_usage(out), Status::Usage),
         Some(request) => answer(alloc, request, shelf, out),
     }
@@ -70,135 +62,6 @@ fn answer<F: Shelf, S: Sink>(
 {
     match request {
         Request::Run { source, schedule } => run_files(alloc, source, schedule, shelf, out),
-    }
-}
-
-/// How a call ends after a write that was to end it with this status.
-pub fn status_after(written: Result<(), Failed>, status: Status) -> Status
-    ensures { MatchResult written (λ _. result ≡ status) (λ _. result ≡ Status.WriteFault) }
-{
-    match written {
-        Ok(()) => status,
-        Err(_) => Status::WriteFault,
-    }
-}
-
-fn run_files<F: Shelf, S: Sink>(
-    alloc: Global,
-    source: &str,
-    schedule: &str,
-    shelf: &mut F,
-    out: &mut S,
-) -> Status
-    ensures files { F.files shelf.new ≡ F.files shelf.old }
-    ensures answers { WithRequest (run_of source.now schedule.now)
-        (record { files = F.files shelf.old; starts = F.starts shelf.old; read_faults = F.faults shelf.old; written = S.written out.old; write_faults = S.faults out.old })
-        (record { files = F.files shelf.new; starts = F.starts shelf.new; read_faults = F.faults shelf.new; written = S.written out.new; write_faults = S.faults out.new })
-        result }
-{
-    match read_file(alloc, shelf, source, MOST_BYTES) {
-        Ok(bytes) => judge_source(alloc, source, bytes.as_slice(), schedule, shelf, out),
-        Err(Unread::Fault) => Status::ReadFault,
-        Err(Unread::Memory) => Status::Memory,
-    }
-}
-
-// The source was read: its start is the newest, after those before the call.
-fn judge_source<F: Shelf, S: Sink>(
-    alloc: Global,
-    source: &str,
-    bytes: &[u8],
-    schedule: &str,
-    shelf: &mut F,
-    out: &mut S,
-) -> Status
-    requires { WasReadIn (F.files shelf.old) source.now MOST_BYTES bytes.now (drop 1 (F.starts shelf.old)) (F.starts shelf.old) }
-    ensures files { F.files shelf.new ≡ F.files shelf.old }
-    ensures answers { WithRequest (run_of source.now schedule.now)
-        (record { files = F.files shelf.old; starts = drop 1 (F.starts shelf.old); read_faults = F.faults shelf.old; written = S.written out.old; write_faults = S.faults out.old })
-        (record { files = F.files shelf.new; starts = F.starts shelf.new; read_faults = F.faults shelf.new; written = S.written out.new; write_faults = S.faults out.new })
-        result }
-{
-    if bytes.len() > MOST_BYTES {
-        return status_after(refuse_long(out), Status::Refused);
-    }
-    match parse(alloc, bytes) {
-        Ok(program) => {
-            if !is_runnable(&program) {
-                return status_after(refuse_unready(out), Status::Refused);
-            }
-            read_schedule(alloc, source, &program, schedule, shelf, out)
-        }
-        Err(Refusal::Fault(fault)) => status_after(refuse_source(out, fault), Status::Refused),
-        Err(Refusal::Memory) => Status::Memory,
-    }
-}
-
-// The source was accepted. Its name is seen by the contract alone.
-fn read_schedule<F: Shelf, S: Sink>(
-    alloc: Global,
-    source: &str,
-    program: &Program<'_>,
-    schedule: &str,
-    shelf: &mut F,
-    out: &mut S,
-) -> Status
-    requires held { HoldsTreeIn (F.files shelf.old) source.now (tree program.now) (drop 1 (F.starts shelf.old)) (F.starts shelf.old) }
-    requires runnable { is_runnable (tree program.now) ≡ true }
-    ensures files { F.files shelf.new ≡ F.files shelf.old }
-    ensures answers { WithRequest (run_of source.now schedule.now)
-        (record { files = F.files shelf.old; starts = drop 1 (F.starts shelf.old); read_faults = F.faults shelf.old; written = S.written out.old; write_faults = S.faults out.old })
-        (record { files = F.files shelf.new; starts = F.starts shelf.new; read_faults = F.faults shelf.new; written = S.written out.new; write_faults = S.faults out.new })
-        result }
-{
-    let _ = source;
-    match read_file(alloc, shelf, schedule, MOST_BYTES) {
-        Ok(bytes) => run_schedule(alloc, program, bytes.as_slice(), out),
-        Err(Unread::Fault) => Status::ReadFault,
-        Err(Unread::Memory) => Status::Memory,
-    }
-}
-
-// The schedule was read.
-fn run_schedule<S: Sink>(alloc: Global, program: &Program<'_>, bytes: &[u8], out: &mut S) -> Status
-    requires { is_runnable (tree program.now) ≡ true }
-    ensures answers { AfterSchedule (tree program.now) bytes.now (S.written out.old) (S.written out.new) (S.faults out.old) (S.faults out.new) result }
-{
-    if bytes.len() > MOST_BYTES {
-        return status_after(refuse_long(out), Status::Refused);
-    }
-    match names(alloc, program) {
-        Ok(names) => run_named(alloc, program, &names, bytes, out),
-        Err(Memory) => Status::Memory,
-    }
-}
-
-fn run_named<S: Sink>(
-    alloc: Global,
-    program: &Program<'_>,
-    names: &Names,
-    bytes: &[u8],
-    out: &mut S,
-) -> Status
-    requires short { length bytes.now ≤ MOST_BYTES }
-    requires runnable { is_runnable (tree program.now) ≡ true }
-    requires printed { naming names.now ≡ naming_of (tree program.now) }
-    requires scheduled { process_names names.now ≡ names_of (tree program.now) }
-    ensures answers { AfterSchedule (tree program.now) bytes.now (S.written out.old) (S.written out.new) (S.faults out.old) (S.faults out.new) result }
-{
-    match Schedule::read(bytes, names) {
-        Ok(schedule) => status_of(run(alloc, program, names, schedule, out)),
-        Err(fault) => status_after(refuse_schedule(out, fault), Status::Refused),
-    }
-}
-
-// How the call ends after a run.
-fn status_of(ran: Result<(), Ended>) -> Status
-    ensures { result ≡ status_of_run ran }
-{
-    match ran {
-        Ok(()) => Status::Done,
-        Err(Ended::WriteFault) => Status::WriteFault,
-        Err(Ended::Memory) => Status::Memory,
+        Request::Check { source } => check_file(alloc, source, shelf, out),
     }
 }

@@ -1,0 +1,332 @@
+-- What `clap` makes of plain words: it takes those that give a command, and finds the values that they give it.
+use Rattle.std.proofs.Common.{◌≡◌, ◌∙◌, ℕ, Bool, true, false, not, cond, List, [], ◌∷◌, ◌++◌, map, codes, Option, Some, None, Box, Bor, ◌<◌, ◌+◌, length, take, slice_index_or, option_and_then, option_map, inl, inr, refl, sym, ap, ap₂, subst, true≢false}
+use Rattle.std.specs.Str.{bytes_eq}
+use Rattle.std.specs.List.{find, fold, list_all}
+use Rattle.std.proofs.lemmas.List.{map-append, take_more}
+use Rattle.std.proofs.lemmas.Slice.Eq.{bytes_eq-Decides}
+use Rattle.std.proofs.lemmas.Bool.{not-true, not-false, and_parts, and_cases, cond-true, cond_both, eqb-true}
+use Rattle.clap.specs.Lexer.{long_of, short_of}
+use Rattle.clap.specs.Walk.{Held, Names, rows_of, answers_to, Rule, Row, Step, Text, Walk, arg_by_index, first_of, idle, nothing_held, rows_after, subcommand_met, to_positional, value, walk, walk_from, walked, word_met}
+use Rattle.clap.specs.Simple.{App, Shape, built, filled_from, is_simple, label_of, names_of, new_shape, subcommand_of, subcommand_rows, with_rule}
+use Rattle.std.specs.Box.{box_value}
+use Rattle.clap.specs.Values.{kind_of}
+use Rattle.clap.specs.Kinds.{HasKind, Kinds, or_else}
+use Rattle.clap.specs.Matches.{first_value}
+use Rattle.clap.specs.declared.error.Error.{Error}
+use Rattle.clap.specs.declared.parser.matches.Found.{Found}
+use Rattle.clap.specs.declared.parser.matches.SubCommand.{SubCommand}
+use Rattle.clap.specs.declared.parser.matches.ArgMatches.TheViews.{out-SubCommand}
+use Rattle.clap.specs.Faults.{defaults_fault, fault_of, is_simple_and_free, level_fault, step_fault, turn_fault, walk_fault}
+use Rattle.clap.specs.declared.error.kind.ErrorKind.{ErrorKind}
+use Rattle.clap.specs.declared.error.kind.ErrorKind.TheVariants.{InvalidSubcommand, MissingRequiredArgument, MissingSubcommand, OutOfMemory, UnknownArgument}
+use Rattle.clap.specs.declared.parser.matches.ValueSource.TheVariants.{CommandLine}
+use Rattle.clap.specs.declared.builder.value_parser.Reading.TheVariants.{AsWritten}
+use Rattle.clap.proofs.WalkLemmas.{first_value-rows, walk_stopped}
+use Rattle.clap.proofs.FaultLemmas.{stopped_fault}
+use Rattle.clap.proofs.OnLiterals.{clap_on_literals}
+use Rattle.rb_top.specs.Words.{Request, forms, is_plain_word, named_in, request_of}
+use Rattle.rb_top.specs.CommandLine.{command_with, program, request_given, required_word}
+
+-- the program is one of which `clap` says all
+pub is_told : is_simple_and_free program ≡ true
+unfolding clap_on_literals
+is_told = refl
+
+pub is_told_simple : is_simple program ≡ true
+unfolding clap_on_literals
+is_told_simple = refl
+
+-- ---- a plain word
+
+-- it is neither `--` nor an option
+no_dashes : (word : Text) → is_plain_word word ≡ true → bytes_eq word (45 ∷ 45 ∷ []) ≡ false
+no_dashes [] plain = absurd (true≢false (sym plain))
+no_dashes (b ∷ bs) plain = let other = not-true _ plain in rw other refl
+
+no_long : (word : Text) → is_plain_word word ≡ true → long_of word ≡ None
+no_long [] plain = absurd (true≢false (sym plain))
+no_long (b ∷ bs) plain = let other = not-true _ plain in rw other refl
+
+no_short : (word : Text) → is_plain_word word ≡ true → short_of word ≡ None
+no_short [] plain = absurd (true≢false (sym plain))
+no_short (b ∷ bs) plain = let other = not-true _ plain in rw other refl
+
+-- between two words, of which the next goes to this place
+abbrev standing : Held → ℕ → Walk
+standing h position = record { held = h; waiting = idle; position = position; is_trailing = false; stopped = None }
+
+module _ (names : Names) (h : Held) (position : ℕ) (word : Text) (plain : is_plain_word word ≡ true) (none : subcommand_met names idle word ≡ None) where
+  -- a plain word that names no command is a value
+  met : (c : List Rule) → word_met c names false idle position word h ≡ (h, value)
+  met c = rw (none, no_dashes word plain, no_long word plain, no_short word plain) refl
+
+  -- it goes to its place, and is at fault where there is none
+  next : (c : List Rule) → walked c names (standing h position) word ≡ to_positional c (arg_by_index c position) word (standing h position) h
+  unfolding walked
+  next c = rw (met c) refl
+
+  turn : (s : Shape) → turn_fault s names (standing h position) word ≡ step_fault s position h value
+  turn s = rw (met s.rules) (rw (none, no_dashes word plain, no_long word plain, no_short word plain) refl)
+
+-- ---- a command
+
+-- as `clap` completes it
+abbrev leaf : Text → List Text → Shape
+leaf name ids = record (new_shape name) {
+  rules = filled_from 1 (map required_word ids);
+  no_binary_name = true;
+  disable_help_flag = true;
+  disable_help_subcommand = true;
+  is_built = true;
+}
+
+-- its fault with these words
+abbrev fault_at : Text → List Text → List Text → Kinds
+fault_at name ids words = level_fault (leaf name ids) [] nothing_held words false []
+
+-- what is found of the first place, and of the one before the last
+abbrev row_of : Text → Text → Row
+row_of id word = record { id = id; values = word ∷ []; count = None; source = Some CommandLine; reading = AsWritten }
+
+abbrev held_at : List Row → Text → Text → Held
+held_at rows id word = record { rows = rows; pending = Some (id, word ∷ []); skip = 0 }
+
+-- one that takes one word
+module _ (name i : Text) (same : bytes_eq i i ≡ true) where
+  abbrev one : Shape
+  one = leaf name (i ∷ [])
+
+  first_of_one : (a : Text) → is_plain_word a ≡ true → walked one.rules [] (standing nothing_held 1) a ≡ standing (held_at [] i a) 2
+  first_of_one a plain = next [] nothing_held 1 a plain refl one.rules
+
+  one-value : (a : Text) → is_plain_word a ≡ true → first_of i (rows_after one.rules [] (a ∷ [])) ≡ Some a
+  one-value a plain = rw (first_of_one a plain) (simp same)
+
+  one-few : fault_at name (i ∷ []) [] ≡ MissingRequiredArgument ∷ []
+  unfolding clap_on_literals
+  one-few = refl
+
+  one-takes : (a : Text) → is_plain_word a ≡ true → fault_at name (i ∷ []) (a ∷ []) ≡ []
+  unfolding walk_fault defaults_fault
+  one-takes a plain = rw (turn [] nothing_held 1 a plain refl one, first_of_one a plain) (simp same)
+
+  one-many : (a b : Text) (more : List Text) → is_plain_word a ≡ true → is_plain_word b ≡ true → fault_at name (i ∷ []) (a ∷ b ∷ more) ≡ UnknownArgument ∷ []
+  unfolding walk_fault
+  one-many a b more plain plain' = rw (turn [] nothing_held 1 a plain refl one, first_of_one a plain, turn [] (held_at [] i a) 2 b plain' refl one) refl
+
+-- one that takes two
+module _ (name i j : Text) (first : bytes_eq i i ≡ true) (second : bytes_eq j j ≡ true) (ahead : bytes_eq i j ≡ false) (behind : bytes_eq j i ≡ false) where
+  abbrev two : Shape
+  two = leaf name (i ∷ j ∷ [])
+
+  first_of_two : (a : Text) → is_plain_word a ≡ true → walked two.rules [] (standing nothing_held 1) a ≡ standing (held_at [] i a) 2
+  first_of_two a plain = next [] nothing_held 1 a plain refl two.rules
+
+  second_of_two : (a b : Text) → is_plain_word b ≡ true → walked two.rules [] (standing (held_at [] i a) 2) b ≡ standing (held_at (row_of i a ∷ []) j b) 3
+  second_of_two a b plain = next [] (held_at [] i a) 2 b plain refl two.rules ∙ simp (first, ahead)
+
+  two-values : (a b : Text) → is_plain_word a ≡ true → is_plain_word b ≡ true →
+      (first_of i (rows_after two.rules [] (a ∷ b ∷ [])) ≡ Some a) × (first_of j (rows_after two.rules [] (a ∷ b ∷ [])) ≡ Some b)
+  two-values a b plain plain' =
+      (rw (first_of_two a plain, second_of_two a b plain') (simp (first, second, ahead, behind)), rw (first_of_two a plain, second_of_two a b plain') (simp (first, second, ahead, behind)))
+
+  two-none : fault_at name (i ∷ j ∷ []) [] ≡ MissingRequiredArgument ∷ []
+  unfolding clap_on_literals
+  two-none = refl
+
+  two-few : (a : Text) → is_plain_word a ≡ true → fault_at name (i ∷ j ∷ []) (a ∷ []) ≡ MissingRequiredArgument ∷ []
+  unfolding walk_fault defaults_fault
+  two-few a plain = rw (turn [] nothing_held 1 a plain refl two, first_of_two a plain) (simp (first, ahead, behind))
+
+  two-takes : (a b : Text) → is_plain_word a ≡ true → is_plain_word b ≡ true → fault_at name (i ∷ j ∷ []) (a ∷ b ∷ []) ≡ []
+  unfolding walk_fault defaults_fault
+  two-takes a b plain plain' =
+      rw (turn [] nothing_held 1 a plain refl two, first_of_two a plain, turn [] (held_at [] i a) 2 b plain' refl two, second_of_two a b plain')
+      (simp (first, second, ahead, behind))
+
+  two-many : (a b c : Text) (more : List Text) → is_plain_word a ≡ true → is_plain_word b ≡ true → is_plain_word c ≡ true →
+      fault_at name (i ∷ j ∷ []) (a ∷ b ∷ c ∷ more) ≡ UnknownArgument ∷ []
+  unfolding walk_fault
+  two-many a b c more plain plain' plain'' =
+      rw (turn [] nothing_held 1 a plain refl two, first_of_two a plain, turn [] (held_at [] i a) 2 b plain' refl two, second_of_two a b plain',
+      turn [] (held_at (row_of i a ∷ []) j b) 3 c plain'' refl two) (simp (first, ahead))
+
+-- ---- the program
+
+abbrev top : Shape
+top = (built program).top
+
+abbrev names : Names
+names = names_of (built program)
+
+-- at a command's name the walk stops, and leaves it the words
+abbrev stopped_at : Text → List Text → Walk
+stopped_at name words = record (standing nothing_held 1) { stopped = Some (name, words) }
+
+module _ (name : Text) (words : List Text) (command : Shape) (meets : subcommand_met names idle name ≡ Some name)
+    (helps : bytes_eq name (codes "help") ≡ false) (found : find (λ s. answers_to name (label_of s)) (built program).subs ≡ Some command) where
+  stops : walked [] names (standing nothing_held 1) name ≡ stopped_at name []
+  unfolding walked
+  stops = rw meets refl
+
+  walk-name : walk [] names nothing_held (name ∷ words) ≡ stopped_at name words
+  walk-name = ap (λ w. fold (walked [] names) w words) stops ∙ sym (walk_stopped [] names (standing nothing_held 1) name [] words)
+
+  name_passes : walk_fault top names (standing nothing_held 1) (name ∷ words) ≡ []
+  unfolding walk_fault
+  name_passes = rw (meets, helps, stops) (stopped_fault top names (standing nothing_held 1) (name, []) words)
+
+  -- the program is at fault where the command is with its words
+  fault-name : fault_of program (name ∷ words) ≡ or_else (level_fault command [] nothing_held words false []) []
+  unfolding defaults_fault
+  fault-name = rw (name_passes, walk-name, found) refl
+
+  -- and has the command's values
+  subcommand-name : subcommand_of program (name ∷ words) ≡ Some (command.name, rows_after command.rules [] words)
+  subcommand-name = rw (walk-name, found) refl
+
+-- no word, and a word that names no command
+no_words : fault_of program [] ≡ MissingSubcommand ∷ []
+unfolding clap_on_literals
+no_words = refl
+
+other_word : (word : Text) (words : List Text) → is_plain_word word ≡ true → subcommand_met names idle word ≡ None →
+    fault_of program (word ∷ words) ≡ UnknownArgument ∷ InvalidSubcommand ∷ []
+unfolding walk_fault
+other_word word words plain none = rw (turn names nothing_held 1 word plain none top) refl
+
+-- ---- what is asked for
+
+-- what is asked for by the command that is found
+abbrev pub found_in : Option (Text × List Row) → Option Request
+found_in found = option_and_then (λ s. request_given s.0 (λ id. first_of id s.1)) found
+
+-- `clap` takes words that give a command, with that command's values, and no others
+pub data Agrees (words : List Text) : Type 0 where
+  taken : fault_of program words ≡ [] → found_in (subcommand_of program words) ≡ request_of words → Agrees words
+  refused : (fault_of program words ≡ [] → ⊥) → request_of words ≡ None → Agrees words
+
+-- the program's fault is that of its command
+no_fault : (f g : Kinds) → f ≡ or_else g [] → g ≡ [] → f ≡ []
+no_fault f g is none = is ∙ ap (λ k. or_else k []) none
+
+some_fault : (f g : Kinds) (k : ErrorKind) (ks : Kinds) → f ≡ or_else g [] → g ≡ k ∷ ks → f ≡ [] → ⊥
+some_fault f g k ks is some none = let both : [] ≡ k ∷ ks = sym none ∙ is ∙ ap (λ x. or_else x []) some in cc
+
+-- plain words after a name ask for what the command of this name says
+asks : (name : Text) (words : List Text) → list_all is_plain_word words ≡ true → request_of (name ∷ words) ≡ named_in forms name words
+asks name words plain = cond-true (list_all is_plain_word words) (named_in forms name words) None plain
+
+-- `run` takes two words
+module _ (words : List Text) where
+  run-fault : fault_of program (codes "run" ∷ words) ≡ or_else (fault_at (codes "run") (codes "SOURCE" ∷ codes "SCHEDULE" ∷ []) words) []
+  run-fault = fault-name (codes "run") words (leaf (codes "run") (codes "SOURCE" ∷ codes "SCHEDULE" ∷ [])) refl refl refl
+
+  run-values : subcommand_of program (codes "run" ∷ words) ≡ Some (codes "run", rows_after (leaf (codes "run") (codes "SOURCE" ∷ codes "SCHEDULE" ∷ [])).rules [] words)
+  run-values = subcommand-name (codes "run") words (leaf (codes "run") (codes "SOURCE" ∷ codes "SCHEDULE" ∷ [])) refl refl refl
+
+run_agrees : (words : List Text) → list_all is_plain_word words ≡ true → Agrees (codes "run" ∷ words)
+run_agrees [] plain = refused (some_fault _ _ _ _ (run-fault []) (two-none (codes "run") _ _ refl refl refl refl)) refl
+run_agrees (a ∷ []) plain =
+    let first = and_parts _ _ plain in
+    refused (some_fault _ _ _ _ (run-fault (a ∷ [])) (two-few (codes "run") _ _ refl refl refl refl a first.0)) (asks (codes "run") (a ∷ []) plain)
+run_agrees (a ∷ b ∷ []) plain =
+    let first = and_parts _ _ plain in
+    let second = and_parts _ _ first.1 in
+    let values = two-values (codes "run") (codes "SOURCE") (codes "SCHEDULE") refl refl refl refl a b first.0 second.0 in
+    taken (no_fault _ _ (run-fault (a ∷ b ∷ [])) (two-takes (codes "run") _ _ refl refl refl refl a b first.0 second.0))
+    (rw (run-values (a ∷ b ∷ []), values.0, values.1) (sym (asks (codes "run") (a ∷ b ∷ []) plain)))
+run_agrees (a ∷ b ∷ c ∷ more) plain =
+    let first = and_parts _ _ plain in
+    let second = and_parts _ _ first.1 in
+    let third = and_parts _ _ second.1 in
+    refused (some_fault _ _ _ _ (run-fault (a ∷ b ∷ c ∷ more)) (two-many (codes "run") _ _ refl refl refl refl a b c more first.0 second.0 third.0))
+    (asks (codes "run") (a ∷ b ∷ c ∷ more) plain)
+
+-- `check` takes one
+module _ (words : List Text) where
+  check-fault : fault_of program (codes "check" ∷ words) ≡ or_else (fault_at (codes "check") (codes "SOURCE" ∷ []) words) []
+  check-fault = fault-name (codes "check") words (leaf (codes "check") (codes "SOURCE" ∷ [])) refl refl refl
+
+  check-values : subcommand_of program (codes "check" ∷ words) ≡ Some (codes "check", rows_after (leaf (codes "check") (codes "SOURCE" ∷ [])).rules [] words)
+  check-values = subcommand-name (codes "check") words (leaf (codes "check") (codes "SOURCE" ∷ [])) refl refl refl
+
+check_agrees : (words : List Text) → list_all is_plain_word words ≡ true → Agrees (codes "check" ∷ words)
+check_agrees [] plain = refused (some_fault _ _ _ _ (check-fault []) (one-few (codes "check") _ refl)) refl
+check_agrees (a ∷ []) plain =
+    let first = and_parts _ _ plain in
+    taken (no_fault _ _ (check-fault (a ∷ [])) (one-takes (codes "check") _ refl a first.0))
+    (rw (check-values (a ∷ []), one-value (codes "check") (codes "SOURCE") refl a first.0) (sym (asks (codes "check") (a ∷ []) plain)))
+check_agrees (a ∷ b ∷ more) plain =
+    let first = and_parts _ _ plain in
+    let second = and_parts _ _ first.1 in
+    refused (some_fault _ _ _ _ (check-fault (a ∷ b ∷ more)) (one-many (codes "check") _ refl a b more first.0 second.0))
+    (asks (codes "check") (a ∷ b ∷ more) plain)
+
+-- the first word is a command's name, or none
+named : (is_run is_check : Bool) (name : Text) (words : List Text) → list_all is_plain_word (name ∷ words) ≡ true →
+    bytes_eq (codes "run") name ≡ is_run → bytes_eq (codes "check") name ≡ is_check → Agrees (name ∷ words)
+named true is_check name words plain e f = subst (λ n. Agrees (n ∷ words)) ((bytes_eq-Decides _ _).0 e) (run_agrees words (and_parts _ _ plain).1)
+named false true name words plain e f = subst (λ n. Agrees (n ∷ words)) ((bytes_eq-Decides _ _).0 f) (check_agrees words (and_parts _ _ plain).1)
+named false false name words plain e f =
+    let parts = and_parts (is_plain_word name) _ plain in
+    let no_name : subcommand_met names idle name ≡ None = rw (e, f) refl in
+    refused (λ none. let both : [] ≡ UnknownArgument ∷ InvalidSubcommand ∷ [] = sym none ∙ other_word name words parts.0 no_name in cc)
+    (asks name words parts.1 ∙ rw (e, f) refl)
+
+pub agrees : (words : List Text) → list_all is_plain_word words ≡ true → Agrees words
+agrees [] plain = refused (λ none. let both : [] ≡ MissingSubcommand ∷ [] = sym none ∙ no_words in cc) refl
+agrees (name ∷ words) plain = named (bytes_eq (codes "run") name) (bytes_eq (codes "check") name) name words plain refl refl
+
+-- a word that is not plain names no command
+not_named : (name : Text) (words : List Text) → is_plain_word name ≡ false → named_in forms name words ≡ None
+not_named [] words other = refl
+not_named (b ∷ bs) words other = subst (λ n. named_in forms (n ∷ bs) words ≡ None) (sym (eqb-true b 45 (not-false _ other))) refl
+
+-- words give a command only where all are plain
+pub asks_none : (words : List Text) → list_all is_plain_word words ≡ false → request_of words ≡ None
+asks_none [] other = refl
+asks_none (name ∷ words) other = cond_both (list_all is_plain_word words) (named_in forms name words) None (λ r. r ≡ None)
+    (λ e. elim (and_cases (is_plain_word name) _ other) [ inl f ↦ not_named name words f | inr f ↦ absurd (true≢false (sym e ∙ f)) ])
+    (λ e. refl)
+
+-- ---- what the parse answers
+
+-- a parse that succeeds found what the words ask for
+pub answer_taken : (line : App) (words : List Text) → line ≡ program → list_all is_plain_word words ≡ true →
+    (is_simple_and_free line ≡ true → fault_of line words ≡ []) → found_in (subcommand_of line words) ≡ request_of words
+answer_taken line words is plain none = elim (agrees words plain) [
+  | taken free same ↦ ap (λ a. found_in (subcommand_of a words)) is ∙ same
+  | refused bad asked ↦ absurd (bad (ap (λ a. fault_of a words) (sym is) ∙ none (ap is_simple_and_free is ∙ is_told)))
+]
+
+-- one that fails, and not for memory, was given words that ask for nothing
+pub answer_refused : (line : App) (words : List Text) (e : Error) → line ≡ program → list_all is_plain_word words ≡ true →
+    (is_simple_and_free line ≡ true → HasKind (fault_of line words) e) → (kind_of e ≡ OutOfMemory → ⊥) → request_of words ≡ None
+answer_refused line words e is plain has other = elim (agrees words plain) [
+  | taken free same ↦
+      let kinds : fault_of line words ≡ [] = ap (λ a. fault_of a words) is ∙ free in
+      absurd (elim (subst (λ ks. HasKind ks e) kinds (has (ap is_simple_and_free is ∙ is_told))) [ inl memory ↦ other memory | inr among ↦ among ])
+  | refused bad asked ↦ asked
+]
+
+-- the subcommand that was found has this name and these rows
+pub subcommand_is : {Z : Type 0} (o : Option (Box SubCommand Z)) (name : Text) (rows : List Row) →
+    Some name ≡ option_map (λ b. (out-SubCommand (box_value b)).name.now) o → Some rows ≡ option_map (λ p. p.1) (subcommand_rows o) →
+    subcommand_rows o ≡ Some (name, rows)
+subcommand_is None name rows named found = cc
+subcommand_is (Some b) name rows named found = cc
+
+-- what is asked for by a name and the values that were given
+pub given_by : (name : Text) (f : Found) → request_given name (first_value f) ≡ request_given name (λ id. first_of id (rows_of f))
+given_by name f = λ i. request_given name (λ id. first_value-rows f id i)
+
+-- one more word that a command takes
+pub command_more : (name : Text) (ids : List (Bor Text)) (i : ℕ) (id : Bor Text) → i < length ids → id ≡ slice_index_or ids i id →
+    with_rule (record { top = command_with name (map (λ w. w.now) (take i ids)); subs = [] }) (required_word id.now)
+    ≡ record { top = command_with name (map (λ w. w.now) (take (i + 1) ids)); subs = [] }
+command_more name ids i id lt at =
+    let more : take (i + 1) ids ≡ take i ids ++ id ∷ [] = take_more ids i id lt ∙ ap (λ x. take i ids ++ x ∷ []) (sym at) in
+    let rules : map required_word (map (λ w. w.now) (take (i + 1) ids)) ≡ map required_word (map (λ w. w.now) (take i ids)) ++ required_word id.now ∷ [] =
+        ap (λ xs. map required_word (map (λ w. w.now) xs)) more ∙ simp map-append in
+    ap (λ rs. record { top = record (command_with name []) { rules = rs }; subs = [] }) (sym rules)

@@ -1,0 +1,46 @@
+-- The command line as `clap` is told of it, and what is read from what it finds.
+use Rattle.std.specs.Prelude.{ℕ, nat_eq, true, false, cond, List, [], ◌∷◌, map, codes, Option, Some, None, option_and_then, option_map}
+use Rattle.std.specs.Cmp.Lexicographic.{pointwise}
+use Rattle.clap.specs.Words.{App, Rule, Shape, new_app, new_rule}
+use Rattle.rb_top.specs.Words.{Request, run_of, check_of}
+
+-- an argument that has to be given, by its place
+abbrev pub required_word : List ℕ → Rule
+required_word id = record (new_rule id) { required = true }
+
+-- a command of this name that takes these words
+abbrev pub command_with : List ℕ → List (List ℕ) → Shape
+command_with name words = record (new_app name).top { rules = map required_word words }
+
+-- the program, before it is told of its commands: one of them has to be named, and there are no others
+abbrev pub program_alone : App
+program_alone = record {
+  top = record (new_app (codes "rbl")).top {
+    no_binary_name = true;
+    disable_help_flag = true;
+    disable_help_subcommand = true;
+    subcommand_required = true;
+  };
+  subs = [];
+}
+
+-- the commands, each with its words
+abbrev pub commands : List Shape
+commands = command_with (codes "run") (codes "SOURCE" ∷ codes "SCHEDULE" ∷ []) ∷ command_with (codes "check") (codes "SOURCE" ∷ []) ∷ []
+
+-- the program with its commands
+abbrev pub program : App
+program = record { top = record program_alone.top { is_leaf = false }; subs = commands }
+
+-- the run of two files that are given, and the check of one
+abbrev pub run_given : Option (List ℕ) → Option (List ℕ) → Option Request
+run_given source schedule = option_and_then (λ a. option_map (run_of a) schedule) source
+
+abbrev pub check_given : Option (List ℕ) → Option Request
+check_given source = option_map check_of source
+
+-- what the command of this name asks for, with the words that it was given
+abbrev pub request_given : List ℕ → (List ℕ → Option (List ℕ)) → Option Request
+request_given name given =
+    cond (pointwise nat_eq name (codes "run")) (run_given (given (codes "SOURCE")) (given (codes "SCHEDULE")))
+    (cond (pointwise nat_eq name (codes "check")) (check_given (given (codes "SOURCE"))) None)

@@ -1,0 +1,42 @@
+//! The command `check`.
+ghost use Rattle.std.specs.Prelude.{◌≡◌, [], ◌∷◌};
+ghost use Rattle.rb_top.specs.Words.{check_of};
+ghost use Rattle.rb_top.specs.Answers.{Scene, WithRequest};
+ghost use Rattle.rb_top.specs.Judgement.{JudgesSource, CheckGoesOn};
+ghost use Rattle.rb_top.specs.Stages.{StageEnds};
+
+use crate::read::read_file;
+use crate::refuse::put_accepted;
+use crate::source::judged_source;
+use crate::status::{Status, status_after};
+use rb_base::MOST_BYTES;
+use rb_outside::{Shelf, Sink};
+use std::alloc::Global;
+
+/// Reads a source and judges it.
+pub fn check_file<F: Shelf, S: Sink>(
+    alloc: Global,
+    source: &str,
+    shelf: &mut F,
+    out: &mut S,
+) -> Status
+    ensures files { F.files shelf.new ≡ F.files shelf.old }
+    ensures answers { WithRequest (check_of source.now)
+        (record { files = F.files shelf.old; starts = F.starts shelf.old; read_faults = F.faults shelf.old; written = S.written out.old; write_faults = S.faults out.old })
+        (record { files = F.files shelf.new; starts = F.starts shelf.new; read_faults = F.faults shelf.new; written = S.written out.new; write_faults = S.faults out.new })
+        result }
+{
+    match read_file(alloc, shelf, source, MOST_BYTES) {
+        Ok(bytes) => check_source(alloc, bytes.as_slice(), out),
+        Err(unread) => unread.status(),
+    }
+}
+
+fn check_source<S: Sink>(alloc: Global, bytes: &[u8], out: &mut S) -> Status
+    ensures { StageEnds (JudgesSource CheckGoesOn (bytes.now ∷ [])) (S.written out.old) (S.written out.new) (S.faults out.old) (S.faults out.new) result }
+{
+    if let Err(status) = judged_source(alloc, bytes, out) {
+        return status;
+    }
+    status_after(put_accepted(out), Status::Done)
+}
