@@ -1,9 +1,7 @@
 use crate::nest;
 use rb_base::{Edition, FaultName, Memory, Nested, Place, Refusal, SourceFault};
 use rb_scope::Checked;
-use rb_syntax::{
-    Block, Conversation, Expr, Name, Number, Process, Program, Recovery, Statement,
-};
+use rb_syntax::{Block, Conversation, Expr, Name, Number, Process, Program, Recovery, Statement};
 use std::alloc::Global;
 use std::test::Fail;
 
