@@ -7,7 +7,8 @@ use Rattle.rb_meaning.specs.Groups.{conversation_of, count_alternates}
 use Rattle.rb_meaning.specs.Nesting.{innermost}
 use Rattle.rb_nest.specs.Answers.{first_answer}
 
-pub innermost_numbered : (tree : Tree) (around : List (Option Identifier)) → first_answer (λ (n : Option ℕ). n) (map (conversation_of tree) around) ≡ conversation_of tree (innermost around)
+pub innermost_numbered : (tree : Tree) (around : List (Option Identifier))
+    → first_answer (λ (n : Option ℕ). n) (map (conversation_of tree) around) ≡ conversation_of tree (innermost around)
 innermost_numbered tree [] = refl
 innermost_numbered tree (None ∷ around) = innermost_numbered tree around
 innermost_numbered tree (Some name ∷ around) = refl

@@ -24,7 +24,8 @@ twice-not true = refl
 twice-not false = refl
 
 -- the rules of a use
-of-use : (tree : Tree) (earlier : List Use) (name : Identifier) (d : Deed) (spot : Spot) → deed_faults tree (list_any (joins_too (record { name = name; deed = d; spot = spot })) earlier) (summary tree (record { name = name; deed = d; spot = spot })) d ≡ use_faults tree earlier (record { name = name; deed = d; spot = spot })
+of-use : (tree : Tree) (earlier : List Use) (name : Identifier) (d : Deed) (spot : Spot)
+    → deed_faults tree (list_any (joins_too (record { name = name; deed = d; spot = spot })) earlier) (summary tree (record { name = name; deed = d; spot = spot })) d ≡ use_faults tree earlier (record { name = name; deed = d; spot = spot })
 of-use tree earlier name (Joins n) spot =
     rw (members-same tree (innermost spot.around), twice-not (list_any (joins_too (record { name = name; deed = Joins n; spot = spot })) earlier)) refl
 of-use tree earlier name Sends spot =
@@ -33,7 +34,8 @@ of-use tree earlier name Receives spot =
     rw (speaks-same tree (innermost spot.around) (slice_get (channels_of tree) (channel_number tree name.text)), twice-not spot.in_procedure, append-nil) refl
 
 -- whether a `converse` for its conversation stands before it
-like-too : (tree : Tree) (one : Use) (name : Identifier) (d : Deed) (spot : Spot) → joins_like (summary tree one) (summary tree (record { name = name; deed = d; spot = spot })) ≡ joins_too one (record { name = name; deed = d; spot = spot })
+like-too : (tree : Tree) (one : Use) (name : Identifier) (d : Deed) (spot : Spot)
+    → joins_like (summary tree one) (summary tree (record { name = name; deed = d; spot = spot })) ≡ joins_too one (record { name = name; deed = d; spot = spot })
 like-too tree one name (Joins n) spot = refl
 like-too tree one name Sends spot = refl
 like-too tree one name Receives spot = refl
@@ -41,7 +43,8 @@ like-too tree one name Receives spot = refl
 none-like : (one other : Summary) → is_join other.deed ≡ false → joins_like one other ≡ false
 none-like one other e = ap (λ b. b && (nat_eq one.process other.process && same_name one.name.text other.name.text)) e
 
-again-same : (tree : Tree) (one : Use) (earlier : List Use) → list_any (joins_like (summary tree one)) (joins_among (map (summary tree) earlier)) ≡ list_any (joins_too one) earlier
+again-same : (tree : Tree) (one : Use) (earlier : List Use)
+    → list_any (joins_like (summary tree one)) (joins_among (map (summary tree) earlier)) ≡ list_any (joins_too one) earlier
 again-same tree one earlier =
     any-joins (joins_like (summary tree one)) (none-like (summary tree one)) (map (summary tree) earlier)
     ∙ any-map (joins_like (summary tree one)) (joins_too one) (summary tree) (λ other. like-too tree one other.name other.deed other.spot) earlier
@@ -59,15 +62,20 @@ joins-more : (xs : List Summary) (one : Summary) → with_join (joins_among xs) 
 joins-more [] one = refl
 joins-more (x ∷ xs) one = more-step (is_join x.deed) x one (joins_among xs) (joins_among (xs ++ one ∷ [])) (joins-more xs one)
 
-told-more : (tree : Tree) (earlier : List Use) (one : Use) → with_join (joins_among (map (summary tree) earlier)) (summary tree one) ≡ joins_among (map (summary tree) (earlier ++ one ∷ []))
+told-more : (tree : Tree) (earlier : List Use) (one : Use)
+    → with_join (joins_among (map (summary tree) earlier)) (summary tree one) ≡ joins_among (map (summary tree) (earlier ++ one ∷ []))
 told-more tree earlier one =
     joins-more (map (summary tree) earlier) (summary tree one)
     ∙ ap joins_among (sym (map-append (summary tree) earlier (one ∷ [])))
 
-pub all_faults : (tree : Tree) (earlier uses : List Use) → summaries_faults tree (joins_among (map (summary tree) earlier)) (map (summary tree) uses) ≡ uses_faults tree earlier uses
+pub all_faults : (tree : Tree) (earlier uses : List Use)
+    → summaries_faults tree (joins_among (map (summary tree) earlier)) (map (summary tree) uses) ≡ uses_faults tree earlier uses
 all_faults tree earlier [] = refl
 all_faults tree earlier (one ∷ others) =
-    ap (λ b. deed_faults tree b (summary tree one) one.deed ++ summaries_faults tree (with_join (joins_among (map (summary tree) earlier)) (summary tree one)) (map (summary tree) others)) (again-same tree one earlier)
-    ∙ ap (λ faults. faults ++ summaries_faults tree (with_join (joins_among (map (summary tree) earlier)) (summary tree one)) (map (summary tree) others)) (of-use tree earlier one.name one.deed one.spot)
-    ∙ ap (λ joins. use_faults tree earlier one ++ summaries_faults tree joins (map (summary tree) others)) (told-more tree earlier one)
+    let told = summary tree one in
+    let joins = joins_among (map (summary tree) earlier) in
+    let rest = λ (js : List Summary). summaries_faults tree js (map (summary tree) others) in
+    ap (λ b. deed_faults tree b told one.deed ++ rest (with_join joins told)) (again-same tree one earlier)
+    ∙ ap (λ faults. faults ++ rest (with_join joins told)) (of-use tree earlier one.name one.deed one.spot)
+    ∙ ap (λ js. use_faults tree earlier one ++ rest js) (told-more tree earlier one)
     ∙ ap (λ faults. use_faults tree earlier one ++ faults) (all_faults tree (earlier ++ one ∷ []) others)

@@ -36,9 +36,13 @@ all_held uses = map held uses
 abbrev pub spot_of : Spot → PlainSpot
 spot_of spot = record { process = spot.process; in_procedure = spot.in_procedure; around = blocks_of spot.around.now }
 
+-- those so far, and behind them these uses of a tree
+abbrev pub with_uses : Tree → List Use → List PlainUse → List Summary
+with_uses tree old uses = all_held old ++ map (summary tree) uses
+
 -- behind those so far stand these uses of a tree
 abbrev pub AddsTo : Tree → List Use → List Use → List PlainUse → Type 0
-AddsTo tree old new uses = all_held new ≡ all_held old ++ map (summary tree) uses
+AddsTo tree old new uses = all_held new ≡ with_uses tree old uses
 
 -- the same for the program of a spot
 abbrev pub Adds : Spot → List Use → List Use → List PlainUse → Type 0

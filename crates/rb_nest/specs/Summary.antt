@@ -112,6 +112,10 @@ deed_faults tree again one (Joins alternates) = join_faults tree again alternate
 deed_faults tree again one Sends = message_faults tree Sends one
 deed_faults tree again one Receives = message_faults tree Receives one
 
+-- the rules of a use, before which these join
+abbrev pub faults_behind : Tree → List Summary → Summary → List SourceFault
+faults_behind tree joins one = deed_faults tree (list_any (joins_like one) joins) one one.deed
+
 -- the `converse`s so far, and this one if it is one
 abbrev pub with_join : List Summary → Summary → List Summary
 with_join joins one = cond (is_join one.deed) (joins ++ one ∷ []) joins
@@ -119,5 +123,4 @@ with_join joins one = cond (is_join one.deed) (joins ++ one ∷ []) joins
 -- the rules of uses in the order of the text, before which these join
 abbrev pub summaries_faults : Tree → List Summary → List Summary → List SourceFault
 summaries_faults tree joins [] = []
-summaries_faults tree joins (one ∷ others) =
-    deed_faults tree (list_any (joins_like one) joins) one one.deed ++ summaries_faults tree (with_join joins one) others
+summaries_faults tree joins (one ∷ others) = faults_behind tree joins one ++ summaries_faults tree (with_join joins one) others

@@ -1,7 +1,7 @@
 //! The rules of uses.
 
 ghost use Rattle.std.specs.Prelude.{◌≡◌, [], map, slice_get, OnOk};
-ghost use Rattle.std.specs.List.{list_all, list_any};
+ghost use Rattle.std.specs.List.{list_all};
 ghost use Rattle.rb_syntax.specs.Plain.{tree};
 ghost use Rattle.rb_world.specs.Reject.{parent_of};
 ghost use Rattle.rb_world.specs.World.{is_number};
@@ -11,7 +11,7 @@ ghost use Rattle.rb_scope.specs.Finding.{first_after};
 ghost use Rattle.rb_nest.specs.Rules.{are_among, uses_faults};
 ghost use Rattle.rb_nest.specs.Members.{ends_alone, known, known_from};
 ghost use Rattle.rb_nest.specs.Memory.{all_held, deed_of, held};
-ghost use Rattle.rb_nest.specs.Summary.{deed_faults, join_faults, joins_like, members_within, message_faults, speaks_within, with_join};
+ghost use Rattle.rb_nest.specs.Summary.{faults_behind, join_faults, members_within, message_faults, speaks_within, with_join};
 
 use crate::conversations::{Facts, is_member};
 use crate::ends::Ends;
@@ -162,7 +162,7 @@ impl Rules<'_, '_, '_> {
         joins: &mut Vec<Use<'a>>,
         first: &mut Option<SourceFault>,
     ) -> Result<(), Memory>
-        ensures found { OnOk result (first.new ≡ first_after first.old (deed_faults (tree self.now.uses.now.program.now) (list_any (joins_like (held one.now)) (all_held joins.old.items)) (held one.now) (deed_of one.now.deed))) }
+        ensures found { OnOk result (first.new ≡ first_after first.old (faults_behind (tree self.now.uses.now.program.now) (all_held joins.old.items) (held one.now))) }
         ensures joins { OnOk result (all_held joins.new.items ≡ with_join (all_held joins.old.items) (held one.now)) }
     {
         match one.deed {

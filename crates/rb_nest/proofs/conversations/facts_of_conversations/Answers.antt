@@ -17,12 +17,16 @@ loop-number-preserved c =
     let one = c.in_ok-facts_of.field-0 in
     let others = known_from whole (number + 1) (map conversation_declaration (drop (number + 1) all)) in
     record {
-      facts = ap (λ (fs : List Facts). map known fs ++ others) c.in_ok-push.ensures.items
+      facts =
+          ap (λ (fs : List Facts). map known fs ++ others) c.in_ok-push.ensures.items
           ∙ ap (λ ks. ks ++ others) (map-append known c.loop-number.all.items (one ∷ []))
-          ∙ made_more (λ n cs. known_from whole n (map conversation_declaration cs)) (λ n (x : Conversation). known_of whole n (conversation_declaration x)) (λ n x xs. refl)
+          ∙ made_more (λ n cs. known_from whole n (map conversation_declaration cs))
+          (λ n (x : Conversation). known_of whole n (conversation_declaration x)) (λ n x xs. refl)
           all number c.conversation-item.result c.conversation-item.is c.loop-number-test.true
           (map known c.loop-number.all.items) _ (known one) c.loop-number.invariant.facts c.in_ok-facts_of.ensures;
-      found = found_more (λ cs. flat_map (conversation_faults whole) (map conversation_declaration cs)) (λ (x : Conversation). conversation_faults whole (conversation_declaration x)) (λ x xs. refl)
+      found =
+          found_more (λ cs. flat_map (conversation_faults whole) (map conversation_declaration cs))
+          (λ (x : Conversation). conversation_faults whole (conversation_declaration x)) (λ x xs. refl)
           all number c.conversation-item.result c.conversation-item.is c.loop-number-test.true
           c.loop-number.first c.note_conversation.new.first _ c.loop-number.invariant.found c.note_conversation.ensures;
     }

@@ -7,4 +7,8 @@ use Rattle.rb_nest.proofs.conversations.note_members.Given as goal
 -- what is found, and then behind the other members
 abbrev pub invariant-loop-index : goal.invariant-loop-index
 invariant-loop-index l =
-    first_after l.first (members_faults (tree l.uses.program.now) l.conversation (map identifier (reverse (take l.index l.members))) (map identifier (drop l.index l.members))) ≡ first_after l.fn.first (members_faults (tree l.uses.program.now) l.conversation [] (map identifier l.members))
+    let whole = tree l.uses.program.now in
+    let earlier = map identifier (reverse (take l.index l.members)) in
+    let others = map identifier (drop l.index l.members) in
+    let all = members_faults whole l.conversation [] (map identifier l.members) in
+    first_after l.first (members_faults whole l.conversation earlier others) ≡ first_after l.fn.first all

@@ -10,8 +10,11 @@ use Rattle.rb_nest.proofs.nesting.nested.Given as goal
 abbrev pub invariant-loop-number : goal.invariant-loop-number
 invariant-loop-number l =
     let whole = tree l.uses.program.now in
+    let all = map conversation_declaration l.conversation-items in
+    let others = map conversation_declaration (drop l.number l.conversation-items) in
+    let counts = map (λ (g : Group). g.alternates) l.conversations.items in
     record {
       as_many : length l.conversations.items ≡ l.number;
-      groups : map membership l.conversations.items ++ map (membership_of whole) (map conversation_declaration (drop l.number l.conversation-items)) ≡ map (membership_of whole) (map conversation_declaration l.conversation-items);
-      counts : (c n : ℕ) → slice_get (map (λ (g : Group). g.alternates) l.conversations.items) c ≡ Some n → alternates_of whole c ≡ Some n;
+      groups : map membership l.conversations.items ++ map (membership_of whole) others ≡ map (membership_of whole) all;
+      counts : (c n : ℕ) → slice_get counts c ≡ Some n → alternates_of whole c ≡ Some n;
     }

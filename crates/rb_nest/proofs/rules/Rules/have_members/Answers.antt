@@ -10,7 +10,10 @@ pub returns-in-None : goal.returns-in-None
 returns-in-None c =
     let rules = c.args.self.now in
     let whole = tree rules.uses.now.program.now in
-    let absent = no_conversation whole rules.conversations.items c.deref.result.now c.args.number c.deref.ensures.value rules.facts c.in-None.ensures.lookup.0 in
+    let absent =
+    no_conversation whole rules.conversations.items c.deref.result.now c.args.number c.deref.ensures.value rules.facts
+    c.in-None.ensures.lookup.0
+    in
     sym (ap (λ g. list_all (λ (m : ℕ). is_member m (members_in whole c.args.around)) (members_of g)) absent)
 
 pub returns-in-Some : goal.returns-in-Some
@@ -18,7 +21,10 @@ returns-in-Some c =
     let rules = c.args.self.now in
     let whole = tree rules.uses.now.program.now in
     let test = λ (m : ℕ). is_member m (members_in whole c.args.around) in
-    let found = conversation_known whole rules.conversations.items c.deref.result.now c.args.number c.in-Some.facts.now c.deref.ensures.value rules.facts c.in-Some.ensures.lookup.0 c.in-Some.ensures.lookup.1 in
+    let found =
+    conversation_known whole rules.conversations.items c.deref.result.now c.args.number c.in-Some.facts.now
+    c.deref.ensures.value rules.facts c.in-Some.ensures.lookup.0 c.in-Some.ensures.lookup.1
+    in
     c.are_members.ensures
     ∙ ap (list_all test) c.deref-in-Some.ensures.value
     ∙ all_alike test c.in-Some.facts.now.members.items (members_in whole c.args.number) found.members

@@ -9,4 +9,5 @@ use Rattle.rb_nest.proofs.rules.Rules.note_uses.Given as goal
 abbrev pub invariant-loop-one : goal.invariant-loop-one
 invariant-loop-one l =
     let whole = tree l.self.uses.now.program.now in
-    first_after l.first (summaries_faults whole (all_held l.joins.items) (all_held (drop l.one-index l.one-items))) ≡ first_after l.fn.first (summaries_faults whole [] (summaries whole))
+    let others = summaries_faults whole (all_held l.joins.items) (all_held (drop l.one-index l.one-items)) in
+    first_after l.first others ≡ first_after l.fn.first (summaries_faults whole [] (summaries whole))
