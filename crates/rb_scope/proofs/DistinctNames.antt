@@ -1,6 +1,6 @@
 -- In the scope of a program without a fault each name is declared once, so its processes, channels and conversations have names of
 -- their own.
-use Rattle.std.proofs.Common.{◌≡◌, ℕ, zero, suc, ◌+◌, ◌≤◌, Bool, true, false, cond, ◌||◌, List, [], ◌∷◌, ◌++◌, map, refl, sym, ap, subst, ◌∙◌, arith}
+use Rattle.std.proofs.Common.{◌≡◌, ℕ, ◌+◌, ◌≤◌, Bool, true, false, cond, List, [], ◌∷◌, ◌++◌, map, refl, sym, ap, subst, ◌∙◌, arith}
 use Rattle.std.specs.List.{AllByRecursion, IsDistinct, list_any}
 use Rattle.std.proofs.Math.Seq.{append_snoc}
 use Rattle.std.proofs.lemmas.Bool.{or_parts}
@@ -130,9 +130,12 @@ program-once : (tree : Tree) → AllByRecursion IsKept (tree_sites tree) → (x 
     → count_named x (conversations_from 0 tree.conversations) + count_named x (channels_from 0 tree.channels) + count_named x (processes_from 0 tree.processes) ≤ 1
 program-once tree kept x =
     let first = declared_once [] (program_scope tree) (all_first IsKept (scope_sites [] (program_scope tree)) _ kept) (λ y. omega arith) x in
-    omega (arith, first,
-    count-append x (in_text_order (conversations_from 0 tree.conversations) (channels_from 0 tree.channels)) (processes_from 0 tree.processes),
-    count-in_text_order x (conversations_from 0 tree.conversations) (channels_from 0 tree.channels))
+    omega (
+      arith,
+      first,
+      count-append x (in_text_order (conversations_from 0 tree.conversations) (channels_from 0 tree.channels)) (processes_from 0 tree.processes),
+      count-in_text_order x (conversations_from 0 tree.conversations) (channels_from 0 tree.channels),
+    )
 
 pub have_distinct_names : (tree : Tree) → faults_of tree ≡ [] → HasDistinctNames tree
 have_distinct_names tree e =

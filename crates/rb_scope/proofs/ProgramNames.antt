@@ -1,6 +1,6 @@
 -- A name of the program's scope, in which each is declared once, has the number of its place among processes, channels or
 -- conversations.
-use Rattle.std.proofs.Common.{◌≡◌, ℕ, zero, suc, ◌+◌, ◌<◌, Bool, true, false, cond, List, [], ◌∷◌, ◌++◌, length, map, position, Option, Some, None, refl, sym, ap, subst, ◌∙◌, add-zero, arith}
+use Rattle.std.proofs.Common.{◌≡◌, ℕ, zero, suc, ◌+◌, ◌<◌, Bool, true, false, cond, List, [], ◌∷◌, map, position, Option, Some, None, refl, sym, ap, subst, ◌∙◌, add-zero, arith}
 use Rattle.std.specs.List.{AllByRecursion, slice_get}
 use Rattle.std.proofs.lemmas.Map.Keys.{IsDistinct-head, IsDistinct-tail}
 use Rattle.std.proofs.lemmas.Option.{slice_get_within}
@@ -14,7 +14,7 @@ use Rattle.rb_scope.specs.Scopes.{Declared, channels_from, conversations_from, d
 use Rattle.rb_scope.specs.declared.slot.Slot.{Slot}
 use Rattle.rb_scope.specs.declared.slot.Slot.TheVariants.{Process, Channel, Conversation}
 use Rattle.rb_scope.proofs.EachSite.{all_append, all_weaker}
-use Rattle.rb_scope.proofs.DistinctNames.{same_flipped, same_text}
+use Rattle.rb_scope.proofs.DistinctNames.{same_text}
 use Rattle.rb_scope.proofs.Meanings.{IsMeant, MeansIt}
 
 module _ {A : Type 0} (name : A → Identifier) where
@@ -62,7 +62,7 @@ module _ {A : Type 0} (name : A → Identifier) where
   place all k a x distinct there named =
       position_first (λ b. same_name (name b).text x) all k a there named
       (λ i b below at.
-          ap (same_name (name b).text) (sym (same_text (name a).text x named)) ∙ both-differ all i k b a distinct below at there)
+      ap (same_name (name b).text) (sym (same_text (name a).text x named)) ∙ both-differ all i k b a distinct below at there)
 
 -- a declaration is that of a process, a channel or a conversation of the program, with its number
 abbrev pub IsOfProgram : Tree → Identifier → Slot → Type 0
@@ -130,17 +130,20 @@ declared_there P x (first ∷ others) one all e = there (same_name first.name.te
 slot-means : (tree : Tree) (p : ℕ) (x : List ℕ) (name : Identifier) (slot : Slot) (n : ℕ) → HasDistinctNames tree → IsOfProgram tree name slot → same_name name.text x ≡ true
     → IsMeant tree p x None None slot n
 slot-means tree p x name (Process k) n distinct there named =
-    let named' = ap (λ (i : Identifier). same_name i.text x) (sym there.2) ∙ named in
-    (ap number_or_zero (place (λ (q : ProcessDeclaration). q.name) tree.processes k there.0 x distinct.processes there.1 named'),
-    slice_get_within tree.processes k there.0 there.1)
+    let named' = ap (λ (i : Identifier). same_name i.text x) (sym there.2) ∙ named in (
+      ap number_or_zero (place (λ (q : ProcessDeclaration). q.name) tree.processes k there.0 x distinct.processes there.1 named'),
+      slice_get_within tree.processes k there.0 there.1,
+    )
 slot-means tree p x name (Channel k) n distinct there named =
-    let named' = ap (λ (i : Identifier). same_name i.text x) (sym there.2) ∙ named in
-    (ap number_or_zero (place (λ (c : ChannelDeclaration). c.name) tree.channels k there.0 x distinct.channels there.1 named'),
-    slice_get_within tree.channels k there.0 there.1)
+    let named' = ap (λ (i : Identifier). same_name i.text x) (sym there.2) ∙ named in (
+      ap number_or_zero (place (λ (c : ChannelDeclaration). c.name) tree.channels k there.0 x distinct.channels there.1 named'),
+      slice_get_within tree.channels k there.0 there.1,
+    )
 slot-means tree p x name (Conversation k) n distinct there named =
-    let named' = ap (λ (i : Identifier). same_name i.text x) (sym there.2) ∙ named in
-    (ap number_or_zero (place (λ (c : ConversationDeclaration). c.name) tree.conversations k there.0 x distinct.conversations there.1 named'),
-    slice_get_within tree.conversations k there.0 there.1)
+    let named' = ap (λ (i : Identifier). same_name i.text x) (sym there.2) ∙ named in (
+      ap number_or_zero (place (λ (c : ConversationDeclaration). c.name) tree.conversations k there.0 x distinct.conversations there.1 named'),
+      slice_get_within tree.conversations k there.0 there.1,
+    )
 slot-means tree p x name other n distinct there named = absurd there
 
 pub program_means : (tree : Tree) (p : ℕ) (x : List ℕ) → HasDistinctNames tree → MeansIt tree p x None None (meaning_of x (program_scope tree ∷ []))
