@@ -8,14 +8,14 @@ use Rattle.rb_meaning.specs.Environment.{frame_of}
 use Rattle.rb_scope.specs.Frames.{Frames, Shape, counter_among, in_acceptance, lies_among, lies_in, lying, pushed, shape_of, shape_words, shapes_words}
 use Rattle.rb_scope.specs.InFrames.{AlternatesInFrames, BodyInFrames, CommandInFrames, CommandsInFrames, ExpressionInFrames, JoinedInFrames, OtherwiseInFrames, PrintedInFrames, RecoveryInFrames}
 use Rattle.rb_scope.specs.Scopes.{Declared, declared_in, meaning_of, variables_from, words_in}
-use Rattle.rb_scope.specs.Sites.{Bounds, Calls, Site, Spot, alternates_sites, body_sites, command_sites, commands_sites, expression_sites, joined_sites, list_sites, most_items, otherwise_sites, printed_sites, recovery_sites, reference_sites, scope_sites, size_sites, tested, within}
+use Rattle.rb_scope.specs.Sites.{Bounds, Spot, alternates_sites, body_sites, command_sites, commands_sites, expression_sites, joined_sites, list_sites, most_items, otherwise_sites, printed_sites, recovery_sites, reference_sites, scope_sites, size_sites, tested, within}
 use Rattle.rb_scope.specs.declared.want.Want.TheVariants.{AScalar}
 use Rattle.rb_scope.specs.declared.slot.Slot.{Slot}
 use Rattle.rb_scope.specs.declared.slot.Slot.TheVariants.{Local}
 use Rattle.rb_scope.proofs.EachSite.{IsKept, IsSettled, all_first, all_parts, all_second, all_weaker}
 use Rattle.rb_scope.proofs.Uses.{HasArraySize, all_sized}
 use Rattle.rb_scope.proofs.Rows.{LiesThere, variables_lie, variables_words}
-use Rattle.rb_scope.proofs.Meanings.{MeansIt, frame_more, of_process}
+use Rattle.rb_scope.proofs.Meanings.{MeansIt, frame_more}
 use Rattle.rb_scope.proofs.NamesInFrames.{AreAlike, channel_used, conversation_used, procedure_used}
 use Rattle.rb_scope.proofs.ExpressionsInFrames.{expression_known, printed_known, target_known}
 

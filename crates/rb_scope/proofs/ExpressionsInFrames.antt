@@ -1,15 +1,15 @@
 -- The names of an expression stand for what the meaning finds under them.
-use Rattle.std.proofs.Common.{◌≡◌, ℕ, ◌+◌, ◌<◌, Bool, true, false, not, cond, nat_le, List, [], ◌∷◌, ◌++◌, Option, Some, None, refl, sym, ap, subst, ◌∙◌}
-use Rattle.std.specs.List.{AllByRecursion, slice_get}
+use Rattle.std.proofs.Common.{ℕ, ◌+◌, ◌<◌, not, cond, nat_le, List, [], ◌∷◌, ◌++◌, Some, sym, ap, subst, ◌∙◌}
+use Rattle.std.specs.List.{AllByRecursion}
 use Rattle.std.proofs.lemmas.Bool.{leb-false, not-false}
 use Rattle.rb_syntax.specs.Tree.{Identifier, Expression, Literal, Variable, Former, Minus, Negation, Chained, Quantification, Reference, Refer, Scalar, Element, Links, NoLink, Linked, Printed, Words, Amount, Tree}
 use Rattle.rb_meaning.specs.Environment.{same_name}
 use Rattle.rb_scope.specs.Frames.{Frames, counter_among, in_body, in_limit, lying}
 use Rattle.rb_scope.specs.InFrames.{ExpressionInFrames, IsScalar, IsValue, LinksInFrames, PrintedInFrames, ReferenceInFrames, most_quantifications}
-use Rattle.rb_scope.specs.Scopes.{Declared, declared, meaning_of}
-use Rattle.rb_scope.specs.Sites.{Site, Spot, Uses, Quantifies, LooksBack, counter, expression_sites, links_sites, printed_sites, quantified, reference_sites, within}
+use Rattle.rb_scope.specs.Scopes.{meaning_of}
+use Rattle.rb_scope.specs.Sites.{Spot, Uses, Quantifies, counter, expression_sites, links_sites, printed_sites, quantified, reference_sites, within}
 use Rattle.rb_scope.specs.declared.want.Want.{Want}
-use Rattle.rb_scope.specs.declared.want.Want.TheVariants.{AScalar, AnArray, AValue}
+use Rattle.rb_scope.specs.declared.want.Want.TheVariants.{AScalar, AValue}
 use Rattle.rb_scope.specs.declared.slot.Slot.{Slot}
 use Rattle.rb_scope.specs.declared.slot.Slot.TheVariants.{Counter}
 use Rattle.rb_scope.proofs.EachSite.{IsKept, IsSettled, all_first, all_second, unbroken}

@@ -1,9 +1,8 @@
 -- A sample of frames, computed: `var g; var a[3]; procedure f(x) { var y; }`, and in the procedure a block with `var z[2]; var g;`.
-use Rattle.std.proofs.Common.{◌≡◌, ℕ, ℤ, pos, List, [], ◌∷◌, Option, Some, None, refl}
+use Rattle.std.proofs.Common.{◌≡◌, ℕ, pos, [], ◌∷◌, Some, None, refl}
 use Rattle.rb_base.specs.declared.place.Place.{Place}
-use Rattle.rb_syntax.specs.declared.expression.Number.{Number}
-use Rattle.rb_syntax.specs.Tree.{Body, Declaration, Identifier, NoCommand, ProcedureDeclaration, ProcessDeclaration, Scope}
-use Rattle.rb_scope.specs.Frames.{Frames, Lying, OfCall, OfProcess, lying, main_frames, procedure_frames, pushed}
+use Rattle.rb_syntax.specs.Tree.{Declaration, Identifier, NoCommand, ProcedureDeclaration, ProcessDeclaration, Scope}
+use Rattle.rb_scope.specs.Frames.{Frames, OfCall, OfProcess, lying, main_frames, procedure_frames, pushed}
 
 here : Place
 here = record { line = 1; column = 1 }

@@ -19,4 +19,3 @@ pub mod ProgramNames
 pub mod ResolvedInFrames
 pub mod WithinLimits
 pub mod FrameSample
-pub mod Sample

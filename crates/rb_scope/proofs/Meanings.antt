@@ -1,11 +1,11 @@
 -- What scopes say of a name against what the meaning finds under it: with one scope more around a place, and one frame more, they
 -- still agree.
-use Rattle.std.proofs.Common.{◌≡◌, ℕ, zero, suc, ◌+◌, ◌<◌, Bool, true, false, cond, List, [], ◌∷◌, ◌++◌, length, option_map, Option, Some, None, refl, sym, ap, subst, ◌∙◌, add-zero, arith}
+use Rattle.std.proofs.Common.{◌≡◌, ℕ, zero, suc, ◌+◌, ◌<◌, Bool, true, false, cond, List, [], ◌∷◌, length, option_map, Option, Some, None, refl, sym, ap, subst, ◌∙◌, add-zero, arith}
 use Rattle.std.specs.List.{slice_get}
 use Rattle.rb_syntax.specs.Tree.{Identifier, ProcedureDeclaration, ProcessDeclaration, Tree}
 use Rattle.rb_meaning.specs.Environment.{or_else, same_name}
 use Rattle.rb_meaning.specs.Groups.{channel_number, conversation_number, process_number, procedure_among, procedure_named, procedures_of}
-use Rattle.rb_scope.specs.Frames.{Lying, OfCall, OfProcess, counter_among, moved}
+use Rattle.rb_scope.specs.Frames.{Lying, OfCall, OfProcess, moved}
 use Rattle.rb_scope.specs.InFrames.{most_quantifications}
 use Rattle.rb_scope.specs.Scopes.{Declared, declared, declared_in, procedures_from}
 use Rattle.rb_scope.specs.declared.slot.Slot.{Slot}

@@ -1,9 +1,8 @@
 -- A name that is used, and breaks no rule, stands for what the meaning finds under it: by what its use wants.
-use Rattle.std.proofs.Common.{◌≡◌, ℕ, Bool, true, false, not, List, [], length, Option, Some, None, refl, sym, ap, subst, ◌∙◌, ◌<◌}
+use Rattle.std.proofs.Common.{◌≡◌, ℕ, true, List, length, Option, Some, None, refl, sym, ap, subst, ◌∙◌, ◌<◌}
 use Rattle.std.proofs.lemmas.Bool.{false≢true}
 use Rattle.std.specs.List.{slice_get}
 use Rattle.rb_syntax.specs.Tree.{Identifier, Tree}
-use Rattle.rb_meaning.specs.Groups.{channel_number, conversation_number, process_number}
 use Rattle.rb_scope.specs.Frames.{Frames, Lying, OfCall, OfProcess, counter_among, lying}
 use Rattle.rb_scope.specs.InFrames.{IsArray, IsChannel, IsConversation, IsProcedure, IsProcess, IsScalar, IsValue, IsValueBy}
 use Rattle.rb_scope.specs.Rules.{fits, is_miscalled}

@@ -1,6 +1,6 @@
 -- A name of the program's scope, in which each is declared once, has the number of its place among processes, channels or
 -- conversations.
-use Rattle.std.proofs.Common.{◌≡◌, ℕ, zero, suc, ◌+◌, ◌<◌, Bool, true, false, cond, List, [], ◌∷◌, ◌++◌, length, map, position, Option, Some, None, refl, sym, ap, subst, ◌∙◌, add-zero, arith}
+use Rattle.std.proofs.Common.{◌≡◌, ℕ, zero, suc, ◌+◌, ◌<◌, Bool, true, false, cond, List, [], ◌∷◌, map, position, Option, Some, None, refl, sym, ap, subst, ◌∙◌, add-zero, arith}
 use Rattle.std.specs.List.{AllByRecursion, slice_get}
 use Rattle.std.proofs.lemmas.Map.Keys.{IsDistinct-head, IsDistinct-tail}
 use Rattle.std.proofs.lemmas.Option.{slice_get_within}
@@ -14,7 +14,7 @@ use Rattle.rb_scope.specs.Scopes.{Declared, channels_from, conversations_from, d
 use Rattle.rb_scope.specs.declared.slot.Slot.{Slot}
 use Rattle.rb_scope.specs.declared.slot.Slot.TheVariants.{Process, Channel, Conversation}
 use Rattle.rb_scope.proofs.EachSite.{all_append, all_weaker}
-use Rattle.rb_scope.proofs.DistinctNames.{same_flipped, same_text}
+use Rattle.rb_scope.proofs.DistinctNames.{same_text}
 use Rattle.rb_scope.proofs.Meanings.{IsMeant, MeansIt}
 
 module _ {A : Type 0} (name : A → Identifier) where

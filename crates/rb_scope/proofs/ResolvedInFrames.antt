@@ -1,22 +1,20 @@
 -- In a tree that is resolved each name stands for what the meaning finds under it.
-use Rattle.std.proofs.Common.{◌≡◌, ℕ, zero, ◌+◌, List, [], ◌∷◌, ◌++◌, length, Option, Some, None, refl, sym, ap, subst, ◌∙◌, arith}
-use Rattle.std.specs.List.{All, AllByRecursion, flat_map, slice_get}
+use Rattle.std.proofs.Common.{◌≡◌, ℕ, ◌+◌, List, [], ◌∷◌, ◌++◌, length, Some, None, refl, sym, subst, arith}
+use Rattle.std.specs.List.{AllByRecursion, flat_map, slice_get}
 use Rattle.std.proofs.lemmas.List.Elements.{All-from_recursion}
-use Rattle.rb_base.specs.declared.edition.Edition.{Edition}
 use Rattle.rb_base.specs.Limits.{most_words}
 use Rattle.rb_syntax.specs.Tree.{Body, ChannelDeclaration, ConversationDeclaration, Declaration, Identifier, ProcedureDeclaration, ProcessDeclaration, Scope, Tree}
 use Rattle.rb_meaning.specs.Environment.{frame_of, or_else}
-use Rattle.rb_scope.specs.Frames.{Frames, call_shape, lies_in, lying, main_frames, procedure_frames, shape_of, shape_words}
-use Rattle.rb_scope.specs.InFrames.{ChannelInFrames, ConversationInFrames, IsProcess, ProcedureInFrames, ProcessInFrames, Resolved}
+use Rattle.rb_scope.specs.Frames.{call_shape, lies_in, lying, main_frames, procedure_frames, shape_of}
+use Rattle.rb_scope.specs.InFrames.{ChannelInFrames, ConversationInFrames, IsProcess, ProcedureInFrames, ProcessInFrames}
 use Rattle.rb_scope.specs.Laws.{ResolvedInFrames}
 use Rattle.rb_scope.specs.Limits.{HasDistinctNames}
-use Rattle.rb_scope.specs.Resolved.{IsResolved}
 use Rattle.rb_scope.specs.Scopes.{declared_in, meaning_of, procedure_scope, procedures_from, process_scope, program_scope, variables_from, words_in}
-use Rattle.rb_scope.specs.Sites.{Spot, Uses, channel_sites, commands_sites, conversation_sites, in_program, list_sites, member_sites, most_connections, most_parameters, most_processes, procedure_sites, process_sites, scope_sites, size_sites, tree_sites, within, words_sites}
+use Rattle.rb_scope.specs.Sites.{Uses, channel_sites, commands_sites, conversation_sites, in_program, list_sites, member_sites, most_connections, most_parameters, most_processes, procedure_sites, process_sites, scope_sites, size_sites, within, words_sites}
 use Rattle.rb_scope.specs.declared.want.Want.TheVariants.{AProcess}
 use Rattle.rb_scope.specs.declared.slot.Slot.{Slot}
 use Rattle.rb_scope.specs.declared.slot.Slot.TheVariants.{Global}
-use Rattle.rb_scope.proofs.EachSite.{IsKept, IsSettled, all_at, all_first, all_parts, all_second, all_settled}
+use Rattle.rb_scope.proofs.EachSite.{IsSettled, all_at, all_first, all_parts, all_second, all_settled}
 use Rattle.rb_scope.proofs.Uses.{HasArraySize, used}
 use Rattle.rb_scope.proofs.Rows.{call_lies, call_words, declared_behind, variables_lie}
 use Rattle.rb_scope.proofs.Meanings.{MeansIt, procedures_lie, process_means}

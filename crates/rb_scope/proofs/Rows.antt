@@ -1,15 +1,15 @@
 -- Declarations in a row against the frame that the meaning makes of them: the first of a name is declared in the one exactly where it
 -- lies in the other, at the word of its slot.
-use Rattle.std.proofs.Common.{◌≡◌, ℕ, pos, ◌+◌, ◌≤◌, Bool, true, false, cond, List, [], ◌∷◌, ◌++◌, length, map, option_map, replicate, Option, Some, None, refl, sym, ap, subst, ◌∙◌, add-zero, add_assoc, add-one, arith}
+use Rattle.std.proofs.Common.{◌≡◌, ℕ, pos, ◌+◌, ◌≤◌, Bool, true, false, cond, List, [], ◌∷◌, ◌++◌, length, option_map, replicate, Option, Some, None, refl, sym, ap, subst, ◌∙◌, add-zero, add_assoc, arith}
 use Rattle.std.specs.List.{AllByRecursion}
 use Rattle.std.proofs.lemmas.List.{length-replicate}
 use Rattle.std.proofs.lemmas.List.Sums.{sum_by-cons}
 use Rattle.rb_syntax.specs.declared.expression.Number.{Number}
-use Rattle.rb_syntax.specs.Tree.{Declaration, Identifier, ProcedureDeclaration}
+use Rattle.rb_syntax.specs.Tree.{Declaration, Identifier}
 use Rattle.rb_meaning.specs.Environment.{frame_of, natural, or_else, same_name, size_of}
 use Rattle.rb_meaning.specs.Step.{bound_to}
-use Rattle.rb_scope.specs.Frames.{Shape, Sized, lies_in, moved, shape_of, shape_words}
-use Rattle.rb_scope.specs.Scopes.{Declared, declared, declared_in, elements, is_array_size, most_elements, parameters_from, variables_from, words_in, words_of}
+use Rattle.rb_scope.specs.Frames.{Sized, lies_in, moved, shape_of, shape_words}
+use Rattle.rb_scope.specs.Scopes.{Declared, declared, declared_in, elements, most_elements, parameters_from, variables_from, words_in, words_of}
 use Rattle.rb_scope.specs.declared.slot.Slot.{Slot}
 use Rattle.rb_scope.specs.declared.slot.Slot.TheVariants.{Local}
 use Rattle.rb_scope.proofs.Uses.{HasArraySize, array_words, same_words}

@@ -1,13 +1,13 @@
 -- What a use of a name is that breaks no rule: the name has a declaration, which fits, and its slot.
-use Rattle.std.proofs.Common.{◌≡◌, ℕ, ◌≤◌, Bool, true, false, not, cond, ◌&&◌, nat_eq, List, [], ◌∷◌, Option, Some, None, refl, sym, ap, ◌∙◌, arith}
+use Rattle.std.proofs.Common.{◌≡◌, ℕ, ◌≤◌, true, false, not, cond, ◌&&◌, nat_eq, List, [], Option, Some, None, refl, sym, ap, ◌∙◌}
 use Rattle.std.specs.List.{AllByRecursion, flat_map, slice_get}
-use Rattle.std.proofs.lemmas.Bool.{not-false, not-true, eqb-true, and_parts, leb-true, true≢false}
+use Rattle.std.proofs.lemmas.Bool.{not-false, eqb-true, and_parts, leb-true}
 use Rattle.rb_syntax.specs.declared.expression.Number.{Number}
 use Rattle.rb_syntax.specs.Tree.{Declaration, Identifier}
 use Rattle.rb_meaning.specs.Environment.{natural, size_of}
-use Rattle.rb_scope.specs.Scopes.{Declared, is_array_size, meaning_of, most_elements, words_of}
-use Rattle.rb_scope.specs.Sites.{Site, Uses, Calls, Sizes, size_sites}
-use Rattle.rb_scope.specs.Rules.{fits, fits_size, is_miscalled, is_outside, misused}
+use Rattle.rb_scope.specs.Scopes.{Declared, is_array_size, most_elements, words_of}
+use Rattle.rb_scope.specs.Sites.{size_sites}
+use Rattle.rb_scope.specs.Rules.{fits, is_miscalled, misused}
 use Rattle.rb_scope.specs.Slots.{StandsFor}
 use Rattle.rb_scope.specs.declared.want.Want.{Want}
 use Rattle.rb_scope.specs.declared.want.Want.TheVariants.{AProcedure}

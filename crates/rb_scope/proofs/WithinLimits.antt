@@ -1,7 +1,7 @@
 -- A tree without a fault is within the limits.
-use Rattle.std.proofs.Common.{◌≡◌, ℕ, ◌+◌, ◌≤◌, Bool, true, false, not, ◌&&◌, nat_eq, nat_le, nat_lt, List, [], ◌∷◌, ◌++◌, length, refl, sym, ap, ◌∙◌, subst, add-zero, arith}
+use Rattle.std.proofs.Common.{◌≡◌, ℕ, ◌+◌, ◌≤◌, false, ◌&&◌, nat_eq, nat_le, nat_lt, List, [], ◌∷◌, ◌++◌, length, refl, sym, ap, ◌∙◌, arith}
 use Rattle.std.specs.List.{AllByRecursion, flat_map}
-use Rattle.std.proofs.lemmas.Bool.{and_cases, and_parts, eqb-false, leb-true, ltb-false, not-false}
+use Rattle.std.proofs.lemmas.Bool.{and_parts, eqb-false, leb-true, not-false}
 use Rattle.std.proofs.lemmas.Bool.Decides.{nat_tests}
 use Rattle.std.proofs.lemmas.List.Elements.{All-from_recursion}
 use Rattle.std.proofs.lemmas.List.Sums.{sum_by-cons}
@@ -16,11 +16,11 @@ use Rattle.rb_scope.specs.Frames.{Sized, shape_of, shape_words}
 use Rattle.rb_scope.specs.Limits.{AlternatesWithin, BodyWithin, CommandWithin, CommandsWithin, IsFrom1To, IsWithinLimits, OtherwiseWithin, ProcedureWithin, ProcessWithin, RecoveryWithin}
 use Rattle.rb_scope.specs.Rules.{faults_of, is_outside, most_channel_size}
 use Rattle.rb_scope.specs.Scopes.{procedure_scope, process_scope, program_scope, variables_from, words_in, words_of}
-use Rattle.rb_scope.specs.Sites.{Bounds, Spot, alternates_sites, body_sites, channel_sites, command_sites, commands_sites, conversation_sites, expression_sites, in_program, joined_sites, list_sites, most_connections, most_items, most_parameters, most_processes, otherwise_sites, printed_sites, procedure_sites, process_sites, recovery_sites, reference_sites, scope_sites, size_sites, tested, tree_sites, within, words_sites}
+use Rattle.rb_scope.specs.Sites.{Bounds, Spot, alternates_sites, body_sites, channel_sites, command_sites, commands_sites, conversation_sites, expression_sites, in_program, joined_sites, list_sites, most_connections, most_items, most_parameters, most_processes, otherwise_sites, printed_sites, procedure_sites, process_sites, recovery_sites, reference_sites, scope_sites, size_sites, tested, within, words_sites}
 use Rattle.rb_scope.specs.declared.want.Want.TheVariants.{AScalar}
 use Rattle.rb_scope.specs.declared.slot.Slot.TheVariants.{Local}
 use Rattle.rb_scope.proofs.EachSite.{IsKept, all_first, all_kept, all_parts, all_second, unbroken}
-use Rattle.rb_scope.proofs.Uses.{HasArraySize, all_sized}
+use Rattle.rb_scope.proofs.Uses.{all_sized}
 use Rattle.rb_scope.proofs.Rows.{variables_words}
 
 -- the words of a frame are those of its shape

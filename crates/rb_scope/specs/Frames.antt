@@ -2,12 +2,12 @@
 -- The words of a process's own variables stand in a row; above the base of the running call stand those of its frames, each
 -- frame's after those of the frames around it. So what a name means does not depend on values, and a frame that is pushed moves
 -- no word of the frames around it.
-use Rattle.std.specs.Prelude.{◌≡◌, ℕ, ◌+◌, ◌<◌, Bool, true, false, cond, List, [], ◌∷◌, ◌++◌, length, map, sum_by, option_map, slice_get, Option, Some, None}
-use Rattle.rb_syntax.specs.Tree.{Identifier, Declaration, Body, ProcedureDeclaration, ProcessDeclaration}
+use Rattle.std.specs.Prelude.{ℕ, ◌+◌, Bool, true, false, cond, List, [], ◌∷◌, ◌++◌, length, map, sum_by, option_map, Option, Some, None}
+use Rattle.rb_syntax.specs.Tree.{Identifier, Declaration, ProcedureDeclaration, ProcessDeclaration}
 use Rattle.rb_meaning.specs.Environment.{Frame, frame_of, or_else, same_name}
 use Rattle.rb_meaning.specs.Step.{bound_to, variables_of}
 use Rattle.rb_scope.specs.declared.slot.Slot.{Slot}
-use Rattle.rb_scope.specs.declared.slot.Slot.TheVariants.{Global, Local, Counter}
+use Rattle.rb_scope.specs.declared.slot.Slot.TheVariants.{Global, Local}
 
 -- a variable of a frame: its name, and how many words it has
 pub record Sized : Type 0 where

@@ -1,6 +1,6 @@
 -- What the rules of limits leave to a tree without a fault: how long its lists are, how large its arrays, channels and turn bounds,
 -- and that the names of its processes, channels and conversations are told apart by their texts.
-use Rattle.std.specs.Prelude.{◌≡◌, ℕ, ◌≤◌, List, [], ◌∷◌, ◌++◌, length, map}
+use Rattle.std.specs.Prelude.{ℕ, ◌≤◌, List, length, map}
 use Rattle.std.specs.List.{All, IsDistinct}
 use Rattle.rb_base.specs.declared.edition.Edition.{Edition}
 use Rattle.rb_base.specs.declared.limits.TheConstants.{MOST_TURNS}

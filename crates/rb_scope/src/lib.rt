@@ -17,8 +17,6 @@ mod sites;
 pub mod slot;
 mod spot;
 mod statement;
-#[cfg(test)]
-mod tests;
 mod variables;
 mod want;
 
