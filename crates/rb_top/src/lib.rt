@@ -22,6 +22,8 @@ pub use top::command;
 pub use words::Words;
 
 #[cfg(test)]
+mod command_tests;
+#[cfg(test)]
 mod cuts;
 #[cfg(test)]
 mod ending_tests;
