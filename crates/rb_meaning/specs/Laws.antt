@@ -50,11 +50,18 @@ HasItsLevels tree q = map (λ level. level.facts) (with_test q.at_line q.levels)
 abbrev pub IsIn : Tree → List ℕ → ℕ → Process State State → Type 0
 IsIn tree turns r q = slice_get (run_of tree turns).0.processes r ≡ Some q
 
+-- each nested program keeps this
+abbrev pub OfEveryNested : (Tree → Type 0) → Type 0
+OfEveryNested P = (tree : Tree) → IsNested tree → P tree
+
 -- Levels are nested: a level of a conversation has its parent's level just outside it. And unless the process has failed, its
 -- levels are those of what is left.
-abbrev pub LevelsAreNested : Type 0
-LevelsAreNested = (tree : Tree) → IsNested tree → (turns : List ℕ) (r : ℕ) (q : Process State State) → IsIn tree turns r q
+abbrev pub HasNestedLevels : Tree → Type 0
+HasNestedLevels tree = (turns : List ℕ) (r : ℕ) (q : Process State State) → IsIn tree turns r q
     → AreNested (groups_of tree) q.levels × (is_failed q.status ≡ false → HasItsLevels tree q)
+
+abbrev pub LevelsAreNested : Type 0
+LevelsAreNested = OfEveryNested HasNestedLevels
 
 -- The plain run of the survivors is not stuck, ends in the same states and released the same lines in the same turns; and the
 -- survivors' turns rise.
@@ -67,20 +74,29 @@ pub record IsErased (tree : Tree) (turns : List ℕ) : Type 0 where
   pub rises : Rises (survivors (run_of tree turns).0)
 
 -- Erasure: what survived a run, run alone with nothing ever rejected, ends the same.
+abbrev pub IsAlwaysErased : Tree → Type 0
+IsAlwaysErased tree = (turns : List ℕ) → IsErased tree turns
+
 abbrev pub Erasure : Type 0
-Erasure = (tree : Tree) → IsNested tree → (turns : List ℕ) → IsErased tree turns
+Erasure = OfEveryNested IsAlwaysErased
 
 -- So its text has the lines that the run released, and the run's values.
-abbrev pub ErasureInText : Type 0
-ErasureInText = (tree : Tree) → IsNested tree → (turns : List ℕ)
+abbrev pub IsErasedInText : Tree → Type 0
+IsErasedInText tree = (turns : List ℕ)
     → plain_text tree (survivors (run_of tree turns).0)
     ≡ Ok (outs_text (naming_of tree) (numbered 1 (run_of tree turns).1) ++ values_text (naming_of tree) (final_of tree (run_of tree turns).0))
 
+abbrev pub ErasureInText : Type 0
+ErasureInText = OfEveryNested IsErasedInText
+
 -- No receipt stands of a message that was taken back: a receiver has never taken more than it can see.
-abbrev pub NothingTakenBack : Type 0
-NothingTakenBack = (tree : Tree) → IsNested tree → (turns : List ℕ) (c : ℕ) (ends : Ends) (sender receiver : Process State State)
+abbrev pub TakesNothingBack : Tree → Type 0
+TakesNothingBack tree = (turns : List ℕ) (c : ℕ) (ends : Ends) (sender receiver : Process State State)
     → slice_get (channels_of tree) c ≡ Some ends → IsIn tree turns ends.sender sender → IsIn tree turns ends.receiver receiver
     → taken_on receiver.state c ≤ seen_count (tree_kind tree) sender.state (seen_copy sender.levels receiver.levels) c
+
+abbrev pub NothingTakenBack : Type 0
+NothingTakenBack = OfEveryNested TakesNothingBack
 
 -- the turn of process p that comes after these turns
 abbrev pub next_turn : Tree → List ℕ → ℕ → TreeWorld × Told
@@ -106,10 +122,13 @@ IsOutside (Some c) q = is_inside c q ≡ false
 
 -- A turn that is undone changes no other process than those inside the outermost conversation that it rejects; where it rejects
 -- none, no other at all.
-abbrev pub RejectionsStayInside : Type 0
-RejectionsStayInside = (tree : Tree) → IsNested tree → (turns : List ℕ) (p r : ℕ) (q : Process State State)
+abbrev pub KeepsRejectionsInside : Tree → Type 0
+KeepsRejectionsInside tree = (turns : List ℕ) (p r : ℕ) (q : Process State State)
     → (next_turn tree turns p).1.kind ≡ Undone → IsIn tree turns r q → r ≢ p → IsOutside (outermost_rejected (next_turn tree turns p).1.events) q
     → slice_get (next_turn tree turns p).0.processes r ≡ Some q
+
+abbrev pub RejectionsStayInside : Type 0
+RejectionsStayInside = OfEveryNested KeepsRejectionsInside
 
 -- an event of a turn
 abbrev pub IsAmong : Event → List Event → Type 0
@@ -161,9 +180,12 @@ pub data GoTogether (tree : Tree) (c p : ℕ) (w later : TreeWorld) (events : Li
   OutTogether : (outer alternate : ℕ) (cause : Cause) → IsAmong (RejectAll outer alternate p cause) events → IsEmpty c later → GoTogether tree c p w later events
 
 -- Members pass the test line together, and go back together.
-abbrev pub PassedTogether : Type 0
-PassedTogether = (tree : Tree) → IsNested tree → (turns : List ℕ) (c p : ℕ)
+abbrev pub PassesTogether : Tree → Type 0
+PassesTogether tree = (turns : List ℕ) (c p : ℕ)
     → GoTogether tree c p (run_of tree turns).0 (next_turn tree turns p).0 (next_turn tree turns p).1.events
+
+abbrev pub PassedTogether : Type 0
+PassedTogether = OfEveryNested PassesTogether
 
 -- a level of conversation c tries its present alternate, and has as many alternates as each `converse` for it
 pub record TriesTheSame (tree : Tree) (w : TreeWorld) (c : ℕ) (level : Level State) : Type 0 where
@@ -171,9 +193,12 @@ pub record TriesTheSame (tree : Tree) (w : TreeWorld) (c : ℕ) (level : Level S
   pub as_many : alternates_of tree c ≡ Some level.facts.alternates
 
 -- Members try the same alternate: whoever is inside a conversation is in its present alternate, whenever it entered.
-abbrev pub TriedTogether : Type 0
-TriedTogether = (tree : Tree) → IsNested tree → (turns : List ℕ) (r i c : ℕ) (q : Process State State) (level : Level State)
+abbrev pub TriesTogether : Tree → Type 0
+TriesTogether tree = (turns : List ℕ) (r i c : ℕ) (q : Process State State) (level : Level State)
     → HasLevel (run_of tree turns).0 r i q level → level.facts.conversation ≡ Some c → TriesTheSame tree (run_of tree turns).0 c level
+
+abbrev pub TriedTogether : Type 0
+TriedTogether = OfEveryNested TriesTogether
 
 -- an event tells a rejection
 abbrev pub is_rejection : Event → Bool
@@ -209,9 +234,15 @@ abbrev pub SlotsAreUnseen : Type 0
 SlotsAreUnseen = (tree : Tree) (turns : List ℕ) → (run_of tree turns).1 ≡ (run_with_slots tree turns).1
 
 -- In every world each message that may still be asked for lies in its slot.
+abbrev pub HoldsMessagesInSlots : Tree → Type 0
+HoldsMessagesInSlots tree = (turns : List ℕ) → AllLieInSlots (tree_kind tree) (run_with_slots tree turns).0
+
 abbrev pub SlotsHoldMessages : Type 0
-SlotsHoldMessages = (tree : Tree) → IsNested tree → (turns : List ℕ) → AllLieInSlots (tree_kind tree) (run_with_slots tree turns).0
+SlotsHoldMessages = OfEveryNested HoldsMessagesInSlots
 
 -- So a run that reads messages from their slots is the same.
+abbrev pub ReadsFromSlots : Tree → Type 0
+ReadsFromSlots tree = (turns : List ℕ) → run_from_slots tree turns ≡ run_with_slots tree turns
+
 abbrev pub SlotsAreRead : Type 0
-SlotsAreRead = (tree : Tree) → IsNested tree → (turns : List ℕ) → run_from_slots tree turns ≡ run_with_slots tree turns
+SlotsAreRead = OfEveryNested ReadsFromSlots

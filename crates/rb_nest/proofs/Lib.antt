@@ -1,2 +1,10 @@
 pub mod Accepted
 pub mod FirstFaults
+pub mod Places
+pub mod InTurn
+pub mod After
+pub mod Around
+pub mod FirstAnswers
+pub mod Parents
+pub mod Faults
+pub mod Members

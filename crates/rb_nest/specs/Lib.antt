@@ -2,3 +2,9 @@
 pub mod Rules
 pub mod Groups
 pub mod Laws
+pub mod Nest
+pub mod Answers
+pub mod Blocks
+pub mod Summary
+pub mod Memory
+pub mod Members

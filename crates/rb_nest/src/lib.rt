@@ -1,4 +1,21 @@
 // How conversations and channels of a program nest: the rules, and the first fault.
 #![tactic(auto)]
 
+mod blocks;
+mod conversations;
+mod ends;
+mod found;
+mod joins;
 pub mod laws;
+mod look_up;
+mod nesting;
+mod processes;
+mod rules;
+mod spot;
+#[cfg(test)]
+mod tests;
+mod usage;
+mod uses;
+mod walk;
+
+pub use nesting::nest;

@@ -5,7 +5,7 @@ mod checked;
 mod declared;
 mod expression;
 mod finder;
-mod first;
+pub mod first;
 pub mod laws;
 mod lists;
 mod naming;

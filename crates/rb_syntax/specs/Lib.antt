@@ -1,3 +1,4 @@
 pub mod Tree
 pub mod Append
 pub mod Plain
+pub mod Numbered

@@ -1,0 +1,12 @@
+-- The numbers of recovery blocks, part by part.
+pub mod PartsWithoutBlocks
+pub mod BlocksInOrder
+-- The numbers of names.
+pub mod Hits
+pub mod NamesAtSites
+pub mod NamesInTrees
+pub mod OwnNumbers
+-- Verdicts, and what holds of accepted sources.
+pub mod Verdicts
+pub mod Accepted
+pub mod Stages

@@ -1,0 +1,5 @@
+use Rattle.rb_judge.proofs.Accepted.{accepted_are_shallow}
+use Rattle.rb_judge.proofs.laws.accepted_are_shallow.Goals as goal
+
+pub returns : goal.returns
+returns c = accepted_are_shallow

@@ -1,0 +1,4 @@
+-- The verdict on a source, and what holds of every accepted one.
+pub mod Verdict
+pub mod Judged
+pub mod Laws

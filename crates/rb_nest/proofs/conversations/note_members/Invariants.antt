@@ -1,0 +1,10 @@
+use Rattle.std.proofs.Common.{◌≡◌, [], drop, map, reverse, take}
+use Rattle.rb_syntax.specs.Plain.{identifier, tree}
+use Rattle.rb_scope.specs.Finding.{first_after}
+use Rattle.rb_nest.specs.Rules.{members_faults}
+use Rattle.rb_nest.proofs.conversations.note_members.Given as goal
+
+-- what is found, and then behind the other members
+abbrev pub invariant-loop-index : goal.invariant-loop-index
+invariant-loop-index l =
+    first_after l.first (members_faults (tree l.uses.program.now) l.conversation (map identifier (reverse (take l.index l.members))) (map identifier (drop l.index l.members))) ≡ first_after l.fn.first (members_faults (tree l.uses.program.now) l.conversation [] (map identifier l.members))
