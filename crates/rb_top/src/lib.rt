@@ -3,7 +3,6 @@
 
 pub mod check;
 pub mod ending;
-pub mod judge;
 pub mod laws;
 pub mod program;
 pub mod read;
