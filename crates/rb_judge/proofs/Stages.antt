@@ -1,22 +1,17 @@
 -- What `judge` answers, from what its three stages answer.
-use Rattle.std.proofs.Common.{◌≡◌, ℕ, List, [], sym, subst}
+use Rattle.std.proofs.Common.{◌≡◌, ℕ, List, [], subst}
 use Rattle.rb_base.specs.declared.fault.Refusal.{Refusal}
 use Rattle.rb_base.specs.declared.fault.Refusal.TheVariants.{Fault, Memory}
-use Rattle.rb_syntax.specs.Plain.{tree}
 use Rattle.rb_syntax.specs.Tree.{Tree}
-use Rattle.rb_meaning.specs.Meaning.{naming_of}
-use Rattle.rb_trace.specs.Naming.{naming}
 use Rattle.rb_parse.specs.Verdict as texts
 use Rattle.rb_parse.specs.Verdict.{HasTree}
-use Rattle.rb_scope.specs.InFrames.{Resolved}
 use Rattle.rb_scope.specs.Resolved as scopes
 use Rattle.rb_scope.specs.Resolved.{IsResolved}
 use Rattle.rb_scope.specs.Rules.{faults_of}
 use Rattle.rb_nest.specs.Nest as nesting
 use Rattle.rb_nest.specs.Nest.{IsNest}
-use Rattle.rb_judge.specs.Judged.{IsJudged, IsRefusal}
+use Rattle.rb_judge.specs.Judged.{IsRefusal}
 use Rattle.rb_judge.specs.Verdict.{in_nesting, in_scopes, in_text}
-use Rattle.rb_judge.specs.declared.judging.Judged.{Judged}
 
 -- a refusal by each stage
 pub refused_in_text : (source : List ℕ) (refusal : Refusal) → texts.IsRefusal source refusal → IsRefusal source refusal

@@ -21,6 +21,7 @@ pub struct Judged<'a> {
 /// Judges a source: it is accepted, or refused for its first fault. The faults of tokens and grammar, X1 to X5, Y1 and Y2, come
 /// first, in the order in which the tokens are read; then that of scopes and limits, S1 to S11, with the least place and then the
 /// least number; then that of nesting, N1 to N13, in the same way. After a refusal nothing is kept.
+#[tactic(auto, using(crate::proofs::OwnNumbers::parsed_have_own_numbers, crate::proofs::Stages::refused_in_scopes, crate::proofs::Stages::refused_in_nesting))]
 pub fn judge<'a>(alloc: Global, source: &'a [u8]) -> Result<Judged<'a>, Refusal>
     requires { length source.now ≤ MOST_BYTES }
     ensures judged { IfOk result (λ judged. IsJudged source.now judged) }
