@@ -3,7 +3,7 @@ use Rattle.std.proofs.Common.{◌≡◌, ◌⊎◌, ℕ, ◌+◌, ◌<◌, ◌�
 use Rattle.std.proofs.lemmas.List.{take_all}
 use Rattle.std.proofs.lemmas.Bool.{cases_lt}
 use Rattle.rb_outside.specs.declared.Failed.{Failed}
-use Rattle.rb_outside.specs.Outside.{File, Faults, Start, WrotePart, bytes_of, named, shut, told_starts, failed_once, was_missing, then_written}
+use Rattle.rb_outside.specs.Outside.{File, Faults, Start, bytes_of, named, shut, told_starts, failed_once, was_missing}
 use Rattle.rb_outside.specs.Puts.{Puts}
 use Rattle.rb_outside.proofs.Puts.{failed_after}
 use Rattle.rb_top.specs.Words.{Command, Run, Check, Wanted, Request}
@@ -13,7 +13,7 @@ use Rattle.rb_top.specs.declared.read.Unread.TheVariants as unread
 use Rattle.rb_top.specs.declared.status.Status.{Status}
 use Rattle.rb_top.specs.declared.status.Status.TheVariants.{Done, Refused, Usage, ReadFault, WriteFault, Memory}
 use Rattle.rb_top.specs.Judgement.{Judgement, ReadsOn, RefusedWith, Writes, Judges}
-use Rattle.rb_top.specs.Answers.{Scene, WritesNothing, WritesByThen, piece_bytes, IsRead, HasRead, nothing_yet, one_more, Ended, EndedIn, StoppedAt, StoppedByFault, told, untold, StoppedByFaultIn, StoppedByMissing, StoppedByMissingIn, RanOut, between, within, RanOutIn, ReadFails, by_fault, by_missing, WithRequest, WhereRequested}
+use Rattle.rb_top.specs.Answers.{Scene, WritesNothing, WritesByThen, piece_bytes, IsRead, nothing_yet, one_more, Ended, EndedIn, StoppedAt, StoppedByFault, told, untold, StoppedByFaultIn, StoppedByMissing, StoppedByMissingIn, RanOut, between, within, RanOutIn, ReadFails, by_fault, by_missing, WithRequest, WhereRequested}
 use Rattle.rb_top.specs.Read.{WasRead, WasReadIn, StandsAt, StandsAtIn, StopsForFault, StopsForFaultIn, StopsForMemory, OnUnread}
 use Rattle.rb_top.specs.Read as stops
 use Rattle.rb_top.specs.Stages.{HasReadSince, HasReadIn, StageEnds, status_of_unread}

@@ -6,7 +6,7 @@ use Rattle.rb_outside.specs.Outside.{File, Faults, Start, WrotePart, failed_once
 use Rattle.rb_outside.proofs.Puts.{failed_after}
 use Rattle.rb_top.specs.Words.{Command, Run, Check, Request}
 use Rattle.rb_top.specs.Judgement.{usage_line}
-use Rattle.rb_top.specs.Answers.{Scene, nothing_yet, between, RanOutIn, ReadFails, by_fault, by_missing, WritesByThen, WritesAll, WritesPart, WritesNothing, WithoutRequest, WithRequest, WhereRequested}
+use Rattle.rb_top.specs.Answers.{Scene, ReadFails, by_fault, by_missing, WritesByThen, WritesAll, WritesPart, WritesNothing, WithoutRequest, WithRequest, WhereRequested}
 use Rattle.rb_top.specs.Complete.{IsUnhindered, EndsAs, IsComplete}
 use Rattle.rb_top.specs.Ending.{IsUnwritten, SeenBehind, EndsWithNumber, Finishes, status_number}
 use Rattle.rb_top.proofs.Answering.{memory_at_once}

@@ -1,12 +1,12 @@
 -- What `clap` makes of plain words: it takes those that give a command, and finds the values that they give it.
-use Rattle.std.proofs.Common.{◌≡◌, ◌∙◌, ℕ, Bool, true, false, not, cond, List, [], ◌∷◌, ◌++◌, map, codes, Option, Some, None, Box, Bor, ◌<◌, ◌+◌, length, take, slice_index_or, option_and_then, option_map, inl, inr, refl, sym, ap, ap₂, subst, true≢false}
+use Rattle.std.proofs.Common.{◌≡◌, ◌∙◌, ℕ, Bool, true, false, List, [], ◌∷◌, ◌++◌, map, codes, Option, Some, None, Box, Bor, ◌<◌, ◌+◌, length, take, slice_index_or, option_and_then, option_map, inl, inr, refl, sym, ap, subst, true≢false}
 use Rattle.std.specs.Str.{bytes_eq}
 use Rattle.std.specs.List.{find, fold, list_all}
 use Rattle.std.proofs.lemmas.List.{map-append, take_more}
 use Rattle.std.proofs.lemmas.Slice.Eq.{bytes_eq-Decides}
 use Rattle.std.proofs.lemmas.Bool.{not-true, not-false, and_parts, and_cases, cond-true, cond_both, eqb-true}
 use Rattle.clap.specs.Lexer.{long_of, short_of}
-use Rattle.clap.specs.Walk.{Held, Names, rows_of, answers_to, Rule, Row, Step, Text, Walk, arg_by_index, first_of, idle, nothing_held, rows_after, subcommand_met, to_positional, value, walk, walk_from, walked, word_met}
+use Rattle.clap.specs.Walk.{Held, Names, rows_of, answers_to, Rule, Row, Text, Walk, arg_by_index, first_of, idle, nothing_held, rows_after, subcommand_met, to_positional, value, walk, walked, word_met}
 use Rattle.clap.specs.Simple.{App, Shape, built, filled_from, is_simple, label_of, names_of, new_shape, subcommand_of, subcommand_rows, with_rule}
 use Rattle.std.specs.Box.{box_value}
 use Rattle.clap.specs.Values.{kind_of}
@@ -148,8 +148,13 @@ module _ (name i j : Text) (first : bytes_eq i i ≡ true) (second : bytes_eq j 
       fault_at name (i ∷ j ∷ []) (a ∷ b ∷ c ∷ more) ≡ UnknownArgument ∷ []
   unfolding walk_fault
   two-many a b c more plain plain' plain'' =
-      rw (turn [] nothing_held 1 a plain refl two, first_of_two a plain, turn [] (held_at [] i a) 2 b plain' refl two, second_of_two a b plain',
-      turn [] (held_at (row_of i a ∷ []) j b) 3 c plain'' refl two) (simp (first, ahead))
+      rw (
+        turn [] nothing_held 1 a plain refl two,
+        first_of_two a plain,
+        turn [] (held_at [] i a) 2 b plain' refl two,
+        second_of_two a b plain',
+        turn [] (held_at (row_of i a ∷ []) j b) 3 c plain'' refl two,
+      ) (simp (first, ahead))
 
 -- ---- the program
 
@@ -328,5 +333,5 @@ pub command_more : (name : Text) (ids : List (Bor Text)) (i : ℕ) (id : Bor Tex
 command_more name ids i id lt at =
     let more : take (i + 1) ids ≡ take i ids ++ id ∷ [] = take_more ids i id lt ∙ ap (λ x. take i ids ++ x ∷ []) (sym at) in
     let rules : map required_word (map (λ w. w.now) (take (i + 1) ids)) ≡ map required_word (map (λ w. w.now) (take i ids)) ++ required_word id.now ∷ [] =
-        ap (λ xs. map required_word (map (λ w. w.now) xs)) more ∙ simp map-append in
+    ap (λ xs. map required_word (map (λ w. w.now) xs)) more ∙ simp map-append in
     ap (λ rs. record { top = record (command_with name []) { rules = rs }; subs = [] }) (sym rules)

@@ -10,7 +10,7 @@ use Rattle.rb_top.specs.Judgement.{Judgement, ReadsOn, RefusedWith, Writes, Sour
 use Rattle.rb_top.specs.Judgement.{ScheduleRefused, long_schedule, bad_schedule, schedule_line, ScheduleRuns, JudgesSource, at_first, source_refused, source_accepted}
 use Rattle.rb_top.specs.Judgement.{RunGoesOn, unready_tree, ready_tree, schedule_refused, runs, CheckGoesOn, accepts, Judges, EndsWith, refused_here, written_here, later}
 use Rattle.rb_top.specs.Laws.{AreJudgedOnce}
-use Rattle.rb_top.proofs.Verdicts.{have_one_verdict}
+use Rattle.rb_judge.proofs.Verdicts.{have_one_verdict}
 
 not_both_lengths : (text : List ℕ) {P : Type 0} → MOST_BYTES < length text → length text ≤ MOST_BYTES → P
 not_both_lengths text long short = absurd (omega (arith, long, short))

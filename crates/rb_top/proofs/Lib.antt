@@ -2,7 +2,6 @@ pub mod Reading
 pub mod Chains
 pub mod Answering
 pub mod Sources
-pub mod Verdicts
 pub mod Judged
 pub mod Complete
 pub mod AllJudged

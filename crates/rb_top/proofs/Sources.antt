@@ -1,5 +1,5 @@
 -- The source of a command, which several commands read and judge first, and the file after it.
-use Rattle.std.proofs.Common.{◌≡◌, ◌⊎◌, ℕ, ◌<◌, ◌≤◌, true, List, [], ◌∷◌, ◌++◌, length, Option, Result, Ok, Err, refl, inl, inr, arith}
+use Rattle.std.proofs.Common.{◌≡◌, ℕ, ◌<◌, ◌≤◌, true, List, [], ◌∷◌, length, Option, Result, Ok, Err, refl, inl, inr, arith}
 use Rattle.rb_base.specs.declared.limits.TheConstants.{MOST_BYTES}
 use Rattle.rb_outside.specs.Outside.{File, Faults, Start}
 use Rattle.rb_syntax.specs.Tree.{Tree}
@@ -12,9 +12,9 @@ use Rattle.rb_run.specs.declared.engine.Ended.TheVariants as ends
 use Rattle.rb_top.specs.Words.{Command, Wanted, Request, run_of, text_named}
 use Rattle.rb_top.specs.declared.status.Status.{Status}
 use Rattle.rb_top.specs.declared.status.Status.TheVariants.{Done, Refused, Usage, ReadFault, WriteFault, Memory}
-use Rattle.rb_top.specs.Judgement.{Judgement, ReadsOn, RefusedWith, Writes, SourceRefused, long_source, bad_source, Accepted, ScheduleRefused, long_schedule, bad_schedule}
-use Rattle.rb_top.specs.Judgement.{JudgesSource, at_first, source_refused, source_accepted, RunGoesOn, unready_tree, ready_tree, schedule_refused, runs, Judges}
-use Rattle.rb_top.specs.Answers.{Scene, WithRequest}
+use Rattle.rb_top.specs.Judgement.{Judgement, ReadsOn, RefusedWith, Writes, long_source, bad_source, Accepted, long_schedule, bad_schedule}
+use Rattle.rb_top.specs.Judgement.{JudgesSource, at_first, source_refused, source_accepted, RunGoesOn, ready_tree, schedule_refused, runs, Judges}
+use Rattle.rb_top.specs.Answers.{WithRequest}
 use Rattle.rb_top.specs.Read.{WasReadIn}
 use Rattle.rb_top.specs.Stages.{HasReadIn, HasSource, EndsForSource, StageEnds, status_of_run}
 use Rattle.rb_top.proofs.Answering.{next_judged, nothing_read, reads_text}

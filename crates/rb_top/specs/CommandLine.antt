@@ -1,5 +1,5 @@
 -- The command line as `clap` is told of it, and what is read from what it finds.
-use Rattle.std.specs.Prelude.{ℕ, nat_eq, true, false, cond, List, [], ◌∷◌, map, codes, Option, Some, None, option_and_then, option_map}
+use Rattle.std.specs.Prelude.{ℕ, nat_eq, true, false, cond, List, [], ◌∷◌, map, codes, Option, None, option_and_then, option_map}
 use Rattle.std.specs.Cmp.Lexicographic.{pointwise}
 use Rattle.clap.specs.Words.{App, Rule, Shape, new_app, new_rule}
 use Rattle.rb_top.specs.Words.{Request, run_of, check_of}

@@ -7,7 +7,7 @@ use Rattle.rb_base.specs.Words.{fault_word}
 use Rattle.rb_syntax.specs.Tree.{Tree}
 use Rattle.rb_meaning.specs.Meaning.{run_text}
 use Rattle.rb_base.specs.declared.limits.TheConstants.{MOST_BYTES}
-use Rattle.rb_top.specs.Verdict.{IsAccepted, IsRefusedFor}
+use Rattle.rb_judge.specs.Verdict.{IsAccepted, IsRefusedFor}
 use Rattle.rb_sched.specs.Schedule.{schedule_of}
 use Rattle.rb_run.specs.Ran.{names_of}
 use Rattle.rb_run.specs.Runnable.{is_runnable}

@@ -1,7 +1,6 @@
 pub mod Words
 pub mod Asked
 pub mod CommandLine
-pub mod Verdict
 pub mod Judgement
 pub mod Answers
 pub mod Read

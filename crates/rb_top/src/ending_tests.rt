@@ -11,7 +11,13 @@ fn row(n: u8) -> (&'static str, u64, usize, u8, &'static str) {
     match n {
         0 => ("run a b", 9, 99, 0, "1 out p x\n1 done p\nend 1\np done\n"),
         1 => ("run a a", 9, 99, 1, "refused T1 at 1\n"),
-        2 => ("go", 9, 99, 2, "usage: rbl run SOURCE SCHEDULE\n"),
+        2 => (
+            "go",
+            9,
+            99,
+            2,
+            "usage: rbl run SOURCE SCHEDULE | check SOURCE\n",
+        ),
         3 => ("run a c", 9, 99, 3, ""),
         4 => ("run a b", 0, 99, 4, ""),
         5 => ("run a b", 9, 12, 4, "1 out p x\n1 "),

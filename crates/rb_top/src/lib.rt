@@ -3,7 +3,6 @@
 
 pub mod check;
 pub mod ending;
-pub mod judge;
 pub mod laws;
 pub mod program;
 pub mod read;
@@ -21,6 +20,8 @@ pub use status::Status;
 pub use top::command;
 pub use words::Words;
 
+#[cfg(test)]
+mod command_tests;
 #[cfg(test)]
 mod cuts;
 #[cfg(test)]

@@ -131,7 +131,7 @@ fn call_row(n: u8) -> Call {
             99,
             99,
             Status::Usage,
-            "usage: rbl run SOURCE SCHEDULE\n",
+            "usage: rbl run SOURCE SCHEDULE | check SOURCE\n",
         ),
         1 => (
             "run a b c",
@@ -139,7 +139,7 @@ fn call_row(n: u8) -> Call {
             99,
             99,
             Status::Usage,
-            "usage: rbl run SOURCE SCHEDULE\n",
+            "usage: rbl run SOURCE SCHEDULE | check SOURCE\n",
         ),
         2 => (
             "run a -b",
@@ -147,7 +147,7 @@ fn call_row(n: u8) -> Call {
             99,
             99,
             Status::Usage,
-            "usage: rbl run SOURCE SCHEDULE\n",
+            "usage: rbl run SOURCE SCHEDULE | check SOURCE\n",
         ),
         3 => ("run a c", 99, 99, 99, Status::ReadFault, ""),
         4 => ("run c b", 99, 99, 99, Status::ReadFault, ""),

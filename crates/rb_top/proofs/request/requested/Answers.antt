@@ -15,14 +15,14 @@ returns-then-not-are_plain c =
 pub returns-in-Ok : goal.returns-in-Ok
 returns-in-Ok c =
     let plain : list_all is_plain_word (map string_bytes c.list-words.result.now) ≡ true =
-        list_all-map is_plain_word _ c.list-words.result.now ∙ sym c.if-not-are_plain.ensures in
+    list_all-map is_plain_word _ c.list-words.result.now ∙ sym c.if-not-are_plain.ensures in
     sym (c.request_in.ensures ∙ ap found_in (c.in-Ok.ensures.matches (ap is_simple c.in_ok-command_line.ensures ∙ is_told_simple)).1
     ∙ answer_taken _ _ c.in_ok-command_line.ensures plain c.in-Ok.ensures.kinds ∙ ap request_of c.list-words.ensures)
 
 pub returns-in-Err : goal.returns-in-Err
 returns-in-Err c =
     let plain : list_all is_plain_word (map string_bytes c.list-words.result.now) ≡ true =
-        list_all-map is_plain_word _ c.list-words.result.now ∙ sym c.if-not-are_plain.ensures in
+    list_all-map is_plain_word _ c.list-words.result.now ∙ sym c.if-not-are_plain.ensures in
     IfOk-weaker c.none_unless_memory.result _ _
     (λ request none. ap request_of (sym c.list-words.ensures)
     ∙ answer_refused _ _ c.in-Err.error c.in_ok-command_line.ensures plain c.in-Err.ensures.kinds (λ memory. none.1 (c.kind.ensures ∙ memory))

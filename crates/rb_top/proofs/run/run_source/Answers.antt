@@ -30,12 +30,13 @@ returns-then-not-is_runnable-clause-answers g c =
     c.requires refl
     (line_ends (JudgesSource RunGoesOn (c.args.bytes.now ∷ [])) _ c.status_after.result line _ _ (g.S.Sink.faults c.args.out.now) (g.S.Sink.faults c.refuse_unready.new.out)
     written c.status_after.ensures
-    (source_accepted c.args.bytes.now (tree c.in-Ok.judged.program) [] (RefusedWith line) c.in-Ok.ensures.accepted refused))
+    (source_accepted c.args.bytes.now (tree c.in-Ok.judged.checked.program) [] (RefusedWith line)
+    (record { short = c.in-Ok.ensures.short; accepted = c.in-Ok.ensures.judged.accepted }) refused))
 
 pub read_schedule-requires-clause-held : goal.read_schedule-requires-clause-held
 read_schedule-requires-clause-held g c =
     let files = g.F.Shelf.files c.args.shelf.now in
     let now = g.F.Shelf.starts c.args.shelf.now in
     let request = run_of c.args.source.now c.args.schedule.now in
-    source_read files request c.args.source.now (text_named c.args.schedule.now ∷ []) (drop 1 now) now c.args.bytes.now (tree c.in-Ok.judged.program)
-    (nothing_read files request (drop 1 now)) at_first c.requires c.in-Ok.ensures.accepted
+    source_read files request c.args.source.now (text_named c.args.schedule.now ∷ []) (drop 1 now) now c.args.bytes.now (tree c.in-Ok.judged.checked.program)
+    (nothing_read files request (drop 1 now)) at_first c.requires (record { short = c.in-Ok.ensures.short; accepted = c.in-Ok.ensures.judged.accepted })
