@@ -5,6 +5,7 @@ pub mod Ahead
 pub mod Counted
 -- How far the code has read a part, by what stands first.
 pub mod Reaching
+pub mod Pairs
 pub mod Forms
 pub mod Starts
 pub mod Begun

@@ -137,7 +137,7 @@ stopped e f g by_memory = by_memory
 
 -- What is handed on by a call that stopped: it was to read a part that is wanted; a token that is wanted; the first token
 -- of the only form; a token that is known to stand first; or memory ran out.
-exit : {T P Q L M : Type 0} {old now : Ending} {given : Stop} (r : Result T Stop) → IsErrAnd r (λ stop. stop ≡ given) →
+pub exit : {T P Q L M : Type 0} {old now : Ending} {given : Stop} (r : Result T Stop) → IsErrAnd r (λ stop. stop ≡ given) →
     now ≡ old → (P → Q) → (L → M) → Stopped P L now given → IfErr r (Stopped Q M old)
 exit {Q = Q} {M = M} {old = old} r e same f g h =
     let p = err_from_is_err_and r e in

@@ -11,12 +11,12 @@ use Rattle.rb_grammar.specs.declared.stop.Stop.{Stop}
 use Rattle.rb_grammar.specs.declared.stop.Stop.TheVariants as stops
 use Rattle.rb_grammar.specs.declared.terminal.Terminal.{Terminal}
 use Rattle.rb_grammar.specs.Allowed.{allowed, ending_allowed}
-use Rattle.rb_grammar.specs.Grammar.{Point}
+use Rattle.rb_grammar.specs.Grammar.{Point, TakesName}
 use Rattle.rb_grammar.specs.Machine.{Advances, Stops, fits, look, run}
 use Rattle.rb_grammar.specs.Parts.{Part}
 use Rattle.rb_grammar.specs.Plans.{Value, Plan, Call, bind}
 use Rattle.rb_grammar.specs.Terminals.{terminal_of}
-use Rattle.rb_syntax.specs.Tree.{Tree}
+use Rattle.rb_syntax.specs.Tree.{Identifier, Tree}
 
 -- where a cursor stands: the point, and how its tokens end
 pub record Position : Type 0 where
@@ -52,6 +52,33 @@ pub record TakesLast (terminal : Terminal) (old : Position) : Type 0 where
   pub takes : Advances terminal token old.point after
   pub ended : after.left ≡ []
 
+-- two tokens were taken, one behind the other
+pub record TakesTwo (first second : Terminal) (a c : Point) : Type 0 where
+  pub between : Point
+  pub one : Lexeme
+  pub two : Lexeme
+  pub takes : Advances first one a between
+  pub behind : Advances second two between c
+
+-- a token was taken, and a name behind it
+pub record TakesNamed (first : Terminal) (name : Identifier) (a c : Point) : Type 0 where
+  pub between : Point
+  pub one : Lexeme
+  pub takes : Advances first one a between
+  pub named : TakesName name between c
+
+-- of two tokens the first is not what stands first, or the second not what stands behind it
+pub data MissesTwo (first second : Terminal) (old new : Position) : Type 0 where
+  misses_first : Misses first old new → MissesTwo first second old new
+  misses_second : (between : Position) (token : Lexeme) → Advances first token old.point between.point →
+      Misses second between new → MissesTwo first second old new
+
+-- of two tokens one was taken, and no other stands behind it
+pub data TakesLastTwo (first second : Terminal) (old : Position) : Type 0 where
+  last_first : TakesLast first old → TakesLastTwo first second old
+  last_second : (between : Position) (token : Lexeme) → Advances first token old.point between.point →
+      TakesLast second between → TakesLastTwo first second old
+
 -- a part was begun, all tokens were taken, and this plan is left of it
 pub record Exhausts (part : Part) (a : Point) : Type 0 where
   pub end : Point
@@ -65,9 +92,13 @@ pub data Stopped (P L : Type 0) (ending : Ending) : Stop → Type 0 where
   by_token : (fault : SourceFault) → ending ≡ AtFault fault → L → Stopped P L ending (stops.Token fault)
   by_memory : Stopped P L ending stops.Memory
 
--- why the taking of a token stopped, and why the reading of a part did
+-- why the taking of a token stopped, why that of two tokens did, and why the reading of a part did
 abbrev pub IsNotTaken : Terminal → Position → Position → Stop → Type 0
 IsNotTaken terminal old new stop = Stopped (Misses terminal old new) (TakesLast terminal old) old.ending stop
+
+abbrev pub AreNotTaken : Terminal → Terminal → Position → Position → Stop → Type 0
+AreNotTaken first second old new stop =
+    Stopped (MissesTwo first second old new) (TakesLastTwo first second old) old.ending stop
 
 abbrev pub IsNotRead : Part → Position → Position → Stop → Type 0
 IsNotRead part old new stop = Stopped (Stops part old.point new.point) (Exhausts part old.point) old.ending stop

@@ -7,7 +7,7 @@ ghost use Rattle.rb_grammar.specs.Allowed.{allowed_of, ending_allowed_of};
 ghost use Rattle.rb_grammar.specs.Brackets.{open_after};
 ghost use Rattle.rb_grammar.specs.Grammar.{TakesName, TakesNumber, start_of};
 ghost use Rattle.rb_grammar.specs.Machine.{Advances, blocks_after, fits, look, names_after, place_of};
-ghost use Rattle.rb_grammar.specs.Reading.{EndsIf, IsNotTaken, IsPlaceOf, is_nothing, terminal_ahead};
+ghost use Rattle.rb_grammar.specs.Reading.{AreNotTaken, EndsIf, IsNotTaken, IsPlaceOf, TakesNamed, TakesTwo, is_nothing, terminal_ahead};
 ghost use Rattle.rb_syntax.specs.Plain.{identifier};
 
 use crate::stop::Stop;
@@ -150,6 +150,30 @@ impl<'a> Cursor<'a> {
             place: token.place,
             id,
         })
+    }
+
+    /// Takes the first token, which is to be of this terminal, and the name behind it.
+    pub fn take_named(&mut self, terminal: Terminal) -> Result<Name<'a>, Stop>
+        ensures ok { IfOk result (λ name. TakesNamed terminal (identifier name) self.old.point self.new.point) }
+        ensures err { IfErr result (AreNotTaken terminal Terminal.Name self.old self.new) }
+        ensures ending { self.new.ending ≡ self.old.ending }
+        ensures shorter { OnOk result (length self.new.point.left < length self.old.point.left) }
+    {
+        self.take(terminal)?;
+        let name = self.take_name()?;
+        Ok(name)
+    }
+
+    /// Takes the first two tokens, which are to be of these terminals.
+    pub fn take_two(&mut self, first: Terminal, second: Terminal) -> Result<(), Stop>
+        ensures ok { OnOk result (TakesTwo first second self.old.point self.new.point) }
+        ensures err { IfErr result (AreNotTaken first second self.old self.new) }
+        ensures ending { self.new.ending ≡ self.old.ending }
+        ensures shorter { OnOk result (length self.new.point.left < length self.old.point.left) }
+    {
+        self.take(first)?;
+        self.take(second)?;
+        Ok(())
     }
 
     /// Takes the first token, which is to be a number.

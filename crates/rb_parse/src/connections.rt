@@ -51,12 +51,9 @@ fn read_channel<'a>(cursor: &mut Cursor<'a>) -> Result<Channel<'a>, Stop>
     ensures ending { cursor.new.ending ≡ cursor.old.ending }
     ensures shorter { OnOk result (length cursor.new.point.left < length cursor.old.point.left) }
 {
-    cursor.take(Terminal::Channel)?;
-    let name = cursor.take_name()?;
-    cursor.take(Terminal::From)?;
-    let sender = cursor.take_name()?;
-    cursor.take(Terminal::To)?;
-    let receiver = cursor.take_name()?;
+    let name = cursor.take_named(Terminal::Channel)?;
+    let sender = cursor.take_named(Terminal::From)?;
+    let receiver = cursor.take_named(Terminal::To)?;
     cursor.take(Terminal::Size)?;
     let size = read_number(cursor)?;
     cursor.take(Terminal::Semicolon)?;
@@ -74,11 +71,9 @@ fn read_conversation<'a>(alloc: Global, cursor: &mut Cursor<'a>) -> Result<Conve
     ensures ending { cursor.new.ending ≡ cursor.old.ending }
     ensures shorter { OnOk result (length cursor.new.point.left < length cursor.old.point.left) }
 {
-    cursor.take(Terminal::Conversation)?;
-    let name = cursor.take_name()?;
+    let name = cursor.take_named(Terminal::Conversation)?;
     cursor.take(Terminal::OpenParen)?;
     let members = read_names(alloc, cursor)?;
-    cursor.take(Terminal::CloseParen)?;
-    cursor.take(Terminal::Semicolon)?;
+    cursor.take_two(Terminal::CloseParen, Terminal::Semicolon)?;
     Ok(Conversation { name, members })
 }

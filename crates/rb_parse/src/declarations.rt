@@ -33,8 +33,7 @@ fn read_declaration<'a>(cursor: &mut Cursor<'a>) -> Result<Var<'a>, Stop>
     ensures ending { cursor.new.ending ≡ cursor.old.ending }
     ensures shorter { OnOk result (length cursor.new.point.left < length cursor.old.point.left) }
 {
-    cursor.take(Terminal::Var)?;
-    let name = cursor.take_name()?;
+    let name = cursor.take_named(Terminal::Var)?;
     let size = read_size(cursor)?;
     cursor.take(Terminal::Semicolon)?;
     Ok(Var { name, size })

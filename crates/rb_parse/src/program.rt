@@ -42,13 +42,11 @@ fn read_unmarked<'a>(
     ensures ending { cursor.new.ending ≡ cursor.old.ending }
     ensures shorter { OnOk result (length cursor.new.point.left < length cursor.old.point.left) }
 {
-    cursor.take(Terminal::Program)?;
-    let name = cursor.take_name()?;
+    let name = cursor.take_named(Terminal::Program)?;
     cursor.take(Terminal::Semicolon)?;
     let connections = read_connections(alloc, cursor)?;
     let processes = read_processes(alloc, cursor, edition)?;
-    cursor.take(Terminal::End)?;
-    cursor.take(Terminal::Dot)?;
+    cursor.take_two(Terminal::End, Terminal::Dot)?;
     Ok(Program {
         name,
         channels: connections.channels,
@@ -90,8 +88,7 @@ fn read_process<'a>(
     ensures ending { cursor.new.ending ≡ cursor.old.ending }
     ensures shorter { OnOk result (length cursor.new.point.left < length cursor.old.point.left) }
 {
-    cursor.take(Terminal::Process)?;
-    let name = cursor.take_name()?;
+    let name = cursor.take_named(Terminal::Process)?;
     cursor.take(Terminal::OpenBrace)?;
     let vars = read_declarations(alloc, cursor)?;
     let procedures = read_procedures(alloc, cursor, edition)?;
@@ -133,8 +130,7 @@ fn read_procedure<'a>(
     ensures ending { cursor.new.ending ≡ cursor.old.ending }
     ensures shorter { OnOk result (length cursor.new.point.left < length cursor.old.point.left) }
 {
-    cursor.take(Terminal::Procedure)?;
-    let name = cursor.take_name()?;
+    let name = cursor.take_named(Terminal::Procedure)?;
     cursor.take(Terminal::OpenParen)?;
     let params = read_parameters(alloc, cursor)?;
     cursor.take(Terminal::CloseParen)?;

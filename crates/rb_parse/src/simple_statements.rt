@@ -127,8 +127,7 @@ fn read_send<'a>(alloc: Global, cursor: &mut Cursor<'a>) -> Result<Statement<'a>
     ensures ending { cursor.new.ending ≡ cursor.old.ending }
     ensures shorter { OnOk result (length cursor.new.point.left < length cursor.old.point.left) }
 {
-    cursor.take(Terminal::Send)?;
-    let channel = cursor.take_name()?;
+    let channel = cursor.take_named(Terminal::Send)?;
     let value = read_expression(alloc, cursor)?;
     cursor.take(Terminal::Semicolon)?;
     Ok(Statement::Send(channel, value))
@@ -141,12 +140,10 @@ fn read_call<'a>(alloc: Global, cursor: &mut Cursor<'a>) -> Result<Statement<'a>
     ensures ending { cursor.new.ending ≡ cursor.old.ending }
     ensures shorter { OnOk result (length cursor.new.point.left < length cursor.old.point.left) }
 {
-    cursor.take(Terminal::Call)?;
-    let procedure = cursor.take_name()?;
+    let procedure = cursor.take_named(Terminal::Call)?;
     cursor.take(Terminal::OpenParen)?;
     let arguments = read_arguments(alloc, cursor)?;
-    cursor.take(Terminal::CloseParen)?;
-    cursor.take(Terminal::Semicolon)?;
+    cursor.take_two(Terminal::CloseParen, Terminal::Semicolon)?;
     Ok(Statement::Call(procedure, arguments))
 }
 
@@ -214,7 +211,6 @@ fn read_fail<'a>(cursor: &mut Cursor<'a>) -> Result<Statement<'a>, Stop>
     ensures ending { cursor.new.ending ≡ cursor.old.ending }
     ensures shorter { OnOk result (length cursor.new.point.left < length cursor.old.point.left) }
 {
-    cursor.take(Terminal::Fail)?;
-    cursor.take(Terminal::Semicolon)?;
+    cursor.take_two(Terminal::Fail, Terminal::Semicolon)?;
     Ok(Statement::Fail)
 }

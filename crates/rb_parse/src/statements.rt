@@ -172,8 +172,7 @@ fn read_receive<'a>(
     ensures ending { cursor.new.ending ≡ cursor.old.ending }
     ensures shorter { OnOk result (length cursor.new.point.left < length cursor.old.point.left) }
 {
-    cursor.take(Terminal::Receive)?;
-    let channel = cursor.take_name()?;
+    let channel = cursor.take_named(Terminal::Receive)?;
     let place = read_place(alloc, cursor)?;
     let otherwise = read_receipt_end(alloc, cursor, edition)?;
     Ok(Statement::Receive(channel, place, otherwise))
@@ -230,8 +229,7 @@ fn read_converse<'a>(
     ensures ending { cursor.new.ending ≡ cursor.old.ending }
     ensures shorter { OnOk result (length cursor.new.point.left < length cursor.old.point.left) }
 {
-    cursor.take(Terminal::Converse)?;
-    let name = cursor.take_name()?;
+    let name = cursor.take_named(Terminal::Converse)?;
     let recovery = read_recovery(alloc, cursor, edition)?;
     Ok(Statement::Recover(join(name, recovery)))
 }

@@ -1,82 +1,58 @@
 use Rattle.std.proofs.Common.{refl, sym, ◌∙◌}
 use Rattle.rb_grammar.proofs.Made.{channel_of}
-use Rattle.rb_grammar.proofs.Reaching.{by_part, by_terminal, complete, exit_first, exit_missed, exit_within, same_value, starts}
+use Rattle.rb_grammar.proofs.Pairs.{by_named, exit_two, opens}
+use Rattle.rb_grammar.proofs.Reaching.{by_part, by_terminal, complete, exit_missed, exit_within, same_value}
 use Rattle.rb_grammar.proofs.Starts.{no_channel}
-use Rattle.rb_grammar.proofs.Takes.{name_taken}
 use Rattle.rb_grammar.specs.Parts.{Part}
 use Rattle.rb_parse.proofs.connections.read_channel.Goals as goal
 
-pub returns-in_err-take-clause-err : goal.returns-in_err-take-clause-err
-returns-in_err-take-clause-err c =
-    exit_first Part.Channel _ refl (no_channel _) refl c.from_residual.result c.from_residual.ensures.1 refl c.in_err-take.ensures.err
-
 pub returns-in_err-name-clause-err : goal.returns-in_err-name-clause-err
 returns-in_err-name-clause-err c =
-    exit_missed c.from_residual-in_err-name.result c.from_residual-in_err-name.ensures.1 c.in_ok-take.ensures.ending
-    (starts _ refl c.in_ok-take.ensures.ok) c.in_err-name.ensures.err
-
-pub returns-in_err-take-2-clause-err : goal.returns-in_err-take-2-clause-err
-returns-in_err-take-2-clause-err c =
-    exit_missed c.from_residual-in_err-take-2.result c.from_residual-in_err-take-2.ensures.1
-    (c.in_ok-name.ensures.ending ∙ c.in_ok-take.ensures.ending)
-    (by_terminal (starts _ refl c.in_ok-take.ensures.ok) (name_taken c.in_ok-name.ensures.ok)) c.in_err-take-2.ensures.err
+    exit_two c.from_residual.result c.from_residual.ensures.1 refl
+    (opens Part.Channel c.args.cursor.now.point _ refl (no_channel _) refl) c.in_err-name.ensures.err
 
 pub returns-in_err-sender-clause-err : goal.returns-in_err-sender-clause-err
 returns-in_err-sender-clause-err c =
-    exit_missed c.from_residual-in_err-sender.result c.from_residual-in_err-sender.ensures.1
-    (c.in_ok-take-2.ensures.ending ∙ c.in_ok-name.ensures.ending ∙ c.in_ok-take.ensures.ending)
-    (by_terminal (by_terminal (starts _ refl c.in_ok-take.ensures.ok) (name_taken c.in_ok-name.ensures.ok))
-    c.in_ok-take-2.ensures.ok) c.in_err-sender.ensures.err
-
-pub returns-in_err-take-3-clause-err : goal.returns-in_err-take-3-clause-err
-returns-in_err-take-3-clause-err c =
-    exit_missed c.from_residual-in_err-take-3.result c.from_residual-in_err-take-3.ensures.1
-    (c.in_ok-sender.ensures.ending ∙ c.in_ok-take-2.ensures.ending ∙ c.in_ok-name.ensures.ending ∙ c.in_ok-take.ensures.ending)
-    (by_terminal (by_terminal (by_terminal (starts _ refl c.in_ok-take.ensures.ok) (name_taken c.in_ok-name.ensures.ok))
-    c.in_ok-take-2.ensures.ok) (name_taken c.in_ok-sender.ensures.ok)) c.in_err-take-3.ensures.err
+    exit_two c.from_residual-in_err-sender.result c.from_residual-in_err-sender.ensures.1 (c.in_ok-name.ensures.ending)
+    (by_named (opens Part.Channel c.args.cursor.now.point _ refl (no_channel _) refl) c.in_ok-name.ensures.ok)
+    c.in_err-sender.ensures.err
 
 pub returns-in_err-receiver-clause-err : goal.returns-in_err-receiver-clause-err
 returns-in_err-receiver-clause-err c =
-    exit_missed c.from_residual-in_err-receiver.result c.from_residual-in_err-receiver.ensures.1
-    (c.in_ok-take-3.ensures.ending ∙ c.in_ok-sender.ensures.ending ∙ c.in_ok-take-2.ensures.ending ∙ c.in_ok-name.ensures.ending ∙
-    c.in_ok-take.ensures.ending) (by_terminal (by_terminal (by_terminal
-    (by_terminal (starts _ refl c.in_ok-take.ensures.ok) (name_taken c.in_ok-name.ensures.ok)) c.in_ok-take-2.ensures.ok)
-    (name_taken c.in_ok-sender.ensures.ok)) c.in_ok-take-3.ensures.ok) c.in_err-receiver.ensures.err
+    exit_two c.from_residual-in_err-receiver.result c.from_residual-in_err-receiver.ensures.1
+    (c.in_ok-sender.ensures.ending ∙ c.in_ok-name.ensures.ending)
+    (by_named (by_named (opens Part.Channel c.args.cursor.now.point _ refl (no_channel _) refl) c.in_ok-name.ensures.ok)
+    c.in_ok-sender.ensures.ok) c.in_err-receiver.ensures.err
 
-pub returns-in_err-take-4-clause-err : goal.returns-in_err-take-4-clause-err
-returns-in_err-take-4-clause-err c =
-    exit_missed c.from_residual-in_err-take-4.result c.from_residual-in_err-take-4.ensures.1
-    (c.in_ok-receiver.ensures.ending ∙ c.in_ok-take-3.ensures.ending ∙ c.in_ok-sender.ensures.ending ∙
-    c.in_ok-take-2.ensures.ending ∙ c.in_ok-name.ensures.ending ∙ c.in_ok-take.ensures.ending)
-    (by_terminal (by_terminal (by_terminal (by_terminal (by_terminal (starts _ refl c.in_ok-take.ensures.ok)
-    (name_taken c.in_ok-name.ensures.ok)) c.in_ok-take-2.ensures.ok) (name_taken c.in_ok-sender.ensures.ok))
-    c.in_ok-take-3.ensures.ok) (name_taken c.in_ok-receiver.ensures.ok)) c.in_err-take-4.ensures.err
+pub returns-in_err-take-clause-err : goal.returns-in_err-take-clause-err
+returns-in_err-take-clause-err c =
+    exit_missed c.from_residual-in_err-take.result c.from_residual-in_err-take.ensures.1
+    (c.in_ok-receiver.ensures.ending ∙ c.in_ok-sender.ensures.ending ∙ c.in_ok-name.ensures.ending)
+    (by_named (by_named (by_named (opens Part.Channel c.args.cursor.now.point _ refl (no_channel _) refl) c.in_ok-name.ensures.ok)
+    c.in_ok-sender.ensures.ok) c.in_ok-receiver.ensures.ok) c.in_err-take.ensures.err
 
 pub returns-in_err-size-clause-err : goal.returns-in_err-size-clause-err
 returns-in_err-size-clause-err c =
     exit_within c.from_residual-in_err-size.result c.from_residual-in_err-size.ensures.1
-    (c.in_ok-take-4.ensures.ending ∙ c.in_ok-receiver.ensures.ending ∙ c.in_ok-take-3.ensures.ending ∙
-    c.in_ok-sender.ensures.ending ∙ c.in_ok-take-2.ensures.ending ∙ c.in_ok-name.ensures.ending ∙ c.in_ok-take.ensures.ending)
-    (by_terminal (by_terminal (by_terminal (by_terminal (by_terminal
-    (by_terminal (starts _ refl c.in_ok-take.ensures.ok) (name_taken c.in_ok-name.ensures.ok)) c.in_ok-take-2.ensures.ok)
-    (name_taken c.in_ok-sender.ensures.ok)) c.in_ok-take-3.ensures.ok) (name_taken c.in_ok-receiver.ensures.ok))
-    c.in_ok-take-4.ensures.ok) c.in_err-size.ensures.err
+    (c.in_ok-take.ensures.ending ∙ c.in_ok-receiver.ensures.ending ∙ c.in_ok-sender.ensures.ending ∙ c.in_ok-name.ensures.ending)
+    (by_terminal (by_named (by_named (by_named (opens Part.Channel c.args.cursor.now.point _ refl (no_channel _) refl)
+    c.in_ok-name.ensures.ok) c.in_ok-sender.ensures.ok) c.in_ok-receiver.ensures.ok) c.in_ok-take.ensures.ok)
+    c.in_err-size.ensures.err
 
-pub returns-in_err-take-5-clause-err : goal.returns-in_err-take-5-clause-err
-returns-in_err-take-5-clause-err c =
-    exit_missed c.from_residual-in_err-take-5.result c.from_residual-in_err-take-5.ensures.1
-    (c.in_ok-size.ensures.ending ∙ c.in_ok-take-4.ensures.ending ∙ c.in_ok-receiver.ensures.ending ∙ c.in_ok-take-3.ensures.ending
-    ∙ c.in_ok-sender.ensures.ending ∙ c.in_ok-take-2.ensures.ending ∙ c.in_ok-name.ensures.ending ∙ c.in_ok-take.ensures.ending)
-    (by_part (by_terminal (by_terminal (by_terminal (by_terminal
-    (by_terminal (by_terminal (starts _ refl c.in_ok-take.ensures.ok) (name_taken c.in_ok-name.ensures.ok))
-    c.in_ok-take-2.ensures.ok) (name_taken c.in_ok-sender.ensures.ok)) c.in_ok-take-3.ensures.ok)
-    (name_taken c.in_ok-receiver.ensures.ok)) c.in_ok-take-4.ensures.ok) c.in_ok-size.ensures.ok) c.in_err-take-5.ensures.err
+pub returns-in_err-take-2-clause-err : goal.returns-in_err-take-2-clause-err
+returns-in_err-take-2-clause-err c =
+    exit_missed c.from_residual-in_err-take-2.result c.from_residual-in_err-take-2.ensures.1
+    (c.in_ok-size.ensures.ending ∙ c.in_ok-take.ensures.ending ∙ c.in_ok-receiver.ensures.ending ∙ c.in_ok-sender.ensures.ending ∙
+    c.in_ok-name.ensures.ending) (by_part (by_terminal (by_named
+    (by_named (by_named (opens Part.Channel c.args.cursor.now.point _ refl (no_channel _) refl) c.in_ok-name.ensures.ok)
+    c.in_ok-sender.ensures.ok) c.in_ok-receiver.ensures.ok) c.in_ok-take.ensures.ok) c.in_ok-size.ensures.ok)
+    c.in_err-take-2.ensures.err
 
 pub returns-clause-ok : goal.returns-clause-ok
 returns-clause-ok c =
-    same_value (λ j. channel_of c.in_ok-size.size (sym (c.in_ok-name.ensures.ok).is j) (sym (c.in_ok-sender.ensures.ok).is j)
-    (sym (c.in_ok-receiver.ensures.ok).is j)) (complete (by_terminal
-    (by_part (by_terminal (by_terminal (by_terminal (by_terminal
-    (by_terminal (by_terminal (starts _ refl c.in_ok-take.ensures.ok) (name_taken c.in_ok-name.ensures.ok))
-    c.in_ok-take-2.ensures.ok) (name_taken c.in_ok-sender.ensures.ok)) c.in_ok-take-3.ensures.ok)
-    (name_taken c.in_ok-receiver.ensures.ok)) c.in_ok-take-4.ensures.ok) c.in_ok-size.ensures.ok) c.in_ok-take-5.ensures.ok))
+    same_value (λ j. channel_of c.in_ok-size.size (sym (c.in_ok-name.ensures.ok).named.is j)
+    (sym (c.in_ok-sender.ensures.ok).named.is j) (sym (c.in_ok-receiver.ensures.ok).named.is j))
+    (complete (by_terminal (by_part (by_terminal (by_named (by_named
+    (by_named (opens Part.Channel c.args.cursor.now.point _ refl (no_channel _) refl) c.in_ok-name.ensures.ok)
+    c.in_ok-sender.ensures.ok) c.in_ok-receiver.ensures.ok) c.in_ok-take.ensures.ok) c.in_ok-size.ensures.ok)
+    c.in_ok-take-2.ensures.ok))

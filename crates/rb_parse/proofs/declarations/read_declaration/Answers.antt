@@ -1,35 +1,31 @@
 use Rattle.std.proofs.Common.{refl, sym, ap, ◌∙◌}
 use Rattle.rb_grammar.proofs.Made.{variable_with}
-use Rattle.rb_grammar.proofs.Reaching.{by_part, by_terminal, complete, exit_first, exit_missed, exit_within, same_value, starts}
+use Rattle.rb_grammar.proofs.Pairs.{by_named, exit_two, opens}
+use Rattle.rb_grammar.proofs.Reaching.{by_part, by_terminal, complete, exit_missed, exit_within, same_value}
 use Rattle.rb_grammar.proofs.Starts.{no_declaration}
-use Rattle.rb_grammar.proofs.Takes.{name_taken}
 use Rattle.rb_grammar.specs.Parts.{Part}
 use Rattle.rb_parse.proofs.declarations.read_declaration.Goals as goal
 
-pub returns-in_err-take-clause-err : goal.returns-in_err-take-clause-err
-returns-in_err-take-clause-err c =
-    exit_first Part.Declaration _ refl (no_declaration _) refl c.from_residual.result c.from_residual.ensures.1 refl c.in_err-take.ensures.err
-
 pub returns-in_err-name-clause-err : goal.returns-in_err-name-clause-err
 returns-in_err-name-clause-err c =
-    exit_missed c.from_residual-in_err-name.result c.from_residual-in_err-name.ensures.1 c.in_ok-take.ensures.ending
-    (starts _ refl c.in_ok-take.ensures.ok) c.in_err-name.ensures.err
+    exit_two c.from_residual.result c.from_residual.ensures.1 refl
+    (opens Part.Declaration c.args.cursor.now.point _ refl (no_declaration _) refl) c.in_err-name.ensures.err
 
 pub returns-in_err-size-clause-err : goal.returns-in_err-size-clause-err
 returns-in_err-size-clause-err c =
-    exit_within c.from_residual-in_err-size.result c.from_residual-in_err-size.ensures.1
-    (c.in_ok-name.ensures.ending ∙ c.in_ok-take.ensures.ending)
-    (by_terminal (starts _ refl c.in_ok-take.ensures.ok) (name_taken c.in_ok-name.ensures.ok)) c.in_err-size.ensures.err
+    exit_within c.from_residual-in_err-size.result c.from_residual-in_err-size.ensures.1 (c.in_ok-name.ensures.ending)
+    (by_named (opens Part.Declaration c.args.cursor.now.point _ refl (no_declaration _) refl) c.in_ok-name.ensures.ok)
+    c.in_err-size.ensures.err
 
-pub returns-in_err-take-2-clause-err : goal.returns-in_err-take-2-clause-err
-returns-in_err-take-2-clause-err c =
-    exit_missed c.from_residual-in_err-take-2.result c.from_residual-in_err-take-2.ensures.1
-    (c.in_ok-size.ensures.ending ∙ c.in_ok-name.ensures.ending ∙ c.in_ok-take.ensures.ending)
-    (by_part (by_terminal (starts _ refl c.in_ok-take.ensures.ok) (name_taken c.in_ok-name.ensures.ok)) c.in_ok-size.ensures.ok)
-    c.in_err-take-2.ensures.err
+pub returns-in_err-take-clause-err : goal.returns-in_err-take-clause-err
+returns-in_err-take-clause-err c =
+    exit_missed c.from_residual-in_err-take.result c.from_residual-in_err-take.ensures.1
+    (c.in_ok-size.ensures.ending ∙ c.in_ok-name.ensures.ending)
+    (by_part (by_named (opens Part.Declaration c.args.cursor.now.point _ refl (no_declaration _) refl) c.in_ok-name.ensures.ok)
+    c.in_ok-size.ensures.ok) c.in_err-take.ensures.err
 
 pub returns-clause-ok : goal.returns-clause-ok
 returns-clause-ok c =
-    same_value (ap (variable_with c.in_ok-size.size) (sym (c.in_ok-name.ensures.ok).is))
-    (complete (by_terminal (by_part (by_terminal (starts _ refl c.in_ok-take.ensures.ok) (name_taken c.in_ok-name.ensures.ok))
-    c.in_ok-size.ensures.ok) c.in_ok-take-2.ensures.ok))
+    same_value (ap (variable_with c.in_ok-size.size) (sym (c.in_ok-name.ensures.ok).named.is))
+    (complete (by_terminal (by_part (by_named (opens Part.Declaration c.args.cursor.now.point _ refl (no_declaration _) refl)
+    c.in_ok-name.ensures.ok) c.in_ok-size.ensures.ok) c.in_ok-take.ensures.ok))

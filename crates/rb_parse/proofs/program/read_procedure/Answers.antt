@@ -1,53 +1,51 @@
 use Rattle.std.proofs.Common.{refl, sym, ap, ◌∙◌, map}
 use Rattle.rb_grammar.proofs.Made.{procedure_of}
-use Rattle.rb_grammar.proofs.Reaching.{by_part, by_terminal, complete, exit_first, exit_missed, exit_within, same_value, starts}
+use Rattle.rb_grammar.proofs.Pairs.{by_named, exit_two, opens}
+use Rattle.rb_grammar.proofs.Reaching.{by_part, by_terminal, complete, exit_missed, exit_within, same_value}
 use Rattle.rb_grammar.proofs.Starts.{no_procedure}
-use Rattle.rb_grammar.proofs.Takes.{name_taken}
 use Rattle.rb_grammar.specs.Parts.{Part}
 use Rattle.rb_syntax.specs.Plain.{body, identifier}
 use Rattle.rb_parse.proofs.program.read_procedure.Goals as goal
 
-pub returns-in_err-take-clause-err : goal.returns-in_err-take-clause-err
-returns-in_err-take-clause-err c =
-    exit_first (Part.Procedure c.args.edition) _ refl (no_procedure c.args.edition _) refl c.from_residual.result
-    c.from_residual.ensures.1 refl c.in_err-take.ensures.err
-
 pub returns-in_err-name-clause-err : goal.returns-in_err-name-clause-err
 returns-in_err-name-clause-err c =
-    exit_missed c.from_residual-in_err-name.result c.from_residual-in_err-name.ensures.1 c.in_ok-take.ensures.ending
-    (starts _ refl c.in_ok-take.ensures.ok) c.in_err-name.ensures.err
+    exit_two c.from_residual.result c.from_residual.ensures.1 refl
+    (opens (Part.Procedure c.args.edition) c.args.cursor.now.point _ refl (no_procedure c.args.edition _) refl)
+    c.in_err-name.ensures.err
 
-pub returns-in_err-take-2-clause-err : goal.returns-in_err-take-2-clause-err
-returns-in_err-take-2-clause-err c =
-    exit_missed c.from_residual-in_err-take-2.result c.from_residual-in_err-take-2.ensures.1
-    (c.in_ok-name.ensures.ending ∙ c.in_ok-take.ensures.ending)
-    (by_terminal (starts _ refl c.in_ok-take.ensures.ok) (name_taken c.in_ok-name.ensures.ok)) c.in_err-take-2.ensures.err
+pub returns-in_err-take-clause-err : goal.returns-in_err-take-clause-err
+returns-in_err-take-clause-err c =
+    exit_missed c.from_residual-in_err-take.result c.from_residual-in_err-take.ensures.1 (c.in_ok-name.ensures.ending)
+    (by_named (opens (Part.Procedure c.args.edition) c.args.cursor.now.point _ refl (no_procedure c.args.edition _) refl)
+    c.in_ok-name.ensures.ok) c.in_err-take.ensures.err
 
 pub returns-in_err-params-clause-err : goal.returns-in_err-params-clause-err
 returns-in_err-params-clause-err c =
     exit_within c.from_residual-in_err-params.result c.from_residual-in_err-params.ensures.1
-    (c.in_ok-take-2.ensures.ending ∙ c.in_ok-name.ensures.ending ∙ c.in_ok-take.ensures.ending)
-    (by_terminal (by_terminal (starts _ refl c.in_ok-take.ensures.ok) (name_taken c.in_ok-name.ensures.ok))
-    c.in_ok-take-2.ensures.ok) c.in_err-params.ensures.err
+    (c.in_ok-take.ensures.ending ∙ c.in_ok-name.ensures.ending)
+    (by_terminal (by_named (opens (Part.Procedure c.args.edition) c.args.cursor.now.point _ refl (no_procedure c.args.edition _)
+    refl) c.in_ok-name.ensures.ok) c.in_ok-take.ensures.ok) c.in_err-params.ensures.err
 
-pub returns-in_err-take-3-clause-err : goal.returns-in_err-take-3-clause-err
-returns-in_err-take-3-clause-err c =
-    exit_missed c.from_residual-in_err-take-3.result c.from_residual-in_err-take-3.ensures.1
-    (c.in_ok-params.ensures.ending ∙ c.in_ok-take-2.ensures.ending ∙ c.in_ok-name.ensures.ending ∙ c.in_ok-take.ensures.ending)
-    (by_part (by_terminal (by_terminal (starts _ refl c.in_ok-take.ensures.ok) (name_taken c.in_ok-name.ensures.ok))
-    c.in_ok-take-2.ensures.ok) c.in_ok-params.ensures.ok) c.in_err-take-3.ensures.err
+pub returns-in_err-take-2-clause-err : goal.returns-in_err-take-2-clause-err
+returns-in_err-take-2-clause-err c =
+    exit_missed c.from_residual-in_err-take-2.result c.from_residual-in_err-take-2.ensures.1
+    (c.in_ok-params.ensures.ending ∙ c.in_ok-take.ensures.ending ∙ c.in_ok-name.ensures.ending)
+    (by_part (by_terminal (by_named (opens (Part.Procedure c.args.edition) c.args.cursor.now.point _ refl
+    (no_procedure c.args.edition _) refl) c.in_ok-name.ensures.ok) c.in_ok-take.ensures.ok) c.in_ok-params.ensures.ok)
+    c.in_err-take-2.ensures.err
 
 pub returns-in_err-block-clause-err : goal.returns-in_err-block-clause-err
 returns-in_err-block-clause-err c =
     exit_within c.from_residual-in_err-block.result c.from_residual-in_err-block.ensures.1
-    (c.in_ok-take-3.ensures.ending ∙ c.in_ok-params.ensures.ending ∙ c.in_ok-take-2.ensures.ending ∙ c.in_ok-name.ensures.ending ∙
-    c.in_ok-take.ensures.ending) (by_terminal (by_part (by_terminal
-    (by_terminal (starts _ refl c.in_ok-take.ensures.ok) (name_taken c.in_ok-name.ensures.ok)) c.in_ok-take-2.ensures.ok)
-    c.in_ok-params.ensures.ok) c.in_ok-take-3.ensures.ok) c.in_err-block.ensures.err
+    (c.in_ok-take-2.ensures.ending ∙ c.in_ok-params.ensures.ending ∙ c.in_ok-take.ensures.ending ∙ c.in_ok-name.ensures.ending)
+    (by_terminal (by_part (by_terminal (by_named (opens (Part.Procedure c.args.edition) c.args.cursor.now.point _ refl
+    (no_procedure c.args.edition _) refl) c.in_ok-name.ensures.ok) c.in_ok-take.ensures.ok) c.in_ok-params.ensures.ok)
+    c.in_ok-take-2.ensures.ok) c.in_err-block.ensures.err
 
 pub returns-clause-ok : goal.returns-clause-ok
 returns-clause-ok c =
     same_value (ap (procedure_of (map identifier c.in_ok-params.params.items) (body c.in_ok-block.block))
-    (sym (c.in_ok-name.ensures.ok).is)) (complete (by_part (by_terminal
-    (by_part (by_terminal (by_terminal (starts _ refl c.in_ok-take.ensures.ok) (name_taken c.in_ok-name.ensures.ok))
-    c.in_ok-take-2.ensures.ok) c.in_ok-params.ensures.ok) c.in_ok-take-3.ensures.ok) c.in_ok-block.ensures.ok))
+    (sym (c.in_ok-name.ensures.ok).named.is)) (complete (by_part
+    (by_terminal (by_part (by_terminal (by_named (opens (Part.Procedure c.args.edition) c.args.cursor.now.point _ refl
+    (no_procedure c.args.edition _) refl) c.in_ok-name.ensures.ok) c.in_ok-take.ensures.ok) c.in_ok-params.ensures.ok)
+    c.in_ok-take-2.ensures.ok) c.in_ok-block.ensures.ok))

@@ -1,64 +1,61 @@
 use Rattle.std.proofs.Common.{refl, sym, ap, ◌∙◌, map}
 use Rattle.rb_grammar.proofs.Made.{process_of}
-use Rattle.rb_grammar.proofs.Reaching.{by_part, by_terminal, complete, exit_first, exit_missed, exit_within, same_value, starts}
+use Rattle.rb_grammar.proofs.Pairs.{by_named, exit_two, opens}
+use Rattle.rb_grammar.proofs.Reaching.{by_part, by_terminal, complete, exit_missed, exit_within, same_value}
 use Rattle.rb_grammar.proofs.Starts.{no_process}
-use Rattle.rb_grammar.proofs.Takes.{name_taken}
 use Rattle.rb_grammar.specs.Parts.{Part}
 use Rattle.rb_syntax.specs.Plain.{commands_of, declaration, procedure_declaration}
 use Rattle.rb_parse.proofs.program.read_process.Goals as goal
 
-pub returns-in_err-take-clause-err : goal.returns-in_err-take-clause-err
-returns-in_err-take-clause-err c =
-    exit_first (Part.Process c.args.edition) _ refl (no_process c.args.edition _) refl c.from_residual.result
-    c.from_residual.ensures.1 refl c.in_err-take.ensures.err
-
 pub returns-in_err-name-clause-err : goal.returns-in_err-name-clause-err
 returns-in_err-name-clause-err c =
-    exit_missed c.from_residual-in_err-name.result c.from_residual-in_err-name.ensures.1 c.in_ok-take.ensures.ending
-    (starts _ refl c.in_ok-take.ensures.ok) c.in_err-name.ensures.err
+    exit_two c.from_residual.result c.from_residual.ensures.1 refl
+    (opens (Part.Process c.args.edition) c.args.cursor.now.point _ refl (no_process c.args.edition _) refl)
+    c.in_err-name.ensures.err
 
-pub returns-in_err-take-2-clause-err : goal.returns-in_err-take-2-clause-err
-returns-in_err-take-2-clause-err c =
-    exit_missed c.from_residual-in_err-take-2.result c.from_residual-in_err-take-2.ensures.1
-    (c.in_ok-name.ensures.ending ∙ c.in_ok-take.ensures.ending)
-    (by_terminal (starts _ refl c.in_ok-take.ensures.ok) (name_taken c.in_ok-name.ensures.ok)) c.in_err-take-2.ensures.err
+pub returns-in_err-take-clause-err : goal.returns-in_err-take-clause-err
+returns-in_err-take-clause-err c =
+    exit_missed c.from_residual-in_err-take.result c.from_residual-in_err-take.ensures.1 (c.in_ok-name.ensures.ending)
+    (by_named (opens (Part.Process c.args.edition) c.args.cursor.now.point _ refl (no_process c.args.edition _) refl)
+    c.in_ok-name.ensures.ok) c.in_err-take.ensures.err
 
 pub returns-in_err-vars-clause-err : goal.returns-in_err-vars-clause-err
 returns-in_err-vars-clause-err c =
     exit_within c.from_residual-in_err-vars.result c.from_residual-in_err-vars.ensures.1
-    (c.in_ok-take-2.ensures.ending ∙ c.in_ok-name.ensures.ending ∙ c.in_ok-take.ensures.ending)
-    (by_terminal (by_terminal (starts _ refl c.in_ok-take.ensures.ok) (name_taken c.in_ok-name.ensures.ok))
-    c.in_ok-take-2.ensures.ok) c.in_err-vars.ensures.err
+    (c.in_ok-take.ensures.ending ∙ c.in_ok-name.ensures.ending)
+    (by_terminal (by_named (opens (Part.Process c.args.edition) c.args.cursor.now.point _ refl (no_process c.args.edition _) refl)
+    c.in_ok-name.ensures.ok) c.in_ok-take.ensures.ok) c.in_err-vars.ensures.err
 
 pub returns-in_err-procedures-clause-err : goal.returns-in_err-procedures-clause-err
 returns-in_err-procedures-clause-err c =
     exit_within c.from_residual-in_err-procedures.result c.from_residual-in_err-procedures.ensures.1
-    (c.in_ok-vars.ensures.ending ∙ c.in_ok-take-2.ensures.ending ∙ c.in_ok-name.ensures.ending ∙ c.in_ok-take.ensures.ending)
-    (by_part (by_terminal (by_terminal (starts _ refl c.in_ok-take.ensures.ok) (name_taken c.in_ok-name.ensures.ok))
-    c.in_ok-take-2.ensures.ok) c.in_ok-vars.ensures.ok) c.in_err-procedures.ensures.err
+    (c.in_ok-vars.ensures.ending ∙ c.in_ok-take.ensures.ending ∙ c.in_ok-name.ensures.ending)
+    (by_part (by_terminal (by_named (opens (Part.Process c.args.edition) c.args.cursor.now.point _ refl
+    (no_process c.args.edition _) refl) c.in_ok-name.ensures.ok) c.in_ok-take.ensures.ok) c.in_ok-vars.ensures.ok)
+    c.in_err-procedures.ensures.err
 
 pub returns-in_err-body-clause-err : goal.returns-in_err-body-clause-err
 returns-in_err-body-clause-err c =
     exit_within c.from_residual-in_err-body.result c.from_residual-in_err-body.ensures.1
-    (c.in_ok-procedures.ensures.ending ∙ c.in_ok-vars.ensures.ending ∙ c.in_ok-take-2.ensures.ending ∙ c.in_ok-name.ensures.ending
-    ∙ c.in_ok-take.ensures.ending) (by_part (by_part (by_terminal
-    (by_terminal (starts _ refl c.in_ok-take.ensures.ok) (name_taken c.in_ok-name.ensures.ok)) c.in_ok-take-2.ensures.ok)
-    c.in_ok-vars.ensures.ok) c.in_ok-procedures.ensures.ok) c.in_err-body.ensures.err
+    (c.in_ok-procedures.ensures.ending ∙ c.in_ok-vars.ensures.ending ∙ c.in_ok-take.ensures.ending ∙ c.in_ok-name.ensures.ending)
+    (by_part (by_part (by_terminal (by_named (opens (Part.Process c.args.edition) c.args.cursor.now.point _ refl
+    (no_process c.args.edition _) refl) c.in_ok-name.ensures.ok) c.in_ok-take.ensures.ok) c.in_ok-vars.ensures.ok)
+    c.in_ok-procedures.ensures.ok) c.in_err-body.ensures.err
 
-pub returns-in_err-take-3-clause-err : goal.returns-in_err-take-3-clause-err
-returns-in_err-take-3-clause-err c =
-    exit_missed c.from_residual-in_err-take-3.result c.from_residual-in_err-take-3.ensures.1
-    (c.in_ok-body.ensures.ending ∙ c.in_ok-procedures.ensures.ending ∙ c.in_ok-vars.ensures.ending ∙ c.in_ok-take-2.ensures.ending
-    ∙ c.in_ok-name.ensures.ending ∙ c.in_ok-take.ensures.ending)
-    (by_part (by_part (by_part (by_terminal (by_terminal (starts _ refl c.in_ok-take.ensures.ok)
-    (name_taken c.in_ok-name.ensures.ok)) c.in_ok-take-2.ensures.ok) c.in_ok-vars.ensures.ok) c.in_ok-procedures.ensures.ok)
-    c.in_ok-body.ensures.ok) c.in_err-take-3.ensures.err
+pub returns-in_err-take-2-clause-err : goal.returns-in_err-take-2-clause-err
+returns-in_err-take-2-clause-err c =
+    exit_missed c.from_residual-in_err-take-2.result c.from_residual-in_err-take-2.ensures.1
+    (c.in_ok-body.ensures.ending ∙ c.in_ok-procedures.ensures.ending ∙ c.in_ok-vars.ensures.ending ∙ c.in_ok-take.ensures.ending ∙
+    c.in_ok-name.ensures.ending) (by_part (by_part (by_part
+    (by_terminal (by_named (opens (Part.Process c.args.edition) c.args.cursor.now.point _ refl (no_process c.args.edition _) refl)
+    c.in_ok-name.ensures.ok) c.in_ok-take.ensures.ok) c.in_ok-vars.ensures.ok) c.in_ok-procedures.ensures.ok)
+    c.in_ok-body.ensures.ok) c.in_err-take-2.ensures.err
 
 pub returns-clause-ok : goal.returns-clause-ok
 returns-clause-ok c =
     same_value (ap (process_of (map declaration c.in_ok-vars.vars.items)
     (map procedure_declaration c.in_ok-procedures.procedures.items) (commands_of c.in_ok-body.body.items))
-    (sym (c.in_ok-name.ensures.ok).is)) (complete (by_terminal
-    (by_part (by_part (by_part (by_terminal (by_terminal (starts _ refl c.in_ok-take.ensures.ok)
-    (name_taken c.in_ok-name.ensures.ok)) c.in_ok-take-2.ensures.ok) c.in_ok-vars.ensures.ok) c.in_ok-procedures.ensures.ok)
-    c.in_ok-body.ensures.ok) c.in_ok-take-3.ensures.ok))
+    (sym (c.in_ok-name.ensures.ok).named.is)) (complete (by_terminal
+    (by_part (by_part (by_part (by_terminal (by_named (opens (Part.Process c.args.edition) c.args.cursor.now.point _ refl
+    (no_process c.args.edition _) refl) c.in_ok-name.ensures.ok) c.in_ok-take.ensures.ok) c.in_ok-vars.ensures.ok)
+    c.in_ok-procedures.ensures.ok) c.in_ok-body.ensures.ok) c.in_ok-take-2.ensures.ok))

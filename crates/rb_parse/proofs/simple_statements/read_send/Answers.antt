@@ -1,36 +1,33 @@
 use Rattle.std.proofs.Common.{refl, sym, ap, ◌∙◌}
-use Rattle.rb_grammar.proofs.Reaching.{by_part, by_terminal, complete, exit_missed, exit_sure, exit_within, last_start, same_value, starts}
-use Rattle.rb_grammar.proofs.Takes.{name_taken}
+use Rattle.rb_grammar.proofs.Pairs.{by_named, exit_two, opens_sure}
+use Rattle.rb_grammar.specs.Parts.{Part}
+use Rattle.rb_grammar.proofs.Reaching.{by_part, by_terminal, complete, exit_missed, exit_within, same_value}
 use Rattle.rb_syntax.proofs.Bridge.{command_send}
 use Rattle.rb_syntax.specs.Plain.{expression}
 use Rattle.rb_syntax.specs.Tree.{Sending}
 use Rattle.rb_parse.proofs.simple_statements.read_send.Goals as goal
 
-pub returns-in_err-take-clause-err : goal.returns-in_err-take-clause-err
-returns-in_err-take-clause-err c =
-    λ edition. exit_sure _ c.from_residual.result c.from_residual.ensures.1 refl c.requires (last_start _ refl) c.in_err-take.ensures.err
-
 pub returns-in_err-channel-clause-err : goal.returns-in_err-channel-clause-err
 returns-in_err-channel-clause-err c =
-    λ edition. exit_missed c.from_residual-in_err-channel.result c.from_residual-in_err-channel.ensures.1
-    c.in_ok-take.ensures.ending (starts _ refl c.in_ok-take.ensures.ok) c.in_err-channel.ensures.err
+    λ edition. exit_two c.from_residual.result c.from_residual.ensures.1 refl
+    (opens_sure (Part.Statement edition) c.args.cursor.now.point _ refl c.requires) c.in_err-channel.ensures.err
 
 pub returns-in_err-value-clause-err : goal.returns-in_err-value-clause-err
 returns-in_err-value-clause-err c =
     λ edition. exit_within c.from_residual-in_err-value.result c.from_residual-in_err-value.ensures.1
-    (c.in_ok-channel.ensures.ending ∙ c.in_ok-take.ensures.ending)
-    (by_terminal (starts _ refl c.in_ok-take.ensures.ok) (name_taken c.in_ok-channel.ensures.ok)) c.in_err-value.ensures.err
+    (c.in_ok-channel.ensures.ending) (by_named (opens_sure (Part.Statement edition) c.args.cursor.now.point _ refl c.requires)
+    c.in_ok-channel.ensures.ok) c.in_err-value.ensures.err
 
-pub returns-in_err-take-2-clause-err : goal.returns-in_err-take-2-clause-err
-returns-in_err-take-2-clause-err c =
-    λ edition. exit_missed c.from_residual-in_err-take-2.result c.from_residual-in_err-take-2.ensures.1
-    (c.in_ok-value.ensures.ending ∙ c.in_ok-channel.ensures.ending ∙ c.in_ok-take.ensures.ending)
-    (by_part (by_terminal (starts _ refl c.in_ok-take.ensures.ok) (name_taken c.in_ok-channel.ensures.ok))
-    c.in_ok-value.ensures.ok) c.in_err-take-2.ensures.err
+pub returns-in_err-take-clause-err : goal.returns-in_err-take-clause-err
+returns-in_err-take-clause-err c =
+    λ edition. exit_missed c.from_residual-in_err-take.result c.from_residual-in_err-take.ensures.1
+    (c.in_ok-value.ensures.ending ∙ c.in_ok-channel.ensures.ending)
+    (by_part (by_named (opens_sure (Part.Statement edition) c.args.cursor.now.point _ refl c.requires) c.in_ok-channel.ensures.ok)
+    c.in_ok-value.ensures.ok) c.in_err-take.ensures.err
 
 pub returns-clause-ok : goal.returns-clause-ok
 returns-clause-ok c =
-    λ edition. same_value (ap (λ name. Sending name (expression c.in_ok-value.value)) (sym (c.in_ok-channel.ensures.ok).is) ∙ sym
-    (command_send c.in_ok-channel.channel c.in_ok-value.value))
-    (complete (by_terminal (by_part (by_terminal (starts _ refl c.in_ok-take.ensures.ok) (name_taken c.in_ok-channel.ensures.ok))
-    c.in_ok-value.ensures.ok) c.in_ok-take-2.ensures.ok))
+    λ edition. same_value (ap (λ name. Sending name (expression c.in_ok-value.value)) (sym (c.in_ok-channel.ensures.ok).named.is)
+    ∙ sym (command_send c.in_ok-channel.channel c.in_ok-value.value))
+    (complete (by_terminal (by_part (by_named (opens_sure (Part.Statement edition) c.args.cursor.now.point _ refl c.requires)
+    c.in_ok-channel.ensures.ok) c.in_ok-value.ensures.ok) c.in_ok-take.ensures.ok))

@@ -2,11 +2,11 @@ use Rattle.std.proofs.Common.{None, refl, sym, ap, ◌∙◌, arith}
 use Rattle.rb_grammar.proofs.Forms.{other_alternate, statement_recovery}
 use Rattle.rb_grammar.proofs.Made.{recovery_made}
 use Rattle.rb_grammar.proofs.Pushing.{alternates_end, alternates_init, alternates_step, statements_end, statements_init, statements_step}
+use Rattle.rb_grammar.proofs.Pairs.{by_named, exit_two, opens_sure}
 use Rattle.rb_grammar.proofs.Reaching.{begins, begins_here, by_part, by_terminal, complete, exit_first, exit_memory, exit_missed}
 use Rattle.rb_grammar.proofs.Reaching.{exit_sure, exit_within, last_start, passes, same_value, starts, within}
 use Rattle.rb_grammar.proofs.Receipts.{else_begins, else_stands, no_receipt_end, receipt_else, receipt_wait, wait_begins}
 use Rattle.rb_grammar.proofs.Starts.{no_alternate, no_block, no_else, no_recovery, no_statements, same_statements, some_alternate, some_recovery}
-use Rattle.rb_grammar.proofs.Takes.{name_taken}
 use Rattle.rb_grammar.specs.Finding.{may_not_wait}
 use Rattle.rb_grammar.specs.Grammar.{joined}
 use Rattle.rb_grammar.specs.Parts.{Part}
@@ -149,35 +149,31 @@ read_while-returns-clause-ok t c =
     same_value (sym (command_while c.in_ok-test.test c.in_ok-block.block.vars c.in_ok-block.block.body))
     (complete (by_part (by_part (starts _ refl c.in_ok-take.ensures.ok) c.in_ok-test.ensures.ok) c.in_ok-block.ensures.ok))
 
-pub read_receive-returns-in_err-take-clause-err : goal.read_receive-returns-in_err-take-clause-err
-read_receive-returns-in_err-take-clause-err t c =
-    exit_sure _ c.from_residual.result c.from_residual.ensures.1 refl c.requires (last_start _ refl) c.in_err-take.ensures.err
-
 pub read_receive-returns-in_err-channel-clause-err : goal.read_receive-returns-in_err-channel-clause-err
 read_receive-returns-in_err-channel-clause-err t c =
-    exit_missed c.from_residual-in_err-channel.result c.from_residual-in_err-channel.ensures.1 c.in_ok-take.ensures.ending
-    (starts _ refl c.in_ok-take.ensures.ok) c.in_err-channel.ensures.err
+    exit_two c.from_residual.result c.from_residual.ensures.1 refl
+    (opens_sure (Part.Statement c.args.edition) c.args.cursor.now.point _ refl c.requires) c.in_err-channel.ensures.err
 
 pub read_receive-returns-in_err-place-clause-err : goal.read_receive-returns-in_err-place-clause-err
 read_receive-returns-in_err-place-clause-err t c =
-    exit_within c.from_residual-in_err-place.result c.from_residual-in_err-place.ensures.1
-    (c.in_ok-channel.ensures.ending ∙ c.in_ok-take.ensures.ending)
-    (by_terminal (starts _ refl c.in_ok-take.ensures.ok) (name_taken c.in_ok-channel.ensures.ok)) c.in_err-place.ensures.err
+    exit_within c.from_residual-in_err-place.result c.from_residual-in_err-place.ensures.1 (c.in_ok-channel.ensures.ending)
+    (by_named (opens_sure (Part.Statement c.args.edition) c.args.cursor.now.point _ refl c.requires) c.in_ok-channel.ensures.ok)
+    c.in_err-place.ensures.err
 
 pub read_receive-returns-in_err-otherwise-clause-err : goal.read_receive-returns-in_err-otherwise-clause-err
 read_receive-returns-in_err-otherwise-clause-err t c =
     exit_within c.from_residual-in_err-otherwise.result c.from_residual-in_err-otherwise.ensures.1
-    (c.in_ok-place.ensures.ending ∙ c.in_ok-channel.ensures.ending ∙ c.in_ok-take.ensures.ending)
-    (by_part (by_terminal (starts _ refl c.in_ok-take.ensures.ok) (name_taken c.in_ok-channel.ensures.ok))
-    c.in_ok-place.ensures.ok) c.in_err-otherwise.ensures.err
+    (c.in_ok-place.ensures.ending ∙ c.in_ok-channel.ensures.ending)
+    (by_part (by_named (opens_sure (Part.Statement c.args.edition) c.args.cursor.now.point _ refl c.requires)
+    c.in_ok-channel.ensures.ok) c.in_ok-place.ensures.ok) c.in_err-otherwise.ensures.err
 
 pub read_receive-returns-clause-ok : goal.read_receive-returns-clause-ok
 read_receive-returns-clause-ok t c =
     same_value (ap (λ name. Receiving name (reference c.in_ok-place.place) (otherwise c.in_ok-otherwise.otherwise))
-    (sym (c.in_ok-channel.ensures.ok).is) ∙ sym (command_receive c.in_ok-channel.channel c.in_ok-place.place
+    (sym (c.in_ok-channel.ensures.ok).named.is) ∙ sym (command_receive c.in_ok-channel.channel c.in_ok-place.place
     c.in_ok-otherwise.otherwise)) (complete (by_part (by_part
-    (by_terminal (starts _ refl c.in_ok-take.ensures.ok) (name_taken c.in_ok-channel.ensures.ok)) c.in_ok-place.ensures.ok)
-    c.in_ok-otherwise.ensures.ok))
+    (by_named (opens_sure (Part.Statement c.args.edition) c.args.cursor.now.point _ refl c.requires) c.in_ok-channel.ensures.ok)
+    c.in_ok-place.ensures.ok) c.in_ok-otherwise.ensures.ok))
 
 pub read_receipt_end-returns-in_err-take-clause-err : goal.read_receipt_end-returns-in_err-take-clause-err
 read_receipt_end-returns-in_err-take-clause-err t c =
@@ -220,27 +216,23 @@ read_recover-returns-clause-ok t c =
     (complete (by_part (begins (Part.Recovery c.args.edition) c.args.cursor.now.point recovering_after
     (statement_recovery c.args.edition _ (some_recovery c.args.edition _ c.requires)) refl refl) c.in_ok-recovery.ensures.ok))
 
-pub read_converse-returns-in_err-take-clause-err : goal.read_converse-returns-in_err-take-clause-err
-read_converse-returns-in_err-take-clause-err t c =
-    exit_sure _ c.from_residual.result c.from_residual.ensures.1 refl c.requires (last_start _ refl) c.in_err-take.ensures.err
-
 pub read_converse-returns-in_err-name-clause-err : goal.read_converse-returns-in_err-name-clause-err
 read_converse-returns-in_err-name-clause-err t c =
-    exit_missed c.from_residual-in_err-name.result c.from_residual-in_err-name.ensures.1 c.in_ok-take.ensures.ending
-    (starts _ refl c.in_ok-take.ensures.ok) c.in_err-name.ensures.err
+    exit_two c.from_residual.result c.from_residual.ensures.1 refl
+    (opens_sure (Part.Statement c.args.edition) c.args.cursor.now.point _ refl c.requires) c.in_err-name.ensures.err
 
 pub read_converse-returns-in_err-recovery-clause-err : goal.read_converse-returns-in_err-recovery-clause-err
 read_converse-returns-in_err-recovery-clause-err t c =
-    exit_within c.from_residual-in_err-recovery.result c.from_residual-in_err-recovery.ensures.1
-    (c.in_ok-name.ensures.ending ∙ c.in_ok-take.ensures.ending)
-    (by_terminal (starts _ refl c.in_ok-take.ensures.ok) (name_taken c.in_ok-name.ensures.ok)) c.in_err-recovery.ensures.err
+    exit_within c.from_residual-in_err-recovery.result c.from_residual-in_err-recovery.ensures.1 (c.in_ok-name.ensures.ending)
+    (by_named (opens_sure (Part.Statement c.args.edition) c.args.cursor.now.point _ refl c.requires) c.in_ok-name.ensures.ok)
+    c.in_err-recovery.ensures.err
 
 pub read_converse-returns-clause-ok : goal.read_converse-returns-clause-ok
 read_converse-returns-clause-ok t c =
     same_value (ap (λ name. Recovering (joined name (recovery_block c.in_ok-recovery.recovery)))
-    (sym (c.in_ok-name.ensures.ok).is) ∙ ap Recovering (sym c.join.ensures) ∙ sym (command_recover c.join.result))
-    (complete (by_part (by_terminal (starts _ refl c.in_ok-take.ensures.ok) (name_taken c.in_ok-name.ensures.ok))
-    c.in_ok-recovery.ensures.ok))
+    (sym (c.in_ok-name.ensures.ok).named.is) ∙ ap Recovering (sym c.join.ensures) ∙ sym (command_recover c.join.result))
+    (complete (by_part (by_named (opens_sure (Part.Statement c.args.edition) c.args.cursor.now.point _ refl c.requires)
+    c.in_ok-name.ensures.ok) c.in_ok-recovery.ensures.ok))
 
 pub read_recovery-returns-in_err-token-clause-err : goal.read_recovery-returns-in_err-token-clause-err
 read_recovery-returns-in_err-token-clause-err t c =
