@@ -7,4 +7,14 @@ pub mod Given
 pub mod Answer
 pub mod OneFirst
 pub mod Determined
+pub mod EachSite
+pub mod Uses
+pub mod Rows
+pub mod Meanings
+pub mod NamesInFrames
+pub mod ExpressionsInFrames
+pub mod CommandsInFrames
+pub mod DistinctNames
+pub mod ProgramNames
+pub mod ResolvedInFrames
 pub mod Sample

@@ -1,4 +1,4 @@
--- What holds of all trees: one first fault or none, and one slot for each name.
+-- What holds of all trees: one first fault or none, one slot for each name, and what a tree without a fault is like.
 use Rattle.std.specs.Prelude.{◌≡◌, ℕ, ◌⊎◌, List, [], slice_get, Option, Some, None}
 use Rattle.std.specs.List.{All}
 use Rattle.rb_base.specs.declared.fault.SourceFault.{SourceFault}
@@ -8,6 +8,9 @@ use Rattle.rb_scope.specs.Scopes.{Declared, meaning_of}
 use Rattle.rb_scope.specs.Sites.{Site, Declares, Uses, Calls, LooksBack, Sizes, Lists, Channels, Bounds, Takes, Quantifies, tree_sites}
 use Rattle.rb_scope.specs.Rules.{faults_of}
 use Rattle.rb_scope.specs.Slots.{AreSlots}
+use Rattle.rb_scope.specs.Resolved.{IsResolved}
+use Rattle.rb_scope.specs.InFrames.{Resolved}
+use Rattle.rb_scope.specs.Limits.{HasDistinctNames, IsWithinLimits}
 use Rattle.rb_scope.specs.declared.slot.Slot.{Slot}
 
 -- A tree has no fault of scopes and limits, or one that is the first.
@@ -39,3 +42,15 @@ AgreeAt slots others (Quantifies around place) = Unit {0}
 -- Two lists of slots of one tree agree at each name of it.
 abbrev pub SlotsAreDetermined : Type 0
 SlotsAreDetermined = (tree : Tree) (slots others : List Slot) → AreSlots tree slots → AreSlots tree others → All (AgreeAt slots others) (tree_sites tree)
+
+-- In a tree that is resolved each name stands for what the meaning finds under it.
+abbrev pub ResolvedInFrames : Type 0
+ResolvedInFrames = (tree : Tree) (slots : List Slot) → IsResolved tree slots → Resolved tree slots
+
+-- A tree without a fault is within the limits.
+abbrev pub AcceptedAreWithinLimits : Type 0
+AcceptedAreWithinLimits = (tree : Tree) → faults_of tree ≡ [] → IsWithinLimits tree
+
+-- Its processes, channels and conversations have names of their own.
+abbrev pub AcceptedHaveDistinctNames : Type 0
+AcceptedHaveDistinctNames = (tree : Tree) → faults_of tree ≡ [] → HasDistinctNames tree

@@ -8,3 +8,6 @@ pub mod Resolved
 pub mod Laws
 pub mod Finding
 pub mod Memory
+pub mod Frames
+pub mod InFrames
+pub mod Limits
