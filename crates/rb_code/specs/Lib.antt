@@ -13,3 +13,4 @@ pub mod Forms
 pub mod StandsFor
 pub mod Sound
 pub mod Safe
+pub mod Laws
