@@ -17,4 +17,6 @@ pub mod CommandsInFrames
 pub mod DistinctNames
 pub mod ProgramNames
 pub mod ResolvedInFrames
+pub mod WithinLimits
+pub mod FrameSample
 pub mod Sample

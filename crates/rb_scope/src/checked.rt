@@ -2,6 +2,7 @@ ghost use Rattle.std.specs.Prelude.{◌≡◌, IfOk, IfErr};
 ghost use Rattle.rb_syntax.specs.Plain.{tree};
 ghost use Rattle.rb_scope.specs.Slots.{HasOwnNumbers};
 ghost use Rattle.rb_scope.specs.Resolved.{IsResolved, IsRefused};
+ghost use Rattle.rb_scope.specs.InFrames.{Resolved};
 ghost use Rattle.rb_scope.specs.Finding.{nothing_found, visited};
 ghost use Rattle.rb_scope.specs.Sites.{tree_sites};
 
@@ -25,6 +26,7 @@ pub fn resolve<'a>(alloc: Global, program: Program<'a>) -> Result<Checked<'a>, R
     requires { HasOwnNumbers (tree program) }
     ensures same { IfOk result (λ checked. tree checked.program ≡ tree program.entry) }
     ensures resolved { IfOk result (λ checked. IsResolved (tree program.entry) checked.slots.items) }
+    ensures frames { IfOk result (λ checked. Resolved (tree program.entry) checked.slots.items) }
     ensures refused { IfErr result (IsRefused (tree program.entry)) }
 {
     let finder = match look_through(alloc, &program) {
