@@ -27,25 +27,25 @@ abbrev in_block : Frames
 in_block = pushed (array 122 2 ∷ scalar 103 ∷ []) (procedure_frames p f)
 
 -- the words of the process, those of the call, and those of the block behind them
-pub g_of_process : lying (main_frames p) (103 ∷ []) ≡ Some (OfProcess 0 1)
+g_of_process : lying (main_frames p) (103 ∷ []) ≡ Some (OfProcess 0 1)
 g_of_process = refl
 
-pub a_of_process : lying in_block (97 ∷ []) ≡ Some (OfProcess 1 3)
+a_of_process : lying in_block (97 ∷ []) ≡ Some (OfProcess 1 3)
 a_of_process = refl
 
-pub x_of_call : lying in_block (120 ∷ []) ≡ Some (OfCall 0 1)
+x_of_call : lying in_block (120 ∷ []) ≡ Some (OfCall 0 1)
 x_of_call = refl
 
-pub y_of_call : lying in_block (121 ∷ []) ≡ Some (OfCall 1 1)
+y_of_call : lying in_block (121 ∷ []) ≡ Some (OfCall 1 1)
 y_of_call = refl
 
-pub z_of_block : lying in_block (122 ∷ []) ≡ Some (OfCall 2 2)
+z_of_block : lying in_block (122 ∷ []) ≡ Some (OfCall 2 2)
 z_of_block = refl
 
 -- the innermost of two with one name
-pub g_of_block : lying in_block (103 ∷ []) ≡ Some (OfCall 4 1)
+g_of_block : lying in_block (103 ∷ []) ≡ Some (OfCall 4 1)
 g_of_block = refl
 
 -- no variable
-pub f_nowhere : lying in_block (102 ∷ []) ≡ None
+f_nowhere : lying in_block (102 ∷ []) ≡ None
 f_nowhere = refl
