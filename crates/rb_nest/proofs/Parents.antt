@@ -1,7 +1,9 @@
 -- The first `converse` for a conversation in the tree is the first among all uses.
 use Rattle.std.proofs.Common.{◌≡◌, ℕ, ◌+◌, nat_eq, Bool, true, false, cond, ◌&&◌, List, [], ◌∷◌, ◌++◌, Option, Some, None, unwrap_or, map, refl, sym, ap, ◌∙◌}
 use Rattle.std.specs.List.{list_any}
-use Rattle.rb_syntax.specs.Tree.{Identifier, Command, Assignment, Printing, Sending, Receiving, Conditional, Loop, Invocation, Failure, Recovering, Commands, NoCommand, Then, Body, Scope, Otherwise, NoElse, Else, RecoveryBlock, Recovers, Alternates, NoAlternate, Alternate, ProcedureDeclaration, ProcessDeclaration, Tree}
+use Rattle.rb_syntax.specs.Tree.{Identifier, Command, Assignment, Printing, Sending, Receiving, Conditional, Loop, Invocation, Failure, Recovering}
+use Rattle.rb_syntax.specs.Tree.{Commands, NoCommand, Then, Body, Scope, Otherwise, NoElse, Else, RecoveryBlock, Recovers, Alternates, NoAlternate, Alternate}
+use Rattle.rb_syntax.specs.Tree.{ProcedureDeclaration, ProcessDeclaration, Tree}
 use Rattle.rb_world.specs.Plain.{when}
 use Rattle.rb_meaning.specs.Environment.{or_else, same_name}
 use Rattle.rb_meaning.specs.Groups.{Around, conversation_number, conversation_of, first_in, first_in_alternates, first_in_block, first_in_body, first_in_command, first_in_otherwise, first_in_procedures, first_in_processes, parent_named}

@@ -66,7 +66,7 @@ pub(crate) fn first_alternates(joins: &[Use<'_>], number: usize) -> Option<usize
     ensures { result ≡ first_answer (alternates_for number) (all_held joins.now) }
 {
     let mut rest = joins;
-    'joins: while let [one, after @ ..] = rest {
+    'converses: while let [one, after @ ..] = rest {
         match one.deed {
             Deed::Joins(alternates) if one.number == number => return Some(alternates),
             _ => {}

@@ -21,7 +21,8 @@ use rb_syntax::{Conversation, Name, Program};
 use std::alloc::Global;
 
 /// The conversations of a program whose names are resolved: members, parents and numbers of alternates; or the first fault of
-/// nesting, N1 to N13. Counts that a number of 32 bits can't hold are want of memory.
+/// nesting, N1 to N13. Counts that a number of 32 bits can't hold are want of memory; so is a second conversation of one
+/// name, which no program has whose names are resolved.
 pub fn nest(alloc: Global, checked: &Checked<'_>) -> Result<Nested, Refusal>
     ensures nested { IfOk result (λ nested. IsNest (tree checked.now.program) nested) }
     ensures refused { IfErr result (IsRefused (tree checked.now.program)) }

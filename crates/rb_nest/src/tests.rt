@@ -1,3 +1,5 @@
+//! Two processes in conversations, of which one nests them as the other does, or not.
+
 use crate::nest;
 use rb_base::{Edition, FaultName, Memory, Nested, Place, Refusal, SourceFault};
 use rb_scope::Checked;

@@ -4,9 +4,9 @@ use Rattle.rb_nest.specs.Memory.{all_held}
 use Rattle.rb_nest.specs.Summary.{alternates_for}
 use Rattle.rb_nest.proofs.joins.first_alternates.Given as goal
 
-abbrev pub invariant-joins : goal.invariant-joins
-invariant-joins l =
+abbrev pub invariant-converses : goal.invariant-converses
+invariant-converses l =
     first_answer (alternates_for l.number) (all_held l.rest) ≡ first_answer (alternates_for l.number) (all_held l.fn.joins)
 
-abbrev pub decreases-joins : goal.decreases-joins
-decreases-joins l = length l.rest
+abbrev pub decreases-converses : goal.decreases-converses
+decreases-converses l = length l.rest
