@@ -32,107 +32,105 @@ fn no_command(n: u8) -> &'static [&'static str] {
     }
 }
 
-/// A source, what fails while it is checked, and what comes of it.
-#[derive(Drop)]
-struct Row {
-    source: &'static str,
-    bad_read: u64,
-    bad_write: u64,
-    room: usize,
-    status: Status,
-    want: &'static str,
-}
+const ACCEPTED: &str = "program a; process p { } end.";
 
-const CHECKS: u8 = 9;
+const SOURCES: u8 = 8;
 
-fn check_row(n: u8) -> Row {
-    let (source, bad_read, bad_write, room, status, want) = match n {
-        0 => (
-            "program a; process p { } end.",
-            99,
-            99,
-            99,
-            Status::Done,
-            "accepted\n",
-        ),
-        // A tree that is not run yet.
+// A source, how its check ends, and what is written.
+fn source_row(n: u8) -> (&'static str, Status, &'static str) {
+    match n {
+        0 => (ACCEPTED, Status::Done, "accepted\n"),
         1 => (
-            "program a; process p { print 2 * 3; } end.",
-            99,
-            99,
-            99,
+            "edition 2; program a; process p { print 2 * 3; } end.",
             Status::Done,
             "accepted\n",
         ),
         2 => (
-            "edition 2; program a; process p { } end.",
-            99,
-            99,
-            99,
+            "program a; conversation C (p, q); \
+             process p { converse C ensure 1 within 9 by { } else error; } \
+             process q { converse C ensure 1 within 9 by { } else error; } end.",
             Status::Done,
             "accepted\n",
         ),
-        3 => ("", 99, 99, 99, Status::Refused, "refused Y1 at 1:1\n"),
+        3 => ("", Status::Refused, "refused Y1 at 1:1\n"),
         4 => (
             "program a;\nprocess p { print \"x",
-            99,
-            99,
-            99,
             Status::Refused,
             "refused X2 at 2:19\n",
         ),
         5 => (
-            "program a; process p { } end.",
-            0,
-            99,
-            99,
-            Status::ReadFault,
-            "",
+            "program a; process p { x := 1; } end.",
+            Status::Refused,
+            "refused S1 at 1:24\n",
         ),
         6 => (
-            "program a; process p { } end.",
-            2,
-            99,
-            99,
-            Status::ReadFault,
-            "",
+            "program a; conversation C (p, q); process p { } process q { } end.",
+            Status::Refused,
+            "refused N6 at 1:28\n",
         ),
-        7 => (
-            "program a; process p { } end.",
-            99,
-            0,
-            99,
-            Status::WriteFault,
-            "",
-        ),
+        // The name without a declaration stands behind a member without a part.
         _ => (
-            "program a; process p { } end.",
-            99,
-            99,
-            4,
-            Status::WriteFault,
-            "acce",
+            "program a; conversation C (p, q); process p { } process q { x := 1; } end.",
+            Status::Refused,
+            "refused S1 at 1:61\n",
         ),
-    };
-    Row {
-        source,
-        bad_read,
-        bad_write,
-        room,
-        status,
-        want,
     }
 }
 
-// Carries out these words where the row's source is the file a.
-fn called(alloc: Global, words: &[&str], row: &Row) -> Result<(Status, MemorySink), Fail> {
+/// The calls of the shelf and of the sink that fail, and how much room the sink has.
+#[derive(Clone, Copy)]
+struct Outside {
+    bad_read: u64,
+    bad_write: u64,
+    room: usize,
+}
+
+const NOTHING_FAILS: Outside = Outside {
+    bad_read: 99,
+    bad_write: 99,
+    room: 99,
+};
+
+const FAULTS: u8 = 4;
+
+// What fails while a source is checked, and what comes of it.
+fn fault_row(n: u8) -> (Outside, Status, &'static str) {
+    let mut outside = NOTHING_FAILS;
+    match n {
+        0 => {
+            outside.bad_read = 0;
+            (outside, Status::ReadFault, "")
+        }
+        1 => {
+            outside.bad_read = 2;
+            (outside, Status::ReadFault, "")
+        }
+        2 => {
+            outside.bad_write = 0;
+            (outside, Status::WriteFault, "")
+        }
+        _ => {
+            outside.room = 4;
+            (outside, Status::WriteFault, "acce")
+        }
+    }
+}
+
+// Carries out these words where the source is the file a.
+fn called(
+    alloc: Global,
+    words: &[&str],
+    source: &str,
+    outside: Outside,
+) -> Result<(Status, MemorySink), Fail> {
     let name = Vec::from_slice(alloc, b"a")?;
-    let source = Vec::from_slice(alloc, row.source.as_bytes())?;
+    let text = Vec::from_slice(alloc, source.as_bytes())?;
     let mut files = Vec::new(alloc);
-    files.push((name, source))?;
-    let mut shelf = MemoryShelf::new(files, Vec::from_slice(alloc, &[row.bad_read])?);
-    let bad_writes = Vec::from_slice(alloc, &[row.bad_write])?;
-    let mut sink = MemorySink::new(alloc, row.room, bad_writes)
+    files.push((name, text))?;
+    let bad_reads = Vec::from_slice(alloc, &[outside.bad_read])?;
+    let mut shelf = MemoryShelf::new(files, bad_reads);
+    let bad_writes = Vec::from_slice(alloc, &[outside.bad_write])?;
+    let mut sink = MemorySink::new(alloc, outside.room, bad_writes)
         .ok()
         .ok_or("memory")?;
     let mut given = Words::new(alloc);
@@ -146,7 +144,7 @@ fn called(alloc: Global, words: &[&str], row: &Row) -> Result<(Status, MemorySin
 #[test]
 fn shows_the_commands(rt: HostRuntime) -> Result<(), Fail> {
     for n in 0..NO_COMMANDS {
-        let (status, sink) = called(rt.alloc(), no_command(n), &check_row(0))?;
+        let (status, sink) = called(rt.alloc(), no_command(n), ACCEPTED, NOTHING_FAILS)?;
         assert_eq!(rt; status, Status::Usage);
         assert_eq!(rt; sink.bytes(), USAGE.as_bytes());
     }
@@ -155,19 +153,24 @@ fn shows_the_commands(rt: HostRuntime) -> Result<(), Fail> {
 
 #[test]
 fn checks(rt: HostRuntime) -> Result<(), Fail> {
-    for n in 0..CHECKS {
-        let row = check_row(n);
-        let (status, sink) = called(rt.alloc(), &["check", "a"], &row)?;
-        assert_eq!(rt; status, row.status);
-        assert_eq!(rt; sink.bytes(), row.want.as_bytes());
+    for n in 0..SOURCES {
+        let (source, status, want) = source_row(n);
+        let (ended, sink) = called(rt.alloc(), &["check", "a"], source, NOTHING_FAILS)?;
+        assert_eq!(rt; ended, status);
+        assert_eq!(rt; sink.bytes(), want.as_bytes());
     }
     Ok(())
 }
 
-// A file that is not there.
 #[test]
-fn checks_no_other_file(rt: HostRuntime) -> Result<(), Fail> {
-    let (missing, nothing) = called(rt.alloc(), &["check", "b"], &check_row(0))?;
+fn stops_at_a_fault(rt: HostRuntime) -> Result<(), Fail> {
+    for n in 0..FAULTS {
+        let (outside, status, want) = fault_row(n);
+        let (ended, sink) = called(rt.alloc(), &["check", "a"], ACCEPTED, outside)?;
+        assert_eq!(rt; ended, status);
+        assert_eq!(rt; sink.bytes(), want.as_bytes());
+    }
+    let (missing, nothing) = called(rt.alloc(), &["check", "b"], ACCEPTED, NOTHING_FAILS)?;
     assert_eq!(rt; missing, Status::ReadFault);
     assert_eq!(rt; nothing.bytes(), b"".as_slice());
     Ok(())

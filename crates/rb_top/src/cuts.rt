@@ -1,5 +1,5 @@
-// A program that is cut short before each of its bytes. Most cuts end too early, and the place is the one after the last byte;
-// the table has the others: a name where a word was begun, half a mark, and a text that is still open.
+//! A program that is cut short before each of its bytes. Most cuts end too early, and the place is the one after the last byte;
+//! the table has the others: a name where a word was begun, half a mark, and a text that is still open.
 use rb_base::Refusal;
 use rb_parse::parse;
 use std::alloc::Global;

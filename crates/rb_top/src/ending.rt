@@ -1,3 +1,4 @@
+//! The end of the program: its exit status, and a buffer before its sink.
 ghost use Rattle.std.specs.Prelude.{◌≡◌};
 ghost use Rattle.rb_outside.specs.Outside.{went_well};
 ghost use Rattle.rb_top.specs.Words.{request_of};

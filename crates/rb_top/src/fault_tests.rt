@@ -1,3 +1,4 @@
+//! Each call of the shelf and of the sink fails once.
 use crate::{Status, Words, command};
 use rb_outside::{MemoryShelf, MemorySink};
 use std::alloc::{AllocError, Global};

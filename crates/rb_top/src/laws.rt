@@ -1,3 +1,4 @@
+//! Laws of judgements.
 ghost use Rattle.rb_top.specs.Laws.{AreJudged, AreJudgedOnce};
 
 /// Two texts are judged in one way at most: refused with one line, or run with one text.

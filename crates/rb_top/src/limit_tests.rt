@@ -1,4 +1,4 @@
-// Programs at the limits of the language: each of them runs to its end.
+//! Programs at the limits of the language: each of them runs to its end.
 use crate::{Status, Words, command};
 use rb_base::MOST_BYTES;
 use rb_outside::{MemoryShelf, MemorySink};

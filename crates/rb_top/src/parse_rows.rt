@@ -1,4 +1,4 @@
-// Each row has a source and what is made of it: how many names, variables and statements its tree has, or the fault.
+//! Each row has a source and what is made of it: how many names, variables and statements its tree has, or the fault.
 use rb_base::{Edition, Refusal, SourceFault};
 use rb_parse::parse;
 use rb_syntax::Program;

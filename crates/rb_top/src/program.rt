@@ -1,3 +1,4 @@
+//! The program over the words, the files and the output of the host.
 ghost use Rattle.std.specs.Prelude.{◌≡◌};
 ghost use Rattle.rb_top.specs.Ending.{no_text};
 

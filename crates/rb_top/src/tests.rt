@@ -1,3 +1,4 @@
+//! Tests of `run`: texts of runs, refusals, and what fails outside.
 use crate::recovery_rows::{FULL_SCHEDULE, FULL_WANT, ROWS, full_source, recovery_row};
 use crate::{Status, Words, command};
 use rb_outside::{MemoryShelf, MemorySink};
@@ -75,7 +76,7 @@ fn refused_row(n: u8) -> Row {
         4 => (
             "program a; process p { x := 1; } end.",
             "",
-            "refused Y0 at 1:1\n",
+            "refused S1 at 1:24\n",
         ),
         5 => (SMALLEST, "p 1\n# note\n\np", "refused T1 at 4\n"),
         6 => (SMALLEST, "p 1\n# note\n\nz 2", "refused T2 at 4\n"),
@@ -97,6 +98,12 @@ fn refused_row(n: u8) -> Row {
             "edition 2; program a; process p { } end.",
             "",
             "refused Y0 at 1:1\n",
+        ),
+        // A member without a part comes before the form that is not run yet.
+        12 => (
+            "program a; conversation C (p, q); process p { } process q { } end.",
+            "",
+            "refused N6 at 1:28\n",
         ),
         // A program of the language that is not run yet.
         _ => (
@@ -239,7 +246,7 @@ fn holds_no_more(rt: HostRuntime) -> Result<(), Fail> {
 
 #[test]
 fn refuses(rt: HostRuntime) -> Result<(), Fail> {
-    for n in 0..13 {
+    for n in 0..14 {
         let row = refused_row(n);
         let (status, sink) = ran(rt.alloc(), &row)?;
         assert_eq!(rt; status, Status::Refused);

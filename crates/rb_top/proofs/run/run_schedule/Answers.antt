@@ -2,7 +2,7 @@ use Rattle.std.proofs.Common.{◌≡◌, ◌<◌, ◌∙◌, ℕ, List, [], ◌�
 use Rattle.std.specs.List.{AllByRecursion}
 use Rattle.rb_sched.specs.Schedule.{schedule_of}
 use Rattle.rb_syntax.specs.Plain.{tree}
-use Rattle.rb_top.specs.Judgement.{RunGoesOn, bad_schedule, long_schedule, schedule_line, schedule_refused, too_long_line}
+use Rattle.rb_top.specs.Judgement.{RunGoesOn, bad_schedule, long_schedule, schedule_refused, too_long_line}
 use Rattle.rb_top.proofs.Answering.{line_ends}
 use Rattle.rb_top.proofs.OneProcess.{names-one, scheduled_names}
 use Rattle.rb_top.proofs.Sources.{run_ends}
