@@ -1,0 +1,4 @@
+-- Whole runs of the word machine agree with the meaning, where each process does within a turn.
+pub mod KeptTurns
+pub mod HeldLines
+pub mod Pairs
