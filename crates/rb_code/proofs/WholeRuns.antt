@@ -2,3 +2,5 @@
 pub mod KeptTurns
 pub mod HeldLines
 pub mod Pairs
+pub mod StepsFollow
+pub mod TurnsInTime
