@@ -4,3 +4,7 @@ pub mod HeldLines
 pub mod Pairs
 pub mod StepsFollow
 pub mod TurnsInTime
+pub mod Agreeing
+pub mod MachineSteps
+pub mod BothAgree
+pub mod WordsSimulate
