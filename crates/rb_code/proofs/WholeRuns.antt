@@ -8,3 +8,7 @@ pub mod Agreeing
 pub mod MachineSteps
 pub mod BothAgree
 pub mod WordsSimulate
+pub mod WhatIsKnown
+pub mod Openings
+pub mod EndsAgree
+pub mod RunsAgree

@@ -48,9 +48,10 @@ released s = record s { held = []; words = slice_set s.words held_place (pos 0) 
 
 -- a turn is kept: it is the last one, and its link leads to the one before
 abbrev pub kept : ℕ → ℕ → Standing → Common → Standing × Common
-kept t alternate s memory =
-    (record s { last_kept = t },
-    record memory { links = record { turn = t; process = s.process; alternate = alternate; before = s.last_kept } ∷ memory.links })
+kept t alternate s memory = (
+  record s { last_kept = t },
+  record memory { links = record { turn = t; process = s.process; alternate = alternate; before = s.last_kept } ∷ memory.links },
+)
 
 -- the kind of state that code has, with these conversations
 abbrev pub word_kind : Code → List Membership → Kind Standing Copy Common
