@@ -1,1 +1,2 @@
 -- Lemmas of code.
+pub mod Leads
