@@ -1,2 +1,5 @@
 -- Lemmas of code.
 pub mod Leads
+pub mod LaidOut
+pub mod Left
+pub mod Meets
