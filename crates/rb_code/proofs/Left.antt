@@ -1,5 +1,5 @@
 -- What is left of a process's text, against the address at which it goes on and the addresses to which its calls go back.
-use Rattle.std.specs.Prelude.{◌≡◌, ◌⊎◌, ℕ, List, [], ◌∷◌, slice_get, Option, Some, None}
+use Rattle.std.specs.Prelude.{◌≡◌, ◌⊎◌, ℕ, false, List, [], ◌∷◌, slice_get, Option, Some, None}
 use Rattle.rb_syntax.specs.Tree.{Declaration, ProcessDeclaration, RecoveryBlock, Recovers, Tree}
 use Rattle.rb_meaning.specs.Environment.{frame_of, natural}
 use Rattle.rb_meaning.specs.State.{Item, Perform, StartOf, TestOf, EndBlock, EndCall}

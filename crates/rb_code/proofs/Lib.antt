@@ -3,3 +3,4 @@ pub mod Leads
 pub mod LaidOut
 pub mod Left
 pub mod Meets
+pub mod Comes
