@@ -45,13 +45,20 @@ module _ (c : Code) (see : Sight) where
   comes_from q a d os ps m n b f g (Ok x) l k r = (r.0, kept_on k r.1, leads_on c see l r.2)
   comes_from q a d os ps m n b f g (Err cause) l k r = leads_to_end c see l r
 
-  -- a value goes on, a trap is the end
+  -- a value goes on, a trap is the end; at first more counters may be kept
+  pub comes_inside : {A B : Type 0} (q r a d b : ℕ) (os : List ℤ) (m : Memory) (f : A → List ℤ) (g : A → Memory) (f' : B → List ℤ) (g' : B → Memory)
+      (o : Result A Cause) (h : A → Result B Cause) → q ≤ r → Comes r a os m d f g o
+      → ((x : A) (later : List (Option Counting)) → KeptBelow r m.counters later → Comes q d (f x) (recounted later (g x)) b f' g' (h x))
+      → Comes q a os m b f' g' (and_then o h)
+  comes_inside q r a d b os m f g f' g' (Ok x) h e l n =
+      comes_from q a d os (f x) m (recounted l.0 (g x)) b f' g' (h x) l.2 (kept_fewer q r m.counters l.0 e l.1) (n x l.0 l.1)
+  comes_inside q r a d b os m f g f' g' (Err cause) h e l n = l
+
   pub comes_on : {A B : Type 0} (q a d b : ℕ) (os : List ℤ) (m : Memory) (f : A → List ℤ) (g : A → Memory) (f' : B → List ℤ) (g' : B → Memory)
       (o : Result A Cause) (h : A → Result B Cause) → Comes q a os m d f g o
       → ((x : A) (later : List (Option Counting)) → KeptBelow q m.counters later → Comes q d (f x) (recounted later (g x)) b f' g' (h x))
       → Comes q a os m b f' g' (and_then o h)
-  comes_on q a d b os m f g f' g' (Ok x) h l r = comes_from q a d os (f x) m (recounted l.0 (g x)) b f' g' (h x) l.2 l.1 (r x l.0 l.1)
-  comes_on q a d b os m f g f' g' (Err cause) h l r = l
+  comes_on q a d b os m f g f' g' o h l n = comes_inside q q a d b os m f g f' g' o h (omega arith) l n
 
   -- where it leads, and what comes then leaves the counters
   pub comes_to : {A : Type 0} (q a : ℕ) (os : List ℤ) (m : Memory) (b : ℕ) (f : A → List ℤ) (g : A → Memory) (x : A) (later : List (Option Counting))

@@ -4,3 +4,6 @@ pub mod LaidOut
 pub mod Left
 pub mod Meets
 pub mod Comes
+pub mod Counted
+pub mod Spans
+pub mod Loops
