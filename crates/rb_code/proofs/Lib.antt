@@ -7,3 +7,4 @@ pub mod Comes
 pub mod Counted
 pub mod Spans
 pub mod Loops
+pub mod Quantified
