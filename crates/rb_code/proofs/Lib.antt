@@ -8,3 +8,4 @@ pub mod Counted
 pub mod Spans
 pub mod Loops
 pub mod Quantified
+pub mod Found
