@@ -88,3 +88,20 @@ module _ (c : Code) (see : Sight) where
       by false t =
           ends c see (Bound n) a (pos k ∷ os) m (Trapped Index) code.0
           (ap (λ z. cond z (Going (a + 1) (pos k ∷ os) m) (Trapped Index)) t) refl
+
+  -- an element of an array, and how many it has
+  pub array_values : (frames : Frames) (calls : List OpenCall) (env : Environment) (words : List ℤ) (slots : List Slot) (name : Identifier)
+      → Finds (here c see) calls frames env words → IsArray slots frames name → length (values_of env name.text) ≡ elements_of slots name.id
+  array_values frames calls env words slots name finds is =
+      let f = finds.found name.text is.at is.found in
+      ap (λ o. length (values_or_none o)) f.is ∙ f.long ∙ sym (array_elements slots name.id is.at is.slot)
+
+  pub element_value : (frames : Frames) (calls : List OpenCall) (env : Environment) (words : List ℤ) (slots : List Slot) (name : Identifier) (k : ℕ)
+      → Finds (here c see) calls frames env words → IsArray slots frames name → k < elements_of slots name.id
+      → number_at (values_of env name.text) k ≡ word_at words (place c see calls (spot_of slots name.id) + k)
+  element_value frames calls env words slots name k finds is l =
+      let f = finds.found name.text is.at is.found in
+      let n : elements_of slots name.id ≡ words_lying is.at = array_elements slots name.id is.at is.slot in
+      ap (λ o. number_at (values_or_none o) k) f.is
+      ∙ ap (λ o. unwrap_or o (pos 0)) (f.reads k (subst (λ z. k < z) n l))
+      ∙ ap (λ z. word_at words (z + k)) (sym (place_is calls is.at) ∙ ap (λ s. place c see calls s) (sym (array_spot slots name.id is.at is.slot)))

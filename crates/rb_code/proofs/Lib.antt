@@ -9,3 +9,4 @@ pub mod Spans
 pub mod Loops
 pub mod Quantified
 pub mod Found
+pub mod Expressions
