@@ -10,3 +10,4 @@ pub mod Loops
 pub mod Quantified
 pub mod Found
 pub mod Expressions
+pub mod Lying
