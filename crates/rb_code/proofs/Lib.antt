@@ -11,3 +11,4 @@ pub mod Quantified
 pub mod Found
 pub mod Expressions
 pub mod Lying
+pub mod LyingInCalls

@@ -111,10 +111,10 @@ lies_later stored frame x o p n q e h =
     (lies_behind _ _ stored.values _ o p n q h)
 
 -- what a place says of a pair of words
-first_is : {o n p m : ℕ} → ◌≡◌ {A = Option (ℕ × ℕ)} (Some (o, n)) (Some (p, m)) → o ≡ p
+pub first_is : {o n p m : ℕ} → ◌≡◌ {A = Option (ℕ × ℕ)} (Some (o, n)) (Some (p, m)) → o ≡ p
 first_is e = ap (λ (w : ℕ × ℕ). w.0) (some_same e)
 
-second_is : {o n p m : ℕ} → ◌≡◌ {A = Option (ℕ × ℕ)} (Some (o, n)) (Some (p, m)) → n ≡ m
+pub second_is : {o n p m : ℕ} → ◌≡◌ {A = Option (ℕ × ℕ)} (Some (o, n)) (Some (p, m)) → n ≡ m
 second_is e = ap (λ (w : ℕ × ℕ). w.1) (some_same e)
 
 pub frame_lies : (frame : Frame) (x : List ℕ) (o n : ℕ) → lies_in x (shape_of frame) ≡ Some (o, n) → LiesIn frame x o n
