@@ -12,3 +12,4 @@ pub mod Found
 pub mod Expressions
 pub mod Lying
 pub mod LyingInCalls
+pub mod Environments
