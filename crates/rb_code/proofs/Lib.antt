@@ -13,3 +13,4 @@ pub mod Expressions
 pub mod Lying
 pub mod LyingInCalls
 pub mod Environments
+pub mod Pushed
