@@ -33,11 +33,11 @@ words_of_calls (frames ∷ outer) =
 pub words_of : (env : Environment) → length (flat env) ≡ words env
 words_of env = omega (arith, length-append (flat_frame env.globals) (flat_calls env.calls), words_of_calls env.calls, words_of_frame env.globals)
 
-pub laid_long : (part : Part) (env : Environment) (all : List ℤ) (calls : List OpenCall) → Laid part env all calls
+pub laid_long : (part : Part) (front : List ℤ) (env : Environment) (all : List ℤ) (calls : List OpenCall) → Laid part front env all calls
     → length all ≡ variables_place part + words env
-laid_long part env all calls l =
+laid_long part front env all calls l =
     let long = l.long in
-    omega (arith, ap length l.is, length-append l.front (flat env), words_of env, long)
+    omega (arith, ap length l.is, length-append front (flat env), words_of env, long)
 
 -- a write keeps shapes
 pub frame_kept : (frame : Frame) (x : List ℕ) (i : ℕ) (v : ℤ) → shape_of (stored_in x i v frame) ≡ shape_of frame
@@ -145,21 +145,21 @@ module _ (part : Part) where
         (call_lies front globals frames outer x (base_of part opened + w.0) w.0 w.1 begins e)
 
   -- what is laid out is found by its places
-  pub lies_at : (env : Environment) (all : List ℤ) (calls : List OpenCall) (l : Laid part env all calls) (frames : Frames) → InFrames env frames → (x : List ℕ) (at : Lying)
-      → lying frames x ≡ Some at → LiesAt env l.front x (place_lying part calls at) (words_lying at)
-  lies_at env all calls l frames is x at e =
-      variable env.globals l.front l.long l.globals x env.calls calls at (lies_among x (running (stacks_of env.calls))) l.based refl
+  pub lies_at : (front : List ℤ) (env : Environment) (all : List ℤ) (calls : List OpenCall) (l : Laid part front env all calls) (frames : Frames) → InFrames env frames → (x : List ℕ) (at : Lying)
+      → lying frames x ≡ Some at → LiesAt env front x (place_lying part calls at) (words_lying at)
+  lies_at front env all calls l frames is x at e =
+      variable env.globals front l.long l.globals x env.calls calls at (lies_among x (running (stacks_of env.calls))) l.based refl
       (ap (λ s. or_else (option_map (λ (words : ℕ × ℕ). OfCall words.0 words.1) (lies_among x (running (stacks_of env.calls))))
         (option_map (λ (words : ℕ × ℕ). OfProcess words.0 words.1) (lies_in x s))) (sym is.0)
       ∙ ap (λ s. or_else (option_map (λ (words : ℕ × ℕ). OfCall words.0 words.1) (lies_among x s))
         (option_map (λ (words : ℕ × ℕ). OfProcess words.0 words.1) (lies_in x frames.globals))) (sym is.1)
       ∙ e)
 
-  pub laid_finds : (env : Environment) (all : List ℤ) (calls : List OpenCall) → Laid part env all calls → (frames : Frames) → InFrames env frames
+  pub laid_finds : (front : List ℤ) (env : Environment) (all : List ℤ) (calls : List OpenCall) → Laid part front env all calls → (frames : Frames) → InFrames env frames
       → Finds part calls frames env all
-  laid_finds env all calls l frames is = record {
+  laid_finds front env all calls l frames is = record {
     found = λ x at e.
-      let r = lies_at env all calls l frames is x at e in
+      let r = lies_at front env all calls l frames is x at e in
       record {
         values = r.all;
         is = r.is;
@@ -172,13 +172,12 @@ module _ (part : Part) where
   }
 
   -- a write to a place is a write to the variable
-  pub laid_store : (env : Environment) (all : List ℤ) (calls : List OpenCall) → Laid part env all calls → (frames : Frames) → InFrames env frames → (x : List ℕ) (at : Lying)
-      → lying frames x ≡ Some at → (i : ℕ) (v : ℤ) → i < words_lying at → Laid part (store env x i v) (slice_set all (place_lying part calls at + i) v) calls
-  laid_store env all calls l frames is x at e i v h =
-      let r = lies_at env all calls l frames is x at e in
+  pub laid_store : (front : List ℤ) (env : Environment) (all : List ℤ) (calls : List OpenCall) → Laid part front env all calls → (frames : Frames) → InFrames env frames → (x : List ℕ) (at : Lying)
+      → lying frames x ≡ Some at → (i : ℕ) (v : ℤ) → i < words_lying at → Laid part front (store env x i v) (slice_set all (place_lying part calls at + i) v) calls
+  laid_store front env all calls l frames is x at e i v h =
+      let r = lies_at front env all calls l frames is x at e in
       let kept = store_kept env x i v in
       record {
-        front = l.front;
         long = l.long;
         is = ap (λ ws. slice_set ws (place_lying part calls at + i) v) l.is ∙ sym (r.writes i v h);
         globals = ap shape_words kept.0 ∙ l.globals;

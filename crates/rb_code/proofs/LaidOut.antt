@@ -50,9 +50,8 @@ abbrev pub running : List (List Shape) → List Shape
 running [] = []
 running (shapes ∷ outer) = shapes
 
--- The words are the held length and the cursors, and then those of the environment.
-pub record Laid (part : Part) (env : Environment) (words : List ℤ) (calls : List OpenCall) : Type 0 where
-  pub front : List ℤ
+-- The words are the held length and the cursors, which are the front, and then those of the environment.
+pub record Laid (part : Part) (front : List ℤ) (env : Environment) (words : List ℤ) (calls : List OpenCall) : Type 0 where
   pub long : length front ≡ variables_place part
   pub is : words ≡ front ++ flat env
   pub globals : shape_words (shape_of env.globals) ≡ part.words

@@ -14,3 +14,4 @@ pub mod Lying
 pub mod LyingInCalls
 pub mod Environments
 pub mod Pushed
+pub mod Settles

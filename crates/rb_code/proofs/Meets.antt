@@ -17,7 +17,8 @@ use Rattle.rb_code.proofs.Left.{Left, own_shape}
 -- The words of process number p are those of the state: its variables, its held length, and a cursor for each channel of which it is
 -- an end.
 pub record WordsMeet (tree : Tree) (c : Code) (p : ℕ) (s : State) (all : List ℤ) (calls : List OpenCall) : Type 0 where
-  pub laid : Laid (part_of c p) s.environment all calls
+  pub front : List ℤ
+  pub laid : Laid (part_of c p) front s.environment all calls
   pub globals : shape_of s.environment.globals ≡ own_shape tree p
   pub few : words s.environment ≤ most_words c.edition
   pub held : word_at all held_place ≡ pos (held_bytes s.held)
