@@ -15,3 +15,4 @@ pub mod LyingInCalls
 pub mod Environments
 pub mod Pushed
 pub mod Settles
+pub mod Took

@@ -1,5 +1,6 @@
 -- Ends of blocks and calls are taken off by drops, returns and jumps, up to the next turn.
 use Rattle.std.proofs.Common.{◌≡◌, ◌⊎◌, inl, inr, ◌<◌, ◌≤◌, ℕ, zero, suc, ◌+◌, ◌-◌, ℤ, pos, List, [], ◌∷◌, ◌++◌, length, map, take, slice_get, Option, Some, None, refl, sym, ap, ◌∙◌, subst, arith}
+use Rattle.std.proofs.lemmas.List.{length-take}
 use Rattle.std.proofs.Math.Seq.{take-length}
 use Rattle.rb_syntax.specs.Tree.{Command, Assignment, Printing, Sending, Receiving, Conditional, Loop, Invocation, Failure, Recovering, Otherwise, NoElse, Else, RecoveryBlock, Recovers, Tree}
 use Rattle.rb_meaning.specs.Environment.{Environment, pop_call, pop_frame}
@@ -62,6 +63,9 @@ module _ (tree : Tree) (slots : List Slot) (owner : Owner) (c : Code) where
 cut_nothing : (all : List ℤ) → take (length all - 0) all ≡ all
 cut_nothing all = let e : length all - 0 ≡ length all = omega arith in ap (λ k. take k all) e ∙ take-length all
 
+cut_shorter : (n : ℕ) (all : List ℤ) → length (take n all) ≤ length all
+cut_shorter n all = grind (arith, length-take n all)
+
 module _ (c : Code) (see : Sight) where
   -- words are dropped
   pub drops : (n a b : ℕ) (os : List ℤ) (m : Memory) → DropCode n c a b → Leads c see a os m b os (dropped n m)
@@ -83,6 +87,7 @@ module _ (c : Code) (see : Sight) where
       pub leads : Leads c see a [] (with_calls all calls m) to [] (with_calls words opened m)
       pub left : Left tree slots c p (stacks_of env.calls) items opened to
       pub laid : Laid (part_of c p) front env words opened
+      pub shorter : length words ≤ length all
       pub settled : IsSettled items
       pub stops : IsTurn c to ⊎ (slice_get c.instrs to ≡ Some Done)
 
@@ -96,20 +101,22 @@ module _ (c : Code) (see : Sight) where
       leads = stays c see a [] (with_calls all calls m);
       left = left;
       laid = l;
+      shorter = omega arith;
       settled = settled;
       stops = stops;
     }
 
     settled_behind : (front : List ℤ) (a b : ℕ) (m : Memory) (all words : List ℤ) (calls opened : List OpenCall) (items : List Item) (env : Environment)
-        → Leads c see a [] (with_calls all calls m) b [] (with_calls words opened m) → Settled front b m words opened items env
+        → length words ≤ length all → Leads c see a [] (with_calls all calls m) b [] (with_calls words opened m) → Settled front b m words opened items env
         → Settled front a m all calls items env
-    settled_behind front a b m all words calls opened items env l s = record {
+    settled_behind front a b m all words calls opened items env less l s = record {
       to = s.to;
       words = s.words;
       opened = s.opened;
       leads = leads_on c see l s.leads;
       left = s.left;
       laid = s.laid;
+      shorter = (let h = s.shorter in omega arith);
       settled = s.settled;
       stops = s.stops;
     }
@@ -133,7 +140,7 @@ module _ (c : Code) (see : Sight) where
         let popped = laid_popped (part_of c p) env all calls front shape shapes outer e l in
         let words = take (length all - shape_words shape) all in
         let s = settles front rest (pop_frame env) (shapes ∷ outer) popped.1 b m words calls left popped.0 in
-        settled_behind front a b m all words calls calls (settle_items rest (pop_frame env)).0 (settle_items rest (pop_frame env)).1
+        settled_behind front a b m all words calls calls (settle_items rest (pop_frame env)).0 (settle_items rest (pop_frame env)).1 (cut_shorter (length all - shape_words shape) all)
         (leads_on c see (drops (shape_words shape) a d [] (with_calls all calls m) drop) (onward d b [] (with_calls words calls m) on)) s
     settles front (EndCall ∷ rest) env [] e a m all calls left l = absurd left
     settles front (EndCall ∷ rest) env (shapes ∷ outer) e a m all [] left l = absurd left
@@ -141,5 +148,5 @@ module _ (c : Code) (see : Sight) where
         let returned = laid_returned (part_of c p) env all call calls front shapes outer e l in
         let words = take call.base all in
         let s = settles front rest (pop_call env) outer returned.1 call.back m words calls left.1 returned.0 in
-        settled_behind front a call.back m all words (call ∷ calls) calls (settle_items rest (pop_call env)).0 (settle_items rest (pop_call env)).1
+        settled_behind front a call.back m all words (call ∷ calls) calls (settle_items rest (pop_call env)).0 (settle_items rest (pop_call env)).1 (cut_shorter call.base all)
         (goes c see Return a call.back [] [] (with_calls all (call ∷ calls) m) (with_calls words calls m) left.0 refl) s
