@@ -11,13 +11,13 @@ use Rattle.rb_meaning.specs.Environment.{global_words}
 use Rattle.rb_meaning.specs.State.{State, settle, with_held, with_kept}
 use Rattle.rb_meaning.specs.Step.{Nothing, enter, held_bytes, step, wants_first}
 use Rattle.rb_meaning.specs.Meaning.{environment_of, opening_state, sent_on, taken_on, tree_kind}
-use Rattle.rb_meaning.proofs.KnownOfProcess.{Known}
 use Rattle.rb_code.specs.Plain.{Code, Part}
 use Rattle.rb_code.specs.Memory.{held_place, word_at}
 use Rattle.rb_code.specs.Turn.{Common, Copy, Standing, settle as settles, step as steps, want}
 use Rattle.rb_code.specs.WordKind.{copied, entered_at, released, restored, sent_by, taken_by}
 use Rattle.rb_code.specs.WordRun.{opening_standing, variable_words}
 use Rattle.rb_code.specs.declared.instr.Instr.TheVariants.{Done, Turn}
+use Rattle.rb_code.proofs.WholeRuns.PointsLie.{LiesWell}
 
 -- whether the process stands at a test line, where ends of blocks and calls may stand first; the copies of its levels, from the
 -- outermost in, and the state; and the same of the word machine
@@ -96,13 +96,13 @@ pub record IsAgreeing (tree : Tree) (c : Code) (meets : Meeting) : Type 0 where
       → meets line cs (with_kept kept s) ds (kept_last t u)
   -- a step, an entry, and what follows an accepted level
   pub step : (p : ℕ) (q : Process State State) (alternate : ℕ) (message : Option ℤ) (memory : Common) (ds : List Copy) (u : Standing)
-      → Known tree p q → q.status ≡ Running → q.at_line ≡ false → MayStep (wants_first tree q.state.items) message
+      → LiesWell tree p q → q.status ≡ Running → q.at_line ≡ false → MayStep (wants_first tree q.state.items) message
       → (wants_first tree q.state.items ≡ Starts) ⊎ (alternate ≡ 0) → u.held ≡ q.state.held → meets false (copies_of q.levels) q.state ds u
       → StepsAgree meets (copies_of q.levels) ds
       (stepped_with_slots (tree_kind tree) q.state memory.slots (step tree alternate (environment_of (last_of (copies_of q.levels))) q.state message))
       (steps c alternate (last_of ds) u message memory)
   pub enter : (p : ℕ) (q : Process State State) (facts : Facts) (ds : List Copy) (u : Standing) (kept : List (ℕ × ℕ)) (t : ℕ)
-      → Known tree p q → q.status ≡ Running → q.at_line ≡ false → wants_first tree q.state.items ≡ Enters facts
+      → LiesWell tree p q → q.status ≡ Running → q.at_line ≡ false → wants_first tree q.state.items ≡ Enters facts
       → meets false (copies_of q.levels) q.state ds u
       → let x = with_kept kept (enter q.state) in
       let y = kept_last t (entered_at u) in

@@ -14,12 +14,12 @@ use Rattle.rb_meaning.specs.Step.{Nothing}
 use Rattle.rb_meaning.specs.Meaning.{opening_states, tree_kind}
 use Rattle.rb_meaning.specs.Nesting.{IsNested}
 use Rattle.rb_meaning.specs.Laws.{slot_opening}
-use Rattle.rb_meaning.proofs.KnownOfProcess.{Known}
 use Rattle.rb_meaning.proofs.KnownIsKept.{known_kept}
-use Rattle.rb_meaning.proofs.NestedProgram.{known_opening, procedures_kept}
+use Rattle.rb_meaning.proofs.NestedProgram.{procedures_kept}
 use Rattle.rb_meaning.proofs.TreeErasable.{erasable}
 use Rattle.rb_meaning.proofs.TreeErasure.{each_opening}
 use Rattle.rb_meaning.proofs.TreeSlots.{opens_with_slots}
+use Rattle.rb_code.proofs.WholeRuns.PointsLie.{LiesWell, lies_kept, lies_opening}
 use Rattle.rb_code.proofs.WholeRuns.TurnsInTime.{AreInTime, in_time_kept, opening_in_time}
 use Rattle.rb_code.proofs.WholeRuns.WordsSimulate.{IsKnown, SlotWorld, read_slot, read_slot_then, slotted}
 
@@ -39,10 +39,10 @@ module _ (tree : Tree) (nested : IsNested tree) where
 
   -- what is known of each process, and that kept turns are before the present one
   abbrev each_known : ℕ → SlotWorld → Type 0
-  each_known = WithPast (λ t past w. Each (Known tree) w.processes)
+  each_known = WithPast (λ t past w. Each (LiesWell tree) w.processes)
 
-  known_along : KeepsKnown (slotted tree) (λ t p q w. Known tree p q) each_known
-  known_along = invariant_knows (under_slots (tree_kind tree) (each_kept (known_kept tree (procedures_kept tree nested))))
+  known_along : KeepsKnown (slotted tree) (λ t p q w. LiesWell tree p q) each_known
+  known_along = invariant_knows (under_slots (tree_kind tree) (each_kept (lies_kept tree nested)))
       (λ t past p q w holds may. holds p q may.runs.there)
 
   abbrev all_in_time : ℕ → SlotWorld → Type 0
@@ -73,7 +73,7 @@ module _ (tree : Tree) (nested : IsNested tree) where
 
   pub known_first : KnownAlong 1 (slot_opening tree (slotted tree))
   known_first = record {
-    each = ([], settled_each (tree_kind tree) (Known tree) (opening_states tree 0 tree.processes) (known_opening tree nested));
+    each = ([], settled_each (tree_kind tree) (LiesWell tree) (opening_states tree 0 tree.processes) (lies_opening tree nested));
     in_time = ([], opening_in_time tree (opening_states tree 0 tree.processes) (each_opening tree (λ s. s.kept ≡ []) (λ n process. refl) 0 tree.processes));
     all_readable = λ channel ends declared.
         ([], opening_both (known_kept tree (procedures_kept tree nested)) (erasable tree) (opens_with_slots tree nested) channel ends declared);

@@ -13,7 +13,6 @@ use Rattle.rb_meaning.specs.State.{State, settle, with_held, with_kept}
 use Rattle.rb_meaning.specs.Step.{Nothing, Result_of_step, enter, held_bytes, step, wants_first}
 use Rattle.rb_meaning.specs.Groups.{channels_of, groups_of}
 use Rattle.rb_meaning.specs.Meaning.{environment_of, tree_kind}
-use Rattle.rb_meaning.proofs.KnownOfProcess.{Known}
 use Rattle.rb_code.specs.Plain.{Code}
 use Rattle.rb_code.specs.Memory.{cut_held}
 use Rattle.rb_code.specs.Turn.{Common, Copy, Link, Standing, settle as settles, step as steps}
@@ -22,6 +21,7 @@ use Rattle.rb_code.proofs.WholeRuns.KeptTurns.{LeadTo, turn_kept}
 use Rattle.rb_code.proofs.WholeRuns.HeldLines.{cut_back, grow_front, grow_get, grow_longer, grow_more, grow_take}
 use Rattle.rb_code.proofs.WholeRuns.Pairs.{Pairs, pairs_front, pairs_get, pairs_more, pairs_take}
 use Rattle.rb_code.proofs.WholeRuns.StepsFollow.{Follows, held_follows, went_follows}
+use Rattle.rb_code.proofs.WholeRuns.PointsLie.{LiesWell}
 use Rattle.rb_code.proofs.WholeRuns.TurnsInTime.{AreInTime}
 use Rattle.rb_code.proofs.WholeRuns.Agreeing.{Meeting, BothHeld, BothWent, IsAgreeing, MayStep, StepsAgree, accepted_touched, cut_touched, kept_last}
 use Rattle.rb_code.proofs.WholeRuns.MachineSteps.{IsSameProcess, LeavesLinks, settle_at_rest, settle_same, step_leaves}
@@ -43,7 +43,7 @@ read_slot_then tree memory s copy channel n = slot_of (channels_of tree) memory.
 
 -- what is known in a turn: of the process, of kept turns, and by reading, of messages
 pub record IsKnown (tree : Tree) (reading : Knowing State State (Nothing × Slots)) (t p : ℕ) (q : Process State State) (w : SlotWorld) : Type 0 where
-  pub known : Known tree p q
+  pub known : LiesWell tree p q
   pub in_time : AreInTime t (bare w)
   pub readable : reading t p q w
 
@@ -156,7 +156,7 @@ module _ (tree : Tree) (c : Code) (meets : Meeting) (laws : IsAgreeing tree c me
     steps_meet alternate (Held s) (Held v) follows leaves slots agree = both_held alternate s v follows leaves agree slots
 
     -- an entry
-    enters_meet : (facts : Facts) → Known tree p q → q.status ≡ Running → q.at_line ≡ false → wants_first tree q.state.items ≡ Enters facts → w.memory.1 ≡ n.slots
+    enters_meet : (facts : Facts) → LiesWell tree p q → q.status ≡ Running → q.at_line ≡ false → wants_first tree q.state.items ≡ Enters facts → w.memory.1 ≡ n.slots
         → let x = with_kept (q.state.kept ++ (t, 0) ∷ []) (enter q.state) in
         let v = kept_last t (entered_at u) in
         StillMeets SameSlots (Agreed meets) p w n false w.memory (record n { links = link_of 0 (entered_at u) ∷ n.links })
