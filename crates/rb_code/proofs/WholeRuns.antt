@@ -16,3 +16,5 @@ pub mod WhatIsKnown
 pub mod Openings
 pub mod EndsAgree
 pub mod RunsAgree
+-- One process.
+pub mod OwnMail
