@@ -18,3 +18,4 @@ pub mod EndsAgree
 pub mod RunsAgree
 -- One process.
 pub mod OwnMail
+pub mod WantsAgree
