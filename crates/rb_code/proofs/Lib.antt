@@ -16,3 +16,4 @@ pub mod Environments
 pub mod Pushed
 pub mod Settles
 pub mod Took
+pub mod Stores
