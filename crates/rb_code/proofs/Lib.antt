@@ -17,3 +17,4 @@ pub mod Pushed
 pub mod Settles
 pub mod Took
 pub mod Stores
+pub mod Assignments
