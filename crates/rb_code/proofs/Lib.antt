@@ -18,3 +18,4 @@ pub mod Settles
 pub mod Took
 pub mod Stores
 pub mod Assignments
+pub mod BlocksBegin
