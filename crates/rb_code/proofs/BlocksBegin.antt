@@ -62,7 +62,7 @@ not_full front most all w e l h = grind (arith, nat_tests)
 
 module _ (c : Code) (see : Sight) where
   -- the words of a frame are pushed, or there are too many
-  frame_leads : (n a d w : ℕ) (m : Memory) → FrameCode n c a d → length m.words + n ≡ variables_place (here c see) + w
+  pub frame_leads : (n a d w : ℕ) (m : Memory) → FrameCode n c a d → length m.words + n ≡ variables_place (here c see) + w
       → nat_lt (most_words c.edition) w ≡ false → Leads c see a [] m d [] (framed n m)
   frame_leads zero a d w m code e h =
       subst (λ ws. Leads c see a [] m d [] (with_words ws m)) (sym (append-nil m.words)) (subst (λ x. Leads c see a [] m x [] m) (sym code) (stays c see a [] m))
@@ -71,7 +71,7 @@ module _ (c : Code) (see : Sight) where
       (ap (λ b. cond b (Going (a + 1) [] (framed (suc n) m)) (Trapped Stack))
         (fits (variables_place (here c see)) (most_words c.edition) (length m.words) (suc n) w e h))
 
-  frame_traps : (n a d w : ℕ) (m : Memory) → FrameCode n c a d → length m.words + n ≡ variables_place (here c see) + w
+  pub frame_traps : (n a d w : ℕ) (m : Memory) → FrameCode n c a d → length m.words + n ≡ variables_place (here c see) + w
       → length m.words ≤ variables_place (here c see) + most_words c.edition → nat_lt (most_words c.edition) w ≡ true → EndsIn c see a [] m (Trapped Stack)
   frame_traps zero a d w m code e l h = absurd (not_full (variables_place (here c see)) (most_words c.edition) (length m.words) w e l h)
   frame_traps (suc n) a d w m code e l h =

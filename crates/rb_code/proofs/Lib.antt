@@ -19,3 +19,4 @@ pub mod Took
 pub mod Stores
 pub mod Assignments
 pub mod BlocksBegin
+pub mod Blocks
