@@ -20,3 +20,4 @@ pub mod Stores
 pub mod Assignments
 pub mod BlocksBegin
 pub mod Blocks
+pub mod Branches
