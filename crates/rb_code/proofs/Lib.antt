@@ -21,3 +21,4 @@ pub mod Assignments
 pub mod BlocksBegin
 pub mod Blocks
 pub mod Branches
+pub mod Fronts
