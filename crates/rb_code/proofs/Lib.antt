@@ -22,3 +22,4 @@ pub mod BlocksBegin
 pub mod Blocks
 pub mod Branches
 pub mod Fronts
+pub mod Printing
