@@ -16,4 +16,11 @@ pub mod Environments
 pub mod Pushed
 pub mod Settles
 pub mod Took
+pub mod Stores
+pub mod Assignments
+pub mod BlocksBegin
+pub mod Blocks
+pub mod Branches
+pub mod Fronts
+pub mod Printing
 pub mod WholeRuns
