@@ -19,3 +19,6 @@ pub mod RunsAgree
 -- One process.
 pub mod OwnMail
 pub mod WantsAgree
+pub mod StandTogether
+pub mod WordsOfStates
+pub mod TogetherAgrees
