@@ -22,3 +22,4 @@ pub mod WantsAgree
 pub mod StandTogether
 pub mod WordsOfStates
 pub mod TogetherAgrees
+pub mod TogetherChanges

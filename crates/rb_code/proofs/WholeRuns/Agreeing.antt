@@ -107,9 +107,9 @@ pub record IsAgreeing (tree : Tree) (c : Code) (meets : Meeting) : Type 0 where
       → let x = with_kept kept (enter q.state) in
       let y = kept_last t (entered_at u) in
       meets false (copies_of q.levels ++ x ∷ []) x (ds ++ copied y ∷ []) y
-  pub leave : (cs : List State) (s : State) (ds : List Copy) (u : Standing) → meets true cs s ds u
+  pub leave : (cs : List State) (s : State) (ds : List Copy) (u : Standing) → u.held ≡ s.held → meets true cs s ds u
       → meets false (without_last cs) (settle s) (without_last ds) (settles c (last_of (without_last ds)) (accepted_touched u))
-  pub leave_lines : (cs : List State) (s : State) (ds : List Copy) (u : Standing) → meets true cs s ds u
+  pub leave_lines : (cs : List State) (s : State) (ds : List Copy) (u : Standing) → u.held ≡ s.held → meets true cs s ds u
       → (settles c (last_of (without_last ds)) (accepted_touched u)).held ≡ u.held
   -- without a level held lines are released
   pub release : (line : Bool) (s : State) (u : Standing) → meets line [] s [] u → meets line [] (with_held [] s) [] (released u)

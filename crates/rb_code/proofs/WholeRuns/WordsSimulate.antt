@@ -186,8 +186,8 @@ module _ (tree : Tree) (c : Code) (meets : Meeting) (laws : IsAgreeing tree c me
       let same : IsSameProcess (accepted_touched u) (settles c (last_of (without_last ds)) (accepted_touched u)) =
       settle_same c (last_of (without_last ds)) (accepted_touched u) in
       record {
-        they_meet = laws.leave cs s ds u both.they_meet;
-        lines = laws.leave_lines cs s ds u both.they_meet ∙ both.lines;
+        they_meet = laws.leave cs s ds u both.lines both.they_meet;
+        lines = laws.leave_lines cs s ds u both.lines both.they_meet ∙ both.lines;
         grow = grow_front cs s.held both.grow;
         kept = subst (λ (last : ℕ). LeadTo links last s.kept) (sym same.last_kept) both.kept;
         kept_then = pairs_front (CopyKept links) cs ds both.kept_then;
