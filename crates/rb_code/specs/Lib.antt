@@ -13,4 +13,5 @@ pub mod Forms
 pub mod StandsFor
 pub mod Sound
 pub mod Safe
+pub mod Stands
 pub mod Laws
