@@ -1,1 +1,4 @@
 -- Lemmas of code.
+pub mod Digits
+pub mod OpenLoops
+pub mod LoopSteps
