@@ -2,3 +2,6 @@
 pub mod Digits
 pub mod OpenLoops
 pub mod LoopSteps
+pub mod Weaker
+pub mod OpenLevels
+pub mod Needs
