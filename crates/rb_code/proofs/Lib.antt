@@ -5,3 +5,4 @@ pub mod LoopSteps
 pub mod Weaker
 pub mod OpenLevels
 pub mod Needs
+pub mod Progress

@@ -114,3 +114,15 @@ began_here a [] e = tt
 began_here a (x ∷ loops) e =
     let h = none_left (is_in a) x loops e in
     (let p = leb-true x.first a (and_parts (nat_le x.first a) (nat_le a x.last) h.0).0 in omega arith, began_here a loops h.1)
+
+-- loops are as they were where the counters are
+pub same_fit : (m later : Memory) (loops : List Loop) → later.counters ≡ m.counters → LoopsFit m loops → LoopsFit later loops
+same_fit m later [] e h = tt
+same_fit m later (x ∷ loops) e (low, count, own, after, rest) =
+    (low, subst (λ cs. Counts (unwrap_or (slice_get cs x.counter) None)) (sym e) count, own, after, same_fit m later loops e rest)
+
+pub same_open : (m later : Memory) (loops : List Loop) → later.counters ≡ m.counters → open_loops later loops ≡ open_loops m loops
+same_open m later [] e = refl
+same_open m later (x ∷ loops) e =
+    ap (λ others. others ++ (x.first, times_left (counter_at x.counter later)) ∷ []) (same_open m later loops e)
+    ∙ ap (λ cs. open_loops m loops ++ (x.first, times_left (unwrap_or (slice_get cs x.counter) None)) ∷ []) e
