@@ -6,3 +6,8 @@ pub mod Weaker
 pub mod OpenLevels
 pub mod Needs
 pub mod Progress
+pub mod PlainSteps
+pub mod ChangingSteps
+pub mod CallSteps
+pub mod CounterSteps
+pub mod Steps

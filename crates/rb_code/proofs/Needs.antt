@@ -41,7 +41,7 @@ of_top A [] P h = absurd h
 of_top A (o ∷ os) P h = h.0
 
 -- a counter of an open loop is there
-set_there : (m : Memory) (k : ℕ) (loops : List Loop) → IsSet k loops → LoopsFit m loops → IsThere (counter_at k m)
+pub set_there : (m : Memory) (k : ℕ) (loops : List Loop) → IsSet k loops → LoopsFit m loops → IsThere (counter_at k m)
 set_there m k [] s h = absurd s
 set_there m k (loop ∷ around) (inl e) h = subst (λ j. IsThere (counter_at j m)) e (there (counter_at loop.counter m) h.1)
   where
@@ -50,7 +50,7 @@ set_there m k (loop ∷ around) (inl e) h = subst (λ j. IsThere (counter_at j m
     there (Some v) h = tt
 set_there m k (loop ∷ around) (inr s) h = set_there m k around s h.4
 
-loop_set : (k first last : ℕ) (loops : List Loop) → IsLoop k first last loops → IsSet k loops
+pub loop_set : (k first last : ℕ) (loops : List Loop) → IsLoop k first last loops → IsSet k loops
 loop_set k first last [] h = absurd h
 loop_set k first last (loop ∷ around) h = inl (ap (λ l. l.counter) h)
 

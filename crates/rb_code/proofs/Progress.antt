@@ -74,7 +74,7 @@ module _ (c : Code) (groups : List Membership) (t : Table) (see : Sight) (levels
   abbrev pub Progress : Memory → ℕ → Outcome → Type 0
   Progress m most (Going b operands later) = GoesOn most b operands later
   Progress m most (Stopped b later) = StopsAt b later
-  Progress m most (Accepts b later) = P m × AcceptsAt b later
+  Progress m most (Accepts b later) = P m × P later × AcceptsAt b later
   Progress m most (Trapped cause) = P m
   Progress m most Unfinished = ⊥
 

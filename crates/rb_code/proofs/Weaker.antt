@@ -33,6 +33,14 @@ pub rank_most : (mode : Mode) → rank mode ≤ 1
 rank_most Changed = omega arith
 rank_most mode = omega arith
 
+pub rank_zero : (mode : Mode) → rank mode ≤ 0 → mode ≡ Changed
+rank_zero Changed h = refl
+rank_zero Fresh h = absurd (omega arith)
+rank_zero (MayPut channel) h = absurd (omega arith)
+rank_zero (MayTake channel) h = absurd (omega arith)
+rank_zero Begun h = absurd (omega arith)
+rank_zero Free h = absurd (omega arith)
+
 pub rank_freed : (mode : Mode) → rank (freed mode) ≡ rank mode
 rank_freed Fresh = refl
 rank_freed mode = refl
