@@ -11,3 +11,4 @@ pub mod ChangingSteps
 pub mod CallSteps
 pub mod CounterSteps
 pub mod Steps
+pub mod Channels

@@ -13,5 +13,6 @@ pub mod Forms
 pub mod StandsFor
 pub mod Sound
 pub mod Safe
+pub mod WellFormed
 pub mod Stands
 pub mod Laws
