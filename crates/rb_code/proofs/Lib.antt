@@ -12,3 +12,4 @@ pub mod CallSteps
 pub mod CounterSteps
 pub mod Steps
 pub mod Channels
+pub mod Safety
