@@ -13,3 +13,5 @@ pub mod CounterSteps
 pub mod Steps
 pub mod Channels
 pub mod Safety
+pub mod LastOf
+pub mod StandingSteps

@@ -68,7 +68,7 @@ module _ (c : Code) (groups : List Membership) (t : Table) (see : Sight) (levels
   Finishes (Going b xs later) = ⊥
   Finishes (Stopped b later) = StopsAt c groups t see levels P b later
   Finishes (Accepts b later) = P later × AcceptsAt c groups t see levels P b later
-  Finishes (Trapped cause) = Unit {0}
+  Finishes (Trapped cause) = (later : Memory) × P later
   Finishes Unfinished = ⊥
 
   then_finishes : (n most : ℕ) (m : Memory) (o : Outcome) → most < suc n → Progress c groups t see levels P m most o
@@ -76,7 +76,7 @@ module _ (c : Code) (groups : List Membership) (t : Table) (see : Sight) (levels
   then_finishes n most m (Going b xs later) lt p next = next b p.entry xs later p.there p.fits p.clean (let d = p.less in omega arith)
   then_finishes n most m (Stopped b later) lt p next = p
   then_finishes n most m (Accepts b later) lt p next = (p.1, p.2)
-  then_finishes n most m (Trapped cause) lt p next = tt
+  then_finishes n most m (Trapped cause) lt p next = (m, p)
   then_finishes n most m Unfinished lt p next = absurd p
 
   pub finishes : (n : ℕ) → From (λ b xs later. Finishes (execute c see n b xs later)) n

@@ -3,12 +3,14 @@ use Rattle.std.specs.Prelude.{◌≡◌, ◌⊎◌, ℕ, ◌+◌, ◌<◌, ◌�
 use Rattle.rb_base.specs.declared.limits.TheConstants.{MOST_QUANTIFIED}
 use Rattle.rb_meaning.specs.Environment.{natural}
 use Rattle.rb_meaning.specs.Step.{most_calls}
-use Rattle.rb_world.specs.World.{Level}
-use Rattle.rb_cache.specs.Copies.{Level as Touched}
+use Rattle.rb_world.specs.Kind.{Want, NothingLeft, SendsOn, ReceivesOn, MayReceiveOn, Enters, Starts, Acts, Stepped, Trapped, Went, Held}
+use Rattle.rb_world.specs.Turn.{tried_at}
+use Rattle.rb_world.specs.World.{Level, last_of, without_last}
+use Rattle.rb_cache.specs.Copies.{Level as Touched, accepted}
 use Rattle.rb_code.specs.Plain.{Block, Code}
 use Rattle.rb_code.specs.Memory.{Counting, Memory, OpenCall, base_of, body_place, part_of, place_among}
 use Rattle.rb_code.specs.Act.{Sight, alternate_address, counter_at, here}
-use Rattle.rb_code.specs.Turn.{Copy, Standing, block_facts}
+use Rattle.rb_code.specs.Turn.{Common, Copy, Standing, block_facts}
 use Rattle.rb_code.specs.Sound.{Entry, IsSet, Loop, Mode, Fresh, MayPut, MayTake, Begun, Free, Changed, OpenBlock, Table, Within}
 use Rattle.rb_code.specs.Safe.{IsThere}
 use Rattle.rb_code.specs.declared.instr.Instr.{Instr}
@@ -153,3 +155,22 @@ pub record Settles (c : Code) (t : Table) (s : Standing) (levels : Levels) : Typ
   pub loops_none : entry.loops ≡ []
   pub mode_is : entry.mode ≡ Changed
   pub layout : IsLaidOut c t s.process (reverse levels) entry s.words s.calls s.touched
+
+-- a step gets what the process wants: it is neither done nor enters, a message that it waits for is there, and the alternate that it
+-- starts is that of its innermost level
+abbrev pub Serves : Want → ℕ → Option ℤ → Levels → Type 0
+Serves NothingLeft alternate message levels = ⊥
+Serves (SendsOn channel) alternate message levels = Unit {0}
+Serves (ReceivesOn channel) alternate message levels = IsThere message
+Serves (MayReceiveOn channel) alternate message levels = Unit {0}
+Serves (Enters facts) alternate message levels = ⊥
+Serves Starts alternate message levels = alternate ≡ tried_at (last_of levels)
+Serves Acts alternate message levels = Unit {0}
+
+-- What a step comes to stands: where it went on, with the same levels; and where its acceptance test held it is only at another address,
+-- and settles once its innermost level is accepted.
+abbrev pub StandsAfter : Code → Table → Standing → Levels → Stepped Standing Common → Type 0
+StandsAfter c t s levels (Trapped cause) = Unit {0}
+StandsAfter c t s levels (Went later memory) = Stands c t later levels
+StandsAfter c t s levels (Held later) =
+    (later ≡ record s { at = later.at }) × Settles c t (record later { touched = accepted later.touched }) (without_last levels)
