@@ -53,11 +53,17 @@ module _ (c : Code) (groups : List Membership) (t : Table) (see : Sight) (levels
   comes_back : (o : Option Entry) → e.pieces ≡ 0 → e.loops ≡ [] → Has o (at_address (a + 1) (changed [] e.words e))
       → ReturnsTo o (λ g. (length m.words ≡ base_of (here c see) m.calls + g.words) × BodyFits c t see.process m.calls g.within g.blocks levels)
   comes_back None pieces loops l = absurd l
-  comes_back (Some g) pieces loops l =
-      (weaker_none g.operands l.operands, l.pieces ∙ pieces, l.loops ∙ ap (filter (is_in (a + 1))) loops, weaker_changed g.mode l.mode,
-        (fits.layout.words_are ∙ ap (λ n. base_of (here c see) m.calls + n) (sym l.words),
-          subst (λ blocks. BodyFits c t see.process m.calls g.within blocks levels) (sym l.blocks)
-          (subst (λ within. BodyFits c t see.process m.calls within e.blocks levels) (sym l.within) fits.layout.body)))
+  comes_back (Some g) pieces loops l = (
+    weaker_none g.operands l.operands,
+    l.pieces ∙ pieces,
+    l.loops ∙ ap (filter (is_in (a + 1))) loops,
+    weaker_changed g.mode l.mode,
+    (
+      fits.layout.words_are ∙ ap (λ n. base_of (here c see) m.calls + n) (sym l.words),
+      subst (λ blocks. BodyFits c t see.process m.calls g.within blocks levels) (sym l.blocks)
+          (subst (λ within. BodyFits c t see.process m.calls within e.blocks levels) (sym l.within) fits.layout.body),
+    ),
+  )
 
   opens_call : (b p n : ℕ) → Fine c groups t (Call b p n) a e → length m.calls < most_calls → (o : Option Entry) → t b ≡ o
       → BeginsAs o e.within.process (p + n) → Goes (Going b (below p operands) (called (a + 1) (arguments p operands) n m))
@@ -65,14 +71,14 @@ module _ (c : Code) (groups : List Membership) (t : Table) (see : Sight) (levels
   opens_call b p n fine few (Some g) q h =
       let later = called (a + 1) (arguments p operands) n m in
       let start : Entry = record {
-            within = record { process = e.within.process; main = false };
-            operands = [];
-            words = p + n;
-            blocks = [];
-            loops = [];
-            pieces = 0;
-            mode = Changed;
-          } in
+        within = record { process = e.within.process; main = false };
+        operands = [];
+        words = p + n;
+        blocks = [];
+        loops = [];
+        pieces = 0;
+        mode = Changed;
+      } in
       let args = arguments_long e.operands operands p fits.operands_fit fine.1 in
       let one : rank e.mode ≡ 1 = may_trap e.mode fine.0 in
       record {
@@ -82,11 +88,14 @@ module _ (c : Code) (groups : List Membership) (t : Table) (see : Sight) (levels
           operands_fit = subst (λ xs. OperandsFit [] xs) (sym (none_below e.operands operands p fits.operands_fit fine.1)) tt;
           layout = record {
             words_are = length-append m.words (arguments p operands ++ replicate n (pos 0))
-              ∙ ap (λ k. length m.words + k)
+                ∙ ap (λ k. length m.words + k)
                 (length-append (arguments p operands) (replicate n (pos 0)) ∙ (let r = length-replicate n (pos 0) in omega arith));
             calls_few = few;
-            body = (ap (λ process. record { process = process; main = false })
-              (body_process c t see.process m.calls e.within e.blocks levels fits.layout.body), comes_back (t (a + 1)) fine.2 fine.3 fine.6);
+            body = (
+              ap (λ process. record { process = process; main = false })
+                  (body_process c t see.process m.calls e.within e.blocks levels fits.layout.body),
+              comes_back (t (a + 1)) fine.2 fine.3 fine.6,
+            );
             heights = fits.layout.heights;
           };
           pieces_are = fits.pieces_are ∙ fine.2;
@@ -95,7 +104,7 @@ module _ (c : Code) (groups : List Membership) (t : Table) (see : Sight) (levels
           mode_fits = tt;
         };
         less = high_falls (2 * rank e.mode + length m.calls) (2 * 0 + length later.calls) (places c groups t see levels P)
-          (left_at (length c.instrs) m e.loops a) (distance c groups t see levels P later [] b) (omega arith) (in_body later [] b tt);
+            (left_at (length c.instrs) m e.loops a) (distance c groups t see levels P later [] b) (omega arith) (in_body later [] b tt);
         clean = λ k. absurd (omega arith);
       }
 
@@ -106,8 +115,8 @@ module _ (c : Code) (groups : List Membership) (t : Table) (see : Sight) (levels
       let goes = cond (has_words_for c (here c see) (length m.words + (p + n))) (Going b (below p operands) later) (Trapped Stack) in
       cond_goes c groups t see levels P m _ (nat_le most_calls (length m.calls)) (Trapped Calls) goes (λ q. same)
       (λ q. cond_goes c groups t see levels P m _ (has_words_for c (here c see) (length m.words + (p + n)))
-        (Going b (below p operands) later) (Trapped Stack)
-        (λ k. opens_call b p n fine (leb-false most_calls (length m.calls) q) (t b) refl fine.5) (λ k. same))
+      (Going b (below p operands) later) (Trapped Stack)
+      (λ k. opens_call b p n fine (leb-false most_calls (length m.calls) q) (t b) refl fine.5) (λ k. same))
 
   -- back to where the call came from
   goes_back : (call : OpenCall) (calls : List OpenCall) → length (call ∷ calls) ≡ length m.calls → call.base ≤ length m.words
@@ -137,8 +146,8 @@ module _ (c : Code) (groups : List Membership) (t : Table) (see : Sight) (levels
           mode_fits = subst (ModeFits c see call.back) (sym h.3) tt;
         };
         less = high_falls (2 * rank e.mode + length m.calls) (2 * rank g.mode + length later.calls) (places c groups t see levels P)
-          (left_at (length c.instrs) m e.loops a) (distance c groups t see levels P later g.loops call.back) (omega arith)
-          (in_body later g.loops call.back fit);
+            (left_at (length c.instrs) m e.loops a) (distance c groups t see levels P later g.loops call.back) (omega arith)
+            (in_body later g.loops call.back fit);
         clean = λ k. absurd (omega arith);
       }
 
@@ -151,8 +160,8 @@ module _ (c : Code) (groups : List Membership) (t : Table) (see : Sight) (levels
   returns (call ∷ calls) same words body fine =
       goes_back call calls same (omega arith) (subst (λ os. OperandsFit os operands) fine.1 fits.operands_fit) fine.2 (t call.back) refl
       (subst (λ bs. LevelsFit c t e.within call.base (call ∷ calls) bs levels (λ others.
-        ReturnsTo (t call.back) (λ g. (call.base ≡ base_of (here c see) calls + g.words) × BodyFits c t see.process calls g.within g.blocks others)))
-        fine.3 body.1)
+      ReturnsTo (t call.back) (λ g. (call.base ≡ base_of (here c see) calls + g.words) × BodyFits c t see.process calls g.within g.blocks others)))
+      fine.3 body.1)
 
   pub return_goes : Fine c groups t Return a e → Goes (act c see Return a operands m)
   return_goes fine = returns m.calls refl fits.layout.words_are fits.layout.body fine

@@ -31,8 +31,13 @@ module _ (c : Code) (groups : List Membership) (t : Table) (see : Sight) (levels
   writes : (os : List (Option ℕ)) (xs : List ℤ) (at : ℕ) (x : ℤ) (k : ℕ) (hs : List (List ℕ)) (ss : Slots) (ps : List (List ℕ))
       → LeadsTo c groups t (a + 1) (record e { operands = os; words = e.words; pieces = k; mode = Changed }) → OperandsFit os xs
       → length ps ≡ k
-      → Goes (Going (a + 1) xs (record m { words = slice_set m.words at x; touched = change_last (joined (at ∷ [])) m.touched; held = hs;
-        slots = ss; pieces = ps }))
+      → Goes (Going (a + 1) xs (record m {
+        words = slice_set m.words at x;
+        touched = change_last (joined (at ∷ [])) m.touched;
+        held = hs;
+        slots = ss;
+        pieces = ps;
+      }))
   writes os xs at x k hs ss ps leads fit pieces =
       changes c groups t see levels P a e operands m in_code fits began os e.words k xs (slice_set m.words at x)
       (change_last (joined (at ∷ [])) m.touched) hs ss ps leads fit (length-set m.words at x ∙ fits.layout.words_are)
@@ -78,9 +83,9 @@ module _ (c : Code) (groups : List Membership) (t : Table) (see : Sight) (levels
       cond_goes c groups t see levels P m _ (has_words_for c (here c see) (length m.words + n)) (Going (a + 1) operands (framed n m))
       (Trapped Stack)
       (λ q. changes c groups t see levels P a e operands m in_code fits began e.operands (e.words + n) e.pieces operands
-        (m.words ++ replicate n (pos 0)) m.touched m.held m.slots m.pieces fine.1 fits.operands_fit
-        (let r = length-replicate n (pos 0) in let w = fits.layout.words_are in omega (arith, length-append m.words (replicate n (pos 0))))
-        refl fits.pieces_are)
+      (m.words ++ replicate n (pos 0)) m.touched m.held m.slots m.pieces fine.1 fits.operands_fit
+      (let r = length-replicate n (pos 0) in let w = fits.layout.words_are in omega (arith, length-append m.words (replicate n (pos 0))))
+      refl fits.pieces_are)
       (λ q. clean (may_frame e.mode fine.0))
 
   pub drop_goes : (n : ℕ) → Fine c groups t (Drop n) a e → Goes (act c see (Drop n) a operands m)
@@ -88,37 +93,37 @@ module _ (c : Code) (groups : List Membership) (t : Table) (see : Sight) (levels
       changes c groups t see levels P a e operands m in_code fits began e.operands (e.words - n) e.pieces operands
       (take (length m.words - n) m.words) m.touched m.held m.slots m.pieces fine.2 fits.operands_fit
       (let w = fits.layout.words_are in
-        let k = fine.0 in
-        length-take-le (length m.words - n) m.words (omega arith) ∙ omega arith)
+      let k = fine.0 in
+      length-take-le (length m.words - n) m.words (omega arith) ∙ omega arith)
       refl fits.pieces_are
 
   -- the level of a block whose test held may go
   accepts : (b : ℕ) (blocks : List OpenBlock) → e.blocks ≡ blocks → e.loops ≡ [] → e.pieces ≡ 0
       → InnermostIs blocks (λ block around. (block.number ≡ b) × (block.words ≡ e.words)
-        × LeadsTo c groups t (a + 1) (record (changed [] e.words e) { blocks = around }))
+      × LeadsTo c groups t (a + 1) (record (changed [] e.words e) { blocks = around }))
       → AcceptsAt c groups t see levels P (a + 1) m
   accepts b [] q loops pieces h = absurd h
   accepts b (block ∷ around) q loops pieces h =
       let i = innermost c t see.process m.calls e.within block around levels
-            (subst (λ bs. BodyFits c t see.process m.calls e.within bs levels) q fits.layout.body) in
+      (subst (λ bs. BodyFits c t see.process m.calls e.within bs levels) q fits.layout.body) in
       let e1 : Entry = at_address (a + 1) (record (changed [] e.words e) { blocks = around }) in
       let none : e1.loops ≡ [] = ap (λ loops. filter (is_in (a + 1)) loops) loops in
       let later : Memory = record m { touched = accepted m.touched; pieces = []; counters = None ∷ None ∷ [] } in
       let fit : Fits c t see i.others (a + 1) e1 [] later = record {
-            operands_fit = tt;
-            layout = record {
-              words_are = fits.layout.words_are;
-              calls_few = fits.layout.calls_few;
-              body = i.body;
-              heights = heights-accepted m.touched (reverse (map height_of i.others)) (height_of i.level)
-                (fits.layout.heights ∙ (ap (λ ls. reverse (map height_of ls)) i.levels_are
-                ∙ reverse-append (height_of i.level ∷ []) (map height_of i.others)));
-            };
-            pieces_are = sym pieces;
-            counters_two = refl;
-            loops_fit = subst (LoopsFit later) (sym none) tt;
-            mode_fits = tt;
-          } in
+        operands_fit = tt;
+        layout = record {
+          words_are = fits.layout.words_are;
+          calls_few = fits.layout.calls_few;
+          body = i.body;
+          heights = heights-accepted m.touched (reverse (map height_of i.others)) (height_of i.level)
+              (fits.layout.heights ∙ (ap (λ ls. reverse (map height_of ls)) i.levels_are
+              ∙ reverse-append (height_of i.level ∷ []) (map height_of i.others)));
+        };
+        pieces_are = sym pieces;
+        counters_two = refl;
+        loops_fit = subst (LoopsFit later) (sym none) tt;
+        mode_fits = tt;
+      } in
       let x = arrives c t see i.others (a + 1) e1 [] later h.2 fit in
       record {
         level = i.level;
@@ -142,5 +147,5 @@ module _ (c : Code) (groups : List Membership) (t : Table) (see : Sight) (levels
       top_goes c groups t see levels P m _ e.operands operands _ (λ x rest. cond (is_zero x) (Trapped TestCause) (Accepts (a + 1) m)) fine.3
       fits.operands_fit
       (λ o os x rest q h1 h2. cond_goes c groups t see levels P m _ (is_zero x) (Trapped TestCause) (Accepts (a + 1) m)
-        (λ z. clean (may_trap e.mode fine.0))
-        (λ z. (clean (may_trap e.mode fine.0), clean (may_trap e.mode fine.0), accepts b e.blocks refl fine.2 fine.1 q.1)))
+      (λ z. clean (may_trap e.mode fine.0))
+      (λ z. (clean (may_trap e.mode fine.0), clean (may_trap e.mode fine.0), accepts b e.blocks refl fine.2 fine.1 q.1)))

@@ -52,7 +52,7 @@ module _ (c : Code) (lists : ListsChannels c) (p : ℕ) (exists : IsThere (slice
       by (Some part) q k =
           subst (λ o. IsAmong channel (unwrap_or o no_part).channels) (sym q)
           (subst (IsAmong channel) (sym (lists p part q)) (subst (λ x. IsAmong x (channels_from p 0 c.channels)) (omega arith)
-            (among_from p 0 channel c.channels h)))
+          (among_from p 0 channel c.channels h)))
 
   sender_end : (o : Option Ends) → IsSender o p → IsEnd o p
   sender_end None h = absurd h

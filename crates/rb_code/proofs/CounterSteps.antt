@@ -26,8 +26,10 @@ span_few x y n e = by (int_lt y x) (nat_lt MOST_QUANTIFIED (natural (y -ℤ x) +
   where
     none : {A : Type 0} → (r s : Result ℕ Cause) (k : ℕ) → r ≡ Ok 0 → r ≡ Ok (suc k) → A
     none r s k e f = absurd (let g : 0 ≡ suc k = cc in omega arith)
+
     wrong : {A : Type 0} → (r : Result ℕ Cause) (k : ℕ) → r ≡ Err RangeCause → r ≡ Ok k → A
     wrong r k e f = absurd (let g : ⊥ = cc in g)
+
     by : (b d : Bool) → nat_lt MOST_QUANTIFIED (natural (y -ℤ x) + 1) ≡ d
         → cond b (Ok 0) (cond d (Err RangeCause) (Ok (natural (y -ℤ x) + 1))) ≡ Ok (suc n) → natural (y -ℤ x) < MOST_QUANTIFIED
     by true d q e = none (Ok 0) (Ok 0) n refl e
@@ -51,18 +53,18 @@ module _ (c : Code) (groups : List Membership) (t : Table) (see : Sight) (levels
       let later = counting k v m in
       let e1 = at_address b (record (with_operands os e) { loops = loops }) in
       let stands : Fits c t see levels b e1 xs later = record {
-            operands_fit = fit;
-            layout = record {
-              words_are = fits.layout.words_are;
-              calls_few = fits.layout.calls_few;
-              body = fits.layout.body;
-              heights = fits.layout.heights;
-            };
-            pieces_are = fits.pieces_are;
-            counters_two = length-set m.counters k v ∙ fits.counters_two;
-            loops_fit = loops_fit;
-            mode_fits = mode_freed c see a b e.mode fits.mode_fits;
-          } in
+        operands_fit = fit;
+        layout = record {
+          words_are = fits.layout.words_are;
+          calls_few = fits.layout.calls_few;
+          body = fits.layout.body;
+          heights = fits.layout.heights;
+        };
+        pieces_are = fits.pieces_are;
+        counters_two = length-set m.counters k v ∙ fits.counters_two;
+        loops_fit = loops_fit;
+        mode_fits = mode_freed c see a b e.mode fits.mode_fits;
+      } in
       goes_on c groups t see levels P a e operands m in_code fits began b e1 xs later leads stands
       (let r = rank_freed e.mode in omega arith) refl
       (let most = left_from_most (slice_get c.instrs b) (left_at (length c.instrs) later (filter (is_in b) loops) b) in omega arith)
@@ -78,13 +80,13 @@ module _ (c : Code) (groups : List Membership) (t : Table) (see : Sight) (levels
       let loop : Loop = record { counter = k; first = a + 1; last = last } in
       counts (a + 1) k (Some v) os xs (loop ∷ e.loops) leads fit
       (fit_less (is_in (a + 1)) (counting k (Some v) m) (loop ∷ e.loops)
-        (innermost_fits (length c.instrs) m k v fits.counters_two low loop e.loops refl few unset began fits.loops_fit))
+      (innermost_fits (length c.instrs) m k v fits.counters_two low loop e.loops refl few unset began fits.loops_fit))
       (begins (length c.instrs) m k v fits.counters_two low loop e.loops a refl refl behind few unset fits.loops_fit began in_code)
 
   ranges : (k b : ℕ) (x y : ℤ) (ps : List (Option ℕ)) (xs : List ℤ) (n : ℕ) → span x y ≡ Ok n → k < 2 → (IsSet k e.loops → ⊥)
       → IsAhead c groups t a b × LeadsTo c groups t b (with_operands ps e)
-        × ((last : ℕ) × (slice_get c.instrs last ≡ Some (Again k (a + 1))) × (a < last)
-        × LeadsTo c groups t (a + 1) (record (with_operands ps e) { loops = record { counter = k; first = a + 1; last = last } ∷ e.loops }))
+      × ((last : ℕ) × (slice_get c.instrs last ≡ Some (Again k (a + 1))) × (a < last)
+      × LeadsTo c groups t (a + 1) (record (with_operands ps e) { loops = record { counter = k; first = a + 1; last = last } ∷ e.loops }))
       → OperandsFit ps xs → Goes (ranged k b (a + 1) x y xs m n)
   ranges k b x y ps xs zero q low unset h fit =
       onward c groups t see levels P a e operands m in_code fits began clean b ps xs h.0 h.1 fit
@@ -96,7 +98,7 @@ module _ (c : Code) (groups : List Membership) (t : Table) (see : Sight) (levels
       two_go c groups t see levels P m _ e.operands operands _ (λ y x rest. or_trap (span x y) (ranged k b (a + 1) x y rest m)) fine.3
       fits.operands_fit
       (λ o os p ps y x rest h h1 h2. or_trap_goes c groups t see levels P m _ (span x y) (ranged k b (a + 1) x y rest m)
-        (clean (may_trap e.mode fine.0)) (λ n q. ranges k b x y ps rest n q fine.1 fine.2 h h2))
+      (clean (may_trap e.mode fine.0)) (λ n q. ranges k b x y ps rest n q fine.1 fine.2 h h2))
 
   -- at the end of a loop it goes back, or on
   again_in : (k b : ℕ) (around : List Loop) (v : Counting) → e.loops ≡ record { counter = k; first = b; last = a } ∷ around
@@ -105,10 +107,13 @@ module _ (c : Code) (groups : List Membership) (t : Table) (see : Sight) (levels
     where
       loop : Loop
       loop = record { counter = k; first = b; last = a }
+
       fit : LoopsFit m (loop ∷ around)
       fit = subst (LoopsFit m) is fits.loops_fit
+
       after : Counting
       after = record { now = v.now +ℤ pos 1; end = v.end }
+
       by : (d : Bool) → int_lt v.now v.end ≡ d
           → Goes (cond d (Going b operands (counting k (Some after) m)) (Going (a + 1) operands (counting k None m)))
       by true q =
@@ -117,14 +122,14 @@ module _ (c : Code) (groups : List Membership) (t : Table) (see : Sight) (levels
           let few : Counts (Some after) = let l = nearer v.now v.end q in omega arith in
           counts b k (Some after) e.operands operands e.loops fine.2 fits.operands_fit
           (fit_less (is_in b) (counting k (Some after) m) e.loops (subst (LoopsFit (counting k (Some after) m)) (sym is)
-            (innermost_fits (length c.instrs) m k after fits.counters_two fit.0 loop around refl few fit.2 fit.3 fit.4)))
+          (innermost_fits (length c.instrs) m k after fits.counters_two fit.0 loop around refl few fit.2 fit.3 fit.4)))
           (subst (λ ls. left_at (length c.instrs) (counting k (Some after) m) (filter (is_in b) ls) b < left_at (length c.instrs) m ls a)
-            (sym is) (goes_back (length c.instrs) m k after fits.counters_two fit.0 loop around a refl fit fine.0 (let l = fine.0 in omega arith) less))
+          (sym is) (goes_back (length c.instrs) m k after fits.counters_two fit.0 loop around a refl fit fine.0 (let l = fine.0 in omega arith) less))
       by false q =
           counts (a + 1) k None e.operands operands e.loops fine.3 fits.operands_fit
           (subst (λ ls. LoopsFit (counting k None m) (filter (is_in (a + 1)) ls)) (sym is) (ended_fits m k loop around a refl refl fit))
           (subst (λ ls. left_at (length c.instrs) (counting k None m) (filter (is_in (a + 1)) ls) (a + 1) < left_at (length c.instrs) m ls a)
-            (sym is) (ends (length c.instrs) m k loop around a refl refl fit (subst (BeganBefore (a + 1)) is began) in_code))
+          (sym is) (ends (length c.instrs) m k loop around a refl refl fit (subst (BeganBefore (a + 1)) is began) in_code))
 
   pub again_goes : (k b : ℕ) → IsThere (counter_at k m) → Fine c groups t (Again k b) a e → Goes (act c see (Again k b) a operands m)
   again_goes k b set fine =

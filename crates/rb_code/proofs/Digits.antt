@@ -52,7 +52,7 @@ module _ (n most : ℕ) where
     bounded zero (x ∷ loops) a few = absurd few
     bounded (suc d) (x ∷ loops) a few =
         let r = high_falls (n + 1) (n - x.0) (worth (suc d)) 0 (x.1 * ((n + 1) * worth d) + left d loops a) (omega arith)
-              (inside d x.1 (left d loops a) few.0 (bounded d loops a few.1)) in
+        (inside d x.1 (left d loops a) few.0 (bounded d loops a few.1)) in
         omega arith
 
     -- on to a higher address, with the same loops open
@@ -68,7 +68,7 @@ module _ (n most : ℕ) where
     opens zero [] a b r few more lt in_code = absurd more
     opens (suc d) [] a b r few more lt in_code =
         let h = high_falls (n - a) (n - b) (worth (suc d)) 0 (r * ((n + 1) * worth d) + left d [] b) (omega arith)
-              (inside d r (left d [] b) more.0 (bounded d [] b tt)) in
+        (inside d r (left d [] b) more.0 (bounded d [] b tt)) in
         omega arith
     opens zero (x ∷ loops) a b r few more lt in_code = absurd few
     opens (suc d) (x ∷ loops) a b r few more lt in_code = let h = opens d loops a b r few.1 more.1 lt in_code in omega arith
@@ -99,7 +99,7 @@ module _ (n most : ℕ) where
     leaves (suc d) [] others x inner a b few more lt in_code =
         let h = rest_bounded d others b more in
         let m : suc (n - begun_at others b) * worth (suc d) ≤ (n - x.0) * worth (suc d) =
-              mul-le-mul_right (worth (suc d)) (omega arith) in
+        mul-le-mul_right (worth (suc d)) (omega arith) in
         omega arith
     leaves zero (y ∷ loops) others x inner a b few more lt in_code = absurd few
     leaves (suc d) (y ∷ loops) others x inner a b few more lt in_code =

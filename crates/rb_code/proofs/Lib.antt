@@ -15,3 +15,4 @@ pub mod Channels
 pub mod Safety
 pub mod LastOf
 pub mod StandingSteps
+pub mod SoundSteps

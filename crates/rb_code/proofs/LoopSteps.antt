@@ -28,15 +28,19 @@ pub loops_other : (k : ℕ) (v : Option Counting) (m : Memory) (loops : List Loo
 loops_other k v m [] unset = refl
 loops_other k v m (x ∷ loops) unset =
     ap (λ others. others ++ (x.first, times_left (counter_at x.counter (counting k v m))) ∷ [])
-      (loops_other k v m loops (λ s. unset (inr s)))
+    (loops_other k v m loops (λ s. unset (inr s)))
     ∙ ap (λ o. open_loops m loops ++ (x.first, times_left o) ∷ []) (counter_other x.counter k v m (λ e. unset (inl e)))
 
 pub fit_other : (k : ℕ) (v : Option Counting) (m : Memory) (loops : List Loop) → (IsSet k loops → ⊥) → LoopsFit m loops
     → LoopsFit (counting k v m) loops
 fit_other k v m [] unset h = tt
-fit_other k v m (x ∷ loops) unset (low, count, own, after, rest) =
-    (low, subst Counts (sym (counter_other x.counter k v m (λ e. unset (inl e)))) count, own, after,
-      fit_other k v m loops (λ s. unset (inr s)) rest)
+fit_other k v m (x ∷ loops) unset (low, count, own, after, rest) = (
+  low,
+  subst Counts (sym (counter_other x.counter k v m (λ e. unset (inl e)))) count,
+  own,
+  after,
+  fit_other k v m loops (λ s. unset (inr s)) rest,
+)
 
 module _ (n : ℕ) (m : Memory) where
   -- what is left, at these loops and this address
@@ -59,8 +63,10 @@ module _ (n : ℕ) (m : Memory) where
     where
       at_x : ℕ × ℕ
       at_x = (x.first, times_left (counter_at x.counter m))
+
       at_y : ℕ × ℕ
       at_y = (y.first, times_left (counter_at y.counter m))
+
       by : (p q : Bool) → left_at (cond p (x ∷ cond q (y ∷ []) []) (cond q (y ∷ []) [])) b < left_at (x ∷ y ∷ []) a
       by true true =
           goes_ahead n MOST_QUANTIFIED some_times 2 (open_loops m (x ∷ y ∷ [])) a b (few_open n m (x ∷ y ∷ []) fit) lt in_code
@@ -108,9 +114,13 @@ module _ (n : ℕ) (m : Memory) (k : ℕ) (v : Counting) (two : length m.counter
 
   pub innermost_fits : (loop : Loop) (around : List Loop) → loop.counter ≡ k → Counts (Some v) → (IsSet k around → ⊥)
       → BeganBefore loop.first around → LoopsFit m around → LoopsFit set (loop ∷ around)
-  innermost_fits loop around e count unset after fit =
-      (subst (λ j. j < 2) (sym e) low, subst (λ j. Counts (counter_at j set)) (sym e) (subst Counts (sym set_is) count),
-        (λ s. unset (subst (λ j. IsSet j around) e s)), after, fit_other k (Some v) m around unset fit)
+  innermost_fits loop around e count unset after fit = (
+    subst (λ j. j < 2) (sym e) low,
+    subst (λ j. Counts (counter_at j set)) (sym e) (subst Counts (sym set_is) count),
+    (λ s. unset (subst (λ j. IsSet j around) e s)),
+    after,
+    fit_other k (Some v) m around unset fit,
+  )
 
   innermost_is : (loop : Loop) (around : List Loop) → loop.counter ≡ k → (IsSet k around → ⊥)
       → open_loops set (loop ∷ around) ≡ open_loops m around ++ (loop.first, times_left (Some v)) ∷ []
@@ -122,16 +132,17 @@ module _ (n : ℕ) (m : Memory) (k : ℕ) (v : Counting) (two : length m.counter
   begins_at : (loop : Loop) (loops : List Loop) (a : ℕ) → loop.counter ≡ k → loop.first ≡ a + 1 → a < loop.last → Counts (Some v)
       → (IsSet k loops → ⊥) → LoopsFit m loops → BeganBefore (a + 1) loops → a < n
       → left n MOST_QUANTIFIED 2 (open_loops m (filter (is_in (a + 1)) loops) ++ (a + 1, times_left (Some v)) ∷ []) (a + 1)
-        < left_at n m loops a
+      < left_at n m loops a
   begins_at loop [] a e first last count unset fit began in_code =
       opens n MOST_QUANTIFIED some_times 2 [] a (a + 1) (times_left (Some v)) tt (count, tt) (omega arith) in_code
   begins_at loop (y ∷ []) a e first last count unset fit began in_code = by (is_in (a + 1) y)
     where
       at_y : ℕ × ℕ
       at_y = (y.first, times_left (counter_at y.counter m))
+
       by : (p : Bool)
           → left n MOST_QUANTIFIED 2 (open_loops m (cond p (y ∷ []) []) ++ (a + 1, times_left (Some v)) ∷ []) (a + 1)
-            < left_at n m (y ∷ []) a
+          < left_at n m (y ∷ []) a
       by true =
           let few = few_open n m (y ∷ []) fit in
           opens n MOST_QUANTIFIED some_times 2 (at_y ∷ []) a (a + 1) (times_left (Some v)) few (few.0, (count, tt)) (omega arith) in_code
@@ -141,7 +152,7 @@ module _ (n : ℕ) (m : Memory) (k : ℕ) (v : Counting) (two : length m.counter
           (count, tt) (omega arith) (omega arith)
   begins_at loop (y ∷ z ∷ more) a e first last count unset fit began in_code =
       absurd (not_three set loop y z more
-        (innermost_fits loop (y ∷ z ∷ more) e count unset (subst (λ f. BeganBefore f (y ∷ z ∷ more)) (sym first) began) fit))
+      (innermost_fits loop (y ∷ z ∷ more) e count unset (subst (λ f. BeganBefore f (y ∷ z ∷ more)) (sym first) began) fit))
 
   pub begins : (loop : Loop) (loops : List Loop) (a : ℕ) → loop.counter ≡ k → loop.first ≡ a + 1 → a < loop.last → Counts (Some v)
       → (IsSet k loops → ⊥) → LoopsFit m loops → BeganBefore (a + 1) loops → a < n
@@ -150,9 +161,9 @@ module _ (n : ℕ) (m : Memory) (k : ℕ) (v : Counting) (two : length m.counter
       let inside = in_loop (a + 1) loop (omega arith) (omega arith) in
       let others = filter (is_in (a + 1)) loops in
       let is : open_loops set (filter (is_in (a + 1)) (loop ∷ loops)) ≡ open_loops m others ++ (a + 1, times_left (Some v)) ∷ [] =
-            ap (open_loops set) (keeps_first (is_in (a + 1)) loop loops inside)
-            ∙ (innermost_is loop others e (λ s. unset (set_less (is_in (a + 1)) k loops s))
-            ∙ ap (λ f. open_loops m others ++ (f, times_left (Some v)) ∷ []) first) in
+      ap (open_loops set) (keeps_first (is_in (a + 1)) loop loops inside)
+      ∙ (innermost_is loop others e (λ s. unset (set_less (is_in (a + 1)) k loops s))
+      ∙ ap (λ f. open_loops m others ++ (f, times_left (Some v)) ∷ []) first) in
       subst (λ l. left n MOST_QUANTIFIED 2 l (a + 1) < left_at n m loops a) (sym is)
       (begins_at loop loops a e first last count unset fit began in_code)
 
@@ -160,7 +171,7 @@ module _ (n : ℕ) (m : Memory) (k : ℕ) (v : Counting) (two : length m.counter
   again_at : (loop : Loop) (around : List Loop) (a : ℕ) → LoopsFit m (loop ∷ around) → loop.first < n
       → times_left (counter_at loop.counter m) ≡ suc (times_left (Some v))
       → left n MOST_QUANTIFIED 2 (open_loops m (filter (is_in loop.first) around) ++ (loop.first, times_left (Some v)) ∷ []) loop.first
-        < left_at n m (loop ∷ around) a
+      < left_at n m (loop ∷ around) a
   again_at loop [] a fit in_code less =
       let few = few_open n m (loop ∷ []) fit in
       subst (λ x. left n MOST_QUANTIFIED 2 ((loop.first, times_left (Some v)) ∷ []) loop.first < left n MOST_QUANTIFIED 2 ((loop.first, x) ∷ []) a)
@@ -170,15 +181,16 @@ module _ (n : ℕ) (m : Memory) (k : ℕ) (v : Counting) (two : length m.counter
     where
       at_y : ℕ × ℕ
       at_y = (y.first, times_left (counter_at y.counter m))
+
       by : (p : Bool)
           → left n MOST_QUANTIFIED 2 (open_loops m (cond p (y ∷ []) []) ++ (loop.first, times_left (Some v)) ∷ []) loop.first
-            < left_at n m (loop ∷ y ∷ []) a
+          < left_at n m (loop ∷ y ∷ []) a
       by true =
           let few = few_open n m (loop ∷ y ∷ []) fit in
           subst (λ x. left n MOST_QUANTIFIED 2 (at_y ∷ (loop.first, times_left (Some v)) ∷ []) loop.first
-            < left n MOST_QUANTIFIED 2 (at_y ∷ (loop.first, x) ∷ []) a) (sym less)
+          < left n MOST_QUANTIFIED 2 (at_y ∷ (loop.first, x) ∷ []) a) (sym less)
           (goes_again n MOST_QUANTIFIED some_times 2 (at_y ∷ []) loop.first a (times_left (Some v))
-            (few.0, (subst (λ x. x < MOST_QUANTIFIED) less few.1.0, tt)))
+          (few.0, (subst (λ x. x < MOST_QUANTIFIED) less few.1.0, tt)))
       by false =
           let few = few_open n m (loop ∷ y ∷ []) fit in
           let after = fit.3.0 in
@@ -194,8 +206,8 @@ module _ (n : ℕ) (m : Memory) (k : ℕ) (v : Counting) (two : length m.counter
       let inside = in_loop loop.first loop (omega arith) high in
       let others = filter (is_in loop.first) around in
       let is : open_loops set (filter (is_in loop.first) (loop ∷ around)) ≡ open_loops m others ++ (loop.first, times_left (Some v)) ∷ [] =
-            ap (open_loops set) (keeps_first (is_in loop.first) loop around inside)
-            ∙ innermost_is loop others e (λ s. fit.2 (subst (λ j. IsSet j around) (sym e) (set_less (is_in loop.first) k around s))) in
+      ap (open_loops set) (keeps_first (is_in loop.first) loop around inside)
+      ∙ innermost_is loop others e (λ s. fit.2 (subst (λ j. IsSet j around) (sym e) (set_less (is_in loop.first) k around s))) in
       subst (λ l. left n MOST_QUANTIFIED 2 l loop.first < left_at n m (loop ∷ around) a) (sym is) (again_at loop around a fit in_code less)
 
 -- a loop ends at its last address, and its counter goes
@@ -205,7 +217,7 @@ pub ends : (n : ℕ) (m : Memory) (k : ℕ) (loop : Loop) (around : List Loop) (
 ends n m k loop around a e last fit began in_code =
     let is = drops_first (is_in (a + 1)) loop around (behind_loop (a + 1) loop (omega arith)) in
     let unset : IsSet k (filter (is_in (a + 1)) around) → ⊥ =
-          λ s. fit.2 (subst (λ j. IsSet j around) (sym e) (set_less (is_in (a + 1)) k around s)) in
+    λ s. fit.2 (subst (λ j. IsSet j around) (sym e) (set_less (is_in (a + 1)) k around s)) in
     subst (λ l. left n MOST_QUANTIFIED 2 l (a + 1) < left_at n m (loop ∷ around) a)
     (ap (open_loops m) is ∙ (sym (loops_other k None m (filter (is_in (a + 1)) around) unset) ∙ ap (open_loops (counting k None m)) (sym is)))
     (ahead n m (loop ∷ around) a (a + 1) fit began (omega arith) in_code)
@@ -215,4 +227,4 @@ pub ended_fits : (m : Memory) (k : ℕ) (loop : Loop) (around : List Loop) (a : 
 ended_fits m k loop around a e last fit =
     subst (LoopsFit (counting k None m)) (sym (drops_first (is_in (a + 1)) loop around (behind_loop (a + 1) loop (omega arith))))
     (fit_less (is_in (a + 1)) (counting k None m) around
-      (fit_other k None m around (λ s. fit.2 (subst (λ j. IsSet j around) (sym e) s)) fit.4))
+    (fit_other k None m around (λ s. fit.2 (subst (λ j. IsSet j around) (sym e) s)) fit.4))

@@ -113,7 +113,7 @@ module _ (c : Code) (groups : List Membership) (t : Table) (has : HasTable c gro
     former_word [] v p q = absurd p
     former_word (block ∷ around) v p q =
         let i = innermost c t see.process m.calls e.within block around levels
-              (subst (λ bs. BodyFits c t see.process m.calls e.within bs levels) q fits.layout.body) in
+        (subst (λ bs. BodyFits c t see.process m.calls e.within bs levels) q fits.layout.body) in
         lies_one m.calls v block.words (length see.prior) up (range block.words 1 v p) (former_long block around i)
 
     former_element : (blocks : List OpenBlock) (o : Option ℕ) (x : ℤ) (v : Spot)
@@ -122,12 +122,12 @@ module _ (c : Code) (groups : List Membership) (t : Table) (has : HasTable c gro
     former_element [] o x v p q h = absurd p
     former_element (block ∷ around) o x v p q h =
         let i = innermost c t see.process m.calls e.within block around levels
-              (subst (λ bs. BodyFits c t see.process m.calls e.within bs levels) q fits.layout.body) in
+        (subst (λ bs. BodyFits c t see.process m.calls e.within bs levels) q fits.layout.body) in
         element o x v block.words see.prior (former_long block around i) p h
 
     former_indexed : (os : List (Option ℕ)) (xs : List ℤ) (v : Spot) (P : Option ℕ → List (Option ℕ) → Type 0)
         → TopIs os (λ o ps. InnermostIs e.blocks (λ block around.
-          IsBelow o (λ n. InRange (part_of c e.within.process).words block.words v n)) × P o ps)
+        IsBelow o (λ n. InRange (part_of c e.within.process).words block.words v n)) × P o ps)
         → OperandsFit os xs → HasTop xs (λ i rest. IsElement c see see.prior (place c see m.calls v) i)
     former_indexed [] xs v P p h = absurd p
     former_indexed (o ∷ os) [] v P p h = absurd h
@@ -166,9 +166,10 @@ module _ (c : Code) (groups : List Membership) (t : Table) (has : HasTable c gro
     ready (PriorAt v) at fine = former_indexed e.operands operands v _ fine fits.operands_fit
     ready (Store v) at fine =
         let l = long in
-        let r = some_top e.operands _ fine in
-        (omega arith,
-          lies_one m.calls v e.words (length m.words) up (range e.words 1 v (of_top _ e.operands _ fine)) fits.layout.words_are)
+        let r = some_top e.operands _ fine in (
+          omega arith,
+          lies_one m.calls v e.words (length m.words) up (range e.words 1 v (of_top _ e.operands _ fine)) fits.layout.words_are,
+        )
     ready (StoreAt v) at fine = second_indexed e.operands operands v _ fine fits.operands_fit
     ready Add at fine = let l = long in let r = two_top e.operands _ fine.1 in omega arith
     ready Sub at fine = let l = long in let r = two_top e.operands _ fine.1 in omega arith
@@ -189,11 +190,12 @@ module _ (c : Code) (groups : List Membership) (t : Table) (has : HasTable c gro
     ready (Frame n) at fine = tt
     ready (Drop n) at fine =
         let w = fits.layout.words_are in
-        let k = fine.0 in
-        (omega arith,
+        let k = fine.0 in (
+          omega arith,
           subst (StayAbove m.touched) (let w1 = w in omega arith)
-          (stays_above m.touched levels (base_of (here c see) m.calls + (e.words - n)) fits.layout.heights
-          (stays c t see.process groups has m.calls e.within e.blocks (e.words - n) levels fits.layout.body fine.1)))
+              (stays_above m.touched levels (base_of (here c see) m.calls + (e.words - n)) fits.layout.heights
+              (stays c t see.process groups has m.calls e.within e.blocks (e.words - n) levels fits.layout.body fine.1)),
+        )
     ready (Text k) at fine = (fine.0, let q = fits.pieces_are in omega (arith, fine.1))
     ready Item at fine =
         let l = long in
@@ -210,7 +212,7 @@ module _ (c : Code) (groups : List Membership) (t : Table) (has : HasTable c gro
     ready Return at fine =
         has_call m.calls
         (returnable c t see.process groups has m.calls e.within e.blocks levels (length m.words) e.words fits.layout.body fine.0 fine.3
-          fits.layout.words_are)
+        fits.layout.words_are)
     ready Fail at fine = tt
     ready (Enter b) at fine = met (Enter b) at fine.0
     ready (Start b) at fine = met (Start b) at fine.0

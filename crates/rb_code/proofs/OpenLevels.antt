@@ -140,11 +140,12 @@ module _ (c : Code) (t : Table) (p : ℕ) where
       where
         true_false : true ≡ false → ⊥
         true_false e = cc
-    returnable (call ∷ calls) within blocks levels height words h procedure closed e =
-        (omega arith,
-          let r = subst (λ bs. LevelsFit c t within call.base (call ∷ calls) bs levels (λ others.
-                ReturnsTo (t call.back) (λ g. (call.base ≡ base_of (part_of c p) calls + g.words) × BodyFits c t p calls g.within g.blocks others)))
-                closed h.1 in
+    returnable (call ∷ calls) within blocks levels height words h procedure closed e = (
+      omega arith,
+      let r = subst (λ bs. LevelsFit c t within call.base (call ∷ calls) bs levels (λ others.
+          ReturnsTo (t call.back) (λ g. (call.base ≡ base_of (part_of c p) calls + g.words) × BodyFits c t p calls g.within g.blocks others)))
+          closed h.1 in
           at_back _ call.back _ r (λ g q k.
           top_below_less levels _ _ (let d = k.0 in omega arith)
-          (stays calls g.within g.blocks g.words levels k.1 (has.each call.back g q).above)))
+          (stays calls g.within g.blocks g.words levels k.1 (has.each call.back g q).above)),
+    )

@@ -73,7 +73,7 @@ module _ (c : Code) (groups : List Membership) (t : Table) (see : Sight) (levels
       two_go c groups t see levels P m _ e.operands operands (λ o os p ps. LeadsTo c groups t (a + 1) (with_operands (None ∷ ps) e))
       (λ y x rest. or_trap (f x y) (λ z. Going (a + 1) (z ∷ rest) m)) fine fits.operands_fit
       (λ o os p ps y x rest leads h1 h2. or_trap_goes c groups t see levels P m _ (f x y) (λ z. Going (a + 1) (z ∷ rest) m)
-        (clean (may_trap e.mode trap)) (λ z is. next_goes (None ∷ ps) (z ∷ rest) leads (tt, h2)))
+      (clean (may_trap e.mode trap)) (λ z is. next_goes (None ∷ ps) (z ∷ rest) leads (tt, h2)))
 
   pub compares : (f : ℤ → ℤ → ℤ) → Takes2 c groups t a e → Goes (operate c see (λ x y. Ok (f x y)) a operands m)
   compares f fine =
@@ -87,7 +87,7 @@ module _ (c : Code) (groups : List Membership) (t : Table) (see : Sight) (levels
       top_goes c groups t see levels P m _ e.operands operands _ (λ x rest. or_trap (fitting (neg_ℤ x)) (λ z. Going (a + 1) (z ∷ rest) m))
       fine fits.operands_fit
       (λ o os x rest leads h1 h2. or_trap_goes c groups t see levels P m _ (fitting (neg_ℤ x)) (λ z. Going (a + 1) (z ∷ rest) m)
-        (clean (may_trap e.mode trap)) (λ z is. next_goes (None ∷ os) (z ∷ rest) leads (tt, h2)))
+      (clean (may_trap e.mode trap)) (λ z is. next_goes (None ∷ os) (z ∷ rest) leads (tt, h2)))
 
   bounded : (n : ℕ) (os : List (Option ℕ)) (x : ℤ) (rest : List ℤ) → P m → LeadsTo c groups t (a + 1) (with_operands (Some n ∷ os) e)
       → OperandsFit os rest → Goes (cond (within n x) (Going (a + 1) (x ∷ rest) m) (Trapped Index))
@@ -110,7 +110,7 @@ module _ (c : Code) (groups : List Membership) (t : Table) (see : Sight) (levels
       top_goes c groups t see levels P m _ e.operands operands _ (λ x rest. cond (is_zero x) (Going b rest m) (Going (a + 1) rest m)) fine
       fits.operands_fit
       (λ o os x rest q h1 h2. cond_goes c groups t see levels P m _ (is_zero x) (Going b rest m) (Going (a + 1) rest m)
-        (λ z. on b os rest q.0 q.1 h2) (λ z. next_goes os rest q.2 h2))
+      (λ z. on b os rest q.0 q.1 h2) (λ z. next_goes os rest q.2 h2))
 
   -- one piece more
   piece : (os : List (Option ℕ)) (xs : List ℤ) (one : List ℕ)
@@ -156,7 +156,7 @@ module _ (c : Code) (groups : List Membership) (t : Table) (see : Sight) (levels
       there_goes (alternate_address (slice_get c.blocks b) see.alternate) (λ x. Going x operands m) Goes (met (Some (Start b)) at fine.0)
       (λ x q.
       let r = alternate_at (slice_get c.blocks b) see.alternate x
-            (λ x. IsAhead c groups t a x × LeadsTo c groups t x (record e { mode = Begun })) q fine.3 in
+      (λ x. IsAhead c groups t a x × LeadsTo c groups t x (record e { mode = Begun })) q fine.3 in
       comes x Begun r.0 r.1 tt refl fine.0)
 
   -- a channel of which the process is an end is among its channels

@@ -100,7 +100,7 @@ module _ (c : Code) (groups : List Membership) (t : Table) (see : Sight) (levels
       (Q : Option ℕ → List (Option ℕ) → Option ℕ → List (Option ℕ) → Type 0) (go : ℤ → ℤ → List ℤ → Outcome)
       → TopIs os (λ o ps. TopIs ps (Q o ps)) → OperandsFit os xs
       → ((o : Option ℕ) (os1 : List (Option ℕ)) (p : Option ℕ) (ps : List (Option ℕ)) (y x : ℤ) (rest : List ℤ) → Q o os1 p ps
-        → OperandFits p x → OperandsFit ps rest → Progress m most (go y x rest))
+      → OperandFits p x → OperandsFit ps rest → Progress m most (go y x rest))
       → Progress m most (on_top xs (λ y others. on_top others (λ x rest. go y x rest)))
   two_go m most os xs Q go fine fit k =
       top_goes m most os xs (λ o ps. TopIs ps (Q o ps)) (λ y others. on_top others (λ x rest. go y x rest)) fine fit
@@ -125,8 +125,8 @@ module _ (c : Code) (groups : List Membership) (t : Table) (see : Sight) (levels
           there = x.there;
           fits = x.fits;
           less = low_falls (2 * rank e.mode + length m.calls) (2 * rank x.entry.mode + length later.calls) places
-            (left_at (length c.instrs) m e.loops a) (distance later x.entry.loops b) p
-            (subst (λ loops. distance later loops b < left_at (length c.instrs) m e.loops a) (sym x.loops_are) near);
+              (left_at (length c.instrs) m e.loops a) (distance later x.entry.loops b) p
+              (subst (λ loops. distance later loops b < left_at (length c.instrs) m e.loops a) (sym x.loops_are) near);
           clean = λ k. clean (rank_is (rank e1.mode) (rank x.entry.mode) k x.low (rank_most e1.mode));
         }
       where
@@ -158,18 +158,18 @@ module _ (c : Code) (groups : List Membership) (t : Table) (see : Sight) (levels
         let later : Memory = record m { words = ws; touched = ts; held = hs; slots = ss; pieces = ps } in
         let e1 : Entry = record e { operands = os; words = w; pieces = k; mode = mode } in
         let stands : Fits c t see levels b (at_address b e1) xs later = record {
-              operands_fit = fit;
-              layout = record {
-                words_are = words;
-                calls_few = fits.layout.calls_few;
-                body = fits.layout.body;
-                heights = heights ∙ fits.layout.heights;
-              };
-              pieces_are = pieces;
-              counters_two = fits.counters_two;
-              loops_fit = fit_less (is_in b) later e.loops (same_fit m later e.loops refl fits.loops_fit);
-              mode_fits = mode_fits;
-            } in
+          operands_fit = fit;
+          layout = record {
+            words_are = words;
+            calls_few = fits.layout.calls_few;
+            body = fits.layout.body;
+            heights = heights ∙ fits.layout.heights;
+          };
+          pieces_are = pieces;
+          counters_two = fits.counters_two;
+          loops_fit = fit_less (is_in b) later e.loops (same_fit m later e.loops refl fits.loops_fit);
+          mode_fits = mode_fits;
+        } in
         goes_on b (at_address b e1) xs later leads stands low refl (nearer b later refl is_ahead) clean
 
     module _ (clean : rank e.mode ≡ 1 → P m) where

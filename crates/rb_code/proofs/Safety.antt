@@ -37,7 +37,7 @@ module _ (c : Code) (groups : List Membership) (t : Table) (see : Sight) (levels
   step_goes : (a : ℕ) (e : Entry) (xs : List ℤ) (m : Memory) (i : Instr) (known : t a ≡ Some e) (fits : Fits c t see levels a e xs m)
       → (clean : rank e.mode ≡ 1 → P m) (at : slice_get c.instrs a ≡ Some i) → Fine c groups t i a e
       → Progress c groups t see levels P m
-        (potential c groups t see levels P (rank e.mode) m.calls (left_at (length c.instrs) m e.loops a)) (act c see i a xs m)
+      (potential c groups t see levels P (rank e.mode) m.calls (left_at (length c.instrs) m e.loops a)) (act c see i a xs m)
   step_goes a e xs m i known fits clean at fine =
       goes c groups t see levels P keeps (sends c lists see.process exists) (receives c lists see.process exists) a e xs m
       (slice_get_within c.instrs a i at) known fits (began_here a e.loops (has.each a e known).around) clean i at fine
@@ -59,9 +59,10 @@ module _ (c : Code) (groups : List Membership) (t : Table) (see : Sight) (levels
           → ReadyAt c see o xs m × SafeOn c see P m (act_at c see o a xs m) (Safe c see P n)
       by next None at fine low = absurd fine
       by next (Some Turn) at fine low = (tt, tt)
-      by next (Some i) at fine low =
-          (ready c groups t has see levels former a e xs m fits (has.each a e q).above i at fine,
-            on_safe n _ m (act c see i a xs m) low (step_goes a e xs m i q fits clean at fine) next)
+      by next (Some i) at fine low = (
+        ready c groups t has see levels former a e xs m fits (has.each a e q).above i at fine,
+        on_safe n _ m (act c see i a xs m) low (step_goes a e xs m i q fits clean at fine) next,
+      )
 
   -- what a turn comes to
   abbrev pub Finishes : Outcome → Type 0

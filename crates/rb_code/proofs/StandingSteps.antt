@@ -46,18 +46,18 @@ module _ (c : Code) (groups : List Membership) (t : Table) (has : HasTable c gro
     behind slots see same met =
         let e1 = at_address (s.at + 1) (record stands.entry { mode = Fresh }) in
         let fits : Fits c t see (reverse levels) (s.at + 1) e1 [] (memory_of s slots) = record {
-              operands_fit = subst (λ os. OperandsFit os []) (sym at_turn.0) tt;
-              layout = subst (λ p. IsLaidOut c t p (reverse levels) e1 s.words s.calls s.touched) (sym same) (record {
-                words_are = stands.layout.words_are;
-                calls_few = stands.layout.calls_few;
-                body = stands.layout.body;
-                heights = stands.layout.heights;
-              });
-              pieces_are = sym at_turn.1;
-              counters_two = refl;
-              loops_fit = subst (λ ls. LoopsFit (memory_of s slots) (filter (is_in (s.at + 1)) ls)) (sym at_turn.2) tt;
-              mode_fits = met;
-            } in
+          operands_fit = subst (λ os. OperandsFit os []) (sym at_turn.0) tt;
+          layout = subst (λ p. IsLaidOut c t p (reverse levels) e1 s.words s.calls s.touched) (sym same) (record {
+            words_are = stands.layout.words_are;
+            calls_few = stands.layout.calls_few;
+            body = stands.layout.body;
+            heights = stands.layout.heights;
+          });
+          pieces_are = sym at_turn.1;
+          counters_two = refl;
+          loops_fit = subst (λ ls. LoopsFit (memory_of s slots) (filter (is_in (s.at + 1)) ls)) (sym at_turn.2) tt;
+          mode_fits = met;
+        } in
         arrives c t see (reverse levels) (s.at + 1) e1 [] (memory_of s slots) at_turn.3 fits
 
   -- the innermost level has the alternate that it is at
@@ -112,7 +112,7 @@ module _ (c : Code) (groups : List Membership) (t : Table) (has : HasTable c gro
     starts b at is =
         let g = known_behind in
         let fine : Fine c groups t (Start b) (s.at + 1) g.entry =
-              subst (λ o. FineAt c groups t o (s.at + 1) g.entry) at (has.each (s.at + 1) g.entry g.there).fine in
+        subst (λ o. FineAt c groups t o (s.at + 1) g.entry) at (has.each (s.at + 1) g.entry g.there).fine in
         by g.entry.words g.entry.blocks g.blocks_are fine.2
       where
         by : (words : ℕ) (blocks : List OpenBlock) → blocks ≡ stands.entry.blocks
@@ -120,7 +120,7 @@ module _ (c : Code) (groups : List Membership) (t : Table) (has : HasTable c gro
         by words [] e h = absurd h
         by words (block ∷ around) e h =
             let i = innermost c t s.process s.calls stands.entry.within block around (reverse levels)
-                  (subst (λ bs. BodyFits c t s.process s.calls stands.entry.within bs (reverse levels)) (sym e) stands.layout.body) in
+            (subst (λ bs. BodyFits c t s.process s.calls stands.entry.within bs (reverse levels)) (sym e) stands.layout.body) in
             let tried : alternate ≡ i.level.alternate = is ∙ ap tried_at (last_of-reverse levels i.level i.others i.levels_are) in
             has_alternate (slice_get c.blocks b) i.fits.one alternate (subst (λ n. slice_get c.blocks n ≡ Some i.fits.one) h.0 i.fits.is_block)
             (subst (λ n. 1 ≤ n) (sym tried) i.fits.alternate_some)
@@ -130,7 +130,7 @@ module _ (c : Code) (groups : List Membership) (t : Table) (has : HasTable c gro
     enters_none b at h =
         let g = known_behind in
         let fine : Fine c groups t (Enter b) (s.at + 1) g.entry =
-              subst (λ o. FineAt c groups t o (s.at + 1) g.entry) at (has.each (s.at + 1) g.entry g.there).fine in
+        subst (λ o. FineAt c groups t o (s.at + 1) g.entry) at (has.each (s.at + 1) g.entry g.there).fine in
         by (slice_get c.blocks b) fine.2 h
       where
         by : (o : Option Block) → RestartIs o ((s.at + 1) + 1) → Serves (enters b o) alternate message levels → ⊥
@@ -165,9 +165,9 @@ module _ (c : Code) (groups : List Membership) (t : Table) (has : HasTable c gro
         let x = behind s levels stands is_turn slots see_of refl met in
         from_here c groups t see_of (reverse levels) (IsUnchanged m) (unchanged_keeps m) has lists stands.exists (former_is levels)
         (λ b xs later. Finishes c groups t see_of (reverse levels) (IsUnchanged m) (unchanged_keeps m) has lists stands.exists
-          (former_is levels) (execute c see_of (most_steps c) b xs later))
+        (former_is levels) (execute c see_of (most_steps c) b xs later))
         (finishes c groups t see_of (reverse levels) (IsUnchanged m) (unchanged_keeps m) has lists stands.exists (former_is levels)
-          (most_steps c))
+        (most_steps c))
         (s.at + 1) x.entry [] m x.there x.fits (λ k. unchanged_same m)
 
     -- where nothing was changed only the address is another
@@ -188,18 +188,20 @@ module _ (c : Code) (groups : List Membership) (t : Table) (has : HasTable c gro
             → StandsAfter c t s levels (came_to s memory o)
         by (Stopped at later) h =
             record { exists = stands.exists; rests = h.rests; entry = h.entry; there = h.there; layout = h.layout }
-        by (Accepts at later) h =
-            (same_standing memory.slots at later h.0, record {
-              exists = stands.exists;
-              entry = h.1.entry;
-              there = h.1.there;
-              operands_none = h.1.operands_none;
-              pieces_none = h.1.pieces_none;
-              loops_none = h.1.loops_none;
-              mode_is = h.1.mode_is;
-              layout = subst (λ ls. IsLaidOut c t s.process ls h.1.entry later.words later.calls (accepted later.touched))
+        by (Accepts at later) h = (
+          same_standing memory.slots at later h.0,
+          record {
+            exists = stands.exists;
+            entry = h.1.entry;
+            there = h.1.there;
+            operands_none = h.1.operands_none;
+            pieces_none = h.1.pieces_none;
+            loops_none = h.1.loops_none;
+            mode_is = h.1.mode_is;
+            layout = subst (λ ls. IsLaidOut c t s.process ls h.1.entry later.words later.calls (accepted later.touched))
                 (sym (without_last-reverse levels h.1.level h.1.others h.1.levels_are)) h.1.layout;
-            })
+          },
+        )
         by (Trap cause) h = tt
         by (Going at xs later) h = absurd h
         by Unfinished h = absurd h
@@ -242,7 +244,7 @@ module _ (c : Code) (groups : List Membership) (t : Table) (has : HasTable c gro
     settle_finishes =
         from_here c groups t see_settling (reverse levels) Nothing nothing_keeps has lists settles.exists (former_is levels)
         (λ b xs later. Finishes c groups t see_settling (reverse levels) Nothing nothing_keeps has lists settles.exists (former_is levels)
-          (execute c see_settling (most_steps c) b xs later))
+        (execute c see_settling (most_steps c) b xs later))
         (finishes c groups t see_settling (reverse levels) Nothing nothing_keeps has lists settles.exists (former_is levels) (most_steps c))
         s.at settles.entry [] (memory_of s []) settles.there here_fits changed_here
 

@@ -101,7 +101,7 @@ module _ (c : Code) (t : Table) (see : Sight) (levels : Levels) where
       words_are = h.layout.words_are ∙ ap (λ n. base_of (part_of c see.process) m.calls + n) (sym w.words);
       calls_few = h.layout.calls_few;
       body = subst (λ blocks. BodyFits c t see.process m.calls g.within blocks levels) (sym w.blocks)
-        (subst (λ within. BodyFits c t see.process m.calls within e.blocks levels) (sym w.within) h.layout.body);
+          (subst (λ within. BodyFits c t see.process m.calls within e.blocks levels) (sym w.within) h.layout.body);
       heights = h.layout.heights;
     };
     pieces_are = h.pieces_are ∙ sym w.pieces;

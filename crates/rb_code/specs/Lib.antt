@@ -15,4 +15,5 @@ pub mod Sound
 pub mod Safe
 pub mod WellFormed
 pub mod Stands
+pub mod SoundLaws
 pub mod Laws

@@ -3,7 +3,7 @@ use Rattle.std.specs.Prelude.{◌≡◌, ◌⊎◌, ℕ, ◌+◌, ◌<◌, ◌�
 use Rattle.rb_base.specs.declared.limits.TheConstants.{MOST_QUANTIFIED}
 use Rattle.rb_meaning.specs.Environment.{natural}
 use Rattle.rb_meaning.specs.Step.{most_calls}
-use Rattle.rb_world.specs.Kind.{Want, NothingLeft, SendsOn, ReceivesOn, MayReceiveOn, Enters, Starts, Acts, Stepped, Trapped, Went, Held}
+use Rattle.rb_world.specs.Kind.{Membership, Want, NothingLeft, SendsOn, ReceivesOn, MayReceiveOn, Enters, Starts, Acts, Stepped, Trapped, Went, Held}
 use Rattle.rb_world.specs.Turn.{tried_at}
 use Rattle.rb_world.specs.World.{Level, last_of, without_last}
 use Rattle.rb_cache.specs.Copies.{Level as Touched, accepted}
@@ -11,8 +11,9 @@ use Rattle.rb_code.specs.Plain.{Block, Code}
 use Rattle.rb_code.specs.Memory.{Counting, Memory, OpenCall, base_of, body_place, part_of, place_among}
 use Rattle.rb_code.specs.Act.{Sight, alternate_address, counter_at, here}
 use Rattle.rb_code.specs.Turn.{Common, Copy, Standing, block_facts}
-use Rattle.rb_code.specs.Sound.{Entry, IsSet, Loop, Mode, Fresh, MayPut, MayTake, Begun, Free, Changed, OpenBlock, Table, Within}
+use Rattle.rb_code.specs.Sound.{Entry, HasTable, IsSet, Loop, Mode, Fresh, MayPut, MayTake, Begun, Free, Changed, OpenBlock, Table, Within}
 use Rattle.rb_code.specs.Safe.{IsThere}
+use Rattle.rb_code.specs.WellFormed.{ListsChannels}
 use Rattle.rb_code.specs.declared.instr.Instr.{Instr}
 use Rattle.rb_code.specs.declared.instr.Instr.TheVariants.{Turn, There, Enter, Start, Done}
 
@@ -174,3 +175,24 @@ StandsAfter c t s levels (Trapped cause) = Unit {0}
 StandsAfter c t s levels (Went later memory) = Stands c t later levels
 StandsAfter c t s levels (Held later) =
     (later ≡ record s { at = later.at }) × Settles c t (record later { touched = accepted later.touched }) (without_last levels)
+
+-- There is a table of the code in which the process stands, or settles.
+pub record StandsSoundly (c : Code) (groups : List Membership) (s : Standing) (levels : Levels) : Type 0 where
+  pub table : Table
+  pub has : HasTable c groups table
+  pub lists : ListsChannels c
+  pub stands : Stands c table s levels
+
+pub record SettlesSoundly (c : Code) (groups : List Membership) (s : Standing) (levels : Levels) : Type 0 where
+  pub table : Table
+  pub has : HasTable c groups table
+  pub lists : ListsChannels c
+  pub settles : Settles c table s levels
+
+-- the same of what a step comes to
+abbrev pub StandsSoundlyAfter : Code → List Membership → Standing → Levels → Stepped Standing Common → Type 0
+StandsSoundlyAfter c groups s levels (Trapped cause) = Unit {0}
+StandsSoundlyAfter c groups s levels (Went later memory) = StandsSoundly c groups later levels
+StandsSoundlyAfter c groups s levels (Held later) =
+    (later ≡ record s { at = later.at })
+    × SettlesSoundly c groups (record later { touched = accepted later.touched }) (without_last levels)
