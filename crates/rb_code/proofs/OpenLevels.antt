@@ -9,7 +9,7 @@ use Rattle.rb_code.specs.Memory.{Memory, OpenCall, base_of, body_place, part_of}
 use Rattle.rb_code.specs.Turn.{Copy}
 use Rattle.rb_code.specs.Sound.{Entry, HasTable, IsAbove, OpenBlock, Table, Within}
 use Rattle.rb_code.specs.Safe.{HasCall, StayAbove}
-use Rattle.rb_code.specs.Stands.{BodyFits, LevelFits, Levels, LevelsFit, ReturnsTo, height_of}
+use Rattle.rb_code.specs.Stands.{BodyFits, LevelFits, Levels, LevelsFit, Opened, ReturnsTo, height_of}
 
 abbrev pub heights_of : List Touched → List ℕ
 heights_of = map (λ level. level.height)
@@ -73,7 +73,7 @@ top_below_less (level ∷ levels) words more le h = omega arith
 module _ (c : Code) (t : Table) (p : ℕ) where
   -- of an open block there is a level, and the levels around it fit the blocks around it
   pub record Innermost (calls : List OpenCall) (within : Within) (block : OpenBlock) (around : List OpenBlock) (levels : Levels) : Type 0 where
-    pub level : Level Copy
+    pub level : Opened
     pub others : Levels
     pub levels_are : levels ≡ level ∷ others
     pub fits : LevelFits c t within block around (base_of (part_of c p) calls + block.words) calls level

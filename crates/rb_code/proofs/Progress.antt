@@ -11,7 +11,7 @@ use Rattle.rb_code.specs.Memory.{Memory, OpenCall, base_of}
 use Rattle.rb_code.specs.Turn.{Copy}
 use Rattle.rb_code.specs.Act.{Accepts, Going, Outcome, Sight, Stopped, Trapped, Unfinished, here, on_top, or_trap}
 use Rattle.rb_code.specs.Sound.{Mode, Changed, Entry, Has, IsAhead, LeadsTo, Loop, Table, TopIs, at_address, changed, freed, is_in, with_operands}
-use Rattle.rb_code.specs.Stands.{BeganBefore, Fits, IsLaidOut, Levels, LoopsFit, ModeFits, OperandFits, OperandsFit, RestsAt}
+use Rattle.rb_code.specs.Stands.{BeganBefore, Fits, IsLaidOut, Levels, Opened, LoopsFit, ModeFits, OperandFits, OperandsFit, RestsAt}
 use Rattle.rb_code.specs.declared.instr.Instr.{Instr}
 use Rattle.rb_code.specs.declared.instr.Instr.TheVariants.{Turn}
 use Rattle.rb_code.proofs.Digits.{high_falls, left, low_falls, worth}
@@ -60,7 +60,7 @@ module _ (c : Code) (groups : List Membership) (t : Table) (see : Sight) (levels
 
   -- its innermost level may go, and then it stands where it settles
   pub record AcceptsAt (b : ℕ) (later : Memory) : Type 0 where
-    pub level : Level Copy
+    pub level : Opened
     pub others : Levels
     pub levels_are : levels ≡ level ∷ others
     pub entry : Entry

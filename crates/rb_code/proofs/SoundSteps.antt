@@ -9,7 +9,7 @@ use Rattle.rb_code.specs.Memory.{Memory}
 use Rattle.rb_code.specs.Act.{Accepts, Going, Outcome, Sight, Stopped, Trapped as Trap, Unfinished, act_at, execute, then_go}
 use Rattle.rb_code.specs.Turn.{Common, Standing, memory_of, most_places, most_steps, settle, settled_by, sight, step, want}
 use Rattle.rb_code.specs.Safe.{Safe, SafeOn}
-use Rattle.rb_code.specs.Stands.{SettlesSoundly, StandsSoundly, StandsSoundlyAfter, Levels, RestsAt, Serves, StandsAfter}
+use Rattle.rb_code.specs.Stands.{SettlesSoundly, StandsSoundly, StandsSoundlyAfter, RestsAt, Serves, StandsAfter}
 use Rattle.rb_code.specs.SoundLaws.{SoundStepsAreSafe, SoundStepsEnd, SoundStepsStand, SoundSettlingIsSafe, SoundSettlingStands, StandingHasSettled}
 use Rattle.rb_code.specs.declared.instr.Instr.{Instr}
 use Rattle.rb_code.specs.declared.instr.Instr.TheVariants.{Turn, Done}

@@ -1,22 +1,22 @@
 -- A step of a process that stands in the table of sound code is safe, comes to an end, and leaves it standing; and so does settling.
-use Rattle.std.proofs.Common.{◌≡◌, ◌⊎◌, ℕ, zero, suc, ◌+◌, ◌<◌, ◌≤◌, ℤ, List, [], ◌∷◌, ◌++◌, length, map, reverse, filter, slice_get, Option, Some, None, refl, ap, sym, ◌∙◌, subst, arith}
+use Rattle.std.proofs.Common.{◌≡◌, ◌⊎◌, ℕ, zero, suc, ◌+◌, ◌<◌, ◌≤◌, ℤ, List, [], ◌∷◌, ◌++◌, length, map, reverse, filter, slice_get, Option, Some, None, option_map, refl, ap, sym, ◌∙◌, subst, arith}
 use Rattle.std.proofs.lemmas.Option.{slice_get-get_or}
 use Rattle.rb_cache.specs.Copies.{Level as Touched, accepted}
 use Rattle.rb_world.specs.Kind.{Membership, Want, NothingLeft, SendsOn, ReceivesOn, MayReceiveOn, Enters, Starts, Acts, Stepped, Trapped, Went, Held}
 use Rattle.rb_world.specs.Slots.{Slots}
-use Rattle.rb_world.specs.Turn.{tried_at}
-use Rattle.rb_world.specs.World.{copy_of, last_of, without_last}
+use Rattle.rb_world.specs.World.{Level, copy_of, last_of, without_last}
+use Rattle.rb_world.proofs.ListFacts.{none_some, some_same}
 use Rattle.rb_code.specs.Plain.{Block, Code}
 use Rattle.rb_code.specs.Memory.{Counting, Memory, OpenCall}
 use Rattle.rb_code.specs.Act.{Accepts, Going, Outcome, Sight, Stopped, Trapped as Trap, Unfinished, alternate_address, execute}
 use Rattle.rb_code.specs.Turn.{Common, Copy, Standing, block_facts, came_to, enters, memory_of, most_steps, settle, settled_by, sight, standing_at, step, want, wants_behind, wants_there}
 use Rattle.rb_code.specs.Sound.{Mode, Fresh, Changed, Entry, Fine, FineAt, Has, HasTable, InnermostIs, OpenBlock, RestartIs, Table, at_address, is_in}
 use Rattle.rb_code.specs.Safe.{IsThere, IsUnchanged, Safe}
-use Rattle.rb_code.specs.Stands.{BodyFits, Fits, IsLaidOut, IsMet, Levels, LoopsFit, ModeFits, OperandsFit, RestsAt, Serves, Settles, Stands, StandsAfter}
+use Rattle.rb_code.specs.Stands.{BodyFits, Fits, IsAlternate, IsLaidOut, IsMet, Levels, Opened, inside_out, opened, LoopsFit, ModeFits, OperandsFit, RestsAt, Serves, Settles, Stands, StandsAfter}
 use Rattle.rb_code.specs.WellFormed.{ListsChannels}
 use Rattle.rb_code.specs.declared.instr.Instr.{Instr}
 use Rattle.rb_code.specs.declared.instr.Instr.TheVariants.{Turn, Push, Load, Prior, Bound, LoadAt, PriorAt, Store, StoreAt, Add, Sub, Mul, Div, Rem, Eq, Ne, Lt, Le, Gt, Ge, Neg, Not, Bool, Jump, JumpZero, Frame, Drop, Text, Item, Print, Room, Put, There, Take, Call, Return, Fail, Enter, Start, Test, Done, Range, Again, Counter, Absent}
-use Rattle.rb_code.proofs.LastOf.{former_is, last_of-reverse, without_last-reverse}
+use Rattle.rb_code.proofs.LastOf.{former_is, last_level, without_innermost}
 use Rattle.rb_code.proofs.OpenLevels.{innermost}
 use Rattle.rb_code.proofs.Weaker.{Arrives, arrives, rank}
 use Rattle.rb_code.proofs.Progress.{AcceptsAt, StopsAt}
@@ -32,7 +32,7 @@ unchanged_same : (m : Memory) → IsUnchanged m m
 unchanged_same m = record { words = refl; calls = refl; held = refl; touched = refl; slots = refl }
 
 module _ (c : Code) (groups : List Membership) (t : Table) (has : HasTable c groups t) (lists : ListsChannels c) where
-  module _ (s : Standing) (levels : Levels) (stands : Stands c t s levels) (turn : slice_get c.instrs s.at ≡ Some Turn) where
+  module _ (s : Standing) (levels : List (Level Copy)) (stands : Stands c t s levels) (turn : slice_get c.instrs s.at ≡ Some Turn) where
     -- what is known of a process at a `turn`
     abbrev fine_here : Type 0
     fine_here = Fine c groups t Turn s.at stands.entry
@@ -42,12 +42,12 @@ module _ (c : Code) (groups : List Membership) (t : Table) (has : HasTable c gro
 
     -- behind the `turn`
     pub behind : (slots : Slots) (see : Sight) → see.process ≡ s.process → IsMet c see (slice_get c.instrs (s.at + 1))
-        → Arrives c t see (reverse levels) (at_address (s.at + 1) (record stands.entry { mode = Fresh })) (s.at + 1) [] (memory_of s slots)
+        → Arrives c t see (inside_out levels) (at_address (s.at + 1) (record stands.entry { mode = Fresh })) (s.at + 1) [] (memory_of s slots)
     behind slots see same met =
         let e1 = at_address (s.at + 1) (record stands.entry { mode = Fresh }) in
-        let fits : Fits c t see (reverse levels) (s.at + 1) e1 [] (memory_of s slots) = record {
+        let fits : Fits c t see (inside_out levels) (s.at + 1) e1 [] (memory_of s slots) = record {
           operands_fit = subst (λ os. OperandsFit os []) (sym at_turn.0) tt;
-          layout = subst (λ p. IsLaidOut c t p (reverse levels) e1 s.words s.calls s.touched) (sym same) (record {
+          layout = subst (λ p. IsLaidOut c t p (inside_out levels) e1 s.words s.calls s.touched) (sym same) (record {
             words_are = stands.layout.words_are;
             calls_few = stands.layout.calls_few;
             body = stands.layout.body;
@@ -58,22 +58,18 @@ module _ (c : Code) (groups : List Membership) (t : Table) (has : HasTable c gro
           loops_fit = subst (λ ls. LoopsFit (memory_of s slots) (filter (is_in (s.at + 1)) ls)) (sym at_turn.2) tt;
           mode_fits = met;
         } in
-        arrives c t see (reverse levels) (s.at + 1) e1 [] (memory_of s slots) at_turn.3 fits
+        arrives c t see (inside_out levels) (s.at + 1) e1 [] (memory_of s slots) at_turn.3 fits
 
-  -- the innermost level has the alternate that it is at
+  -- the block of a level has an alternate that is among them
   has_alternate : (o : Option Block) (block : Block) (k : ℕ) → o ≡ Some block → 1 ≤ k → k ≤ length block.alternates
       → IsThere (alternate_address o k)
-  has_alternate None block k e some few = absurd (none_some None block refl e)
-    where
-      none_some : (o : Option Block) (b : Block) → o ≡ None → o ≡ Some b → ⊥
-      none_some o b e f = cc
-  has_alternate (Some one) block zero e some few = absurd (omega arith)
-  has_alternate (Some one) block (suc k) e some few =
-      subst (λ o. IsThere (alternate_address o (suc k))) (sym e)
+  has_alternate o block zero e some few = absurd (omega arith)
+  has_alternate o block (suc k) e some few =
+      subst (λ p. IsThere (alternate_address p (suc k))) (sym e)
       (subst IsThere (sym (slice_get-get_or block.alternates k 0 (omega arith))) tt)
 
   -- a served process gets what the instruction behind its `turn` asks for
-  module _ (s : Standing) (levels : Levels) (stands : Stands c t s levels) (alternate : ℕ) (message : Option ℤ)
+  module _ (s : Standing) (levels : List (Level Copy)) (stands : Stands c t s levels) (alternate : ℕ) (message : Option ℤ)
       (serves : Serves (want c s) alternate message levels) where
     abbrev pub see_of : Sight
     see_of = sight s alternate (copy_of (last_of levels)) message
@@ -107,24 +103,30 @@ module _ (c : Code) (groups : List Membership) (t : Table) (has : HasTable c gro
         by (Some g) e h = record { entry = g; there = e; words_are = h.words; within_is = h.within; blocks_are = h.blocks }
 
     -- the block of a `start` is that of the innermost level
-    starts : (b : ℕ) → slice_get c.instrs (s.at + 1) ≡ Some (Start b) → alternate ≡ tried_at (last_of levels)
+    starts : (b : ℕ) → slice_get c.instrs (s.at + 1) ≡ Some (Start b) → IsAlternate alternate (last_of levels)
         → IsThere (alternate_address (slice_get c.blocks b) alternate)
     starts b at is =
         let g = known_behind in
         let fine : Fine c groups t (Start b) (s.at + 1) g.entry =
-        subst (λ o. FineAt c groups t o (s.at + 1) g.entry) at (has.each (s.at + 1) g.entry g.there).fine in
+              subst (λ o. FineAt c groups t o (s.at + 1) g.entry) at (has.each (s.at + 1) g.entry g.there).fine in
         by g.entry.words g.entry.blocks g.blocks_are fine.2
       where
+        of_level : (o : Option (Level Copy)) → IsAlternate alternate o → (x : Opened) (one : Block) (number : ℕ)
+            → option_map opened o ≡ Some x → x.facts ≡ block_facts number one → (1 ≤ alternate) × (alternate ≤ length one.alternates)
+        of_level None h x one number e f = absurd (none_some e)
+        of_level (Some level) h x one number e f =
+            let same : level.facts.alternates ≡ length one.alternates = ap (λ y. y.facts.alternates) (some_same e) ∙ ap (λ y. y.alternates) f in
+            (h.0, subst (λ n. alternate ≤ n) same h.1)
         by : (words : ℕ) (blocks : List OpenBlock) → blocks ≡ stands.entry.blocks
-            → InnermostIs blocks (λ block around. (block.number ≡ b) × (block.words ≡ words)) → IsThere (alternate_address (slice_get c.blocks b) alternate)
+            → InnermostIs blocks (λ block around. (block.number ≡ b) × (block.words ≡ words))
+            → IsThere (alternate_address (slice_get c.blocks b) alternate)
         by words [] e h = absurd h
         by words (block ∷ around) e h =
-            let i = innermost c t s.process s.calls stands.entry.within block around (reverse levels)
-            (subst (λ bs. BodyFits c t s.process s.calls stands.entry.within bs (reverse levels)) (sym e) stands.layout.body) in
-            let tried : alternate ≡ i.level.alternate = is ∙ ap tried_at (last_of-reverse levels i.level i.others i.levels_are) in
-            has_alternate (slice_get c.blocks b) i.fits.one alternate (subst (λ n. slice_get c.blocks n ≡ Some i.fits.one) h.0 i.fits.is_block)
-            (subst (λ n. 1 ≤ n) (sym tried) i.fits.alternate_some)
-            (subst (λ n. n ≤ length i.fits.one.alternates) (sym tried) i.fits.alternate_few)
+            let i = innermost c t s.process s.calls stands.entry.within block around (inside_out levels)
+                  (subst (λ bs. BodyFits c t s.process s.calls stands.entry.within bs (inside_out levels)) (sym e) stands.layout.body) in
+            let k = of_level (last_of levels) is i.level i.fits.one block.number (last_level levels i.level i.others i.levels_are) i.fits.facts in
+            has_alternate (slice_get c.blocks b) i.fits.one alternate
+            (subst (λ n. slice_get c.blocks n ≡ Some i.fits.one) h.0 i.fits.is_block) k.0 k.1
 
     enters_none : (b : ℕ) → slice_get c.instrs (s.at + 1) ≡ Some (Enter b) → Serves (enters b (slice_get c.blocks b)) alternate message levels → ⊥
     enters_none b at h =
@@ -152,21 +154,21 @@ module _ (c : Code) (groups : List Membership) (t : Table) (has : HasTable c gro
     step_safe slots =
         let m = memory_of s slots in
         let x = behind s levels stands is_turn slots see_of refl met in
-        from_here c groups t see_of (reverse levels) (IsUnchanged m) (unchanged_keeps m) has lists stands.exists (former_is levels)
+        from_here c groups t see_of (inside_out levels) (IsUnchanged m) (unchanged_keeps m) has lists stands.exists (former_is levels)
         (Safe c see_of (IsUnchanged m) (most_steps c))
-        (safe c groups t see_of (reverse levels) (IsUnchanged m) (unchanged_keeps m) has lists stands.exists (former_is levels) (most_steps c))
+        (safe c groups t see_of (inside_out levels) (IsUnchanged m) (unchanged_keeps m) has lists stands.exists (former_is levels) (most_steps c))
         (s.at + 1) x.entry [] m x.there x.fits (λ k. unchanged_same m)
 
-    pub step_finishes : (slots : Slots) → Finishes c groups t see_of (reverse levels) (IsUnchanged (memory_of s slots))
+    pub step_finishes : (slots : Slots) → Finishes c groups t see_of (inside_out levels) (IsUnchanged (memory_of s slots))
         (unchanged_keeps (memory_of s slots)) has lists stands.exists (former_is levels)
         (execute c see_of (most_steps c) (s.at + 1) [] (memory_of s slots))
     step_finishes slots =
         let m = memory_of s slots in
         let x = behind s levels stands is_turn slots see_of refl met in
-        from_here c groups t see_of (reverse levels) (IsUnchanged m) (unchanged_keeps m) has lists stands.exists (former_is levels)
-        (λ b xs later. Finishes c groups t see_of (reverse levels) (IsUnchanged m) (unchanged_keeps m) has lists stands.exists
+        from_here c groups t see_of (inside_out levels) (IsUnchanged m) (unchanged_keeps m) has lists stands.exists (former_is levels)
+        (λ b xs later. Finishes c groups t see_of (inside_out levels) (IsUnchanged m) (unchanged_keeps m) has lists stands.exists
         (former_is levels) (execute c see_of (most_steps c) b xs later))
-        (finishes c groups t see_of (reverse levels) (IsUnchanged m) (unchanged_keeps m) has lists stands.exists (former_is levels)
+        (finishes c groups t see_of (inside_out levels) (IsUnchanged m) (unchanged_keeps m) has lists stands.exists (former_is levels)
         (most_steps c))
         (s.at + 1) x.entry [] m x.there x.fits (λ k. unchanged_same m)
 
@@ -183,7 +185,7 @@ module _ (c : Code) (groups : List Membership) (t : Table) (has : HasTable c gro
     step_stands memory =
         by (execute c see_of (most_steps c) (s.at + 1) [] (memory_of s memory.slots)) (step_finishes memory.slots)
       where
-        by : (o : Outcome) → Finishes c groups t see_of (reverse levels) (IsUnchanged (memory_of s memory.slots))
+        by : (o : Outcome) → Finishes c groups t see_of (inside_out levels) (IsUnchanged (memory_of s memory.slots))
             (unchanged_keeps (memory_of s memory.slots)) has lists stands.exists (former_is levels) o
             → StandsAfter c t s levels (came_to s memory o)
         by (Stopped at later) h =
@@ -199,7 +201,7 @@ module _ (c : Code) (groups : List Membership) (t : Table) (has : HasTable c gro
             loops_none = h.1.loops_none;
             mode_is = h.1.mode_is;
             layout = subst (λ ls. IsLaidOut c t s.process ls h.1.entry later.words later.calls (accepted later.touched))
-                (sym (without_last-reverse levels h.1.level h.1.others h.1.levels_are)) h.1.layout;
+                (sym (without_innermost levels h.1.level h.1.others h.1.levels_are)) h.1.layout;
           },
         )
         by (Trap cause) h = tt
@@ -207,7 +209,7 @@ module _ (c : Code) (groups : List Membership) (t : Table) (has : HasTable c gro
         by Unfinished h = absurd h
 
   -- settling
-  module _ (s : Standing) (levels : Levels) (settles : Settles c t s levels) where
+  module _ (s : Standing) (levels : List (Level Copy)) (settles : Settles c t s levels) where
     abbrev pub see_settling : Sight
     see_settling = sight s 0 (copy_of (last_of levels)) None
 
@@ -218,7 +220,7 @@ module _ (c : Code) (groups : List Membership) (t : Table) (has : HasTable c gro
         → Nothing (record m { pieces = pieces; counters = counters })
     nothing_keeps m pieces counters h = h
 
-    here_fits : Fits c t see_settling (reverse levels) s.at settles.entry [] (memory_of s [])
+    here_fits : Fits c t see_settling (inside_out levels) s.at settles.entry [] (memory_of s [])
     here_fits = record {
       operands_fit = subst (λ os. OperandsFit os []) (sym settles.operands_none) tt;
       layout = settles.layout;
@@ -234,24 +236,24 @@ module _ (c : Code) (groups : List Membership) (t : Table) (has : HasTable c gro
     -- it is safe, and never traps
     pub settle_safe : Safe c see_settling Nothing (most_steps c) s.at [] (memory_of s [])
     settle_safe =
-        from_here c groups t see_settling (reverse levels) Nothing nothing_keeps has lists settles.exists (former_is levels)
+        from_here c groups t see_settling (inside_out levels) Nothing nothing_keeps has lists settles.exists (former_is levels)
         (Safe c see_settling Nothing (most_steps c))
-        (safe c groups t see_settling (reverse levels) Nothing nothing_keeps has lists settles.exists (former_is levels) (most_steps c))
+        (safe c groups t see_settling (inside_out levels) Nothing nothing_keeps has lists settles.exists (former_is levels) (most_steps c))
         s.at settles.entry [] (memory_of s []) settles.there here_fits changed_here
 
-    settle_finishes : Finishes c groups t see_settling (reverse levels) Nothing nothing_keeps has lists settles.exists (former_is levels)
+    settle_finishes : Finishes c groups t see_settling (inside_out levels) Nothing nothing_keeps has lists settles.exists (former_is levels)
         (execute c see_settling (most_steps c) s.at [] (memory_of s []))
     settle_finishes =
-        from_here c groups t see_settling (reverse levels) Nothing nothing_keeps has lists settles.exists (former_is levels)
-        (λ b xs later. Finishes c groups t see_settling (reverse levels) Nothing nothing_keeps has lists settles.exists (former_is levels)
+        from_here c groups t see_settling (inside_out levels) Nothing nothing_keeps has lists settles.exists (former_is levels)
+        (λ b xs later. Finishes c groups t see_settling (inside_out levels) Nothing nothing_keeps has lists settles.exists (former_is levels)
         (execute c see_settling (most_steps c) b xs later))
-        (finishes c groups t see_settling (reverse levels) Nothing nothing_keeps has lists settles.exists (former_is levels) (most_steps c))
+        (finishes c groups t see_settling (inside_out levels) Nothing nothing_keeps has lists settles.exists (former_is levels) (most_steps c))
         s.at settles.entry [] (memory_of s []) settles.there here_fits changed_here
 
     pub settle_stands : Stands c t (settle c (copy_of (last_of levels)) s) levels
     settle_stands = by (execute c see_settling (most_steps c) s.at [] (memory_of s [])) settle_finishes
       where
-        by : (o : Outcome) → Finishes c groups t see_settling (reverse levels) Nothing nothing_keeps has lists settles.exists (former_is levels) o
+        by : (o : Outcome) → Finishes c groups t see_settling (inside_out levels) Nothing nothing_keeps has lists settles.exists (former_is levels) o
             → Stands c t (settled_by s o) levels
         by (Stopped at later) h =
             record { exists = settles.exists; rests = h.rests; entry = h.entry; there = h.there; layout = h.layout }

@@ -3,8 +3,7 @@ use Rattle.std.specs.Prelude.{◌≡◌, ◌⊎◌, ℕ, ◌+◌, ◌<◌, ◌�
 use Rattle.rb_base.specs.declared.limits.TheConstants.{MOST_QUANTIFIED}
 use Rattle.rb_meaning.specs.Environment.{natural}
 use Rattle.rb_meaning.specs.Step.{most_calls}
-use Rattle.rb_world.specs.Kind.{Membership, Want, NothingLeft, SendsOn, ReceivesOn, MayReceiveOn, Enters, Starts, Acts, Stepped, Trapped, Went, Held}
-use Rattle.rb_world.specs.Turn.{tried_at}
+use Rattle.rb_world.specs.Kind.{Facts, Membership, Want, NothingLeft, SendsOn, ReceivesOn, MayReceiveOn, Enters, Starts, Acts, Stepped, Trapped, Went, Held}
 use Rattle.rb_world.specs.World.{Level, last_of, without_last}
 use Rattle.rb_cache.specs.Copies.{Level as Touched, accepted}
 use Rattle.rb_code.specs.Plain.{Block, Code}
@@ -28,23 +27,32 @@ OperandsFit [] (x ∷ xs) = ⊥
 OperandsFit (o ∷ os) [] = ⊥
 OperandsFit (o ∷ os) (x ∷ xs) = OperandFits o x × OperandsFit os xs
 
--- open levels, here from the innermost out
+-- of an open level what its block and its entry fix: the facts of the block, and the copy
+pub record Opened : Type 0 where
+  pub facts : Facts
+  pub copy : Copy
+
+abbrev pub opened : Level Copy → Opened
+opened level = record { facts = level.facts; copy = level.copy }
+
+-- the open levels from the innermost out
 abbrev pub Levels : Type 0
-Levels = List (Level Copy)
+Levels = List Opened
+
+abbrev pub inside_out : List (Level Copy) → Levels
+inside_out levels = reverse (map opened levels)
 
 -- how many words there were at the entry of a level
-abbrev pub height_of : Level Copy → ℕ
+abbrev pub height_of : Opened → ℕ
 height_of level = length level.copy.words
 
--- A level is one of this open block, at an alternate that the block has. Its copy has so many words and these calls, and stands at the
--- `turn` before the `start` of the block, where the table knows the block and those around it.
+-- A level is one of this open block. Its copy has so many words and these calls, and stands at the `turn` before the `start` of the
+-- block, where the table knows the block and those around it.
 pub record LevelFits (c : Code) (t : Table) (within : Within) (block : OpenBlock) (around : List OpenBlock) (words : ℕ)
-    (calls : List OpenCall) (level : Level Copy) : Type 0 where
+    (calls : List OpenCall) (level : Opened) : Type 0 where
   pub one : Block
   pub is_block : slice_get c.blocks block.number ≡ Some one
   pub facts : level.facts ≡ block_facts block.number one
-  pub alternate_some : 1 ≤ level.alternate
-  pub alternate_few : level.alternate ≤ length one.alternates
   pub words_are : height_of level ≡ words
   pub calls_are : level.copy.calls ≡ calls
   pub restart : slice_get c.instrs level.copy.at ≡ Some Turn
@@ -139,15 +147,15 @@ RestsAt (Some Done) = Unit {0}
 RestsAt _ = ⊥
 
 -- Between two turns a process stands in a table, with its open levels from the outermost in.
-pub record Stands (c : Code) (t : Table) (s : Standing) (levels : Levels) : Type 0 where
+pub record Stands (c : Code) (t : Table) (s : Standing) (levels : List (Level Copy)) : Type 0 where
   pub exists : IsThere (slice_get c.processes s.process)
   pub rests : RestsAt (slice_get c.instrs s.at)
   pub entry : Entry
   pub there : t s.at ≡ Some entry
-  pub layout : IsLaidOut c t s.process (reverse levels) entry s.words s.calls s.touched
+  pub layout : IsLaidOut c t s.process (inside_out levels) entry s.words s.calls s.touched
 
 -- before the first turn, and once a level was accepted, it may stand at another instruction, and settles
-pub record Settles (c : Code) (t : Table) (s : Standing) (levels : Levels) : Type 0 where
+pub record Settles (c : Code) (t : Table) (s : Standing) (levels : List (Level Copy)) : Type 0 where
   pub exists : IsThere (slice_get c.processes s.process)
   pub entry : Entry
   pub there : t s.at ≡ Some entry
@@ -155,42 +163,47 @@ pub record Settles (c : Code) (t : Table) (s : Standing) (levels : Levels) : Typ
   pub pieces_none : entry.pieces ≡ 0
   pub loops_none : entry.loops ≡ []
   pub mode_is : entry.mode ≡ Changed
-  pub layout : IsLaidOut c t s.process (reverse levels) entry s.words s.calls s.touched
+  pub layout : IsLaidOut c t s.process (inside_out levels) entry s.words s.calls s.touched
 
--- a step gets what the process wants: it is neither done nor enters, a message that it waits for is there, and the alternate that it
--- starts is that of its innermost level
-abbrev pub Serves : Want → ℕ → Option ℤ → Levels → Type 0
+-- an alternate is one that the block of a level has
+abbrev pub IsAlternate : ℕ → Option (Level Copy) → Type 0
+IsAlternate alternate None = Unit {0}
+IsAlternate alternate (Some level) = (1 ≤ alternate) × (alternate ≤ level.facts.alternates)
+
+-- a step gets what the process wants: it is neither done nor enters, a message that it waits for is there, and the block of its
+-- innermost level has the alternate that it starts
+abbrev pub Serves : Want → ℕ → Option ℤ → List (Level Copy) → Type 0
 Serves NothingLeft alternate message levels = ⊥
 Serves (SendsOn channel) alternate message levels = Unit {0}
 Serves (ReceivesOn channel) alternate message levels = IsThere message
 Serves (MayReceiveOn channel) alternate message levels = Unit {0}
 Serves (Enters facts) alternate message levels = ⊥
-Serves Starts alternate message levels = alternate ≡ tried_at (last_of levels)
+Serves Starts alternate message levels = IsAlternate alternate (last_of levels)
 Serves Acts alternate message levels = Unit {0}
 
 -- What a step comes to stands: where it went on, with the same levels; and where its acceptance test held it is only at another address,
 -- and settles once its innermost level is accepted.
-abbrev pub StandsAfter : Code → Table → Standing → Levels → Stepped Standing Common → Type 0
+abbrev pub StandsAfter : Code → Table → Standing → List (Level Copy) → Stepped Standing Common → Type 0
 StandsAfter c t s levels (Trapped cause) = Unit {0}
 StandsAfter c t s levels (Went later memory) = Stands c t later levels
 StandsAfter c t s levels (Held later) =
     (later ≡ record s { at = later.at }) × Settles c t (record later { touched = accepted later.touched }) (without_last levels)
 
 -- There is a table of the code in which the process stands, or settles.
-pub record StandsSoundly (c : Code) (groups : List Membership) (s : Standing) (levels : Levels) : Type 0 where
+pub record StandsSoundly (c : Code) (groups : List Membership) (s : Standing) (levels : List (Level Copy)) : Type 0 where
   pub table : Table
   pub has : HasTable c groups table
   pub lists : ListsChannels c
   pub stands : Stands c table s levels
 
-pub record SettlesSoundly (c : Code) (groups : List Membership) (s : Standing) (levels : Levels) : Type 0 where
+pub record SettlesSoundly (c : Code) (groups : List Membership) (s : Standing) (levels : List (Level Copy)) : Type 0 where
   pub table : Table
   pub has : HasTable c groups table
   pub lists : ListsChannels c
   pub settles : Settles c table s levels
 
 -- the same of what a step comes to
-abbrev pub StandsSoundlyAfter : Code → List Membership → Standing → Levels → Stepped Standing Common → Type 0
+abbrev pub StandsSoundlyAfter : Code → List Membership → Standing → List (Level Copy) → Stepped Standing Common → Type 0
 StandsSoundlyAfter c groups s levels (Trapped cause) = Unit {0}
 StandsSoundlyAfter c groups s levels (Went later memory) = StandsSoundly c groups later levels
 StandsSoundlyAfter c groups s levels (Held later) =
