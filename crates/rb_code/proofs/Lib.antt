@@ -15,4 +15,5 @@ pub mod Channels
 pub mod Safety
 pub mod LastOf
 pub mod StandingSteps
+pub mod Served
 pub mod SoundSteps

@@ -14,6 +14,7 @@ use Rattle.rb_code.specs.SoundLaws.{SoundStepsAreSafe, SoundStepsEnd, SoundSteps
 use Rattle.rb_code.specs.declared.instr.Instr.{Instr}
 use Rattle.rb_code.specs.declared.instr.Instr.TheVariants.{Turn, Done}
 use Rattle.rb_code.proofs.Digits.{worth}
+use Rattle.rb_code.proofs.Served.{is_turn, met}
 use Rattle.rb_code.proofs.StandingSteps as standing
 
 -- what is safe comes to an end
@@ -41,7 +42,9 @@ safe_ends c see P (suc n) a xs m safe e = by (safe_ends c see P n) (act_at c see
 
 pub steps_are_safe : SoundStepsAreSafe
 steps_are_safe c groups s levels alternate message slots h serves =
-    standing.step_safe c groups h.table h.has h.lists s levels h.stands alternate message serves slots
+    standing.step_safe c groups h.table h.has h.lists s levels h.stands
+      (is_turn c groups h.table h.has h.lists s levels h.stands alternate message serves) alternate message
+      (met c groups h.table h.has h.lists s levels h.stands alternate message serves) slots
 
 pub steps_end : SoundStepsEnd
 steps_end c groups s levels alternate message slots h serves =
@@ -51,7 +54,9 @@ steps_end c groups s levels alternate message slots h serves =
 pub steps_stand : SoundStepsStand
 steps_stand c groups s levels alternate message memory h serves =
     by (step c alternate (copy_of (last_of levels)) s message memory)
-    (standing.step_stands c groups h.table h.has h.lists s levels h.stands alternate message serves memory)
+    (standing.step_stands c groups h.table h.has h.lists s levels h.stands
+      (is_turn c groups h.table h.has h.lists s levels h.stands alternate message serves) alternate message
+      (met c groups h.table h.has h.lists s levels h.stands alternate message serves) memory)
   where
     by : (o : Stepped Standing Common) → StandsAfter c h.table s levels o → StandsSoundlyAfter c groups s levels o
     by (Trapped cause) k = tt

@@ -15,5 +15,6 @@ pub mod Sound
 pub mod Safe
 pub mod WellFormed
 pub mod Stands
+pub mod StandsInRuns
 pub mod SoundLaws
 pub mod Laws
