@@ -17,3 +17,5 @@ pub mod LastOf
 pub mod StandingSteps
 pub mod Served
 pub mod SoundSteps
+pub mod Recovering
+pub mod RunSteps

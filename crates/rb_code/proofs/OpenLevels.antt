@@ -95,7 +95,7 @@ module _ (c : Code) (t : Table) (p : ℕ) where
   body_process (call ∷ calls) within blocks levels h = ap (λ w. w.process) h.0
 
   -- what is true of the entry that a call goes back to
-  at_back : (R : Type 0) (back : ℕ) (P : Entry → Type 0) → ReturnsTo (t back) P → ((g : Entry) → t back ≡ Some g → P g → R) → R
+  pub at_back : (R : Type 0) (back : ℕ) (P : Entry → Type 0) → ReturnsTo (t back) P → ((g : Entry) → t back ≡ Some g → P g → R) → R
   at_back R back P r k = by (t back) refl r
     where
       by : (o : Option Entry) → t back ≡ o → ReturnsTo o P → R
