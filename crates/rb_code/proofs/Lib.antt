@@ -19,3 +19,5 @@ pub mod Served
 pub mod SoundSteps
 pub mod Recovering
 pub mod RunSteps
+pub mod InsideOut
+pub mod StandsAgain
