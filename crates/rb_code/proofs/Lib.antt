@@ -21,3 +21,4 @@ pub mod Recovering
 pub mod RunSteps
 pub mod InsideOut
 pub mod StandsAgain
+pub mod ProcessesStand

@@ -84,7 +84,7 @@ some_steps c =
     (product_some n _ (omega arith) (product_some _ _ (omega arith) (product_some n _ (omega arith) (product_some _ n (omega arith) (omega arith)))))
 
 -- at a `turn` or `done` an execution has come to its end
-stops_at_once : (c : Code) (see : Sight) (n a : ℕ) (m : Memory) → 0 < n → RestsAt (slice_get c.instrs a) → execute c see n a [] m ≡ Stopped a m
+pub stops_at_once : (c : Code) (see : Sight) (n a : ℕ) (m : Memory) → 0 < n → RestsAt (slice_get c.instrs a) → execute c see n a [] m ≡ Stopped a m
 stops_at_once c see zero a m some h = absurd (omega arith)
 stops_at_once c see (suc n) a m some h = by (slice_get c.instrs a) h
   where
