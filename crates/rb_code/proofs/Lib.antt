@@ -22,3 +22,4 @@ pub mod RunSteps
 pub mod InsideOut
 pub mod StandsAgain
 pub mod ProcessesStand
+pub mod RunsStand

@@ -15,13 +15,13 @@ use Rattle.rb_code.specs.Memory.{base_of, held_place, part_of}
 use Rattle.rb_code.specs.Turn.{Common, Copy, Standing, memory_of, most_steps, settle, settled_by, sight, step, want}
 use Rattle.rb_code.specs.Sound.{HasTable, Table}
 use Rattle.rb_code.specs.Safe.{IsThere}
-use Rattle.rb_code.specs.Stands.{BodyFits, IsLaidOut, Opened, RestsAt, Settles, Stands, StandsAfter, height_of, inside_out, opened}
+use Rattle.rb_code.specs.Stands.{BodyFits, IsLaidOut, Opened, RestsAt, ServedBut, Settles, Stands, StandsAfter, height_of, inside_out, opened}
 use Rattle.rb_code.specs.StandsInRuns.{AllRecover, ProcessStands, Recovers, StandsNow}
 use Rattle.rb_code.specs.WellFormed.{ListsChannels}
 use Rattle.rb_code.specs.WordKind.{entered_at, kept, restored, word_kind}
 use Rattle.rb_code.proofs.InsideOut.{heights_out, heights_taken, heights_untouched, inside_split, inside_taken, raised_same, used_same, without_last_same}
 use Rattle.rb_code.proofs.Recovering.{all_recover, outer_recover}
-use Rattle.rb_code.proofs.RunSteps.{ServedBut, run_step_stands}
+use Rattle.rb_code.proofs.RunSteps.{run_step_stands}
 use Rattle.rb_code.proofs.SoundSteps.{some_steps, stops_at_once}
 use Rattle.rb_code.proofs.StandingSteps.{settle_stands}
 use Rattle.rb_code.proofs.StandsAgain.{entered_stands, settles_like, stands_like}
@@ -61,9 +61,8 @@ module _ (c : Code) (groups : List Membership) (t : Table) (has : HasTable c gro
       subst (λ x. ProcessStands c t (goes_on Words x levels)) (sym (has_settled s levels h)) (away_stands s levels (status_at (want c s)) h)
 
   -- who runs away from a line stands between two turns
-  stands_to_step : (p : ℕ) (q : Process Standing Copy) (w : World Standing Copy Common) (alternate : ℕ) (message : Option ℤ)
-      → ProcessStands c t q → q.status ≡ Running → q.at_line ≡ false → Stands c t q.state q.levels
-  stands_to_step p q w alternate message h running away =
+  pub stands_to_step : (q : Process Standing Copy) → ProcessStands c t q → q.status ≡ Running → q.at_line ≡ false → Stands c t q.state q.levels
+  stands_to_step q h running away =
       subst (λ one. StandsNow c t one false q.state q.levels) running
       (subst (λ line. StandsNow c t q.status line q.state q.levels) away h.now)
 
@@ -83,7 +82,7 @@ module _ (c : Code) (groups : List Membership) (t : Table) (has : HasTable c gro
       → StandsAfter c t q.state q.levels (step c alternate (copy_of (last_of q.levels)) q.state message w.memory)
   step_comes p q w alternate message h at =
       run_step_stands c groups t has lists q.state q.levels
-      (stands_to_step p q w alternate message h at.acts.runs.running at.acts.away) alternate message (served q w message at.ready) w.memory
+      (stands_to_step q h at.acts.runs.running at.acts.away) alternate message (served q w message at.ready) w.memory
 
   -- levels that know the same, and as many words
   like_now : (status : Status) (at_line : Bool) (s : Standing) (levels more : List (Level Copy)) (ws : List ℤ) (n : ℕ) (hs : List (List ℕ))
@@ -217,7 +216,7 @@ module _ (c : Code) (groups : List Membership) (t : Table) (has : HasTable c gro
     goes = λ n p q w alternate message s m h at e. goes n p q w alternate message s m h at e;
     opens = λ n p q w facts alternate h at.
         away_stands (record (entered_at q.state) { last_kept = n }) _ (status_at (want c (record (entered_at q.state) { last_kept = n })))
-        (entered_stands c groups t has lists q.state q.levels (stands_to_step p q w alternate None h at.acts.runs.running at.acts.away) facts
+        (entered_stands c groups t has lists q.state q.levels (stands_to_step q h at.acts.runs.running at.acts.away) facts
           at.wants n alternate);
     accepts = λ n p q w alternate message s h at e.
         settled_stands (record s { last_kept = n; touched = accepted s.touched }) (without_last q.levels)

@@ -2,30 +2,21 @@
 use Rattle.std.proofs.Common.{◌≡◌, ◌⊎◌, inl, inr, ℕ, zero, suc, ◌+◌, ◌<◌, ◌≤◌, ℤ, List, [], ◌∷◌, length, slice_get, Option, Some, None, refl, ap, sym, ◌∙◌, subst, arith}
 use Rattle.rb_base.specs.declared.event.Cause.TheVariants.{Fail as FailCause}
 use Rattle.rb_world.specs.Kind.{Membership, Want, NothingLeft, SendsOn, ReceivesOn, MayReceiveOn, Enters, Starts, Acts, Stepped, Trapped, Went, Held}
+use Rattle.rb_world.specs.Slots.{Slots}
 use Rattle.rb_world.specs.World.{Level, copy_of, last_of}
 use Rattle.rb_code.specs.Plain.{Block, Code}
 use Rattle.rb_code.specs.Memory.{Memory}
-use Rattle.rb_code.specs.Act.{Going, Outcome, Sight, Trapped as Trap, act_at, alternate_address, execute, if_there, then_go}
+use Rattle.rb_code.specs.Act.{Going, Outcome, Sight, Trapped as Trap, Unfinished, act_at, alternate_address, execute, if_there, then_go}
 use Rattle.rb_code.specs.Turn.{Common, Copy, Standing, came_to, enters, memory_of, most_steps, sight, step, want, wants_behind, wants_there}
 use Rattle.rb_code.specs.Sound.{HasTable, Table}
 use Rattle.rb_code.specs.Safe.{IsThere}
-use Rattle.rb_code.specs.Stands.{IsMet, RestsAt, Serves, Stands, StandsAfter}
+use Rattle.rb_code.specs.Stands.{IsMet, RestsAt, ServedBut, Serves, Stands, StandsAfter}
 use Rattle.rb_code.specs.WellFormed.{ListsChannels}
 use Rattle.rb_code.specs.declared.instr.Instr.{Instr}
 use Rattle.rb_code.specs.declared.instr.Instr.TheVariants.{Turn, Push, Load, Prior, Bound, LoadAt, PriorAt, Store, StoreAt, Add, Sub, Mul, Div, Rem, Eq, Ne, Lt, Le, Gt, Ge, Neg, Not, Bool, Jump, JumpZero, Frame, Drop, Text, Item, Print, Room, Put, There, Take, Call, Return, Fail, Enter, Start, Test, Done, Range, Again, Counter, Absent}
 use Rattle.rb_code.proofs.Served.{is_turn, met}
-use Rattle.rb_code.proofs.SoundSteps.{some_steps}
+use Rattle.rb_code.proofs.SoundSteps.{safe_ends, some_steps}
 use Rattle.rb_code.proofs.StandingSteps as standing
-
--- served in all but its alternate
-abbrev pub ServedBut : Want → Option ℤ → Type 0
-ServedBut NothingLeft message = ⊥
-ServedBut (SendsOn channel) message = Unit {0}
-ServedBut (ReceivesOn channel) message = IsThere message
-ServedBut (MayReceiveOn channel) message = Unit {0}
-ServedBut (Enters facts) message = ⊥
-ServedBut Starts message = Unit {0}
-ServedBut Acts message = Unit {0}
 
 -- a want is a start or not
 abbrev IsStart : Want → Type 0
@@ -101,3 +92,32 @@ module _ (c : Code) (groups : List Membership) (t : Table) (has : HasTable c gro
       by (inr serves) =
           standing.step_stands c groups t has lists s levels stands (is_turn c groups t has lists s levels stands alternate message serves)
           alternate message (met c groups t has lists s levels stands alternate message serves) memory
+
+  -- and it comes to an end
+  started_ends : StartsHere → (slots : Slots)
+      → execute c (sight s alternate (copy_of (last_of levels)) message) (most_steps c) (s.at + 1) [] (memory_of s slots) ≡ Unfinished → ⊥
+  started_ends h slots = by (alternate_address (slice_get c.blocks h.block) alternate) refl
+    where
+      see : Sight
+      see = sight s alternate (copy_of (last_of levels)) message
+      trapped : (o : Outcome) → o ≡ Unfinished → o ≡ Trap FailCause → ⊥
+      trapped o e f = cc
+      by : (o : Option ℕ) → alternate_address (slice_get c.blocks h.block) alternate ≡ o
+          → execute c see (most_steps c) (s.at + 1) [] (memory_of s slots) ≡ Unfinished → ⊥
+      by None e u = trapped _ u (start_traps c see (most_steps c) (s.at + 1) h.block (memory_of s slots) (some_steps c) h.at e)
+      by (Some x) e u =
+          safe_ends c see _ (most_steps c) (s.at + 1) [] (memory_of s slots)
+          (standing.step_safe c groups t has lists s levels stands h.turn alternate message
+            (subst (IsMet c see) (sym h.at) (subst IsThere (sym e) tt)) slots) u
+
+  pub run_step_ends : ServedBut (want c s) message → (slots : Slots)
+      → execute c (sight s alternate (copy_of (last_of levels)) message) (most_steps c) (s.at + 1) [] (memory_of s slots) ≡ Unfinished → ⊥
+  run_step_ends h slots = by (start_or_served (want c s) alternate message levels h)
+    where
+      by : IsStart (want c s) ⊎ Serves (want c s) alternate message levels
+          → execute c (sight s alternate (copy_of (last_of levels)) message) (most_steps c) (s.at + 1) [] (memory_of s slots) ≡ Unfinished → ⊥
+      by (inl start) = started_ends (starts_here start) slots
+      by (inr serves) =
+          safe_ends c (sight s alternate (copy_of (last_of levels)) message) _ (most_steps c) (s.at + 1) [] (memory_of s slots)
+          (standing.step_safe c groups t has lists s levels stands (is_turn c groups t has lists s levels stands alternate message serves)
+            alternate message (met c groups t has lists s levels stands alternate message serves) slots)

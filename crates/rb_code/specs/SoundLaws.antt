@@ -1,14 +1,18 @@
 -- The laws of sound code: what stands in its table is executed safely, comes to an end, and stands again.
-use Rattle.std.specs.Prelude.{◌≡◌, ℕ, ◌+◌, ℤ, List, [], Option, Some, None}
+use Rattle.std.specs.Prelude.{◌≡◌, ℕ, ◌+◌, ℤ, false, List, [], slice_get, Option, Some, None}
 use Rattle.rb_world.specs.Kind.{Membership}
 use Rattle.rb_world.specs.Slots.{Slots}
-use Rattle.rb_world.specs.World.{Level, copy_of, last_of}
+use Rattle.rb_world.specs.World.{Level, Process, Running, copy_of, last_of}
 use Rattle.rb_code.specs.Plain.{Code}
 use Rattle.rb_code.specs.Memory.{Memory}
 use Rattle.rb_code.specs.Act.{Unfinished, execute}
 use Rattle.rb_code.specs.Turn.{Common, Copy, Standing, memory_of, most_steps, settle, sight, step, want}
+use Rattle.rb_code.specs.Sound.{HasTable, Table}
+use Rattle.rb_code.specs.WellFormed.{ListsChannels}
+use Rattle.rb_code.specs.WordRun.{word_run}
+use Rattle.rb_code.specs.StandsInRuns.{ProcessStands}
 use Rattle.rb_code.specs.Safe.{IsUnchanged, Safe}
-use Rattle.rb_code.specs.Stands.{Serves, SettlesSoundly, StandsSoundly, StandsSoundlyAfter}
+use Rattle.rb_code.specs.Stands.{ServedBut, Serves, SettlesSoundly, StandsSoundly, StandsSoundlyAfter}
 
 -- A step of a process that stands is safe: each instruction finds what it needs, and where the turn may be given up it has changed nothing.
 abbrev pub SoundStepsAreSafe : Type 0
@@ -41,3 +45,17 @@ SoundSettlingStands = (c : Code) (groups : List Membership) (s : Standing) (leve
 abbrev pub StandingHasSettled : Type 0
 StandingHasSettled = (c : Code) (groups : List Membership) (s : Standing) (levels : List (Level Copy)) → StandsSoundly c groups s levels
     → settle c (copy_of (last_of levels)) s ≡ s
+
+-- In every run of code that has a table each process stands: between two turns, at a test line, and from the copy of each of its levels.
+abbrev pub SoundRunsStand : Type 0
+SoundRunsStand = (c : Code) (groups : List Membership) (t : Table) → HasTable c groups t → ListsChannels c → (turns : List ℕ) (p : ℕ)
+    (q : Process Standing Copy) → slice_get (word_run c groups turns).0.processes p ≡ Some q → ProcessStands c t q
+
+-- So what a process of a run executes comes to an end, whatever alternate it is given: its step, where it runs away from a test line and
+-- is served, and its settling.
+abbrev pub SoundRunsEnd : Type 0
+SoundRunsEnd = (c : Code) (groups : List Membership) (t : Table) → HasTable c groups t → ListsChannels c → (turns : List ℕ) (p : ℕ)
+    (q : Process Standing Copy) → slice_get (word_run c groups turns).0.processes p ≡ Some q → q.status ≡ Running → q.at_line ≡ false
+    → (alternate : ℕ) (message : Option ℤ) (slots : Slots) → ServedBut (want c q.state) message
+    → execute c (sight q.state alternate (copy_of (last_of q.levels)) message) (most_steps c) (q.state.at + 1) [] (memory_of q.state slots) ≡ Unfinished
+    → ⊥

@@ -181,6 +181,16 @@ Serves (Enters facts) alternate message levels = ⊥
 Serves Starts alternate message levels = IsAlternate alternate (last_of levels)
 Serves Acts alternate message levels = Unit {0}
 
+-- the same but for the alternate
+abbrev pub ServedBut : Want → Option ℤ → Type 0
+ServedBut NothingLeft message = ⊥
+ServedBut (SendsOn channel) message = Unit {0}
+ServedBut (ReceivesOn channel) message = IsThere message
+ServedBut (MayReceiveOn channel) message = Unit {0}
+ServedBut (Enters facts) message = ⊥
+ServedBut Starts message = Unit {0}
+ServedBut Acts message = Unit {0}
+
 -- What a step comes to stands: where it went on, with the same levels; and where its acceptance test held it is only at another address,
 -- and settles once its innermost level is accepted.
 abbrev pub StandsAfter : Code → Table → Standing → List (Level Copy) → Stepped Standing Common → Type 0

@@ -1,6 +1,8 @@
 //! The laws of code.
 
 ghost use Rattle.rb_code.specs.SoundLaws.{
+  SoundRunsEnd,
+  SoundRunsStand,
   SoundSettlingIsSafe,
   SoundSettlingStands,
   SoundStepsAreSafe,
@@ -31,4 +33,10 @@ pub fn sound_settling_stands()
     ensures safe { SoundSettlingIsSafe }
     ensures stands { SoundSettlingStands }
     ensures settled { StandingHasSettled }
+{}
+
+/// In every run of code that has a table each process stands in it, and what it executes comes to an end.
+pub fn sound_runs_stand()
+    ensures stand { SoundRunsStand }
+    ensures end { SoundRunsEnd }
 {}
