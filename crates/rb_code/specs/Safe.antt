@@ -29,6 +29,14 @@ StayAbove [] words = Unit {0}
 StayAbove (level ∷ []) words = level.height ≤ words
 StayAbove (level ∷ inner ∷ more) words = StayAbove (inner ∷ more) words
 
+-- what a turn may have to leave as it was: all but the pieces of the line and the counters
+pub record IsUnchanged (m later : Memory) : Type 0 where
+  pub words : later.words ≡ m.words
+  pub calls : later.calls ≡ m.calls
+  pub held : later.held ≡ m.held
+  pub touched : later.touched ≡ m.touched
+  pub slots : later.slots ≡ m.slots
+
 module _ (c : Code) (see : Sight) where
   -- a place is one of these words
   abbrev pub IsWord : List ℤ → ℕ → Type 0
@@ -92,7 +100,7 @@ module _ (c : Code) (see : Sight) where
   ReadyAt None operands m = ⊥
   ReadyAt (Some instr) operands m = Ready instr operands m
 
-  -- Where it goes no further and the turn is not over, P holds of the memory: for a step, that it is as at the start; for what stands
+  -- Where it goes no further and the turn is not over, P holds of the memory: for a step, that it is unchanged since the start; for what stands
   -- between two turns, nothing, so that this never comes.
   abbrev pub SafeOn : (Memory → Type 0) → Memory → Outcome → (ℕ → List ℤ → Memory → Type 0) → Type 0
   SafeOn P m (Going a operands later) next = next a operands later
