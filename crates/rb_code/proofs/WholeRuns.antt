@@ -25,3 +25,4 @@ pub mod TogetherAgrees
 pub mod TogetherChanges
 pub mod ProcessesBegin
 pub mod TogetherLaws
+pub mod ChannelsOfProcesses
