@@ -31,7 +31,8 @@ use Rattle.rb_code.proofs.Meets.{Meets, WordsMeet}
 use Rattle.rb_code.proofs.Pushed.{zeros_flat}
 use Rattle.rb_code.proofs.WholeRuns.MachineSteps.{settle_at_rest}
 use Rattle.rb_code.proofs.WholeRuns.OwnMail.{none_sent, none_taken, opening_mail}
-use Rattle.rb_code.proofs.WholeRuns.StandTogether.{StandTogether, Uprightness}
+use Rattle.rb_code.proofs.WholeRuns.PointsLie.{none_left}
+use Rattle.rb_code.proofs.WholeRuns.StandTogether.{StandTogether, Uprightness, Whole}
 use Rattle.rb_code.proofs.WholeRuns.WordsOfStates.{left_at_rest}
 
 -- the element of a list of which each keeps this
@@ -160,7 +161,8 @@ module _ (tree : Tree) (slots : List Slot) (c : Code) (stands : StandsFor tree s
         settled = λ _. performed_settled process.commands;
         mail = opening_mail tree c stands.channels_are p process;
         copies = tt;
-        stands = subst (λ (u : Standing). upright false [] u) rests_first up;
+        points = tt;
+        stands = Whole (none_left process.commands ([] ∷ [])) (subst (λ (u : Standing). upright false [] u) rests_first up);
       }))
 
   pub begins_empty : (settles c None standing).held ≡ []

@@ -20,7 +20,7 @@ use Rattle.rb_code.proofs.Took.{HasCursors}
 use Rattle.rb_code.proofs.WholeRuns.Agreeing.{IsAgreeing, IsAtRest, MayStep, StepsAgree}
 use Rattle.rb_code.proofs.WholeRuns.OwnMail.{sent_counts, taken_counts}
 use Rattle.rb_code.proofs.WholeRuns.Pairs.{pairs_get}
-use Rattle.rb_code.proofs.WholeRuns.PointsLie.{LiesWell}
+use Rattle.rb_code.proofs.WholeRuns.PointsLie.{LiesWell, lies_away}
 use Rattle.rb_code.proofs.WholeRuns.ProcessesBegin.{begins_empty, begins_together}
 use Rattle.rb_code.proofs.WholeRuns.RunsAgree.{runs_agree}
 use Rattle.rb_code.proofs.WholeRuns.StandTogether.{CopyTogether, IsUpright, StandTogether, StepsCome, Uprightness}
@@ -58,10 +58,10 @@ module _ (tree : Tree) (slots : List Slot) (c : Code) (resolved : Resolved tree 
         let copy = pairs_get (CopyTogether tree slots c u.process) cs ds j x y both.copies at at' in copy.meets.words_meet.held;
     keeps = λ line cs s ds u kept t both. keeps_together tree slots c upright keeps line cs s ds u kept t both;
     step = λ p q alternate message memory ds u lies running away may at lines both.
-        takes_step tree slots c upright keeps come nested stands.channels_are q alternate message memory ds u (own_process p q ds u lies both) may at both running away lines;
+        takes_step tree slots c upright keeps come nested stands.channels_are q alternate message memory ds u (own_process p q ds u lies both) (lies_away tree p q lies running away) may at both lines;
     enter = λ p q facts ds u kept t lies running away enters both.
         enters_together tree slots c upright keeps (copies_of q.levels) q.state ds u facts kept t enters
-        (sym (wants (copies_of q.levels) q.state ds u both) ∙ enters) both;
+        (sym (wants (copies_of q.levels) q.state ds u both) ∙ enters) (lies_away tree p q lies running away) both;
     leave = λ cs s ds u lines both. leaves_together tree slots c upright keeps cursors cs s ds u lines both;
     leave_lines = λ cs s ds u lines both. leaves_lines tree slots c upright keeps cursors cs s ds u lines both;
     release = λ line s u both. releases_together tree slots c upright keeps line s u both;
