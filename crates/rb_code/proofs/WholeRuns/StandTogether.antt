@@ -6,7 +6,7 @@ use Rattle.rb_syntax.specs.Tree.{Tree}
 use Rattle.rb_world.specs.Kind.{Facts, Enters, Starts, Stepped, Trapped, Went, Held}
 use Rattle.rb_world.specs.World.{last_of, without_last}
 use Rattle.rb_world.specs.Slots.{Slots, stepped_with_slots}
-use Rattle.rb_meaning.specs.State.{Item, Perform, StartOf, TestOf, EndBlock, EndCall, State, settle}
+use Rattle.rb_meaning.specs.State.{Item, TestOf, State, settle}
 use Rattle.rb_meaning.specs.Step.{Nothing, step, wants_first}
 use Rattle.rb_meaning.specs.Meaning.{environment_of, tree_kind}
 use Rattle.rb_meaning.specs.Laws.{with_test}
@@ -14,7 +14,7 @@ use Rattle.rb_meaning.proofs.InsideOut.{onto}
 use Rattle.rb_meaning.proofs.RecoveryPoints.{IsOwn}
 use Rattle.rb_scope.specs.declared.slot.Slot.{Slot}
 use Rattle.rb_code.specs.Plain.{Code, Part}
-use Rattle.rb_code.specs.Memory.{Memory, OpenCall}
+use Rattle.rb_code.specs.Memory.{Memory}
 use Rattle.rb_code.specs.Act.{Accepts, Sight, Stopped, Trapped as Trap, execute}
 use Rattle.rb_code.specs.Turn.{Common, Copy, Standing, memory_of, most_steps, settle as settles, sight, step as steps, want}
 use Rattle.rb_code.specs.WordKind.{copied, entered_at, released, restored}

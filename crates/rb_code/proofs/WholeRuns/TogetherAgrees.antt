@@ -1,38 +1,34 @@
 -- Processes that stand together agree through whole runs, where steps come to the same and the machine stands upright.
-use Rattle.std.proofs.Common.{◌≡◌, ◌⊎◌, ◌≤◌, ℕ, ℤ, ◌+◌, zero, suc, Bool, true, false, List, [], ◌∷◌, ◌++◌, length, option_map, slice_get, take, Option, Some, None, refl, sym, ap, ◌∙◌, subst, true≢false}
-use Rattle.rb_base.specs.declared.event.Cause.{Cause}
+use Rattle.std.proofs.Common.{◌≡◌, ◌⊎◌, ℕ, ℤ, ◌+◌, false, List, [], ◌∷◌, option_map, Option, Some, None, refl, sym, ap, ◌∙◌, subst, true≢false}
 use Rattle.rb_syntax.specs.Tree.{Tree}
-use Rattle.rb_world.specs.Kind.{Facts, Want, Enters, Starts, Stepped, Trapped, Went, Held}
-use Rattle.rb_world.specs.World.{Running, Process, last_of, without_last}
+use Rattle.rb_world.specs.Kind.{Want, Starts, Stepped, Trapped, Went, Held}
+use Rattle.rb_world.specs.World.{Process, last_of}
 use Rattle.rb_world.specs.Slots.{Slots, stepped_with_slots}
 use Rattle.rb_world.proofs.LastLevels.{last_of-map}
 use Rattle.rb_world.proofs.ListFacts.{heads_same, none_some, some_same}
 use Rattle.rb_world.proofs.Simulation.{copies_of}
-use Rattle.rb_meaning.specs.State.{Item, Perform, StartOf, TestOf, EndBlock, EndCall, State, settle, with_held, with_kept}
-use Rattle.rb_meaning.specs.Step.{Nothing, Result_of_step, enter, step, wants_first}
+use Rattle.rb_meaning.specs.State.{Item, Perform, StartOf, TestOf, EndBlock, EndCall, State, settle}
+use Rattle.rb_meaning.specs.Step.{Nothing, Result_of_step, step, wants_first}
 use Rattle.rb_meaning.specs.Groups.{channels_of}
 use Rattle.rb_meaning.specs.Meaning.{environment_of, tree_kind}
 use Rattle.rb_meaning.specs.Nesting.{IsNested}
 use Rattle.rb_meaning.proofs.InsideOut.{onto}
-use Rattle.rb_meaning.proofs.KnownOfProcess.{Known}
-use Rattle.rb_meaning.proofs.RecoveryPoints.{IsOwn}
 use Rattle.rb_scope.specs.declared.slot.Slot.{Slot}
 use Rattle.rb_code.specs.Plain.{Code}
 use Rattle.rb_code.specs.Act.{Accepts, Outcome, Sight, Stopped, Trapped as Trap, execute}
-use Rattle.rb_code.specs.Turn.{Common, Copy, Standing, came_to, memory_of, most_steps, settled_by, settle as settles, sight, standing_at, step as steps, want}
+use Rattle.rb_code.specs.Turn.{Common, Copy, Standing, came_to, memory_of, most_steps, sight, standing_at, step as steps, want}
 use Rattle.rb_code.proofs.Leads.{EndsIn, IsEnd, enough}
-use Rattle.rb_code.proofs.Left.{IsSettled}
 use Rattle.rb_code.proofs.Meets.{IsPrior, Meets}
 use Rattle.rb_code.proofs.LaidOut.{stacks_of}
-use Rattle.rb_code.proofs.WholeRuns.Agreeing.{BothHeld, BothWent, Meeting, MayStep, StepsAgree, kept_last}
-use Rattle.rb_code.proofs.WholeRuns.OwnMail.{HasOwnMail, held_mail, same_mail, went_mail}
+use Rattle.rb_code.proofs.WholeRuns.Agreeing.{Meeting, MayStep, StepsAgree}
+use Rattle.rb_code.proofs.WholeRuns.OwnMail.{held_mail, same_mail, went_mail}
 use Rattle.rb_code.proofs.WholeRuns.Pairs.{Pairs}
 use Rattle.rb_code.proofs.WholeRuns.PointsLie.{LiesWell, front_gone, stacks_at}
 use Rattle.rb_code.proofs.WholeRuns.StacksLeft.{Stacks, held_leaves, left_in, settled_left, stacks_in, stacks_left, went_leaves}
 use Rattle.rb_code.proofs.WholeRuns.StandTogether.{ComesTo, CopyTogether, Fell, IsUpright, PriorFor, StandTogether, StandsOrFell, StepsCome, Uprightness, Whole}
 use Rattle.rb_code.proofs.WholeRuns.StepsFollow.{Follows, held_follows, went_follows}
 use Rattle.rb_code.proofs.WholeRuns.WantsAgree.{wants_agree}
-use Rattle.rb_code.proofs.WholeRuns.WordsOfStates.{is_prior, kept_meets, left_at_rest, settled_items}
+use Rattle.rb_code.proofs.WholeRuns.WordsOfStates.{is_prior}
 
 -- the last of a list that is told from the inside out
 onto_last : {A : Type 0} (others xs : List A) (y : A) (ys : List A) (x : A) → onto others (x ∷ xs) ≡ y ∷ ys → last_of (x ∷ xs) ≡ Some y
@@ -64,9 +60,13 @@ module _ (tree : Tree) (slots : List Slot) (c : Code) where
           → (copy : State) × (seen : Copy) × (last_of cs ≡ Some copy) × (last_of ds ≡ Some seen) × IsPrior tree c u.process s u.calls copy seen.words u.calls
       found None there same = absurd (none_some same)
       found (Some copy) there same =
-          let pair = pairs_last (CopyTogether tree slots c u.process) cs ds copy pairs there in
-          (copy, pair.0, there, pair.1,
-          is_prior tree slots c u.process s copy u.words pair.0.words u.calls pair.0.calls meets.words_meet pair.2.meets.words_meet (some_same same))
+          let pair = pairs_last (CopyTogether tree slots c u.process) cs ds copy pairs there in (
+            copy,
+            pair.0,
+            there,
+            pair.1,
+            is_prior tree slots c u.process s copy u.words pair.0.words u.calls pair.0.calls meets.words_meet pair.2.meets.words_meet (some_same same),
+          )
 
   prior_for : (u : Standing) (s : State) (cs : List State) (ds : List Copy) (items : List Item) → Meets tree slots c u.process s u.at u.words u.calls
       → Pairs (CopyTogether tree slots c u.process) cs ds → stacks_left items (stacks_in s) ≡ onto [] (stacks_at cs)

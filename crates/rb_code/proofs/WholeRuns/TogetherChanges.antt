@@ -1,8 +1,8 @@
 -- Processes that stand together still do after an entry, once a level was accepted, once lines were released, and once a copy was put back.
-use Rattle.std.proofs.Common.{◌≡◌, ◌⊎◌, ℕ, ℤ, ◌+◌, suc, Bool, true, false, List, [], ◌∷◌, ◌++◌, slice_get, take, Option, Some, None, refl, sym, ap, ◌∙◌, subst, true≢false, arith}
+use Rattle.std.proofs.Common.{◌≡◌, ℕ, ℤ, ◌+◌, suc, Bool, true, false, List, [], ◌∷◌, ◌++◌, slice_get, take, Some, None, refl, sym, ap, ◌∙◌, subst, true≢false, arith}
 use Rattle.rb_syntax.specs.Tree.{Recovering, RecoveryBlock, Recovers, Tree}
 use Rattle.rb_world.specs.Kind.{Facts, Enters}
-use Rattle.rb_world.specs.World.{Running, Process, last_of, without_last}
+use Rattle.rb_world.specs.World.{last_of, without_last}
 use Rattle.rb_world.proofs.ImageRuns.{more-map, take-map}
 use Rattle.rb_world.proofs.LastLevels.{without_last-map}
 use Rattle.rb_world.proofs.ListFacts.{none_some}
@@ -13,9 +13,9 @@ use Rattle.rb_meaning.proofs.KnownFacts.{IsEntered, entered_block}
 use Rattle.rb_scope.specs.Frames.{Shape}
 use Rattle.rb_scope.specs.declared.slot.Slot.{Slot}
 use Rattle.rb_code.specs.Plain.{Code}
-use Rattle.rb_code.specs.Memory.{Memory, OpenCall}
-use Rattle.rb_code.specs.Act.{Outcome, Sight, Stopped, execute}
-use Rattle.rb_code.specs.Forms.{BlockCode, CommandCode}
+use Rattle.rb_code.specs.Memory.{OpenCall}
+use Rattle.rb_code.specs.Act.{Sight, Stopped}
+use Rattle.rb_code.specs.Forms.{CommandCode}
 use Rattle.rb_code.specs.Turn.{Copy, Standing, memory_of, most_steps, settled_by, settle as settles, sight, standing_at, want}
 use Rattle.rb_code.specs.WordKind.{copied, entered_at, released, restored}
 use Rattle.rb_code.proofs.LaidOut.{stacks_of}

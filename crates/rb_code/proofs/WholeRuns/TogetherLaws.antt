@@ -1,8 +1,7 @@
 -- Standing together keeps all laws that whole runs ask for; so the run of code agrees with the meaning, where steps come to the same and
 -- the machine stands upright.
-use Rattle.std.proofs.Common.{◌≡◌, ◌⊎◌, ℕ, Bool, true, false, List, [], slice_get, Some, refl, sym, ap, ◌∙◌, subst}
+use Rattle.std.proofs.Common.{◌≡◌, ℕ, Bool, false, List, refl, sym, ◌∙◌, subst}
 use Rattle.rb_syntax.specs.Tree.{Tree}
-use Rattle.rb_world.specs.Kind.{Enters, Starts}
 use Rattle.rb_world.specs.World.{Process}
 use Rattle.rb_world.proofs.Simulation.{copies_of}
 use Rattle.rb_meaning.specs.State.{State}
@@ -14,10 +13,10 @@ use Rattle.rb_scope.specs.declared.slot.Slot.{Slot}
 use Rattle.rb_code.specs.Laws.{Agrees}
 use Rattle.rb_code.specs.Plain.{Code}
 use Rattle.rb_code.specs.StandsFor.{StandsFor}
-use Rattle.rb_code.specs.Turn.{Common, Copy, Standing, want}
+use Rattle.rb_code.specs.Turn.{Copy, Standing, want}
 use Rattle.rb_code.proofs.LaidOut.{stacks_of}
 use Rattle.rb_code.proofs.Took.{HasCursors}
-use Rattle.rb_code.proofs.WholeRuns.Agreeing.{IsAgreeing, IsAtRest, MayStep, StepsAgree}
+use Rattle.rb_code.proofs.WholeRuns.Agreeing.{IsAgreeing}
 use Rattle.rb_code.proofs.WholeRuns.OwnMail.{sent_counts, taken_counts}
 use Rattle.rb_code.proofs.WholeRuns.Pairs.{pairs_get}
 use Rattle.rb_code.proofs.WholeRuns.PointsLie.{LiesWell, lies_away}

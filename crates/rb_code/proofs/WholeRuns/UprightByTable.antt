@@ -1,5 +1,5 @@
 -- Where code has a table, the machine stands upright: some levels with these copies stand in it.
-use Rattle.std.proofs.Common.{◌≡◌, ◌⊎◌, ℕ, ℤ, pos, ◌+◌, suc, Bool, true, false, List, [], ◌∷◌, ◌++◌, length, map, option_map, slice_get, slice_set, take, Option, Some, None, refl, sym, ap, ◌∙◌, subst, add-one}
+use Rattle.std.proofs.Common.{◌≡◌, ℕ, ℤ, pos, ◌+◌, suc, Bool, true, false, List, [], ◌∷◌, ◌++◌, length, map, option_map, slice_get, slice_set, take, Option, Some, None, refl, sym, ap, ◌∙◌, subst, add-one}
 use Rattle.std.proofs.lemmas.List.{length-set}
 use Rattle.rb_cache.specs.Copies.{accepted}
 use Rattle.rb_world.specs.Kind.{Facts, Membership, Want, NothingLeft, SendsOn, ReceivesOn, MayReceiveOn, Enters, Starts, Acts, Went, Held}
@@ -9,16 +9,16 @@ use Rattle.rb_world.specs.Reject.{back_to}
 use Rattle.rb_world.proofs.ListFacts.{none_some, some_same}
 use Rattle.rb_world.proofs.MarksMeet.{copies-front, copies-get, copies-last, copies-more, copies-take, last-front}
 use Rattle.rb_world.proofs.Simulation.{copies_of}
-use Rattle.rb_code.specs.Plain.{Code, Part}
+use Rattle.rb_code.specs.Plain.{Code}
 use Rattle.rb_code.specs.Memory.{held_place}
 use Rattle.rb_code.specs.Act.{Accepts, Going, Outcome, Stopped, Trapped, Unfinished, execute}
 use Rattle.rb_code.specs.Sound.{HasTable, Table}
 use Rattle.rb_code.specs.Safe.{IsThere}
-use Rattle.rb_code.specs.Stands.{ServedBut, Settles, SettlesSoundly, Stands, StandsAfter, inside_out}
+use Rattle.rb_code.specs.Stands.{ServedBut, Stands, StandsAfter, inside_out}
 use Rattle.rb_code.specs.StandsInRuns.{AllRecover, ProcessStands, StandsNow}
 use Rattle.rb_code.specs.Turn.{Common, Copy, Standing, memory_of, most_steps, settle, sight, step, want}
 use Rattle.rb_code.specs.WellFormed.{ListsChannels}
-use Rattle.rb_code.specs.WordKind.{copied, entered_at, released, restored, word_kind}
+use Rattle.rb_code.specs.WordKind.{copied, entered_at, restored, word_kind}
 use Rattle.rb_code.specs.WordRun.{opening_standing}
 use Rattle.rb_code.proofs.Leads.{IsFinished}
 use Rattle.rb_code.proofs.ProcessesStand.{away_stands, processes_stand}
@@ -140,12 +140,12 @@ module _ (c : Code) (groups : List Membership) (t : Table) (has : HasTable c gro
       → StandsInTable false (take (suc j) ds) (restored (cut_touched (suc j) u) y)
   back_stands line ds u j y h at =
       let found = level_for h.levels (slice_get h.levels j) j y refl
-          (sym (copies-get h.levels j) ∙ ap (λ (copies : List Copy). slice_get copies j) h.copies_are ∙ at) in
+      (sym (copies-get h.levels j) ∙ ap (λ (copies : List Copy). slice_get copies j) h.copies_are ∙ at) in
       let one : ProcessStands c t (back_to (word_kind c groups) j (running_at line u h.levels) (Some found.0)) =
-          subst (λ (o : Option (Level Copy)). ProcessStands c t (back_to (word_kind c groups) j (running_at line u h.levels) o)) found.1
-          ((processes_stand c groups t has lists).goes_back 0 j (running_at line u h.levels) h.stands) in
+      subst (λ (o : Option (Level Copy)). ProcessStands c t (back_to (word_kind c groups) j (running_at line u h.levels) o)) found.1
+      ((processes_stand c groups t has lists).goes_back 0 j (running_at line u h.levels) h.stands) in
       let other : ProcessStands c t (running_at false (restored (cut_touched (suc j) u) found.0.copy) (take (suc j) h.levels)) =
-          subst (λ (i : ℕ). ProcessStands c t (running_at false (restored (cut_touched i u) found.0.copy) (take i h.levels))) (add-one j) one in
+      subst (λ (i : ℕ). ProcessStands c t (running_at false (restored (cut_touched i u) found.0.copy) (take i h.levels))) (add-one j) one in
       record {
         levels = take (suc j) h.levels;
         copies_are = copies-take (suc j) h.levels ∙ ap (take (suc j)) h.copies_are;
