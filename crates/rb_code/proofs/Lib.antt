@@ -23,3 +23,4 @@ pub mod Blocks
 pub mod Branches
 pub mod Fronts
 pub mod Printing
+pub mod Cursors
