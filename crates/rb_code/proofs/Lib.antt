@@ -24,3 +24,4 @@ pub mod Branches
 pub mod Fronts
 pub mod Printing
 pub mod Cursors
+pub mod Mail
