@@ -25,3 +25,4 @@ pub mod Fronts
 pub mod Printing
 pub mod Cursors
 pub mod Mail
+pub mod Calls
