@@ -26,3 +26,4 @@ pub mod Printing
 pub mod Cursors
 pub mod Mail
 pub mod Calls
+pub mod Alternates
