@@ -27,3 +27,4 @@ pub mod Cursors
 pub mod Mail
 pub mod Calls
 pub mod Alternates
+pub mod AcceptanceTests
