@@ -23,3 +23,6 @@ pub mod StandTogether
 pub mod WordsOfStates
 pub mod TogetherAgrees
 pub mod TogetherChanges
+pub mod ProcessesBegin
+pub mod TogetherLaws
+pub mod ChannelsOfProcesses

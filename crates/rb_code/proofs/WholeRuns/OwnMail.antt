@@ -55,12 +55,12 @@ same_mail s t sent taken mail = record {
 }
 
 -- before the first turn
-none_sent : (n channel : ℕ) → length (unwrap_or (slice_get (replicate n (nothing {A = ℤ})) channel) []) ≡ 0
+pub none_sent : (n channel : ℕ) → length (unwrap_or (slice_get (replicate n (nothing {A = ℤ})) channel) []) ≡ 0
 none_sent zero channel = refl
 none_sent (suc n) zero = refl
 none_sent (suc n) (suc channel) = none_sent n channel
 
-none_taken : (n channel : ℕ) → unwrap_or (slice_get (replicate n zero) channel) zero ≡ zero
+pub none_taken : (n channel : ℕ) → unwrap_or (slice_get (replicate n zero) channel) zero ≡ zero
 none_taken zero channel = refl
 none_taken (suc n) zero = refl
 none_taken (suc n) (suc channel) = none_taken n channel

@@ -83,7 +83,7 @@ module _ (tree : Tree) (slots : List Slot) (c : Code) (upright : Uprightness) (k
   abbrev pub together : Meeting
   together = StandTogether tree slots c upright
 
-  want_same : (cs : List State) (s : State) (ds : List Copy) (u : Standing) → together false cs s ds u → wants_first tree s.items ≡ want c u
+  pub want_same : (cs : List State) (s : State) (ds : List Copy) (u : Standing) → together false cs s ds u → wants_first tree s.items ≡ want c u
   want_same cs s ds u both =
       wants_agree c tree slots u.process (stacks_of s.environment.calls) s.items u.calls u.at both.meets.left (both.settled refl)
 
