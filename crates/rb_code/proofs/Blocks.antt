@@ -32,7 +32,7 @@ use Rattle.rb_code.proofs.Loops.{jumps_zero, passes_zero}
 use Rattle.rb_code.proofs.Stores.{frames_of, plain_comes}
 use Rattle.rb_code.proofs.Took.{HasCursors, InTurn, Took, arrives, took_from, took_on, words_again, words_continue}
 
-not_above : (most w : ℕ) → nat_lt most w ≡ false → w ≤ most
+pub not_above : (most w : ℕ) → nat_lt most w ≡ false → w ≤ most
 not_above most w h = grind (arith, nat_tests)
 
 module _ (tree : Tree) (slots : List Slot) (c : Code) (see : Sight) (has : HasCursors c see.process) where

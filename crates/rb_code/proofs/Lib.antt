@@ -23,6 +23,11 @@ pub mod Blocks
 pub mod Branches
 pub mod Fronts
 pub mod Printing
+pub mod Cursors
+pub mod Mail
+pub mod Calls
+pub mod Alternates
+pub mod AcceptanceTests
 pub mod Digits
 pub mod OpenLoops
 pub mod LoopSteps
@@ -48,3 +53,4 @@ pub mod StandsAgain
 pub mod ProcessesStand
 pub mod RunsStand
 pub mod WholeRuns
+pub mod StepComes
