@@ -26,3 +26,5 @@ pub mod TogetherChanges
 pub mod ProcessesBegin
 pub mod TogetherLaws
 pub mod ChannelsOfProcesses
+pub mod UprightByTable
+pub mod CodeAgrees

@@ -1,10 +1,10 @@
 -- In code that stands for a nested and resolved tree each process lists its channels, and so has a cursor for each of which it is an end.
-use Rattle.std.proofs.Common.{◌≡◌, ◌⊎◌, inl, inr, ◌<◌, ℕ, zero, suc, nat_eq, Bool, true, false, not, List, [], ◌∷◌, length, map, option_map, slice_get, Option, Some, None, refl, sym, ap, ◌∙◌, subst, eq-eqb, true≢false, arith}
+use Rattle.std.proofs.Common.{◌≡◌, ◌⊎◌, inl, inr, ◌<◌, ℕ, zero, suc, Bool, true, not, List, [], ◌∷◌, length, option_map, slice_get, Option, Some, None, refl, sym, ap, ◌∙◌, subst, eq-eqb, true≢false, arith}
 use Rattle.std.specs.List.{list_all}
-use Rattle.std.proofs.lemmas.Option.{slice_get-map, slice_get_within}
+use Rattle.std.proofs.lemmas.Option.{slice_get-map}
 use Rattle.rb_syntax.specs.Tree.{ChannelDeclaration, ProcessDeclaration, Tree}
 use Rattle.rb_world.specs.Kind.{Ends}
-use Rattle.rb_world.proofs.ListFacts.{first_holds, none_some, second_holds, slice_get-there, some_same}
+use Rattle.rb_world.proofs.ListFacts.{first_holds, none_some, second_holds, some_same}
 use Rattle.rb_meaning.specs.Groups.{channels_of, ends_of}
 use Rattle.rb_meaning.specs.Nesting.{IsNested, keeps_n12}
 use Rattle.rb_scope.specs.InFrames.{ChannelInFrames, Resolved}
@@ -66,9 +66,8 @@ module _ (tree : Tree) (slots : List Slot) (c : Code) (stands : StandsFor tree s
   ends_within : (channel : ℕ) (ends : Ends) → slice_get c.channels channel ≡ Some ends → (ends.sender < length tree.processes) × (ends.receiver < length tree.processes)
   ends_within channel ends e =
       let found = declared_by tree (slice_get tree.channels channel) ends
-          (sym (slice_get-map (ends_of tree) tree.channels channel) ∙ ap (λ (channels : List Ends). slice_get channels channel) (sym stands.channels_are) ∙ e) in
-      let inside : ChannelInFrames tree slots found.0 = all_there (ChannelInFrames tree slots) tree.channels channel found.0 resolved.channels found.1 in
-      (
+      (sym (slice_get-map (ends_of tree) tree.channels channel) ∙ ap (λ (channels : List Ends). slice_get channels channel) (sym stands.channels_are) ∙ e) in
+      let inside : ChannelInFrames tree slots found.0 = all_there (ChannelInFrames tree slots) tree.channels channel found.0 resolved.channels found.1 in (
         subst (λ (x : Ends). x.sender < length tree.processes) found.2 inside.sender.there,
         subst (λ (x : Ends). x.receiver < length tree.processes) found.2 inside.receiver.there,
       )

@@ -36,29 +36,29 @@ PointsLie outer (copy ∷ copies) = (left_in copy ≡ stacks_in copy ∷ outer) 
 abbrev pub stacks_at : List State → List Stacks
 stacks_at copies = map stacks_in copies
 
-lie_more : (outer : List Stacks) (copies : List State) (copy : State) → PointsLie outer copies → left_in copy ≡ stacks_in copy ∷ onto outer (stacks_at copies)
+pub lie_more : (outer : List Stacks) (copies : List State) (copy : State) → PointsLie outer copies → left_in copy ≡ stacks_in copy ∷ onto outer (stacks_at copies)
     → PointsLie outer (copies ++ copy ∷ [])
 lie_more outer [] copy lie e = (e, tt)
 lie_more outer (one ∷ copies) copy lie e = (lie.0, lie_more (stacks_in one ∷ outer) copies copy lie.1 e)
 
-lie_front : (outer : List Stacks) (copies : List State) → PointsLie outer copies → PointsLie outer (without_last copies)
+pub lie_front : (outer : List Stacks) (copies : List State) → PointsLie outer copies → PointsLie outer (without_last copies)
 lie_front outer [] lie = tt
 lie_front outer (copy ∷ []) lie = tt
 lie_front outer (copy ∷ other ∷ copies) lie = (lie.0, lie_front (stacks_in copy ∷ outer) (other ∷ copies) lie.1)
 
-lie_taken : (outer : List Stacks) (n : ℕ) (copies : List State) → PointsLie outer copies → PointsLie outer (take n copies)
+pub lie_taken : (outer : List Stacks) (n : ℕ) (copies : List State) → PointsLie outer copies → PointsLie outer (take n copies)
 lie_taken outer zero copies lie = tt
 lie_taken outer (suc n) [] lie = tt
 lie_taken outer (suc n) (copy ∷ copies) lie = (lie.0, lie_taken (stacks_in copy ∷ outer) n copies lie.1)
 
-lies_at : (outer : List Stacks) (j : ℕ) (copies : List State) (copy : State) → PointsLie outer copies → slice_get copies j ≡ Some copy
+pub lies_at : (outer : List Stacks) (j : ℕ) (copies : List State) (copy : State) → PointsLie outer copies → slice_get copies j ≡ Some copy
     → left_in copy ≡ onto outer (take (suc j) (stacks_at copies))
 lies_at outer j [] copy lie e = absurd (none_some e)
 lies_at outer zero (one ∷ copies) copy lie e = subst (λ (x : State). left_in x ≡ stacks_in one ∷ outer) (some_same e) lie.0
 lies_at outer (suc j) (one ∷ copies) copy lie e = lies_at (stacks_in one ∷ outer) j copies copy lie.1 e
 
 -- the frames of the test that held were those of the innermost copy
-front_gone : (first : Stacks) (others all : List Stacks) → first ∷ others ≡ onto [] all → others ≡ onto [] (without_last all)
+pub front_gone : (first : Stacks) (others all : List Stacks) → first ∷ others ≡ onto [] all → others ≡ onto [] (without_last all)
 front_gone first others [] e = cc
 front_gone first others (x ∷ all) e = sym (onto-front [] x all first others (sym e))
 
@@ -73,6 +73,17 @@ pub lies_away : (tree : Tree) (p : ℕ) (q : Process State State) → LiesWell t
     → left_in q.state ≡ onto [] (stacks_at (copies_of q.levels))
 lies_away tree p q lies running away =
     lies.left (ap is_failed running) ∙ ap (λ line. onto [] (with_test line (stacks_at (copies_of q.levels)))) away
+
+-- the block that is entered is left in the present frames
+pub entered_left : (tree : Tree) (s : State) (facts : Facts) → IsEntered tree s.items facts → left_in (enter s) ≡ stacks_in s ∷ left_in s
+entered_left tree s facts entry =
+    ap (λ items. stacks_left (entered_items items) (stacks_in s)) entry.is
+    ∙ ap (λ items. stacks_in s ∷ stacks_left items (stacks_in s)) (sym entry.is)
+
+-- before the first turn no start is left
+pub none_left : (commands : Commands) (stacks : Stacks) → stacks_left (performed commands []) stacks ≡ []
+none_left NoCommand stacks = refl
+none_left (Then first commands) stacks = none_left commands stacks
 
 module _ (tree : Tree) (nested : IsNested tree) where
   abbrev keeps : KeepsEach (tree_kind tree) (Known tree)
@@ -91,12 +102,6 @@ module _ (tree : Tree) (nested : IsNested tree) where
 
   lies_front : (levels : List (Level State)) → PointsLie [] (copies_of levels) → PointsLie [] (copies_of (without_last levels))
   lies_front levels lie = subst (PointsLie []) (sym (copies-front levels)) (lie_front [] (copies_of levels) lie)
-
-  -- the block that is entered is left in the present frames
-  entered_left : (s : State) (facts : Facts) → IsEntered tree s.items facts → left_in (enter s) ≡ stacks_in s ∷ left_in s
-  entered_left s facts entry =
-      ap (λ items. stacks_left (entered_items items) (stacks_in s)) entry.is
-      ∙ ap (λ items. stacks_in s ∷ stacks_left items (stacks_in s)) (sym entry.is)
 
   lies_back : (p j : ℕ) (q : Process State State) (o : Option (Level State)) → slice_get q.levels j ≡ o → LiesWell tree p q
       → Known tree p (back_to (tree_kind tree) j q o) → LiesWell tree p (back_to (tree_kind tree) j q o)
@@ -135,7 +140,7 @@ module _ (tree : Tree) (nested : IsNested tree) where
         let new = new_level (tree_kind tree) f a s in
         let away = lies_away tree p q lies at.acts.runs.running at.acts.away in
         let entered : left_in s ≡ stacks_in s ∷ onto [] (stacks_at (copies_of q.levels)) =
-        entered_left q.state f (entered_block tree q.state.items f at.wants) ∙ ap (λ all. stacks_in s ∷ all) away in
+        entered_left tree q.state f (entered_block tree q.state.items f at.wants) ∙ ap (λ all. stacks_in s ∷ all) away in
         record {
           known = keeps.opens t p q w f a lies.known at;
           points = subst (PointsLie []) (sym (copies-more q.levels new)) (lie_more [] (copies_of q.levels) s lies.points entered);
@@ -177,11 +182,6 @@ module _ (tree : Tree) (nested : IsNested tree) where
       left = λ whole. freed_same q.state q.levels ∙ lies.left whole;
     };
   }
-
-  -- before the first turn no start is left
-  none_left : (commands : Commands) (stacks : Stacks) → stacks_left (performed commands []) stacks ≡ []
-  none_left NoCommand stacks = refl
-  none_left (Then first commands) stacks = none_left commands stacks
 
   pub lies_opening : (r : ℕ) (s : State) → slice_get (opening_states tree 0 tree.processes) r ≡ Some s → LiesWell tree r (settled (tree_kind tree) s [])
   lies_opening r s e = record {

@@ -1,16 +1,16 @@
 -- Before the first turn a process of a resolved tree and one of code that stands for the tree stand together: its whole text is left, and
 -- all its words are 0.
-use Rattle.std.proofs.Common.{◌≡◌, ◌≤◌, ◌+◌, ℕ, ℤ, pos, zero, suc, false, List, [], ◌∷◌, ◌++◌, length, replicate, slice_get, unwrap_or, get_or, Option, Some, None, refl, sym, ap, ap₂, ◌∙◌, subst, arith, append-nil}
+use Rattle.std.proofs.Common.{◌≡◌, ◌≤◌, ◌+◌, ℕ, ℤ, pos, zero, suc, false, List, [], ◌∷◌, ◌++◌, length, replicate, slice_get, unwrap_or, Some, None, refl, sym, ap, ◌∙◌, subst, arith, append-nil}
 use Rattle.std.specs.List.{All}
 use Rattle.std.proofs.lemmas.List.{length-replicate, replicate-append-replicate}
 use Rattle.std.proofs.lemmas.List.Elements.{All-get_or}
 use Rattle.std.proofs.lemmas.Option.{slice_get-get_or, slice_get_within}
 use Rattle.rb_base.specs.Limits.{most_words}
-use Rattle.rb_syntax.specs.Tree.{Commands, NoCommand, Then, Declaration, ProcessDeclaration, Tree}
+use Rattle.rb_syntax.specs.Tree.{Commands, NoCommand, Then, ProcessDeclaration, Tree}
 use Rattle.rb_world.proofs.ListFacts.{none_some, some_same}
-use Rattle.rb_meaning.specs.Environment.{Environment, frame_of, frame_words, words}
-use Rattle.rb_meaning.specs.State.{Item, State, performed, settle, settle_items, with_settled}
-use Rattle.rb_meaning.specs.Groups.{channels_of, procedures_of}
+use Rattle.rb_meaning.specs.Environment.{Environment, frame_of, words}
+use Rattle.rb_meaning.specs.State.{State, performed, settle, settle_items, with_settled}
+use Rattle.rb_meaning.specs.Groups.{procedures_of}
 use Rattle.rb_meaning.specs.Meaning.{opening_state}
 use Rattle.rb_scope.specs.Frames.{main_frames, shape_of, shape_words}
 use Rattle.rb_scope.specs.InFrames.{CommandsInFrames, Resolved}
@@ -24,14 +24,15 @@ use Rattle.rb_code.specs.Turn.{Standing, settle as settles}
 use Rattle.rb_code.specs.WordRun.{opening_standing}
 use Rattle.rb_code.proofs.BlocksBegin.{commands_left}
 use Rattle.rb_code.proofs.Environments.{words_of_frame}
-use Rattle.rb_code.proofs.LaidOut.{Laid, flat, flat_frame}
+use Rattle.rb_code.proofs.LaidOut.{Laid, flat_frame}
 use Rattle.rb_code.proofs.Left.{IsSettled, Left, frames_at, owner_of, variables_of_process}
 use Rattle.rb_code.proofs.Lying.{frame_long}
 use Rattle.rb_code.proofs.Meets.{Meets, WordsMeet}
 use Rattle.rb_code.proofs.Pushed.{zeros_flat}
 use Rattle.rb_code.proofs.WholeRuns.MachineSteps.{settle_at_rest}
 use Rattle.rb_code.proofs.WholeRuns.OwnMail.{none_sent, none_taken, opening_mail}
-use Rattle.rb_code.proofs.WholeRuns.StandTogether.{StandTogether, Uprightness}
+use Rattle.rb_code.proofs.WholeRuns.PointsLie.{none_left}
+use Rattle.rb_code.proofs.WholeRuns.StandTogether.{StandTogether, Uprightness, Whole}
 use Rattle.rb_code.proofs.WholeRuns.WordsOfStates.{left_at_rest}
 
 -- the element of a list of which each keeps this
@@ -160,7 +161,8 @@ module _ (tree : Tree) (slots : List Slot) (c : Code) (stands : StandsFor tree s
         settled = λ _. performed_settled process.commands;
         mail = opening_mail tree c stands.channels_are p process;
         copies = tt;
-        stands = subst (λ (u : Standing). upright false [] u) rests_first up;
+        points = tt;
+        stands = Whole (none_left process.commands ([] ∷ [])) (subst (λ (u : Standing). upright false [] u) rests_first up);
       }))
 
   pub begins_empty : (settles c None standing).held ≡ []

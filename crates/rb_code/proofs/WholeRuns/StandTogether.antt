@@ -6,13 +6,15 @@ use Rattle.rb_syntax.specs.Tree.{Tree}
 use Rattle.rb_world.specs.Kind.{Facts, Enters, Starts, Stepped, Trapped, Went, Held}
 use Rattle.rb_world.specs.World.{last_of, without_last}
 use Rattle.rb_world.specs.Slots.{Slots, stepped_with_slots}
-use Rattle.rb_meaning.specs.State.{Item, Perform, StartOf, TestOf, EndBlock, EndCall, State, settle}
+use Rattle.rb_meaning.specs.State.{Item, TestOf, State, settle}
 use Rattle.rb_meaning.specs.Step.{Nothing, step, wants_first}
 use Rattle.rb_meaning.specs.Meaning.{environment_of, tree_kind}
+use Rattle.rb_meaning.specs.Laws.{with_test}
+use Rattle.rb_meaning.proofs.InsideOut.{onto}
 use Rattle.rb_meaning.proofs.RecoveryPoints.{IsOwn}
 use Rattle.rb_scope.specs.declared.slot.Slot.{Slot}
 use Rattle.rb_code.specs.Plain.{Code, Part}
-use Rattle.rb_code.specs.Memory.{Memory, OpenCall}
+use Rattle.rb_code.specs.Memory.{Memory}
 use Rattle.rb_code.specs.Act.{Accepts, Sight, Stopped, Trapped as Trap, execute}
 use Rattle.rb_code.specs.Turn.{Common, Copy, Standing, memory_of, most_steps, settle as settles, sight, step as steps, want}
 use Rattle.rb_code.specs.WordKind.{copied, entered_at, released, restored}
@@ -23,6 +25,8 @@ use Rattle.rb_code.proofs.Meets.{IsPrior, Meets}
 use Rattle.rb_code.proofs.WholeRuns.Agreeing.{MayStep, accepted_touched, cut_touched, kept_last}
 use Rattle.rb_code.proofs.WholeRuns.OwnMail.{HasOwnMail}
 use Rattle.rb_code.proofs.WholeRuns.Pairs.{Pairs}
+use Rattle.rb_code.proofs.WholeRuns.PointsLie.{PointsLie, stacks_at}
+use Rattle.rb_code.proofs.WholeRuns.StacksLeft.{left_in}
 
 -- whether the process stands at a test line, the copies of its levels from the outermost in, and what stands
 abbrev pub Uprightness : Type 1
@@ -48,7 +52,7 @@ pub record IsUpright (c : Code) (upright : Uprightness) : Type 0 where
   pub releases : (line : Bool) (u : Standing) → upright line [] u → upright line [] (released u)
   pub back : (line : Bool) (ds : List Copy) (u : Standing) (j : ℕ) (y : Copy) → upright line ds u → slice_get ds j ≡ Some y
       → upright false (take (suc j) ds) (restored (cut_touched (suc j) u) y)
-  pub falls : (ds : List Copy) (u : Standing) → upright false ds u → upright false [] (cut_touched 0 u)
+  pub falls : (u : Standing) → upright false [] u → upright false [] (cut_touched 0 u)
   pub opens : (p : ℕ) (part : Part) → slice_get c.processes p ≡ Some part → upright false [] (settles c None (opening_standing p part))
 
 module _ (tree : Tree) (slots : List Slot) (c : Code) where
@@ -59,13 +63,20 @@ module _ (tree : Tree) (slots : List Slot) (c : Code) where
     pub settled : IsSettled x.items
     pub mail : HasOwnMail c p x
 
+  -- The machine stands upright, and each start and test that is left has its copy, in the very frames; or the process fell while one was
+  -- left, and has no copy.
+  pub data StandsOrFell (upright : Uprightness) (line : Bool) (cs : List State) (s : State) (ds : List Copy) (u : Standing) : Type 0 where
+    Whole : left_in s ≡ onto [] (with_test line (stacks_at cs)) → upright line ds u → StandsOrFell upright line cs s ds u
+    Fell : line ≡ false → cs ≡ [] → (left_in s ≡ [] → ⊥) → StandsOrFell upright line cs s ds u
+
   pub record StandTogether (upright : Uprightness) (line : Bool) (cs : List State) (s : State) (ds : List Copy) (u : Standing) : Type 0 where
     pub process : s.process ≡ u.process
     pub meets : Meets tree slots c u.process s u.at u.words u.calls
     pub settled : line ≡ false → IsSettled s.items
     pub mail : HasOwnMail c u.process s
     pub copies : Pairs (CopyTogether u.process) cs ds
-    pub stands : upright line ds u
+    pub points : PointsLie [] cs
+    pub stands : StandsOrFell upright line cs s ds u
 
   -- where a test stands first there is a copy in the frames of the state, whose words the machine sees
   abbrev pub PriorFor : Standing → State → List Item → Option State → Option Copy → Type 0

@@ -1,18 +1,21 @@
 -- Processes that stand together still do after an entry, once a level was accepted, once lines were released, and once a copy was put back.
-use Rattle.std.proofs.Common.{◌≡◌, ◌⊎◌, ℕ, ℤ, ◌+◌, suc, Bool, true, false, List, [], ◌∷◌, ◌++◌, slice_get, take, Option, Some, None, refl, sym, ap, ◌∙◌, subst, arith}
+use Rattle.std.proofs.Common.{◌≡◌, ℕ, ℤ, ◌+◌, suc, Bool, true, false, List, [], ◌∷◌, ◌++◌, slice_get, take, Some, None, refl, sym, ap, ◌∙◌, subst, true≢false, arith}
 use Rattle.rb_syntax.specs.Tree.{Recovering, RecoveryBlock, Recovers, Tree}
 use Rattle.rb_world.specs.Kind.{Facts, Enters}
-use Rattle.rb_world.specs.World.{Running, Process, last_of, without_last}
-use Rattle.rb_world.proofs.Simulation.{copies_of}
+use Rattle.rb_world.specs.World.{last_of, without_last}
+use Rattle.rb_world.proofs.ImageRuns.{more-map, take-map}
+use Rattle.rb_world.proofs.LastLevels.{without_last-map}
+use Rattle.rb_world.proofs.ListFacts.{none_some}
 use Rattle.rb_meaning.specs.State.{Item, Perform, StartOf, State, settle, with_held, with_kept}
 use Rattle.rb_meaning.specs.Step.{enter, entered_items, wants_first}
+use Rattle.rb_meaning.proofs.InsideOut.{onto, onto-more, onto-some}
 use Rattle.rb_meaning.proofs.KnownFacts.{IsEntered, entered_block}
 use Rattle.rb_scope.specs.Frames.{Shape}
 use Rattle.rb_scope.specs.declared.slot.Slot.{Slot}
 use Rattle.rb_code.specs.Plain.{Code}
-use Rattle.rb_code.specs.Memory.{Memory, OpenCall}
-use Rattle.rb_code.specs.Act.{Outcome, Sight, Stopped, execute}
-use Rattle.rb_code.specs.Forms.{BlockCode, CommandCode}
+use Rattle.rb_code.specs.Memory.{OpenCall}
+use Rattle.rb_code.specs.Act.{Sight, Stopped}
+use Rattle.rb_code.specs.Forms.{CommandCode}
 use Rattle.rb_code.specs.Turn.{Copy, Standing, memory_of, most_steps, settled_by, settle as settles, sight, standing_at, want}
 use Rattle.rb_code.specs.WordKind.{copied, entered_at, released, restored}
 use Rattle.rb_code.proofs.LaidOut.{stacks_of}
@@ -22,8 +25,11 @@ use Rattle.rb_code.proofs.Meets.{Meets}
 use Rattle.rb_code.proofs.Took.{HasCursors, Reached, arrives}
 use Rattle.rb_code.proofs.WholeRuns.Agreeing.{accepted_touched, cut_touched, kept_last}
 use Rattle.rb_code.proofs.WholeRuns.OwnMail.{same_mail}
-use Rattle.rb_code.proofs.WholeRuns.Pairs.{pairs_front, pairs_get, pairs_more, pairs_take}
-use Rattle.rb_code.proofs.WholeRuns.StandTogether.{CopyTogether, IsUpright, StandTogether, Uprightness}
+use Rattle.rb_code.proofs.WholeRuns.Pairs.{Pairs, pairs_front, pairs_get, pairs_more, pairs_take}
+use Rattle.rb_code.proofs.WholeRuns.PointsLie.{entered_left as left_entered, lie_front, lie_more, lie_taken, lies_at, stacks_at}
+use Rattle.rb_code.proofs.WholeRuns.StandTogether.{CopyTogether, Fell, IsUpright, StandTogether, StandsOrFell, Uprightness, Whole}
+use Rattle.rb_code.proofs.WholeRuns.StacksLeft.{left_in, settled_left, stacks_in}
+use Rattle.rb_code.proofs.WholeRuns.TogetherAgrees.{whole_upright}
 use Rattle.rb_code.proofs.WholeRuns.WordsOfStates.{kept_meets, released_meets}
 
 module _ (tree : Tree) (slots : List Slot) (c : Code) (p : ℕ) where
@@ -63,12 +69,13 @@ module _ (tree : Tree) (slots : List Slot) (c : Code) (upright : Uprightness) (k
   Together = StandTogether tree slots c upright
 
   pub enters_together : (cs : List State) (s : State) (ds : List Copy) (u : Standing) (facts : Facts) (kept : List (ℕ × ℕ)) (t : ℕ)
-      → wants_first tree s.items ≡ Enters facts → want c u ≡ Enters facts → StandTogether tree slots c upright false cs s ds u
+      → wants_first tree s.items ≡ Enters facts → want c u ≡ Enters facts → left_in s ≡ onto [] (stacks_at cs) → StandTogether tree slots c upright false cs s ds u
       → let x = with_kept kept (enter s) in
       let y = kept_last t (entered_at u) in
       StandTogether tree slots c upright false (cs ++ x ∷ []) x (ds ++ copied y ∷ []) y
-  enters_together cs s ds u facts kept t wants asks both =
+  enters_together cs s ds u facts kept t wants asks whole both =
       let entry = entered_block tree s.items facts wants in
+      let all : left_in (with_kept kept (enter s)) ≡ stacks_in s ∷ onto [] (stacks_at cs) = left_entered tree s facts entry ∙ ap (λ others. stacks_in s ∷ others) whole in
       let x = with_kept kept (enter s) in
       let y = kept_last t (entered_at u) in
       let met = entered_meets tree slots c u.process s facts kept u.at u.words u.calls entry both.meets in
@@ -81,7 +88,9 @@ module _ (tree : Tree) (slots : List Slot) (c : Code) (upright : Uprightness) (k
         mail = mail;
         copies = pairs_more (CopyTogether tree slots c u.process) cs ds x (copied y) both.copies
             (record { process = both.process; meets = met; settled = settled; mail = mail });
-        stands = keeps.enters ds u facts t both.stands asks;
+        points = lie_more [] cs x both.points all;
+        stands = Whole (all ∙ sym (onto-more [] (stacks_at cs) (stacks_in s)) ∙ ap (onto []) (sym (more-map stacks_in cs x)))
+            (keeps.enters ds u facts t (whole_upright whole both.stands) asks);
       }
 
   pub keeps_together : (line : Bool) (cs : List State) (s : State) (ds : List Copy) (u : Standing) (kept : List (ℕ × ℕ)) (t : ℕ)
@@ -92,8 +101,13 @@ module _ (tree : Tree) (slots : List Slot) (c : Code) (upright : Uprightness) (k
     settled = both.settled;
     mail = same_mail s (with_kept kept s) refl refl both.mail;
     copies = both.copies;
-    stands = keeps.keeps line ds u t both.stands;
+    points = both.points;
+    stands = by both.stands;
   }
+    where
+      by : StandsOrFell tree slots c upright line cs s ds u → StandsOrFell tree slots c upright line cs (with_kept kept s) ds (kept_last t u)
+      by (Whole e up) = Whole e (keeps.keeps line ds u t up)
+      by (Fell away none some) = Fell away none some
 
   pub releases_together : (line : Bool) (s : State) (u : Standing) → StandTogether tree slots c upright line [] s [] u
       → StandTogether tree slots c upright line [] (with_held [] s) [] (released u)
@@ -103,8 +117,13 @@ module _ (tree : Tree) (slots : List Slot) (c : Code) (upright : Uprightness) (k
     settled = both.settled;
     mail = same_mail s (with_held [] s) refl refl both.mail;
     copies = tt;
-    stands = keeps.releases line u both.stands;
+    points = tt;
+    stands = by both.stands;
   }
+    where
+      by : StandsOrFell tree slots c upright line [] s [] u → StandsOrFell tree slots c upright line [] (with_held [] s) [] (released u)
+      by (Whole e up) = Whole e (keeps.releases line u up)
+      by (Fell away none some) = Fell away none some
 
   pub back_together : (line : Bool) (cs : List State) (s : State) (ds : List Copy) (u : Standing) (j : ℕ) (x : State) (y : Copy)
       → StandTogether tree slots c upright line cs s ds u → slice_get cs j ≡ Some x → slice_get ds j ≡ Some y
@@ -117,8 +136,13 @@ module _ (tree : Tree) (slots : List Slot) (c : Code) (upright : Uprightness) (k
         settled = λ _. copy.settled;
         mail = copy.mail;
         copies = pairs_take (CopyTogether tree slots c u.process) (suc j) cs ds both.copies;
-        stands = keeps.back line ds u j y both.stands at';
+        points = lie_taken [] (suc j) cs both.points;
+        stands = by both.stands;
       }
+    where
+      by : StandsOrFell tree slots c upright line cs s ds u → StandsOrFell tree slots c upright false (take (suc j) cs) x (take (suc j) ds) (restored (cut_touched (suc j) u) y)
+      by (Whole e up) = Whole (lies_at [] j cs x both.points at ∙ ap (onto []) (take-map stacks_in (suc j) cs)) (keeps.back line ds u j y up at')
+      by (Fell away none some) = absurd (none_some (ap (λ (copies : List State). slice_get copies j) (sym none) ∙ at))
 
   pub falls_together : (cs : List State) (s : State) (ds : List Copy) (u : Standing) → StandTogether tree slots c upright false cs s ds u
       → StandTogether tree slots c upright false [] s [] (cut_touched 0 u)
@@ -128,12 +152,25 @@ module _ (tree : Tree) (slots : List Slot) (c : Code) (upright : Uprightness) (k
     settled = both.settled;
     mail = both.mail;
     copies = tt;
-    stands = keeps.falls ds u both.stands;
+    points = tt;
+    stands = by cs ds both.copies both.stands;
   }
+    where
+      by : (xs : List State) (ys : List Copy) → Pairs (CopyTogether tree slots c u.process) xs ys → StandsOrFell tree slots c upright false xs s ys u
+          → StandsOrFell tree slots c upright false [] s [] (cut_touched 0 u)
+      by xs ys pairs (Fell away none some) = Fell refl refl some
+      by [] [] pairs (Whole e up) = Whole e (keeps.falls u up)
+      by [] (y ∷ ys) pairs (Whole e up) = absurd pairs
+      by (x ∷ xs) ys pairs (Whole e up) = Fell refl refl (λ none. onto-some (stacks_in x) [] (stacks_at xs) (sym none ∙ e))
 
   -- once a level was accepted, ends of blocks and calls are taken off
   module _ (cursors : (p : ℕ) → HasCursors c p) (cs : List State) (s : State) (ds : List Copy) (u : Standing) (lines : u.held ≡ s.held)
       (both : StandTogether tree slots c upright true cs s ds u) where
+    -- who stands at a line has not fallen
+    whole_at_line : StandsOrFell tree slots c upright true cs s ds u → (left_in s ≡ onto [] (without_last (stacks_at cs))) × upright true ds u
+    whole_at_line (Whole e up) = (e, up)
+    whole_at_line (Fell away none some) = absurd (true≢false away)
+
     abbrev gone : Standing
     gone = accepted_touched u
 
@@ -150,7 +187,7 @@ module _ (tree : Tree) (slots : List Slot) (c : Code) (upright : Uprightness) (k
     settled_is : (r : reached) → settles c (last_of (without_last ds)) gone ≡ standing_at r.to r.later gone
     settled_is r =
         ap (settled_by gone)
-        (enough c seen (most_steps c) u.at [] (memory_of gone []) (Stopped r.to r.later) tt r.ends (keeps.settles_finish ds u both.stands))
+        (enough c seen (most_steps c) u.at [] (memory_of gone []) (Stopped r.to r.later) tt r.ends (keeps.settles_finish ds u (whole_at_line both.stands).1))
 
     pub leaves_together : StandTogether tree slots c upright false (without_last cs) (settle s) (without_last ds) (settles c (last_of (without_last ds)) gone)
     leaves_together =
@@ -162,7 +199,9 @@ module _ (tree : Tree) (slots : List Slot) (c : Code) (upright : Uprightness) (k
           settled = λ _. r.settled;
           mail = same_mail s (settle s) refl refl both.mail;
           copies = pairs_front (CopyTogether tree slots c u.process) cs ds both.copies;
-          stands = subst (λ (v : Standing). upright false (without_last ds) v) is (keeps.leaves ds u both.stands);
+          points = lie_front [] cs both.points;
+          stands = Whole (settled_left s.items s.environment ∙ (whole_at_line both.stands).0 ∙ ap (onto []) (without_last-map stacks_in cs))
+              (subst (λ (v : Standing). upright false (without_last ds) v) is (keeps.leaves ds u (whole_at_line both.stands).1));
         })
 
     pub leaves_lines : (settles c (last_of (without_last ds)) gone).held ≡ u.held

@@ -1,8 +1,7 @@
 -- Standing together keeps all laws that whole runs ask for; so the run of code agrees with the meaning, where steps come to the same and
 -- the machine stands upright.
-use Rattle.std.proofs.Common.{◌≡◌, ◌⊎◌, ℕ, Bool, true, false, List, [], slice_get, Some, refl, sym, ap, ◌∙◌, subst}
+use Rattle.std.proofs.Common.{◌≡◌, ℕ, Bool, false, List, refl, sym, ◌∙◌, subst}
 use Rattle.rb_syntax.specs.Tree.{Tree}
-use Rattle.rb_world.specs.Kind.{Enters, Starts}
 use Rattle.rb_world.specs.World.{Process}
 use Rattle.rb_world.proofs.Simulation.{copies_of}
 use Rattle.rb_meaning.specs.State.{State}
@@ -14,13 +13,13 @@ use Rattle.rb_scope.specs.declared.slot.Slot.{Slot}
 use Rattle.rb_code.specs.Laws.{Agrees}
 use Rattle.rb_code.specs.Plain.{Code}
 use Rattle.rb_code.specs.StandsFor.{StandsFor}
-use Rattle.rb_code.specs.Turn.{Common, Copy, Standing, want}
+use Rattle.rb_code.specs.Turn.{Copy, Standing, want}
 use Rattle.rb_code.proofs.LaidOut.{stacks_of}
 use Rattle.rb_code.proofs.Took.{HasCursors}
-use Rattle.rb_code.proofs.WholeRuns.Agreeing.{IsAgreeing, IsAtRest, MayStep, StepsAgree}
+use Rattle.rb_code.proofs.WholeRuns.Agreeing.{IsAgreeing}
 use Rattle.rb_code.proofs.WholeRuns.OwnMail.{sent_counts, taken_counts}
 use Rattle.rb_code.proofs.WholeRuns.Pairs.{pairs_get}
-use Rattle.rb_code.proofs.WholeRuns.PointsLie.{LiesWell}
+use Rattle.rb_code.proofs.WholeRuns.PointsLie.{LiesWell, lies_away}
 use Rattle.rb_code.proofs.WholeRuns.ProcessesBegin.{begins_empty, begins_together}
 use Rattle.rb_code.proofs.WholeRuns.RunsAgree.{runs_agree}
 use Rattle.rb_code.proofs.WholeRuns.StandTogether.{CopyTogether, IsUpright, StandTogether, StepsCome, Uprightness}
@@ -58,10 +57,10 @@ module _ (tree : Tree) (slots : List Slot) (c : Code) (resolved : Resolved tree 
         let copy = pairs_get (CopyTogether tree slots c u.process) cs ds j x y both.copies at at' in copy.meets.words_meet.held;
     keeps = λ line cs s ds u kept t both. keeps_together tree slots c upright keeps line cs s ds u kept t both;
     step = λ p q alternate message memory ds u lies running away may at lines both.
-        takes_step tree slots c upright keeps come nested stands.channels_are q alternate message memory ds u (own_process p q ds u lies both) may at both running away lines;
+        takes_step tree slots c upright keeps come nested stands.channels_are q alternate message memory ds u (own_process p q ds u lies both) (lies_away tree p q lies running away) may at both lines;
     enter = λ p q facts ds u kept t lies running away enters both.
         enters_together tree slots c upright keeps (copies_of q.levels) q.state ds u facts kept t enters
-        (sym (wants (copies_of q.levels) q.state ds u both) ∙ enters) both;
+        (sym (wants (copies_of q.levels) q.state ds u both) ∙ enters) (lies_away tree p q lies running away) both;
     leave = λ cs s ds u lines both. leaves_together tree slots c upright keeps cursors cs s ds u lines both;
     leave_lines = λ cs s ds u lines both. leaves_lines tree slots c upright keeps cursors cs s ds u lines both;
     release = λ line s u both. releases_together tree slots c upright keeps line s u both;

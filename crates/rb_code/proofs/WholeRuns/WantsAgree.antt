@@ -1,26 +1,26 @@
 -- What stands first in what is left of a text is what the instructions at its address ask of the turn.
-use Rattle.std.proofs.Common.{◌≡◌, ℕ, ◌+◌, suc, List, [], ◌∷◌, length, slice_get, Option, Some, None, refl, sym, ap, ap₂, ◌∙◌, subst, arith}
+use Rattle.std.proofs.Common.{◌≡◌, ℕ, ◌+◌, List, [], ◌∷◌, length, slice_get, Option, Some, None, sym, ap, ◌∙◌, subst, arith}
 use Rattle.rb_syntax.specs.declared.expression.Quantifier.{Quantifier}
 use Rattle.rb_syntax.specs.declared.expression.Quantifier.TheVariants.{Every, Any, Total}
 use Rattle.rb_syntax.specs.Tree.{Identifier, Expression, Literal, Variable, Former, Minus, Negation, Chained, Quantification, Reference, Refer, Subscript, Scalar, Element, Printed, Words, Amount, PrintItem, Command, Assignment, Printing, Sending, Receiving, Conditional, Loop, Invocation, Failure, Recovering, Otherwise, NoElse, Else, RecoveryBlock, Recovers, Alternates, NoAlternate, Alternate, Tree}
-use Rattle.rb_world.specs.Kind.{Facts, Want, NothingLeft, SendsOn, ReceivesOn, MayReceiveOn, Enters, Starts, Acts}
+use Rattle.rb_world.specs.Kind.{Facts, Want, SendsOn, ReceivesOn, MayReceiveOn, Enters, Starts, Acts}
 use Rattle.rb_meaning.specs.Environment.{natural}
 use Rattle.rb_meaning.specs.State.{Item, Perform, StartOf, TestOf, EndBlock, EndCall}
 use Rattle.rb_meaning.specs.Step.{wants, wants_first, wants_receipt}
 use Rattle.rb_meaning.specs.Groups.{channel_number, conversation_of, count_alternates, facts_of}
 use Rattle.rb_scope.specs.Frames.{Frames, Shape}
-use Rattle.rb_scope.specs.InFrames.{CommandInFrames, IsChannel}
+use Rattle.rb_scope.specs.InFrames.{CommandInFrames}
 use Rattle.rb_scope.specs.declared.slot.Slot.{Slot}
 use Rattle.rb_scope.specs.declared.slot.Slot.TheVariants.{Channel}
 use Rattle.rb_code.specs.Plain.{Block, Code}
 use Rattle.rb_code.specs.Memory.{OpenCall}
 use Rattle.rb_code.specs.Slots.{channel_in, channel_of, counter_of, elements_of, spot_of}
-use Rattle.rb_code.specs.Template.{Template, One, ◌⨾◌}
+use Rattle.rb_code.specs.Template.{Template, One}
 use Rattle.rb_code.specs.Forms.{AlternatesCode, ArgumentsCode, BlockCode, BodyCode, BranchesCode, CommandCode, ExpressionCode, ItemsCode, OthersCode, Owner, PrintedCode, QuantifiedCode, ReceiptCode, ScalarCode, StoreCode, SubscriptCode, TellsOf}
 use Rattle.rb_code.specs.Turn.{block_facts, enters, wants_behind, wants_by, wants_there}
 use Rattle.rb_code.specs.declared.instr.Spot.{Spot}
 use Rattle.rb_code.specs.declared.instr.Instr.{Instr}
-use Rattle.rb_code.specs.declared.instr.Instr.TheVariants.{Done, LoadAt, Prior, PriorAt, Take, Turn}
+use Rattle.rb_code.specs.declared.instr.Instr.TheVariants.{LoadAt, Prior, PriorAt, Take, Turn}
 use Rattle.rb_code.proofs.Left.{IsSettled, Left, StartCode, TestCode, owner_of}
 
 module _ (c : Code) where
@@ -51,6 +51,7 @@ module _ (c : Code) where
 
     mutual
       unfolding ExpressionCode SubscriptCode
+
       -- no expression begins with what a turn waits for
       pub expression_asks : (e : Expression) (a b : ℕ) → ExpressionCode slots e c a b → Asks a Acts
       expression_asks (Literal number) a b code = asks_by _ a b code

@@ -1,20 +1,20 @@
 -- What the words of a process are of a state: its variables, its mail, its held length; and what changes leave of it.
-use Rattle.std.proofs.Common.{◌≡◌, ◌⊎◌, inl, inr, ◌<◌, ◌≤◌, ◌+◌, ℕ, ℤ, pos, zero, suc, List, [], ◌∷◌, ◌++◌, length, take, drop, slice_get, slice_set, Option, Some, None, refl, sym, ap, ◌∙◌, subst, arith, length-append}
+use Rattle.std.proofs.Common.{◌≡◌, ◌⊎◌, inl, inr, ◌<◌, ℕ, ℤ, pos, List, [], ◌∷◌, ◌++◌, length, take, drop, slice_get, slice_set, Some, refl, sym, ap, ◌∙◌, subst, arith, length-append}
 use Rattle.std.specs.List.{flat_map}
 use Rattle.std.proofs.Math.Seq.{drop-append_seam, take-append_seam}
 use Rattle.rb_syntax.specs.Tree.{Tree}
-use Rattle.rb_meaning.specs.Environment.{Frame, Stored, global_words}
+use Rattle.rb_meaning.specs.Environment.{Frame, global_words}
 use Rattle.rb_meaning.specs.State.{Item, Perform, StartOf, TestOf, EndBlock, EndCall, State, settle_items, with_held, with_kept}
 use Rattle.rb_meaning.specs.Environment.{Environment, pop_call, pop_frame}
 use Rattle.rb_scope.specs.Frames.{Shape}
 use Rattle.rb_scope.specs.declared.slot.Slot.{Slot}
-use Rattle.rb_code.specs.Plain.{Code, Part}
-use Rattle.rb_code.specs.Memory.{OpenCall, body_place, held_place, part_of, variables_place, word_at}
+use Rattle.rb_code.specs.Plain.{Code}
+use Rattle.rb_code.specs.Memory.{OpenCall, body_place, held_place, part_of, variables_place}
 use Rattle.rb_code.specs.Turn.{Standing}
 use Rattle.rb_code.specs.WordRun.{variable_words}
 use Rattle.rb_code.specs.declared.instr.Instr.TheVariants.{Done, Turn}
 use Rattle.rb_code.proofs.Fronts.{laid_written, word_other, word_set}
-use Rattle.rb_code.proofs.LaidOut.{Based, Laid, flat, flat_calls, flat_frame, stacks_of}
+use Rattle.rb_code.proofs.LaidOut.{Based, flat, flat_calls, flat_frame, stacks_of}
 use Rattle.rb_code.proofs.Left.{IsSettled, Left, owner_of}
 use Rattle.rb_code.proofs.Lying.{frame_long}
 use Rattle.rb_code.proofs.Meets.{IsPrior, Meets, WordsMeet}
