@@ -54,3 +54,4 @@ pub mod ProcessesStand
 pub mod RunsStand
 pub mod WholeRuns
 pub mod StepComes
+pub mod Callees
