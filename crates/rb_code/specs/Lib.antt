@@ -13,4 +13,8 @@ pub mod Forms
 pub mod StandsFor
 pub mod Sound
 pub mod Safe
+pub mod WellFormed
+pub mod Stands
+pub mod StandsInRuns
+pub mod SoundLaws
 pub mod Laws

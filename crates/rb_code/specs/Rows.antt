@@ -1,16 +1,15 @@
 -- Worked codes: how they are listed, and what their runs print, which is what the runs of their trees print.
 use Rattle.std.specs.Prelude.{◌≡◌, pos, List, [], ◌∷◌, codes, Some, None}
-use Rattle.rb_base.specs.declared.edition.Edition.TheVariants.{First, Second}
-use Rattle.rb_syntax.specs.Tree.{Tree}
-use Rattle.rb_world.specs.Kind.{Ends, Membership}
+use Rattle.rb_base.specs.declared.edition.Edition.TheVariants.{First}
+use Rattle.rb_world.specs.Kind.{Membership}
 use Rattle.rb_meaning.specs.Meaning.{naming_of}
 use Rattle.rb_meaning.specs.Rows.Build.{first, rounds, times}
 use Rattle.rb_meaning.specs.Rows.Blocks.{smallest_tree, one_rejection_tree}
 use Rattle.rb_meaning.specs.Rows.Conversations.{conversation_tree}
-use Rattle.rb_code.specs.Plain.{Block, Code, Part, Procedure}
+use Rattle.rb_code.specs.Plain.{Code}
 use Rattle.rb_code.specs.Listing.{listing_text}
 use Rattle.rb_code.specs.WordRun.{word_text}
-use Rattle.rb_code.specs.declared.instr.Spot.TheVariants.{Global, Local}
+use Rattle.rb_code.specs.declared.instr.Spot.TheVariants.{Global}
 use Rattle.rb_code.specs.declared.instr.Instr.TheVariants.{Turn, Push, Load, Store, Add, Eq, Gt, Jump, Text, Item, Print, Room, Put, There, Take, Enter, Start, Test, Done}
 
 -- x := 1; print "x", x;

@@ -1,11 +1,10 @@
 -- What an instruction needs, and safe states: the notions without a table that whoever executes code cites.
 use Rattle.std.specs.Prelude.{◌≡◌, ℕ, zero, suc, ◌+◌, ◌-◌, ◌<◌, ◌≤◌, ℤ, pos, List, [], ◌∷◌, length, slice_get, Option, Some, None}
 use Rattle.rb_cache.specs.Copies.{Level as Touched}
-use Rattle.rb_code.specs.Plain.{Block, Code, Part}
-use Rattle.rb_code.specs.Memory.{Counting, Memory, OpenCall, cursor_place, held_place}
+use Rattle.rb_code.specs.Plain.{Code}
+use Rattle.rb_code.specs.Memory.{Memory, OpenCall, cursor_place, held_place}
 use Rattle.rb_code.specs.Act.{Accepts, Going, Outcome, Sight, Stopped, Trapped, Unfinished, alternate_address, counter_at, here, move, place}
 use Rattle.rb_code.specs.Sound.{most_operands}
-use Rattle.rb_code.specs.declared.instr.Spot.{Spot}
 use Rattle.rb_code.specs.declared.instr.Instr.{Instr}
 use Rattle.rb_code.specs.declared.instr.Instr.TheVariants.{Turn, Push, Load, Prior, Bound, LoadAt, PriorAt, Store, StoreAt, Add, Sub, Mul, Div, Rem, Eq, Ne, Lt, Le, Gt, Ge, Neg, Not, Bool as ToBool, Jump, JumpZero, Frame, Drop, Text, Item, Print, Room, Put, There, Take, Call, Return, Fail, Enter, Start, Test, Done, Range, Again, Counter, Absent}
 
@@ -29,6 +28,14 @@ abbrev pub StayAbove : List Touched → ℕ → Type 0
 StayAbove [] words = Unit {0}
 StayAbove (level ∷ []) words = level.height ≤ words
 StayAbove (level ∷ inner ∷ more) words = StayAbove (inner ∷ more) words
+
+-- what a turn may have to leave as it was: all but the pieces of the line and the counters
+pub record IsUnchanged (m later : Memory) : Type 0 where
+  pub words : later.words ≡ m.words
+  pub calls : later.calls ≡ m.calls
+  pub held : later.held ≡ m.held
+  pub touched : later.touched ≡ m.touched
+  pub slots : later.slots ≡ m.slots
 
 module _ (c : Code) (see : Sight) where
   -- a place is one of these words
@@ -93,7 +100,7 @@ module _ (c : Code) (see : Sight) where
   ReadyAt None operands m = ⊥
   ReadyAt (Some instr) operands m = Ready instr operands m
 
-  -- Where it goes no further and the turn is not over, P holds of the memory: for a step, that it is as at the start; for what stands
+  -- Where it goes no further and the turn is not over, P holds of the memory: for a step, that it is unchanged since the start; for what stands
   -- between two turns, nothing, so that this never comes.
   abbrev pub SafeOn : (Memory → Type 0) → Memory → Outcome → (ℕ → List ℤ → Memory → Type 0) → Type 0
   SafeOn P m (Going a operands later) next = next a operands later

@@ -1,6 +1,5 @@
 -- One step of a process of the word machine: all from the `turn` at which it stands up to the next one.
 use Rattle.std.specs.Prelude.{ℕ, ◌+◌, ◌*◌, ℤ, nat_eq, cond, List, [], ◌∷◌, ◌++◌, length, slice_get, Option, Some, None}
-use Rattle.std.specs.Option.{option_map, unwrap_or}
 use Rattle.rb_base.specs.declared.event.Cause.TheVariants.{Fail as FailCause}
 use Rattle.rb_base.specs.declared.limits.TheConstants.{MOST_QUANTIFIED}
 use Rattle.rb_meaning.specs.Step.{most_calls}
@@ -59,10 +58,15 @@ memory_of s slots = record {
 abbrev pub standing_at : ℕ → Memory → Standing → Standing
 standing_at at m s = record s { at = at; words = m.words; calls = m.calls; held = m.held; touched = m.touched }
 
--- More instructions than a turn of sound code has: with two counters, each address is passed at most once for each of their numbers,
--- and this in the body where the turn began, in a procedure that it calls, and in those that it returns to.
+-- Where a turn stands in a body is told by five numbers: where its outer loop began and how often that still goes back, the same of its
+-- inner loop, and its address.
+abbrev pub most_places : ℕ → ℕ
+most_places n = n * (MOST_QUANTIFIED * (n * (MOST_QUANTIFIED * n)))
+
+-- More instructions than a turn of sound code has: it is in no place twice, in the body where it began, in a procedure that it calls, and
+-- in those that it returns to.
 abbrev pub most_steps : Code → ℕ
-most_steps c = (most_calls + 4) * (MOST_QUANTIFIED * MOST_QUANTIFIED) * (length c.instrs + 2)
+most_steps c = (most_calls + 4) * most_places (length c.instrs + 1)
 
 -- the words of a copy, which `prior` reads; without one there are none
 abbrev pub prior_words : Option Copy → List ℤ

@@ -7,7 +7,7 @@ use Rattle.rb_world.specs.Slots.{slot_of}
 use Rattle.rb_cache.specs.Copies.{accepted, change_last, entered}
 use Rattle.rb_code.specs.Plain.{Code}
 use Rattle.rb_code.specs.Memory.{cursor_place, cut_held, held_place, part_of, word_at}
-use Rattle.rb_code.specs.Turn.{Common, Copy, Link, Standing, settle, step, want}
+use Rattle.rb_code.specs.Turn.{Common, Copy, Standing, settle, step, want}
 
 -- the cursor of a channel among the words of process p
 abbrev pub cursor_in : Code → ℕ → List ℤ → ℕ → ℕ

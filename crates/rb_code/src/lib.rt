@@ -3,6 +3,7 @@
 
 pub mod code;
 pub mod instr;
+pub mod laws;
 pub mod rows;
 
 pub use code::{BlockCode, ChannelCode, Code, ProcedureCode, ProcessCode};

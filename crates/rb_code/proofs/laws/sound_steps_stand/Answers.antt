@@ -1,0 +1,5 @@
+use Rattle.rb_code.proofs.SoundSteps.{steps_stand}
+use Rattle.rb_code.proofs.laws.sound_steps_stand.Goals as goal
+
+pub returns : goal.returns
+returns c = steps_stand

@@ -1,0 +1,176 @@
+-- Sound code: what its lists and its conversations are, and that there is a table for its instructions. What is reserved for a word of
+-- the language is not asked of a name here, as that is the lexer's to say.
+use Rattle.std.specs.Prelude.{◌≡◌, ℕ, zero, suc, ◌+◌, ◌<◌, ◌≤◌, ◌&&◌, nat_eq, nat_le, Bool, true, false, not, cond, List, [], ◌∷◌, length, map, slice_get, Option, Some, None}
+use Rattle.std.specs.List.{All, IsDistinct, count_by, list_all}
+use Rattle.rb_base.specs.Bytes.{is_name}
+use Rattle.rb_base.specs.Limits.{most_words}
+use Rattle.rb_base.specs.declared.limits.TheConstants.{LONGEST_NAME, LONGEST_TEXT, MOST_TURNS}
+use Rattle.rb_meaning.specs.Environment.{same_name}
+use Rattle.rb_world.specs.Kind.{Ends, Membership}
+use Rattle.rb_world.specs.Reject.{parent_of}
+use Rattle.rb_world.specs.Text.{Naming, ProcessNaming, VariableNaming}
+use Rattle.rb_scope.specs.Rules.{most_channel_size}
+use Rattle.rb_scope.specs.Scopes.{most_elements}
+use Rattle.rb_scope.specs.Sites.{most_connections, most_processes}
+use Rattle.rb_code.specs.Plain.{Block, Code, Part, Procedure}
+use Rattle.rb_code.specs.Sound.{Entry, HasTable, IsMember, Table}
+use Rattle.rb_code.specs.StandsFor.{channels_from}
+use Rattle.rb_code.specs.declared.instr.Instr.{Instr}
+use Rattle.rb_code.specs.declared.instr.Instr.TheVariants.{Text, Jump, JumpZero, Room, Put, There, Take, Call, Enter, Start, Test, Range, Again, Absent}
+
+-- the list of channels of each process has exactly those of which it is an end, in order
+abbrev pub ListsChannels : Code → Type 0
+ListsChannels c = (p : ℕ) (part : Part) → slice_get c.processes p ≡ Some part → part.channels ≡ channels_from p 0 c.channels
+
+-- a number from 1 to a greatest
+abbrev pub IsWithin : ℕ → ℕ → Type 0
+IsWithin most n = (1 ≤ n) × (n ≤ most)
+
+-- a name, but for the words that are reserved
+abbrev pub IsNaming : List ℕ → Type 0
+IsNaming name = (is_name name ≡ true) × (length name ≤ LONGEST_NAME)
+
+-- what may stand between the quotes of a text: bytes from the blank to `~` but the quote
+abbrev pub is_quotable : ℕ → Bool
+is_quotable b = nat_le 32 b && nat_le b 126 && not (nat_eq b 34)
+
+abbrev pub IsQuotable : List ℕ → Type 0
+IsQuotable text = (list_all is_quotable text ≡ true) × (length text ≤ LONGEST_TEXT)
+
+-- what is printed of a process: names, and no array with too many elements
+pub record NamesVariable (variable : VariableNaming) : Type 0 where
+  pub name : IsNaming variable.name
+  pub size : (n : ℕ) → variable.size ≡ Some n → n ≤ most_elements
+
+pub record NamesProcess (process : ProcessNaming) : Type 0 where
+  pub name : IsNaming process.name
+  pub variables : All NamesVariable process.variables
+
+-- Names: one for each process, channel and conversation, and no two of one kind alike.
+pub record IsNamed (c : Code) (groups : List Membership) : Type 0 where
+  pub processes_each : length c.names.processes ≡ length c.processes
+  pub channels_each : length c.names.channels ≡ length c.channels
+  pub conversations_each : length c.names.conversations ≡ length groups
+  pub processes : All NamesProcess c.names.processes
+  pub channels : All IsNaming c.names.channels
+  pub conversations : All IsNaming c.names.conversations
+  pub procedures : All (λ (part : Part). All (λ (one : Procedure). IsNaming one.name) part.procedures) c.processes
+  pub processes_differ : IsDistinct same_name (map (λ process. process.name) c.names.processes)
+  pub channels_differ : IsDistinct same_name c.names.channels
+  pub conversations_differ : IsDistinct same_name c.names.conversations
+
+-- a channel: its ends are two processes, and its size lies within its limit
+pub record JoinsTwo (c : Code) (ends : Ends) : Type 0 where
+  pub sender : ends.sender < length c.processes
+  pub receiver : ends.receiver < length c.processes
+  pub differ : nat_eq ends.sender ends.receiver ≡ false
+  pub size : IsWithin most_channel_size ends.size
+
+-- a process: its words are not too many, and its addresses are those of instructions
+pub record IsPart (c : Code) (part : Part) : Type 0 where
+  pub words : part.words ≤ most_words c.edition
+  pub start : part.start < length c.instrs
+  pub procedures : All (λ (one : Procedure). one.start < length c.instrs) part.procedures
+
+-- a recovery block: its bound lies within its limit, it has an alternate, and it names a conversation and instructions that are there
+pub record IsBlock (c : Code) (groups : List Membership) (block : Block) : Type 0 where
+  pub bound : IsWithin MOST_TURNS block.bound
+  pub some : 1 ≤ length block.alternates
+  pub conversation : (d : ℕ) → block.conversation ≡ Some d → d < length groups
+  pub restart : block.restart < length c.instrs
+  pub test : block.test < length c.instrs
+  pub alternates : All (λ (a : ℕ). a < length c.instrs) block.alternates
+
+-- the numbers of an instruction name what is there
+abbrev pub Names : Code → Instr → Type 0
+Names c (Jump a) = a < length c.instrs
+Names c (JumpZero a) = a < length c.instrs
+Names c (Text k) = k < length c.texts
+Names c (Room channel) = channel < length c.channels
+Names c (Put channel) = channel < length c.channels
+Names c (There channel) = channel < length c.channels
+Names c (Take channel) = channel < length c.channels
+Names c (Absent channel a) = (channel < length c.channels) × (a < length c.instrs)
+Names c (Call a p n) = a < length c.instrs
+Names c (Enter b) = b < length c.blocks
+Names c (Start b) = b < length c.blocks
+Names c (Test b) = b < length c.blocks
+Names c (Range k a) = (k < 2) × (a < length c.instrs)
+Names c (Again k a) = (k < 2) × (a < length c.instrs)
+Names c _ = Unit {0}
+
+-- the entry of a block, its start and its test
+abbrev pub is_entry : ℕ → Instr → Bool
+is_entry b (Enter d) = nat_eq d b
+is_entry b _ = false
+
+abbrev pub is_start : ℕ → Instr → Bool
+is_start b (Start d) = nat_eq d b
+is_start b _ = false
+
+abbrev pub is_test : ℕ → Instr → Bool
+is_test b (Test d) = nat_eq d b
+is_test b _ = false
+
+-- each block has one of each, over all instructions
+abbrev pub HasOneEach : Code → Type 0
+HasOneEach c = (b : ℕ) → b < length c.blocks
+    → (count_by (is_entry b) c.instrs ≡ 1) × (count_by (is_start b) c.instrs ≡ 1) × (count_by (is_test b) c.instrs ≡ 1)
+
+-- a chain of conversations, each the parent of the one before, has at most n of them
+abbrev pub IsChain : List Membership → ℕ → Option ℕ → Type 0
+IsChain groups n None = Unit {0}
+IsChain groups zero (Some d) = ⊥
+IsChain groups (suc n) (Some d) = IsChain groups n (parent_of (slice_get groups d))
+
+-- the most conversations that lie in one another
+abbrev pub most_nested : ℕ
+most_nested = 8
+
+-- a conversation: two or more members, all different, and each a member of its parent
+pub record IsGroup (c : Code) (groups : List Membership) (group : Membership) : Type 0 where
+  pub two : 2 ≤ length group.members
+  pub differ : IsDistinct nat_eq group.members
+  pub processes : All (λ (m : ℕ). m < length c.processes) group.members
+  pub parent : (d : ℕ) → group.parent ≡ Some d
+      → (around : Membership) × (slice_get groups d ≡ Some around) × All (λ (m : ℕ). IsMember m around.members) group.members
+
+-- all blocks of one conversation have as many alternates
+abbrev pub HasGroupAlternates : Code → Type 0
+HasGroupAlternates c = (b other d : ℕ) (one another : Block) → slice_get c.blocks b ≡ Some one → slice_get c.blocks other ≡ Some another
+    → one.conversation ≡ Some d → another.conversation ≡ Some d → length one.alternates ≡ length another.alternates
+
+-- The lists of a code, and conversations, are well formed.
+pub record IsWellFormed (c : Code) (groups : List Membership) : Type 0 where
+  pub few_processes : length c.processes ≤ most_processes c.edition
+  pub few_channels : length c.channels ≤ most_connections
+  pub few_conversations : length groups ≤ most_connections
+  pub named : IsNamed c groups
+  pub texts : All IsQuotable c.texts
+  pub processes : All (IsPart c) c.processes
+  pub channels : All (JoinsTwo c) c.channels
+  pub lists : ListsChannels c
+  pub blocks : All (IsBlock c groups) c.blocks
+  pub instrs : All (Names c) c.instrs
+  pub one_each : HasOneEach c
+  pub conversations : All (IsGroup c groups) groups
+  pub chains : (d : ℕ) → d < length groups → IsChain groups most_nested (Some d)
+  pub alternates : HasGroupAlternates c
+
+-- block number b is one of conversation d, and process m enters it
+abbrev pub Joins : Code → Table → ℕ → ℕ → ℕ → Type 0
+Joins c t d m b =
+    (one : Block) × (a : ℕ) × (e : Entry) × (slice_get c.blocks b ≡ Some one) × (one.conversation ≡ Some d)
+    × (slice_get c.instrs a ≡ Some (Enter b)) × (t a ≡ Some e) × (e.within.process ≡ m)
+
+-- each member of a conversation has exactly one block of it
+abbrev pub JoinsOnce : Code → List Membership → Table → Type 0
+JoinsOnce c groups t = (d m : ℕ) (group : Membership) → slice_get groups d ≡ Some group → IsMember m group.members
+    → (b : ℕ) × Joins c t d m b × ((other : ℕ) → Joins c t d m other → other ≡ b)
+
+-- Sound code: it is well formed, and there is a table for its instructions, in which each member joins its conversations once.
+pub record IsSound (c : Code) (groups : List Membership) : Type 0 where
+  pub well : IsWellFormed c groups
+  pub table : Table
+  pub has : HasTable c groups table
+  pub joins : JoinsOnce c groups table
