@@ -1,4 +1,28 @@
 -- Lemmas of code.
+pub mod Leads
+pub mod LaidOut
+pub mod Left
+pub mod Meets
+pub mod Comes
+pub mod Counted
+pub mod Spans
+pub mod Loops
+pub mod Quantified
+pub mod Found
+pub mod Expressions
+pub mod Lying
+pub mod LyingInCalls
+pub mod Environments
+pub mod Pushed
+pub mod Settles
+pub mod Took
+pub mod Stores
+pub mod Assignments
+pub mod BlocksBegin
+pub mod Blocks
+pub mod Branches
+pub mod Fronts
+pub mod Printing
 pub mod Digits
 pub mod OpenLoops
 pub mod LoopSteps
@@ -23,3 +47,4 @@ pub mod InsideOut
 pub mod StandsAgain
 pub mod ProcessesStand
 pub mod RunsStand
+pub mod WholeRuns

@@ -1,5 +1,5 @@
 -- What one instruction does.
-use Rattle.std.specs.Prelude.{ℕ, zero, suc, ◌+◌, ◌-◌, ◌*◌, ◌%◌, ℤ, pos, neg_ℤ, ◌+ℤ◌, nat_le, nat_lt, int_lt, Bool, true, false, not, cond, List, [], ◌∷◌, ◌++◌, length, slice_get, slice_set, Option, Some, None, Result, Ok, Err}
+use Rattle.std.specs.Prelude.{ℕ, zero, suc, ◌+◌, ℤ, pos, neg_ℤ, ◌+ℤ◌, nat_le, nat_lt, int_lt, Bool, false, not, cond, List, [], ◌∷◌, ◌++◌, length, slice_get, slice_set, Option, Some, None, Result, Ok, Err}
 use Rattle.std.specs.Option.{unwrap_or}
 use Rattle.std.specs.Fmt.{signed_decimal}
 use Rattle.rb_base.specs.declared.event.Cause.{Cause}
@@ -7,11 +7,11 @@ use Rattle.rb_base.specs.declared.event.Cause.TheVariants.{Calls, Fail as FailCa
 use Rattle.rb_base.specs.Limits.{most_words}
 use Rattle.rb_syntax.specs.declared.expression.Op.TheVariants as op
 use Rattle.rb_meaning.specs.Environment.{natural}
-use Rattle.rb_meaning.specs.Value.{and_then, applied, fitting, is_zero, span, truth}
+use Rattle.rb_meaning.specs.Value.{applied, fitting, is_zero, span, truth}
 use Rattle.rb_meaning.specs.Step.{most_calls, most_held}
 use Rattle.rb_world.specs.Slots.{put_slot}
 use Rattle.rb_code.specs.Plain.{Block, Code, Part}
-use Rattle.rb_code.specs.Memory.{Counting, Memory, OpenCall, base_of, called, cursor_place, dropped, ended, framed, held_place, part_of, variables_place, with_words, word_at, written}
+use Rattle.rb_code.specs.Memory.{Counting, Memory, OpenCall, base_of, called, cursor_place, dropped, ended, framed, held_place, part_of, variables_place, word_at, written}
 use Rattle.rb_code.specs.declared.instr.Spot.{Spot}
 use Rattle.rb_code.specs.declared.instr.Spot.TheVariants.{Global, Local}
 use Rattle.rb_code.specs.declared.instr.Instr.{Instr}

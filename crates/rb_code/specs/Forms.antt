@@ -5,18 +5,17 @@ use Rattle.rb_syntax.specs.declared.expression.Op.{Op}
 use Rattle.rb_syntax.specs.declared.expression.Op.TheVariants as op
 use Rattle.rb_syntax.specs.declared.expression.Quantifier.{Quantifier}
 use Rattle.rb_syntax.specs.declared.expression.Quantifier.TheVariants.{Every, Any, Total}
-use Rattle.rb_syntax.specs.Tree.{Identifier, Expression, Literal, Variable, Former, Minus, Negation, Chained, Quantification, Reference, Refer, Subscript, Scalar, Element, Links, NoLink, Linked, Printed, Words, Amount, PrintItem, Command, Assignment, Printing, Sending, Receiving, Conditional, Loop, Invocation, Failure, Recovering, Commands, NoCommand, Then, Body, Scope, Otherwise, NoElse, Else, RecoveryBlock, Recovers, Alternates, NoAlternate, Alternate, ProcedureDeclaration, ProcessDeclaration, Tree}
+use Rattle.rb_syntax.specs.Tree.{Identifier, Expression, Literal, Variable, Former, Minus, Negation, Chained, Quantification, Reference, Refer, Subscript, Scalar, Element, Links, NoLink, Linked, Printed, Words, Amount, PrintItem, Command, Assignment, Printing, Sending, Receiving, Conditional, Loop, Invocation, Failure, Recovering, Commands, NoCommand, Then, Body, Scope, Otherwise, NoElse, Else, RecoveryBlock, Recovers, Alternates, NoAlternate, Alternate, ProcedureDeclaration, Tree}
 use Rattle.rb_meaning.specs.Environment.{frame_of, frame_words, natural}
 use Rattle.rb_meaning.specs.Step.{commands_of, variables_of}
 use Rattle.rb_meaning.specs.Groups.{conversation_of}
 use Rattle.rb_scope.specs.declared.slot.Slot.{Slot}
-use Rattle.rb_code.specs.Plain.{Block, Code, Part, Procedure}
+use Rattle.rb_code.specs.Plain.{Block, Code, Procedure}
 use Rattle.rb_code.specs.Memory.{part_of}
 use Rattle.rb_code.specs.Slots.{channel_of, counter_of, elements_of, procedure_of, quantified_of, spot_of}
 use Rattle.rb_code.specs.Template.{Template, One, ◌⨾◌, Empty, Only, At, Label, Quoted, WithBlock, Listed}
 use Rattle.rb_code.specs.declared.instr.Spot.{Spot}
-use Rattle.rb_code.specs.declared.instr.Instr.{Instr}
-use Rattle.rb_code.specs.declared.instr.Instr.TheVariants.{Turn, Push, Load, Prior, Bound, LoadAt, PriorAt, Store, StoreAt, Add, Sub, Mul, Div, Rem, Eq, Ne, Lt, Le, Gt, Ge, Neg, Not, Bool, Jump, JumpZero, Frame, Drop, Item, Print, Room, Put, There, Take, Call, Return, Fail, Enter, Start, Test, Done, Range, Again, Counter, Absent}
+use Rattle.rb_code.specs.declared.instr.Instr.TheVariants.{Turn, Push, Load, Prior, Bound, LoadAt, PriorAt, Store, StoreAt, Add, Sub, Mul, Div, Rem, Eq, Ne, Lt, Le, Gt, Ge, Neg, Not, Bool, Jump, JumpZero, Frame, Drop, Item, Print, Room, Put, There, Take, Call, Return, Fail, Enter, Start, Test, Range, Again, Counter, Absent}
 
 -- `a and b`, behind the code of a
 abbrev pub AndCode : Template → Template

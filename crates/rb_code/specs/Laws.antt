@@ -1,5 +1,5 @@
 -- The laws of code: what stands for a tree agrees with the tree's meaning, turn by turn, and what is sound is executed safely.
-use Rattle.std.specs.Prelude.{◌≡◌, ◌<◌, ◌≤◌, ℕ, List, [], length, map, slice_get, Some}
+use Rattle.std.specs.Prelude.{◌≡◌, ◌<◌, ◌≤◌, ℕ, List, length, map, slice_get, Some}
 use Rattle.rb_syntax.specs.Tree.{Tree}
 use Rattle.rb_world.specs.Kind.{Ends, Facts}
 use Rattle.rb_world.specs.World.{Level, Process}
@@ -17,7 +17,7 @@ use Rattle.rb_code.specs.Plain.{Code}
 use Rattle.rb_code.specs.StandsFor.{StandsFor}
 use Rattle.rb_code.specs.Turn.{Copy, Link, Standing, kept_from}
 use Rattle.rb_code.specs.WordKind.{sent_by, taken_by}
-use Rattle.rb_code.specs.WordRun.{WordWorld, variable_words, word_run, word_text}
+use Rattle.rb_code.specs.WordRun.{variable_words, word_run, word_text}
 
 -- an open level, but for its copy
 pub record Tried : Type 0 where

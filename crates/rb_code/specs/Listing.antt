@@ -1,6 +1,6 @@
 -- How a code is listed: the line `process p` before the body of each process, `procedure f` before each of its procedures, a line an
 -- instruction with its address, and in the end a line a recovery block.
-use Rattle.std.specs.Prelude.{ℕ, ℤ, ◌+◌, nat_eq, Bool, cond, List, [], ◌∷◌, ◌++◌, map, codes, decimal, slice_get, Option, Some, None}
+use Rattle.std.specs.Prelude.{ℕ, ◌+◌, nat_eq, cond, List, [], ◌∷◌, ◌++◌, map, codes, decimal, slice_get, Option, Some, None}
 use Rattle.std.specs.Option.{unwrap_or}
 use Rattle.std.specs.Fmt.{signed_decimal}
 use Rattle.rb_world.specs.Text.{Naming, conversation_word, line_of, process_word}

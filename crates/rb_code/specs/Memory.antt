@@ -1,12 +1,10 @@
 -- What the word machine works on: the words of a process, with whole copies of them at the entries of its open levels, and its open
 -- calls, its line and its counters. Word 0 is the held length, then comes a cursor for each channel of the process in order, then its
 -- variables, and then the words of its calls.
-use Rattle.std.specs.Prelude.{ℕ, zero, suc, ◌+◌, ◌-◌, ℤ, pos, Bool, true, false, cond, nat_eq, nat_le, List, [], ◌∷◌, ◌++◌, length, take, drop, replicate, slice_get, slice_set, Option, Some, None}
+use Rattle.std.specs.Prelude.{ℕ, suc, ◌+◌, ◌-◌, ℤ, pos, cond, nat_eq, nat_le, List, [], ◌∷◌, ◌++◌, length, take, replicate, slice_get, slice_set, Option, None}
 use Rattle.std.specs.Option.{unwrap_or}
-use Rattle.rb_meaning.specs.Environment.{natural}
-use Rattle.rb_meaning.specs.Step.{held_bytes}
 use Rattle.rb_world.specs.Slots.{Slots}
-use Rattle.rb_cache.specs.Copies.{Level as Touched, accepted, change_last, entered, joined}
+use Rattle.rb_cache.specs.Copies.{Level as Touched, change_last, joined}
 use Rattle.rb_code.specs.Plain.{Code, Part}
 
 -- an open call: the address behind its `call`, and where its words begin

@@ -1,16 +1,15 @@
 -- Worked codes: how they are listed, and what their runs print, which is what the runs of their trees print.
 use Rattle.std.specs.Prelude.{◌≡◌, pos, List, [], ◌∷◌, codes, Some, None}
-use Rattle.rb_base.specs.declared.edition.Edition.TheVariants.{First, Second}
-use Rattle.rb_syntax.specs.Tree.{Tree}
-use Rattle.rb_world.specs.Kind.{Ends, Membership}
+use Rattle.rb_base.specs.declared.edition.Edition.TheVariants.{First}
+use Rattle.rb_world.specs.Kind.{Membership}
 use Rattle.rb_meaning.specs.Meaning.{naming_of}
 use Rattle.rb_meaning.specs.Rows.Build.{first, rounds, times}
 use Rattle.rb_meaning.specs.Rows.Blocks.{smallest_tree, one_rejection_tree}
 use Rattle.rb_meaning.specs.Rows.Conversations.{conversation_tree}
-use Rattle.rb_code.specs.Plain.{Block, Code, Part, Procedure}
+use Rattle.rb_code.specs.Plain.{Code}
 use Rattle.rb_code.specs.Listing.{listing_text}
 use Rattle.rb_code.specs.WordRun.{word_text}
-use Rattle.rb_code.specs.declared.instr.Spot.TheVariants.{Global, Local}
+use Rattle.rb_code.specs.declared.instr.Spot.TheVariants.{Global}
 use Rattle.rb_code.specs.declared.instr.Instr.TheVariants.{Turn, Push, Load, Store, Add, Eq, Gt, Jump, Text, Item, Print, Room, Put, There, Take, Enter, Start, Test, Done}
 
 -- x := 1; print "x", x;
@@ -38,10 +37,10 @@ abbrev pub one_rejection_code : Code
 one_rejection_code = record {
   edition = First;
   instrs =
-    Turn ∷ Push (pos 5) ∷ Store (Global 0) ∷ Turn ∷ Enter 0 ∷ Turn ∷ Start 0
-    ∷ Turn ∷ Load (Global 0) ∷ Push (pos 1) ∷ Add ∷ Store (Global 0) ∷ Turn ∷ Text 0 ∷ Print ∷ Jump 24
-    ∷ Turn ∷ Load (Global 0) ∷ Push (pos 2) ∷ Add ∷ Store (Global 0) ∷ Turn ∷ Text 1 ∷ Print
-    ∷ Turn ∷ Load (Global 0) ∷ Push (pos 6) ∷ Gt ∷ Test 0 ∷ Done ∷ [];
+      Turn ∷ Push (pos 5) ∷ Store (Global 0) ∷ Turn ∷ Enter 0 ∷ Turn ∷ Start 0
+      ∷ Turn ∷ Load (Global 0) ∷ Push (pos 1) ∷ Add ∷ Store (Global 0) ∷ Turn ∷ Text 0 ∷ Print ∷ Jump 24
+      ∷ Turn ∷ Load (Global 0) ∷ Push (pos 2) ∷ Add ∷ Store (Global 0) ∷ Turn ∷ Text 1 ∷ Print
+      ∷ Turn ∷ Load (Global 0) ∷ Push (pos 6) ∷ Gt ∷ Test 0 ∷ Done ∷ [];
   processes = record { start = 0; words = 1; channels = []; procedures = [] } ∷ [];
   blocks = record { line = 4; conversation = None; bound = 9; restart = 5; test = 24; alternates = 7 ∷ 16 ∷ [] } ∷ [];
   channels = [];
@@ -65,19 +64,19 @@ abbrev pub conversation_code : Code
 conversation_code = record {
   edition = First;
   instrs =
-    Turn ∷ Enter 0 ∷ Turn ∷ Start 0
-    ∷ Turn ∷ Push (pos 1) ∷ Store (Global 0) ∷ Turn ∷ Room 0 ∷ Push (pos 5) ∷ Put 0 ∷ Turn ∷ Text 0 ∷ Print ∷ Jump 25
-    ∷ Turn ∷ Push (pos 2) ∷ Store (Global 0) ∷ Turn ∷ Room 0 ∷ Push (pos 6) ∷ Put 0 ∷ Turn ∷ Text 1 ∷ Print
-    ∷ Turn ∷ Load (Global 0) ∷ Push (pos 0) ∷ Gt ∷ Test 0 ∷ Done
-    ∷ Turn ∷ Enter 1 ∷ Turn ∷ Start 1
-    ∷ Turn ∷ There 0 ∷ Take 0 ∷ Store (Global 0) ∷ Turn ∷ Text 2 ∷ Load (Global 0) ∷ Item ∷ Print ∷ Jump 54
-    ∷ Turn ∷ There 0 ∷ Take 0 ∷ Store (Global 0) ∷ Turn ∷ Text 3 ∷ Load (Global 0) ∷ Item ∷ Print
-    ∷ Turn ∷ Load (Global 0) ∷ Push (pos 6) ∷ Eq ∷ Test 1 ∷ Done ∷ [];
+      Turn ∷ Enter 0 ∷ Turn ∷ Start 0
+      ∷ Turn ∷ Push (pos 1) ∷ Store (Global 0) ∷ Turn ∷ Room 0 ∷ Push (pos 5) ∷ Put 0 ∷ Turn ∷ Text 0 ∷ Print ∷ Jump 25
+      ∷ Turn ∷ Push (pos 2) ∷ Store (Global 0) ∷ Turn ∷ Room 0 ∷ Push (pos 6) ∷ Put 0 ∷ Turn ∷ Text 1 ∷ Print
+      ∷ Turn ∷ Load (Global 0) ∷ Push (pos 0) ∷ Gt ∷ Test 0 ∷ Done
+      ∷ Turn ∷ Enter 1 ∷ Turn ∷ Start 1
+      ∷ Turn ∷ There 0 ∷ Take 0 ∷ Store (Global 0) ∷ Turn ∷ Text 2 ∷ Load (Global 0) ∷ Item ∷ Print ∷ Jump 54
+      ∷ Turn ∷ There 0 ∷ Take 0 ∷ Store (Global 0) ∷ Turn ∷ Text 3 ∷ Load (Global 0) ∷ Item ∷ Print
+      ∷ Turn ∷ Load (Global 0) ∷ Push (pos 6) ∷ Eq ∷ Test 1 ∷ Done ∷ [];
   processes =
-    record { start = 0; words = 1; channels = 0 ∷ []; procedures = [] } ∷ record { start = 31; words = 1; channels = 0 ∷ []; procedures = [] } ∷ [];
+      record { start = 0; words = 1; channels = 0 ∷ []; procedures = [] } ∷ record { start = 31; words = 1; channels = 0 ∷ []; procedures = [] } ∷ [];
   blocks =
-    record { line = 5; conversation = Some 0; bound = 20; restart = 2; test = 25; alternates = 4 ∷ 15 ∷ [] }
-    ∷ record { line = 8; conversation = Some 0; bound = 20; restart = 33; test = 54; alternates = 35 ∷ 45 ∷ [] } ∷ [];
+      record { line = 5; conversation = Some 0; bound = 20; restart = 2; test = 25; alternates = 4 ∷ 15 ∷ [] }
+      ∷ record { line = 8; conversation = Some 0; bound = 20; restart = 33; test = 54; alternates = 35 ∷ 45 ∷ [] } ∷ [];
   channels = record { sender = 0; receiver = 1; size = 4 } ∷ [];
   texts = codes "p1" ∷ codes "p2" ∷ codes "q" ∷ codes "q" ∷ [];
   names = naming_of conversation_tree;

@@ -1,11 +1,10 @@
 -- What an instruction needs, and safe states: the notions without a table that whoever executes code cites.
 use Rattle.std.specs.Prelude.{◌≡◌, ℕ, zero, suc, ◌+◌, ◌-◌, ◌<◌, ◌≤◌, ℤ, pos, List, [], ◌∷◌, length, slice_get, Option, Some, None}
 use Rattle.rb_cache.specs.Copies.{Level as Touched}
-use Rattle.rb_code.specs.Plain.{Block, Code, Part}
-use Rattle.rb_code.specs.Memory.{Counting, Memory, OpenCall, cursor_place, held_place}
+use Rattle.rb_code.specs.Plain.{Code}
+use Rattle.rb_code.specs.Memory.{Memory, OpenCall, cursor_place, held_place}
 use Rattle.rb_code.specs.Act.{Accepts, Going, Outcome, Sight, Stopped, Trapped, Unfinished, alternate_address, counter_at, here, move, place}
 use Rattle.rb_code.specs.Sound.{most_operands}
-use Rattle.rb_code.specs.declared.instr.Spot.{Spot}
 use Rattle.rb_code.specs.declared.instr.Instr.{Instr}
 use Rattle.rb_code.specs.declared.instr.Instr.TheVariants.{Turn, Push, Load, Prior, Bound, LoadAt, PriorAt, Store, StoreAt, Add, Sub, Mul, Div, Rem, Eq, Ne, Lt, Le, Gt, Ge, Neg, Not, Bool as ToBool, Jump, JumpZero, Frame, Drop, Text, Item, Print, Room, Put, There, Take, Call, Return, Fail, Enter, Start, Test, Done, Range, Again, Counter, Absent}
 

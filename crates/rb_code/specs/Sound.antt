@@ -1,6 +1,6 @@
 -- Sound code: there is a table that says for each address that is reached what is known there, and each instruction keeps the rule of
 -- its kind. These are facts of code alone; no tree is spoken of.
-use Rattle.std.specs.Prelude.{◌≡◌, ◌⊎◌, ℕ, zero, suc, ◌+◌, ◌-◌, ◌<◌, ◌≤◌, ◌&&◌, nat_le, Bool, true, false, List, [], ◌∷◌, filter, length, slice_get, Option, Some, None}
+use Rattle.std.specs.Prelude.{◌≡◌, ◌⊎◌, ℕ, ◌+◌, ◌-◌, ◌<◌, ◌≤◌, ◌&&◌, nat_le, Bool, true, false, List, [], ◌∷◌, filter, length, slice_get, Option, Some, None}
 use Rattle.rb_world.specs.Kind.{Ends, Membership}
 use Rattle.rb_world.specs.Reject.{parent_of}
 use Rattle.rb_world.specs.Turn.{members_of}

@@ -1,5 +1,5 @@
 -- Which code stands for a tree whose names have these slots.
-use Rattle.std.specs.Prelude.{◌≡◌, ℕ, ◌+◌, nat_eq, Bool, cond, ◌||◌, List, [], ◌∷◌, length, slice_get, Option, Some, None}
+use Rattle.std.specs.Prelude.{◌≡◌, ℕ, ◌+◌, nat_eq, cond, ◌||◌, List, [], ◌∷◌, length}
 use Rattle.rb_syntax.specs.Tree.{ProcessDeclaration, Tree}
 use Rattle.rb_meaning.specs.Environment.{frame_of, frame_words}
 use Rattle.rb_meaning.specs.Groups.{channels_of}
@@ -7,8 +7,8 @@ use Rattle.rb_meaning.specs.Meaning.{naming_of}
 use Rattle.rb_world.specs.Kind.{Ends}
 use Rattle.rb_scope.specs.declared.slot.Slot.{Slot}
 use Rattle.rb_code.specs.Plain.{Code, Part}
-use Rattle.rb_code.specs.Template.{Template, One, ◌⨾◌, Only}
-use Rattle.rb_code.specs.Forms.{CommandsCode, Owner, ProceduresCode}
+use Rattle.rb_code.specs.Template.{Template, One, ◌⨾◌}
+use Rattle.rb_code.specs.Forms.{CommandsCode, ProceduresCode}
 use Rattle.rb_code.specs.declared.instr.Instr.{Instr}
 use Rattle.rb_code.specs.declared.instr.Instr.TheVariants.{Done, Text}
 

@@ -1,6 +1,5 @@
 -- One step of a process of the word machine: all from the `turn` at which it stands up to the next one.
 use Rattle.std.specs.Prelude.{ℕ, ◌+◌, ◌*◌, ℤ, nat_eq, cond, List, [], ◌∷◌, ◌++◌, length, slice_get, Option, Some, None}
-use Rattle.std.specs.Option.{option_map, unwrap_or}
 use Rattle.rb_base.specs.declared.event.Cause.TheVariants.{Fail as FailCause}
 use Rattle.rb_base.specs.declared.limits.TheConstants.{MOST_QUANTIFIED}
 use Rattle.rb_meaning.specs.Step.{most_calls}

@@ -7,7 +7,7 @@ use Rattle.rb_world.specs.Slots.{slot_of}
 use Rattle.rb_cache.specs.Copies.{accepted, change_last, entered}
 use Rattle.rb_code.specs.Plain.{Code}
 use Rattle.rb_code.specs.Memory.{cursor_place, cut_held, held_place, part_of, word_at}
-use Rattle.rb_code.specs.Turn.{Common, Copy, Link, Standing, settle, step, want}
+use Rattle.rb_code.specs.Turn.{Common, Copy, Standing, settle, step, want}
 
 -- the cursor of a channel among the words of process p
 abbrev pub cursor_in : Code → ℕ → List ℤ → ℕ → ℕ
@@ -48,9 +48,10 @@ released s = record s { held = []; words = slice_set s.words held_place (pos 0) 
 
 -- a turn is kept: it is the last one, and its link leads to the one before
 abbrev pub kept : ℕ → ℕ → Standing → Common → Standing × Common
-kept t alternate s memory =
-    (record s { last_kept = t },
-    record memory { links = record { turn = t; process = s.process; alternate = alternate; before = s.last_kept } ∷ memory.links })
+kept t alternate s memory = (
+  record s { last_kept = t },
+  record memory { links = record { turn = t; process = s.process; alternate = alternate; before = s.last_kept } ∷ memory.links },
+)
 
 -- the kind of state that code has, with these conversations
 abbrev pub word_kind : Code → List Membership → Kind Standing Copy Common

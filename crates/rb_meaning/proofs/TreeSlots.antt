@@ -22,7 +22,7 @@ none_sent zero c = refl
 none_sent (suc n) zero = refl
 none_sent (suc n) (suc c) = none_sent n c
 
-opens_with_slots : (tree : Tree) → IsNested tree → OpensWithSlots (parts_of tree) (Known tree) (opening_states tree 0 tree.processes)
+pub opens_with_slots : (tree : Tree) → IsNested tree → OpensWithSlots (parts_of tree) (Known tree) (opening_states tree 0 tree.processes)
 opens_with_slots tree nested = record {
   known = known_opening tree nested;
   held = each_opening tree (λ s. s.held ≡ []) (λ n process. refl) 0 tree.processes;

@@ -231,7 +231,7 @@ module _ {S C M T D N : Type 0} {k : Kind S C M} {l : Kind T D N} {on_state : S 
           ∙ ap₂ l.restore (sym (image.cut (suc j) s) ∙ ap (l.cut (suc j)) e.state)
           (copy_there on_copy cs j x y at (ap (λ (es : List D). slice_get es j) e.copies ∙ at'));
     };
-    fall = λ line m n cs s ds u e. record { memory = e.memory; copies = refl; state = sym (image.cut 0 s) ∙ ap (l.cut 0) e.state };
+    fall = λ m n cs s ds u e. record { memory = e.memory; copies = refl; state = sym (image.cut 0 s) ∙ ap (l.cut 0) e.state };
   }
 
   -- one turn, and a whole run

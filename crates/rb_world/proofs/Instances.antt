@@ -198,7 +198,7 @@ module _ (groups : List Membership) where
           ∙ ap₂ back_to_mark e.same (mark_there cs ds j x y e.marks at at');
       chain = chain_take cs s.lines j x e.chain at;
     };
-    fall = λ line m n cs s ds u e. record { marks = refl; same = e.same; chain = tt };
+    fall = λ m n cs s ds u e. record { marks = refl; same = e.same; chain = tt };
   }
 
   openings_marked : (states : List Doing) → OpeningsMeet (copies_whole groups) (copies_marks groups) Marking tt tt states states

@@ -16,6 +16,7 @@ pub mod Simulation
 pub mod MarksMeet
 pub mod ProcessesMeet
 pub mod ChannelsMeet
+pub mod AwayOnceBack
 pub mod CascadeMeets
 pub mod StepsMeetWorlds
 pub mod TurnsMeet

@@ -194,9 +194,11 @@ module _ {S C M T D N : Type 0} {k : Kind S C M} {l : Kind T D N} {shared : Shar
 
 -- rejections
 module _ {S C M T D N : Type 0} {k : Kind S C M} {l : Kind T D N} {shared : Shared M N} {related : Related S C M T D N} {known : Knowing S C M} (laws : IsSimulation k l shared related known) where
-  pub fallen_meets : (m : M) (n : N) (cause : Cause) (q : Process S C) (r : Process T D) → ProcessesMeet related m n q r → ProcessesMeet related m n (fallen k cause q) (fallen l cause r)
-  fallen_meets m n cause q r meets = record {
-    states = laws.fall q.at_line m n (copies_of q.levels) q.state (copies_of r.levels) r.state meets.states;
+  pub fallen_meets : (m : M) (n : N) (cause : Cause) (q : Process S C) (r : Process T D) → q.at_line ≡ false → ProcessesMeet related m n q r
+      → ProcessesMeet related m n (fallen k cause q) (fallen l cause r)
+  fallen_meets m n cause q r away meets = record {
+    states = laws.fall m n (copies_of q.levels) q.state (copies_of r.levels) r.state
+        (subst (λ (line : Bool). related line m n (copies_of q.levels) q.state (copies_of r.levels) r.state) away meets.states);
     marks = tt;
     lines = refl;
     statuses = refl;
@@ -226,8 +228,8 @@ module _ {S C M T D N : Type 0} {k : Kind S C M} {l : Kind T D N} {shared : Shar
   put_back_meets m n j q r meets =
       back_to_meets m n j q r meets (slice_get q.levels j) (slice_get r.levels j) refl refl (get_marks q.levels r.levels j meets.marks)
 
-  pub fallen_inside_meets : (m : M) (n : N) (c : ℕ) (q : Process S C) (r : Process T D) → ProcessesMeet related m n q r
-      → ProcessesMeet related m n (fallen_inside k c q) (fallen_inside l c r)
-  fallen_inside_meets m n c q r meets =
+  pub fallen_inside_meets : (m : M) (n : N) (c : ℕ) (q : Process S C) (r : Process T D) → (is_inside c q ≡ true → q.at_line ≡ false)
+      → ProcessesMeet related m n q r → ProcessesMeet related m n (fallen_inside k c q) (fallen_inside l c r)
+  fallen_inside_meets m n c q r away meets =
       cond_meets (ProcessesMeet related m n) (is_inside c q) (is_inside c r) (same_any (is_of c) (is_of c) (same_of c) q.levels r.levels meets.marks)
-      (λ _. fallen_meets m n Inner q r meets) (λ _. meets)
+      (λ inside. fallen_meets m n Inner q r (away inside) meets) (λ _. meets)

@@ -123,5 +123,6 @@ pub record IsSimulation {S C M T D N : Type 0} (k : Kind S C M) (l : Kind T D N)
   pub back : (line : Bool) (m : M) (n : N) (cs : List C) (s : S) (ds : List D) (u : T) (j : ℕ) (x : C) (y : D)
       → related line m n cs s ds u → slice_get cs j ≡ Some x → slice_get ds j ≡ Some y
       → related false m n (take (suc j) cs) (k.restore (k.cut (suc j) s) x) (take (suc j) ds) (l.restore (l.cut (suc j) u) y)
-  pub fall : (line : Bool) (m : M) (n : N) (cs : List C) (s : S) (ds : List D) (u : T) → related line m n cs s ds u
+  -- a process falls away from every line
+  pub fall : (m : M) (n : N) (cs : List C) (s : S) (ds : List D) (u : T) → related false m n cs s ds u
       → related false m n [] (k.cut 0 s) [] (l.cut 0 u)

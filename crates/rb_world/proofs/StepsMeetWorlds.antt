@@ -6,13 +6,15 @@ use Rattle.rb_base.specs.declared.event.Cause.TheVariants.{Broken, Depth}
 use Rattle.rb_base.specs.declared.event.Event.TheVariants.{Pass}
 use Rattle.rb_world.specs.Kind.{Facts, Kind, Membership, Enters, Starts, Stepped, Trapped, Went, Held}
 use Rattle.rb_world.specs.World.{Level, Process, Talk, World, change_at, last_of, process_levels, talk_at, with_each, with_process, with_memory, goes_on}
-use Rattle.rb_world.specs.Reject.{Happened, fallen, first_again, reject}
+use Rattle.rb_world.specs.Reject.{Happened, first_again, reject}
 use Rattle.rb_world.specs.Turn.{Moved, accepted, accepted_at, all_leave, all_stand, alternate_of, at_test_line, enter_either, enters, join, leaves, members_of, most_levels, moved_to, new_level, open_at, stands_there, stepped, steps, took, trapped, undone}
 use Rattle.rb_world.proofs.TurnFacts.{IsReady, come_to_stand}
+use Rattle.rb_world.proofs.ListFacts.{some_same}
 use Rattle.rb_world.proofs.Simulation.{Shared, Related, Knowing, copies_of, IsActing, StillMeets, StepsMeet, IsPlainSimulation, IsSimulation}
 use Rattle.rb_world.proofs.MarksMeet.{OptionsMeet, SameMark, SameMarks, same_length, last_marks, more_marks, copies-last, copies-more}
-use Rattle.rb_world.proofs.ProcessesMeet.{ProcessesMeet, WorldsMeet, cond_meets, get_meets, change_meets, fallen_meets, goes_on_meets, leaves_meets, left_meets, rewritten, same_stand, stands_now_meets}
-use Rattle.rb_world.proofs.CascadeMeets.{HappenedMeet, process_levels_meet, with_each_meets, with_process_meets, with_talks_meets, reject_meets}
+use Rattle.rb_world.proofs.ProcessesMeet.{ProcessesMeet, WorldsMeet, cond_meets, get_meets, change_meets, goes_on_meets, leaves_meets, left_meets, rewritten, same_stand, stands_now_meets}
+use Rattle.rb_world.proofs.AwayOnceBack.{StandsAway}
+use Rattle.rb_world.proofs.CascadeMeets.{HappenedMeet, falls_meets, process_levels_meet, with_each_meets, with_talks_meets, reject_meets}
 
 -- related worlds, and the same to tell
 pub record MovesMeet {S C M T D N : Type 0} (shared : Shared M N) (related : Related S C M T D N) (x : Moved S C M) (y : Moved T D N) : Type 0 where
@@ -137,35 +139,38 @@ module _ {S C M T D N : Type 0} {k : Kind S C M} {l : Kind T D N} {shared : Shar
 
 -- with rejections
 module _ {S C M T D N : Type 0} {k : Kind S C M} {l : Kind T D N} {shared : Shared M N} {related : Related S C M T D N} {known : Knowing S C M} (laws : IsSimulation k l shared related known) where
-  pub trapped_meets : (p : ℕ) (cause : Cause) (w : World S C M) (v : World T D N) → WorldsMeet shared related w v
+  pub trapped_meets : (p : ℕ) (cause : Cause) (w : World S C M) (v : World T D N) → StandsAway p w → WorldsMeet shared related w v
       → MovesMeet shared related (trapped k p cause w) (trapped l p cause v)
-  trapped_meets p cause w v meets =
+  trapped_meets p cause w v away meets =
       subst (λ (n : ℕ). MovesMeet shared related (trapped k p cause w) (undone (reject l p n cause v)))
       (same_length (process_levels w p) (process_levels v p) (process_levels_meet w v p meets))
-      (undone_meets _ _ (reject_meets laws p (length (process_levels w p)) cause w v meets))
+      (undone_meets _ _ (reject_meets laws p (length (process_levels w p)) cause w v (λ _. away) meets))
 
   stepped_meets : (t p alternate : ℕ) (w : World S C M) (v : World T D N) (ls : List (Level C)) (ms : List (Level D)) (x : Stepped S M) (y : Stepped T N)
-      → StepsMeet k l shared related t p alternate w v.memory (copies_of ls) (copies_of ms) x y → SameMarks ls ms → WorldsMeet shared related w v
+      → StepsMeet k l shared related t p alternate w v.memory (copies_of ls) (copies_of ms) x y → StandsAway p w → SameMarks ls ms → WorldsMeet shared related w v
       → MovesMeet shared related (stepped k t p alternate ls w x) (stepped l t p alternate ms v y)
-  stepped_meets t p alternate w v ls ms (Trapped c) (Trapped d) e same meets =
-      subst (λ (cause : Cause). MovesMeet shared related (trapped k p c w) (trapped l p cause v)) e (trapped_meets p c w v meets)
-  stepped_meets t p alternate w v ls ms (Trapped c) (Went u n) e same meets = absurd e
-  stepped_meets t p alternate w v ls ms (Trapped c) (Held u) e same meets = absurd e
-  stepped_meets t p alternate w v ls ms (Went s m) (Trapped d) e same meets = absurd e
-  stepped_meets t p alternate w v ls ms (Went s m) (Went u n) e same meets =
+  stepped_meets t p alternate w v ls ms (Trapped c) (Trapped d) e away same meets =
+      subst (λ (cause : Cause). MovesMeet shared related (trapped k p c w) (trapped l p cause v)) e (trapped_meets p c w v away meets)
+  stepped_meets t p alternate w v ls ms (Trapped c) (Went u n) e away same meets = absurd e
+  stepped_meets t p alternate w v ls ms (Trapped c) (Held u) e away same meets = absurd e
+  stepped_meets t p alternate w v ls ms (Went s m) (Trapped d) e away same meets = absurd e
+  stepped_meets t p alternate w v ls ms (Went s m) (Went u n) e away same meets =
       let a = k.keep t alternate s m in
       let b = l.keep t alternate u n in
       took_meets _ _ (moved_to_meets laws.plain p w v a.1 b.1 a.0 ls b.0 ms e same meets)
-  stepped_meets t p alternate w v ls ms (Went s m) (Held u) e same meets = absurd e
-  stepped_meets t p alternate w v ls ms (Held s) (Trapped d) e same meets = absurd e
-  stepped_meets t p alternate w v ls ms (Held s) (Went u n) e same meets = absurd e
-  stepped_meets t p alternate w v ls ms (Held s) (Held u) e same meets =
+  stepped_meets t p alternate w v ls ms (Went s m) (Held u) e away same meets = absurd e
+  stepped_meets t p alternate w v ls ms (Held s) (Trapped d) e away same meets = absurd e
+  stepped_meets t p alternate w v ls ms (Held s) (Went u n) e away same meets = absurd e
+  stepped_meets t p alternate w v ls ms (Held s) (Held u) e away same meets =
       let a = k.keep t alternate s w.memory in
       let b = l.keep t alternate u v.memory in
       accepted_meets laws.plain p w v a.1 b.1 a.0 ls b.0 ms (last_of ls) (last_of ms) e same (last_marks ls ms same) meets
 
   -- q acts, and r is the same process on the right
   module _ (t p : ℕ) (q : Process S C) (w : World S C M) (r : Process T D) (v : World T D N) (acts : IsActing known t p q w) (both : ProcessesMeet related w.memory v.memory q r) (meets : WorldsMeet shared related w v) where
+    acts_away : StandsAway p w
+    acts_away z there = ap (λ (y : Process S C). y.at_line) (some_same (sym there ∙ acts.runs.there)) ∙ acts.away
+
     pub steps_meet : (alternate : ℕ) (message : Option ℤ) → IsReady k q w message → (k.want q.state ≡ Starts) ⊎ (alternate ≡ 0)
         → MovesMeet shared related (steps k t p alternate message q w) (steps l t p alternate message r v)
     steps_meet alternate message ready at =
@@ -174,7 +179,7 @@ module _ {S C M T D N : Type 0} {k : Kind S C M} {l : Kind T D N} {shared : Shar
         (subst (λ (y : Option D). MovesMeet shared related (stepped k t p alternate q.levels w (k.step alternate (last_of (copies_of q.levels)) q.state message w.memory)) (stepped l t p alternate r.levels v (l.step alternate y r.state message v.memory)))
         (sym (copies-last r.levels))
         (stepped_meets t p alternate w v q.levels r.levels _ _
-        (laws.step t p q w alternate message v.memory (copies_of r.levels) r.state acts ready at meets.memories (away_states laws.plain t p q w r v acts both meets)) both.marks meets))
+        (laws.step t p q w alternate message v.memory (copies_of r.levels) r.state acts ready at meets.memories (away_states laws.plain t p q w r v acts both meets)) acts_away both.marks meets))
 
     join_meets : (facts : Facts) (talk : Option Talk) → k.want q.state ≡ Enters facts
         → MovesMeet shared related (join k t p facts q w talk) (join l t p facts r v talk)
@@ -182,7 +187,7 @@ module _ {S C M T D N : Type 0} {k : Kind S C M} {l : Kind T D N} {shared : Shar
     join_meets facts (Some talk) wants =
         cond_meets (MovesMeet shared related) talk.is_broken talk.is_broken refl
         (λ _. record {
-          worlds = with_process_meets w v p (fallen k Broken) (fallen l Broken) (fallen_meets laws w.memory v.memory Broken) meets;
+          worlds = falls_meets laws p Broken w v acts_away meets;
           kinds = refl;
           rejections = refl;
           passes = refl;
@@ -200,4 +205,4 @@ module _ {S C M T D N : Type 0} {k : Kind S C M} {l : Kind T D N} {shared : Shar
     enters_meet facts wants =
         cond_meets (MovesMeet shared related) (nat_le most_levels (length q.levels)) (nat_le most_levels (length r.levels))
         (ap (nat_le most_levels) (same_length q.levels r.levels both.marks))
-        (λ _. trapped_meets p Depth w v meets) (λ _. enter_either_meets facts facts.conversation wants)
+        (λ _. trapped_meets p Depth w v acts_away meets) (λ _. enter_either_meets facts facts.conversation wants)

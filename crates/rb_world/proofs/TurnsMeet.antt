@@ -1,5 +1,5 @@
 -- Related worlds take turns to related worlds and tell the same, turn by turn and over whole runs.
-use Rattle.std.proofs.Common.{◌≡◌, ℕ, ℤ, ◌+◌, List, [], ◌∷◌, ◌++◌, option_map, position, slice_get, Option, Some, None, refl, ap, ap₂, ◌∙◌, subst, inl, inr}
+use Rattle.std.proofs.Common.{◌≡◌, ℕ, ℤ, ◌+◌, List, [], ◌∷◌, ◌++◌, option_map, position, slice_get, Option, Some, None, refl, ap, ap₂, ◌∙◌, subst, inl, inr, arith}
 use Rattle.rb_base.specs.declared.event.Cause.TheVariants.{Overrun}
 use Rattle.rb_base.specs.declared.event.Event.{Event}
 use Rattle.rb_world.specs.Kind.{Kind, Want, NothingLeft, SendsOn, ReceivesOn, MayReceiveOn, Enters, Starts, Acts}
@@ -104,7 +104,7 @@ module _ {S C M T D N : Type 0} {k : Kind S C M} {l : Kind T D N} {shared : Shar
   bounded_meets : (t p : ℕ) (q : Process S C) (w : World S C M) (r : Process T D) (v : World T D N) → RunsAt p q w → (MayAct p q w → known t p q w)
       → ProcessesMeet related w.memory v.memory q r → WorldsMeet shared related w v → (over : Option ℕ) → position is_over q.levels ≡ over
       → MovesMeet shared related (bounded k t p q w over) (bounded l t p r v over)
-  bounded_meets t p q w r v at knows both meets (Some j) e = undone_meets _ _ (reject_meets laws p (j + 1) Overrun w v meets)
+  bounded_meets t p q w r v at knows both meets (Some j) e = undone_meets _ _ (reject_meets laws p (j + 1) Overrun w v (λ none. absurd (omega arith)) meets)
   bounded_meets t p q w r v at knows both meets None e =
       cond_meets (MovesMeet shared related) q.at_line r.at_line both.lines
       (λ _. record { worlds = meets; kinds = refl; rejections = refl; passes = refl })

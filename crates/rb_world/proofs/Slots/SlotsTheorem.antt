@@ -101,14 +101,14 @@ module _ {S E P : Type 0} {x : Parts S E P} {Known : ℕ → Process S S → Typ
   }
 
   -- the ground and the slots of a channel
-  abbrev HoldsBefore : ℕ → Ends → ℕ → List Told → World S S (Nothing × Slots) → Type 0
+  abbrev pub HoldsBefore : ℕ → Ends → ℕ → List Told → World S S (Nothing × Slots) → Type 0
   HoldsBefore c ends t past w = Grounded x Known (bare w) × HoldsOn x c ends w
 
   holds_all : (c : ℕ) (ends : Ends) → slice_get x.channels c ≡ Some ends
       → IsInvariant slotted (HoldsBefore c ends) (λ t past p left w. GroundedWithin x Known p left (bare w) × HoldsOn x c ends w) (λ t past w. StillGrounded x Known (bare w) × HoldsOn x c ends w)
   holds_all c ends declared = both_kept (under_slots (whole x) (grounded_kept keeps laws)) (holds_kept x Known laws c ends declared)
 
-  opening_both : (c : ℕ) (ends : Ends) → slice_get x.channels c ≡ Some ends → HoldsBefore c ends 1 [] slot_opening
+  pub opening_both : (c : ℕ) (ends : Ends) → slice_get x.channels c ≡ Some ends → HoldsBefore c ends 1 [] slot_opening
   opening_both c ends declared = (opening_grounded keeps laws states opens.known (λ r s e. (laws.settles s).held ∙ opens.held r s e), opening_holds c ends declared)
 
   -- In every world of every run each message that may still be asked for lies in its slot.
@@ -117,13 +117,13 @@ module _ {S E P : Type 0} {x : Parts S E P} {Known : ℕ → Process S S → Typ
       (run-keeps (holds_all c ends declared) 1 [] turns slot_opening (opening_both c ends declared)).1.lie sender receiver there here
 
   -- what is known of a world in every turn
-  abbrev SlotsKnown : Knowing S S (Nothing × Slots)
+  abbrev pub SlotsKnown : Knowing S S (Nothing × Slots)
   SlotsKnown t p q w = (c : ℕ) (ends : Ends) → slice_get x.channels c ≡ Some ends → Grounded x Known (bare w) × HoldsOn x c ends w
 
-  abbrev SlotsKept : ℕ → World S S (Nothing × Slots) → Type 0
+  abbrev pub SlotsKept : ℕ → World S S (Nothing × Slots) → Type 0
   SlotsKept t w = (c : ℕ) (ends : Ends) → slice_get x.channels c ≡ Some ends → WithPast (HoldsBefore c ends) t w
 
-  knows_slots : KeepsKnown slotted SlotsKnown SlotsKept
+  pub knows_slots : KeepsKnown slotted SlotsKnown SlotsKept
   knows_slots = record {
     knows = λ t p w holds q at may c ends declared.
         (invariant_knows {known = λ u r b v. Grounded x Known (bare v) × HoldsOn x c ends v} (holds_all c ends declared) (λ u past r b v h m. (h.0.ground, h.1))).knows t p w (holds c ends declared) q at may;
@@ -131,7 +131,7 @@ module _ {S E P : Type 0} {x : Parts S E P} {Known : ℕ → Process S S → Typ
         (invariant_knows {known = λ u r b v. Grounded x Known (bare v) × HoldsOn x c ends v} (holds_all c ends declared) (λ u past r b v h m. (h.0.ground, h.1))).stays t p w (holds c ends declared);
   }
 
-  reads_same : ReadsSame slotted (λ memory s c n. slot_of x.channels memory.1 c n) (λ memory s copy c n. slot_of x.channels memory.1 c n) SlotsKnown
+  pub reads_same : ReadsSame slotted (λ memory s c n. slot_of x.channels memory.1 c n) (λ memory s copy c n. slot_of x.channels memory.1 c n) SlotsKnown
   reads_same = record {
     now = λ t p q w c sender receiver acts receipt none less.
         let both = acts.knows c receipt.ends receipt.channel in
