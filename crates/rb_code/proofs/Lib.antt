@@ -48,3 +48,4 @@ pub mod StandsAgain
 pub mod ProcessesStand
 pub mod RunsStand
 pub mod WholeRuns
+pub mod Upright

@@ -98,7 +98,7 @@ module _ (c : Code) (groups : List Membership) (t : Table) (has : HasTable c gro
       settles_like c t (record s { touched = accepted s.touched }) (without_last levels) (without_last more) ws n hs (accepted s.touched) long
       refl (without_last_same levels more e) h
 
-  like_stands : (q : Process Standing Copy) (more : List (Level Copy)) (ws : List ℤ) (n : ℕ) (hs : List (List ℕ))
+  pub like_stands : (q : Process Standing Copy) (more : List (Level Copy)) (ws : List ℤ) (n : ℕ) (hs : List (List ℕ))
       → length ws ≡ length q.state.words → map opened more ≡ map opened q.levels → ProcessStands c t q
       → ProcessStands c t (record {
         state = record q.state { words = ws; last_kept = n; held = hs };
@@ -181,7 +181,7 @@ module _ (c : Code) (groups : List Membership) (t : Table) (has : HasTable c gro
   falls p q cause h = record { exists = h.exists; recovers = tt; heights = refl; now = refl }
 
   -- a copy is put back
-  copy_stands : (q : Process Standing Copy) (j : ℕ) (level : Level Copy) → slice_get q.levels j ≡ Some level → ProcessStands c t q
+  pub copy_stands : (q : Process Standing Copy) (j : ℕ) (level : Level Copy) → slice_get q.levels j ≡ Some level → ProcessStands c t q
       → Stands c t (restored (record q.state { touched = take (j + 1) q.state.touched }) level.copy) (take (j + 1) q.levels)
   copy_stands q j level e h =
       let left = inside_out (take (j + 1) q.levels) in
