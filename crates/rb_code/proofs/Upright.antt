@@ -56,7 +56,7 @@ module _ (c : Code) (groups : List Membership) (t : Table) (has : HasTable c gro
     levels = h.levels;
     copies_are = h.copies_are;
     stands = like_stands c groups t has lists (record { state = u; levels = h.levels; at_line = line; status = Running }) h.levels u.words n
-      u.held refl refl h.stands;
+        u.held refl refl h.stands;
   }
 
   pub upright_finishes : (ds : List Copy) (u : Standing) (alternate : ℕ) (message : Option ℤ) (slots : Slots) → Upright c t false ds u
@@ -108,19 +108,19 @@ module _ (c : Code) (groups : List Membership) (t : Table) (has : HasTable c gro
         levels = h.levels ++ level ∷ [];
         copies_are = map-append (λ level. level.copy) h.levels (level ∷ []) ∙ ap (λ l. l ++ copied new ∷ []) h.copies_are;
         stands = away_stands c groups t has lists new (h.levels ++ level ∷ []) Running
-          (entered_stands c groups t has lists u h.levels h.stands.now facts wants n 1);
+            (entered_stands c groups t has lists u h.levels h.stands.now facts wants n 1);
       }
 
   pub upright_settling_finishes : (ds : List Copy) (u : Standing) → Upright c t true ds u
       → execute c (sight (record u { touched = accepted u.touched }) 0 (last_of (without_last ds)) None) (most_steps c) u.at []
-        (memory_of (record u { touched = accepted u.touched }) []) ≡ Unfinished → ⊥
+      (memory_of (record u { touched = accepted u.touched }) []) ≡ Unfinished → ⊥
   upright_settling_finishes ds u h =
       let later : Standing = record u { touched = accepted u.touched } in
       let inner = without_last h.levels in
       subst (λ copy. execute c (sight later 0 copy None) (most_steps c) u.at [] (memory_of later []) ≡ Unfinished → ⊥)
       (last_copy inner (without_last ds) (copies_before h.levels ds h.copies_are))
       (safe_ends c (sight later 0 (copy_of (last_of inner)) None) (λ m. ⊥) (most_steps c) u.at [] (memory_of later [])
-        (standing.settle_safe c groups t has lists later inner h.stands.now))
+      (standing.settle_safe c groups t has lists later inner h.stands.now))
 
   pub upright_leaves : (ds : List Copy) (u : Standing) → Upright c t true ds u
       → Upright c t false (without_last ds) (settle c (last_of (without_last ds)) (record u { touched = accepted u.touched }))
@@ -132,8 +132,8 @@ module _ (c : Code) (groups : List Membership) (t : Table) (has : HasTable c gro
         levels = inner;
         copies_are = copies;
         stands = away_stands c groups t has lists (settle c (last_of (without_last ds)) later) inner Running
-          (subst (λ copy. Stands c t (settle c copy later) inner) (last_copy inner (without_last ds) copies)
-          (standing.settle_stands c groups t has lists later inner h.stands.now));
+            (subst (λ copy. Stands c t (settle c copy later) inner) (last_copy inner (without_last ds) copies)
+            (standing.settle_stands c groups t has lists later inner h.stands.now));
       }
 
   pub upright_releases : (line : Bool) (ds : List Copy) (u : Standing) → Upright c t line ds u → Upright c t line ds (released u)
@@ -141,7 +141,7 @@ module _ (c : Code) (groups : List Membership) (t : Table) (has : HasTable c gro
     levels = h.levels;
     copies_are = h.copies_are;
     stands = like_stands c groups t has lists (record { state = u; levels = h.levels; at_line = line; status = Running }) h.levels
-      (slice_set u.words held_place (pos 0)) u.last_kept [] (length-set u.words held_place (pos 0)) refl h.stands;
+        (slice_set u.words held_place (pos 0)) u.last_kept [] (length-set u.words held_place (pos 0)) refl h.stands;
   }
 
   pub upright_back : (line : Bool) (ds : List Copy) (u : Standing) (j : ℕ) (y : Copy) → Upright c t line ds u → slice_get ds j ≡ Some y
@@ -155,14 +155,14 @@ module _ (c : Code) (groups : List Membership) (t : Table) (has : HasTable c gro
           ∙ (ap (λ l. slice_get l j) h.copies_are ∙ there)))
       by (Some level) e =
           let same : level.copy ≡ y =
-                some_same (sym (slice_get-map (λ level. level.copy) h.levels j ∙ ap (option_map (λ level. level.copy)) e)
-                ∙ (ap (λ l. slice_get l j) h.copies_are ∙ there)) in
+          some_same (sym (slice_get-map (λ level. level.copy) h.levels j ∙ ap (option_map (λ level. level.copy)) e)
+          ∙ (ap (λ l. slice_get l j) h.copies_are ∙ there)) in
           record {
             levels = take (j + 1) h.levels;
             copies_are = sym (take-map (λ level. level.copy) (j + 1) h.levels) ∙ ap (take (j + 1)) h.copies_are;
             stands = away_stands c groups t has lists (restored (record u { touched = take (j + 1) u.touched }) y) (take (j + 1) h.levels) Running
-              (subst (λ x. Stands c t (restored (record u { touched = take (j + 1) u.touched }) x) (take (j + 1) h.levels)) same
-              (copy_stands c groups t has lists (record { state = u; levels = h.levels; at_line = line; status = Running }) j level e h.stands));
+                (subst (λ x. Stands c t (restored (record u { touched = take (j + 1) u.touched }) x) (take (j + 1) h.levels)) same
+                (copy_stands c groups t has lists (record { state = u; levels = h.levels; at_line = line; status = Running }) j level e h.stands));
           }
 
   pub upright_falls : (u : Standing) → Upright c t false [] u → Upright c t false [] (record u { touched = take 0 u.touched })
@@ -173,7 +173,7 @@ module _ (c : Code) (groups : List Membership) (t : Table) (has : HasTable c gro
         levels = [];
         copies_are = refl;
         stands = away_stands c groups t has lists (record u { touched = take 0 u.touched }) [] Running
-          (stands_like c t u [] [] u.words u.last_kept u.held (take 0 u.touched) refl (sym now.layout.heights) refl now);
+            (stands_like c t u [] [] u.words u.last_kept u.held (take 0 u.touched) refl (sym now.layout.heights) refl now);
       }
 
   pub upright_opens : (p : ℕ) (part : Part) → slice_get c.processes p ≡ Some part
@@ -182,5 +182,5 @@ module _ (c : Code) (groups : List Membership) (t : Table) (has : HasTable c gro
     levels = [];
     copies_are = refl;
     stands = away_stands c groups t has lists (settle c None (opening_standing p part)) [] Running
-      (standing.settle_stands c groups t has lists (opening_standing p part) [] (opening_settles c t groups has p part there));
+        (standing.settle_stands c groups t has lists (opening_standing p part) [] (opening_settles c t groups has p part there));
   }
