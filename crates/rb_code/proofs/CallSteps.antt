@@ -1,5 +1,5 @@
 -- `call` and `return`: a process stands again, in another body.
-use Rattle.std.proofs.Common.{◌≡◌, ◌⊎◌, inl, inr, ℕ, zero, suc, ◌+◌, ◌-◌, ◌*◌, ◌<◌, ◌≤◌, ℤ, pos, nat_le, Bool, true, false, cond, List, [], ◌∷◌, ◌++◌, length, filter, replicate, slice_get, take, Option, Some, None, refl, ap, sym, ◌∙◌, subst, arith, length-append, length-take-le, leb-false}
+use Rattle.std.proofs.Common.{◌≡◌, ℕ, zero, suc, ◌+◌, ◌*◌, ◌<◌, ◌≤◌, ℤ, pos, nat_le, true, false, cond, List, [], ◌∷◌, ◌++◌, length, filter, replicate, slice_get, Option, Some, None, refl, ap, sym, ◌∙◌, subst, arith, length-append, length-take-le, leb-false}
 use Rattle.std.proofs.lemmas.List.{length-replicate}
 use Rattle.rb_base.specs.declared.event.Cause.TheVariants.{Calls, Stack}
 use Rattle.rb_base.specs.declared.limits.TheConstants.{MOST_QUANTIFIED}
@@ -8,16 +8,15 @@ use Rattle.rb_meaning.specs.Step.{most_calls}
 use Rattle.rb_code.specs.Plain.{Code}
 use Rattle.rb_code.specs.Memory.{Memory, OpenCall, base_of, called, ended}
 use Rattle.rb_code.specs.Act.{Going, Outcome, Sight, Trapped, act, arguments, below, has_words_for, here, returned}
-use Rattle.rb_code.specs.Sound.{Mode, Changed, BeginsAs, Entry, Fine, Has, LeadsTo, Loop, MayTrap, OpenBlock, Table, at_address, changed, is_in}
+use Rattle.rb_code.specs.Sound.{Changed, BeginsAs, Entry, Fine, Has, Loop, Table, at_address, changed, is_in}
 use Rattle.rb_code.specs.Stands.{BeganBefore, BodyFits, Fits, Levels, LevelsFit, LoopsFit, ModeFits, OperandsFit, ReturnsTo}
 use Rattle.rb_code.specs.declared.instr.Instr.TheVariants.{Call, Return}
-use Rattle.rb_code.proofs.Digits.{bounded, high_falls, left}
+use Rattle.rb_code.proofs.Digits.{bounded, high_falls}
 use Rattle.rb_code.proofs.OpenLoops.{few_open, open_loops, some_times}
 use Rattle.rb_code.proofs.LoopSteps.{left_at}
 use Rattle.rb_code.proofs.OpenLevels.{body_process}
-use Rattle.rb_code.proofs.Needs.{as_long}
 use Rattle.rb_code.proofs.Weaker.{may_trap, rank, weaker_changed, weaker_none}
-use Rattle.rb_code.proofs.Progress.{GoesOn, Most, Progress, cond_goes, distance, left_from_most, places}
+use Rattle.rb_code.proofs.Progress.{Most, Progress, cond_goes, distance, left_from_most, places}
 
 arguments_long : (os : List (Option ℕ)) (xs : List ℤ) (p : ℕ) → OperandsFit os xs → length os ≡ p → length (arguments p xs) ≡ p
 arguments_long [] xs zero h e = refl

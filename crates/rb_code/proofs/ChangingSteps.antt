@@ -1,25 +1,24 @@
 -- Instructions that change something and go on in the same body: a process stands again, in the mode changed.
-use Rattle.std.proofs.Common.{◌≡◌, ◌⊎◌, inl, inr, ℕ, zero, suc, ◌+◌, ◌-◌, ◌<◌, ◌≤◌, ℤ, pos, ◌+ℤ◌, nat_le, nat_lt, Bool, true, false, cond, List, [], ◌∷◌, ◌++◌, length, filter, map, replicate, reverse, slice_get, slice_set, take, Option, Some, None, refl, ap, sym, ◌∙◌, subst, arith, length-append, length-take-le}
+use Rattle.std.proofs.Common.{◌≡◌, ℕ, ◌+◌, ◌-◌, ◌<◌, ℤ, pos, ◌+ℤ◌, nat_lt, cond, List, [], ◌∷◌, ◌++◌, length, filter, map, replicate, reverse, slice_set, take, Option, None, refl, ap, sym, ◌∙◌, subst, arith, length-append, length-take-le}
 use Rattle.std.proofs.lemmas.List.{length-set, length-replicate, reverse-append}
 use Rattle.rb_base.specs.declared.event.Cause.TheVariants.{Hold, Stack, Test as TestCause}
 use Rattle.rb_world.specs.Kind.{Membership}
 use Rattle.rb_world.specs.Slots.{Slots, put_slot}
-use Rattle.rb_cache.specs.Copies.{Level as Touched, accepted, change_last, joined}
+use Rattle.rb_cache.specs.Copies.{accepted, change_last, joined}
 use Rattle.rb_meaning.specs.Environment.{natural}
 use Rattle.rb_meaning.specs.Step.{most_held}
 use Rattle.rb_meaning.specs.Value.{is_zero}
 use Rattle.rb_code.specs.Plain.{Code}
-use Rattle.rb_code.specs.Memory.{Memory, base_of, cursor_place, dropped, framed, held_place, part_of, word_at}
+use Rattle.rb_code.specs.Memory.{Memory, cursor_place, framed, held_place, word_at}
 use Rattle.rb_code.specs.Act.{Accepts, Going, Outcome, Sight, Trapped, act, has_words_for, here, joined_pieces, line_held, place, risen}
-use Rattle.rb_code.specs.Sound.{Mode, Changed, Entry, Fine, InnermostIs, LeadsTo, MayTake, OpenBlock, Table, TopIs, at_address, changed, is_in}
-use Rattle.rb_code.specs.Safe.{IsThere}
-use Rattle.rb_code.specs.Stands.{BeganBefore, BodyFits, Fits, IsLaidOut, Levels, LoopsFit, ModeFits, OperandsFit, height_of}
+use Rattle.rb_code.specs.Sound.{Changed, Entry, Fine, InnermostIs, LeadsTo, OpenBlock, Table, at_address, changed, is_in}
+use Rattle.rb_code.specs.Stands.{BeganBefore, BodyFits, Fits, Levels, LoopsFit, ModeFits, OperandsFit, height_of}
 use Rattle.rb_code.specs.declared.instr.Spot.{Spot}
 use Rattle.rb_code.specs.declared.instr.Instr.TheVariants.{Store, StoreAt, Frame, Drop, Print, Put, Take, Test}
-use Rattle.rb_code.proofs.OpenLevels.{Innermost, heights-accepted, heights-touched, heights_of, innermost}
+use Rattle.rb_code.proofs.OpenLevels.{heights-accepted, heights-touched, innermost}
 use Rattle.rb_code.proofs.PlainSteps.{there_goes}
-use Rattle.rb_code.proofs.Weaker.{Arrives, arrives, may_frame, may_trap, rank, rank_zero}
-use Rattle.rb_code.proofs.Progress.{AcceptsAt, GoesOn, Most, Progress, changes, cond_goes, top_goes, two_go}
+use Rattle.rb_code.proofs.Weaker.{arrives, may_frame, may_trap, rank, rank_zero}
+use Rattle.rb_code.proofs.Progress.{AcceptsAt, Most, Progress, changes, cond_goes, top_goes, two_go}
 
 module _ (c : Code) (groups : List Membership) (t : Table) (see : Sight) (levels : Levels) (P : Memory → Type 0)
     (a : ℕ) (e : Entry) (operands : List ℤ) (m : Memory) (in_code : a < length c.instrs)

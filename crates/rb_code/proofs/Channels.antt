@@ -1,5 +1,5 @@
 -- A channel of which a process is an end is among its channels.
-use Rattle.std.proofs.Common.{◌≡◌, ◌⊎◌, inl, inr, ℕ, zero, suc, ◌+◌, ◌<◌, ◌||◌, nat_eq, Bool, true, false, cond, List, [], ◌∷◌, length, slice_get, Option, Some, None, refl, ap, sym, ◌∙◌, subst, arith, eq-eqb}
+use Rattle.std.proofs.Common.{◌≡◌, ℕ, zero, suc, ◌+◌, ◌<◌, ◌||◌, nat_eq, Bool, true, false, cond, List, [], ◌∷◌, length, slice_get, Option, Some, None, refl, ap, sym, subst, arith, eq-eqb}
 use Rattle.std.specs.Option.{unwrap_or}
 use Rattle.rb_world.specs.Kind.{Ends}
 use Rattle.rb_code.specs.Plain.{Code, Part}

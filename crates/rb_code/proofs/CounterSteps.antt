@@ -1,5 +1,5 @@
 -- `range` and `again`: a process stands again, in a loop or out of it.
-use Rattle.std.proofs.Common.{◌≡◌, ◌⊎◌, inl, inr, ℕ, zero, suc, ◌+◌, ◌-◌, ◌<◌, ◌≤◌, ℤ, pos, ◌+ℤ◌, ◌-ℤ◌, int_lt, nat_lt, Bool, true, false, cond, List, [], ◌∷◌, length, filter, slice_get, slice_set, Option, Some, None, unwrap_or, Result, Ok, Err, refl, ap, sym, ◌∙◌, subst, arith, ltb-false}
+use Rattle.std.proofs.Common.{◌≡◌, ℕ, zero, suc, ◌+◌, ◌<◌, ℤ, pos, ◌+ℤ◌, ◌-ℤ◌, int_lt, nat_lt, Bool, true, false, cond, List, [], ◌∷◌, length, filter, slice_get, slice_set, Option, Some, None, Result, Ok, Err, refl, ap, sym, ◌∙◌, subst, arith, ltb-false}
 use Rattle.std.proofs.lemmas.List.{length-set}
 use Rattle.rb_base.specs.declared.event.Cause.{Cause}
 use Rattle.rb_base.specs.declared.event.Cause.TheVariants.{Range as RangeCause}
@@ -10,7 +10,7 @@ use Rattle.rb_meaning.specs.Value.{span}
 use Rattle.rb_code.specs.Plain.{Code}
 use Rattle.rb_code.specs.Memory.{Counting, Memory}
 use Rattle.rb_code.specs.Act.{Going, Outcome, Sight, act, counted_on, counter_at, counting, or_trap, ranged}
-use Rattle.rb_code.specs.Sound.{Entry, Fine, IsAhead, IsLoop, IsSet, LeadsTo, Loop, Table, at_address, freed, is_in, with_operands}
+use Rattle.rb_code.specs.Sound.{Entry, Fine, IsAhead, IsLoop, IsSet, LeadsTo, Loop, Table, at_address, is_in, with_operands}
 use Rattle.rb_code.specs.Safe.{IsThere}
 use Rattle.rb_code.specs.Stands.{BeganBefore, Counts, Fits, Levels, LoopsFit, OperandsFit}
 use Rattle.rb_code.specs.declared.instr.Instr.TheVariants.{Range, Again}
@@ -18,7 +18,7 @@ use Rattle.rb_code.proofs.OpenLoops.{fit_less, nearer, times_left}
 use Rattle.rb_code.proofs.LoopSteps.{begins, ended_fits, ends, goes_back, innermost_fits, left_at}
 use Rattle.rb_code.proofs.PlainSteps.{there_goes}
 use Rattle.rb_code.proofs.Weaker.{may_trap, mode_freed, rank, rank_freed}
-use Rattle.rb_code.proofs.Progress.{GoesOn, Most, Progress, distance, goes_on, left_from_most, onward, or_trap_goes, two_go}
+use Rattle.rb_code.proofs.Progress.{Most, Progress, goes_on, left_from_most, onward, or_trap_goes, two_go}
 
 -- where a loop begins it goes over few numbers
 span_few : (x y : ℤ) (n : ℕ) → span x y ≡ Ok (suc n) → natural (y -ℤ x) < MOST_QUANTIFIED

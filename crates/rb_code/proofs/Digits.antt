@@ -1,6 +1,6 @@
 -- Numbers of several digits that fall: what is left of a turn, by where its open loops began, how often they still go back, and where it
 -- stands.
-use Rattle.std.proofs.Common.{◌≡◌, ℕ, zero, suc, ◌+◌, ◌-◌, ◌*◌, ◌<◌, ◌≤◌, List, [], ◌∷◌, ◌++◌, refl, ap, sym, ◌∙◌, arith}
+use Rattle.std.proofs.Common.{ℕ, zero, suc, ◌+◌, ◌-◌, ◌*◌, ◌<◌, ◌≤◌, List, [], ◌∷◌, ◌++◌, arith}
 use Rattle.std.proofs.Math.Nat.{mul-le-mul_right}
 
 -- the low digit falls, and the high one does not rise

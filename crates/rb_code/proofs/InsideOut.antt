@@ -1,5 +1,5 @@
 -- Levels from the innermost out and their heights, as levels come, go and are put back.
-use Rattle.std.proofs.Common.{◌≡◌, ℕ, zero, suc, ◌+◌, ◌<◌, ◌≤◌, List, [], ◌∷◌, ◌++◌, length, map, reverse, take, drop, get_or, slice_get, Option, Some, None, refl, ap, sym, ◌∙◌, subst, arith}
+use Rattle.std.proofs.Common.{◌≡◌, ℕ, zero, suc, ◌+◌, List, [], ◌∷◌, ◌++◌, length, map, reverse, take, drop, slice_get, Some, refl, ap, sym, ◌∙◌}
 use Rattle.std.specs.List.{take-map}
 use Rattle.std.proofs.lemmas.List.{map-append, reverse-append, take-append-drop, take_more}
 use Rattle.std.proofs.lemmas.Option.{get_or_from_slice_get, slice_get_within}
@@ -9,7 +9,7 @@ use Rattle.rb_world.specs.Reject.{next_alternate}
 use Rattle.rb_world.specs.Turn.{one_used}
 use Rattle.rb_world.proofs.LastLevels.{without_last-map}
 use Rattle.rb_code.specs.Turn.{Copy}
-use Rattle.rb_code.specs.Stands.{Levels, Opened, height_of, inside_out, opened}
+use Rattle.rb_code.specs.Stands.{height_of, inside_out, opened}
 use Rattle.rb_code.proofs.OpenLevels.{heights_of}
 
 -- one level more outside, and one more inside

@@ -1,5 +1,5 @@
 -- The innermost level, which is the last of the levels from the outermost in and the first of their reverse.
-use Rattle.std.proofs.Common.{◌≡◌, ℕ, zero, suc, ◌+◌, ◌<◌, ◌≤◌, ℤ, List, [], ◌∷◌, ◌++◌, length, map, reverse, Option, Some, None, option_map, refl, ap, sym, ◌∙◌, subst, arith}
+use Rattle.std.proofs.Common.{◌≡◌, List, [], ◌∷◌, ◌++◌, length, map, reverse, Option, Some, None, option_map, refl, ap, sym, ◌∙◌, arith}
 use Rattle.std.proofs.lemmas.List.{reverse-append, reverse-reverse}
 use Rattle.rb_world.specs.World.{Level, copy_of, last_of, without_last}
 use Rattle.rb_world.proofs.LastLevels.{last_of-map, without_last-map}
@@ -45,6 +45,7 @@ former_is levels = by (inside_out levels) refl (last_of levels) refl
     none_mapped : (l : List (Level Copy)) → map opened l ≡ [] → l ≡ []
     none_mapped [] e = refl
     none_mapped (x ∷ l) e = absurd (let n = ap length e in omega arith)
+
     by : (inner : Levels) → inside_out levels ≡ inner → (o : Option (Level Copy)) → last_of levels ≡ o
         → prior_words (copy_of (last_of levels)) ≡ former_words inner
     by [] e o f = ap (λ l. prior_words (copy_of (last_of l))) (none_mapped levels (reverse_none (map opened levels) e))

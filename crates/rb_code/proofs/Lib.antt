@@ -55,3 +55,5 @@ pub mod RunsStand
 pub mod WholeRuns
 pub mod StepComes
 pub mod Callees
+pub mod Upright
+pub mod UprightRuns

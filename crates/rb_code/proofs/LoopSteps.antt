@@ -1,16 +1,15 @@
 -- What is left of a turn falls as it goes ahead, as a loop begins, as it goes back, and as it ends.
-use Rattle.std.proofs.Common.{◌≡◌, ◌⊎◌, inl, inr, ℕ, zero, suc, ◌+◌, ◌-◌, ◌<◌, ◌≤◌, ◌&&◌, ℤ, pos, ◌+ℤ◌, ◌-ℤ◌, int_lt, nat_le, Bool, true, false, cond, List, [], ◌∷◌, ◌++◌, length, filter, slice_get, slice_set, get_or, Option, Some, None, unwrap_or, refl, ap, sym, ◌∙◌, subst, arith, le-leb, leb-true}
+use Rattle.std.proofs.Common.{◌≡◌, inl, inr, ℕ, suc, ◌+◌, ◌<◌, ◌≤◌, ◌&&◌, nat_le, Bool, true, false, cond, List, [], ◌∷◌, ◌++◌, length, filter, slice_set, Option, Some, None, refl, ap, sym, ◌∙◌, subst, arith, le-leb, leb-true}
 use Rattle.std.proofs.lemmas.Bool.{and_parts}
-use Rattle.std.proofs.lemmas.List.{length-set, get_or-set_same, get_or-set_other}
+use Rattle.std.proofs.lemmas.List.{get_or-set_same, get_or-set_other}
 use Rattle.std.proofs.lemmas.Option.{unwrap_or-slice_get}
 use Rattle.rb_base.specs.declared.limits.TheConstants.{MOST_QUANTIFIED}
-use Rattle.rb_meaning.specs.Environment.{natural}
 use Rattle.rb_code.specs.Memory.{Counting, Memory}
 use Rattle.rb_code.specs.Act.{counter_at, counting}
 use Rattle.rb_code.specs.Sound.{IsSet, Loop, is_in}
 use Rattle.rb_code.specs.Stands.{BeganBefore, Counts, LoopsFit}
-use Rattle.rb_code.proofs.Digits.{Few, left, goes_ahead, goes_again, leaves, opens}
-use Rattle.rb_code.proofs.OpenLoops.{few_open, fit_less, nearer, not_three, open_loops, set_less, some_times, times_left}
+use Rattle.rb_code.proofs.Digits.{left, goes_ahead, goes_again, leaves, opens}
+use Rattle.rb_code.proofs.OpenLoops.{few_open, fit_less, not_three, open_loops, set_less, some_times, times_left}
 
 -- a counter that is set or goes, and the others stay
 pub counter_same : (k : ℕ) (v : Option Counting) (m : Memory) → k < length m.counters → counter_at k (counting k v m) ≡ v

@@ -1,13 +1,11 @@
 -- An instruction of sound code finds what it needs.
-use Rattle.std.proofs.Common.{◌≡◌, ◌⊎◌, inl, inr, ℕ, zero, suc, ◌+◌, ◌-◌, ◌<◌, ◌≤◌, ℤ, pos, Bool, true, false, List, [], ◌∷◌, ◌++◌, length, map, reverse, slice_get, Option, Some, None, refl, ap, sym, ◌∙◌, subst, arith}
-use Rattle.std.proofs.lemmas.Option.{slice_get-get_or}
-use Rattle.rb_base.specs.declared.limits.TheConstants.{MOST_QUANTIFIED}
+use Rattle.std.proofs.Common.{◌≡◌, inl, inr, ℕ, ◌+◌, ◌-◌, ◌<◌, ◌≤◌, ℤ, List, [], ◌∷◌, length, slice_get, Option, Some, None, refl, ap, ◌∙◌, subst, arith}
 use Rattle.rb_world.specs.Kind.{Membership}
-use Rattle.rb_code.specs.Plain.{Code, Part}
-use Rattle.rb_code.specs.Memory.{Counting, Memory, OpenCall, base_of, body_place, cursor_place, held_place, part_of, variables_place}
-use Rattle.rb_code.specs.Act.{Sight, alternate_address, counter_at, here, place}
-use Rattle.rb_code.specs.Sound.{Mode, Fresh, MayPut, MayTake, Entry, Fine, HasTable, InRange, InnermostIs, IsAbove, IsBelow, IsLoop, IsSet, Loop, OpenBlock, Table, TopIs, most_operands}
-use Rattle.rb_code.specs.Safe.{HasCall, HasTop, IsElement, IsThere, IsWord, Ready, StayAbove}
+use Rattle.rb_code.specs.Plain.{Code}
+use Rattle.rb_code.specs.Memory.{Counting, Memory, OpenCall, base_of, body_place, cursor_place, part_of}
+use Rattle.rb_code.specs.Act.{Sight, counter_at, here, place}
+use Rattle.rb_code.specs.Sound.{Fresh, MayPut, MayTake, Entry, Fine, HasTable, InRange, InnermostIs, IsAbove, IsBelow, IsLoop, IsSet, Loop, OpenBlock, Table, TopIs}
+use Rattle.rb_code.specs.Safe.{HasCall, HasTop, IsElement, IsThere, Ready, StayAbove}
 use Rattle.rb_code.specs.Stands.{BodyFits, Counts, Fits, IsAmong, IsMet, Levels, LoopsFit, ModeFits, OperandFits, OperandsFit}
 use Rattle.rb_code.specs.declared.instr.Spot.{Spot}
 use Rattle.rb_code.specs.declared.instr.Spot.TheVariants.{Global, Local}

@@ -1,12 +1,10 @@
 -- The open levels of a process against the open blocks of its table: what an entry needs of them, and where words may fall to.
-use Rattle.std.proofs.Common.{◌≡◌, ◌⊎◌, inl, inr, ℕ, zero, suc, ◌+◌, ◌-◌, ◌<◌, ◌≤◌, ℤ, Bool, true, false, List, [], ◌∷◌, ◌++◌, length, map, reverse, drop, get_or, slice_get, Option, Some, None, refl, ap, sym, ◌∙◌, subst, arith}
+use Rattle.std.proofs.Common.{◌≡◌, ℕ, ◌+◌, ◌≤◌, true, false, List, [], ◌∷◌, ◌++◌, length, map, reverse, drop, Option, Some, None, refl, ap, sym, ◌∙◌, subst, arith}
 use Rattle.std.proofs.lemmas.List.{reverse-append}
 use Rattle.rb_world.specs.Kind.{Membership}
-use Rattle.rb_world.specs.World.{Level}
 use Rattle.rb_cache.specs.Copies.{Level as Touched, accepted, change_last, joined}
 use Rattle.rb_code.specs.Plain.{Code}
-use Rattle.rb_code.specs.Memory.{Memory, OpenCall, base_of, body_place, part_of}
-use Rattle.rb_code.specs.Turn.{Copy}
+use Rattle.rb_code.specs.Memory.{OpenCall, base_of, body_place, part_of}
 use Rattle.rb_code.specs.Sound.{Entry, HasTable, IsAbove, OpenBlock, Table, Within}
 use Rattle.rb_code.specs.Safe.{HasCall, StayAbove}
 use Rattle.rb_code.specs.Stands.{BodyFits, LevelFits, Levels, LevelsFit, Opened, ReturnsTo, height_of}

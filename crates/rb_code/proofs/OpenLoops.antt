@@ -1,14 +1,12 @@
 -- The open loops of an entry, with how often each still goes back: they fall at each step ahead and at each `again`.
-use Rattle.std.proofs.Common.{◌≡◌, ◌⊎◌, inl, inr, ℕ, zero, suc, ◌+◌, ◌-◌, ◌<◌, ◌≤◌, ◌&&◌, ℤ, pos, negsuc, ◌+ℤ◌, ◌-ℤ◌, int_lt, nat_le, Bool, true, false, cond, List, [], ◌∷◌, ◌++◌, length, drop, filter, slice_get, slice_set, get_or, Option, Some, None, unwrap_or, refl, ap, sym, ◌∙◌, subst, arith, leb-true}
+use Rattle.std.proofs.Common.{◌≡◌, inl, inr, ℕ, zero, suc, ◌+◌, ◌<◌, ◌≤◌, ℤ, pos, negsuc, ◌+ℤ◌, ◌-ℤ◌, int_lt, nat_le, Bool, true, false, cond, List, [], ◌∷◌, ◌++◌, length, drop, filter, slice_get, Option, Some, None, unwrap_or, refl, ap, sym, ◌∙◌, subst, arith, leb-true}
 use Rattle.std.proofs.lemmas.Bool.{and_parts}
 use Rattle.std.proofs.lemmas.Int.{ints}
-use Rattle.std.proofs.lemmas.List.{length-set, get_or-set_same, get_or-set_other}
-use Rattle.std.proofs.lemmas.Option.{unwrap_or-slice_get}
 use Rattle.rb_base.specs.declared.limits.TheConstants.{MOST_QUANTIFIED}
 use Rattle.rb_meaning.specs.Environment.{natural}
 use Rattle.rb_code.specs.Memory.{Counting, Memory}
-use Rattle.rb_code.specs.Act.{counter_at, counting}
-use Rattle.rb_code.specs.Sound.{Entry, IsSet, Loop, is_in}
+use Rattle.rb_code.specs.Act.{counter_at}
+use Rattle.rb_code.specs.Sound.{IsSet, Loop, is_in}
 use Rattle.rb_code.specs.Stands.{BeganBefore, Counts, LoopsFit}
 use Rattle.rb_code.proofs.Digits.{Few}
 

@@ -1,22 +1,20 @@
 -- Instructions that go on in the same body and leave the memory as it is, but for the pieces of the line: a process stands again.
-use Rattle.std.proofs.Common.{◌≡◌, ◌⊎◌, inl, inr, ℕ, zero, suc, ◌+◌, ◌-◌, ◌<◌, ◌≤◌, ℤ, pos, negsuc, neg_ℤ, nat_lt, Bool, true, false, not, cond, List, [], ◌∷◌, ◌++◌, length, slice_get, Option, Some, None, Result, Ok, Err, refl, ap, sym, ◌∙◌, subst, arith, ltb-true, length-append}
+use Rattle.std.proofs.Common.{◌≡◌, inl, ℕ, zero, suc, ◌+◌, ◌<◌, ℤ, pos, negsuc, neg_ℤ, nat_lt, cond, List, [], ◌∷◌, ◌++◌, length, slice_get, Option, Some, None, Result, Ok, refl, ap, sym, ◌∙◌, subst, arith, ltb-true, length-append}
 use Rattle.std.specs.Fmt.{signed_decimal}
 use Rattle.std.proofs.lemmas.Option.{slice_get-get_or}
 use Rattle.rb_base.specs.declared.event.Cause.{Cause}
 use Rattle.rb_base.specs.declared.event.Cause.TheVariants.{Index}
 use Rattle.rb_world.specs.Kind.{Membership}
-use Rattle.rb_meaning.specs.Value.{is_zero, truth, fitting}
+use Rattle.rb_meaning.specs.Value.{is_zero, fitting}
 use Rattle.rb_code.specs.Plain.{Block, Code}
-use Rattle.rb_code.specs.Memory.{Counting, Memory, OpenCall, base_of}
+use Rattle.rb_code.specs.Memory.{Counting, Memory}
 use Rattle.rb_code.specs.Act.{Going, Outcome, Sight, Trapped, act, alternate_address, counter_at, here, if_there, on_top, operate, or_trap, within}
-use Rattle.rb_code.specs.Sound.{Mode, Fresh, MayPut, MayTake, Begun, Free, Changed, Each, Entry, Fine, IsAhead, IsReceiver, IsSender, IsSet, LeadsTo, MayTrap, Table, Takes2, TopIs, alternates_at, freed, with_operands}
+use Rattle.rb_code.specs.Sound.{Mode, Fresh, MayPut, MayTake, Begun, Free, Each, Entry, Fine, IsAhead, IsReceiver, IsSender, LeadsTo, MayTrap, Table, Takes2, TopIs, alternates_at, freed, with_operands}
 use Rattle.rb_code.specs.Safe.{IsThere}
-use Rattle.rb_code.specs.Stands.{BeganBefore, Fits, IsAmong, IsMet, Levels, ModeFits, OperandFits, OperandsFit}
+use Rattle.rb_code.specs.Stands.{BeganBefore, Fits, IsAmong, IsMet, Levels, ModeFits, OperandsFit}
 use Rattle.rb_code.specs.declared.instr.Instr.TheVariants.{Bound, JumpZero, Text, Item, Room, There, Start, Counter, Absent}
-use Rattle.rb_code.proofs.OpenLoops.{open_loops}
-use Rattle.rb_code.proofs.LoopSteps.{left_at}
 use Rattle.rb_code.proofs.Weaker.{may_trap, mode_freed, rank, rank_freed}
-use Rattle.rb_code.proofs.Progress.{Most, Progress, GoesOn, cond_goes, moves, next, onward, or_trap_goes, top_goes, two_go}
+use Rattle.rb_code.proofs.Progress.{Most, Progress, cond_goes, moves, next, onward, or_trap_goes, top_goes, two_go}
 
 -- what an option that is there holds
 pub there_goes : {A : Type 0} (o : Option A) (go : A → Outcome) (Q : Outcome → Type 0) → IsThere o → ((x : A) → o ≡ Some x → Q (go x))

@@ -1,24 +1,24 @@
 -- Whatever a turn does to a process of sound code, the process stands again.
-use Rattle.std.proofs.Common.{◌≡◌, ℕ, ℤ, zero, suc, ◌+◌, ◌<◌, ◌≤◌, pos, ◌&&◌, Bool, true, false, List, [], ◌∷◌, ◌++◌, length, map, reverse, take, drop, slice_get, slice_set, Option, Some, None, refl, ap, sym, ◌∙◌, subst, arith}
+use Rattle.std.proofs.Common.{◌≡◌, ℕ, ℤ, ◌+◌, pos, Bool, true, false, List, [], ◌∷◌, length, map, reverse, take, drop, slice_get, slice_set, Option, Some, None, refl, ap, sym, ◌∙◌, subst}
 use Rattle.std.proofs.lemmas.List.{length-set}
 use Rattle.rb_base.specs.declared.event.Cause.{Cause}
-use Rattle.rb_cache.specs.Copies.{Level as Touched, accepted, change_last, entered}
-use Rattle.rb_world.specs.Kind.{Facts, Kind, Membership, Want, NothingLeft, SendsOn, ReceivesOn, MayReceiveOn, Enters, Starts, Acts, Stepped, Went, Held}
+use Rattle.rb_cache.specs.Copies.{accepted}
+use Rattle.rb_world.specs.Kind.{Kind, Membership, Went, Held}
 use Rattle.rb_world.specs.World.{Level, Process, Status, Running, Finished, FailedWith, World, change_at, copy_of, goes_on, last_of, settled, status_at, without_last}
 use Rattle.rb_world.specs.Reject.{back_to, fallen, next_alternate, put_back, raised}
-use Rattle.rb_world.specs.Turn.{freed, is_last_of, leaves, new_level, stands_at, stands_now, turn_used, one_used}
+use Rattle.rb_world.specs.Turn.{freed, is_last_of, stands_at, stands_now, turn_used, one_used}
 use Rattle.rb_world.proofs.ListFacts.{first_holds}
-use Rattle.rb_world.proofs.TurnFacts.{EntersAt, IsReady, StepsAt, ToSend, ToReceive, ToReceiveIfThere, ToStart, ToAct}
+use Rattle.rb_world.proofs.TurnFacts.{IsReady, StepsAt, ToSend, ToReceive, ToReceiveIfThere, ToStart, ToAct}
 use Rattle.rb_world.proofs.EachProcess.{KeepsEach}
 use Rattle.rb_code.specs.Plain.{Code}
-use Rattle.rb_code.specs.Memory.{base_of, held_place, part_of}
+use Rattle.rb_code.specs.Memory.{held_place}
 use Rattle.rb_code.specs.Turn.{Common, Copy, Standing, memory_of, most_steps, settle, settled_by, sight, step, want}
 use Rattle.rb_code.specs.Sound.{HasTable, Table}
 use Rattle.rb_code.specs.Safe.{IsThere}
-use Rattle.rb_code.specs.Stands.{BodyFits, IsLaidOut, Opened, RestsAt, ServedBut, Settles, Stands, StandsAfter, height_of, inside_out, opened}
+use Rattle.rb_code.specs.Stands.{BodyFits, RestsAt, ServedBut, Settles, Stands, StandsAfter, height_of, inside_out, opened}
 use Rattle.rb_code.specs.StandsInRuns.{AllRecover, ProcessStands, Recovers, StandsNow}
 use Rattle.rb_code.specs.WellFormed.{ListsChannels}
-use Rattle.rb_code.specs.WordKind.{entered_at, kept, restored, word_kind}
+use Rattle.rb_code.specs.WordKind.{entered_at, restored, word_kind}
 use Rattle.rb_code.proofs.InsideOut.{heights_out, heights_taken, heights_untouched, inside_split, inside_taken, raised_same, used_same, without_last_same}
 use Rattle.rb_code.proofs.Recovering.{all_recover, outer_recover}
 use Rattle.rb_code.proofs.RunSteps.{run_step_stands}
@@ -98,14 +98,14 @@ module _ (c : Code) (groups : List Membership) (t : Table) (has : HasTable c gro
       settles_like c t (record s { touched = accepted s.touched }) (without_last levels) (without_last more) ws n hs (accepted s.touched) long
       refl (without_last_same levels more e) h
 
-  like_stands : (q : Process Standing Copy) (more : List (Level Copy)) (ws : List ℤ) (n : ℕ) (hs : List (List ℕ))
+  pub like_stands : (q : Process Standing Copy) (more : List (Level Copy)) (ws : List ℤ) (n : ℕ) (hs : List (List ℕ))
       → length ws ≡ length q.state.words → map opened more ≡ map opened q.levels → ProcessStands c t q
       → ProcessStands c t (record {
-          state = record q.state { words = ws; last_kept = n; held = hs };
-          levels = more;
-          at_line = q.at_line;
-          status = q.status;
-        })
+        state = record q.state { words = ws; last_kept = n; held = hs };
+        levels = more;
+        at_line = q.at_line;
+        status = q.status;
+      })
   like_stands q more ws n hs long e h = record {
     exists = h.exists;
     recovers = subst (AllRecover c t q.state.process) (sym (ap reverse e)) h.recovers;
@@ -135,7 +135,7 @@ module _ (c : Code) (groups : List Membership) (t : Table) (has : HasTable c gro
   goes n p q w alternate message s m h at e =
       rested_stands (record s { last_kept = n }) q.levels
       (stands_like c t s q.levels q.levels s.words n s.held s.touched refl refl refl
-        (subst (StandsAfter c t q.state q.levels) e (step_comes p q w alternate message h at)))
+      (subst (StandsAfter c t q.state q.levels) e (step_comes p q w alternate message h at)))
 
   -- an acceptance test held
   held : (n p : ℕ) (q : Process Standing Copy) (w : World Standing Copy Common) (alternate : ℕ) (message : Option ℤ) (s : Standing)
@@ -143,9 +143,11 @@ module _ (c : Code) (groups : List Membership) (t : Table) (has : HasTable c gro
       → step c alternate (copy_of (last_of q.levels)) q.state message w.memory ≡ Held s
       → (s ≡ record q.state { at = s.at }) × Settles c t (record s { last_kept = n; touched = accepted s.touched }) (without_last q.levels)
   held n p q w alternate message s h at e =
-      let r = subst (StandsAfter c t q.state q.levels) e (step_comes p q w alternate message h at) in
-      (r.0, settles_like c t (record s { touched = accepted s.touched }) (without_last q.levels) (without_last q.levels) s.words n s.held
-        (accepted s.touched) refl refl refl r.1)
+      let r = subst (StandsAfter c t q.state q.levels) e (step_comes p q w alternate message h at) in (
+        r.0,
+        settles_like c t (record s { touched = accepted s.touched }) (without_last q.levels) (without_last q.levels) s.words n s.held
+            (accepted s.touched) refl refl refl r.1,
+      )
 
   comes_to_line : (n p : ℕ) (q : Process Standing Copy) (w : World Standing Copy Common) (alternate : ℕ) (message : Option ℤ) (s : Standing)
       → ProcessStands c t q → StepsAt Words p q w alternate message
@@ -168,6 +170,7 @@ module _ (c : Code) (groups : List Membership) (t : Table) (has : HasTable c gro
     where
       true_false : true ≡ false → ⊥
       true_false e = cc
+
       by : (one : Status) → StandsNow c t one true q.state q.levels
           → Settles c t (record q.state { touched = accepted q.state.touched }) (without_last q.levels)
       by Running k = k
@@ -178,14 +181,14 @@ module _ (c : Code) (groups : List Membership) (t : Table) (has : HasTable c gro
   falls p q cause h = record { exists = h.exists; recovers = tt; heights = refl; now = refl }
 
   -- a copy is put back
-  copy_stands : (q : Process Standing Copy) (j : ℕ) (level : Level Copy) → slice_get q.levels j ≡ Some level → ProcessStands c t q
+  pub copy_stands : (q : Process Standing Copy) (j : ℕ) (level : Level Copy) → slice_get q.levels j ≡ Some level → ProcessStands c t q
       → Stands c t (restored (record q.state { touched = take (j + 1) q.state.touched }) level.copy) (take (j + 1) q.levels)
   copy_stands q j level e h =
       let left = inside_out (take (j + 1) q.levels) in
       let is : left ≡ opened level ∷ inside_out (take j q.levels) = inside_taken q.levels j level e in
       let all : AllRecover c t q.state.process left =
-            outer_recover c t q.state.process (inside_out (drop (j + 1) q.levels)) left
-            (subst (AllRecover c t q.state.process) (inside_split q.levels (j + 1)) h.recovers) in
+      outer_recover c t q.state.process (inside_out (drop (j + 1) q.levels)) left
+      (subst (AllRecover c t q.state.process) (inside_split q.levels (j + 1)) h.recovers) in
       let r : Recovers c t q.state.process (inside_out (take j q.levels)) (opened level) = (subst (AllRecover c t q.state.process) is all).0 in
       record {
         exists = h.exists;
@@ -197,7 +200,7 @@ module _ (c : Code) (groups : List Membership) (t : Table) (has : HasTable c gro
           calls_few = r.calls_few;
           body = subst (BodyFits c t q.state.process level.copy.calls r.entry.within r.entry.blocks) (sym is) r.body;
           heights = heights_untouched (take (j + 1) q.state.touched)
-            ∙ (heights_taken (j + 1) q.state.touched q.levels (h.heights ∙ heights_out q.levels) ∙ sym (heights_out (take (j + 1) q.levels)));
+              ∙ (heights_taken (j + 1) q.state.touched q.levels (h.heights ∙ heights_out q.levels) ∙ sym (heights_out (take (j + 1) q.levels)));
         };
       }
 
@@ -217,7 +220,7 @@ module _ (c : Code) (groups : List Membership) (t : Table) (has : HasTable c gro
     opens = λ n p q w facts alternate h at.
         away_stands (record (entered_at q.state) { last_kept = n }) _ (status_at (want c (record (entered_at q.state) { last_kept = n })))
         (entered_stands c groups t has lists q.state q.levels (stands_to_step q h at.acts.runs.running at.acts.away) facts
-          at.wants n alternate);
+        at.wants n alternate);
     accepts = λ n p q w alternate message s h at e.
         settled_stands (record s { last_kept = n; touched = accepted s.touched }) (without_last q.levels)
         (held n p q w alternate message s h at e).1;

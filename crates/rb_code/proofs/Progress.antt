@@ -1,23 +1,21 @@
 -- Where one instruction of sound code leads, a process stands again, with less left to do; and how that is shown of an instruction.
-use Rattle.std.proofs.Common.{◌≡◌, ◌⊎◌, inl, inr, ℕ, zero, suc, ◌+◌, ◌-◌, ◌*◌, ◌<◌, ◌≤◌, ℤ, Bool, true, false, cond, List, [], ◌∷◌, ◌++◌, length, map, reverse, filter, slice_get, Option, Some, None, Result, Ok, Err, refl, ap, sym, ◌∙◌, subst, arith}
+use Rattle.std.proofs.Common.{◌≡◌, inl, inr, ℕ, ◌+◌, ◌*◌, ◌<◌, ◌≤◌, ℤ, Bool, true, false, cond, List, [], ◌∷◌, length, filter, slice_get, Option, Some, None, Result, Ok, Err, refl, ap, sym, ◌∙◌, subst, arith}
 use Rattle.rb_base.specs.declared.event.Cause.{Cause}
 use Rattle.rb_base.specs.declared.limits.TheConstants.{MOST_QUANTIFIED}
 use Rattle.rb_world.specs.Kind.{Membership}
 use Rattle.rb_world.specs.Slots.{Slots}
-use Rattle.rb_world.specs.World.{Level}
 use Rattle.rb_cache.specs.Copies.{Level as Touched, accepted}
 use Rattle.rb_code.specs.Plain.{Code}
 use Rattle.rb_code.specs.Memory.{Memory, OpenCall, base_of}
-use Rattle.rb_code.specs.Turn.{Copy}
 use Rattle.rb_code.specs.Act.{Accepts, Going, Outcome, Sight, Stopped, Trapped, Unfinished, here, on_top, or_trap}
-use Rattle.rb_code.specs.Sound.{Mode, Changed, Entry, Has, IsAhead, LeadsTo, Loop, Table, TopIs, at_address, changed, freed, is_in, with_operands}
-use Rattle.rb_code.specs.Stands.{BeganBefore, Fits, IsLaidOut, Levels, Opened, LoopsFit, ModeFits, OperandFits, OperandsFit, RestsAt}
+use Rattle.rb_code.specs.Sound.{Mode, Changed, Entry, Has, IsAhead, LeadsTo, Loop, Table, TopIs, at_address, freed, is_in, with_operands}
+use Rattle.rb_code.specs.Stands.{BeganBefore, Fits, IsLaidOut, Levels, Opened, ModeFits, OperandFits, OperandsFit, RestsAt}
 use Rattle.rb_code.specs.declared.instr.Instr.{Instr}
 use Rattle.rb_code.specs.declared.instr.Instr.TheVariants.{Turn}
-use Rattle.rb_code.proofs.Digits.{high_falls, left, low_falls, worth}
-use Rattle.rb_code.proofs.OpenLoops.{fit_less, open_loops, same_fit, same_open}
+use Rattle.rb_code.proofs.Digits.{left, low_falls, worth}
+use Rattle.rb_code.proofs.OpenLoops.{fit_less, same_fit, same_open}
 use Rattle.rb_code.proofs.LoopSteps.{ahead, left_at}
-use Rattle.rb_code.proofs.Weaker.{Arrives, arrives, mode_freed, rank, rank_freed, rank_most}
+use Rattle.rb_code.proofs.Weaker.{arrives, mode_freed, rank, rank_freed, rank_most}
 use Rattle.rb_code.proofs.OpenLevels.{heights_of}
 
 -- nothing is left at a `turn`

@@ -1,9 +1,9 @@
 -- From the copy of each open level a process stands; and a level that is entered fits.
-use Rattle.std.proofs.Common.{◌≡◌, ℕ, zero, suc, ◌+◌, ◌<◌, ◌≤◌, ℤ, List, [], ◌∷◌, ◌++◌, length, Option, Some, None, refl, ap, sym, ◌∙◌, subst, arith}
+use Rattle.std.proofs.Common.{◌≡◌, ℕ, ◌+◌, ◌≤◌, List, [], ◌∷◌, ◌++◌, length, ap, sym, ◌∙◌, subst, arith}
 use Rattle.rb_meaning.specs.Step.{most_calls}
 use Rattle.rb_code.specs.Plain.{Code}
 use Rattle.rb_code.specs.Memory.{OpenCall, base_of, part_of}
-use Rattle.rb_code.specs.Sound.{Entry, OpenBlock, Table, Within}
+use Rattle.rb_code.specs.Sound.{OpenBlock, Table, Within}
 use Rattle.rb_code.specs.Stands.{BodyFits, LevelFits, Levels, LevelsFit, Opened}
 use Rattle.rb_code.specs.StandsInRuns.{AllRecover, Recovers}
 use Rattle.rb_code.proofs.OpenLevels.{at_back}
@@ -17,25 +17,26 @@ module _ (c : Code) (t : Table) (p : ℕ) where
     there = f.there;
     restart = f.restart;
     words_are = f.words_are
-      ∙ (ap (λ cs. base_of (part_of c p) cs + block.words) (sym f.calls_are)
-      ∙ ap (λ n. base_of (part_of c p) level.copy.calls + n) (sym f.above_base));
+        ∙ (ap (λ cs. base_of (part_of c p) cs + block.words) (sym f.calls_are)
+        ∙ ap (λ n. base_of (part_of c p) level.copy.calls + n) (sym f.above_base));
     calls_few = subst (λ cs. length cs ≤ most_calls) (sym f.calls_are) few;
     body = subst (λ cs. BodyFits c t p cs f.entry.within f.entry.blocks (level ∷ others)) (sym f.calls_are)
-      (subst (λ w. BodyFits c t p calls w f.entry.blocks (level ∷ others)) (sym f.within_is)
-      (subst (λ bs. BodyFits c t p calls within bs (level ∷ others)) (sym f.blocks_are) body));
+        (subst (λ w. BodyFits c t p calls w f.entry.blocks (level ∷ others)) (sym f.within_is)
+        (subst (λ bs. BodyFits c t p calls within bs (level ∷ others)) (sym f.blocks_are) body));
   }
 
   -- the levels of one body, and those around it
   in_body : (calls : List OpenCall) (within : Within) (Around : Levels → Type 0) (blocks : List OpenBlock) (levels : Levels)
       → ((bs : List OpenBlock) (ls : Levels) → LevelsFit c t within (base_of (part_of c p) calls) calls bs ls Around
-        → BodyFits c t p calls within bs ls)
+      → BodyFits c t p calls within bs ls)
       → LevelsFit c t within (base_of (part_of c p) calls) calls blocks levels Around → length calls ≤ most_calls
       → ((others : Levels) → Around others → AllRecover c t p others) → AllRecover c t p levels
   in_body calls within Around [] levels body h few rest = rest levels h
   in_body calls within Around (block ∷ around) [] body h few rest = absurd h
-  in_body calls within Around (block ∷ around) (level ∷ others) body h few rest =
-      (one_recovers calls within block around level others h.0 (body (block ∷ around) (level ∷ others) h) few,
-        in_body calls within Around around others body h.1 few rest)
+  in_body calls within Around (block ∷ around) (level ∷ others) body h few rest = (
+    one_recovers calls within block around level others h.0 (body (block ∷ around) (level ∷ others) h) few,
+    in_body calls within Around around others body h.1 few rest,
+  )
 
   pub all_recover : (calls : List OpenCall) (within : Within) (blocks : List OpenBlock) (levels : Levels)
       → BodyFits c t p calls within blocks levels → length calls ≤ most_calls → AllRecover c t p levels

@@ -1,7 +1,7 @@
 -- What a step of a run comes to stands, whatever alternate it is given: a start at one that its block does not have traps.
-use Rattle.std.proofs.Common.{◌≡◌, ◌⊎◌, inl, inr, ℕ, zero, suc, ◌+◌, ◌<◌, ◌≤◌, ℤ, List, [], ◌∷◌, length, slice_get, Option, Some, None, refl, ap, sym, ◌∙◌, subst, arith}
+use Rattle.std.proofs.Common.{◌≡◌, ◌⊎◌, inl, inr, ℕ, zero, suc, ◌+◌, ◌<◌, ℤ, List, [], slice_get, Option, Some, None, refl, ap, sym, ◌∙◌, subst, arith}
 use Rattle.rb_base.specs.declared.event.Cause.TheVariants.{Fail as FailCause}
-use Rattle.rb_world.specs.Kind.{Membership, Want, NothingLeft, SendsOn, ReceivesOn, MayReceiveOn, Enters, Starts, Acts, Stepped, Trapped, Went, Held}
+use Rattle.rb_world.specs.Kind.{Membership, Want, NothingLeft, SendsOn, ReceivesOn, MayReceiveOn, Enters, Starts, Acts}
 use Rattle.rb_world.specs.Slots.{Slots}
 use Rattle.rb_world.specs.World.{Level, copy_of, last_of}
 use Rattle.rb_code.specs.Plain.{Block, Code}
@@ -13,7 +13,7 @@ use Rattle.rb_code.specs.Safe.{IsThere}
 use Rattle.rb_code.specs.Stands.{IsMet, RestsAt, ServedBut, Serves, Stands, StandsAfter}
 use Rattle.rb_code.specs.WellFormed.{ListsChannels}
 use Rattle.rb_code.specs.declared.instr.Instr.{Instr}
-use Rattle.rb_code.specs.declared.instr.Instr.TheVariants.{Turn, Push, Load, Prior, Bound, LoadAt, PriorAt, Store, StoreAt, Add, Sub, Mul, Div, Rem, Eq, Ne, Lt, Le, Gt, Ge, Neg, Not, Bool, Jump, JumpZero, Frame, Drop, Text, Item, Print, Room, Put, There, Take, Call, Return, Fail, Enter, Start, Test, Done, Range, Again, Counter, Absent}
+use Rattle.rb_code.specs.declared.instr.Instr.TheVariants.{Turn, Enter, Start, Done}
 use Rattle.rb_code.proofs.Served.{is_turn, met}
 use Rattle.rb_code.proofs.SoundSteps.{safe_ends, some_steps}
 use Rattle.rb_code.proofs.StandingSteps as standing
@@ -55,12 +55,14 @@ module _ (c : Code) (groups : List Membership) (t : Table) (has : HasTable c gro
       none_entered : (b : ℕ) (o : Option Block) → IsStart (enters b o) → StartsHere
       none_entered b None h = absurd h
       none_entered b (Some block) h = absurd h
+
       behind : slice_get c.instrs s.at ≡ Some Turn → (o : Option Instr) → slice_get c.instrs (s.at + 1) ≡ o → IsStart (wants_behind c o)
           → StartsHere
       behind turn None e h = absurd h
       behind turn (Some (Start b)) e h = record { turn = turn; block = b; at = e }
       behind turn (Some (Enter b)) e h = none_entered b (slice_get c.blocks b) h
       behind turn (Some i) e h = absurd h
+
       by : (o : Option Instr) → slice_get c.instrs s.at ≡ o → RestsAt o → IsStart (wants_there c o (slice_get c.instrs (s.at + 1)))
           → StartsHere
       by None e r h = absurd r
@@ -73,6 +75,7 @@ module _ (c : Code) (groups : List Membership) (t : Table) (has : HasTable c gro
     where
       see : Sight
       see = sight s alternate (copy_of (last_of levels)) message
+
       by : (o : Option ℕ) → alternate_address (slice_get c.blocks h.block) alternate ≡ o
           → StandsAfter c t s levels (step c alternate (copy_of (last_of levels)) s message memory)
       by None e =
@@ -100,15 +103,17 @@ module _ (c : Code) (groups : List Membership) (t : Table) (has : HasTable c gro
     where
       see : Sight
       see = sight s alternate (copy_of (last_of levels)) message
+
       trapped : (o : Outcome) → o ≡ Unfinished → o ≡ Trap FailCause → ⊥
       trapped o e f = cc
+
       by : (o : Option ℕ) → alternate_address (slice_get c.blocks h.block) alternate ≡ o
           → execute c see (most_steps c) (s.at + 1) [] (memory_of s slots) ≡ Unfinished → ⊥
       by None e u = trapped _ u (start_traps c see (most_steps c) (s.at + 1) h.block (memory_of s slots) (some_steps c) h.at e)
       by (Some x) e u =
           safe_ends c see _ (most_steps c) (s.at + 1) [] (memory_of s slots)
           (standing.step_safe c groups t has lists s levels stands h.turn alternate message
-            (subst (IsMet c see) (sym h.at) (subst IsThere (sym e) tt)) slots) u
+          (subst (IsMet c see) (sym h.at) (subst IsThere (sym e) tt)) slots) u
 
   pub run_step_ends : ServedBut (want c s) message → (slots : Slots)
       → execute c (sight s alternate (copy_of (last_of levels)) message) (most_steps c) (s.at + 1) [] (memory_of s slots) ≡ Unfinished → ⊥
@@ -120,4 +125,4 @@ module _ (c : Code) (groups : List Membership) (t : Table) (has : HasTable c gro
       by (inr serves) =
           safe_ends c (sight s alternate (copy_of (last_of levels)) message) _ (most_steps c) (s.at + 1) [] (memory_of s slots)
           (standing.step_safe c groups t has lists s levels stands (is_turn c groups t has lists s levels stands alternate message serves)
-            alternate message (met c groups t has lists s levels stands alternate message serves) slots)
+          alternate message (met c groups t has lists s levels stands alternate message serves) slots)

@@ -1,15 +1,12 @@
 -- In every run of sound code each process stands.
-use Rattle.std.proofs.Common.{◌≡◌, ℕ, zero, suc, ◌+◌, ◌<◌, ◌≤◌, ℤ, Bool, true, false, List, [], ◌∷◌, length, slice_get, Option, Some, None, refl, ap, sym, ◌∙◌, subst, arith}
-use Rattle.rb_world.specs.Kind.{Membership}
+use Rattle.std.proofs.Common.{◌≡◌, ℕ, zero, suc, ◌+◌, List, [], ◌∷◌, slice_get, Some, refl, ap, sym, ◌∙◌, subst, arith}
 use Rattle.rb_world.specs.Slots.{zero_slots}
-use Rattle.rb_world.specs.World.{Process, settled}
+use Rattle.rb_world.specs.World.{settled}
 use Rattle.rb_world.proofs.EachProcess.{each_opening_run}
 use Rattle.rb_world.proofs.ListFacts.{none_some, some_same}
-use Rattle.rb_code.specs.Plain.{Code, Part}
-use Rattle.rb_code.specs.Turn.{Copy, Standing}
-use Rattle.rb_code.specs.Sound.{HasTable, Table}
+use Rattle.rb_code.specs.Plain.{Part}
+use Rattle.rb_code.specs.Turn.{Standing}
 use Rattle.rb_code.specs.StandsInRuns.{ProcessStands}
-use Rattle.rb_code.specs.WellFormed.{ListsChannels}
 use Rattle.rb_code.specs.WordKind.{word_kind}
 use Rattle.rb_code.specs.WordRun.{opening_standing, opening_standings}
 use Rattle.rb_code.specs.SoundLaws.{SoundRunsEnd, SoundRunsStand}

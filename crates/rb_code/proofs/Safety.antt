@@ -1,12 +1,12 @@
 -- A turn of sound code finds what it needs at each instruction, and ends where the process stands in the table again.
-use Rattle.std.proofs.Common.{◌≡◌, ◌⊎◌, ℕ, zero, suc, ◌+◌, ◌-◌, ◌*◌, ◌<◌, ◌≤◌, ℤ, List, [], ◌∷◌, length, slice_get, Option, Some, None, refl, ap, sym, ◌∙◌, subst, arith}
+use Rattle.std.proofs.Common.{◌≡◌, ℕ, zero, suc, ◌+◌, ◌*◌, ◌<◌, ◌≤◌, ℤ, List, length, slice_get, Option, Some, None, refl, ap, subst, arith}
 use Rattle.std.proofs.lemmas.Option.{slice_get_within}
 use Rattle.std.proofs.Math.Nat.{mul-le-mul_right}
 use Rattle.rb_base.specs.declared.limits.TheConstants.{MOST_QUANTIFIED}
 use Rattle.rb_world.specs.Kind.{Membership}
 use Rattle.rb_meaning.specs.Step.{most_calls}
 use Rattle.rb_code.specs.Plain.{Code}
-use Rattle.rb_code.specs.Memory.{Counting, Memory, OpenCall}
+use Rattle.rb_code.specs.Memory.{Counting, Memory}
 use Rattle.rb_code.specs.Act.{Accepts, Going, Outcome, Sight, Stopped, Trapped, Unfinished, act, act_at, execute, then_go}
 use Rattle.rb_code.specs.Turn.{most_places, most_steps}
 use Rattle.rb_code.specs.Sound.{Entry, Fine, FineAt, HasTable, Table}
@@ -21,7 +21,7 @@ use Rattle.rb_code.proofs.OpenLoops.{began_here, few_open, open_loops, some_time
 use Rattle.rb_code.proofs.LoopSteps.{left_at}
 use Rattle.rb_code.proofs.Needs.{former_words, ready}
 use Rattle.rb_code.proofs.Weaker.{rank, rank_most}
-use Rattle.rb_code.proofs.Progress.{AcceptsAt, GoesOn, Most, Progress, StopsAt, distance, left_from, left_from_most, places, potential}
+use Rattle.rb_code.proofs.Progress.{AcceptsAt, Progress, StopsAt, distance, left_from, left_from_most, places, potential}
 use Rattle.rb_code.proofs.Steps.{goes}
 
 module _ (c : Code) (groups : List Membership) (t : Table) (see : Sight) (levels : Levels) (P : Memory → Type 0)

@@ -1,25 +1,20 @@
 -- A process that stands in the table of sound code gets what it asks for, where it is served.
-use Rattle.std.proofs.Common.{◌≡◌, ◌⊎◌, ℕ, zero, suc, ◌+◌, ◌<◌, ◌≤◌, ℤ, List, [], ◌∷◌, ◌++◌, length, map, reverse, filter, slice_get, Option, Some, None, option_map, refl, ap, sym, ◌∙◌, subst, arith}
+use Rattle.std.proofs.Common.{◌≡◌, ℕ, zero, suc, ◌+◌, ◌≤◌, ℤ, List, [], ◌∷◌, length, slice_get, Option, Some, None, option_map, refl, ap, sym, ◌∙◌, subst, arith}
 use Rattle.std.proofs.lemmas.Option.{slice_get-get_or}
-use Rattle.rb_cache.specs.Copies.{Level as Touched, accepted}
-use Rattle.rb_world.specs.Kind.{Membership, Want, NothingLeft, SendsOn, ReceivesOn, MayReceiveOn, Enters, Starts, Acts, Stepped, Trapped, Went, Held}
-use Rattle.rb_world.specs.Slots.{Slots}
-use Rattle.rb_world.specs.World.{Level, copy_of, last_of, without_last}
+use Rattle.rb_world.specs.Kind.{Membership}
+use Rattle.rb_world.specs.World.{Level, copy_of, last_of}
 use Rattle.rb_world.proofs.ListFacts.{none_some, some_same}
 use Rattle.rb_code.specs.Plain.{Block, Code}
-use Rattle.rb_code.specs.Memory.{Counting, Memory, OpenCall}
-use Rattle.rb_code.specs.Act.{Accepts, Going, Outcome, Sight, Stopped, Trapped as Trap, Unfinished, alternate_address, execute}
-use Rattle.rb_code.specs.Turn.{Common, Copy, Standing, block_facts, came_to, enters, memory_of, most_steps, settle, settled_by, sight, standing_at, step, want, wants_behind, wants_there}
-use Rattle.rb_code.specs.Sound.{Mode, Fresh, Changed, Entry, Fine, FineAt, Has, HasTable, InnermostIs, OpenBlock, RestartIs, Table, at_address, is_in}
-use Rattle.rb_code.specs.Safe.{IsThere, IsUnchanged, Safe}
-use Rattle.rb_code.specs.Stands.{BodyFits, Fits, IsAlternate, IsLaidOut, IsMet, Levels, Opened, inside_out, opened, LoopsFit, ModeFits, OperandsFit, RestsAt, Serves, Settles, Stands, StandsAfter}
+use Rattle.rb_code.specs.Act.{alternate_address}
+use Rattle.rb_code.specs.Turn.{Copy, Standing, block_facts, enters, sight, want, wants_behind, wants_there}
+use Rattle.rb_code.specs.Sound.{Fresh, Entry, Fine, FineAt, Has, HasTable, InnermostIs, OpenBlock, RestartIs, Table, at_address}
+use Rattle.rb_code.specs.Safe.{IsThere}
+use Rattle.rb_code.specs.Stands.{BodyFits, IsAlternate, IsMet, Opened, inside_out, opened, RestsAt, Serves, Stands}
 use Rattle.rb_code.specs.WellFormed.{ListsChannels}
 use Rattle.rb_code.specs.declared.instr.Instr.{Instr}
-use Rattle.rb_code.specs.declared.instr.Instr.TheVariants.{Turn, Push, Load, Prior, Bound, LoadAt, PriorAt, Store, StoreAt, Add, Sub, Mul, Div, Rem, Eq, Ne, Lt, Le, Gt, Ge, Neg, Not, Bool, Jump, JumpZero, Frame, Drop, Text, Item, Print, Room, Put, There, Take, Call, Return, Fail, Enter, Start, Test, Done, Range, Again, Counter, Absent}
-use Rattle.rb_code.proofs.LastOf.{former_is, last_level, without_innermost}
+use Rattle.rb_code.specs.declared.instr.Instr.TheVariants.{Turn, There, Enter, Start, Done}
+use Rattle.rb_code.proofs.LastOf.{last_level}
 use Rattle.rb_code.proofs.OpenLevels.{innermost}
-use Rattle.rb_code.proofs.Weaker.{Arrives, arrives, rank}
-use Rattle.rb_code.proofs.Progress.{AcceptsAt, StopsAt}
 use Rattle.rb_code.proofs.StandingSteps.{at_turn}
 
 module _ (c : Code) (groups : List Membership) (t : Table) (has : HasTable c groups t) (lists : ListsChannels c) where
@@ -68,7 +63,7 @@ module _ (c : Code) (groups : List Membership) (t : Table) (has : HasTable c gro
     starts b at is =
         let g = known_behind in
         let fine : Fine c groups t (Start b) (s.at + 1) g.entry =
-              subst (λ o. FineAt c groups t o (s.at + 1) g.entry) at (has.each (s.at + 1) g.entry g.there).fine in
+        subst (λ o. FineAt c groups t o (s.at + 1) g.entry) at (has.each (s.at + 1) g.entry g.there).fine in
         by g.entry.words g.entry.blocks g.blocks_are fine.2
       where
         of_level : (o : Option (Level Copy)) → IsAlternate alternate o → (x : Opened) (one : Block) (number : ℕ)
@@ -77,13 +72,14 @@ module _ (c : Code) (groups : List Membership) (t : Table) (has : HasTable c gro
         of_level (Some level) h x one number e f =
             let same : level.facts.alternates ≡ length one.alternates = ap (λ y. y.facts.alternates) (some_same e) ∙ ap (λ y. y.alternates) f in
             (h.0, subst (λ n. alternate ≤ n) same h.1)
+
         by : (words : ℕ) (blocks : List OpenBlock) → blocks ≡ stands.entry.blocks
             → InnermostIs blocks (λ block around. (block.number ≡ b) × (block.words ≡ words))
             → IsThere (alternate_address (slice_get c.blocks b) alternate)
         by words [] e h = absurd h
         by words (block ∷ around) e h =
             let i = innermost c t s.process s.calls stands.entry.within block around (inside_out levels)
-                  (subst (λ bs. BodyFits c t s.process s.calls stands.entry.within bs (inside_out levels)) (sym e) stands.layout.body) in
+            (subst (λ bs. BodyFits c t s.process s.calls stands.entry.within bs (inside_out levels)) (sym e) stands.layout.body) in
             let k = of_level (last_of levels) is i.level i.fits.one block.number (last_level levels i.level i.others i.levels_are) i.fits.facts in
             has_alternate (slice_get c.blocks b) i.fits.one alternate
             (subst (λ n. slice_get c.blocks n ≡ Some i.fits.one) h.0 i.fits.is_block) k.0 k.1

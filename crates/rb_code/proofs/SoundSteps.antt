@@ -1,19 +1,17 @@
 -- The laws of sound code, from those of one table.
-use Rattle.std.proofs.Common.{◌≡◌, ℕ, zero, suc, ◌+◌, ◌*◌, ◌<◌, ◌≤◌, ℤ, List, [], ◌∷◌, length, reverse, slice_get, Option, Some, None, refl, ap, sym, ◌∙◌, subst, arith}
+use Rattle.std.proofs.Common.{◌≡◌, ℕ, zero, suc, ◌+◌, ◌*◌, ◌<◌, ◌≤◌, ℤ, List, [], length, slice_get, Option, Some, None, refl, ap, arith}
 use Rattle.std.proofs.Math.Nat.{mul-le-mul_right}
-use Rattle.rb_world.specs.Kind.{Membership, Stepped, Trapped, Went, Held}
-use Rattle.rb_world.specs.Slots.{Slots}
+use Rattle.rb_world.specs.Kind.{Stepped, Trapped, Went, Held}
 use Rattle.rb_world.specs.World.{copy_of, last_of}
 use Rattle.rb_code.specs.Plain.{Code}
 use Rattle.rb_code.specs.Memory.{Memory}
 use Rattle.rb_code.specs.Act.{Accepts, Going, Outcome, Sight, Stopped, Trapped as Trap, Unfinished, act_at, execute, then_go}
-use Rattle.rb_code.specs.Turn.{Common, Standing, memory_of, most_places, most_steps, settle, settled_by, sight, step, want}
+use Rattle.rb_code.specs.Turn.{Common, Standing, memory_of, most_places, most_steps, settled_by, sight, step}
 use Rattle.rb_code.specs.Safe.{Safe, SafeOn}
-use Rattle.rb_code.specs.Stands.{SettlesSoundly, StandsSoundly, StandsSoundlyAfter, RestsAt, Serves, StandsAfter}
+use Rattle.rb_code.specs.Stands.{StandsSoundlyAfter, RestsAt, StandsAfter}
 use Rattle.rb_code.specs.SoundLaws.{SoundStepsAreSafe, SoundStepsEnd, SoundStepsStand, SoundSettlingIsSafe, SoundSettlingStands, StandingHasSettled}
 use Rattle.rb_code.specs.declared.instr.Instr.{Instr}
 use Rattle.rb_code.specs.declared.instr.Instr.TheVariants.{Turn, Done}
-use Rattle.rb_code.proofs.Digits.{worth}
 use Rattle.rb_code.proofs.Served.{is_turn, met}
 use Rattle.rb_code.proofs.StandingSteps as standing
 
@@ -43,8 +41,8 @@ safe_ends c see P (suc n) a xs m safe e = by (safe_ends c see P n) (act_at c see
 pub steps_are_safe : SoundStepsAreSafe
 steps_are_safe c groups s levels alternate message slots h serves =
     standing.step_safe c groups h.table h.has h.lists s levels h.stands
-      (is_turn c groups h.table h.has h.lists s levels h.stands alternate message serves) alternate message
-      (met c groups h.table h.has h.lists s levels h.stands alternate message serves) slots
+    (is_turn c groups h.table h.has h.lists s levels h.stands alternate message serves) alternate message
+    (met c groups h.table h.has h.lists s levels h.stands alternate message serves) slots
 
 pub steps_end : SoundStepsEnd
 steps_end c groups s levels alternate message slots h serves =
@@ -55,8 +53,8 @@ pub steps_stand : SoundStepsStand
 steps_stand c groups s levels alternate message memory h serves =
     by (step c alternate (copy_of (last_of levels)) s message memory)
     (standing.step_stands c groups h.table h.has h.lists s levels h.stands
-      (is_turn c groups h.table h.has h.lists s levels h.stands alternate message serves) alternate message
-      (met c groups h.table h.has h.lists s levels h.stands alternate message serves) memory)
+    (is_turn c groups h.table h.has h.lists s levels h.stands alternate message serves) alternate message
+    (met c groups h.table h.has h.lists s levels h.stands alternate message serves) memory)
   where
     by : (o : Stepped Standing Common) → StandsAfter c h.table s levels o → StandsSoundlyAfter c groups s levels o
     by (Trapped cause) k = tt

@@ -1,25 +1,20 @@
 -- A step of a process that stands in the table of sound code is safe, comes to an end, and leaves it standing; and so does settling.
-use Rattle.std.proofs.Common.{◌≡◌, ◌⊎◌, ℕ, zero, suc, ◌+◌, ◌<◌, ◌≤◌, ℤ, List, [], ◌∷◌, ◌++◌, length, map, reverse, filter, slice_get, Option, Some, None, option_map, refl, ap, sym, ◌∙◌, subst, arith}
-use Rattle.std.proofs.lemmas.Option.{slice_get-get_or}
-use Rattle.rb_cache.specs.Copies.{Level as Touched, accepted}
-use Rattle.rb_world.specs.Kind.{Membership, Want, NothingLeft, SendsOn, ReceivesOn, MayReceiveOn, Enters, Starts, Acts, Stepped, Trapped, Went, Held}
+use Rattle.std.proofs.Common.{◌≡◌, ℕ, ◌+◌, ℤ, List, [], filter, slice_get, Option, Some, None, refl, ap, sym, ◌∙◌, subst, arith}
+use Rattle.rb_cache.specs.Copies.{accepted}
+use Rattle.rb_world.specs.Kind.{Membership}
 use Rattle.rb_world.specs.Slots.{Slots}
-use Rattle.rb_world.specs.World.{Level, copy_of, last_of, without_last}
-use Rattle.rb_world.proofs.ListFacts.{none_some, some_same}
-use Rattle.rb_code.specs.Plain.{Block, Code}
-use Rattle.rb_code.specs.Memory.{Counting, Memory, OpenCall}
-use Rattle.rb_code.specs.Act.{Accepts, Going, Outcome, Sight, Stopped, Trapped as Trap, Unfinished, alternate_address, execute}
-use Rattle.rb_code.specs.Turn.{Common, Copy, Standing, block_facts, came_to, enters, memory_of, most_steps, settle, settled_by, sight, standing_at, step, want, wants_behind, wants_there}
-use Rattle.rb_code.specs.Sound.{Mode, Fresh, Changed, Entry, Fine, FineAt, Has, HasTable, InnermostIs, OpenBlock, RestartIs, Table, at_address, is_in}
-use Rattle.rb_code.specs.Safe.{IsThere, IsUnchanged, Safe}
-use Rattle.rb_code.specs.Stands.{BodyFits, Fits, IsAlternate, IsLaidOut, IsMet, Levels, Opened, inside_out, opened, LoopsFit, ModeFits, OperandsFit, RestsAt, Serves, Settles, Stands, StandsAfter}
+use Rattle.rb_world.specs.World.{Level, copy_of, last_of}
+use Rattle.rb_code.specs.Plain.{Code}
+use Rattle.rb_code.specs.Memory.{Counting, Memory}
+use Rattle.rb_code.specs.Act.{Accepts, Going, Outcome, Sight, Stopped, Trapped as Trap, Unfinished, execute}
+use Rattle.rb_code.specs.Turn.{Common, Copy, Standing, came_to, memory_of, most_steps, settle, settled_by, sight, standing_at, step}
+use Rattle.rb_code.specs.Sound.{Fresh, Fine, FineAt, HasTable, Table, at_address, is_in}
+use Rattle.rb_code.specs.Safe.{IsUnchanged, Safe}
+use Rattle.rb_code.specs.Stands.{Fits, IsLaidOut, IsMet, inside_out, LoopsFit, ModeFits, OperandsFit, Settles, Stands, StandsAfter}
 use Rattle.rb_code.specs.WellFormed.{ListsChannels}
-use Rattle.rb_code.specs.declared.instr.Instr.{Instr}
-use Rattle.rb_code.specs.declared.instr.Instr.TheVariants.{Turn, Push, Load, Prior, Bound, LoadAt, PriorAt, Store, StoreAt, Add, Sub, Mul, Div, Rem, Eq, Ne, Lt, Le, Gt, Ge, Neg, Not, Bool, Jump, JumpZero, Frame, Drop, Text, Item, Print, Room, Put, There, Take, Call, Return, Fail, Enter, Start, Test, Done, Range, Again, Counter, Absent}
-use Rattle.rb_code.proofs.LastOf.{former_is, last_level, without_innermost}
-use Rattle.rb_code.proofs.OpenLevels.{innermost}
+use Rattle.rb_code.specs.declared.instr.Instr.TheVariants.{Turn}
+use Rattle.rb_code.proofs.LastOf.{former_is, without_innermost}
 use Rattle.rb_code.proofs.Weaker.{Arrives, arrives, rank}
-use Rattle.rb_code.proofs.Progress.{AcceptsAt, StopsAt}
 use Rattle.rb_code.proofs.Safety.{Finishes, finishes, from_here, safe}
 
 -- pieces and counters are not what a turn leaves as it was

@@ -1,23 +1,21 @@
 -- A process that stands goes on standing: as turns are kept and lines released, as a block is entered, and as a copy is put back.
-use Rattle.std.proofs.Common.{◌≡◌, ℕ, zero, suc, ◌+◌, ◌<◌, ◌≤◌, ℤ, pos, true, List, [], ◌∷◌, ◌++◌, length, map, reverse, take, drop, replicate, slice_get, Option, Some, None, refl, ap, sym, ◌∙◌, subst, arith}
+use Rattle.std.proofs.Common.{◌≡◌, ℕ, ◌+◌, ℤ, pos, true, List, [], ◌∷◌, ◌++◌, length, map, reverse, slice_get, Option, Some, None, refl, ap, sym, ◌∙◌, subst, arith}
 use Rattle.std.specs.Option.{unwrap_or}
 use Rattle.std.proofs.lemmas.List.{length-replicate, map-append, reverse-append}
-use Rattle.rb_cache.specs.Copies.{Level as Touched, accepted, change_last, entered}
-use Rattle.rb_world.specs.Kind.{Facts, Membership, Want, NothingLeft, SendsOn, ReceivesOn, MayReceiveOn, Enters, Starts, Acts}
-use Rattle.rb_world.specs.World.{Level, without_last}
-use Rattle.rb_meaning.specs.Step.{most_calls}
+use Rattle.rb_cache.specs.Copies.{Level as Touched, entered}
+use Rattle.rb_world.specs.Kind.{Facts, Membership, Want, Enters}
+use Rattle.rb_world.specs.World.{Level}
 use Rattle.rb_code.specs.Plain.{Block, Code, Part}
 use Rattle.rb_code.specs.Memory.{OpenCall, base_of, body_place, no_part, part_of}
 use Rattle.rb_code.specs.Turn.{Copy, Standing, block_facts, enters, want, wants_behind, wants_there}
-use Rattle.rb_code.specs.Sound.{Changed, Entry, Fine, FineAt, Fresh, Has, HasTable, OpenBlock, RestartIs, Table, at_address}
+use Rattle.rb_code.specs.Sound.{Changed, Entry, Fine, FineAt, Fresh, Has, HasTable, OpenBlock, Table, at_address}
 use Rattle.rb_code.specs.Safe.{IsThere}
-use Rattle.rb_code.specs.Stands.{BodyFits, IsLaidOut, LevelFits, Levels, Opened, RestsAt, Settles, Stands, height_of, inside_out, opened}
-use Rattle.rb_code.specs.StandsInRuns.{Recovers}
+use Rattle.rb_code.specs.Stands.{BodyFits, IsLaidOut, LevelFits, Levels, RestsAt, Settles, Stands, height_of, inside_out, opened}
 use Rattle.rb_code.specs.WellFormed.{ListsChannels}
 use Rattle.rb_code.specs.WordKind.{copied, entered_at}
 use Rattle.rb_code.specs.WordRun.{opening_standing}
 use Rattle.rb_code.specs.declared.instr.Instr.{Instr}
-use Rattle.rb_code.specs.declared.instr.Instr.TheVariants.{Turn, Enter, Start, There, Room, Absent, Done}
+use Rattle.rb_code.specs.declared.instr.Instr.TheVariants.{Turn, Enter, Done}
 use Rattle.rb_code.proofs.InsideOut.{inside_end}
 use Rattle.rb_code.proofs.OpenLevels.{heights_of}
 use Rattle.rb_code.proofs.Recovering.{body_entered}
@@ -83,7 +81,7 @@ module _ (c : Code) (t : Table) where
         mode_is = refl;
         layout = record {
           words_are = length-replicate (body_place part) (pos 0)
-            ∙ (ap body_place (sym is) ∙ (let n = body_place (part_of c p) in omega arith));
+              ∙ (ap body_place (sym is) ∙ (let n = body_place (part_of c p) in omega arith));
           calls_few = omega arith;
           body = (refl, refl);
           heights = refl;
@@ -112,11 +110,13 @@ module _ (c : Code) (groups : List Membership) (t : Table) (has : HasTable c gro
           → (o : Option Block) → slice_get c.blocks b ≡ o → IsEntry (enters b o) → EntersHere
       entered_block turn b e None q h = absurd h
       entered_block turn b e (Some one) q h = record { turn = turn; block = b; at = e; one = one; is_block = q; facts_are = sym h }
+
       behind : slice_get c.instrs s.at ≡ Some Turn → (o : Option Instr) → slice_get c.instrs (s.at + 1) ≡ o → IsEntry (wants_behind c o)
           → EntersHere
       behind turn None e h = absurd h
       behind turn (Some (Enter b)) e h = entered_block turn b e (slice_get c.blocks b) refl h
       behind turn (Some i) e h = absurd h
+
       by : (o : Option Instr) → slice_get c.instrs s.at ≡ o → RestsAt o → IsEntry (wants_there c o (slice_get c.instrs (s.at + 1)))
           → EntersHere
       by None e r h = absurd r
@@ -142,12 +142,12 @@ module _ (c : Code) (groups : List Membership) (t : Table) (has : HasTable c gro
   -- at the restart of the block, whatever its level's alternate and its last kept turn
   pub entered_stands : (n alternate : ℕ)
       → Stands c t (record (entered_at s) { last_kept = n })
-        (levels ++ record { facts = facts; alternate = alternate; used = 0; copy = copied (record (entered_at s) { last_kept = n }) } ∷ [])
+      (levels ++ record { facts = facts; alternate = alternate; used = 0; copy = copied (record (entered_at s) { last_kept = n }) } ∷ [])
   entered_stands n alternate =
       let here = enters_here in
       let g = led_to (s.at + 1) (record stands.entry { mode = Fresh }) (at_turn c groups t has lists s levels stands here.turn).3 in
       let fine : Fine c groups t (Enter here.block) (s.at + 1) g.entry =
-            subst (λ o. FineAt c groups t o (s.at + 1) g.entry) here.at (has.each (s.at + 1) g.entry g.there).fine in
+      subst (λ o. FineAt c groups t o (s.at + 1) g.entry) here.at (has.each (s.at + 1) g.entry g.there).fine in
       let block : OpenBlock = record { number = here.block; words = g.entry.words } in
       let r = led_to ((s.at + 1) + 1) (record g.entry { operands = []; mode = Changed; blocks = block ∷ g.entry.blocks }) fine.5 in
       let two : (s.at + 1) + 1 ≡ s.at + 2 = omega arith in
@@ -158,22 +158,22 @@ module _ (c : Code) (groups : List Membership) (t : Table) (has : HasTable c gro
       let within : r.entry.within ≡ stands.entry.within = r.within_is ∙ g.within_is in
       let blocks : r.entry.blocks ≡ block ∷ stands.entry.blocks = r.blocks_are ∙ ap (λ bs. block ∷ bs) g.blocks_are in
       let long : length s.words ≡ base_of (part_of c s.process) s.calls + g.entry.words =
-            stands.layout.words_are ∙ ap (λ k. base_of (part_of c s.process) s.calls + k) (sym g.words_are) in
+      stands.layout.words_are ∙ ap (λ k. base_of (part_of c s.process) s.calls + k) (sym g.words_are) in
       let fits : LevelFits c t stands.entry.within block stands.entry.blocks (base_of (part_of c s.process) s.calls + block.words) s.calls (opened level) = record {
-            one = here.one;
-            is_block = here.is_block;
-            facts = here.facts_are;
-            words_are = long;
-            calls_are = refl;
-            restart = turn;
-            entry = r.entry;
-            there = there;
-            within_is = within;
-            above_base = r.words_are;
-            blocks_are = blocks;
-          } in
+        one = here.one;
+        is_block = here.is_block;
+        facts = here.facts_are;
+        words_are = long;
+        calls_are = refl;
+        restart = turn;
+        entry = r.entry;
+        there = there;
+        within_is = within;
+        above_base = r.words_are;
+        blocks_are = blocks;
+      } in
       let body : BodyFits c t s.process s.calls stands.entry.within (block ∷ stands.entry.blocks) (opened level ∷ inside_out levels) =
-            body_entered c t s.process s.calls stands.entry.within block stands.entry.blocks (opened level) (inside_out levels) fits stands.layout.body in
+      body_entered c t s.process s.calls stands.entry.within block stands.entry.blocks (opened level) (inside_out levels) fits stands.layout.body in
       record {
         exists = stands.exists;
         rests = subst RestsAt (sym turn) tt;
@@ -183,11 +183,11 @@ module _ (c : Code) (groups : List Membership) (t : Table) (has : HasTable c gro
           words_are = long ∙ ap (λ k. base_of (part_of c s.process) s.calls + k) (sym r.words_are);
           calls_few = stands.layout.calls_few;
           body = subst (BodyFits c t s.process s.calls r.entry.within r.entry.blocks) (sym (inside_end levels level))
-            (subst (λ w. BodyFits c t s.process s.calls w r.entry.blocks (opened level ∷ inside_out levels)) (sym within)
-            (subst (λ bs. BodyFits c t s.process s.calls stands.entry.within bs (opened level ∷ inside_out levels)) (sym blocks) body));
+              (subst (λ w. BodyFits c t s.process s.calls w r.entry.blocks (opened level ∷ inside_out levels)) (sym within)
+              (subst (λ bs. BodyFits c t s.process s.calls stands.entry.within bs (opened level ∷ inside_out levels)) (sym blocks) body));
           heights = map-append _ s.touched (entered (length s.words) ∷ [])
-            ∙ (ap (λ hs. hs ++ length s.words ∷ []) stands.layout.heights
-            ∙ (sym (reverse-append (length s.words ∷ []) (map height_of (inside_out levels)))
-            ∙ ap (λ ls. reverse (map height_of ls)) (sym (inside_end levels level))));
+              ∙ (ap (λ hs. hs ++ length s.words ∷ []) stands.layout.heights
+              ∙ (sym (reverse-append (length s.words ∷ []) (map height_of (inside_out levels)))
+              ∙ ap (λ ls. reverse (map height_of ls)) (sym (inside_end levels level))));
         };
       }

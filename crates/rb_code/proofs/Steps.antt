@@ -1,5 +1,5 @@
 -- Each instruction of sound code leads to where the process stands again, with less left to do.
-use Rattle.std.proofs.Common.{◌≡◌, ◌⊎◌, inl, inr, ℕ, ◌+◌, ◌<◌, ℤ, int_lt, int_le, Bool, not, List, [], ◌∷◌, length, slice_get, Option, Some, None, refl, ap, sym, ◌∙◌, subst, arith}
+use Rattle.std.proofs.Common.{◌≡◌, ℕ, ◌+◌, ◌<◌, ℤ, int_lt, int_le, not, List, length, slice_get, Option, Some, ap, sym, subst}
 use Rattle.std.specs.Ordering.{int_eq}
 use Rattle.rb_syntax.specs.declared.expression.Op.TheVariants as op
 use Rattle.rb_world.specs.Kind.{Membership}

@@ -1,11 +1,10 @@
 -- A process that stands at an entry stands at each weaker one.
-use Rattle.std.proofs.Common.{◌≡◌, ℕ, zero, suc, ◌+◌, ◌<◌, ◌≤◌, ℤ, List, [], ◌∷◌, length, filter, Option, Some, None, refl, ap, sym, ◌∙◌, subst, arith}
-use Rattle.rb_world.specs.Kind.{Membership}
+use Rattle.std.proofs.Common.{◌≡◌, ℕ, ◌+◌, ◌≤◌, ℤ, List, [], ◌∷◌, Option, Some, None, refl, ap, sym, ◌∙◌, subst, arith}
 use Rattle.rb_code.specs.Plain.{Code}
 use Rattle.rb_code.specs.Memory.{Memory, base_of, part_of}
 use Rattle.rb_code.specs.Act.{Sight}
 use Rattle.rb_code.specs.Sound.{Mode, Fresh, MayPut, MayTake, Begun, Free, Changed, Entry, Has, IsWeaker, MayTrap, MayFrame, Table, WeakerMode, WeakerOperand, WeakerOperands, freed}
-use Rattle.rb_code.specs.Stands.{BodyFits, Fits, IsLaidOut, Levels, LoopsFit, ModeFits, OperandFits, OperandsFit}
+use Rattle.rb_code.specs.Stands.{BodyFits, Fits, Levels, LoopsFit, ModeFits, OperandFits, OperandsFit}
 
 weaker_operand : (o p : Option ℕ) (x : ℤ) → WeakerOperand o p → OperandFits o x → OperandFits p x
 weaker_operand None None x w h = tt

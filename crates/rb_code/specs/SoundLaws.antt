@@ -4,7 +4,6 @@ use Rattle.rb_world.specs.Kind.{Membership}
 use Rattle.rb_world.specs.Slots.{Slots}
 use Rattle.rb_world.specs.World.{Level, Process, Running, copy_of, last_of}
 use Rattle.rb_code.specs.Plain.{Code}
-use Rattle.rb_code.specs.Memory.{Memory}
 use Rattle.rb_code.specs.Act.{Unfinished, execute}
 use Rattle.rb_code.specs.Turn.{Common, Copy, Standing, memory_of, most_steps, settle, sight, step, want}
 use Rattle.rb_code.specs.Sound.{HasTable, Table}

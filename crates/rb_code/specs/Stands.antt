@@ -1,5 +1,5 @@
 -- When a process stands in the table of sound code: between two turns with its open levels, while it settles, and within a turn.
-use Rattle.std.specs.Prelude.{◌≡◌, ◌⊎◌, ℕ, ◌+◌, ◌<◌, ◌≤◌, ℤ, pos, ◌-ℤ◌, true, false, List, [], ◌∷◌, length, map, reverse, slice_get, Option, Some, None}
+use Rattle.std.specs.Prelude.{◌≡◌, ℕ, ◌+◌, ◌<◌, ◌≤◌, ℤ, pos, ◌-ℤ◌, true, false, List, [], ◌∷◌, length, map, reverse, slice_get, Option, Some, None}
 use Rattle.rb_base.specs.declared.limits.TheConstants.{MOST_QUANTIFIED}
 use Rattle.rb_meaning.specs.Environment.{natural}
 use Rattle.rb_meaning.specs.Step.{most_calls}

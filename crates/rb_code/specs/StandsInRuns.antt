@@ -1,7 +1,6 @@
 -- A process of a run stands in the table of sound code: between two turns, at a test line, and from the copy of each of its levels.
-use Rattle.std.specs.Prelude.{◌≡◌, ℕ, ◌+◌, ◌≤◌, ℤ, Bool, true, false, List, [], ◌∷◌, length, map, reverse, slice_get, Option, Some, None}
+use Rattle.std.specs.Prelude.{◌≡◌, ℕ, ◌+◌, ◌≤◌, Bool, true, false, List, [], ◌∷◌, length, map, reverse, slice_get, Some}
 use Rattle.rb_meaning.specs.Step.{most_calls}
-use Rattle.rb_world.specs.Kind.{Membership}
 use Rattle.rb_world.specs.World.{Level, Status, Running, Finished, FailedWith, Process, without_last}
 use Rattle.rb_cache.specs.Copies.{accepted}
 use Rattle.rb_code.specs.Plain.{Code}

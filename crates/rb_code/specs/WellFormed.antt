@@ -1,6 +1,6 @@
 -- Sound code: what its lists and its conversations are, and that there is a table for its instructions. What is reserved for a word of
 -- the language is not asked of a name here, as that is the lexer's to say.
-use Rattle.std.specs.Prelude.{◌≡◌, ℕ, zero, suc, ◌+◌, ◌<◌, ◌≤◌, ◌&&◌, nat_eq, nat_le, Bool, true, false, not, cond, List, [], ◌∷◌, length, map, slice_get, Option, Some, None}
+use Rattle.std.specs.Prelude.{◌≡◌, ℕ, zero, suc, ◌<◌, ◌≤◌, ◌&&◌, nat_eq, nat_le, Bool, true, false, not, List, length, map, slice_get, Option, Some, None}
 use Rattle.std.specs.List.{All, IsDistinct, count_by, list_all}
 use Rattle.rb_base.specs.Bytes.{is_name}
 use Rattle.rb_base.specs.Limits.{most_words}
@@ -8,7 +8,7 @@ use Rattle.rb_base.specs.declared.limits.TheConstants.{LONGEST_NAME, LONGEST_TEX
 use Rattle.rb_meaning.specs.Environment.{same_name}
 use Rattle.rb_world.specs.Kind.{Ends, Membership}
 use Rattle.rb_world.specs.Reject.{parent_of}
-use Rattle.rb_world.specs.Text.{Naming, ProcessNaming, VariableNaming}
+use Rattle.rb_world.specs.Text.{ProcessNaming, VariableNaming}
 use Rattle.rb_scope.specs.Rules.{most_channel_size}
 use Rattle.rb_scope.specs.Scopes.{most_elements}
 use Rattle.rb_scope.specs.Sites.{most_connections, most_processes}
