@@ -14,6 +14,7 @@ use Rattle.rb_scope.specs.InFrames.{Resolved}
 use Rattle.rb_scope.specs.Limits.{IsWithinLimits}
 use Rattle.rb_scope.specs.declared.slot.Slot.{Slot}
 use Rattle.rb_code.specs.Plain.{Code}
+use Rattle.rb_code.specs.Sound.{HasTable, Table}
 use Rattle.rb_code.specs.StandsFor.{StandsFor}
 use Rattle.rb_code.specs.Turn.{Copy, Link, Standing, kept_from}
 use Rattle.rb_code.specs.WordKind.{sent_by, taken_by}
@@ -55,8 +56,8 @@ pub record Agrees (tree : Tree) (c : Code) (turns : List ℕ) : Type 0 where
       → room_from (tree_kind tree) receiver.state receiver.levels channel ≤ n → n < length (sent_on sender.state channel)
       → slot_of c.channels (word_run c (groups_of tree) turns).0.memory.slots channel n ≡ message_number sender.state channel n
 
--- Code agrees with the meaning: of every tree that is nested and within the limits, with the slots of its names, every code that stands
--- for it, over every list of turns.
-abbrev pub CodeAgreesWithMeaning : Type 0
-CodeAgreesWithMeaning = (tree : Tree) (slots : List Slot) (c : Code) → Resolved tree slots → IsWithinLimits tree → IsNested tree
-    → StandsFor tree slots c → (turns : List ℕ) → Agrees tree c turns
+-- Sound code agrees with the meaning: of every tree that is nested and within the limits, with the slots of its names, every code that
+-- stands for it and has a table, over every list of turns.
+abbrev pub SoundCodeAgreesWithMeaning : Type 0
+SoundCodeAgreesWithMeaning = (tree : Tree) (slots : List Slot) (c : Code) (t : Table) → Resolved tree slots → IsWithinLimits tree
+    → IsNested tree → StandsFor tree slots c → HasTable c (groups_of tree) t → (turns : List ℕ) → Agrees tree c turns

@@ -1,5 +1,6 @@
 //! The laws of code.
 
+ghost use Rattle.rb_code.specs.Laws.{SoundCodeAgreesWithMeaning};
 ghost use Rattle.rb_code.specs.SoundLaws.{
   SoundRunsEnd,
   SoundRunsStand,
@@ -39,4 +40,10 @@ pub fn sound_settling_stands()
 pub fn sound_runs_stand()
     ensures stand { SoundRunsStand }
     ensures end { SoundRunsEnd }
+{}
+
+/// Code agrees with the meaning: what stands for a tree and has a table tells, over every list of turns, what the meaning tells, and in the
+/// end both are in the same state, process by process.
+pub fn sound_code_agrees_with_meaning()
+    ensures { SoundCodeAgreesWithMeaning }
 {}
