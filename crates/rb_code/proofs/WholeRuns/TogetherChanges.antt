@@ -34,7 +34,8 @@ use Rattle.rb_code.proofs.WholeRuns.WordsOfStates.{kept_meets, released_meets}
 
 module _ (tree : Tree) (slots : List Slot) (c : Code) (p : ℕ) where
   -- behind its entry the start of a recovery block stands
-  start_behind : (block : RecoveryBlock) (a b : ℕ) → CommandCode tree slots (owner_of tree p) (Recovering block) c a b → StartCode tree slots (owner_of tree p) block c (a + 2) b
+  start_behind : (block : RecoveryBlock) (a b : ℕ) → CommandCode tree slots (owner_of tree p) (Recovering block) c a b
+      → StartCode tree slots (owner_of tree p) block c (a + 2) b
   unfolding CommandCode
   start_behind (Recovers number conversation place test bound alternates) a b (block, there, (d, tells, (e, turn, (f, enter, more)))) =
       let at : f ≡ a + 2 = omega (arith, enter.1, turn.1, tells.1) in

@@ -107,7 +107,8 @@ module _ (tree : Tree) where
   each_later t qs h r q e = later t q (h r q e)
 
   -- one process gets a new state, in turn t
-  set_in_time : (t p : ℕ) (q : Process State State) (w : TreeWorld) → AreInTime t w → IsInTime (t + 1) q → Each (λ r z. IsInTime (t + 1) z) (change_at p (λ _. q) w.processes)
+  set_in_time : (t p : ℕ) (q : Process State State) (w : TreeWorld) → AreInTime t w → IsInTime (t + 1) q
+      → Each (λ r z. IsInTime (t + 1) z) (change_at p (λ _. q) w.processes)
   set_in_time t p q w h new = Each-change_at (λ r z. IsInTime (t + 1) z) p (λ _. q) w.processes (each_later t w.processes h.each) (λ _ _. new)
 
   alone_in_time : (t p : ℕ) (f : Process State State → Process State State) (w : TreeWorld) → ((q : Process State State) → IsInTime t q → IsInTime t (f q))

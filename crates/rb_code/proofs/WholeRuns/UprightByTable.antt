@@ -47,7 +47,8 @@ served_by Starts message may = tt
 served_by Acts message may = tt
 
 -- the level of a copy
-level_for : (levels : List (Level Copy)) (o : Option (Level Copy)) (j : ℕ) (y : Copy) → slice_get levels j ≡ o → option_map (λ (level : Level Copy). level.copy) o ≡ Some y
+level_for : (levels : List (Level Copy)) (o : Option (Level Copy)) (j : ℕ) (y : Copy) → slice_get levels j ≡ o
+    → option_map (λ (level : Level Copy). level.copy) o ≡ Some y
     → (level : Level Copy) × (slice_get levels j ≡ Some level) × (level.copy ≡ y)
 level_for levels None j y e same = absurd (none_some same)
 level_for levels (Some level) j y e same = (level, e, some_same same)
@@ -152,7 +153,8 @@ module _ (c : Code) (groups : List Membership) (t : Table) (has : HasTable c gro
         stands = subst (λ (copy : Copy). ProcessStands c t (running_at false (restored (cut_touched (suc j) u) copy) (take (suc j) h.levels))) found.2 other;
       }
 
-  falls_stands : (u : Standing) (levels : List (Level Copy)) → copies_of levels ≡ [] → ProcessStands c t (running_at false u levels) → StandsInTable false [] (cut_touched 0 u)
+  falls_stands : (u : Standing) (levels : List (Level Copy)) → copies_of levels ≡ [] → ProcessStands c t (running_at false u levels)
+      → StandsInTable false [] (cut_touched 0 u)
   falls_stands u [] e h = away (cut_touched 0 u) [] [] refl (stands_like c t u [] [] u.words u.last_kept u.held (take 0 u.touched) refl (sym h.heights) refl h.now)
   falls_stands u (level ∷ levels) e h = absurd cc
 

@@ -106,14 +106,16 @@ module _ (c : Code) where
     receipt_agrees channel taken (Else other) a b (none, (end, (d, turn, (e, absent, more)))) =
         asks_behind a d (MayReceiveOn channel) turn (asks_by _ d e absent)
 
-    branches_agree : (test : Expression) (body : Template) (otherwise : Otherwise) (a b : ℕ) → BranchesCode tree slots owner (ExpressionCode slots test) body otherwise c a b
+    branches_agree : (test : Expression) (body : Template) (otherwise : Otherwise) (a b : ℕ)
+        → BranchesCode tree slots owner (ExpressionCode slots test) body otherwise c a b
         → Agree Acts a
     unfolding CommandCode
     branches_agree test body NoElse a b (end, (d, turn, (e, code, more))) = asks_behind a d Acts turn (expression_asks slots test d e code)
     branches_agree test body (Else other) a b (other_, (end, (d, turn, (e, code, more)))) = asks_behind a d Acts turn (expression_asks slots test d e code)
 
     -- as many addresses as alternates
-    others_listed : (others : Alternates) (addresses : List ℕ) (test a b : ℕ) → OthersCode tree slots owner others addresses test c a b → length addresses ≡ count_alternates others
+    others_listed : (others : Alternates) (addresses : List ℕ) (test a b : ℕ) → OthersCode tree slots owner others addresses test c a b
+        → length addresses ≡ count_alternates others
     unfolding CommandCode
     others_listed NoAlternate addresses test a b code = ap (λ (list : List ℕ). length list) code.0
     others_listed (Alternate body others) addresses test a b (d, jump, (more, same, (e, code, rest))) =

@@ -53,7 +53,8 @@ StepFollows s (Trapped cause) = Unit {0}
 StepFollows s (Went t m) = Follows s t
 StepFollows s (Held t) = Follows s t
 
-ready_steps : {k : Kind State State (Nothing × Slots)} {q : Process State State} {w : SlotWorld} {message : Option ℤ} → IsReady k q w message → MayStep (k.want q.state) message
+ready_steps : {k : Kind State State (Nothing × Slots)} {q : Process State State} {w : SlotWorld} {message : Option ℤ} → IsReady k q w message
+    → MayStep (k.want q.state) message
 ready_steps {message = message} (ToSend channel wants room none) = subst (λ (want : Want). MayStep want message) (sym wants) none
 ready_steps {message = message} (ToReceive channel v wants there is) = subst (λ (want : Want). MayStep want message) (sym wants) (v, is)
 ready_steps {message = message} (ToReceiveIfThere channel wants is) = subst (λ (want : Want). MayStep want message) (sym wants) tt
@@ -61,7 +62,8 @@ ready_steps {message = message} (ToStart wants none) = subst (λ (want : Want). 
 ready_steps {message = message} (ToAct wants none) = subst (λ (want : Want). MayStep want message) (sym wants) none
 
 module _ (tree : Tree) where
-  slots_follow : (s : State) (slots : Slots) (one : Result_of_step) → ((t : State) (m : Nothing) → one ≡ Went t m → Follows s t) → ((t : State) → one ≡ Held t → Follows s t)
+  slots_follow : (s : State) (slots : Slots) (one : Result_of_step) → ((t : State) (m : Nothing) → one ≡ Went t m → Follows s t)
+      → ((t : State) → one ≡ Held t → Follows s t)
       → StepFollows s (stepped_with_slots (tree_kind tree) s slots one)
   slots_follow s slots (Trapped cause) went held = tt
   slots_follow s slots (Went t m) went held = went t m refl
