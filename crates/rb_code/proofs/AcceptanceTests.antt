@@ -34,7 +34,7 @@ module _ (tree : Tree) (slots : List Slot) (c : Code) (see : Sight) (has : HasCu
       let w = is.words_meet in
       subst (λ calls. Finds (part_of c see.process) calls (in_acceptance (frames_of tree slots c see has s)) copy.environment see.prior) is.calls_are
       (laid_finds (part_of c see.process) w.front copy.environment see.prior called w.laid (in_acceptance (frames_of tree slots c see has s))
-        (sym w.globals, ap running (sym is.stacks_are)))
+      (sym w.globals, ap running (sym is.stacks_are)))
 
   -- A test that held: the machine accepts behind it, with the words as they are, and there what is left stands.
   pub record Accepted (a : ℕ) (rest : List Item) : Type 0 where
@@ -80,6 +80,6 @@ module _ (tree : Tree) (slots : List Slot) (c : Code) (see : Sight) (has : HasCu
       let before = prior_finds copy called prior in
       test_ends number rest (a + 1) e b (value s.environment copy.environment [] test)
       (expression_comes c see slots (own_shape tree see.process) (running (stacks_of s.environment.calls)) true s.environment copy.environment m
-        (record { found = now.found }) (λ h. record { found = before.found }) test [] 0 [] (a + 1) e m.counters [] (record { fit = tt; two = turn.two }) is
-        (subst (λ z. ExpressionCode slots test c z e) turn1.1 code))
+      (record { found = now.found }) (λ h. record { found = before.found }) test [] 0 [] (a + 1) e m.counters [] (record { fit = tt; two = turn.two }) is
+      (subst (λ z. ExpressionCode slots test c z e) turn1.1 code))
       last left

@@ -54,6 +54,7 @@ module _ (tree : Tree) (slots : List Slot) (owner : Owner) (c : Code) (frames : 
 
   mutual
     unfolding CommandCode
+
     pub alternate_at : (alternates : Alternates) (addresses : List ℕ) (a b k : ℕ) (body : Body) → AlternatesCode tree slots owner alternates addresses test c a b
         → b ≡ test → AlternatesInFrames tree slots owner.number frames alternates → alternate_number (suc k) alternates ≡ Some body → At addresses k body
     alternate_at NoAlternate addresses a b k body code e is n = absurd (none_some n)
@@ -89,6 +90,7 @@ module _ (tree : Tree) (slots : List Slot) (owner : Owner) (c : Code) (frames : 
   -- a block that has no such alternate has no address for it
   mutual
     unfolding CommandCode
+
     pub no_alternate_at : (alternates : Alternates) (addresses : List ℕ) (a b k : ℕ) → AlternatesCode tree slots owner alternates addresses test c a b
         → alternate_number (suc k) alternates ≡ None → slice_get addresses k ≡ None
     no_alternate_at NoAlternate addresses a b k code n = ap (λ xs. slice_get xs k) code.0
@@ -119,7 +121,7 @@ module _ (tree : Tree) (slots : List Slot) (c : Code) (see : Sight) (has : HasCu
   started number blk alternates block rest f h end n there instr at code is_end is left None e =
       ends c see (Start number) f [] m (Trapped FailCause) instr
       (ap (λ o. if_there (alternate_address o see.alternate) (λ at. Going at [] m)) there ∙ ap (λ k. if_there (alternate_address (Some blk) k) (λ at. Going at [] m)) at
-        ∙ ap (λ o. if_there o (λ at. Going at [] m)) (by n e)) refl
+      ∙ ap (λ o. if_there o (λ at. Going at [] m)) (by n e)) refl
     where
       by : (n : ℕ) → alternate_number n alternates ≡ None → alternate_address (Some blk) n ≡ None
       by zero e = refl
@@ -133,8 +135,8 @@ module _ (tree : Tree) (slots : List Slot) (c : Code) (see : Sight) (has : HasCu
       let it = alternate_at tree slots (owner_of tree see.process) c (frames_of tree slots c see has s) blk.test alternates blk.alternates h end k body code is_end is e in
       took_from tree slots c see has f it.first [] [] m m (λ later. m.slots) (pushes c.edition body (TestOf block ∷ rest) s)
       (goes c see (Start number) f it.first [] [] m m instr
-        (ap (λ o. if_there (alternate_address o see.alternate) (λ at. Going at [] m)) there ∙ ap (λ k. if_there (alternate_address (Some blk) k) (λ at. Going at [] m)) at
-          ∙ ap (λ o. if_there o (λ at. Going at [] m)) it.entry))
+      (ap (λ o. if_there (alternate_address o see.alternate) (λ at. Going at [] m)) there ∙ ap (λ k. if_there (alternate_address (Some blk) k) (λ at. Going at [] m)) at
+      ∙ ap (λ o. if_there o (λ at. Going at [] m)) it.entry))
       (block_took tree slots c see has s m turn body (TestOf block ∷ rest) it.first it.end blk.test it.code it.in_frames it.on left)
 
   pub start_took : c.edition ≡ tree.edition → (block : RecoveryBlock) (rest : List Item) (a b : ℕ) → StartCode tree slots (owner_of tree see.process) block c a b
@@ -146,5 +148,5 @@ module _ (tree : Tree) (slots : List Slot) (c : Code) (see : Sight) (has : HasCu
       let begin : f ≡ a + 1 = turn1.1 ∙ ap (λ z. z + 1) (at_restart.1 ∙ tells.1) in
       subst (λ x. Took tree slots c see has (a + 1) [] m (λ later. m.slots) (starts_body x block rest s (alternate_number see.alternate alternates))) edition
       (started number blk alternates block rest (a + 1) g h see.alternate there (subst (λ z. slice_get c.instrs z ≡ Some (Start number)) begin start.0) refl code at_test.0 is.2
-        (b, (subst (λ z. (One Turn ⨾ ExpressionCode slots test ⨾ One (Test number)) c z b) (at_test.1 ∙ at_test.0) (j, turn2, (k, test_code, tests))), is.1, left)
-        (alternate_number see.alternate alternates) refl)
+      (b, (subst (λ z. (One Turn ⨾ ExpressionCode slots test ⨾ One (Test number)) c z b) (at_test.1 ∙ at_test.0) (j, turn2, (k, test_code, tests))), is.1, left)
+      (alternate_number see.alternate alternates) refl)

@@ -28,7 +28,7 @@ module _ (tree : Tree) (slots : List Slot) (c : Code) (see : Sight) (has : HasCu
   pub words_stored : (s : State) (m : Memory) → WordsMeet tree c see.process s m.words m.calls → (x : List ℕ) (at : Lying)
       → lying (frames_of tree slots c see has s) x ≡ Some at → (k : ℕ) (v : ℤ) → k < words_lying at
       → WordsMeet tree c see.process (with_environment (store s.environment x k v) s)
-        (slice_set m.words (place_lying (part_of c see.process) m.calls at + k) v) m.calls
+      (slice_set m.words (place_lying (part_of c see.process) m.calls at + k) v) m.calls
   words_stored s m w x at e k v l =
       let part = part_of c see.process in
       let env = store s.environment x k v in
@@ -36,8 +36,13 @@ module _ (tree : Tree) (slots : List Slot) (c : Code) (see : Sight) (has : HasCu
       let laid = laid_store part w.front s.environment m.words m.calls w.laid (frames_of tree slots c see has s) (in_frames tree slots c see has s m w) x at e k v l in
       let few = w.few in
       let fewer : words env ≤ most_words c.edition =
-        omega (arith, few, length-set m.words (place_lying part m.calls at + k) v, laid_long part w.front env all m.calls laid,
-          laid_long part w.front s.environment m.words m.calls w.laid) in
+      omega (
+        arith,
+        few,
+        length-set m.words (place_lying part m.calls at + k) v,
+        laid_long part w.front env all m.calls laid,
+        laid_long part w.front s.environment m.words m.calls w.laid,
+      ) in
       words_again tree c see.process has s m.words m.calls w env all m.calls laid (store_kept s.environment x k v).0 fewer
 
   -- what is left stands in the same frames
@@ -58,11 +63,11 @@ module _ (tree : Tree) (slots : List Slot) (c : Code) (see : Sight) (has : HasCu
       (λ a1 b1 set os two code1. plain_comes tree slots c see has s m turn e is.1 a1 b1 set os two code1)
       (λ later. m.slots) (λ place v. Ok (with_environment (put_at s.environment v place) (continue_with rest s))) b
       (λ x at found k l y later two. arrives tree slots c see has (with_environment (store s.environment x k y) (continue_with rest s)) b
-        (written (place_lying (part_of c see.process) m.calls at + k) y (recounted later m)) (λ later. m.slots)
-        (record {
-          words_meet = words_continue tree c see.process has (with_environment (store s.environment x k y) s) _ m.calls rest (words_stored s m turn.words_meet x at found k y l);
-          held = turn.held;
-          two = two;
-        })
-        (left_stored s rest m.calls x k y b left) refl)
+      (written (place_lying (part_of c see.process) m.calls at + k) y (recounted later m)) (λ later. m.slots)
+      (record {
+        words_meet = words_continue tree c see.process has (with_environment (store s.environment x k y) s) _ m.calls rest (words_stored s m turn.words_meet x at found k y l);
+        held = turn.held;
+        two = two;
+      })
+      (left_stored s rest m.calls x k y b left) refl)
       to (a + 1) is.0 (subst (λ z. StoreCode slots to (ExpressionCode slots e) c z b) begin.1 code)

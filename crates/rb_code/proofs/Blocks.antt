@@ -59,9 +59,13 @@ module _ (tree : Tree) (slots : List Slot) (c : Code) (see : Sight) (has : HasCu
         subst (λ stacks. Left tree slots c p stacks (performed commands (EndBlock ∷ rest)) m.calls a)
         (sym (push_stacks (frame_of variables) s.environment.calls main.first main.outer main.is))
         (commands_left tree slots c p commands (EndBlock ∷ rest) ((shape ∷ main.first) ∷ main.outer) m.calls a d code
-          (subst (λ stacks. CommandsInFrames tree slots p (frames_at tree p (shape ∷ running stacks)) commands) main.is is)
-          (b, next, subst (λ n. DropCode n c d b) (sym (frame_and_shape (frame_of variables))) drop, on,
-            subst (λ stacks. Left tree slots c p stacks rest m.calls next) main.is left))
+        (subst (λ stacks. CommandsInFrames tree slots p (frames_at tree p (shape ∷ running stacks)) commands) main.is is) (
+          b,
+          next,
+          subst (λ n. DropCode n c d b) (sym (frame_and_shape (frame_of variables))) drop,
+          on,
+          subst (λ stacks. Left tree slots c p stacks rest m.calls next) main.is left,
+        ))
 
     pub block_took : (body : Body) (rest : List Item) (a b next : ℕ) → BodyCode tree slots (owner_of tree see.process) body c a b
         → BodyInFrames tree slots see.process (frames_of tree slots c see has s) body → Onward c b next
@@ -95,16 +99,16 @@ module _ (tree : Tree) (slots : List Slot) (c : Code) (see : Sight) (has : HasCu
 
         by : (t : Bool) → nat_lt (most_words c.edition) (words env) ≡ t
             → Took tree slots c see has a [] m (λ later. m.slots)
-              (cond t (Err Stack) (Ok (with_environment env (continue_with (performed commands (EndBlock ∷ rest)) s))))
+            (cond t (Err Stack) (Ok (with_environment env (continue_with (performed commands (EndBlock ∷ rest)) s))))
         by true h = frame_traps c see n a d (words env) m frame many limit h
         by false h =
             took_from tree slots c see has a d [] [] m (framed n m) (λ later. m.slots) (Ok (with_environment env (continue_with (performed commands (EndBlock ∷ rest)) s)))
             (frame_leads c see n a d (words env) m frame many h)
             (arrives tree slots c see has (with_environment env (continue_with (performed commands (EndBlock ∷ rest)) s)) d (framed n m) (λ later. m.slots)
-              (record {
-                words_meet = words_continue tree c see.process has (with_environment env s) (framed n m).words m.calls (performed commands (EndBlock ∷ rest))
+            (record {
+              words_meet = words_continue tree c see.process has (with_environment env s) (framed n m).words m.calls (performed commands (EndBlock ∷ rest))
                   (words_again tree c see.process has s m.words m.calls w env (framed n m).words m.calls laid refl (not_above (most_words c.edition) (words env) h));
-                held = turn.held;
-                two = turn.two;
-              })
-              (left_pushed variables commands rest d e b next (has_main (part_of c see.process) w.front s.environment m.words m.calls w.laid) code is drop on left) refl)
+              held = turn.held;
+              two = turn.two;
+            })
+            (left_pushed variables commands rest d e b next (has_main (part_of c see.process) w.front s.environment m.words m.calls w.laid) code is drop on left) refl)

@@ -69,7 +69,7 @@ module _ (c : Code) (see : Sight) where
   frame_leads (suc n) a d w m code e h =
       passes c see (FrameInstr (suc n)) a d [] [] m (framed (suc n) m) code
       (ap (λ b. cond b (Going (a + 1) [] (framed (suc n) m)) (Trapped Stack))
-        (fits (variables_place (here c see)) (most_words c.edition) (length m.words) (suc n) w e h))
+      (fits (variables_place (here c see)) (most_words c.edition) (length m.words) (suc n) w e h))
 
   pub frame_traps : (n a d w : ℕ) (m : Memory) → FrameCode n c a d → length m.words + n ≡ variables_place (here c see) + w
       → length m.words ≤ variables_place (here c see) + most_words c.edition → nat_lt (most_words c.edition) w ≡ true → EndsIn c see a [] m (Trapped Stack)
@@ -77,7 +77,7 @@ module _ (c : Code) (see : Sight) where
   frame_traps (suc n) a d w m code e l h =
       ends c see (FrameInstr (suc n)) a [] m (Trapped Stack) code.0
       (ap (λ b. cond b (Going (a + 1) [] (framed (suc n) m)) (Trapped Stack))
-        (full (variables_place (here c see)) (most_words c.edition) (length m.words) (suc n) w e h)) refl
+      (full (variables_place (here c see)) (most_words c.edition) (length m.words) (suc n) w e h)) refl
 
 module _ (tree : Tree) (slots : List Slot) (c : Code) (p : ℕ) where
   -- statements stand before what is left

@@ -22,7 +22,7 @@ use Rattle.rb_code.proofs.Blocks.{block_took, continued_turn, recounted_turn}
 use Rattle.rb_code.proofs.Took.{HasCursors, InTurn, Took, arrives, took_from, took_on}
 
 module _ (tree : Tree) (slots : List Slot) (c : Code) (see : Sight) (has : HasCursors c see.process) (s : State) (m : Memory) (turn : InTurn tree slots c see has s m)
-         (edition : c.edition ≡ tree.edition) where
+    (edition : c.edition ≡ tree.edition) where
   abbrev Does : ℕ → List ℤ → Memory → Result State Cause → Type 0
   Does a os n o = Took tree slots c see has a os n (λ later. m.slots) o
 
@@ -66,15 +66,15 @@ module _ (tree : Tree) (slots : List Slot) (c : Code) (see : Sight) (has : HasCu
       took_on tree slots c see has (a + 1) e [] m (λ v. v ∷ []) (λ v. m) (λ later. m.slots) (present_value s.environment test) _
       (plain_comes tree slots c see has s m turn test test_is (a + 1) e m.counters [] turn.two (subst (λ z. ExpressionCode slots test c z e) begin.1 test_code))
       (λ v later at many. test_took v later end e f _ _ jump
-        (goes_past rest end later (many ∙ turn.two) (subst (λ z. LeftAt rest z) (at_end.1 ∙ at_end.0) left))
-        (body_took body rest f g b later (many ∙ turn.two) body_code body_is (inl at_end.1) left))
+      (goes_past rest end later (many ∙ turn.two) (subst (λ z. LeftAt rest z) (at_end.1 ∙ at_end.0) left))
+      (body_took body rest f g b later (many ∙ turn.two) body_code body_is (inl at_end.1) left))
   branches_took test body (Else other) rest a b (fails, (end, (d, begin, (e, test_code, (f, jump_zero, (g, body_code, (h, jump, (i, at_no, (j, other_code, at_end))))))))) test_is body_is other_is left =
       took_on tree slots c see has (a + 1) e [] m (λ v. v ∷ []) (λ v. m) (λ later. m.slots) (present_value s.environment test) _
       (plain_comes tree slots c see has s m turn test test_is (a + 1) e m.counters [] turn.two (subst (λ z. ExpressionCode slots test c z e) begin.1 test_code))
       (λ v later at many. test_took v later fails e f _ _ jump_zero
-        (body_took other rest fails j b later (many ∙ turn.two)
-          (subst (λ z. BodyCode tree slots (owner_of tree see.process) other c z j) (at_no.1 ∙ at_no.0) other_code) other_is (inl at_end.1) left)
-        (body_took body rest f g end later (many ∙ turn.two) body_code body_is (inr jump.0) (subst (λ z. LeftAt rest z) (at_end.1 ∙ at_end.0) left)))
+      (body_took other rest fails j b later (many ∙ turn.two)
+      (subst (λ z. BodyCode tree slots (owner_of tree see.process) other c z j) (at_no.1 ∙ at_no.0) other_code) other_is (inl at_end.1) left)
+      (body_took body rest f g end later (many ∙ turn.two) body_code body_is (inr jump.0) (subst (λ z. LeftAt rest z) (at_end.1 ∙ at_end.0) left)))
 
   pub conditional_took : (test : Expression) (body : Body) (otherwise : Otherwise) (rest : List Item) (a b : ℕ)
       → CommandCode tree slots (owner_of tree see.process) (Conditional test body otherwise) c a b
@@ -95,9 +95,9 @@ module _ (tree : Tree) (slots : List Slot) (c : Code) (see : Sight) (has : HasCu
       let from : d ≡ a + 1 = begin.1 ∙ ap (λ z. z + 1) at_loop.1 in
       subst (λ x. Does (a + 1) [] m (and_then (present_value s.environment test) (repeats x test body rest s))) edition
       (took_on tree slots c see has (a + 1) e [] m (λ v. v ∷ []) (λ v. m) (λ later. m.slots) (present_value s.environment test) _
-        (plain_comes tree slots c see has s m turn test is.0 (a + 1) e m.counters [] turn.two (subst (λ z. ExpressionCode slots test c z e) from test_code))
-        (λ v later at many. test_took v later end e f _ _ jump_zero
-          (goes_past rest end later (many ∙ turn.two) (subst (λ z. LeftAt rest z) (at_end.1 ∙ at_end.0) left))
-          (body_took body (Perform (Loop test body) ∷ rest) f g a later (many ∙ turn.two) body_code is.1
-            (inr (subst (λ z. slice_get c.instrs g ≡ Some (Jump z)) (sym at_loop.0) jump.0))
-            (b, (loop, (end, (d0, at_loop, (d, begin, (e, test_code, (f, jump_zero, (g, body_code, (h, jump, at_end)))))))), is, left))))
+      (plain_comes tree slots c see has s m turn test is.0 (a + 1) e m.counters [] turn.two (subst (λ z. ExpressionCode slots test c z e) from test_code))
+      (λ v later at many. test_took v later end e f _ _ jump_zero
+      (goes_past rest end later (many ∙ turn.two) (subst (λ z. LeftAt rest z) (at_end.1 ∙ at_end.0) left))
+      (body_took body (Perform (Loop test body) ∷ rest) f g a later (many ∙ turn.two) body_code is.1
+      (inr (subst (λ z. slice_get c.instrs g ≡ Some (Jump z)) (sym at_loop.0) jump.0))
+      (b, (loop, (end, (d0, at_loop, (d, begin, (e, test_code, (f, jump_zero, (g, body_code, (h, jump, at_end)))))))), is, left))))

@@ -68,18 +68,18 @@ module _ (tree : Tree) (slots : List Slot) (c : Code) (stands : StandsFor tree s
       let mine : Owner = record { number = p; procedures = process.procedures } in
       let owner_is : owner_of tree p ≡ mine = ap (λ o. let one : Owner = record { number = p; procedures = procedures_of o } in one) there in
       let frames_are : frames_at tree p (call_shape procedure ∷ []) ≡ procedure_frames process procedure =
-        ap (λ o. record (procedure_frames process procedure) { globals = shape_of (frame_of (variables_of_process o)) }) there in
+      ap (λ o. record (procedure_frames process procedure) { globals = shape_of (frame_of (variables_of_process o)) }) there in
       let code = at.code.1 in
       let found = procedure_there tree slots mine c process.procedures part.0.procedures code.2.0 at.to number procedure code.2.2 e in
       let start : procedure_start c p number ≡ found.entry.start =
-        ap (λ o. unwrap_or (option_map (λ (one : Procedure). one.start) (slice_get (unwrap_or o no_part).procedures number)) 0) part.1
-        ∙ ap (λ o. unwrap_or (option_map (λ (one : Procedure). one.start) o) 0) found.listed in
+      ap (λ o. unwrap_or (option_map (λ (one : Procedure). one.start) (slice_get (unwrap_or o no_part).procedures number)) 0) part.1
+      ∙ ap (λ o. unwrap_or (option_map (λ (one : Procedure). one.start) o) 0) found.listed in
       let inside : ProcedureInFrames tree slots p process procedure =
-        all_there (ProcedureInFrames tree slots p process) process.procedures number procedure (resolved.processes p process there).procedures e in
+      all_there (ProcedureInFrames tree slots p process) process.procedures number procedure (resolved.processes p process there).procedures e in
       record {
         end = found.end;
         commands = subst (λ (a : ℕ). CommandsCode tree slots (owner_of tree p) (commands_of procedure.body) c a found.end) (sym start)
-          (subst (λ (owner : Owner). CommandsCode tree slots owner (commands_of procedure.body) c found.entry.start found.end) (sym owner_is) found.commands);
+            (subst (λ (owner : Owner). CommandsCode tree slots owner (commands_of procedure.body) c found.entry.start found.end) (sym owner_is) found.commands);
         return = found.return;
         in_frames = subst (λ (frames : Frames). CommandsInFrames tree slots p frames (commands_of procedure.body)) (sym frames_are) inside;
       }

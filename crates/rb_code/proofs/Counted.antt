@@ -49,14 +49,17 @@ number_there q (one ∷ around) (other ∷ counters) set x k fit e =
   where
     by : (counter_among around x ≡ Some k → (v : ℤ) × (counter_of counters x ≡ Some v) × IsSetTo set k v) → (b : Bool) → same_name one.0 x ≡ b
         → cond b (Some one.1) (counter_among around x) ≡ Some k → (v : ℤ) × (counter_of (other ∷ counters) x ≡ Some v) × IsSetTo set k v
-    by next true h g =
-        (other.1, ap (λ y. cond (same_name y x) (Some other.1) (counter_of counters x)) (sym fit.0) ∙ ap (λ b. cond b (Some other.1) (counter_of counters x)) h,
-        subst (λ n. IsSetTo set n other.1) (some_same g) fit.2)
+    by next true h g = (
+      other.1,
+      ap (λ y. cond (same_name y x) (Some other.1) (counter_of counters x)) (sym fit.0) ∙ ap (λ b. cond b (Some other.1) (counter_of counters x)) h,
+      subst (λ n. IsSetTo set n other.1) (some_same g) fit.2,
+    )
     by next false h g =
-        let rest = next g in
-        (rest.0,
-        ap (λ y. cond (same_name y x) (Some other.1) (counter_of counters x)) (sym fit.0) ∙ ap (λ b. cond b (Some other.1) (counter_of counters x)) h ∙ rest.1,
-        rest.2)
+        let rest = next g in (
+          rest.0,
+          ap (λ y. cond (same_name y x) (Some other.1) (counter_of counters x)) (sym fit.0) ∙ ap (λ b. cond b (Some other.1) (counter_of counters x)) h ∙ rest.1,
+          rest.2,
+        )
 
 pub no_number : (q : ℕ) (around : List (List ℕ × ℕ)) (counters : Counters) (set : List (Option Counting)) (x : List ℕ)
     → CountersFit q around counters set → counter_among around x ≡ None → counter_of counters x ≡ None

@@ -95,12 +95,12 @@ module _ (tree : Tree) (c : Code) (p : ℕ) (has : HasCursors c p) (s : State) (
         few = w.few;
         held = raised_held channel me.ends me.at mine ∙ w.held;
         sent = λ other ends at is.
-          by_channel (λ x. word_at (raised channel) (cursor_place (part_of c p) x) ≡ pos (length (sent_on (one_sent channel v s) x))) channel other
-          (raised_there channel me.ends me.at mine ∙ risen_to _ (length (sent_on s channel)) (w.sent channel me.ends me.at me.is)
+            by_channel (λ x. word_at (raised channel) (cursor_place (part_of c p) x) ≡ pos (length (sent_on (one_sent channel v s) x))) channel other
+            (raised_there channel me.ends me.at mine ∙ risen_to _ (length (sent_on s channel)) (w.sent channel me.ends me.at me.is)
             ∙ ap (λ n. pos n) (one_more (sent_on s channel) v ∙ ap length (sym (sent_there s channel v me.within))))
-          (λ ne. raised_elsewhere channel me.ends me.at mine other ne ∙ w.sent other ends at is ∙ ap (λ xs. pos (length xs)) (sym (sent_elsewhere s channel other v ne)));
+            (λ ne. raised_elsewhere channel me.ends me.at mine other ne ∙ w.sent other ends at is ∙ ap (λ xs. pos (length xs)) (sym (sent_elsewhere s channel other v ne)));
         taken = λ other ends at is.
-          raised_elsewhere channel me.ends me.at mine other (λ e. not_both other ends at is e) ∙ w.taken other ends at is;
+            raised_elsewhere channel me.ends me.at mine other (λ e. not_both other ends at is e) ∙ w.taken other ends at is;
       }
     where
       one_more : (xs : List ℤ) (v : ℤ) → length xs + 1 ≡ length (xs ++ v ∷ [])
@@ -122,12 +122,12 @@ module _ (tree : Tree) (c : Code) (p : ℕ) (has : HasCursors c p) (s : State) (
         few = w.few;
         held = raised_held channel me.ends me.at mine ∙ w.held;
         sent = λ other ends at is.
-          raised_elsewhere channel me.ends me.at mine other (λ e. not_both other ends at is e) ∙ w.sent other ends at is;
+            raised_elsewhere channel me.ends me.at mine other (λ e. not_both other ends at is e) ∙ w.sent other ends at is;
         taken = λ other ends at is.
-          by_channel (λ x. word_at (raised channel) (cursor_place (part_of c p) x) ≡ pos (taken_on (one_taken channel s) x)) channel other
-          (raised_there channel me.ends me.at mine ∙ risen_to _ (taken_on s channel) (w.taken channel me.ends me.at me.is)
+            by_channel (λ x. word_at (raised channel) (cursor_place (part_of c p) x) ≡ pos (taken_on (one_taken channel s) x)) channel other
+            (raised_there channel me.ends me.at mine ∙ risen_to _ (taken_on s channel) (w.taken channel me.ends me.at me.is)
             ∙ ap (λ n. pos n) (sym (taken_there s channel me.within)))
-          (λ ne. raised_elsewhere channel me.ends me.at mine other ne ∙ w.taken other ends at is ∙ ap (λ n. pos n) (sym (taken_elsewhere s channel other ne)));
+            (λ ne. raised_elsewhere channel me.ends me.at mine other ne ∙ w.taken other ends at is ∙ ap (λ n. pos n) (sym (taken_elsewhere s channel other ne)));
       }
     where
       not_both : (other : ℕ) (ends : Ends) → slice_get c.channels other ≡ Some ends → ends.sender ≡ p → other ≡ channel → ⊥

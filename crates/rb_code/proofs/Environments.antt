@@ -100,8 +100,8 @@ module _ (part : Part) where
       (ap (λ f. or_else f (found_in x globals)) inner.is ∙ sym inner.is)
       (λ i v. ap (λ b. front ++ flat (written (record { globals = globals; calls = frames ∷ outer }) x i v b)) (frames_have frames x (o, n) e))
       (lies_behind _ _ front _ (length (flat_frame globals) + (length (flat_calls outer) + o)) p n at
-        (lies_behind _ _ (flat_frame globals) _ (length (flat_calls outer) + o) _ n refl
-          (lies_behind _ _ (flat_calls outer) _ o _ n refl inner)))
+      (lies_behind _ _ (flat_frame globals) _ (length (flat_calls outer) + o) _ n refl
+      (lies_behind _ _ (flat_calls outer) _ o _ n refl inner)))
 
   -- one of the process, where the running call has none of the name
   own_lies : (front : List ℤ) (globals : Frame) (calls : List (List Frame)) (x : List ℕ) (p o n : ℕ) → p ≡ length front + o
@@ -133,14 +133,14 @@ module _ (part : Part) where
     variable : (calls : List (List Frame)) (opened : List OpenCall) (at : Lying) (w : Option (ℕ × ℕ)) → Based (body_place part) opened (stacks_of calls)
         → lies_among x (running (stacks_of calls)) ≡ w
         → or_else (option_map (λ (words : ℕ × ℕ). OfCall words.0 words.1) w)
-          (option_map (λ (words : ℕ × ℕ). OfProcess words.0 words.1) (lies_in x (shape_of globals))) ≡ Some at
+        (option_map (λ (words : ℕ × ℕ). OfProcess words.0 words.1) (lies_in x (shape_of globals))) ≡ Some at
         → LiesAt (record { globals = globals; calls = calls }) front x (place_lying part opened at) (words_lying at)
     variable calls opened at None based e g = own_variable calls opened at (lies_in x (shape_of globals)) e refl g
     variable [] opened at (Some w) based e g = absurd (none_some e)
     variable (frames ∷ outer) opened at (Some w) based e g =
         let base = based_top part opened (shapes_of frames) (stacks_of outer) based in
         let begins : base_of part opened + w.0 ≡ length front + (length (flat_frame globals) + (length (flat_calls outer) + w.0)) =
-          omega (arith, base, long, many, frame_long globals, calls_long outer) in
+        omega (arith, base, long, many, frame_long globals, calls_long outer) in
         subst (λ y. LiesAt (record { globals = globals; calls = frames ∷ outer }) front x (place_lying part opened y) (words_lying y)) (some_same g)
         (call_lies front globals frames outer x (base_of part opened + w.0) w.0 w.1 begins e)
 
@@ -150,25 +150,25 @@ module _ (part : Part) where
   lies_at front env all calls l frames is x at e =
       variable env.globals front l.long l.globals x env.calls calls at (lies_among x (running (stacks_of env.calls))) l.based refl
       (ap (λ s. or_else (option_map (λ (words : ℕ × ℕ). OfCall words.0 words.1) (lies_among x (running (stacks_of env.calls))))
-        (option_map (λ (words : ℕ × ℕ). OfProcess words.0 words.1) (lies_in x s))) (sym is.0)
+      (option_map (λ (words : ℕ × ℕ). OfProcess words.0 words.1) (lies_in x s))) (sym is.0)
       ∙ ap (λ s. or_else (option_map (λ (words : ℕ × ℕ). OfCall words.0 words.1) (lies_among x s))
-        (option_map (λ (words : ℕ × ℕ). OfProcess words.0 words.1) (lies_in x frames.globals))) (sym is.1)
+      (option_map (λ (words : ℕ × ℕ). OfProcess words.0 words.1) (lies_in x frames.globals))) (sym is.1)
       ∙ e)
 
   pub laid_finds : (front : List ℤ) (env : Environment) (all : List ℤ) (calls : List OpenCall) → Laid part front env all calls → (frames : Frames) → InFrames env frames
       → Finds part calls frames env all
   laid_finds front env all calls l frames is = record {
     found = λ x at e.
-      let r = lies_at front env all calls l frames is x at e in
-      record {
-        values = r.all;
-        is = r.is;
-        long = r.long;
-        reads = λ i h.
-          let there = slice_get-there r.all i (subst (λ n. i < n) (sym r.long) h) in
-          there.1 ∙ ap (λ o. Some (unwrap_or o (pos 0)))
-          (sym there.1 ∙ sym (r.reads i h) ∙ ap (λ ws. slice_get ws (place_lying part calls at + i)) (sym l.is));
-      };
+        let r = lies_at front env all calls l frames is x at e in
+        record {
+          values = r.all;
+          is = r.is;
+          long = r.long;
+          reads = λ i h.
+              let there = slice_get-there r.all i (subst (λ n. i < n) (sym r.long) h) in
+              there.1 ∙ ap (λ o. Some (unwrap_or o (pos 0)))
+              (sym there.1 ∙ sym (r.reads i h) ∙ ap (λ ws. slice_get ws (place_lying part calls at + i)) (sym l.is));
+        };
   }
 
   -- a write to a place is a write to the variable

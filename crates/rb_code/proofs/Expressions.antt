@@ -29,8 +29,8 @@ use Rattle.rb_code.proofs.LaidOut.{place_lying, spot_at}
 module _ (c : Code) (see : Sight) (m : Memory) where
   -- an operator behind its left value x, by what its right side gives
   module _ (q : ℕ) (right : Template) (r : Value)
-           (right_gives : (a b : ℕ) (set : List (Option Counting)) (os : List ℤ) → KeptBelow q m.counters set → right c a b
-              → Gives c see q a os (recounted set m) b r) where
+      (right_gives : (a b : ℕ) (set : List (Option Counting)) (os : List ℤ) → KeptBelow q m.counters set → right c a b
+      → Gives c see q a os (recounted set m) b r) where
     abbrev After : ℕ → ℤ → List ℤ → List (Option Counting) → ℕ → Value → Type 0
     After a x os set b o = Comes c see q a (x ∷ os) (recounted set m) b (λ v. v ∷ os) (λ v. m) o
 
@@ -49,18 +49,22 @@ module _ (c : Code) (see : Sight) (m : Memory) where
         → Comes c see q a os (recounted set m) b (λ v. v ∷ os) (λ v. m) (and_then r (applied op x))
     truth_of_right op a d e b x set os kept is code bool onward =
         comes_on c see q a d b os (recounted set m) (λ v. v ∷ os) (λ v. m) (λ v. v ∷ os) (λ v. m) r (applied op x) (right_gives a d set os kept code)
-        (λ y later more. same_comes c see q d (y ∷ os) (recounted later m) b (λ v. v ∷ os) (λ v. m) (Ok (truth (not (is_zero y)))) _ (sym (is y))
-        (later, kept_here q later,
-        leads_on c see (passes c see instr.Bool d e (y ∷ os) (truth (not (is_zero y)) ∷ os) (recounted later m) (recounted later m) bool refl)
-        (onward (truth (not (is_zero y))) (recounted later m))))
+        (λ y later more. same_comes c see q d (y ∷ os) (recounted later m) b (λ v. v ∷ os) (λ v. m) (Ok (truth (not (is_zero y)))) _ (sym (is y)) (
+          later,
+          kept_here q later,
+          leads_on c see (passes c see instr.Bool d e (y ∷ os) (truth (not (is_zero y)) ∷ os) (recounted later m) (recounted later m) bool refl)
+              (onward (truth (not (is_zero y))) (recounted later m)),
+        ))
 
     and_comes : (t : Bool) (a b : ℕ) (x : ℤ) (set : List (Option Counting)) (os : List ℤ) → KeptBelow q m.counters set → is_zero x ≡ t
         → AndCode right c a b → After a x os set b (unless_decided (cond t (Some (pos 0)) None) op.And x r)
-    and_comes true a b x set os kept z (fails, (end, (d, test, (d1, code, (d2, bool, (d3, jump, (d4, at_no, (d5, push, at_end)))))))) =
-        (set, kept_here q set,
-        leads_on c see (jumps_zero c see a fails d x os (recounted set m) test z)
-        (from_there c see fails d4 b os (pos 0 ∷ os) _ _ (sym (at_no.1 ∙ at_no.0))
-        (to_there c see d4 d5 b os (pos 0 ∷ os) _ _ (sym at_end.1) (pushes c see d4 d5 (pos 0) os (recounted set m) push))))
+    and_comes true a b x set os kept z (fails, (end, (d, test, (d1, code, (d2, bool, (d3, jump, (d4, at_no, (d5, push, at_end)))))))) = (
+      set,
+      kept_here q set,
+      leads_on c see (jumps_zero c see a fails d x os (recounted set m) test z)
+          (from_there c see fails d4 b os (pos 0 ∷ os) _ _ (sym (at_no.1 ∙ at_no.0))
+          (to_there c see d4 d5 b os (pos 0 ∷ os) _ _ (sym at_end.1) (pushes c see d4 d5 (pos 0) os (recounted set m) push))),
+    )
     and_comes false a b x set os kept z (fails, (end, (d, test, (d1, code, (d2, bool, (d3, jump, (d4, at_no, (d5, push, at_end)))))))) =
         comes_from c see q a d (x ∷ os) os (recounted set m) (recounted set m) b (λ v. v ∷ os) (λ v. m) (and_then r (applied op.And x))
         (passes_zero c see a fails d x os (recounted set m) test z) (kept_here q set)
@@ -75,11 +79,13 @@ module _ (c : Code) (see : Sight) (m : Memory) where
         (kept_here q set)
         (truth_of_right op.Or d3 d4 d5 b x set os kept (λ y. refl) code bool
         (λ v n. to_there c see d5 d5 b (v ∷ os) (v ∷ os) n n (sym at_end.1) (stays c see d5 (v ∷ os) n)))
-    or_comes false a b x set os kept z (other, (end, (d, test, (d1, push, (d2, jump, (d3, at_other, (d4, code, (d5, bool, at_end)))))))) =
-        (set, kept_here q set,
-        leads_on c see (passes_zero c see a other d x os (recounted set m) test z)
-        (leads_on c see (pushes c see d d1 (pos 1) os (recounted set m) push)
-        (to_there c see d1 end b (pos 1 ∷ os) (pos 1 ∷ os) _ _ (sym (at_end.1 ∙ at_end.0)) (jumps c see d1 end d2 (pos 1 ∷ os) (recounted set m) jump))))
+    or_comes false a b x set os kept z (other, (end, (d, test, (d1, push, (d2, jump, (d3, at_other, (d4, code, (d5, bool, at_end)))))))) = (
+      set,
+      kept_here q set,
+      leads_on c see (passes_zero c see a other d x os (recounted set m) test z)
+          (leads_on c see (pushes c see d d1 (pos 1) os (recounted set m) push)
+          (to_there c see d1 end b (pos 1 ∷ os) (pos 1 ∷ os) _ _ (sym (at_end.1 ∙ at_end.0)) (jumps c see d1 end d2 (pos 1 ∷ os) (recounted set m) jump))),
+    )
 
     -- an operator with its left value
     operator_comes : (op : Op) (a b : ℕ) (x : ℤ) (set : List (Option Counting)) (os : List ℤ) → KeptBelow q m.counters set
@@ -105,7 +111,7 @@ module _ (c : Code) (see : Sight) (slots : List Slot) (globals : Shape) (shapes 
 
   -- what is known of the present variables, and in a test of those before the block
   module _ (env prior : Environment) (m : Memory) (now : Finds (here c see) m.calls (around [] 0) env m.words)
-           (before : in_test ≡ true → Finds (here c see) m.calls (around [] 0) prior see.prior) where
+      (before : in_test ≡ true → Finds (here c see) m.calls (around [] 0) prior see.prior) where
     -- the counters that are known
     pub record Knows (q : ℕ) (named : List (List ℕ × ℕ)) (counters : Counters) (set : List (Option Counting)) : Type 0 where
       pub fit : CountersFit q named counters set
@@ -170,7 +176,7 @@ module _ (c : Code) (see : Sight) (slots : List Slot) (globals : Shape) (shapes 
     element_comes : (one : Instr) (words : List ℤ) (there : Environment) (name : Identifier) (named : List (List ℕ × ℕ)) (q : ℕ) (a d b : ℕ) (set : List (Option Counting))
         (os : List ℤ) (index : Value) → Finds (here c see) m.calls (around [] 0) there words → IsArray slots (around named q) name
         → ((i d : ℕ) (later : List (Option Counting)) → act c see one d (pos i ∷ os) (recounted later m)
-          ≡ Going (d + 1) (word_at words (place c see m.calls (spot_of slots name.id) + i) ∷ os) (recounted later m))
+        ≡ Going (d + 1) (word_at words (place c see m.calls (spot_of slots name.id) + i) ∷ os) (recounted later m))
         → Gives c see q a os (recounted set m) d index → (One (instr.Bound (elements_of slots name.id)) ⨾ One one) c d b
         → Gives c see q a os (recounted set m) b (element_at (values_of there name.text) index)
     element_comes one words there name named q a d b set os index finds array acts comes (d1, bound, last) =
@@ -185,6 +191,7 @@ module _ (c : Code) (see : Sight) (slots : List Slot) (globals : Shape) (shapes 
 
     mutual
       unfolding ExpressionCode SubscriptCode LinksCode
+
       pub expression_comes : (e : Expression) (named : List (List ℕ × ℕ)) (q : ℕ) (counters : Counters) (a b : ℕ) (set : List (Option Counting)) (os : List ℤ)
           → Knows q named counters set → ExpressionInFrames slots (around named q) e → ExpressionCode slots e c a b
           → Gives c see q a os (recounted set m) b (value env prior counters e)
@@ -210,8 +217,11 @@ module _ (c : Code) (see : Sight) (slots : List Slot) (globals : Shape) (shapes 
       expression_comes (Negation operand) named q counters a b set os k is (d, code, negate) =
           comes_on c see q a d b os (recounted set m) (λ v. v ∷ os) (λ v. m) (λ v. v ∷ os) (λ v. m) (value env prior counters operand) (λ x. Ok (truth (is_zero x)))
           (expression_comes operand named q counters a d set os k is code)
-          (λ x later more. (later, kept_here q later,
-            passes c see instr.Not d b (x ∷ os) (truth (is_zero x) ∷ os) (recounted later m) (recounted later m) negate refl))
+          (λ x later more. (
+            later,
+            kept_here q later,
+            passes c see instr.Not d b (x ∷ os) (truth (is_zero x) ∷ os) (recounted later m) (recounted later m) negate refl,
+          ))
       expression_comes (Chained first links) named q counters a b set os k is (d, code, more) =
           links_come links named q counters a d b set os (value env prior counters first) k is.1 (expression_comes first named q counters a d set os k is.0 code) more
       expression_comes (Quantification kind at name low high body) named q counters a b set os k is code =
@@ -233,7 +243,7 @@ module _ (c : Code) (see : Sight) (slots : List Slot) (globals : Shape) (shapes 
       links_come (Linked op right links) named q counters a d b set os left k is comes (d1, code, more) =
           links_come links named q counters a d1 b set os (operated op left (value env prior counters right)) k is.1
           (comes_on c see q a d d1 os (recounted set m) (λ v. v ∷ os) (λ v. m) (λ v. v ∷ os) (λ v. m) left
-            (λ x. unless_decided (decided op x) op x (value env prior counters right)) comes
-            (λ x later more. operator_comes c see (recounted later m) q (ExpressionCode slots right) (value env prior counters right)
-              (λ a1 b1 set1 os1 kept code1. expression_comes right named q counters a1 b1 set1 os1 (knows_later q named counters set set1 (kept_on more kept) k) is.0 code1)
-              op d d1 x later os (kept_here q later) code)) more
+          (λ x. unless_decided (decided op x) op x (value env prior counters right)) comes
+          (λ x later more. operator_comes c see (recounted later m) q (ExpressionCode slots right) (value env prior counters right)
+          (λ a1 b1 set1 os1 kept code1. expression_comes right named q counters a1 b1 set1 os1 (knows_later q named counters set set1 (kept_on more kept) k) is.0 code1)
+          op d d1 x later os (kept_here q later) code)) more

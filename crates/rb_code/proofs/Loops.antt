@@ -60,8 +60,8 @@ module _ (c : Code) (see : Sight) where
 
   -- A loop over counter k: its body, from `first` to `d`, comes to what f gives at the counter.
   module _ (k : ℕ) (m : Memory) (base : List (Option Counting)) (there : k < length base) (end : ℤ) (f : ℤ → Value) (first d : ℕ)
-           (body : (x : ℤ) (set : List (Option Counting)) (os : List ℤ) → KeptBelow k base set → slice_get set k ≡ Some (counter x end)
-              → Comes c see (suc k) first os (recounted set m) d (λ v. v ∷ os) (λ v. m) (f x)) where
+      (body : (x : ℤ) (set : List (Option Counting)) (os : List ℤ) → KeptBelow k base set → slice_get set k ≡ Some (counter x end)
+      → Comes c see (suc k) first os (recounted set m) d (λ v. v ∷ os) (λ v. m) (f x)) where
     -- the counter after the body, and after `again`
     pub still : (x : ℤ) (set later : List (Option Counting)) → KeptBelow (suc k) set later → slice_get set k ≡ Some (counter x end)
         → slice_get later k ≡ Some (counter x end)
@@ -116,8 +116,8 @@ module _ (c : Code) (see : Sight) where
 
       -- `every`
       module _ (no : ℕ) (zero_test : One (JumpZero no) c d d1)
-               (to_yes : (os : List ℤ) (n : Memory) → Leads c see d2 os n b (pos 1 ∷ os) n)
-               (to_no : (os : List ℤ) (n : Memory) → Leads c see no os n b (pos 0 ∷ os) n) where
+          (to_yes : (os : List ℤ) (n : Memory) → Leads c see d2 os n b (pos 1 ∷ os) n)
+          (to_no : (os : List ℤ) (n : Memory) → Leads c see no os n b (pos 0 ∷ os) n) where
         every_body : (n : ℕ) (x : ℤ) (set : List (Option Counting)) (os : List ℤ) → KeptBelow k base set → slice_get set k ≡ Some (counter x end)
             → ((later : List (Option Counting)) → KeptBelow (suc k) set later
             → Comes c see k d1 os (recounted later m) b (λ v. v ∷ os) (λ v. m) (every_from n (x +ℤ pos 1) f))
@@ -143,8 +143,8 @@ module _ (c : Code) (see : Sight) where
 
       -- `some`
       module _ (d0 : ℕ) (zero_test : One (JumpZero d1) c d d0)
-               (to_yes : (os : List ℤ) (n : Memory) → Leads c see d0 os n b (pos 1 ∷ os) n)
-               (to_no : (os : List ℤ) (n : Memory) → Leads c see d2 os n b (pos 0 ∷ os) n) where
+          (to_yes : (os : List ℤ) (n : Memory) → Leads c see d0 os n b (pos 1 ∷ os) n)
+          (to_no : (os : List ℤ) (n : Memory) → Leads c see d2 os n b (pos 0 ∷ os) n) where
         some_body : (n : ℕ) (x : ℤ) (set : List (Option Counting)) (os : List ℤ) → KeptBelow k base set → slice_get set k ≡ Some (counter x end)
             → ((later : List (Option Counting)) → KeptBelow (suc k) set later
             → Comes c see k d1 os (recounted later m) b (λ v. v ∷ os) (λ v. m) (some_from n (x +ℤ pos 1) f))
@@ -186,9 +186,11 @@ module _ (c : Code) (see : Sight) where
             → slice_get set k ≡ Some (counter x end)
             → Comes c see k first (total ∷ os) (recounted set m) b (λ v. v ∷ os) (λ v. m) (sum_from (suc n) x f total)
         sum_loop zero x total set os e kept at = sum_body zero x total set os kept at (λ next later more.
-            last_comes x set later (next ∷ os) os (Ok next) e more at
-            (slice_set later k None, kept_here k (slice_set later k None),
-            to_there d2 d2 b (next ∷ os) (next ∷ os) _ _ is_past (stays c see d2 (next ∷ os) (recounted (slice_set later k None) m))))
+            last_comes x set later (next ∷ os) os (Ok next) e more at (
+              slice_set later k None,
+              kept_here k (slice_set later k None),
+              to_there d2 d2 b (next ∷ os) (next ∷ os) _ _ is_past (stays c see d2 (next ∷ os) (recounted (slice_set later k None) m)),
+            ))
         sum_loop (suc n) x total set os e kept at = sum_body (suc n) x total set os kept at (λ next later more.
             other_comes n x set later (next ∷ os) os (sum_from (suc n) (x +ℤ pos 1) f next) e more at
             (sum_loop n (x +ℤ pos 1) next (slice_set later k (counter (x +ℤ pos 1) end)) os (e ∙ one_on x n)

@@ -12,14 +12,23 @@ use Rattle.rb_code.proofs.LaidOut.{flat_calls, flat_frame, flat_frames, shapes_o
 pub frame_long : (frame : Frame) → length (flat_frame frame) ≡ shape_words (shape_of frame)
 frame_long [] = refl
 frame_long (stored ∷ frame) =
-    omega (arith, length-append stored.values (flat_frame frame), frame_long frame,
-      sum_by-cons (λ (one : Sized). one.words) (record { name = stored.name; words = length stored.values }) (shape_of frame))
+    omega (
+      arith,
+      length-append stored.values (flat_frame frame),
+      frame_long frame,
+      sum_by-cons (λ (one : Sized). one.words) (record { name = stored.name; words = length stored.values }) (shape_of frame),
+    )
 
 pub frames_long : (frames : List Frame) → length (flat_frames frames) ≡ shapes_words (shapes_of frames)
 frames_long [] = refl
 frames_long (frame ∷ around) =
-    omega (arith, length-append (flat_frames around) (flat_frame frame), frames_long around, frame_long frame,
-      sum_by-cons shape_words (shape_of frame) (shapes_of around))
+    omega (
+      arith,
+      length-append (flat_frames around) (flat_frame frame),
+      frames_long around,
+      frame_long frame,
+      sum_by-cons shape_words (shape_of frame) (shapes_of around),
+    )
 
 pub calls_long : (calls : List (List Frame)) → length (flat_calls calls) ≡ stacks_words (stacks_of calls)
 calls_long [] = refl
@@ -64,8 +73,8 @@ lies_behind values words less wrote o p n e h =
       room = omega (arith, room, length-append less words);
       reads = λ i l. let q : p + i ≡ length less + (o + i) = omega arith in ap (slice_get (less ++ words)) q ∙ get_behind less words (o + i) ∙ h.reads i l;
       writes = λ i x l.
-        let q : p + i - length less ≡ o + i = omega arith in
-        ap (λ ws. less ++ ws) (h.writes i x l ∙ ap (λ k. slice_set words k x) (sym q)) ∙ sym (set-append_right less words (length less) (p + i) x refl (omega arith));
+          let q : p + i - length less ≡ o + i = omega arith in
+          ap (λ ws. less ++ ws) (h.writes i x l ∙ ap (λ k. slice_set words k x) (sym q)) ∙ sym (set-append_right less words (length less) (p + i) x refl (omega arith));
     }
 
 -- under another name of what is found and written
@@ -90,14 +99,14 @@ lies_first stored frame x e =
     (ap (λ b. cond b (Some stored.values) (found_in x frame)) e)
     (λ i v. ap (λ b. flat_frame (cond b (record { name = stored.name; values = slice_set stored.values i v } ∷ frame) (stored ∷ stored_in x i v frame))) e)
     (lies_before (Some stored.values) stored.values (flat_frame frame) (λ i v. slice_set stored.values i v) 0 (length stored.values)
-      (record {
-        all = stored.values;
-        is = refl;
-        long = refl;
-        room = omega arith;
-        reads = λ i l. ap (slice_get stored.values) (from_none i);
-        writes = λ i v l. ap (λ k. slice_set stored.values k v) (sym (from_none i));
-      }))
+    (record {
+      all = stored.values;
+      is = refl;
+      long = refl;
+      room = omega arith;
+      reads = λ i l. ap (slice_get stored.values) (from_none i);
+      writes = λ i v l. ap (λ k. slice_set stored.values k v) (sym (from_none i));
+    }))
   where
     from_none : (i : ℕ) → 0 + i ≡ i
     from_none i = omega arith

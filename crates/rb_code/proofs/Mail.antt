@@ -35,7 +35,7 @@ use Rattle.rb_code.proofs.Cursors.{IsReceiver, IsSender, one_sent, one_taken, se
 use Rattle.rb_code.proofs.Took.{HasCursors, InTurn, Took, arrives, same_took, took_from, took_on, words_continue}
 
 module _ (tree : Tree) (slots : List Slot) (c : Code) (see : Sight) (has : HasCursors c see.process) (s : State) (m : Memory) (turn : InTurn tree slots c see has s m)
-         (channels : c.channels ≡ channels_of tree) (edition : c.edition ≡ tree.edition) where
+    (channels : c.channels ≡ channels_of tree) (edition : c.edition ≡ tree.edition) where
   -- the slots behind a send
   abbrev pub slots_then : ℕ → State → Slots
   slots_then channel later =
@@ -47,7 +47,7 @@ module _ (tree : Tree) (slots : List Slot) (c : Code) (see : Sight) (has : HasCu
       let n = length (sent_on s channel) in
       let sent : natural (word_at m.words (cursor_place (part_of c see.process) channel)) ≡ n = ap natural (turn.words_meet.sent channel me.ends me.at me.is) in
       let last : message_number (one_sent channel v s) channel n ≡ v =
-        ap (λ xs. unwrap_or (slice_get xs n) (pos 0)) (sent_there s channel v me.within) ∙ ap (λ o. unwrap_or o (pos 0)) (slice_get-end (sent_on s channel) v) in
+      ap (λ xs. unwrap_or (slice_get xs n) (pos 0)) (sent_there s channel v me.within) ∙ ap (λ o. unwrap_or o (pos 0)) (slice_get-end (sent_on s channel) v) in
       ap (λ k. put_slot c.channels channel k v m.slots) sent ∙ ap (λ cs. put_slot cs channel n v m.slots) channels
       ∙ ap (λ x. put_slot (channels_of tree) channel n x m.slots) (sym last)
 
@@ -63,18 +63,18 @@ module _ (tree : Tree) (slots : List Slot) (c : Code) (see : Sight) (has : HasCu
       took_from tree slots c see has (a + 1) d1 [] [] m m (slots_then channel) (performs tree see.message s rest (Sending name e))
       (subst (λ x. Leads c see x [] m d1 [] m) begin.1 (passes c see (Room (channel_of slots name.id)) d d1 [] [] m m room refl))
       (took_on tree slots c see has d1 d2 [] m (λ v. v ∷ []) (λ v. m) (slots_then channel) (present_value s.environment e) _
-        (plain_comes tree slots c see has s m turn e is.1 d1 d2 m.counters [] turn.two code)
-        (λ v later at many. took_from tree slots c see has d2 b (v ∷ []) [] (recounted later m) (recounted later (put c see channel v m)) (slots_then channel)
-          (Ok (one_sent channel v (continue_with rest s)))
-          (passes c see (Put channel) d2 b (v ∷ []) [] (recounted later m) (recounted later (put c see channel v m)) (subst (λ x. One (Put x) c d2 b) same last) refl)
-          (arrives tree slots c see has (one_sent channel v (continue_with rest s)) b (recounted later (put c see channel v m)) (slots_then channel)
-            (record {
-              words_meet = words_continue tree c see.process has (one_sent channel v s) (put c see channel v m).words m.calls rest
-                (words_sent tree c see.process has s m.words m.calls turn.words_meet channel v me);
-              held = turn.held;
-              two = many ∙ turn.two;
-            })
-            left (slots_put channel v rest me))))
+      (plain_comes tree slots c see has s m turn e is.1 d1 d2 m.counters [] turn.two code)
+      (λ v later at many. took_from tree slots c see has d2 b (v ∷ []) [] (recounted later m) (recounted later (put c see channel v m)) (slots_then channel)
+      (Ok (one_sent channel v (continue_with rest s)))
+      (passes c see (Put channel) d2 b (v ∷ []) [] (recounted later m) (recounted later (put c see channel v m)) (subst (λ x. One (Put x) c d2 b) same last) refl)
+      (arrives tree slots c see has (one_sent channel v (continue_with rest s)) b (recounted later (put c see channel v m)) (slots_then channel)
+      (record {
+        words_meet = words_continue tree c see.process has (one_sent channel v s) (put c see channel v m).words m.calls rest
+            (words_sent tree c see.process has s m.words m.calls turn.words_meet channel v me);
+        held = turn.held;
+        two = many ∙ turn.two;
+      })
+      left (slots_put channel v rest me))))
 
   -- a message is taken, and what is left stands at an address to which the machine goes on
   takes_took : (v : ℤ) → see.message ≡ Some v → (channel : ℕ) → IsReceiver c see.process s channel → (to : Reference) (rest : List Item) (a e b : ℕ)
@@ -84,23 +84,26 @@ module _ (tree : Tree) (slots : List Slot) (c : Code) (see : Sight) (has : HasCu
       → Took tree slots c see has a [] m (λ later. m.slots) (takes (continue_with rest s) channel to v)
   takes_took v there channel me to rest a e b is code onward left =
       store_took tree slots c see has s m turn (One (Take channel)) (Ok v) (risen c see channel m) refl
-      (λ a1 b1 set os two code1. (set, kept_here 0 set,
+      (λ a1 b1 set os two code1. (
+        set,
+        kept_here 0 set,
         passes c see (Take channel) a1 b1 os (v ∷ os) (recounted set m) (recounted set (risen c see channel m)) code1
-          (ap (λ o. if_there o (λ x. Going (a1 + 1) (x ∷ os) (recounted set (risen c see channel m)))) there)))
+            (ap (λ o. if_there o (λ x. Going (a1 + 1) (x ∷ os) (recounted set (risen c see channel m)))) there),
+      ))
       (λ later. m.slots) (λ place y. Ok (with_taken taken (with_environment (put_at s.environment y place) (continue_with rest s)))) e
       (λ x at found k l y later two.
-        let n = written (place_lying (part_of c see.process) m.calls at + k) y (recounted later (risen c see channel m)) in
-        let s1 = with_taken taken (with_environment (store s.environment x k y) (continue_with rest s)) in
-        took_from tree slots c see has e b [] [] n n (λ later. m.slots) (Ok s1) (onward n)
-        (arrives tree slots c see has s1 b n (λ later. m.slots)
-          (record {
-            words_meet = words_continue tree c see.process has (with_environment (store s.environment x k y) (one_taken channel s)) n.words m.calls rest
-              (words_stored tree slots c see has (one_taken channel s) (risen c see channel m)
-                (words_taken tree c see.process has s m.words m.calls turn.words_meet channel me) x at found k y l);
-            held = turn.held;
-            two = two;
-          })
-          (left_stored tree slots c see has s rest m.calls x k y b left) refl))
+      let n = written (place_lying (part_of c see.process) m.calls at + k) y (recounted later (risen c see channel m)) in
+      let s1 = with_taken taken (with_environment (store s.environment x k y) (continue_with rest s)) in
+      took_from tree slots c see has e b [] [] n n (λ later. m.slots) (Ok s1) (onward n)
+      (arrives tree slots c see has s1 b n (λ later. m.slots)
+      (record {
+        words_meet = words_continue tree c see.process has (with_environment (store s.environment x k y) (one_taken channel s)) n.words m.calls rest
+            (words_stored tree slots c see has (one_taken channel s) (risen c see channel m)
+            (words_taken tree c see.process has s m.words m.calls turn.words_meet channel me) x at found k y l);
+        held = turn.held;
+        two = two;
+      })
+      (left_stored tree slots c see has s rest m.calls x k y b left) refl))
       to a is code
     where
       taken : List ℕ
@@ -145,8 +148,8 @@ module _ (tree : Tree) (slots : List Slot) (c : Code) (see : Sight) (has : HasCu
       took_from tree slots c see has (a + 1) none [] [] m m (λ later. m.slots) (pushes tree.edition other rest s)
       (subst (λ x. Leads c see x [] m none [] m) begin.1 (goes c see (Absent channel none) d none [] [] m m absent.0 (absent_by None there channel none d)))
       (subst (λ e. Took tree slots c see has none [] m (λ later. m.slots) (pushes e other rest s)) edition
-        (block_took tree slots c see has s m turn other rest none d5 b
-          (subst (λ z. BodyCode tree slots (owner_of tree see.process) other c z d5) (at_none.1 ∙ at_none.0) other_code) other_is (inl at_end.1) left))
+      (block_took tree slots c see has s m turn other rest none d5 b
+      (subst (λ z. BodyCode tree slots (owner_of tree see.process) other c z d5) (at_none.1 ∙ at_none.0) other_code) other_is (inl at_end.1) left))
 
   pub receiving_took : (name : Identifier) (to : Reference) (otherwise : Otherwise) (rest : List Item) (a b : ℕ)
       → IsReceiver c see.process s (channel_number tree name.text) → MayReceive see.message otherwise

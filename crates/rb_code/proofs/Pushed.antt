@@ -19,7 +19,7 @@ zeros_flat (one ∷ others) =
     let n = size_of one.size in
     let k = frame_words (frame_of others) in
     let many : n + k ≡ frame_words (frame_of (one ∷ others)) =
-      omega (arith, length-replicate n (pos 0), sum_by-cons (λ (stored : Stored). length stored.values) (zeros one) (frame_of others)) in
+    omega (arith, length-replicate n (pos 0), sum_by-cons (λ (stored : Stored). length stored.values) (zeros one) (frame_of others)) in
     ap (λ ws. replicate n (pos 0) ++ ws) (zeros_flat others) ∙ replicate-append-replicate n k (pos 0) ∙ ap (λ j. replicate j (pos 0)) many
 
 -- the end of a list is cut off
@@ -44,9 +44,9 @@ module _ (part : Part) where
   laid_frame frame globals [] all opened front l = absurd (no_body opened (body_place part) l.based)
   laid_frame frame globals (frames ∷ outer) all opened front l =
       let ends : (front ++ (flat_frame globals ++ (flat_calls outer ++ flat_frames frames))) ++ flat_frame frame
-          ≡ front ++ (flat_frame globals ++ (flat_calls outer ++ (flat_frames frames ++ flat_frame frame))) = simp append_assoc in
+      ≡ front ++ (flat_frame globals ++ (flat_calls outer ++ (flat_frames frames ++ flat_frame frame))) = simp append_assoc in
       record {
-                long = l.long;
+        long = l.long;
         is = ap (λ ws. ws ++ flat_frame frame) l.is ∙ ends;
         globals = l.globals;
         based = based_frame opened (body_place part) (shapes_of frames) (shapes_of (frame ∷ frames)) (stacks_of outer) l.based;
@@ -68,7 +68,7 @@ module _ (part : Part) where
       let is : all ≡ xs ++ flat_frame frame = l.is ∙ ends in
       let n : length all - shape_words (shape_of frame) ≡ length xs = omega (arith, ap length is, length-append xs (flat_frame frame), frame_long frame) in
       record {
-                long = l.long;
+        long = l.long;
         is = take_front xs (flat_frame frame) all _ is n;
         globals = l.globals;
         based = based_frame opened (body_place part) (shapes_of (frame ∷ frames)) (shapes_of frames) (stacks_of outer) l.based;
@@ -85,9 +85,11 @@ module _ (part : Part) where
       by [] e l = absurd cc
       by ([] ∷ more) e l = absurd cc
       by ((frame ∷ frames) ∷ more) e l =
-          let same : shape_of frame ≡ shape = cc in
-          (subst (λ s. Laid part front (record { globals = env.globals; calls = frames ∷ more }) (take (length all - shape_words s) all) opened) same
-          (laid_cut frame env.globals frames more all opened front l), cc)
+          let same : shape_of frame ≡ shape = cc in (
+            subst (λ s. Laid part front (record { globals = env.globals; calls = frames ∷ more }) (take (length all - shape_words s) all) opened) same
+                (laid_cut frame env.globals frames more all opened front l),
+            cc,
+          )
 
   -- a call begins, and ends
   pub laid_called : (frame : Frame) (env : Environment) (all : List ℤ) (opened : List OpenCall) (front : List ℤ) (back : ℕ) → Laid part front env all opened
@@ -96,13 +98,24 @@ module _ (part : Part) where
       let long = l.long in
       let many = l.globals in
       let ends : (front ++ (flat_frame env.globals ++ flat_calls env.calls)) ++ flat_frame frame
-          ≡ front ++ (flat_frame env.globals ++ (flat_calls env.calls ++ flat_frame frame)) = simp append_assoc in
+      ≡ front ++ (flat_frame env.globals ++ (flat_calls env.calls ++ flat_frame frame)) = simp append_assoc in
       record {
-                long = l.long;
+        long = l.long;
         is = ap (λ ws. ws ++ flat_frame frame) l.is ∙ ends;
         globals = l.globals;
-        based = (omega (arith, ap length l.is, length-append front (flat env), length-append (flat_frame env.globals) (flat_calls env.calls),
-          long, many, frame_long env.globals, calls_long env.calls), l.based);
+        based = (
+          omega (
+            arith,
+            ap length l.is,
+            length-append front (flat env),
+            length-append (flat_frame env.globals) (flat_calls env.calls),
+            long,
+            many,
+            frame_long env.globals,
+            calls_long env.calls,
+          ),
+          l.based,
+        );
       }
 
   pub laid_returned : (env : Environment) (all : List ℤ) (call : OpenCall) (opened : List OpenCall) (front : List ℤ) (shapes : List Shape) (outer : List (List Shape))
@@ -122,11 +135,21 @@ module _ (part : Part) where
           let long = l.long in
           let many = l.globals in
           let n : call.base ≡ length xs =
-            omega (arith, base, long, many, length-append front (flat_frame globals ++ flat_calls more), length-append (flat_frame globals) (flat_calls more),
-              frame_long globals, calls_long more) in
-          (record {
-                        long = l.long;
-            is = take_front xs (flat_frames frames) all call.base (l.is ∙ ends) n;
-            globals = l.globals;
-            based = l.based.1;
-          }, cc)
+          omega (
+            arith,
+            base,
+            long,
+            many,
+            length-append front (flat_frame globals ++ flat_calls more),
+            length-append (flat_frame globals) (flat_calls more),
+            frame_long globals,
+            calls_long more,
+          ) in (
+            record {
+              long = l.long;
+              is = take_front xs (flat_frames frames) all call.base (l.is ∙ ends) n;
+              globals = l.globals;
+              based = l.based.1;
+            },
+            cc,
+          )

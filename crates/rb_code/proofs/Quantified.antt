@@ -38,12 +38,12 @@ module _ (c : Code) (see : Sight) where
           (kept_set k m.counters (counter x y)) (if_some j (span_is x y j e))
 
   module _ (k : ℕ) (m : Memory) (base : List (Option Counting)) (there : k < length base) (low high body : Template) (from to : Value) (f : ℤ → Value)
-           (low_comes : (a b : ℕ) (set : List (Option Counting)) (os : List ℤ) → KeptBelow k base set → low c a b
-              → Comes c see (suc k) a os (recounted set m) b (λ v. v ∷ os) (λ v. m) from)
-           (high_comes : (a b : ℕ) (set : List (Option Counting)) (os : List ℤ) → KeptBelow k base set → high c a b
-              → Comes c see (suc k) a os (recounted set m) b (λ v. v ∷ os) (λ v. m) to)
-           (body_comes : (end x : ℤ) (a b : ℕ) (set : List (Option Counting)) (os : List ℤ) → KeptBelow k base set
-              → slice_get set k ≡ Some (counter x end) → body c a b → Comes c see (suc k) a os (recounted set m) b (λ v. v ∷ os) (λ v. m) (f x)) where
+      (low_comes : (a b : ℕ) (set : List (Option Counting)) (os : List ℤ) → KeptBelow k base set → low c a b
+      → Comes c see (suc k) a os (recounted set m) b (λ v. v ∷ os) (λ v. m) from)
+      (high_comes : (a b : ℕ) (set : List (Option Counting)) (os : List ℤ) → KeptBelow k base set → high c a b
+      → Comes c see (suc k) a os (recounted set m) b (λ v. v ∷ os) (λ v. m) to)
+      (body_comes : (end x : ℤ) (a b : ℕ) (set : List (Option Counting)) (os : List ℤ) → KeptBelow k base set
+      → slice_get set k ≡ Some (counter x end) → body c a b → Comes c see (suc k) a os (recounted set m) b (λ v. v ∷ os) (λ v. m) (f x)) where
     -- both limits, the range, and then what a loop comes to
     limits_come : (past a p r d b : ℕ) (set : List (Option Counting)) (os ps : List ℤ) (h : ℤ → ℕ → Value) → KeptBelow k base set → low c a p → high c p r
         → One (Range k past) c r d

@@ -135,10 +135,10 @@ module _ (tree : Tree) (slots : List Slot) (c : Code) (cursors : (p : ℕ) → H
       → ComesTo tree slots c u see before (stepped_with_slots (tree_kind tree) s before (judged rest s (value s.environment (former s.environment (environment_of x)) [] (test_in block))))
   test_comes block rest (b, code, is, left) (copy, seen, e, f, prior) =
       subst (λ (o : Option State). ComesTo tree slots c u see before
-        (stepped_with_slots (tree_kind tree) s before (judged rest s (value s.environment (former s.environment (environment_of o)) [] (test_in block))))) (sym e)
+      (stepped_with_slots (tree_kind tree) s before (judged rest s (value s.environment (former s.environment (environment_of o)) [] (test_in block))))) (sym e)
       (judged_comes rest (value s.environment copy.environment [] (test_in block))
-        (test_judged tree slots c see has s m turn copy u.calls
-          (subst (λ (o : Option Copy). IsPrior tree c u.process s u.calls copy (prior_words o) u.calls) (sym f) prior) block rest u.at b code is left))
+      (test_judged tree slots c see has s m turn copy u.calls
+      (subst (λ (o : Option Copy). IsPrior tree c u.process s u.calls copy (prior_words o) u.calls) (sym f) prior) block rest u.at b code is left))
 
   -- whatever stands first
   command_comes : (command : Command) (rest : List Item) → s.items ≡ Perform command ∷ rest
@@ -156,7 +156,7 @@ module _ (tree : Tree) (slots : List Slot) (c : Code) (cursors : (p : ℕ) → H
       let channel = channel_number tree name.text in
       took_comes (Perform (Receiving name to otherwise) ∷ rest) e (λ t. before) _ (receipt_slots channel otherwise)
       (receiving_took tree slots c see has s m turn channels edition name to otherwise rest u.at b
-        (receiver channel is.0.there (ap (λ items. receives_on (wants_first tree items)) e ∙ receipt_on channel otherwise)) (may_receive channel otherwise message may) code is left)
+      (receiver channel is.0.there (ap (λ items. receives_on (wants_first tree items)) e ∙ receipt_on channel otherwise)) (may_receive channel otherwise message may) code is left)
   command_comes (Conditional test body otherwise) rest e (b, code, is, left) may =
       took_comes (Perform (Conditional test body otherwise) ∷ rest) e (λ t. before) _ (λ t. refl)
       (conditional_took tree slots c see has s m turn edition test body otherwise rest u.at b code is left)

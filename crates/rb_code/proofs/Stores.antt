@@ -78,11 +78,11 @@ module _ (tree : Tree) (slots : List Slot) (c : Code) (see : Sight) (has : HasCu
 
   -- A value goes to the place of a reference: first the place's index, then the value, then it is stored.
   module _ (s : State) (m : Memory) (turn : InTurn tree slots c see has s m) (valued : Template) (r : Result ℤ Cause) (g : Memory) (same_calls : g.calls ≡ m.calls)
-           (value_comes : (a b : ℕ) (set : List (Option Counting)) (os : List ℤ) → length set ≡ 2 → valued c a b
-              → Comes c see 0 a os (recounted set m) b (λ y. y ∷ os) (λ y. g) r)
-           (stored : State → Slots) (h : List ℕ × ℕ → ℤ → Result State Cause) (b : ℕ)
-           (go : (x : List ℕ) (at : Lying) → lying (frames_of s) x ≡ Some at → (k : ℕ) → k < words_lying at → (y : ℤ) (later : List (Option Counting)) → length later ≡ 2
-              → Took tree slots c see has b [] (written (place_lying (part_of c see.process) m.calls at + k) y (recounted later g)) stored (h (x, k) y)) where
+      (value_comes : (a b : ℕ) (set : List (Option Counting)) (os : List ℤ) → length set ≡ 2 → valued c a b
+      → Comes c see 0 a os (recounted set m) b (λ y. y ∷ os) (λ y. g) r)
+      (stored : State → Slots) (h : List ℕ × ℕ → ℤ → Result State Cause) (b : ℕ)
+      (go : (x : List ℕ) (at : Lying) → lying (frames_of s) x ≡ Some at → (k : ℕ) → k < words_lying at → (y : ℤ) (later : List (Option Counting)) → length later ≡ 2
+      → Took tree slots c see has b [] (written (place_lying (part_of c see.process) m.calls at + k) y (recounted later g)) stored (h (x, k) y)) where
     many_of : (later : List (Option Counting)) → length later ≡ length m.counters → length later ≡ 2
     many_of later many = many ∙ turn.two
 
@@ -93,14 +93,14 @@ module _ (tree : Tree) (slots : List Slot) (c : Code) (see : Sight) (has : HasCu
     index_took name is d1 d2 k later two value_code last l =
         let at_word = place_lying (part_of c see.process) m.calls is.at + k in
         let is_there : place c see g.calls (spot_of slots name.id) + k ≡ place_lying (part_of c see.process) m.calls is.at + k =
-          ap (λ n. n + k) (ap (λ cs. place c see cs (spot_of slots name.id)) same_calls ∙ ap (λ z. place c see m.calls z) (array_spot slots name.id is.at is.slot)
-          ∙ place_is c see m.calls is.at) in
+        ap (λ n. n + k) (ap (λ cs. place c see cs (spot_of slots name.id)) same_calls ∙ ap (λ z. place c see m.calls z) (array_spot slots name.id is.at is.slot)
+        ∙ place_is c see m.calls is.at) in
         took_on tree slots c see has d1 d2 (pos k ∷ []) (recounted later m) (λ y. y ∷ pos k ∷ []) (λ y. g) stored r (λ y. h (name.text, k) y)
         (value_comes d1 d2 later (pos k ∷ []) two value_code)
         (λ y newer e many. took_from tree slots c see has d2 b (y ∷ pos k ∷ []) [] (recounted newer g) (written at_word y (recounted newer g)) stored (h (name.text, k) y)
-          (passes c see (StoreAt (spot_of slots name.id)) d2 b (y ∷ pos k ∷ []) [] (recounted newer g) (written at_word y (recounted newer g)) last
-            (ap (λ n. Going (d2 + 1) [] (written n y (recounted newer g))) is_there))
-          (go name.text is.at is.found k (subst (λ n. k < n) (array_elements slots name.id is.at is.slot) l) y newer (many ∙ two)))
+        (passes c see (StoreAt (spot_of slots name.id)) d2 b (y ∷ pos k ∷ []) [] (recounted newer g) (written at_word y (recounted newer g)) last
+        (ap (λ n. Going (d2 + 1) [] (written n y (recounted newer g))) is_there))
+        (go name.text is.at is.found k (subst (λ n. k < n) (array_elements slots name.id is.at is.slot) l) y newer (many ∙ two)))
 
     store_scalar : (name : Identifier) (a : ℕ) → IsScalar slots (frames_of s) name → StoreCode slots (Refer name Scalar) valued c a b
         → Took tree slots c see has a [] m stored (and_then (place_in s.environment (Refer name Scalar)) (λ place. and_then r (λ y. h place y)))
@@ -108,13 +108,13 @@ module _ (tree : Tree) (slots : List Slot) (c : Code) (see : Sight) (has : HasCu
         let at_word = place_lying (part_of c see.process) m.calls is.at + 0 in
         let none : place_lying (part_of c see.process) m.calls is.at ≡ place_lying (part_of c see.process) m.calls is.at + 0 = omega arith in
         let is_there : place c see g.calls (spot_of slots name.id) ≡ place_lying (part_of c see.process) m.calls is.at + 0 =
-          ap (λ cs. place c see cs (spot_of slots name.id)) same_calls ∙ ap (λ z. place c see m.calls z) (scalar_spot slots name.id is.at is.slot)
-          ∙ place_is c see m.calls is.at ∙ none in
+        ap (λ cs. place c see cs (spot_of slots name.id)) same_calls ∙ ap (λ z. place c see m.calls z) (scalar_spot slots name.id is.at is.slot)
+        ∙ place_is c see m.calls is.at ∙ none in
         took_on tree slots c see has a d [] m (λ y. y ∷ []) (λ y. g) stored r (λ y. h (name.text, 0) y) (value_comes a d m.counters [] turn.two code)
         (λ y later e many. took_from tree slots c see has d b (y ∷ []) [] (recounted later g) (written at_word y (recounted later g)) stored (h (name.text, 0) y)
-          (passes c see (Store (spot_of slots name.id)) d b (y ∷ []) [] (recounted later g) (written at_word y (recounted later g)) last
-            (ap (λ k. Going (d + 1) [] (written k y (recounted later g))) is_there))
-          (go name.text is.at is.found 0 (let one : words_lying is.at ≡ 1 = is.one_word in omega (arith, one)) y later (many_of later many)))
+        (passes c see (Store (spot_of slots name.id)) d b (y ∷ []) [] (recounted later g) (written at_word y (recounted later g)) last
+        (ap (λ k. Going (d + 1) [] (written k y (recounted later g))) is_there))
+        (go name.text is.at is.found 0 (let one : words_lying is.at ≡ 1 = is.one_word in omega (arith, one)) y later (many_of later many)))
 
     -- an element, whose index stands below the value
     store_element : (name : Identifier) (index : Expression) (a : ℕ) → IsArray slots (frames_of s) name → ExpressionInFrames slots (frames_of s) index
@@ -125,13 +125,13 @@ module _ (tree : Tree) (slots : List Slot) (c : Code) (see : Sight) (has : HasCu
         same_took tree slots c see has a [] m stored
         (and_then (present_value s.environment index) (λ i. and_then (index_in (values_of s.environment name.text) i) (λ n. and_then r (λ y. h (name.text, n) y)))) _
         (sym (then_then (present_value s.environment index) (λ i. and_then (index_in (values_of s.environment name.text) i) places) (λ place. and_then r (λ y. h place y))
-          ∙ and_then_same {B = State} (present_value s.environment index) _ _ (λ i. then_then (index_in (values_of s.environment name.text) i) places (λ place. and_then r (λ y. h place y)))))
+        ∙ and_then_same {B = State} (present_value s.environment index) _ _ (λ i. then_then (index_in (values_of s.environment name.text) i) places (λ place. and_then r (λ y. h place y)))))
         (took_on tree slots c see has a d [] m (λ y. y ∷ []) (λ y. m) stored (present_value s.environment index) _
-          (plain_comes s m turn index fits a d m.counters [] turn.two code)
-          (λ i later e many. bound_took (elements_of slots name.id) d d1 (values_of s.environment name.text) i [] (recounted later m) stored
-            (λ n. and_then r (λ y. h (name.text, n) y)) bound
-            (array_values c see (frames_of s) m.calls s.environment m.words slots name (finds s m turn.words_meet) is)
-            (λ k l. index_took name is d1 d2 k later (many_of later many) value_code last l)))
+        (plain_comes s m turn index fits a d m.counters [] turn.two code)
+        (λ i later e many. bound_took (elements_of slots name.id) d d1 (values_of s.environment name.text) i [] (recounted later m) stored
+        (λ n. and_then r (λ y. h (name.text, n) y)) bound
+        (array_values c see (frames_of s) m.calls s.environment m.words slots name (finds s m turn.words_meet) is)
+        (λ k l. index_took name is d1 d2 k later (many_of later many) value_code last l)))
 
     pub store_took : (to : Reference) (a : ℕ) → ReferenceInFrames slots (frames_of s) (IsScalar slots (frames_of s)) to → StoreCode slots to valued c a b
         → Took tree slots c see has a [] m stored (and_then (place_in s.environment to) (λ place. and_then r (λ y. h place y)))

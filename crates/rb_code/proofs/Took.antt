@@ -60,7 +60,7 @@ module _ (tree : Tree) (c : Code) (p : ℕ) (has : HasCursors c p) where
       → WordsMeet tree c p (with_environment env s) others opened
   words_again s all calls w env others opened l same few =
       let kept : (k : ℕ) → k < variables_place (part_of c p) → word_at others k ≡ word_at all k =
-        λ k h. same_front (part_of c p) w.front s.environment env all others calls opened k w.laid l h in
+      λ k h. same_front (part_of c p) w.front s.environment env all others calls opened k w.laid l h in
       record {
         front = w.front;
         laid = l;
@@ -151,15 +151,20 @@ module _ (tree : Tree) (slots : List Slot) (c : Code) (see : Sight) (has : HasCu
       let shorter = r.shorter in
       let few = w.few in
       let fewer : words env ≤ most_words c.edition =
-        omega (arith, shorter, few, laid_long (part_of c p) w.front env r.words r.opened r.laid,
-          laid_long (part_of c p) w.front s.environment m.words m.calls w.laid) in
+      omega (
+        arith,
+        shorter,
+        few,
+        laid_long (part_of c p) w.front env r.words r.opened r.laid,
+        laid_long (part_of c p) w.front s.environment m.words m.calls w.laid,
+      ) in
       record {
         to = r.to;
         later = with_calls r.words r.opened m;
         ends = leads_to_end c see r.leads (stops_here r.to (with_calls r.words r.opened m) r.stops);
         meets = record {
           words_meet = words_continue tree c p has (with_environment env s) r.words r.opened (settle_items s.items s.environment).0
-            (words_again tree c p has s m.words m.calls w env r.words r.opened r.laid (ap shape_of (settle_globals s.items s.environment)) fewer);
+              (words_again tree c p has s m.words m.calls w env r.words r.opened r.laid (ap shape_of (settle_globals s.items s.environment)) fewer);
           left = r.left;
         };
         settled = r.settled;
