@@ -1,25 +1,24 @@
 -- An acceptance test comes to the same in the meaning and in the machine.
-use Rattle.std.proofs.Common.{◌≡◌, ℕ, zero, suc, ◌+◌, ℤ, cond, Bool, true, false, List, [], ◌∷◌, length, slice_get, Option, Some, None, Result, Ok, Err, refl, sym, ap, ◌∙◌, subst}
+use Rattle.std.proofs.Common.{◌≡◌, ℕ, ◌+◌, ℤ, cond, Bool, true, false, List, [], ◌∷◌, Option, Result, Ok, Err, refl, sym, ap, subst}
 use Rattle.rb_base.specs.declared.event.Cause.{Cause}
 use Rattle.rb_base.specs.declared.event.Cause.TheVariants.{Test as TestCause}
 use Rattle.rb_syntax.specs.Tree.{RecoveryBlock, Recovers, Tree}
-use Rattle.rb_meaning.specs.Environment.{Environment}
 use Rattle.rb_meaning.specs.Value.{is_zero, value}
-use Rattle.rb_meaning.specs.State.{Item, State, TestOf, continue_with}
+use Rattle.rb_meaning.specs.State.{Item, State, continue_with}
 use Rattle.rb_meaning.specs.Step.{test_in}
 use Rattle.rb_scope.specs.Frames.{in_acceptance}
 use Rattle.rb_scope.specs.declared.slot.Slot.{Slot}
 use Rattle.rb_code.specs.Plain.{Code}
 use Rattle.rb_code.specs.Memory.{Counting, Memory, OpenCall, part_of}
-use Rattle.rb_code.specs.Act.{Accepts, Outcome, Sight, Trapped, act}
+use Rattle.rb_code.specs.Act.{Accepts, Sight, Trapped, act}
 use Rattle.rb_code.specs.Template.{One}
 use Rattle.rb_code.specs.Forms.{ExpressionCode}
 use Rattle.rb_code.specs.declared.instr.Instr.TheVariants.{Test}
-use Rattle.rb_code.proofs.Leads.{EndsIn, Leads, ends, leads_to_end}
-use Rattle.rb_code.proofs.Comes.{Comes, Gives, recounted}
+use Rattle.rb_code.proofs.Leads.{EndsIn, ends, leads_to_end}
+use Rattle.rb_code.proofs.Comes.{Gives, recounted}
 use Rattle.rb_code.proofs.LaidOut.{running, stacks_of}
 use Rattle.rb_code.proofs.Left.{Left, TestCode, TestInFrames, own_shape}
-use Rattle.rb_code.proofs.Meets.{IsPrior, Meets, WordsMeet}
+use Rattle.rb_code.proofs.Meets.{IsPrior, Meets}
 use Rattle.rb_code.proofs.Environments.{laid_finds}
 use Rattle.rb_code.proofs.Expressions.{expression_comes}
 use Rattle.rb_code.proofs.Found.{Finds}

@@ -1,9 +1,8 @@
 -- The start of an alternate does the same in the meaning and in the machine, and so does `fail`.
-use Rattle.std.proofs.Common.{◌≡◌, ◌⊎◌, inl, inr, ℕ, zero, suc, ◌+◌, ℤ, List, [], ◌∷◌, length, slice_get, Option, Some, None, Result, Ok, Err, refl, sym, ap, ◌∙◌, subst, arith}
-use Rattle.rb_base.specs.declared.event.Cause.{Cause}
+use Rattle.std.proofs.Common.{◌≡◌, inl, inr, ℕ, zero, suc, ◌+◌, List, [], ◌∷◌, slice_get, Option, Some, None, refl, sym, ap, ◌∙◌, subst}
 use Rattle.rb_base.specs.declared.event.Cause.TheVariants.{Fail as FailCause}
 use Rattle.rb_world.proofs.ListFacts.{none_some, some_same}
-use Rattle.rb_syntax.specs.Tree.{Alternates, NoAlternate, Alternate, Body, Command, Failure, RecoveryBlock, Recovers, Tree}
+use Rattle.rb_syntax.specs.Tree.{Alternates, NoAlternate, Alternate, Body, Failure, RecoveryBlock, Recovers, Tree}
 use Rattle.rb_meaning.specs.State.{Item, State, TestOf}
 use Rattle.rb_meaning.specs.Step.{alternate_number, alternates_in, performs, pushes, starts_body}
 use Rattle.rb_scope.specs.Frames.{Frames}
@@ -11,10 +10,10 @@ use Rattle.rb_scope.specs.InFrames.{AlternatesInFrames, BodyInFrames, RecoveryIn
 use Rattle.rb_scope.specs.declared.slot.Slot.{Slot}
 use Rattle.rb_code.specs.Plain.{Block, Code}
 use Rattle.rb_code.specs.Memory.{Memory}
-use Rattle.rb_code.specs.Act.{Going, Outcome, Sight, Trapped, act, alternate_address, if_there}
+use Rattle.rb_code.specs.Act.{Going, Sight, Trapped, alternate_address, if_there}
 use Rattle.rb_code.specs.Template.{One, ◌⨾◌}
 use Rattle.rb_code.specs.Forms.{AlternatesCode, BodyCode, CommandCode, ExpressionCode, OthersCode, Owner}
-use Rattle.rb_code.specs.declared.instr.Instr.TheVariants.{Fail, Jump, Start, Test, Turn}
+use Rattle.rb_code.specs.declared.instr.Instr.TheVariants.{Fail, Start, Test, Turn}
 use Rattle.rb_code.proofs.Leads.{ends, goes}
 use Rattle.rb_code.proofs.LaidOut.{stacks_of}
 use Rattle.rb_code.proofs.Left.{Left, Onward, StartCode, owner_of}

@@ -1,18 +1,16 @@
 -- An assignment does the same in the meaning and in the machine.
-use Rattle.std.proofs.Common.{◌≡◌, ◌<◌, ◌≤◌, ℕ, zero, suc, ◌+◌, ℤ, pos, List, [], ◌∷◌, length, slice_set, Option, Some, Result, Ok, refl, sym, ap, ◌∙◌, subst, arith}
+use Rattle.std.proofs.Common.{◌≡◌, ◌<◌, ◌≤◌, ℕ, ◌+◌, ℤ, List, [], slice_set, Some, Ok, refl, sym, subst, arith}
 use Rattle.std.proofs.lemmas.List.{length-set}
-use Rattle.rb_base.specs.declared.event.Cause.{Cause}
 use Rattle.rb_base.specs.Limits.{most_words}
-use Rattle.rb_world.specs.Slots.{Slots}
 use Rattle.rb_syntax.specs.Tree.{Assignment, Expression, Reference, Tree}
-use Rattle.rb_meaning.specs.Environment.{Environment, store, words}
+use Rattle.rb_meaning.specs.Environment.{store, words}
 use Rattle.rb_meaning.specs.State.{Item, State, continue_with, with_environment}
 use Rattle.rb_meaning.specs.Step.{performs, present_value, put_at}
 use Rattle.rb_scope.specs.Frames.{Lying, lying, words_lying}
 use Rattle.rb_scope.specs.InFrames.{CommandInFrames}
 use Rattle.rb_scope.specs.declared.slot.Slot.{Slot}
 use Rattle.rb_code.specs.Plain.{Code}
-use Rattle.rb_code.specs.Memory.{Counting, Memory, OpenCall, part_of, written}
+use Rattle.rb_code.specs.Memory.{Memory, OpenCall, part_of, written}
 use Rattle.rb_code.specs.Act.{Sight}
 use Rattle.rb_code.specs.Forms.{CommandCode, ExpressionCode, StoreCode}
 use Rattle.rb_code.proofs.Comes.{recounted}

@@ -1,26 +1,20 @@
 -- A block, an `if` and a `while` begin the same in the meaning and in the machine.
-use Rattle.std.proofs.Common.{◌≡◌, ◌⊎◌, inl, inr, ◌<◌, ◌≤◌, ℕ, zero, suc, ◌+◌, ℤ, pos, nat_lt, cond, Bool, true, false, List, [], ◌∷◌, ◌++◌, length, replicate, slice_get, Option, Some, Result, Ok, Err, refl, sym, ap, ◌∙◌, subst, arith, length-append}
+use Rattle.std.proofs.Common.{◌≡◌, ◌≤◌, ℕ, ◌+◌, pos, nat_lt, cond, Bool, true, false, List, [], ◌∷◌, ◌++◌, length, replicate, Option, Ok, Err, refl, sym, subst, arith, length-append}
 use Rattle.std.proofs.lemmas.Bool.Decides.{nat_tests}
 use Rattle.std.proofs.lemmas.List.{length-replicate}
-use Rattle.rb_base.specs.declared.event.Cause.{Cause}
 use Rattle.rb_base.specs.declared.event.Cause.TheVariants.{Stack}
 use Rattle.rb_base.specs.Limits.{most_words}
-use Rattle.rb_world.specs.Slots.{Slots}
-use Rattle.rb_syntax.specs.Tree.{Body, Scope, Command, Commands, Conditional, Loop, Declaration, Expression, Otherwise, NoElse, Else, Tree}
+use Rattle.rb_syntax.specs.Tree.{Body, Scope, Commands, Declaration, Tree}
 use Rattle.rb_meaning.specs.Environment.{Environment, frame_of, frame_words, push_frame, words}
-use Rattle.rb_meaning.specs.Value.{and_then, is_zero}
-use Rattle.rb_meaning.specs.State.{Item, Perform, EndBlock, State, continue_with, performed, with_environment}
-use Rattle.rb_meaning.specs.Step.{chooses, performs, present_value, pushes, pushes_else, repeats, within_words}
-use Rattle.rb_scope.specs.Frames.{Shape, shape_of, shape_words}
-use Rattle.rb_scope.specs.InFrames.{BodyInFrames, CommandInFrames, CommandsInFrames, ExpressionInFrames, OtherwiseInFrames}
+use Rattle.rb_meaning.specs.State.{Item, EndBlock, State, continue_with, performed, with_environment}
+use Rattle.rb_meaning.specs.Step.{pushes}
+use Rattle.rb_scope.specs.Frames.{shape_of}
+use Rattle.rb_scope.specs.InFrames.{BodyInFrames, CommandsInFrames}
 use Rattle.rb_scope.specs.declared.slot.Slot.{Slot}
 use Rattle.rb_code.specs.Plain.{Code}
-use Rattle.rb_code.specs.Memory.{Counting, Memory, OpenCall, framed, part_of, variables_place}
-use Rattle.rb_code.specs.Act.{Sight, Trapped}
-use Rattle.rb_code.specs.Template.{Template, One, ◌⨾◌, At}
-use Rattle.rb_code.specs.Forms.{BodyCode, BranchesCode, CommandCode, CommandsCode, DropCode, ExpressionCode, FrameCode, IfCode, IfElseCode, WhileCode}
-use Rattle.rb_code.specs.declared.instr.Instr.TheVariants.{Jump, JumpZero, Turn}
-use Rattle.rb_code.proofs.Leads.{EndsIn, Leads}
+use Rattle.rb_code.specs.Memory.{Counting, Memory, framed, part_of, variables_place}
+use Rattle.rb_code.specs.Act.{Sight}
+use Rattle.rb_code.specs.Forms.{BodyCode, CommandCode, CommandsCode, DropCode}
 use Rattle.rb_code.proofs.Comes.{recounted}
 use Rattle.rb_code.proofs.LaidOut.{Laid, running, stacks_of}
 use Rattle.rb_code.proofs.Meets.{WordsMeet}
@@ -28,9 +22,8 @@ use Rattle.rb_code.proofs.Left.{Left, Onward, frames_at, owner_of}
 use Rattle.rb_code.proofs.Environments.{laid_long}
 use Rattle.rb_code.proofs.Pushed.{laid_pushed}
 use Rattle.rb_code.proofs.BlocksBegin.{HasMain, commands_left, frame_and_shape, frame_leads, frame_traps, has_main, push_stacks}
-use Rattle.rb_code.proofs.Loops.{jumps_zero, passes_zero}
-use Rattle.rb_code.proofs.Stores.{frames_of, plain_comes}
-use Rattle.rb_code.proofs.Took.{HasCursors, InTurn, Took, arrives, took_from, took_on, words_again, words_continue}
+use Rattle.rb_code.proofs.Stores.{frames_of}
+use Rattle.rb_code.proofs.Took.{HasCursors, InTurn, Took, arrives, took_from, words_again, words_continue}
 
 pub not_above : (most w : ℕ) → nat_lt most w ≡ false → w ≤ most
 not_above most w h = grind (arith, nat_tests)

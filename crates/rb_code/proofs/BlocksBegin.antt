@@ -1,31 +1,25 @@
 -- A block that begins: its frame is pushed, or the trap `stack`.
-use Rattle.std.proofs.Common.{◌≡◌, ◌<◌, ◌≤◌, ℕ, zero, suc, ◌+◌, ◌-◌, ℤ, pos, nat_le, nat_lt, cond, Bool, true, false, not, List, [], ◌∷◌, ◌++◌, length, map, replicate, slice_get, Option, Some, Result, Ok, Err, refl, sym, ap, ◌∙◌, subst, arith, length-append, append-nil}
+use Rattle.std.proofs.Common.{◌≡◌, ◌≤◌, ℕ, zero, suc, ◌+◌, ℤ, nat_le, nat_lt, cond, true, false, List, [], ◌∷◌, length, refl, sym, ap, ◌∙◌, subst, arith, append-nil}
 use Rattle.std.proofs.lemmas.Bool.Decides.{nat_tests}
-use Rattle.std.proofs.lemmas.List.{length-replicate}
-use Rattle.rb_base.specs.declared.event.Cause.{Cause}
 use Rattle.rb_base.specs.declared.event.Cause.TheVariants.{Stack}
 use Rattle.rb_base.specs.Limits.{most_words}
-use Rattle.rb_syntax.specs.Tree.{Body, Scope, Command, Commands, NoCommand, Then, Declaration, Tree}
-use Rattle.rb_meaning.specs.Environment.{Environment, Frame, frame_of, frame_words, in_running, push_frame, words}
-use Rattle.rb_meaning.specs.State.{Item, Perform, EndBlock, State, continue_with, performed, with_environment}
-use Rattle.rb_meaning.specs.Step.{pushes, within_words}
+use Rattle.rb_syntax.specs.Tree.{Commands, NoCommand, Then, Tree}
+use Rattle.rb_meaning.specs.Environment.{Environment, Frame, frame_words, in_running}
+use Rattle.rb_meaning.specs.State.{Item, performed}
 use Rattle.rb_scope.specs.Frames.{Shape, shape_of, shape_words}
-use Rattle.rb_scope.specs.InFrames.{BodyInFrames, CommandsInFrames}
+use Rattle.rb_scope.specs.InFrames.{CommandsInFrames}
 use Rattle.rb_scope.specs.declared.slot.Slot.{Slot}
 use Rattle.rb_code.specs.Plain.{Code, Part}
-use Rattle.rb_code.specs.Memory.{Memory, OpenCall, body_place, framed, part_of, variables_place, with_words}
-use Rattle.rb_code.specs.Act.{Going, Sight, Trapped, act, has_words_for, here}
-use Rattle.rb_code.specs.Forms.{BodyCode, CommandCode, CommandsCode, DropCode, FrameCode}
+use Rattle.rb_code.specs.Memory.{Memory, OpenCall, body_place, framed, variables_place, with_words}
+use Rattle.rb_code.specs.Act.{Going, Sight, Trapped, here}
+use Rattle.rb_code.specs.Forms.{CommandCode, CommandsCode, FrameCode}
 use Rattle.rb_code.specs.declared.instr.Instr.TheVariants.{Frame as FrameInstr}
 use Rattle.rb_code.proofs.Leads.{EndsIn, Leads, ends, passes, stays}
-use Rattle.rb_code.proofs.LaidOut.{Based, Laid, flat_frame, running, shapes_of, stacks_of}
+use Rattle.rb_code.proofs.LaidOut.{Based, Laid, running, stacks_of}
 use Rattle.rb_code.proofs.Lying.{frame_long}
-use Rattle.rb_code.proofs.Left.{Left, Onward, frames_at, owner_of}
-use Rattle.rb_code.proofs.Meets.{WordsMeet}
-use Rattle.rb_code.proofs.Environments.{laid_long, words_of_frame}
-use Rattle.rb_code.proofs.Pushed.{laid_pushed, no_body}
-use Rattle.rb_code.proofs.Stores.{frames_of}
-use Rattle.rb_code.proofs.Took.{HasCursors, InTurn, Took, arrives, took_from, words_again, words_continue}
+use Rattle.rb_code.proofs.Left.{Left, frames_at, owner_of}
+use Rattle.rb_code.proofs.Environments.{words_of_frame}
+use Rattle.rb_code.proofs.Pushed.{no_body}
 
 -- as many words by a frame and by its shape
 pub frame_and_shape : (frame : Frame) → shape_words (shape_of frame) ≡ frame_words frame

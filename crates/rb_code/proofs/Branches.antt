@@ -1,18 +1,18 @@
 -- An `if` and a `while` do the same in the meaning and in the machine.
-use Rattle.std.proofs.Common.{◌≡◌, ◌⊎◌, inl, inr, ℕ, ◌+◌, ℤ, cond, Bool, true, false, List, [], ◌∷◌, length, slice_get, Option, Some, Result, Ok, Err, refl, sym, ap, ◌∙◌, subst}
+use Rattle.std.proofs.Common.{◌≡◌, inl, inr, ℕ, ◌+◌, ℤ, cond, Bool, true, false, List, [], ◌∷◌, length, slice_get, Option, Some, Result, Ok, refl, sym, ap, ◌∙◌, subst}
 use Rattle.rb_base.specs.declared.event.Cause.{Cause}
-use Rattle.rb_syntax.specs.Tree.{Body, Command, Conditional, Loop, Expression, Otherwise, NoElse, Else, Tree}
+use Rattle.rb_syntax.specs.Tree.{Body, Conditional, Loop, Expression, Otherwise, NoElse, Else, Tree}
 use Rattle.rb_meaning.specs.Value.{and_then, is_zero}
 use Rattle.rb_meaning.specs.State.{Item, Perform, State, continue_with}
-use Rattle.rb_meaning.specs.Step.{chooses, performs, present_value, pushes, pushes_else, repeats}
+use Rattle.rb_meaning.specs.Step.{chooses, performs, present_value, pushes, repeats}
 use Rattle.rb_scope.specs.InFrames.{BodyInFrames, CommandInFrames, ExpressionInFrames, OtherwiseInFrames}
 use Rattle.rb_scope.specs.declared.slot.Slot.{Slot}
 use Rattle.rb_code.specs.Plain.{Code}
 use Rattle.rb_code.specs.Memory.{Counting, Memory}
 use Rattle.rb_code.specs.Act.{Sight}
-use Rattle.rb_code.specs.Template.{Template, One, ◌⨾◌, At}
-use Rattle.rb_code.specs.Forms.{BodyCode, BranchesCode, CommandCode, ExpressionCode, IfCode, IfElseCode, WhileCode}
-use Rattle.rb_code.specs.declared.instr.Instr.TheVariants.{Jump, JumpZero, Turn}
+use Rattle.rb_code.specs.Template.{One}
+use Rattle.rb_code.specs.Forms.{BodyCode, BranchesCode, CommandCode, ExpressionCode}
+use Rattle.rb_code.specs.declared.instr.Instr.TheVariants.{Jump, JumpZero}
 use Rattle.rb_code.proofs.Comes.{recounted}
 use Rattle.rb_code.proofs.LaidOut.{stacks_of}
 use Rattle.rb_code.proofs.Left.{Left, Onward, owner_of}

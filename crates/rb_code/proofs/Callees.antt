@@ -1,15 +1,15 @@
 -- In code that stands for a resolved tree each procedure stands at its first address.
-use Rattle.std.proofs.Common.{◌≡◌, ℕ, zero, suc, ◌+◌, List, [], ◌∷◌, length, option_map, slice_get, unwrap_or, Option, Some, None, refl, sym, ap, ◌∙◌, subst}
+use Rattle.std.proofs.Common.{◌≡◌, ℕ, zero, suc, List, [], ◌∷◌, length, option_map, slice_get, unwrap_or, Option, Some, None, refl, sym, ap, ◌∙◌, subst}
 use Rattle.rb_world.proofs.ListFacts.{none_some, some_same}
 use Rattle.rb_syntax.specs.Tree.{ProcedureDeclaration, ProcessDeclaration, Tree}
 use Rattle.rb_meaning.specs.Environment.{frame_of}
 use Rattle.rb_meaning.specs.Groups.{procedures_of}
 use Rattle.rb_meaning.specs.Step.{commands_of}
-use Rattle.rb_scope.specs.Frames.{Frames, call_shape, main_frames, procedure_frames, shape_of}
+use Rattle.rb_scope.specs.Frames.{Frames, call_shape, procedure_frames, shape_of}
 use Rattle.rb_scope.specs.InFrames.{CommandsInFrames, ProcedureInFrames, Resolved}
 use Rattle.rb_scope.specs.declared.slot.Slot.{Slot}
 use Rattle.rb_code.specs.Plain.{Code, Part, Procedure}
-use Rattle.rb_code.specs.Memory.{no_part, part_of}
+use Rattle.rb_code.specs.Memory.{no_part}
 use Rattle.rb_code.specs.Forms.{CommandsCode, Owner, ProceduresCode, procedure_start}
 use Rattle.rb_code.specs.StandsFor.{StandsFor}
 use Rattle.rb_code.specs.declared.instr.Instr.TheVariants.{Return}

@@ -1,29 +1,28 @@
 -- A call does the same in the meaning and in the machine: its arguments, and the words of its frame.
-use Rattle.std.proofs.Common.{◌≡◌, ◌⊎◌, inl, inr, ◌<◌, ◌≤◌, ℕ, zero, suc, ◌+◌, ◌-◌, ℤ, pos, nat_le, nat_lt, cond, Bool, true, false, List, [], ◌∷◌, ◌++◌, length, map, replicate, slice_get, unwrap_or, option_map, Option, Some, None, Result, Ok, Err, refl, sym, ap, ◌∙◌, subst, arith, length-append, append_assoc, append-nil}
+use Rattle.std.proofs.Common.{◌≡◌, ℕ, suc, ◌+◌, ℤ, pos, nat_le, nat_lt, cond, Bool, true, false, List, [], ◌∷◌, ◌++◌, length, replicate, slice_get, unwrap_or, option_map, Option, Some, Result, Ok, Err, refl, sym, ap, ◌∙◌, subst, arith, length-append, append_assoc, append-nil}
 use Rattle.std.specs.List.{All}
 use Rattle.std.proofs.lemmas.List.Elements.{All-head, All-tail}
 use Rattle.rb_base.specs.declared.event.Cause.{Cause}
 use Rattle.rb_base.specs.declared.event.Cause.TheVariants.{Calls, Stack}
 use Rattle.rb_base.specs.Limits.{most_words}
-use Rattle.rb_syntax.specs.Tree.{Command, Declaration, Expression, Identifier, Invocation, ProcedureDeclaration, Tree}
-use Rattle.rb_meaning.specs.Environment.{Environment, Frame, Stored, frame_of, frame_words, push_call, words}
+use Rattle.rb_syntax.specs.Tree.{Expression, Identifier, Invocation, ProcedureDeclaration, Tree}
+use Rattle.rb_meaning.specs.Environment.{Environment, Frame, frame_of, frame_words, push_call, words}
 use Rattle.rb_meaning.specs.Value.{and_then}
-use Rattle.rb_meaning.specs.State.{EndCall, Item, Perform, State, continue_with, performed, with_environment}
+use Rattle.rb_meaning.specs.State.{EndCall, Item, State, continue_with, performed, with_environment}
 use Rattle.rb_meaning.specs.Groups.{procedure_named, procedures_of}
-use Rattle.rb_meaning.specs.Step.{bound_to, calls_with, commands_of, invokes, most_calls, open_calls, performs, present_value, values_in, variables_of, within_words}
-use Rattle.rb_scope.specs.Frames.{Shape, Sized, call_shape, shape_of, shape_words}
-use Rattle.rb_scope.specs.InFrames.{CommandInFrames, CommandsInFrames, ExpressionInFrames, IsProcedure}
+use Rattle.rb_meaning.specs.Step.{bound_to, calls_with, commands_of, most_calls, open_calls, performs, present_value, values_in, variables_of}
+use Rattle.rb_scope.specs.Frames.{Shape, Sized, call_shape, shape_of}
+use Rattle.rb_scope.specs.InFrames.{CommandInFrames, CommandsInFrames, ExpressionInFrames}
 use Rattle.rb_scope.specs.declared.slot.Slot.{Slot}
 use Rattle.rb_code.specs.Plain.{Code, Part}
 use Rattle.rb_code.specs.Memory.{Counting, Memory, OpenCall, body_place, called, part_of, variables_place}
 use Rattle.rb_code.specs.Act.{Going, Sight, Trapped, act, arguments, below, has_words_for}
 use Rattle.rb_code.specs.Slots.{procedure_in, procedure_of}
-use Rattle.rb_code.specs.Template.{One}
-use Rattle.rb_code.specs.Forms.{ArgumentsCode, CallCode, CommandCode, CommandsCode, ExpressionCode, procedure_start, procedure_words}
+use Rattle.rb_code.specs.Forms.{ArgumentsCode, CommandCode, CommandsCode, procedure_start, procedure_words}
 use Rattle.rb_code.specs.declared.instr.Instr.TheVariants.{Call, Return}
-use Rattle.rb_code.proofs.Leads.{Leads, ends, goes, leads_on, passes, stays}
-use Rattle.rb_code.proofs.Comes.{Comes, KeptBelow, comes_on, kept_here, recounted}
-use Rattle.rb_code.proofs.LaidOut.{Based, Laid, flat_frame, running, shapes_of, stacks_of}
+use Rattle.rb_code.proofs.Leads.{Leads, ends, goes, stays}
+use Rattle.rb_code.proofs.Comes.{Comes, comes_on, kept_here, recounted}
+use Rattle.rb_code.proofs.LaidOut.{Based, Laid, flat_frame, shapes_of, stacks_of}
 use Rattle.rb_code.proofs.Left.{Left, frames_at, owner_of}
 use Rattle.rb_code.proofs.Meets.{WordsMeet}
 use Rattle.rb_code.proofs.Environments.{laid_long}

@@ -1,14 +1,14 @@
 -- Where the machine comes to with what a result gives: to an address with a value, or to a trap. Counters of quantified expressions
 -- around are as they were; what others hold is of no account.
-use Rattle.std.proofs.Common.{◌≡◌, ◌<◌, ◌≤◌, ℕ, zero, suc, ◌+◌, ℤ, List, [], ◌∷◌, length, slice_get, Option, Some, None, Result, Ok, Err, refl, sym, ap, ◌∙◌, subst, arith}
+use Rattle.std.proofs.Common.{◌≡◌, ◌<◌, ◌≤◌, ℕ, ◌+◌, ℤ, List, ◌∷◌, length, slice_get, Option, Result, Ok, Err, refl, ◌∙◌, subst, arith}
 use Rattle.rb_base.specs.declared.event.Cause.{Cause}
 use Rattle.rb_meaning.specs.Value.{and_then}
 use Rattle.rb_code.specs.Plain.{Code}
 use Rattle.rb_code.specs.Memory.{Counting, Memory}
-use Rattle.rb_code.specs.Act.{Going, Outcome, Sight, Trapped, act, or_trap}
+use Rattle.rb_code.specs.Act.{Going, Sight, Trapped, act, or_trap}
 use Rattle.rb_code.specs.Template.{One}
 use Rattle.rb_code.specs.declared.instr.Instr.{Instr}
-use Rattle.rb_code.proofs.Leads.{EndsIn, Leads, ends, leads_on, leads_to_end, passes, stays}
+use Rattle.rb_code.proofs.Leads.{EndsIn, Leads, ends, leads_on, leads_to_end, passes}
 
 -- other counters
 abbrev pub recounted : List (Option Counting) → Memory → Memory

@@ -1,11 +1,11 @@
 -- The counters of quantified expressions: those that the meaning knows by name are set in the machine, each under its number.
-use Rattle.std.proofs.Common.{◌≡◌, ◌<◌, ◌≤◌, ℕ, zero, suc, ◌+◌, ℤ, List, [], ◌∷◌, length, slice_get, slice_set, cond, Bool, true, false, Option, Some, None, refl, sym, ap, ◌∙◌, subst, arith}
+use Rattle.std.proofs.Common.{◌≡◌, ◌<◌, ◌≤◌, ℕ, zero, suc, ℤ, List, [], ◌∷◌, length, slice_get, slice_set, cond, Bool, true, false, Option, Some, None, refl, sym, ap, ◌∙◌, subst, arith}
 use Rattle.std.proofs.lemmas.List.{length-set}
 use Rattle.rb_world.proofs.ListFacts.{none_some, some_same}
 use Rattle.rb_meaning.specs.Environment.{same_name}
 use Rattle.rb_meaning.specs.Value.{Counters, counter_of}
 use Rattle.rb_scope.specs.Frames.{counter_among}
-use Rattle.rb_code.specs.Memory.{Counting, Memory}
+use Rattle.rb_code.specs.Memory.{Counting}
 use Rattle.rb_code.proofs.Comes.{KeptBelow}
 
 -- a counter is set to this number

@@ -1,5 +1,5 @@
 -- A cursor that rises: one more value is sent on a channel, or taken from it.
-use Rattle.std.proofs.Common.{◌≡◌, ◌⊎◌, inl, inr, ◌<◌, ◌≤◌, ℕ, zero, suc, ◌+◌, ℤ, pos, ◌+ℤ◌, nat_eq, Bool, true, false, List, [], ◌∷◌, ◌++◌, length, option_map, slice_get, slice_set, unwrap_or, Option, Some, None, refl, sym, ap, ◌∙◌, subst, arith}
+use Rattle.std.proofs.Common.{◌≡◌, ◌⊎◌, inl, inr, ◌<◌, ℕ, ◌+◌, ℤ, pos, ◌+ℤ◌, nat_eq, Bool, true, false, List, [], ◌∷◌, ◌++◌, length, option_map, slice_get, slice_set, unwrap_or, Some, refl, sym, ap, ◌∙◌, subst, arith}
 use Rattle.std.proofs.lemmas.Bool.{eqb-true, eqb-false}
 use Rattle.std.proofs.lemmas.Int.{ints}
 use Rattle.rb_world.proofs.ListFacts.{length-end, slice_get-change_at, slice_get-change_other, slice_get-there, some_same}
@@ -9,7 +9,7 @@ use Rattle.rb_syntax.specs.Tree.{Tree}
 use Rattle.rb_meaning.specs.State.{State, with_sent, with_taken}
 use Rattle.rb_meaning.specs.Meaning.{sent_on, taken_on}
 use Rattle.rb_code.specs.Plain.{Code}
-use Rattle.rb_code.specs.Memory.{OpenCall, cursor_place, held_place, part_of, variables_place, word_at}
+use Rattle.rb_code.specs.Memory.{OpenCall, cursor_place, held_place, part_of, word_at}
 use Rattle.rb_code.proofs.Environments.{laid_long}
 use Rattle.rb_code.proofs.Fronts.{cursor_apart, laid_written, word_other, word_set}
 use Rattle.rb_code.proofs.Meets.{WordsMeet}

@@ -1,18 +1,18 @@
 -- An environment that lies in words: its variables are found by their places, and a write to a place is a write to the variable.
-use Rattle.std.proofs.Common.{◌≡◌, ◌<◌, ◌≤◌, ℕ, zero, suc, ◌+◌, ◌-◌, ℤ, pos, cond, Bool, true, false, List, [], ◌∷◌, ◌++◌, length, map, option_map, slice_get, slice_set, unwrap_or, Option, Some, None, refl, sym, ap, ◌∙◌, subst, arith, length-append}
+use Rattle.std.proofs.Common.{◌≡◌, ◌<◌, ℕ, ◌+◌, ℤ, pos, cond, Bool, true, false, List, [], ◌∷◌, ◌++◌, length, option_map, slice_get, slice_set, unwrap_or, Option, Some, None, refl, sym, ap, ◌∙◌, subst, arith, length-append}
 use Rattle.std.specs.Prelude.{sum_by}
 use Rattle.std.specs.List.{list_any}
 use Rattle.std.proofs.lemmas.List.{length-set}
 use Rattle.std.proofs.lemmas.List.Sums.{sum_by-cons}
 use Rattle.rb_world.proofs.ListFacts.{none_some, slice_get-there, some_same}
 use Rattle.rb_meaning.specs.Environment.{Environment, Frame, Stored, found, found_among, found_in, frame_words, frames_words, has, in_running, or_else, running_frames, same_name, store, stored_among, stored_in, words}
-use Rattle.rb_scope.specs.Frames.{Frames, Lying, OfCall, OfProcess, Shape, Sized, lies_among, lies_in, lying, shape_of, shape_words, shapes_words, words_lying}
+use Rattle.rb_scope.specs.Frames.{Frames, Lying, OfCall, OfProcess, Shape, Sized, lies_among, lies_in, lying, shape_of, shape_words, words_lying}
 use Rattle.rb_code.specs.Plain.{Part}
-use Rattle.rb_code.specs.Memory.{OpenCall, base_of, body_place, variables_place, word_at}
+use Rattle.rb_code.specs.Memory.{OpenCall, base_of, body_place, variables_place}
 use Rattle.rb_code.proofs.LaidOut.{Based, Laid, flat, flat_calls, flat_frame, flat_frames, place_lying, running, shapes_of, stacks_of, stacks_words}
-use Rattle.rb_code.proofs.Lying.{Lies, LiesIn, calls_long, frame_lies, frame_long, lies_as, lies_before, lies_behind}
+use Rattle.rb_code.proofs.Lying.{Lies, calls_long, frame_lies, frame_long, lies_as, lies_before, lies_behind}
 use Rattle.rb_code.proofs.LyingInCalls.{frames_have, frames_lie, frames_lost}
-use Rattle.rb_code.proofs.Found.{Finds, IsFound}
+use Rattle.rb_code.proofs.Found.{Finds}
 
 -- how many words an environment has
 pub words_of_frame : (frame : Frame) → length (flat_frame frame) ≡ frame_words frame

@@ -1,30 +1,27 @@
 -- The code of an expression comes to its value, or to its trap.
-use Rattle.std.proofs.Common.{◌≡◌, ◌<◌, ◌≤◌, ℕ, zero, suc, ◌+◌, ℤ, pos, negsuc, neg_ℤ, cond, not, Bool, true, false, List, [], ◌∷◌, length, slice_get, unwrap_or, Option, Some, None, Result, Ok, Err, refl, sym, ap, ◌∙◌, subst, arith}
-use Rattle.rb_base.specs.declared.event.Cause.{Cause}
+use Rattle.std.proofs.Common.{◌≡◌, ◌<◌, ℕ, suc, ◌+◌, ℤ, pos, neg_ℤ, cond, not, Bool, true, false, List, [], ◌∷◌, length, slice_get, unwrap_or, Option, Some, None, Ok, refl, sym, ap, ◌∙◌, subst, arith}
 use Rattle.rb_syntax.specs.declared.expression.Op.{Op}
 use Rattle.rb_syntax.specs.declared.expression.Op.TheVariants as op
-use Rattle.rb_syntax.specs.Tree.{Identifier, Expression, Literal, Variable, Former, Minus, Negation, Chained, Quantification, Reference, Refer, Subscript, Scalar, Element, Links, NoLink, Linked}
-use Rattle.rb_meaning.specs.Environment.{Environment, values_of, values_or_none}
-use Rattle.rb_meaning.specs.Value.{Counters, Outcome as Value, and_then, applied, chained, counter_of, counter_or, decided, element_at, fitting, index_in, is_zero, number_at, operated, read, truth, unless_decided, value}
-use Rattle.rb_scope.specs.Frames.{Frames, Lying, Shape, counter_among, words_lying}
-use Rattle.rb_scope.specs.InFrames.{ExpressionInFrames, IsArray, IsScalar, IsValueBy, LinksInFrames, ReferenceInFrames, most_quantifications}
+use Rattle.rb_syntax.specs.Tree.{Identifier, Expression, Literal, Variable, Former, Minus, Negation, Chained, Quantification, Refer, Scalar, Element, Links, NoLink, Linked}
+use Rattle.rb_meaning.specs.Environment.{Environment, values_of}
+use Rattle.rb_meaning.specs.Value.{Counters, Outcome as Value, and_then, applied, chained, counter_or, decided, element_at, fitting, index_in, is_zero, number_at, operated, read, truth, unless_decided, value}
+use Rattle.rb_scope.specs.Frames.{Frames, Shape, counter_among}
+use Rattle.rb_scope.specs.InFrames.{ExpressionInFrames, IsArray, IsValueBy, LinksInFrames, most_quantifications}
 use Rattle.rb_scope.specs.declared.slot.Slot.{Slot}
 use Rattle.rb_code.specs.Plain.{Code}
-use Rattle.rb_code.specs.Memory.{Counting, Memory, OpenCall, word_at}
-use Rattle.rb_code.specs.Act.{Going, Outcome, Sight, Trapped, act, here, if_there, or_trap, place}
+use Rattle.rb_code.specs.Memory.{Counting, Memory, word_at}
+use Rattle.rb_code.specs.Act.{Going, Sight, act, here, if_there, or_trap, place}
 use Rattle.rb_code.specs.Slots.{counter_in, counter_of as counter_slot, elements_of, quantified_in, quantified_of, spot_of}
 use Rattle.rb_code.specs.Template.{Template, One, ◌⨾◌}
 use Rattle.rb_code.specs.Forms.{AndCode, ExpressionCode, QuantifiedCode, LinksCode, OperatorCode, OrCode, ScalarCode, SubscriptCode}
 use Rattle.rb_code.specs.declared.instr.Instr.{Instr}
 use Rattle.rb_code.specs.declared.instr.Instr.TheVariants as instr
-use Rattle.rb_code.specs.declared.instr.Spot.{Spot}
-use Rattle.rb_code.proofs.Leads.{EndsIn, Leads, ends, leads_on, passes, stays}
+use Rattle.rb_code.proofs.Leads.{Leads, leads_on, passes, stays}
 use Rattle.rb_code.proofs.Comes.{Comes, Gives, KeptBelow, comes_from, comes_on, fewer_kept, kept_here, kept_on, passes_or_traps, recounted, same_comes}
-use Rattle.rb_code.proofs.Counted.{CountersFit, IsSetTo, fit_kept, fit_more, no_number, number_there}
+use Rattle.rb_code.proofs.Counted.{CountersFit, fit_kept, fit_more, no_number, number_there}
 use Rattle.rb_code.proofs.Loops.{counter, from_there, jumps, jumps_zero, passes_zero, pushes, to_there}
 use Rattle.rb_code.proofs.Quantified.{quantified_comes}
-use Rattle.rb_code.proofs.Found.{Finds, IsFound, array_elements, array_spot, array_values, bound_comes, element_value, place_is, scalar_no_counter, scalar_value}
-use Rattle.rb_code.proofs.LaidOut.{place_lying, spot_at}
+use Rattle.rb_code.proofs.Found.{Finds, array_values, bound_comes, element_value, scalar_no_counter, scalar_value}
 
 module _ (c : Code) (see : Sight) (m : Memory) where
   -- an operator behind its left value x, by what its right side gives

@@ -1,24 +1,22 @@
 -- What the code of a name does where the words are those of the environment: the word of a scalar, an element at its index.
-use Rattle.std.proofs.Common.{◌≡◌, ◌<◌, ◌≤◌, ℕ, zero, suc, ◌+◌, ℤ, pos, negsuc, nat_lt, cond, Bool, true, false, List, [], ◌∷◌, length, slice_get, unwrap_or, Option, Some, None, Result, Ok, Err, refl, sym, ap, ◌∙◌, subst, arith}
+use Rattle.std.proofs.Common.{◌≡◌, ◌<◌, ℕ, ◌+◌, ℤ, pos, negsuc, nat_lt, cond, Bool, true, false, List, ◌∷◌, length, slice_get, unwrap_or, Some, None, Result, Ok, Err, refl, sym, ap, ◌∙◌, subst, arith}
 use Rattle.std.proofs.lemmas.Bool.{ltb-true}
 use Rattle.rb_base.specs.declared.event.Cause.{Cause}
 use Rattle.rb_base.specs.declared.event.Cause.TheVariants.{Index}
 use Rattle.rb_syntax.specs.Tree.{Identifier}
 use Rattle.rb_meaning.specs.Environment.{Environment, found, values_of, values_or_none}
-use Rattle.rb_meaning.specs.Value.{Outcome as Value, and_then, index_in, number_at}
+use Rattle.rb_meaning.specs.Value.{and_then, index_in, number_at}
 use Rattle.rb_scope.specs.Frames.{Frames, Lying, OfCall, OfProcess, array_slot, lying, scalar_slot, words_lying}
 use Rattle.rb_scope.specs.InFrames.{IsArray, IsScalar}
 use Rattle.rb_scope.specs.declared.slot.Slot.{Slot}
 use Rattle.rb_code.specs.Plain.{Code, Part}
 use Rattle.rb_code.specs.Memory.{Memory, OpenCall, word_at}
-use Rattle.rb_code.specs.Act.{Going, Outcome, Sight, Trapped, act, here, place, within}
+use Rattle.rb_code.specs.Act.{Going, Sight, Trapped, act, here, place}
 use Rattle.rb_code.specs.Slots.{counter_in, counter_of as counter_slot, elements_in, elements_of, spot_in, spot_of}
 use Rattle.rb_code.specs.Template.{One}
-use Rattle.rb_code.specs.declared.instr.Instr.{Instr}
 use Rattle.rb_code.specs.declared.instr.Instr.TheVariants.{Bound}
-use Rattle.rb_code.specs.declared.instr.Spot.{Spot}
-use Rattle.rb_code.proofs.Leads.{ends, leads_on, passes}
-use Rattle.rb_code.proofs.Comes.{Comes, comes_from, kept_here, recounted}
+use Rattle.rb_code.proofs.Leads.{ends, passes}
+use Rattle.rb_code.proofs.Comes.{Comes, comes_from, kept_here}
 use Rattle.rb_code.proofs.LaidOut.{place_lying, spot_at}
 
 -- The values of a variable are the words where it lies.

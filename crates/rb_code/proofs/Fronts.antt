@@ -1,10 +1,9 @@
 -- Words of the front that are written: the held length and the cursors.
-use Rattle.std.proofs.Common.{◌≡◌, ◌⊎◌, inl, inr, ◌<◌, ◌≤◌, ℕ, zero, suc, ◌+◌, ℤ, pos, nat_eq, cond, Bool, true, false, List, [], ◌∷◌, ◌++◌, length, slice_get, slice_set, unwrap_or, Option, Some, None, refl, sym, ap, ◌∙◌, subst, arith}
+use Rattle.std.proofs.Common.{◌≡◌, ◌<◌, ℕ, zero, suc, ℤ, pos, nat_eq, cond, Bool, true, false, List, [], ◌∷◌, length, slice_get, slice_set, unwrap_or, Some, refl, sym, ap, ◌∙◌, subst, arith}
 use Rattle.std.proofs.lemmas.Bool.{eqb-true}
-use Rattle.std.proofs.lemmas.Bool.Decides.{nat_tests}
 use Rattle.std.proofs.lemmas.List.{length-set, set-append_left}
 use Rattle.rb_meaning.specs.Environment.{Environment}
-use Rattle.rb_code.specs.Plain.{Code, Part}
+use Rattle.rb_code.specs.Plain.{Part}
 use Rattle.rb_code.specs.Memory.{OpenCall, cursor_place, place_among, variables_place, word_at}
 use Rattle.rb_code.proofs.LaidOut.{Laid, flat}
 

@@ -7,11 +7,10 @@ use Rattle.rb_meaning.specs.Groups.{procedures_of}
 use Rattle.rb_scope.specs.Frames.{Frames, Shape, in_acceptance, shape_of, shape_words}
 use Rattle.rb_scope.specs.InFrames.{CommandInFrames, ExpressionInFrames, RecoveryInFrames}
 use Rattle.rb_scope.specs.declared.slot.Slot.{Slot}
-use Rattle.rb_code.specs.Plain.{Block, Code}
+use Rattle.rb_code.specs.Plain.{Code}
 use Rattle.rb_code.specs.Memory.{OpenCall}
 use Rattle.rb_code.specs.Template.{Template, One, ◌⨾◌, At, WithBlock, Only}
 use Rattle.rb_code.specs.Forms.{AlternatesCode, CommandCode, DropCode, ExpressionCode, Owner, TellsOf}
-use Rattle.rb_code.specs.declared.instr.Instr.{Instr}
 use Rattle.rb_code.specs.declared.instr.Instr.TheVariants.{Done, Jump, Return, Start, Test, Turn}
 use Rattle.rb_code.proofs.LaidOut.{running}
 

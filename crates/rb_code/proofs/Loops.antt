@@ -1,18 +1,15 @@
 -- The loops of quantified expressions come to what the meaning counts.
-use Rattle.std.proofs.Common.{◌≡◌, ◌<◌, ◌≤◌, ℕ, zero, suc, ◌+◌, ℤ, pos, ◌+ℤ◌, int_lt, cond, Bool, true, false, List, [], ◌∷◌, length, slice_get, slice_set, unwrap_or, Option, Some, None, Result, Ok, Err, refl, sym, ap, ◌∙◌, subst, arith}
-use Rattle.rb_base.specs.declared.event.Cause.{Cause}
-use Rattle.rb_meaning.specs.Value.{Outcome as Value, and_then, applied, every_from, fitting, is_zero, quantified, some_from, span, sum_from}
-use Rattle.rb_syntax.specs.declared.expression.Op.TheVariants as op
+use Rattle.std.proofs.Common.{◌≡◌, ◌<◌, ℕ, zero, suc, ◌+◌, ℤ, pos, ◌+ℤ◌, int_lt, cond, Bool, true, false, List, ◌∷◌, length, slice_get, slice_set, unwrap_or, Option, Some, None, Ok, refl, sym, ap, ◌∙◌, subst, arith}
+use Rattle.rb_meaning.specs.Value.{Outcome as Value, and_then, every_from, fitting, is_zero, some_from, sum_from}
 use Rattle.rb_code.specs.Plain.{Code}
 use Rattle.rb_code.specs.Memory.{Counting, Memory}
-use Rattle.rb_code.specs.Act.{Going, Outcome, Sight, Trapped, act, counted_on, counting, if_there, on_top, or_trap, ranged}
-use Rattle.rb_code.specs.Template.{One, ◌⨾◌, At}
-use Rattle.rb_code.specs.declared.instr.Instr.{Instr}
-use Rattle.rb_code.specs.declared.instr.Instr.TheVariants.{Add, Again, Jump, JumpZero, Push, Range}
-use Rattle.rb_code.proofs.Leads.{EndsIn, Leads, ends, goes, leads_on, passes, stays}
-use Rattle.rb_code.proofs.Comes.{Comes, KeptBelow, comes_from, comes_inside, comes_on, kept_here, kept_on, passes_or_traps, recounted, same_comes}
+use Rattle.rb_code.specs.Act.{Going, Sight, counted_on, counting, if_there}
+use Rattle.rb_code.specs.Template.{One}
+use Rattle.rb_code.specs.declared.instr.Instr.TheVariants.{Add, Again, Jump, JumpZero, Push}
+use Rattle.rb_code.proofs.Leads.{Leads, goes, leads_on, passes, stays}
+use Rattle.rb_code.proofs.Comes.{Comes, KeptBelow, comes_from, comes_inside, kept_here, kept_on, passes_or_traps, recounted}
 use Rattle.rb_code.proofs.Counted.{is_set, kept_set}
-use Rattle.rb_code.proofs.Spans.{at_end, before_end, one_on, span_is}
+use Rattle.rb_code.proofs.Spans.{at_end, before_end, one_on}
 
 -- a counter that stands at x, with its end
 abbrev pub counter : ℤ → ℤ → Option Counting

@@ -1,11 +1,10 @@
 -- Where the variables of an environment lie among its words: what is read there and what a write does.
-use Rattle.std.proofs.Common.{◌≡◌, ◌<◌, ◌≤◌, ℕ, zero, suc, ◌+◌, ◌-◌, ℤ, pos, cond, Bool, true, false, ◌||◌, List, [], ◌∷◌, ◌++◌, length, map, option_map, slice_get, slice_set, Option, Some, None, refl, sym, ap, ◌∙◌, subst, arith, length-append}
-use Rattle.std.specs.List.{list_any}
-use Rattle.std.proofs.lemmas.List.{length-set, set-append_left, set-append_right}
+use Rattle.std.proofs.Common.{◌≡◌, ◌<◌, ◌≤◌, ℕ, suc, ◌+◌, ◌-◌, ℤ, cond, Bool, true, false, List, [], ◌∷◌, ◌++◌, length, option_map, slice_get, slice_set, Option, Some, None, refl, sym, ap, ◌∙◌, subst, arith, length-append}
+use Rattle.std.proofs.lemmas.List.{set-append_left, set-append_right}
 use Rattle.std.proofs.lemmas.List.Sums.{sum_by-cons}
 use Rattle.rb_world.proofs.ListFacts.{none_some, slice_get-front, some_same}
-use Rattle.rb_meaning.specs.Environment.{Environment, Frame, Stored, found, found_among, found_in, has, or_else, same_name, stored_among, stored_in}
-use Rattle.rb_scope.specs.Frames.{Shape, Sized, lies_among, lies_in, moved, shape_of, shape_words, shapes_words}
+use Rattle.rb_meaning.specs.Environment.{Frame, Stored, found_in, same_name, stored_in}
+use Rattle.rb_scope.specs.Frames.{Sized, lies_in, moved, shape_of, shape_words, shapes_words}
 use Rattle.rb_code.proofs.LaidOut.{flat_calls, flat_frame, flat_frames, shapes_of, stacks_of, stacks_words}
 
 -- the words of a frame are as many as its shape says, and those of frames and calls too

@@ -1,13 +1,11 @@
 -- Where the variables of the running call and of the process lie among the words of an environment.
-use Rattle.std.proofs.Common.{◌≡◌, ◌<◌, ◌≤◌, ℕ, zero, suc, ◌+◌, ◌-◌, ℤ, pos, cond, Bool, true, false, ◌||◌, List, [], ◌∷◌, ◌++◌, length, map, option_map, slice_get, slice_set, Option, Some, None, refl, sym, ap, ◌∙◌, subst, arith}
+use Rattle.std.proofs.Common.{◌≡◌, ℕ, ◌+◌, cond, Bool, true, false, ◌||◌, List, [], ◌∷◌, ◌++◌, length, option_map, Option, Some, None, refl, sym, ap, ◌∙◌, subst}
 use Rattle.std.specs.List.{list_any}
-use Rattle.rb_world.proofs.ListFacts.{none_some, some_same}
-use Rattle.rb_meaning.specs.Environment.{Environment, Frame, Stored, found, found_among, found_in, has, in_running, or_else, running_frames, same_name, store, stored_among, stored_in}
-use Rattle.rb_scope.specs.Frames.{Lying, OfCall, OfProcess, Shape, lies_among, lies_in, moved, shape_of, shape_words, shapes_words, words_lying}
-use Rattle.rb_code.specs.Plain.{Part}
-use Rattle.rb_code.specs.Memory.{OpenCall, base_of, body_place, variables_place}
-use Rattle.rb_code.proofs.LaidOut.{Based, Laid, flat, flat_calls, flat_frame, flat_frames, place_lying, running, shapes_of, stacks_of, stacks_words}
-use Rattle.rb_code.proofs.Lying.{Lies, LiesIn, calls_long, first_is, frame_lies, frame_long, frames_long, lies_as, lies_before, lies_behind, second_is}
+use Rattle.rb_world.proofs.ListFacts.{none_some}
+use Rattle.rb_meaning.specs.Environment.{Frame, found_among, found_in, has, or_else, same_name, stored_among, stored_in}
+use Rattle.rb_scope.specs.Frames.{lies_among, lies_in, moved, shape_of, shapes_words}
+use Rattle.rb_code.proofs.LaidOut.{flat_frame, flat_frames, shapes_of}
+use Rattle.rb_code.proofs.Lying.{Lies, first_is, frame_lies, frames_long, lies_as, lies_before, lies_behind, second_is}
 
 -- a name that a frame does not have
 pub frame_lost : (frame : Frame) (x : List ℕ) → lies_in x (shape_of frame) ≡ None → (found_in x frame ≡ None) × (has x frame ≡ false)

@@ -1,38 +1,33 @@
 -- A `send` and a `receive` do the same in the meaning and in the machine.
-use Rattle.std.proofs.Common.{◌≡◌, ◌⊎◌, inl, inr, ◌<◌, ◌≤◌, ℕ, zero, suc, ◌+◌, ◌%◌, ℤ, pos, ◌+ℤ◌, List, [], ◌∷◌, ◌++◌, length, slice_get, slice_set, unwrap_or, Option, Some, None, Result, Ok, Err, refl, sym, ap, ◌∙◌, subst, arith}
-use Rattle.rb_base.specs.declared.event.Cause.{Cause}
-use Rattle.rb_world.proofs.ListFacts.{none_some, slice_get-end}
-use Rattle.rb_world.specs.Kind.{Ends}
-use Rattle.rb_world.specs.Slots.{Slots, put_slot, slots_after}
-use Rattle.rb_syntax.specs.Tree.{Body, Command, Sending, Receiving, Expression, Identifier, Otherwise, NoElse, Else, Reference, Tree}
-use Rattle.rb_meaning.specs.Environment.{Environment, natural, store}
-use Rattle.rb_meaning.specs.Value.{and_then}
-use Rattle.rb_meaning.specs.State.{Item, Perform, State, continue_with, with_environment, with_taken}
+use Rattle.std.proofs.Common.{◌≡◌, inl, ℕ, ◌+◌, ℤ, pos, List, [], ◌∷◌, length, slice_get, unwrap_or, Option, Some, None, Ok, refl, sym, ap, ◌∙◌, subst}
+use Rattle.rb_world.proofs.ListFacts.{slice_get-end}
+use Rattle.rb_world.specs.Slots.{Slots, put_slot}
+use Rattle.rb_syntax.specs.Tree.{Sending, Receiving, Expression, Identifier, Otherwise, NoElse, Else, Reference, Tree}
+use Rattle.rb_meaning.specs.Environment.{natural, store}
+use Rattle.rb_meaning.specs.State.{Item, State, continue_with, with_environment, with_taken}
 use Rattle.rb_meaning.specs.Groups.{channel_number, channels_of}
-use Rattle.rb_meaning.specs.Step.{performs, place_in, present_value, pushes, pushes_else, put_at, receives, takes}
-use Rattle.rb_meaning.specs.Meaning.{message_number, sent_on, taken_on, tree_kind}
-use Rattle.rb_scope.specs.Frames.{Lying, lying, words_lying}
-use Rattle.rb_scope.specs.InFrames.{BodyInFrames, CommandInFrames, IsChannel, IsScalar, OtherwiseInFrames, ReferenceInFrames}
+use Rattle.rb_meaning.specs.Step.{performs, present_value, pushes, put_at, receives, takes}
+use Rattle.rb_meaning.specs.Meaning.{message_number, sent_on}
+use Rattle.rb_scope.specs.InFrames.{CommandInFrames, IsScalar, OtherwiseInFrames, ReferenceInFrames}
 use Rattle.rb_scope.specs.declared.slot.Slot.{Slot}
 use Rattle.rb_code.specs.Plain.{Code}
-use Rattle.rb_code.specs.Memory.{Counting, Memory, OpenCall, cursor_place, part_of, word_at, written}
+use Rattle.rb_code.specs.Memory.{Memory, cursor_place, part_of, word_at, written}
 use Rattle.rb_code.specs.Act.{Going, Outcome, Sight, act, if_there, put, risen}
 use Rattle.rb_code.specs.Slots.{channel_in, channel_of}
-use Rattle.rb_code.specs.Template.{Template, One, ◌⨾◌, At}
-use Rattle.rb_code.specs.Forms.{BodyCode, CommandCode, ExpressionCode, ReceiptCode, ReceiveCode, ReceiveElseCode, StoreCode}
-use Rattle.rb_code.specs.declared.instr.Instr.TheVariants.{Absent, Jump, Put, Room, Take, There, Turn}
-use Rattle.rb_code.proofs.Leads.{Leads, goes, leads_on, passes, stays}
+use Rattle.rb_code.specs.Template.{One}
+use Rattle.rb_code.specs.Forms.{BodyCode, CommandCode, ReceiptCode, StoreCode}
+use Rattle.rb_code.specs.declared.instr.Instr.TheVariants.{Absent, Put, Room, Take, There}
+use Rattle.rb_code.proofs.Leads.{Leads, goes, passes, stays}
 use Rattle.rb_code.proofs.Comes.{recounted}
-use Rattle.rb_code.proofs.Comes.{Comes, kept_here}
+use Rattle.rb_code.proofs.Comes.{kept_here}
 use Rattle.rb_code.proofs.LaidOut.{place_lying, stacks_of}
 use Rattle.rb_code.proofs.Left.{Left, owner_of}
-use Rattle.rb_code.proofs.Meets.{WordsMeet}
 use Rattle.rb_code.proofs.Loops.{jumps, to_there}
 use Rattle.rb_code.proofs.Stores.{frames_of, plain_comes, store_took}
 use Rattle.rb_code.proofs.Assignments.{left_stored, words_stored}
-use Rattle.rb_code.proofs.Blocks.{block_took, continued_turn, recounted_turn}
+use Rattle.rb_code.proofs.Blocks.{block_took}
 use Rattle.rb_code.proofs.Cursors.{IsReceiver, IsSender, one_sent, one_taken, sent_there, words_sent, words_taken}
-use Rattle.rb_code.proofs.Took.{HasCursors, InTurn, Took, arrives, same_took, took_from, took_on, words_continue}
+use Rattle.rb_code.proofs.Took.{HasCursors, InTurn, Took, arrives, took_from, took_on, words_continue}
 
 module _ (tree : Tree) (slots : List Slot) (c : Code) (see : Sight) (has : HasCursors c see.process) (s : State) (m : Memory) (turn : InTurn tree slots c see has s m)
     (channels : c.channels ≡ channels_of tree) (edition : c.edition ≡ tree.edition) where

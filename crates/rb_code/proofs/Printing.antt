@@ -1,35 +1,32 @@
 -- A `print` does the same in the meaning and in the machine: its pieces are joined to its line, which is held.
-use Rattle.std.proofs.Common.{◌≡◌, ◌⊎◌, inl, inr, ◌<◌, ◌≤◌, ℕ, zero, suc, ◌+◌, ℤ, pos, nat_lt, cond, Bool, true, false, List, [], ◌∷◌, ◌++◌, length, slice_get, slice_set, Option, Some, None, Result, Ok, Err, refl, sym, ap, ◌∙◌, subst, arith, append_assoc, append-nil}
+use Rattle.std.proofs.Common.{◌≡◌, ◌<◌, ℕ, ◌+◌, pos, nat_lt, cond, Bool, true, false, List, [], ◌∷◌, ◌++◌, length, slice_set, Option, Result, Ok, Err, refl, sym, ap, ◌∙◌, subst, arith, append_assoc, append-nil}
 use Rattle.std.specs.List.{All}
 use Rattle.std.specs.Fmt.{signed_decimal}
 use Rattle.std.proofs.lemmas.List.Elements.{All-head, All-tail}
-use Rattle.std.proofs.lemmas.List.{length-set}
 use Rattle.std.proofs.lemmas.List.Sums.{sum_by_push}
 use Rattle.rb_base.specs.declared.event.Cause.{Cause}
 use Rattle.rb_base.specs.declared.event.Cause.TheVariants.{Hold}
-use Rattle.rb_base.specs.Limits.{most_words}
-use Rattle.rb_syntax.specs.Tree.{Command, Printing, Expression, Printed, Words, Amount, PrintItem, Tree}
-use Rattle.rb_meaning.specs.Environment.{Environment, natural, words}
+use Rattle.rb_syntax.specs.Tree.{Printing, Printed, Words, Amount, PrintItem, Tree}
+use Rattle.rb_meaning.specs.Environment.{Environment, natural}
 use Rattle.rb_meaning.specs.Value.{and_then}
 use Rattle.rb_meaning.specs.State.{Item, State, continue_with, with_held}
 use Rattle.rb_meaning.specs.Step.{after_blank, held_bytes, held_with, line_from, most_held, performs, present_value, printed}
 use Rattle.rb_scope.specs.InFrames.{CommandInFrames, PrintedInFrames}
 use Rattle.rb_scope.specs.declared.slot.Slot.{Slot}
 use Rattle.rb_code.specs.Plain.{Code}
-use Rattle.rb_code.specs.Memory.{Counting, Memory, OpenCall, held_place, part_of, variables_place, word_at}
-use Rattle.rb_code.specs.Act.{Going, Outcome, Sight, Trapped, act, if_there, joined_pieces, line_held, printed as prints_line}
+use Rattle.rb_code.specs.Memory.{Counting, Memory, held_place, part_of, word_at}
+use Rattle.rb_code.specs.Act.{Going, Sight, Trapped, act, if_there, joined_pieces, line_held, printed as prints_line}
 use Rattle.rb_code.specs.Template.{One}
-use Rattle.rb_code.specs.Forms.{CommandCode, ExpressionCode, ItemsCode, PrintedCode}
+use Rattle.rb_code.specs.Forms.{CommandCode, ItemsCode, PrintedCode}
 use Rattle.rb_code.specs.declared.instr.Instr.TheVariants.{Item as ItemInstr, Print, Text}
 use Rattle.rb_code.proofs.Leads.{Leads, ends, passes, stays}
-use Rattle.rb_code.proofs.Comes.{Comes, KeptBelow, comes_on, kept_here, recounted}
-use Rattle.rb_code.proofs.LaidOut.{Laid, stacks_of}
+use Rattle.rb_code.proofs.Comes.{Comes, comes_on, kept_here, recounted}
+use Rattle.rb_code.proofs.LaidOut.{stacks_of}
 use Rattle.rb_code.proofs.Left.{Left, owner_of}
 use Rattle.rb_code.proofs.Meets.{WordsMeet}
 use Rattle.rb_code.proofs.Environments.{laid_long}
 use Rattle.rb_code.proofs.Fronts.{laid_written, word_other, word_set}
 use Rattle.rb_code.proofs.Stores.{and_then_same, frames_of, plain_comes, then_then}
-use Rattle.rb_code.proofs.Blocks.{recounted_turn}
 use Rattle.rb_code.proofs.Took.{HasCursors, InTurn, Took, arrives, same_took, took_from, took_on}
 
 -- the texts of items

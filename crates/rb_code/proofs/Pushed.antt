@@ -1,5 +1,5 @@
 -- Frames and calls that begin and end: words are appended, and cut off.
-use Rattle.std.proofs.Common.{◌≡◌, ◌<◌, ◌≤◌, ℕ, zero, suc, ◌+◌, ◌-◌, ℤ, pos, List, [], ◌∷◌, ◌++◌, length, map, take, replicate, Option, Some, None, refl, sym, ap, ◌∙◌, subst, arith, length-append, append_assoc}
+use Rattle.std.proofs.Common.{◌≡◌, ℕ, ◌+◌, ◌-◌, ℤ, pos, List, [], ◌∷◌, ◌++◌, length, take, replicate, refl, ap, ◌∙◌, subst, arith, length-append, append_assoc}
 use Rattle.std.proofs.lemmas.List.{length-replicate, replicate-append-replicate}
 use Rattle.std.proofs.lemmas.List.Sums.{sum_by-cons}
 use Rattle.std.proofs.Math.Seq.{take-append_seam}
@@ -7,10 +7,9 @@ use Rattle.rb_syntax.specs.Tree.{Declaration}
 use Rattle.rb_meaning.specs.Environment.{Environment, Frame, Stored, frame_of, frame_words, pop_call, pop_frame, push_call, push_frame, size_of, zeros}
 use Rattle.rb_scope.specs.Frames.{Shape, shape_of, shape_words}
 use Rattle.rb_code.specs.Plain.{Part}
-use Rattle.rb_code.specs.Memory.{OpenCall, body_place, variables_place}
-use Rattle.rb_code.proofs.LaidOut.{Based, Laid, flat, flat_calls, flat_frame, flat_frames, shapes_of, stacks_of, stacks_words}
+use Rattle.rb_code.specs.Memory.{OpenCall, body_place}
+use Rattle.rb_code.proofs.LaidOut.{Based, Laid, flat, flat_calls, flat_frame, flat_frames, shapes_of, stacks_of}
 use Rattle.rb_code.proofs.Lying.{calls_long, frame_long}
-use Rattle.rb_code.proofs.Environments.{words_of_frame}
 
 -- a frame of zeros
 pub zeros_flat : (variables : List Declaration) → flat_frame (frame_of variables) ≡ replicate (frame_words (frame_of variables)) (pos 0)

@@ -1,12 +1,12 @@
 -- The code of a quantified expression comes to its value.
-use Rattle.std.proofs.Common.{◌≡◌, ◌<◌, ◌≤◌, ℕ, zero, suc, ◌+◌, ℤ, pos, ◌+ℤ◌, List, [], ◌∷◌, length, slice_get, slice_set, Option, Some, None, Result, Ok, Err, refl, sym, ap, ◌∙◌, subst, arith}
+use Rattle.std.proofs.Common.{◌≡◌, ◌<◌, ℕ, zero, suc, ◌+◌, ℤ, pos, ◌+ℤ◌, List, ◌∷◌, length, slice_get, slice_set, Option, Some, Result, Ok, Err, refl, sym, ap, ◌∙◌, subst, arith}
 use Rattle.rb_base.specs.declared.event.Cause.{Cause}
 use Rattle.rb_syntax.specs.declared.expression.Quantifier.{Quantifier}
 use Rattle.rb_syntax.specs.declared.expression.Quantifier.TheVariants.{Every, Any, Total}
 use Rattle.rb_meaning.specs.Value.{Outcome as Value, and_then, over_span, quantified, span}
 use Rattle.rb_code.specs.Plain.{Code}
 use Rattle.rb_code.specs.Memory.{Counting, Memory}
-use Rattle.rb_code.specs.Act.{Sight, Trapped, act, counting, or_trap, ranged}
+use Rattle.rb_code.specs.Act.{Sight, Trapped, counting, or_trap, ranged}
 use Rattle.rb_code.specs.Template.{Template, One}
 use Rattle.rb_code.specs.Forms.{EveryCode, QuantifiedCode, SomeCode, SumCode}
 use Rattle.rb_code.specs.declared.instr.Instr.TheVariants.{Again, Jump, JumpZero, Push, Range}

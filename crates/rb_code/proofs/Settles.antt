@@ -1,5 +1,5 @@
 -- Ends of blocks and calls are taken off by drops, returns and jumps, up to the next turn.
-use Rattle.std.proofs.Common.{◌≡◌, ◌⊎◌, inl, inr, ◌<◌, ◌≤◌, ℕ, zero, suc, ◌+◌, ◌-◌, ℤ, pos, List, [], ◌∷◌, ◌++◌, length, map, take, slice_get, Option, Some, None, refl, sym, ap, ◌∙◌, subst, arith}
+use Rattle.std.proofs.Common.{◌≡◌, ◌⊎◌, inl, inr, ◌≤◌, ℕ, zero, suc, ◌-◌, ℤ, List, [], ◌∷◌, length, take, slice_get, Some, refl, sym, ap, ◌∙◌, subst, arith}
 use Rattle.std.proofs.lemmas.List.{length-take}
 use Rattle.std.proofs.Math.Seq.{take-length}
 use Rattle.rb_syntax.specs.Tree.{Command, Assignment, Printing, Sending, Receiving, Conditional, Loop, Invocation, Failure, Recovering, Otherwise, NoElse, Else, RecoveryBlock, Recovers, Tree}
@@ -7,12 +7,10 @@ use Rattle.rb_meaning.specs.Environment.{Environment, pop_call, pop_frame}
 use Rattle.rb_meaning.specs.State.{Item, Perform, StartOf, TestOf, EndBlock, EndCall, settle_items}
 use Rattle.rb_scope.specs.Frames.{Shape, shape_words}
 use Rattle.rb_scope.specs.declared.slot.Slot.{Slot}
-use Rattle.rb_code.specs.Plain.{Code, Part}
+use Rattle.rb_code.specs.Plain.{Code}
 use Rattle.rb_code.specs.Memory.{Memory, OpenCall, dropped, part_of, with_words}
-use Rattle.rb_code.specs.Act.{Going, Sight, act}
-use Rattle.rb_code.specs.Template.{One}
-use Rattle.rb_code.specs.Forms.{BlockCode, BodyCode, BranchesCode, CommandCode, CommandsCode, DropCode, ExpressionCode, Owner, ReceiptCode}
-use Rattle.rb_code.specs.declared.instr.Instr.{Instr}
+use Rattle.rb_code.specs.Act.{Sight}
+use Rattle.rb_code.specs.Forms.{BranchesCode, CommandCode, DropCode, ExpressionCode, Owner, ReceiptCode}
 use Rattle.rb_code.specs.declared.instr.Instr.TheVariants.{Done, Drop, Jump, Return, Turn}
 use Rattle.rb_code.proofs.Leads.{Leads, goes, leads_on, passes, stays}
 use Rattle.rb_code.proofs.LaidOut.{Laid, stacks_of}

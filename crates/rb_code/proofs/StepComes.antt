@@ -1,25 +1,23 @@
 -- One step of a process comes to the same in the meaning and in the machine, whatever stands first.
-use Rattle.std.proofs.Common.{◌≡◌, ◌⊎◌, inl, inr, ◌<◌, ℕ, zero, suc, ◌+◌, ℤ, cond, Bool, true, false, List, [], ◌∷◌, length, map, option_map, slice_get, Option, Some, None, Result, Ok, Err, refl, sym, ap, ◌∙◌, subst}
+use Rattle.std.proofs.Common.{◌≡◌, ◌<◌, ℕ, ◌+◌, ℤ, cond, Bool, true, false, List, [], ◌∷◌, length, slice_get, Option, Some, None, Result, Ok, Err, refl, sym, ap, ◌∙◌, subst}
 use Rattle.std.proofs.lemmas.List.{length-map}
 use Rattle.rb_base.specs.declared.event.Cause.{Cause}
 use Rattle.rb_base.specs.declared.event.Cause.TheVariants.{Test as TestCause}
 use Rattle.rb_syntax.specs.Tree.{Command, Assignment, Printing, Sending, Receiving, Conditional, Loop, Invocation, Failure, Recovering, Otherwise, NoElse, Else, ProcedureDeclaration, RecoveryBlock, Tree}
 use Rattle.rb_world.proofs.ListFacts.{none_some, slice_get-there}
-use Rattle.rb_world.specs.Kind.{Ends, ReceivesOn, SendsOn, Starts, Stepped, Trapped, Went, Held}
+use Rattle.rb_world.specs.Kind.{Ends, SendsOn, Trapped, Held}
 use Rattle.rb_world.specs.Slots.{Slots, slots_after, stepped_with_slots}
-use Rattle.rb_meaning.specs.Environment.{Environment}
 use Rattle.rb_meaning.specs.Value.{is_zero, value}
 use Rattle.rb_meaning.specs.State.{Item, Perform, StartOf, TestOf, EndBlock, EndCall, State, continue_with}
 use Rattle.rb_meaning.specs.Groups.{channel_number, channels_of, ends_of, procedures_of}
-use Rattle.rb_meaning.specs.Step.{Nothing, Result_of_step, alternate_number, alternates_in, former, goes, judged, performs, starts_body, step, step_items, test_in, wants_first, wants_receipt}
+use Rattle.rb_meaning.specs.Step.{former, goes, judged, performs, step_items, test_in, wants_first, wants_receipt}
 use Rattle.rb_meaning.specs.Meaning.{environment_of, tree_kind}
 use Rattle.rb_meaning.proofs.ChannelEnds.{first_receives, first_sends}
 use Rattle.rb_meaning.proofs.RecoveryPoints.{IsOwn}
 use Rattle.rb_world.proofs.Erasing.ErasableKinds.{receives_on}
-use Rattle.rb_scope.specs.InFrames.{IsChannel}
 use Rattle.rb_scope.specs.declared.slot.Slot.{Slot}
 use Rattle.rb_code.specs.Plain.{Code}
-use Rattle.rb_code.specs.Memory.{Memory, OpenCall}
+use Rattle.rb_code.specs.Memory.{Memory}
 use Rattle.rb_code.specs.Act.{Sight}
 use Rattle.rb_code.specs.Turn.{Copy, Standing, memory_of, prior_words, sight}
 use Rattle.rb_code.proofs.LaidOut.{stacks_of}

@@ -1,35 +1,33 @@
 -- A value that goes to a place: assignments and receipts.
-use Rattle.std.proofs.Common.{◌≡◌, ◌<◌, ◌≤◌, ℕ, zero, suc, ◌+◌, ◌-◌, ℤ, pos, negsuc, nat_lt, cond, Bool, List, [], ◌∷◌, ◌++◌, length, slice_get, slice_set, Option, Some, None, Result, Ok, Err, true, false, refl, sym, ap, ◌∙◌, subst, arith}
-use Rattle.std.proofs.lemmas.List.{length-set}
+use Rattle.std.proofs.Common.{◌≡◌, ◌<◌, ℕ, ◌+◌, ℤ, pos, negsuc, nat_lt, cond, Bool, List, [], ◌∷◌, length, Option, Some, Result, Ok, Err, true, false, refl, sym, ap, ◌∙◌, subst, arith}
 use Rattle.rb_base.specs.declared.event.Cause.{Cause}
 use Rattle.rb_base.specs.declared.event.Cause.TheVariants.{Index}
 use Rattle.std.proofs.lemmas.Bool.{ltb-true}
-use Rattle.rb_base.specs.Limits.{most_words}
 use Rattle.rb_world.specs.Slots.{Slots}
-use Rattle.rb_syntax.specs.Tree.{Command, Assignment, Expression, Identifier, Reference, Refer, Subscript, Scalar, Element, Tree}
-use Rattle.rb_meaning.specs.Environment.{Environment, store, values_of, words}
-use Rattle.rb_meaning.specs.Value.{and_then, index_in, value}
-use Rattle.rb_meaning.specs.State.{Item, Perform, State, continue_with, with_environment}
-use Rattle.rb_meaning.specs.Step.{assigned, performs, place_in, present_value, put_at}
-use Rattle.rb_scope.specs.Frames.{Frames, Lying, Shape, array_slot, lying, scalar_slot, shape_of, words_lying}
-use Rattle.rb_scope.specs.InFrames.{CommandInFrames, ExpressionInFrames, IsArray, IsScalar, ReferenceInFrames}
+use Rattle.rb_syntax.specs.Tree.{Expression, Identifier, Reference, Refer, Scalar, Element, Tree}
+use Rattle.rb_meaning.specs.Environment.{values_of}
+use Rattle.rb_meaning.specs.Value.{and_then, index_in}
+use Rattle.rb_meaning.specs.State.{State}
+use Rattle.rb_meaning.specs.Step.{place_in, present_value}
+use Rattle.rb_scope.specs.Frames.{Frames, Lying, lying, words_lying}
+use Rattle.rb_scope.specs.InFrames.{ExpressionInFrames, IsArray, IsScalar, ReferenceInFrames}
 use Rattle.rb_scope.specs.declared.slot.Slot.{Slot}
 use Rattle.rb_code.specs.Plain.{Code}
-use Rattle.rb_code.specs.Memory.{Counting, Memory, OpenCall, part_of, written}
-use Rattle.rb_code.specs.Act.{Going, Sight, Trapped, act, here, place}
+use Rattle.rb_code.specs.Memory.{Counting, Memory, part_of, written}
+use Rattle.rb_code.specs.Act.{Going, Sight, Trapped, place}
 use Rattle.rb_code.specs.Slots.{elements_of, spot_of}
 use Rattle.rb_code.specs.Template.{Template, One}
-use Rattle.rb_code.specs.Forms.{CommandCode, ExpressionCode, StoreCode}
+use Rattle.rb_code.specs.Forms.{ExpressionCode, StoreCode}
 use Rattle.rb_code.specs.declared.instr.Instr.TheVariants.{Bound, Store, StoreAt}
-use Rattle.rb_code.proofs.Leads.{Leads, ends, passes}
-use Rattle.rb_code.proofs.Comes.{Comes, Gives, KeptBelow, comes_on, kept_here, recounted}
-use Rattle.rb_code.proofs.LaidOut.{Laid, place_lying, running, spot_at, stacks_of}
-use Rattle.rb_code.proofs.Left.{Left, frames_at, own_shape}
+use Rattle.rb_code.proofs.Leads.{ends, passes}
+use Rattle.rb_code.proofs.Comes.{Comes, Gives, recounted}
+use Rattle.rb_code.proofs.LaidOut.{place_lying, running, stacks_of}
+use Rattle.rb_code.proofs.Left.{frames_at, own_shape}
 use Rattle.rb_code.proofs.Meets.{WordsMeet}
-use Rattle.rb_code.proofs.Environments.{InFrames, laid_finds, laid_long, laid_store, store_kept}
-use Rattle.rb_code.proofs.Expressions.{Knows, expression_comes}
+use Rattle.rb_code.proofs.Environments.{InFrames, laid_finds}
+use Rattle.rb_code.proofs.Expressions.{expression_comes}
 use Rattle.rb_code.proofs.Found.{Finds, array_elements, array_spot, array_values, bound_passes, place_is, scalar_spot}
-use Rattle.rb_code.proofs.Took.{HasCursors, InTurn, IsLeft, Took, arrives, same_took, took_from, took_on, words_again, words_continue}
+use Rattle.rb_code.proofs.Took.{HasCursors, InTurn, Took, same_took, took_from, took_on}
 
 -- a result and what follows, grouped otherwise
 pub then_then : {A B D : Type 0} (o : Result A Cause) (f : A → Result B Cause) (g : B → Result D Cause)

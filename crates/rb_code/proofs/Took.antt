@@ -1,5 +1,5 @@
 -- What a step comes to in the meaning and in the machine: the same trap, or a state and words that meet once both have settled.
-use Rattle.std.proofs.Common.{◌≡◌, ◌⊎◌, inl, inr, ◌<◌, ◌≤◌, ℕ, zero, suc, ◌+◌, ◌-◌, ℤ, pos, List, [], ◌∷◌, ◌++◌, length, slice_get, unwrap_or, Option, Some, None, Result, Ok, Err, refl, sym, ap, ◌∙◌, subst, arith}
+use Rattle.std.proofs.Common.{◌≡◌, ◌⊎◌, inl, inr, ◌<◌, ◌≤◌, ℕ, ℤ, pos, List, [], ◌∷◌, length, slice_get, unwrap_or, Option, Some, Result, Ok, Err, refl, sym, ap, ◌∙◌, subst, arith}
 use Rattle.rb_base.specs.declared.event.Cause.{Cause}
 use Rattle.rb_base.specs.Limits.{most_words}
 use Rattle.rb_world.proofs.ListFacts.{slice_get-front}
@@ -13,12 +13,12 @@ use Rattle.rb_scope.specs.Frames.{shape_of}
 use Rattle.rb_scope.specs.declared.slot.Slot.{Slot}
 use Rattle.rb_code.specs.Plain.{Code, Part}
 use Rattle.rb_code.specs.Memory.{Counting, Memory, OpenCall, cursor_place, held_place, part_of, place_among, variables_place, word_at}
-use Rattle.rb_code.specs.Act.{Sight, Stopped, Trapped, act}
+use Rattle.rb_code.specs.Act.{Sight, Stopped, Trapped}
 use Rattle.rb_code.specs.declared.instr.Instr.TheVariants.{Done, Turn}
 use Rattle.rb_code.proofs.Leads.{EndsIn, Leads, ends, leads_to_end}
-use Rattle.rb_code.proofs.Comes.{Comes, KeptBelow, recounted}
+use Rattle.rb_code.proofs.Comes.{Comes, recounted}
 use Rattle.rb_code.proofs.LaidOut.{Laid, flat, stacks_of}
-use Rattle.rb_code.proofs.Left.{IsSettled, Left, own_shape}
+use Rattle.rb_code.proofs.Left.{IsSettled, Left}
 use Rattle.rb_code.proofs.Meets.{Meets, WordsMeet}
 use Rattle.rb_code.proofs.Environments.{laid_long}
 use Rattle.rb_code.proofs.Settles.{IsTurn, settles, with_calls}

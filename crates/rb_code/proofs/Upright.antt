@@ -1,6 +1,6 @@
 -- Who stands in the table of sound code, told by the copies of its levels alone: a turn of it and its settling come to an end, and it
 -- stands upright again.
-use Rattle.std.proofs.Common.{◌≡◌, ℕ, ℤ, zero, suc, ◌+◌, ◌<◌, ◌≤◌, pos, Bool, true, false, List, [], ◌∷◌, ◌++◌, length, map, reverse, take, slice_get, slice_set, Option, Some, None, option_map, refl, ap, sym, ◌∙◌, subst, arith}
+use Rattle.std.proofs.Common.{◌≡◌, ℕ, ℤ, ◌+◌, pos, Bool, true, false, List, [], ◌∷◌, ◌++◌, length, map, take, slice_get, slice_set, Option, Some, None, option_map, refl, ap, sym, ◌∙◌, subst, arith}
 use Rattle.std.specs.List.{take-map}
 use Rattle.std.proofs.lemmas.List.{length-set, map-append}
 use Rattle.std.proofs.lemmas.Option.{slice_get-map}
@@ -12,11 +12,11 @@ use Rattle.rb_world.proofs.LastLevels.{last_of-map, without_last-map}
 use Rattle.rb_world.proofs.ListFacts.{none_some, some_same}
 use Rattle.rb_code.specs.Plain.{Code, Part}
 use Rattle.rb_code.specs.Memory.{held_place}
-use Rattle.rb_code.specs.Act.{Accepts, Going, Outcome, Stopped, Trapped as Trap, Unfinished, execute}
+use Rattle.rb_code.specs.Act.{Unfinished, execute}
 use Rattle.rb_code.specs.Turn.{Common, Copy, Standing, memory_of, most_steps, settle, sight, step, want}
 use Rattle.rb_code.specs.Sound.{HasTable, Table}
 use Rattle.rb_code.specs.Safe.{IsThere}
-use Rattle.rb_code.specs.Stands.{ServedBut, Settles, Stands, StandsAfter, inside_out}
+use Rattle.rb_code.specs.Stands.{ServedBut, Stands, StandsAfter, inside_out}
 use Rattle.rb_code.specs.StandsInRuns.{AllRecover, ProcessStands}
 use Rattle.rb_code.specs.WellFormed.{ListsChannels}
 use Rattle.rb_code.specs.WordKind.{copied, entered_at, released, restored}
