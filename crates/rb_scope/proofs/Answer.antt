@@ -51,7 +51,9 @@ slots-found tree own =
     }
 
 -- no fault was found
-pub found_none : (tree : Tree) (found : Found) (slots : List Slot) → HasOwnNumbers tree → found ≡ visited (nothing_found tree.names) (tree_sites tree) → found.first ≡ None → slots ≡ found.slots → IsResolved tree slots
+pub found_none : (tree : Tree) (found : Found) (slots : List Slot) → HasOwnNumbers tree
+    → found ≡ visited (nothing_found tree.names) (tree_sites tree) → found.first ≡ None → slots ≡ found.slots
+    → IsResolved tree slots
 found_none tree found slots own e n s =
     let first = sym (visited_first (nothing_found tree.names) (tree_sites tree)) ∙ ap (λ (f : Found). f.first) (sym e) ∙ n in
     record {
@@ -60,6 +62,7 @@ found_none tree found slots own e n s =
     }
 
 -- a fault was found
-pub found_first : (tree : Tree) (found : Found) (fault : SourceFault) → found ≡ visited (nothing_found tree.names) (tree_sites tree) → found.first ≡ Some fault → IsFirstOf (faults_of tree) fault
+pub found_first : (tree : Tree) (found : Found) (fault : SourceFault)
+    → found ≡ visited (nothing_found tree.names) (tree_sites tree) → found.first ≡ Some fault → IsFirstOf (faults_of tree) fault
 found_first tree found fault e f =
     first_kept fault (faults_of tree) (sym (visited_first (nothing_found tree.names) (tree_sites tree)) ∙ ap (λ (g : Found). g.first) (sym e) ∙ f)

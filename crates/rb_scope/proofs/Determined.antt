@@ -47,7 +47,8 @@ pub have_one_first : HaveOneFirst
 have_one_first tree fault other f g =
     one_first name_of (faults_of tree) fault other (named_flat name_of broken_at (tree_sites tree) named_site) f g
 
-agree-on : (slots others : List Slot) (id : ℕ) (meaning : Option Declared) → StandsFor slots id meaning → StandsFor others id meaning → AgreeOn slots others id meaning
+agree-on : (slots others : List Slot) (id : ℕ) (meaning : Option Declared) → StandsFor slots id meaning
+    → StandsFor others id meaning → AgreeOn slots others id meaning
 agree-on slots others id None a b = tt
 agree-on slots others id (Some one) a b = a ∙ sym b
 

@@ -14,7 +14,8 @@ use Rattle.rb_scope.specs.Limits.{AreDistinct, HasDistinctNames}
 use Rattle.rb_scope.specs.Rules.{faults_of, is_declared_twice, is_named}
 use Rattle.rb_scope.specs.Scopes.{Declared, channels_from, conversations_from, in_text_order, processes_from, program_scope, take_place}
 use Rattle.rb_scope.specs.Sites.{scope_sites, tree_sites}
-use Rattle.rb_scope.proofs.EachSite.{IsKept, all_first, all_kept, unbroken}
+use Rattle.rb_scope.proofs.EachSite.{AreKept, IsKept, all_kept, unbroken}
+use Rattle.rb_scope.proofs.PartsOfTrees.{tree_parts}
 
 -- two names are one, or not
 pub same_text : (x y : List ℕ) → same_name x y ≡ true → x ≡ y
@@ -24,7 +25,9 @@ pub same_itself : (x : List ℕ) → same_name x x ≡ true
 same_itself x = (bytes_eq-Decides x x).1 refl
 
 pub same_flipped : (x y : List ℕ) → same_name x y ≡ same_name y x
-same_flipped x y = same_from_decides (same_name x y) (same_name y x) (bytes_eq-Decides x y) (Decides-like (same_name y x) sym sym (bytes_eq-Decides y x))
+same_flipped x y =
+    same_from_decides (same_name x y) (same_name y x) (bytes_eq-Decides x y)
+    (Decides-like (same_name y x) sym sym (bytes_eq-Decides y x))
 
 -- how many of these declarations have this name
 abbrev pub one_if : Bool → ℕ
@@ -47,8 +50,8 @@ none-counted name (one ∷ others) e =
     let here : one_if (is_named name one) ≡ 0 = ap one_if parts.0 in
     omega (arith, none-counted name others parts.1)
 
-one-counted : (x : List ℕ) (earlier : List Declared) (one : Declared) (same : Bool) → same_name one.name.text x ≡ same → count_named one.name.text earlier ≡ 0
-    → count_named x earlier ≤ 1 → count_named x (earlier ++ one ∷ []) ≤ 1
+one-counted : (x : List ℕ) (earlier : List Declared) (one : Declared) (same : Bool) → same_name one.name.text x ≡ same
+    → count_named one.name.text earlier ≡ 0 → count_named x earlier ≤ 1 → count_named x (earlier ++ one ∷ []) ≤ 1
 one-counted x earlier one true e none few =
     let none' : count_named x earlier ≡ 0 = subst (λ y. count_named y earlier ≡ 0) (same_text one.name.text x e) none in
     let last : count_named x (one ∷ []) ≡ 1 = ap (λ b. one_if b + 0) e in
@@ -58,26 +61,29 @@ one-counted x earlier one false e none few =
     omega (arith, count-append x earlier (one ∷ []))
 
 -- where none is declared twice, each is declared once at most
-declared_once : (earlier rest : List Declared) → AllByRecursion IsKept (scope_sites earlier rest) → ((x : List ℕ) → count_named x earlier ≤ 1)
-    → (x : List ℕ) → count_named x (earlier ++ rest) ≤ 1
+declared_once : (earlier rest : List Declared) → AreKept (scope_sites earlier rest)
+    → ((x : List ℕ) → count_named x earlier ≤ 1) → (x : List ℕ) → count_named x (earlier ++ rest) ≤ 1
 declared_once earlier [] kept few x = omega (arith, count-append x earlier [], few x)
 declared_once earlier (one ∷ others) kept few x =
     let none = none-counted one.name earlier (unbroken (is_declared_twice earlier one) _ one.name.place kept.0) in
-    subst (λ ds. count_named x ds ≤ 1) (append_snoc earlier one others)
-    (declared_once (earlier ++ one ∷ []) others kept.1 (λ y. one-counted y earlier one (same_name one.name.text y) refl none (few y)) x)
+    let few' = λ (y : List ℕ). one-counted y earlier one (same_name one.name.text y) refl none (few y) in
+    subst (λ ds. count_named x ds ≤ 1) (append_snoc earlier one others) (declared_once (earlier ++ one ∷ []) others kept.1 few' x)
 
 -- to change places changes no count
-count-placed : (x : List ℕ) (one other : Declared) (before : Bool) (others rest : List Declared) → count_named x rest ≡ count_named x (one ∷ others)
+count-placed : (x : List ℕ) (one other : Declared) (before : Bool) (others rest : List Declared)
+    → count_named x rest ≡ count_named x (one ∷ others)
     → count_named x (cond before (one ∷ other ∷ others) (other ∷ rest)) ≡ count_named x (one ∷ other ∷ others)
 count-placed x one other true others rest e = refl
 count-placed x one other false others rest e = ap (λ n. one_if (same_name other.name.text x) + n) e ∙ omega arith
 
-count-take_place : (x : List ℕ) (one : Declared) (others : List Declared) → count_named x (take_place one others) ≡ count_named x (one ∷ others)
+count-take_place : (x : List ℕ) (one : Declared) (others : List Declared)
+    → count_named x (take_place one others) ≡ count_named x (one ∷ others)
 count-take_place x one [] = refl
 count-take_place x one (other ∷ others) =
     count-placed x one other (is_before one.name.place other.name.place) others (take_place one others) (count-take_place x one others)
 
-count-in_text_order : (x : List ℕ) (more others : List Declared) → count_named x (in_text_order more others) ≡ count_named x more + count_named x others
+count-in_text_order : (x : List ℕ) (more others : List Declared)
+    → count_named x (in_text_order more others) ≡ count_named x more + count_named x others
 count-in_text_order x [] others = omega arith
 count-in_text_order x (one ∷ more) others =
     count-in_text_order x more (take_place one others) ∙ ap (λ n. count_named x more + n) (count-take_place x one others) ∙ omega arith
@@ -125,22 +131,34 @@ process_names : (k : ℕ) (ps : List ProcessDeclaration) → names_in (processes
 process_names k [] = refl
 process_names k (p ∷ ps) = ap (λ xs. p.name.text ∷ xs) (process_names (k + 1) ps)
 
--- each of them is declared once
-program-once : (tree : Tree) → AllByRecursion IsKept (tree_sites tree) → (x : List ℕ)
-    → count_named x (conversations_from 0 tree.conversations) + count_named x (channels_from 0 tree.channels) + count_named x (processes_from 0 tree.processes) ≤ 1
+-- how many times a name is declared in the three rows
+abbrev count_in_rows : Tree → List ℕ → ℕ
+count_in_rows tree x =
+    count_named x (conversations_from 0 tree.conversations) + count_named x (channels_from 0 tree.channels)
+    + count_named x (processes_from 0 tree.processes)
+
+program-once : (tree : Tree) → AreKept (tree_sites tree) → (x : List ℕ) → count_in_rows tree x ≤ 1
 program-once tree kept x =
-    let first = declared_once [] (program_scope tree) (all_first IsKept (scope_sites [] (program_scope tree)) _ kept) (λ y. omega arith) x in
+    let first = declared_once [] (program_scope tree) (tree_parts IsKept tree kept).declares (λ y. omega arith) x in
+    let conversations = conversations_from 0 tree.conversations in
+    let channels = channels_from 0 tree.channels in
     omega (
       arith,
       first,
-      count-append x (in_text_order (conversations_from 0 tree.conversations) (channels_from 0 tree.channels)) (processes_from 0 tree.processes),
-      count-in_text_order x (conversations_from 0 tree.conversations) (channels_from 0 tree.channels),
+      count-append x (in_text_order conversations channels) (processes_from 0 tree.processes),
+      count-in_text_order x conversations channels,
     )
 
 pub have_distinct_names : (tree : Tree) → faults_of tree ≡ [] → HasDistinctNames tree
 have_distinct_names tree e =
     let once = program-once tree (all_kept tree e) in record {
-      processes = subst AreDistinct (process_names 0 tree.processes) (distinct_names (processes_from 0 tree.processes) (λ x. omega (arith, once x)));
-      channels = subst AreDistinct (channel_names 0 tree.channels) (distinct_names (channels_from 0 tree.channels) (λ x. omega (arith, once x)));
-      conversations = subst AreDistinct (conversation_names 0 tree.conversations) (distinct_names (conversations_from 0 tree.conversations) (λ x. omega (arith, once x)));
+      processes =
+          subst AreDistinct (process_names 0 tree.processes)
+          (distinct_names (processes_from 0 tree.processes) (λ x. omega (arith, once x)));
+      channels =
+          subst AreDistinct (channel_names 0 tree.channels)
+          (distinct_names (channels_from 0 tree.channels) (λ x. omega (arith, once x)));
+      conversations =
+          subst AreDistinct (conversation_names 0 tree.conversations)
+          (distinct_names (conversations_from 0 tree.conversations) (λ x. omega (arith, once x)));
     }

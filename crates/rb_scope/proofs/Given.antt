@@ -98,7 +98,8 @@ apart-back n [] ys a = a
 apart-back n (x ∷ xs) ys (e, a) = apart-back n xs ys a
 
 -- a name that is at none of these sites keeps its slot
-pub kept_slot : (found : Found) (n : ℕ) (sites : List Site) → IsApart n (flat_map number_at sites) → slice_get (visited found sites).slots n ≡ slice_get found.slots n
+pub kept_slot : (found : Found) (n : ℕ) (sites : List Site) → IsApart n (flat_map number_at sites)
+    → slice_get (visited found sites).slots n ≡ slice_get found.slots n
 kept_slot found n [] a = refl
 kept_slot found n (site ∷ sites) a =
     kept_slot (visit found site) n sites (apart-back n (number_at site) (flat_map number_at sites) a)
@@ -128,17 +129,22 @@ below-rest most [] ys a = a
 below-rest most (x ∷ xs) ys (e, a) = below-rest most xs ys a
 
 -- a slot that is there stays, where the name is at no later site
-stands : (found : Found) (n : ℕ) (meaning : Option Declared) (sites : List Site) → StandsFor found.slots n meaning → IsApart n (flat_map number_at sites) → StandsFor (visited found sites).slots n meaning
+stands : (found : Found) (n : ℕ) (meaning : Option Declared) (sites : List Site) → StandsFor found.slots n meaning
+    → IsApart n (flat_map number_at sites) → StandsFor (visited found sites).slots n meaning
 stands found n None sites h a = tt
 stands found n (Some one) sites h a = kept_slot found n sites a ∙ h
 
 -- the slot that a name is given at a site stays
-gets : (found : Found) (site : Site) (n : ℕ) (meaning : Option Declared) (sites : List Site) → slots_after found.slots site ≡ given found.slots n meaning → n < length found.slots → IsApart n (flat_map number_at sites) → StandsFor (visited (visit found site) sites).slots n meaning
+gets : (found : Found) (site : Site) (n : ℕ) (meaning : Option Declared) (sites : List Site)
+    → slots_after found.slots site ≡ given found.slots n meaning → n < length found.slots → IsApart n (flat_map number_at sites)
+    → StandsFor (visited (visit found site) sites).slots n meaning
 gets found site n meaning sites e h a =
     stands (visit found site) n meaning sites
     (subst (λ slots. StandsFor slots n meaning) (sym (visit-slots found site ∙ e)) (there-given found.slots n meaning h)) a
 
-has-slot : (found : Found) (site : Site) (sites : List Site) → AreApart (number_at site ++ flat_map number_at sites) → AreBelow (length found.slots) (number_at site ++ flat_map number_at sites) → HasItsSlot (visited (visit found site) sites).slots site
+has-slot : (found : Found) (site : Site) (sites : List Site) → AreApart (number_at site ++ flat_map number_at sites)
+    → AreBelow (length found.slots) (number_at site ++ flat_map number_at sites)
+    → HasItsSlot (visited (visit found site) sites).slots site
 has-slot found (Declares earlier one) sites a b = gets found (Declares earlier one) one.name.id (Some one) sites refl b.0 a.0
 has-slot found (Uses want name scopes) sites a b = gets found (Uses want name scopes) name.id (meaning_of name.text scopes) sites refl b.0 a.0
 has-slot found (Calls name k scopes) sites a b = tt
@@ -155,7 +161,8 @@ abbrev pub HaveSlots : List Slot → List Site → Type 0
 HaveSlots slots [] = Unit {0}
 HaveSlots slots (site ∷ sites) = HasItsSlot slots site × HaveSlots slots sites
 
-pub have_slots : (found : Found) (sites : List Site) → AreApart (flat_map number_at sites) → AreBelow (length found.slots) (flat_map number_at sites) → HaveSlots (visited found sites).slots sites
+pub have_slots : (found : Found) (sites : List Site) → AreApart (flat_map number_at sites)
+    → AreBelow (length found.slots) (flat_map number_at sites) → HaveSlots (visited found sites).slots sites
 have_slots found [] a b = tt
 have_slots found (site ∷ sites) a b = (
   has-slot found site sites a b,

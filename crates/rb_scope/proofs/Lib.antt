@@ -8,6 +8,7 @@ pub mod Answer
 pub mod OneFirst
 pub mod Determined
 pub mod EachSite
+pub mod PartsOfTrees
 pub mod Uses
 pub mod Rows
 pub mod Meanings

@@ -15,7 +15,8 @@ unfolding visit
 passes found most before place e = rw e refl
 
 -- behind the first that is too many nothing more is told
-behind : {B : Type 0} (place : B → Place) (most before : ℕ) (found : Found) (xs : List B) → most < before → visited found (list_sites place most before xs) ≡ found
+behind : {B : Type 0} (place : B → Place) (most before : ℕ) (found : Found) (xs : List B) → most < before
+    → visited found (list_sites place most before xs) ≡ found
 behind place most before found [] h = refl
 behind place most before found (x ∷ xs) h =
     let not_here : nat_eq before most ≡ false = grind (arith, nat_tests) in
@@ -35,7 +36,8 @@ here : (found : Found) (most before : ℕ) (place : Place) → nat_eq before mos
 unfolding visit
 here found most before place e = rw e refl
 
-ahead : {B : Type 0} (place : B → Place) (most before k : ℕ) (found : Found) (xs : List B) → before + k ≡ most → visited found (list_sites place most before xs) ≡ with_extra found (option_map place (slice_get xs k))
+ahead : {B : Type 0} (place : B → Place) (most before k : ℕ) (found : Found) (xs : List B) → before + k ≡ most
+    → visited found (list_sites place most before xs) ≡ with_extra found (option_map place (slice_get xs k))
 ahead place most before k found [] h = refl
 ahead place most before zero found (x ∷ xs) h =
     let same : nat_eq before most ≡ true = grind (arith, nat_tests) in
@@ -57,7 +59,8 @@ twice f g None = refl
 twice f g (Some x) = refl
 
 -- all of a list: what is found is the fault of the entry with so many before it
-pub counted : {A B : Type 0} (f : A → B) (place : B → Place) (most : ℕ) (found : Found) (xs : List A) → visited found (list_sites place most 0 (map f xs)) ≡ with_extra found (option_map (λ x. place (f x)) (slice_get xs most))
+pub counted : {A B : Type 0} (f : A → B) (place : B → Place) (most : ℕ) (found : Found) (xs : List A)
+    → visited found (list_sites place most 0 (map f xs)) ≡ with_extra found (option_map (λ x. place (f x)) (slice_get xs most))
 counted f place most found xs =
     ahead place most 0 most found (map f xs) (omega arith)
     ∙ ap (λ o. with_extra found (option_map place o)) (entry_of f xs most)
@@ -75,11 +78,14 @@ none [] k h = refl
 none (y ∷ ys) zero h = absurd (omega arith)
 none (y ∷ ys) (suc k) h = none ys k (omega arith)
 
-pub long : {A B : Type 0} (f : A → B) (place : B → Place) (most : ℕ) (found : Found) (xs : List A) (x : A) → most < length xs → x ≡ get_or xs most x → visited found (list_sites place most 0 (map f xs)) ≡ record found { first = first_after found.first (where_broken true S7 (place (f x))) }
+pub long : {A B : Type 0} (f : A → B) (place : B → Place) (most : ℕ) (found : Found) (xs : List A) (x : A) → most < length xs
+    → x ≡ get_or xs most x
+    → visited found (list_sites place most 0 (map f xs)) ≡ record found { first = first_after found.first (where_broken true S7 (place (f x))) }
 long f place most found xs x h e =
     counted f place most found xs ∙ ap (λ o. with_extra found (option_map (λ y. place (f y)) o)) (got xs most x h e)
 
-pub short : {A B : Type 0} (f : A → B) (place : B → Place) (most : ℕ) (found : Found) (xs : List A) → length xs ≤ most → visited found (list_sites place most 0 (map f xs)) ≡ found
+pub short : {A B : Type 0} (f : A → B) (place : B → Place) (most : ℕ) (found : Found) (xs : List A) → length xs ≤ most
+    → visited found (list_sites place most 0 (map f xs)) ≡ found
 short f place most found xs h =
     counted f place most found xs ∙ ap (λ o. with_extra found (option_map (λ y. place (f y)) o)) (none xs most h)
 
@@ -90,5 +96,6 @@ same_entry (y ∷ ys) zero d e h = refl
 same_entry (y ∷ ys) (suc k) d e h = same_entry ys k d e (omega arith)
 
 -- the same where the entry is a copy
-pub long_copy : {A B : Type 0} (f : A → B) (place : B → Place) (most : ℕ) (found : Found) (xs : List A) (d : A) → most < length xs → visited found (list_sites place most 0 (map f xs)) ≡ record found { first = first_after found.first (where_broken true S7 (place (f (get_or xs most d)))) }
+pub long_copy : {A B : Type 0} (f : A → B) (place : B → Place) (most : ℕ) (found : Found) (xs : List A) (d : A) → most < length xs
+    → visited found (list_sites place most 0 (map f xs)) ≡ record found { first = first_after found.first (where_broken true S7 (place (f (get_or xs most d)))) }
 long_copy f place most found xs d h = long f place most found xs (get_or xs most d) h (same_entry xs most d (get_or xs most d) h)

@@ -10,7 +10,8 @@ use Rattle.rb_scope.specs.Finding.{first_after}
 use Rattle.rb_scope.specs.Rules.{where_broken}
 use Rattle.rb_scope.proofs.Order.{earlier, first_kept, nothing_kept}
 
-kept_or_none : (faults : List SourceFault) (kept : Option SourceFault) → first_after None faults ≡ kept → (faults ≡ []) ⊎ ((fault : SourceFault) × IsFirstOf faults fault)
+kept_or_none : (faults : List SourceFault) (kept : Option SourceFault) → first_after None faults ≡ kept
+    → (faults ≡ []) ⊎ ((fault : SourceFault) × IsFirstOf faults fault)
 kept_or_none faults None e = inl (nothing_kept faults e)
 kept_or_none faults (Some fault) e = inr (fault, first_kept fault faults e)
 
@@ -27,7 +28,8 @@ abbrev pub AreNamed : (ℕ → FaultName) → List SourceFault → Type 0
 AreNamed names [] = Unit {0}
 AreNamed names (fault ∷ faults) = IsNamed names fault × AreNamed names faults
 
-pub named_where : (names : ℕ → FaultName) (broken : Bool) (name : FaultName) (place : Place) → names (number_of name) ≡ name → AreNamed names (where_broken broken name place)
+pub named_where : (names : ℕ → FaultName) (broken : Bool) (name : FaultName) (place : Place) → names (number_of name) ≡ name
+    → AreNamed names (where_broken broken name place)
 named_where names true name place e = (e, tt)
 named_where names false name place e = tt
 
@@ -35,17 +37,20 @@ pub named_both : (names : ℕ → FaultName) (xs ys : List SourceFault) → AreN
 named_both names [] ys a b = b
 named_both names (x ∷ xs) ys (h, a) b = (h, named_both names xs ys a b)
 
-pub named_flat : {A : Type 0} (names : ℕ → FaultName) (f : A → List SourceFault) (xs : List A) → ((x : A) → AreNamed names (f x)) → AreNamed names (flat_map f xs)
+pub named_flat : {A : Type 0} (names : ℕ → FaultName) (f : A → List SourceFault) (xs : List A) → ((x : A) → AreNamed names (f x))
+    → AreNamed names (flat_map f xs)
 named_flat names f [] h = tt
 named_flat names f (x ∷ xs) h = named_both names (f x) (flat_map f xs) (h x) (named_flat names f xs h)
 
 -- by its index
-named-at : (names : ℕ → FaultName) (faults : List SourceFault) (k : ℕ) (d : SourceFault) → AreNamed names faults → k < length faults → IsNamed names (get_or faults k d)
+named-at : (names : ℕ → FaultName) (faults : List SourceFault) (k : ℕ) (d : SourceFault) → AreNamed names faults
+    → k < length faults → IsNamed names (get_or faults k d)
 named-at names [] k d a h = absurd (omega arith)
 named-at names (fault ∷ faults) zero d a h = a.0
 named-at names (fault ∷ faults) (suc k) d a h = named-at names faults k d a.1 (omega arith)
 
-named_contained : (names : ℕ → FaultName) (faults : List SourceFault) (fault : SourceFault) → AreNamed names faults → Contains faults fault → IsNamed names fault
+named_contained : (names : ℕ → FaultName) (faults : List SourceFault) (fault : SourceFault) → AreNamed names faults
+    → Contains faults fault → IsNamed names fault
 named_contained names faults fault a (k, h, e) = subst (IsNamed names) e (named-at names faults k fault a h)
 
 -- two triples of which none is earlier are the same
@@ -67,7 +72,8 @@ same-fault names a b h i s t =
     λ j. record { name = name j; place = record { line = line j; column = column j } }
 
 -- no two faults are both the first
-pub one_first : (names : ℕ → FaultName) (faults : List SourceFault) (fault other : SourceFault) → AreNamed names faults → IsFirstOf faults fault → IsFirstOf faults other → fault ≡ other
+pub one_first : (names : ℕ → FaultName) (faults : List SourceFault) (fault other : SourceFault) → AreNamed names faults
+    → IsFirstOf faults fault → IsFirstOf faults other → fault ≡ other
 one_first names faults fault other all f g =
     same-fault names fault other (g.first fault f.is_one) (f.first other g.is_one)
     (named_contained names faults fault all f.is_one) (named_contained names faults other all g.is_one)

@@ -71,7 +71,8 @@ abbrev pub IsLeast : SourceFault → List SourceFault → Type 0
 IsLeast one faults = IsIn one faults × NoneBefore one faults
 
 -- the first of two and of others is the first of all
-chosen : (first fault r : SourceFault) (faults : List SourceFault) (b : Bool) → comes_before fault first ≡ b → IsLeast r (cond b fault first ∷ faults) → IsLeast r (first ∷ fault ∷ faults)
+chosen : (first fault r : SourceFault) (faults : List SourceFault) (b : Bool) → comes_before fault first ≡ b
+    → IsLeast r (cond b fault first ∷ faults) → IsLeast r (first ∷ fault ∷ faults)
 chosen first fault r faults true e (i, (h, n)) = (
   elim i [ inl p ↦ inr (inl p) | inr p ↦ inr (inr p) ],
   (comes_before-along r fault first h (comes_before-once fault first e), (h, n)),
@@ -105,7 +106,8 @@ contains one (other ∷ others) (inl e) = (0, omega arith, sym e)
 contains one (other ∷ others) (inr h) = let p : Contains others one = contains one others h in (suc p.0, omega arith, p.2)
 
 -- none of a list comes before, by its index
-none-at : (one : SourceFault) (faults : List SourceFault) (k : ℕ) (d : SourceFault) → NoneBefore one faults → k < length faults → comes_before (get_or faults k d) one ≡ false
+none-at : (one : SourceFault) (faults : List SourceFault) (k : ℕ) (d : SourceFault) → NoneBefore one faults → k < length faults
+    → comes_before (get_or faults k d) one ≡ false
 none-at one [] k d n h = absurd (omega arith)
 none-at one (other ∷ others) zero d (e, n) h = e
 none-at one (other ∷ others) (suc k) d (e, n) h = none-at one others k d n (omega arith)

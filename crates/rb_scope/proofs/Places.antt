@@ -34,7 +34,8 @@ pub place_within : (x : List ℕ) (ds : List Declared) (k : ℕ) → place_from 
 place_within x ds k e = let h : k < 0 + length ds = within x ds 0 k e in omega arith
 
 -- a name that has no place is not declared
-absent-step : (b : Bool) (n : ℕ) (rest : Option ℕ) (one : Plain) (found : Option Plain) → cond b (Some n) rest ≡ None → (rest ≡ None → None ≡ found) → None ≡ cond b (Some one) found
+absent-step : (b : Bool) (n : ℕ) (rest : Option ℕ) (one : Plain) (found : Option Plain) → cond b (Some n) rest ≡ None
+    → (rest ≡ None → None ≡ found) → None ≡ cond b (Some one) found
 absent-step true n rest one found e f = absurd (cc)
 absent-step false n rest one found e f = f e
 
@@ -47,15 +48,18 @@ pub absent : (x : List ℕ) (ds : List Declared) → place_from 0 x ds ≡ None 
 absent x ds e = absent-from x ds 0 e
 
 -- what stands at the place of a name is its declaration
-here-step : (b : Bool) (n k : ℕ) (rest : Option ℕ) (one : Plain) (found : Option Plain) → cond b (Some n) rest ≡ Some k → n ≡ k → (rest ≡ Some k → n + 1 ≤ k) → Some one ≡ cond b (Some one) found
+here-step : (b : Bool) (n k : ℕ) (rest : Option ℕ) (one : Plain) (found : Option Plain) → cond b (Some n) rest ≡ Some k → n ≡ k
+    → (rest ≡ Some k → n + 1 ≤ k) → Some one ≡ cond b (Some one) found
 here-step true n k rest one found e h f = refl
 here-step false n k rest one found e h f = let more = f e in absurd (omega (arith, more))
 
-later-step : (b : Bool) (n k j : ℕ) (rest : Option ℕ) (one other : Plain) (found : Option Plain) → cond b (Some n) rest ≡ Some k → n + suc j ≡ k → (rest ≡ Some k → Some other ≡ found) → Some other ≡ cond b (Some one) found
+later-step : (b : Bool) (n k j : ℕ) (rest : Option ℕ) (one other : Plain) (found : Option Plain) → cond b (Some n) rest ≡ Some k
+    → n + suc j ≡ k → (rest ≡ Some k → Some other ≡ found) → Some other ≡ cond b (Some one) found
 later-step true n k j rest one other found e h f = let same : n ≡ k = cc in absurd (omega arith)
 later-step false n k j rest one other found e h f = f e
 
-read : (x : List ℕ) (ds : List Declared) (n k i : ℕ) (d : Declared) → place_from n x ds ≡ Some k → n + i ≡ k → Some (held (get_or ds i d)) ≡ declared_in x (all_held ds)
+read : (x : List ℕ) (ds : List Declared) (n k i : ℕ) (d : Declared) → place_from n x ds ≡ Some k → n + i ≡ k
+    → Some (held (get_or ds i d)) ≡ declared_in x (all_held ds)
 read x [] n k i d e h = absurd (cc)
 read x (one ∷ others) n k zero d e h =
     here-step (same_name one.name.text.now x) n k (place_from (n + 1) x others) (held one) (declared_in x (all_held others)) e (omega arith) (place-le x others (n + 1) k)
@@ -71,7 +75,8 @@ abbrev pub has_name : List ℕ → Plain → Bool
 has_name x one = same_name one.name.text x
 
 -- a name is declared before a place where its first place is before it
-any-step : (b : Bool) (n k m : ℕ) (rest : Option ℕ) (any : Bool) → cond b (Some n) rest ≡ Some k → (rest ≡ Some k → nat_lt k (n + 1 + m) ≡ any) → nat_lt k (n + suc m) ≡ b || any
+any-step : (b : Bool) (n k m : ℕ) (rest : Option ℕ) (any : Bool) → cond b (Some n) rest ≡ Some k
+    → (rest ≡ Some k → nat_lt k (n + 1 + m) ≡ any) → nat_lt k (n + suc m) ≡ b || any
 any-step true n k m rest any e f = let same : n ≡ k = cc in grind (arith, nat_tests)
 any-step false n k m rest any e f = let same : n + suc m ≡ n + 1 + m = omega arith in ap (nat_lt k) same ∙ f e
 
@@ -103,7 +108,9 @@ pub never : (x : List ℕ) (ds : List Declared) (p : ℕ) → place_from 0 x ds 
 never x ds p e = never-from x ds 0 p e
 
 -- one declaration more, in front of the others
-pub one_earlier : (x : List ℕ) (ds : List Declared) (p i : ℕ) (d : Declared) (old : Option ℕ) → suc i ≡ p → p ≤ length ds → old ≡ place_from p x (drop p ds) → cond (same_name (get_or ds i d).name.text.now x) (Some i) old ≡ place_from i x (drop i ds)
+pub one_earlier : (x : List ℕ) (ds : List Declared) (p i : ℕ) (d : Declared) (old : Option ℕ) → suc i ≡ p → p ≤ length ds
+    → old ≡ place_from p x (drop p ds)
+    → cond (same_name (get_or ds i d).name.text.now x) (Some i) old ≡ place_from i x (drop i ds)
 one_earlier x ds p i d old e h o =
     let one = get_or ds i d in
     let l : i < length ds = omega arith in
@@ -129,7 +136,9 @@ front-at (x ∷ xs) zero one e = let same : x ≡ one = cc in ap (λ y. y ∷ []
 front-at (x ∷ xs) (suc p) one e = ap (λ ys. x ∷ ys) (front-at xs p one e)
 
 -- one declaration more of a scope that is visited
-pub scope_step : (sc : List Plain) (p : ℕ) (one : Plain) (before after whole : Found) → slice_get sc p ≡ Some one → visited before (scope_sites (take p sc) (drop p sc)) ≡ whole → after ≡ visit before (Declares (take p sc) one) → visited after (scope_sites (take (p + 1) sc) (drop (p + 1) sc)) ≡ whole
+pub scope_step : (sc : List Plain) (p : ℕ) (one : Plain) (before after whole : Found) → slice_get sc p ≡ Some one
+    → visited before (scope_sites (take p sc) (drop p sc)) ≡ whole → after ≡ visit before (Declares (take p sc) one)
+    → visited after (scope_sites (take (p + 1) sc) (drop (p + 1) sc)) ≡ whole
 scope_step sc p one before after whole e w a =
     ap (λ n. visited after (scope_sites (take n sc) (drop n sc))) (add-one p)
     ∙ ap (λ f. visited f (scope_sites (take (suc p) sc) (drop (suc p) sc))) a

@@ -12,7 +12,7 @@ use Rattle.rb_scope.specs.Slots.{StandsFor}
 use Rattle.rb_scope.specs.declared.want.Want.{Want}
 use Rattle.rb_scope.specs.declared.want.Want.TheVariants.{AProcedure}
 use Rattle.rb_scope.specs.declared.slot.Slot.{Slot}
-use Rattle.rb_scope.proofs.EachSite.{IsKept, all_parts, unbroken}
+use Rattle.rb_scope.proofs.EachSite.{AreKept, IsKept, all_parts, unbroken}
 
 -- a name that has a meaning which fits its use, and the slot of it
 pub record IsUsed (slots : List Slot) (want : Want) (name : Identifier) (meaning : Option Declared) : Type 0 where
@@ -37,22 +37,25 @@ pub called : (n : ℕ) (meaning : Option Declared) (one : Declared) → meaning 
 called n None one e fitting kept = absurd (cc)
 called n (Some other) one e fitting kept =
     let same : other ≡ one = cc in
-    let both : fits AProcedure one.slot && not (nat_eq one.parameters n) ≡ false = ap (λ (d : Declared). is_miscalled n (Some d)) (sym same) ∙ kept in
-    let other : not (nat_eq one.parameters n) ≡ false = ap (λ b. b && not (nat_eq one.parameters n)) (sym fitting) ∙ both in
-    eqb-true one.parameters n (not-false (nat_eq one.parameters n) other)
+    let differ = not (nat_eq one.parameters n) in
+    let both : fits AProcedure one.slot && differ ≡ false = ap (λ (d : Declared). is_miscalled n (Some d)) (sym same) ∙ kept in
+    eqb-true one.parameters n (not-false (nat_eq one.parameters n) (ap (λ b. b && differ) (sym fitting) ∙ both))
 
 -- a variable is a scalar, or an array of a size that arrays may have
 abbrev pub HasArraySize : Option Number → Type 0
 HasArraySize None = Unit {0}
 HasArraySize (Some number) = is_array_size (natural number.value) ≡ true
 
-sized : (size : Option Number) → AllByRecursion IsKept (size_sites size) → HasArraySize size
+abbrev pub HaveArraySizes : List Declaration → Type 0
+HaveArraySizes variables = AllByRecursion (λ one. HasArraySize one.size) variables
+
+sized : (size : Option Number) → AreKept (size_sites size) → HasArraySize size
 sized None kept = tt
-sized (Some number) kept = not-false (is_array_size (natural number.value)) (unbroken (not (is_array_size (natural number.value))) _ number.place kept.0)
+sized (Some number) kept =
+    let fitting = is_array_size (natural number.value) in not-false fitting (unbroken (not fitting) _ number.place kept.0)
 
 -- where no size is a fault, all variables are so
-pub all_sized : (variables : List Declaration) → AllByRecursion IsKept (flat_map (λ one. size_sites one.size) variables)
-    → AllByRecursion (λ one. HasArraySize one.size) variables
+pub all_sized : (variables : List Declaration) → AreKept (flat_map (λ one. size_sites one.size) variables) → HaveArraySizes variables
 all_sized variables kept =
     all_parts IsKept (λ (one : Declaration). size_sites one.size) (λ one. HasArraySize one.size) variables (λ one. sized one.size) kept
 

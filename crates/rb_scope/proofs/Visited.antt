@@ -16,7 +16,10 @@ drop-at xs i x e h =
     drop-cons xs i x h ∙ ap (λ y. y ∷ drop (suc i) xs) (sym e) ∙ ap (λ n. x ∷ drop n xs) (sym (add-one i))
 
 -- One element more of a list whose parts are visited in turn: what is found behind the rest stays what it was.
-pub step : {A : Type 0} (sites : List A → List Site) (part : A → List Site) → ((x : A) (xs : List A) → sites (x ∷ xs) ≡ part x ++ sites xs) → (xs : List A) (i : ℕ) (x : A) → x ≡ get_or xs i x → i < length xs → (before after whole : Found) → visited before (sites (drop i xs)) ≡ whole → after ≡ visited before (part x) → visited after (sites (drop (i + 1) xs)) ≡ whole
+pub step : {A : Type 0} (sites : List A → List Site) (part : A → List Site)
+    → ((x : A) (xs : List A) → sites (x ∷ xs) ≡ part x ++ sites xs) → (xs : List A) (i : ℕ) (x : A) → x ≡ get_or xs i x
+    → i < length xs → (before after whole : Found) → visited before (sites (drop i xs)) ≡ whole → after ≡ visited before (part x)
+    → visited after (sites (drop (i + 1) xs)) ≡ whole
 step sites part splits xs i x e h before after whole w a =
     ap (λ f. visited f (sites (drop (i + 1) xs))) a
     ∙ sym (visited_append before (part x) (sites (drop (i + 1) xs)))
