@@ -49,3 +49,4 @@ pub mod ProcessesStand
 pub mod RunsStand
 pub mod WholeRuns
 pub mod Upright
+pub mod Tabled
