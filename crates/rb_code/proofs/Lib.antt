@@ -51,3 +51,4 @@ pub mod WholeRuns
 pub mod Upright
 pub mod Tabled
 pub mod Stretches
+pub mod Resting
