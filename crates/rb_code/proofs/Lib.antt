@@ -52,3 +52,4 @@ pub mod Upright
 pub mod Tabled
 pub mod Stretches
 pub mod Resting
+pub mod Choices
