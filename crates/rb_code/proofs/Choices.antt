@@ -51,7 +51,7 @@ module _ (c : Code) (groups : List Membership) (P : Around) (within : Within) wh
 
   module _ (words : ℕ) (blocks : List OpenBlock) (above : IsAbove blocks words) where
     -- a jump behind a block, with what follows
-    jump_on : (asks behind : Around) (a m b d : ℕ) → One (Jump d) c a m → m ≤ d → Stretch c groups asks behind m b
+    pub jump_on : (asks behind : Around) (a m b d : ℕ) → One (Jump d) c a m → m ≤ d → Stretch c groups asks behind m b
         → ((t : Table) → behind t → asks t → Rests words blocks Changed d t)
         → Stretch c groups asks (λ t. Rests words blocks Changed a t × behind t) a b
     jump_on asks behind a m b d jump up rest there =

@@ -53,3 +53,4 @@ pub mod Tabled
 pub mod Stretches
 pub mod Resting
 pub mod Choices
+pub mod Alternatives
