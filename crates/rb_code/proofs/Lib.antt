@@ -50,3 +50,4 @@ pub mod RunsStand
 pub mod WholeRuns
 pub mod Upright
 pub mod Tabled
+pub mod Forward
