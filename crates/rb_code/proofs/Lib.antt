@@ -51,3 +51,6 @@ pub mod WholeRuns
 pub mod Upright
 pub mod Tabled
 pub mod Forward
+pub mod InRanges
+pub mod PlainTables
+pub mod OperatorTables
