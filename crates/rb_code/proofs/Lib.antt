@@ -54,3 +54,7 @@ pub mod Stretches
 pub mod Resting
 pub mod Choices
 pub mod Alternatives
+pub mod Forward
+pub mod InRanges
+pub mod PlainTables
+pub mod OperatorTables

@@ -3,26 +3,10 @@
 use Rattle.std.proofs.Common.{◌≡◌, ℕ, zero, suc, ◌+◌, ◌<◌, ◌≤◌, nat_lt, cond, Bool, true, false, List, [], ◌∷◌, filter, slice_get, Option, Some, None, refl, ap, sym, ◌∙◌, subst, arith}
 use Rattle.rb_world.specs.Kind.{Membership}
 use Rattle.rb_code.specs.Plain.{Code}
-use Rattle.rb_code.specs.Sound.{Entry, Mode, Fresh, MayPut, MayTake, Begun, Free, Changed, Fine, FineAt, Has, IsAbove, IsSoundAt, IsWeaker, LeadsTo, Table, WeakerMode, WeakerOperand, WeakerOperands, at_address, is_in}
+use Rattle.rb_code.specs.Sound.{Entry, Fine, FineAt, IsAbove, IsSoundAt, LeadsTo, Table, is_in}
 use Rattle.rb_code.specs.Template.{One}
 use Rattle.rb_code.specs.declared.instr.Instr.{Instr}
-use Rattle.rb_code.proofs.Tabled.{AgreeBetween, Around, Tabled}
-
-same_operand : (o : Option ℕ) → WeakerOperand o o
-same_operand None = tt
-same_operand (Some n) = refl
-
-same_operands : (os : List (Option ℕ)) → WeakerOperands os os
-same_operands [] = tt
-same_operands (o ∷ os) = (same_operand o, same_operands os)
-
-same_mode : (mode : Mode) → WeakerMode mode mode
-same_mode Fresh = refl
-same_mode (MayPut channel) = refl
-same_mode (MayTake channel) = refl
-same_mode Begun = refl
-same_mode Free = refl
-same_mode Changed = tt
+use Rattle.rb_code.proofs.Tabled.{AgreeBetween, Around, Tabled, leads_there}
 
 -- one table up to an address, and another from there on
 abbrev pub cut_at : ℕ → Table → Table → Table
@@ -53,18 +37,6 @@ agree_behind a m b t before behind h agree x low high =
     agree x there high ∙ cut_behind x m before behind low
 
 module _ (c : Code) (groups : List Membership) where
-  -- a table's own entry is what leads there
-  pub leads_to_own : (t : Table) (a : ℕ) (e : Entry) → filter (is_in a) e.loops ≡ e.loops → t a ≡ Some e → LeadsTo c groups t a e
-  leads_to_own t a e around there = subst (λ o. Has o (at_address a e)) (sym there) (record {
-    within = refl;
-    operands = same_operands e.operands;
-    words = refl;
-    blocks = refl;
-    loops = sym around;
-    pieces = refl;
-    mode = same_mode e.mode;
-  })
-
   -- From a up to b a table is known. It asks something of the whole table outside, and tells something of it.
   pub record Stretch (asks tells : Around) (a b : ℕ) : Type 0 where
     pub ordered : a ≤ b
@@ -73,12 +45,12 @@ module _ (c : Code) (groups : List Membership) where
     pub sound : (t : Table) → AgreeBetween a b t table → asks t → (x : ℕ) (g : Entry) → a ≤ x → x < b → t x ≡ Some g → IsSoundAt c groups t x g
 
   -- of code for which a table is known otherwise
-  pub stretch_of : (asks : Around) (a b : ℕ) (e : Entry) → a ≤ b → Tabled c groups asks a b e → Stretch asks (λ t. LeadsTo c groups t a e) a b
-  stretch_of asks a b e ordered known = record { ordered = ordered; table = known.table; told = known.begins; sound = known.sound }
+  pub stretch_of : (asks : Around) (a b : ℕ) (e : Entry) → Tabled c groups asks a b e → Stretch asks (λ t. LeadsTo c groups t a e) a b
+  stretch_of asks a b e known = record { ordered = known.forward; table = known.table; told = known.begins; sound = known.sound }
 
   -- and the other way about
   pub tabled_by : (asks : Around) (a b : ℕ) (e : Entry) → Stretch asks (λ t. LeadsTo c groups t a e) a b → Tabled c groups asks a b e
-  tabled_by asks a b e known = record { table = known.table; begins = known.told; sound = known.sound }
+  tabled_by asks a b e known = record { forward = known.ordered; table = known.table; begins = known.told; sound = known.sound }
 
   -- no instruction
   pub no_stretch : (asks : Around) (a : ℕ) → Stretch asks asks a a
@@ -168,7 +140,7 @@ module _ (c : Code) (groups : List Membership) where
           agree_before a m b t (λ x. Some e) rest.table rest.ordered agree a low high
 
       here : (t : Table) → AgreeBetween a b t whole → LeadsTo c groups t a e
-      here t agree = leads_to_own t a e around (entry t agree)
+      here t agree = leads_there c groups t a e around (entry t agree)
 
       own : (t : Table) → AgreeBetween a b t whole → asks t → IsSoundAt c groups t a e
       own t agree asked = record {
