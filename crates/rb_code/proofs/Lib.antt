@@ -54,6 +54,7 @@ pub mod Stretches
 pub mod Resting
 pub mod Choices
 pub mod Alternatives
+pub mod Spots
 pub mod Forward
 pub mod InRanges
 pub mod PlainTables
