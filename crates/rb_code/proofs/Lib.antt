@@ -55,6 +55,7 @@ pub mod Resting
 pub mod Choices
 pub mod Alternatives
 pub mod Spots
+pub mod CommandTables
 pub mod Forward
 pub mod InRanges
 pub mod PlainTables
