@@ -72,11 +72,11 @@ module _ (c : Code) (groups : List Membership) where
       inl further
 
   -- A statement begins with a `turn`, and may come back to it.
-  pub turn_first : (asks asked_there behind : Around) (a m b : ℕ) (within : Within) (words : ℕ) (blocks : List OpenBlock) → IsAbove blocks words
-      → One Turn c a m → Stretch c groups asked_there behind m b
+  pub turn_first : (P asks asked_there behind : Around) (a m b : ℕ) (within : Within) (words : ℕ) (blocks : List OpenBlock) → IsAbove blocks words
+      → One Turn c a m → Stretch c groups P asked_there behind m b
       → ((t : Table) → behind t → LeadsTo c groups t m (resting within words blocks Fresh))
       → ((t : Table) → LeadsTo c groups t a (resting within words blocks Changed) → asks t → asked_there t)
-      → Stretch c groups asks (λ t. LeadsTo c groups t a (resting within words blocks Changed) × behind t) a b
-  turn_first asks asked_there behind a m b within words blocks above turn rest onward enough =
-      begins_with c groups asks behind asked_there Turn a m b (resting within words blocks Changed) turn refl above rest enough
-      (λ t here known asked. (refl, refl, refl, behind_it t Turn a m (resting within words blocks Fresh) turn (onward t known)))
+      → Stretch c groups P asks (λ t. LeadsTo c groups t a (resting within words blocks Changed) × behind t) a b
+  turn_first P asks asked_there behind a m b within words blocks above turn rest onward enough =
+      begins_with c groups P asks behind asked_there Turn a m b (resting within words blocks Changed) turn refl above rest enough
+      (λ t all here known asked. (refl, refl, refl, behind_it t Turn a m (resting within words blocks Fresh) turn (onward t known)))

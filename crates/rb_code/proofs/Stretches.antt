@@ -6,7 +6,7 @@ use Rattle.rb_code.specs.Plain.{Code}
 use Rattle.rb_code.specs.Sound.{Entry, Fine, FineAt, IsAbove, IsSoundAt, LeadsTo, Table, is_in}
 use Rattle.rb_code.specs.Template.{One}
 use Rattle.rb_code.specs.declared.instr.Instr.{Instr}
-use Rattle.rb_code.proofs.Tabled.{AgreeBetween, Around, Tabled, leads_there}
+use Rattle.rb_code.proofs.Tabled.{AgreeBetween, Around, TabledFirst, leads_there}
 
 -- one table up to an address, and another from there on
 abbrev pub cut_at : ℕ → Table → Table → Table
@@ -36,21 +36,24 @@ agree_behind a m b t before behind h agree x low high =
     let there : a ≤ x = omega arith in
     agree x there high ∙ cut_behind x m before behind low
 
-module _ (c : Code) (groups : List Membership) where
-  -- From a up to b a table is known. It asks something of the whole table outside, and tells something of it.
+module _ (c : Code) (groups : List Membership) (P : Around) where
+  -- From a up to b a table is known. It asks something of the whole table outside, and tells something of it; that it is sound may ask
+  -- more of the table, wherever that is, which is P.
   pub record Stretch (asks tells : Around) (a b : ℕ) : Type 0 where
     pub ordered : a ≤ b
     pub table : Table
     pub told : (t : Table) → AgreeBetween a b t table → asks t → tells t
-    pub sound : (t : Table) → AgreeBetween a b t table → asks t → (x : ℕ) (g : Entry) → a ≤ x → x < b → t x ≡ Some g → IsSoundAt c groups t x g
+    pub sound : (t : Table) → AgreeBetween a b t table → P t → asks t → (x : ℕ) (g : Entry) → a ≤ x → x < b → t x ≡ Some g → IsSoundAt c groups t x g
 
-  -- of code for which a table is known otherwise
-  pub stretch_of : (asks : Around) (a b : ℕ) (e : Entry) → Tabled c groups asks a b e → Stretch asks (λ t. LeadsTo c groups t a e) a b
-  stretch_of asks a b e known = record { ordered = known.forward; table = known.table; told = known.begins; sound = known.sound }
-
-  -- and the other way about
-  pub tabled_by : (asks : Around) (a b : ℕ) (e : Entry) → Stretch asks (λ t. LeadsTo c groups t a e) a b → Tabled c groups asks a b e
-  tabled_by asks a b e known = record { forward = known.ordered; table = known.table; begins = known.told; sound = known.sound }
+  -- of code with an instruction at least, for which a table is known otherwise
+  pub stretch_of : (asks around : Around) (a b : ℕ) (e : Entry) → TabledFirst c groups around a b e → ((t : Table) → P t → asks t → around t)
+      → Stretch asks (λ t. LeadsTo c groups t a e) a b
+  stretch_of asks around a b e known enough = record {
+    ordered = known.whole.forward;
+    table = known.whole.table;
+    told = λ t agree asked. known.at_once t agree;
+    sound = λ t agree all asked. known.whole.sound t agree (enough t all asked);
+  }
 
   -- no instruction
   pub no_stretch : (asks : Around) (a : ℕ) → Stretch asks asks a a
@@ -58,7 +61,7 @@ module _ (c : Code) (groups : List Membership) where
     ordered = omega arith;
     table = λ x. None;
     told = λ t agree asked. asked;
-    sound = λ t agree asked x g low high there. absurd (grind arith);
+    sound = λ t agree all asked x g low high there. absurd (grind arith);
   }
 
   -- more asked, and less told
@@ -68,7 +71,7 @@ module _ (c : Code) (groups : List Membership) where
     ordered = known.ordered;
     table = known.table;
     told = λ t agree asked. fewer t (known.told t agree (enough t asked)) asked;
-    sound = λ t agree asked. known.sound t agree (enough t asked);
+    sound = λ t agree all asked. known.sound t agree all (enough t asked);
   }
 
   -- one stretch after another, which tells it what it asks
@@ -78,7 +81,7 @@ module _ (c : Code) (groups : List Membership) where
     ordered = up;
     table = whole;
     told = λ t agree asked. (first.told t (left t agree) (given t agree asked), rest.told t (right t agree) asked);
-    sound = λ t agree asked x g low high there. by t agree asked x g low high there (nat_lt x m) refl;
+    sound = λ t agree all asked x g low high there. by t agree all asked x g low high there (nat_lt x m) refl;
   }
     where
       up : a ≤ b
@@ -96,14 +99,14 @@ module _ (c : Code) (groups : List Membership) where
       given : (t : Table) → AgreeBetween a b t whole → asks t → before t
       given t agree asked = enough t (rest.told t (right t agree) asked) asked
 
-      by : (t : Table) → AgreeBetween a b t whole → asks t → (x : ℕ) (g : Entry) → a ≤ x → x < b → t x ≡ Some g → (test : Bool) → nat_lt x m ≡ test
+      by : (t : Table) → AgreeBetween a b t whole → P t → asks t → (x : ℕ) (g : Entry) → a ≤ x → x < b → t x ≡ Some g → (test : Bool) → nat_lt x m ≡ test
           → IsSoundAt c groups t x g
-      by t agree asked x g low high there true e =
+      by t agree all asked x g low high there true e =
           let here : x < m = grind arith in
-          first.sound t (left t agree) (given t agree asked) x g low here there
-      by t agree asked x g low high there false e =
+          first.sound t (left t agree) all (given t agree asked) x g low here there
+      by t agree all asked x g low high there false e =
           let here : m ≤ x = grind arith in
-          rest.sound t (right t agree) asked x g here high there
+          rest.sound t (right t agree) all asked x g here high there
 
   same_entry : (o : Option Entry) (e g : Entry) → o ≡ Some e → o ≡ Some g → e ≡ g
   same_entry o e g h i = cc
@@ -112,13 +115,13 @@ module _ (c : Code) (groups : List Membership) where
   pub begins_with : (asks behind asked_there : Around) (instr : Instr) (a m b : ℕ) (e : Entry) → One instr c a m
       → filter (is_in a) e.loops ≡ e.loops → IsAbove e.blocks e.words → Stretch asked_there behind m b
       → ((t : Table) → LeadsTo c groups t a e → asks t → asked_there t)
-      → ((t : Table) → LeadsTo c groups t a e → behind t → asks t → Fine c groups t instr a e)
+      → ((t : Table) → P t → LeadsTo c groups t a e → behind t → asks t → Fine c groups t instr a e)
       → Stretch asks (λ t. LeadsTo c groups t a e × behind t) a b
   begins_with asks behind asked_there instr a m b e (there, next) around above rest enough fine = record {
     ordered = up;
     table = whole;
     told = λ t agree asked. (here t agree, rest.told t (right t agree) (enough t (here t agree) asked));
-    sound = λ t agree asked x g low high is. by t agree asked x g low high is (nat_lt x m) refl;
+    sound = λ t agree all asked x g low high is. by t agree all asked x g low high is (nat_lt x m) refl;
   }
     where
       up : a ≤ b
@@ -142,20 +145,20 @@ module _ (c : Code) (groups : List Membership) where
       here : (t : Table) → AgreeBetween a b t whole → LeadsTo c groups t a e
       here t agree = leads_there c groups t a e around (entry t agree)
 
-      own : (t : Table) → AgreeBetween a b t whole → asks t → IsSoundAt c groups t a e
-      own t agree asked = record {
+      own : (t : Table) → AgreeBetween a b t whole → P t → asks t → IsSoundAt c groups t a e
+      own t agree all asked = record {
         fine = subst (λ o. FineAt c groups t o a e) (sym there)
-            (fine t (here t agree) (rest.told t (right t agree) (enough t (here t agree) asked)) asked);
+            (fine t all (here t agree) (rest.told t (right t agree) (enough t (here t agree) asked)) asked);
         above = above;
         around = around;
       }
 
-      by : (t : Table) → AgreeBetween a b t whole → asks t → (x : ℕ) (g : Entry) → a ≤ x → x < b → t x ≡ Some g → (test : Bool) → nat_lt x m ≡ test
+      by : (t : Table) → AgreeBetween a b t whole → P t → asks t → (x : ℕ) (g : Entry) → a ≤ x → x < b → t x ≡ Some g → (test : Bool) → nat_lt x m ≡ test
           → IsSoundAt c groups t x g
-      by t agree asked x g low high is true h =
+      by t agree all asked x g low high is true h =
           let same : a ≡ x = grind (arith, next) in
           subst (λ y. IsSoundAt c groups t y g) same
-              (subst (IsSoundAt c groups t a) (same_entry (t a) e g (entry t agree) (ap t same ∙ is)) (own t agree asked))
-      by t agree asked x g low high is false h =
+              (subst (IsSoundAt c groups t a) (same_entry (t a) e g (entry t agree) (ap t same ∙ is)) (own t agree all asked))
+      by t agree all asked x g low high is false h =
           let behind_it : m ≤ x = grind arith in
-          rest.sound t (right t agree) (enough t (here t agree) asked) x g behind_it high is
+          rest.sound t (right t agree) all (enough t (here t agree) asked) x g behind_it high is
