@@ -56,6 +56,7 @@ pub mod Choices
 pub mod Alternatives
 pub mod Spots
 pub mod CommandTables
+pub mod ProcessTables
 pub mod Forward
 pub mod InRanges
 pub mod PlainTables
