@@ -57,6 +57,7 @@ pub mod Alternatives
 pub mod Spots
 pub mod CommandTables
 pub mod ProcessTables
+pub mod WholeTables
 pub mod Forward
 pub mod InRanges
 pub mod PlainTables
