@@ -54,3 +54,4 @@ pub mod Forward
 pub mod InRanges
 pub mod PlainTables
 pub mod OperatorTables
+pub mod CounterTables
