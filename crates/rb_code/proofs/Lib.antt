@@ -55,3 +55,4 @@ pub mod InRanges
 pub mod PlainTables
 pub mod OperatorTables
 pub mod CounterTables
+pub mod ExpressionTables
