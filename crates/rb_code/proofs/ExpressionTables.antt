@@ -65,13 +65,13 @@ module _ (c : Code) (groups : List Membership) (slots : List Slot) (globals : Sh
     pub own : shape_words globals ≤ (part_of c e.within.process).words
     pub before : in_test ≡ true → InnermostIs e.blocks (λ block around. shapes_words shapes ≤ block.words)
 
-  scalar_range : (words own : ℕ) (name : Identifier) (named : List (List ℕ × ℕ)) (q : ℕ) → shape_words globals ≤ own → shapes_words shapes ≤ words
+  pub scalar_range : (words own : ℕ) (name : Identifier) (named : List (List ℕ × ℕ)) (q : ℕ) → shape_words globals ≤ own → shapes_words shapes ≤ words
       → IsScalar slots (frames_with named q) name → InRange own words (spot_of slots name.id) 1
   scalar_range words own name named q low high is =
       subst (λ spot. InRange own words spot 1) (sym (scalar_spot slots name.id is.at is.slot))
       (subst (InRange own words (spot_at is.at)) is.one_word (in_range (frames_with named q) own words name.text is.at is.found low high))
 
-  array_range : (words own : ℕ) (name : Identifier) (named : List (List ℕ × ℕ)) (q : ℕ) → shape_words globals ≤ own → shapes_words shapes ≤ words
+  pub array_range : (words own : ℕ) (name : Identifier) (named : List (List ℕ × ℕ)) (q : ℕ) → shape_words globals ≤ own → shapes_words shapes ≤ words
       → IsArray slots (frames_with named q) name → InRange own words (spot_of slots name.id) (elements_of slots name.id)
   array_range words own name named q low high is =
       subst (λ spot. InRange own words spot (elements_of slots name.id)) (sym (array_spot slots name.id is.at is.slot))

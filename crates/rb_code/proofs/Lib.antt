@@ -56,3 +56,4 @@ pub mod PlainTables
 pub mod OperatorTables
 pub mod CounterTables
 pub mod ExpressionTables
+pub mod StatementTables
