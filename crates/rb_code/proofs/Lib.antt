@@ -57,3 +57,4 @@ pub mod OperatorTables
 pub mod CounterTables
 pub mod ExpressionTables
 pub mod StatementTables
+pub mod LineTables
