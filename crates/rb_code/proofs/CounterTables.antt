@@ -1,5 +1,5 @@
 -- Tables of the code of quantified expressions: a loop over a counter, which is left at its end or by a jump out of it.
-use Rattle.std.proofs.Common.{◌≡◌, inl, inr, ℕ, suc, ◌+◌, ◌<◌, ◌≤◌, pos, false, List, [], ◌∷◌, length, filter, slice_get, Option, Some, None, refl, ap, sym, ◌∙◌, subst, arith}
+use Rattle.std.proofs.Common.{◌≡◌, inl, ℕ, ◌+◌, ◌<◌, ◌≤◌, pos, List, ◌∷◌, length, slice_get, Option, Some, None, refl, ap, sym, ◌∙◌, subst, arith}
 use Rattle.rb_syntax.specs.declared.expression.Quantifier.{Quantifier}
 use Rattle.rb_syntax.specs.declared.expression.Quantifier.TheVariants.{Every, Any, Total}
 use Rattle.rb_world.specs.Kind.{Membership}
@@ -11,8 +11,8 @@ use Rattle.rb_code.specs.Forms.{EveryCode, QuantifiedCode, SomeCode, SumCode}
 use Rattle.rb_code.specs.declared.instr.Instr.TheVariants as instr
 use Rattle.rb_code.proofs.Forward.{Forward}
 use Rattle.rb_code.proofs.LoopSteps.{behind_loop, in_loop, keeps_first}
-use Rattle.rb_code.proofs.PlainTables.{Cover, Quiet, cover_within, jump_tabled, jump_zero_tabled, leads_outside, plain_tabled, point, push_tabled, quiet_on}
-use Rattle.rb_code.proofs.Tabled.{Around, LieAround, Tabled, TabledFirst, again_first, joined_first, one_tabled}
+use Rattle.rb_code.proofs.PlainTables.{Cover, Quiet, cover_within, jump_tabled, jump_zero_tabled, leads_outside, plain_tabled, point, push_tabled}
+use Rattle.rb_code.proofs.Tabled.{Around, LieAround, TabledFirst, again_first, joined_first, one_tabled}
 
 -- the operands on which the limits of a quantified expression stand, where it stands on these
 abbrev pub summed_operands : Quantifier → List (Option ℕ) → List (Option ℕ)

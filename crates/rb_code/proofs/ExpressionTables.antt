@@ -1,8 +1,8 @@
 -- Tables of the code of expressions.
-use Rattle.std.proofs.Common.{◌≡◌, inl, inr, ℕ, suc, ◌+◌, ◌<◌, ◌≤◌, Bool, true, false, cond, List, [], ◌∷◌, length, slice_get, Option, Some, None, refl, ap, sym, ◌∙◌, subst, arith}
+use Rattle.std.proofs.Common.{◌≡◌, inl, inr, ℕ, suc, ◌+◌, ◌<◌, ◌≤◌, Bool, true, false, cond, List, [], ◌∷◌, length, Option, Some, None, refl, ap, sym, subst, arith}
 use Rattle.rb_syntax.specs.Tree.{Identifier, Expression, Literal, Variable, Former, Minus, Negation, Chained, Quantification, Refer, Scalar, Element, Links, NoLink, Linked}
 use Rattle.rb_meaning.specs.Environment.{same_name}
-use Rattle.rb_scope.specs.Frames.{Frames, Shape, counter_among, shape_words, shapes_words, words_lying}
+use Rattle.rb_scope.specs.Frames.{Frames, Shape, counter_among, shape_words, shapes_words}
 use Rattle.rb_scope.specs.InFrames.{ExpressionInFrames, IsArray, IsScalar, IsValueBy, LinksInFrames}
 use Rattle.rb_scope.specs.declared.slot.Slot.{Slot}
 use Rattle.rb_world.specs.Kind.{Membership}
@@ -10,13 +10,12 @@ use Rattle.rb_world.proofs.ListFacts.{none_some, some_same}
 use Rattle.rb_code.specs.Plain.{Code}
 use Rattle.rb_code.specs.Memory.{part_of}
 use Rattle.rb_code.specs.Operands.{HasRoom, LinksHaveRoom}
-use Rattle.rb_code.specs.Slots.{counter_in, counter_of, elements_of, quantified_in, quantified_of, spot_of}
+use Rattle.rb_code.specs.Slots.{counter_in, counter_of, elements_of, quantified_in, spot_of}
 use Rattle.rb_code.specs.Sound.{Mode, Entry, Fine, InRange, InnermostIs, IsAbove, IsSet, LeadsTo, Loop, OpenBlock, Table, freed, most_operands}
-use Rattle.rb_code.specs.Template.{Template, One, ◌⨾◌}
-use Rattle.rb_code.specs.Forms.{ExpressionCode, LinksCode, OperatorCode, QuantifiedCode, ScalarCode, SubscriptCode}
+use Rattle.rb_code.specs.Template.{One, ◌⨾◌}
+use Rattle.rb_code.specs.Forms.{ExpressionCode, LinksCode, QuantifiedCode, ScalarCode, SubscriptCode}
 use Rattle.rb_code.specs.declared.instr.Instr.{Instr}
 use Rattle.rb_code.specs.declared.instr.Instr.TheVariants as instr
-use Rattle.rb_code.specs.declared.instr.Spot.{Spot}
 use Rattle.rb_code.proofs.CounterTables.{loop_over, quantified_tabled, summed_long, summed_operands}
 use Rattle.rb_code.proofs.Forward.{expression_forward, links_forward, operator_forward}
 use Rattle.rb_code.proofs.Found.{array_elements, array_spot, scalar_no_counter, scalar_spot}

@@ -7,7 +7,7 @@ use Rattle.rb_syntax.specs.declared.expression.Quantifier.TheVariants.{Every, An
 use Rattle.rb_syntax.specs.Tree.{Expression, Literal, Variable, Former, Minus, Negation, Chained, Quantification, Refer, Scalar, Element, Links, NoLink, Linked}
 use Rattle.rb_scope.specs.declared.slot.Slot.{Slot}
 use Rattle.rb_code.specs.Plain.{Code}
-use Rattle.rb_code.specs.Slots.{counter_of, elements_of, quantified_of, spot_of}
+use Rattle.rb_code.specs.Slots.{counter_of, quantified_of, spot_of}
 use Rattle.rb_code.specs.Template.{Template, One}
 use Rattle.rb_code.specs.Forms.{ExpressionCode, LinksCode, OperatorCode, QuantifiedCode, ScalarCode, SubscriptCode}
 use Rattle.rb_code.specs.declared.instr.Instr.{Instr}

@@ -1,5 +1,5 @@
 -- Tables of the code of `print` and of calls.
-use Rattle.std.proofs.Common.{◌≡◌, ℕ, suc, ◌+◌, ◌<◌, ◌≤◌, Bool, List, [], ◌∷◌, length, slice_get, Option, Some, None, refl, ap, sym, ◌∙◌, subst, arith}
+use Rattle.std.proofs.Common.{◌≡◌, ℕ, ◌+◌, ◌<◌, ◌≤◌, Bool, List, [], ◌∷◌, length, Option, None, refl, sym, subst, arith}
 use Rattle.std.specs.List.{All}
 use Rattle.std.proofs.lemmas.List.Elements.{All-head, All-tail}
 use Rattle.std.proofs.lemmas.Option.{slice_get_within}
@@ -12,13 +12,13 @@ use Rattle.rb_code.specs.Plain.{Code}
 use Rattle.rb_code.specs.Memory.{part_of}
 use Rattle.rb_code.specs.Operands.{ArgumentsHaveRoom, ItemsHaveRoom, PrintedHasRoom}
 use Rattle.rb_code.specs.Sound.{BeginsAs, Mode, Fresh, Free, Changed, Entry, IsProcedureAt, LeadsTo, Table, most_pieces}
-use Rattle.rb_code.specs.Template.{Template, One, ◌⨾◌}
+use Rattle.rb_code.specs.Template.{One, ◌⨾◌}
 use Rattle.rb_code.specs.Forms.{ArgumentsCode, ItemsCode, PrintedCode}
 use Rattle.rb_code.specs.declared.instr.Instr.TheVariants as instr
 use Rattle.rb_code.proofs.ExpressionTables.{HasWords}
-use Rattle.rb_code.proofs.PlainTables.{Quiet, plain_tabled, point, quiet, quiet_on, step_tabled}
+use Rattle.rb_code.proofs.PlainTables.{Quiet, point, quiet, quiet_on, step_tabled}
 use Rattle.rb_code.proofs.StatementTables.{around, turn_tabled, value_tabled}
-use Rattle.rb_code.proofs.Tabled.{Around, Tabled, TabledFirst, joined_first}
+use Rattle.rb_code.proofs.Tabled.{Around, TabledFirst, joined_first}
 
 -- the entry with so many pieces of a line
 abbrev pub with_pieces : ℕ → Entry → Entry

@@ -1,6 +1,6 @@
 -- Tables of the code of assignments, sends, receives and `fail`.
-use Rattle.std.proofs.Common.{◌≡◌, inl, inr, ℕ, zero, suc, ◌+◌, ◌<◌, ◌≤◌, Bool, true, false, List, [], ◌∷◌, length, slice_get, Option, Some, None, refl, ap, sym, ◌∙◌, subst, arith}
-use Rattle.rb_syntax.specs.Tree.{Identifier, Expression, Reference, Refer, Scalar, Element}
+use Rattle.std.proofs.Common.{◌≡◌, ℕ, ◌<◌, Bool, true, List, [], ◌∷◌, length, slice_get, Option, Some, None, refl, sym, subst, arith}
+use Rattle.rb_syntax.specs.Tree.{Expression, Reference, Refer, Scalar, Element}
 use Rattle.rb_scope.specs.Frames.{Frames, Shape}
 use Rattle.rb_scope.specs.InFrames.{ExpressionInFrames, IsScalar, ReferenceInFrames}
 use Rattle.rb_scope.specs.declared.slot.Slot.{Slot}
@@ -9,14 +9,13 @@ use Rattle.rb_code.specs.Plain.{Code}
 use Rattle.rb_code.specs.Memory.{part_of}
 use Rattle.rb_code.specs.Operands.{HasRoom, ReferenceHasRoom, stored_on}
 use Rattle.rb_code.specs.Slots.{elements_of, spot_of}
-use Rattle.rb_code.specs.Sound.{Mode, Fresh, MayPut, MayTake, Begun, Free, Changed, Entry, Has, IsReceiver, IsSender, IsWeaker, LeadsTo, MayTrap, Table, WeakerMode, at_address, most_operands}
+use Rattle.rb_code.specs.Sound.{Mode, Fresh, MayPut, MayTake, Free, Changed, Entry, Has, IsReceiver, IsSender, IsWeaker, LeadsTo, Table, WeakerMode, at_address, most_operands}
 use Rattle.rb_code.specs.Template.{Template, One, ◌⨾◌}
 use Rattle.rb_code.specs.Forms.{ExpressionCode, StoreCode}
-use Rattle.rb_code.specs.declared.instr.Instr.{Instr}
 use Rattle.rb_code.specs.declared.instr.Instr.TheVariants as instr
 use Rattle.rb_code.proofs.ExpressionTables.{HasWords, array_range, expression_tabled, frames_with, none_set, scalar_range}
 use Rattle.rb_code.proofs.PlainTables.{Cover, Quiet, plain_tabled, point, quiet, quiet_on, step_tabled}
-use Rattle.rb_code.proofs.Tabled.{Around, Tabled, TabledFirst, joined_first, one_tabled}
+use Rattle.rb_code.proofs.Tabled.{Around, TabledFirst, joined_first}
 use Rattle.rb_code.proofs.Weaker.{weaker_changed}
 
 -- where it is known that something was changed, any mode may lead
