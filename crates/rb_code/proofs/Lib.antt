@@ -50,6 +50,12 @@ pub mod RunsStand
 pub mod WholeRuns
 pub mod Upright
 pub mod Tabled
+pub mod Stretches
+pub mod Resting
+pub mod Choices
+pub mod Alternatives
+pub mod Spots
+pub mod CommandTables
 pub mod Forward
 pub mod InRanges
 pub mod PlainTables

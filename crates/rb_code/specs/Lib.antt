@@ -14,6 +14,7 @@ pub mod StandsFor
 pub mod Sound
 pub mod Safe
 pub mod Operands
+pub mod RoomInTree
 pub mod WellFormed
 pub mod Stands
 pub mod StandsInRuns
