@@ -64,3 +64,4 @@ pub mod CounterTables
 pub mod ExpressionTables
 pub mod StatementTables
 pub mod LineTables
+pub mod SimpleTables

@@ -10,7 +10,7 @@ use Rattle.rb_scope.specs.declared.slot.Slot.{Slot}
 use Rattle.rb_world.specs.Kind.{Membership}
 use Rattle.rb_code.specs.Plain.{Code}
 use Rattle.rb_code.specs.Memory.{part_of}
-use Rattle.rb_code.specs.Operands.{ArgumentsHaveRoom, ItemsHaveRoom, PrintedHasRoom}
+use Rattle.rb_code.specs.RoomInTree.{ArgumentsHaveRoom, PrintedHasRoom}
 use Rattle.rb_code.specs.Sound.{BeginsAs, Mode, Fresh, Free, Changed, Entry, IsProcedureAt, LeadsTo, Table, most_pieces}
 use Rattle.rb_code.specs.Template.{One, ◌⨾◌}
 use Rattle.rb_code.specs.Forms.{ArgumentsCode, ItemsCode, PrintedCode}
@@ -51,7 +51,7 @@ module _ (c : Code) (groups : List Membership) (slots : List Slot) (globals : Sh
 
     -- items of a line, and its end
     items_tabled : (items : List PrintItem) (n : ℕ) (R : Around) (a b : ℕ) (mode after : Mode) → Quiet mode after
-        → All (λ item. PrintedInFrames slots frames item.what) items → ItemsHaveRoom items → n + length items ≤ most_pieces
+        → All (λ item. PrintedInFrames slots frames item.what) items → All (λ item. PrintedHasRoom item.what) items → n + length items ≤ most_pieces
         → (ItemsCode slots items ⨾ One instr.Print) c a b
         → ((t : Table) → R t → LeadsTo c groups t b (point (with_pieces 0 e) [] [] Changed)) → TabledFirst c groups R a b (point (with_pieces n e) [] [] mode)
     items_tabled [] n R a b mode after begun known room few (m, none, one) next =
@@ -60,13 +60,13 @@ module _ (c : Code) (groups : List Membership) (slots : List Slot) (globals : Sh
     items_tabled (item ∷ items) n R a b mode after begun known room few (m, (p, code, more), one) next =
         joined_first c groups R a p b (point (with_pieces n e) [] [] mode) (point (with_pieces (n + 1) e) [] [] after)
         (item_tabled item.what n (λ t. LeadsTo c groups t p (point (with_pieces (n + 1) e) [] [] after) × R t) a p mode after begun
-        (All-head (λ (each : PrintItem). PrintedInFrames slots frames each.what) item items known) room.0 (omega (arith, few)) code (λ t r. r.0))
+        (All-head (λ (each : PrintItem). PrintedInFrames slots frames each.what) item items known) (All-head (λ (each : PrintItem). PrintedHasRoom each.what) item items room) (omega (arith, few)) code (λ t r. r.0))
         (items_tabled items (n + 1) R p b after after (quiet_on mode after begun)
-        (All-tail (λ (each : PrintItem). PrintedInFrames slots frames each.what) item items known) room.1 (omega (arith, few)) (m, more, one) next).whole
+        (All-tail (λ (each : PrintItem). PrintedInFrames slots frames each.what) item items known) (All-tail (λ (each : PrintItem). PrintedHasRoom each.what) item items room) (omega (arith, few)) (m, more, one) next).whole
 
     -- `print`
     pub print_tabled : (items : List PrintItem) (R : Around) (a b : ℕ) (mode : Mode) → e.pieces ≡ 0
-        → All (λ item. PrintedInFrames slots frames item.what) items → ItemsHaveRoom items → length items ≤ most_pieces
+        → All (λ item. PrintedInFrames slots frames item.what) items → All (λ item. PrintedHasRoom item.what) items → length items ≤ most_pieces
         → (One instr.Turn ⨾ ItemsCode slots items ⨾ One instr.Print) c a b
         → ((t : Table) → R t → LeadsTo c groups t b (point e [] [] Changed)) → TabledFirst c groups R a b (point e [] [] mode)
     print_tabled items R a b mode pieces known room few (m, turn, code) next =

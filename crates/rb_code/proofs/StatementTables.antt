@@ -7,7 +7,8 @@ use Rattle.rb_scope.specs.declared.slot.Slot.{Slot}
 use Rattle.rb_world.specs.Kind.{Membership}
 use Rattle.rb_code.specs.Plain.{Code}
 use Rattle.rb_code.specs.Memory.{part_of}
-use Rattle.rb_code.specs.Operands.{HasRoom, ReferenceHasRoom, stored_on}
+use Rattle.rb_code.specs.Operands.{HasRoom}
+use Rattle.rb_code.specs.RoomInTree.{StoreHasRoom}
 use Rattle.rb_code.specs.Slots.{elements_of, spot_of}
 use Rattle.rb_code.specs.Sound.{Mode, Fresh, MayPut, MayTake, Free, Changed, Entry, Has, IsReceiver, IsSender, IsWeaker, LeadsTo, Table, WeakerMode, at_address, most_operands}
 use Rattle.rb_code.specs.Template.{Template, One, ◌⨾◌}
@@ -38,13 +39,6 @@ leads_from_changed c groups t a e mode h = by (t a) h
     by None w = absurd w
     by (Some g) w = weaker_from_changed (at_address a e) g mode w
 
--- few operands are fewer than the most
-none_few : length {A = Option ℕ} [] < most_operands
-none_few = omega arith
-
-one_few : (n : ℕ) → length (Some n ∷ []) < most_operands
-one_few n = omega arith
-
 -- no loop lies anywhere
 pub no_cover : (a b : ℕ) → Cover a b []
 no_cover a b x low high = refl
@@ -74,15 +68,15 @@ module _ (c : Code) (groups : List Membership) (slots : List Slot) (globals : Sh
               → TabledFirst c groups S d f (point e [] [] mode))
            (behind : (n : ℕ) (S : Around) (d f : ℕ) → Room 1 → V c d f → ((t : Table) → S t → LeadsTo c groups t f (point e (None ∷ Some n ∷ []) [] done))
               → TabledFirst c groups S d f (point e (Some n ∷ []) [] after)) where
-    pub store_tabled : (to : Reference) (a b : ℕ) → ReferenceInFrames slots around (IsScalar slots around) to → ReferenceHasRoom 0 to
-        → Room (stored_on to) → StoreCode slots to V c a b → ((t : Table) → R t → LeadsTo c groups t b (point e [] [] Changed)) → TabledFirst c groups R a b (point e [] [] mode)
-    store_tabled (Refer name Scalar) a b is room more (m, code, one) next =
+    pub store_tabled : (to : Reference) (a b : ℕ) → ReferenceInFrames slots around (IsScalar slots around) to → StoreHasRoom to Room
+        → StoreCode slots to V c a b → ((t : Table) → R t → LeadsTo c groups t b (point e [] [] Changed)) → TabledFirst c groups R a b (point e [] [] mode)
+    store_tabled (Refer name Scalar) a b is room (m, code, one) next =
         joined_first c groups R a m b (point e [] [] mode) (point e (None ∷ []) [] done)
-        (alone (λ t. LeadsTo c groups t m (point e (None ∷ []) [] done) × R t) a m more code (λ t r. r.0))
+        (alone (λ t. LeadsTo c groups t m (point e (None ∷ []) [] done) × R t) a m room code (λ t r. r.0))
         (step_tabled c groups R (instr.Store (spot_of slots name.id)) m b (point e (None ∷ []) [] done) (point e [] [] Changed) one refl words.above
         (λ t r leads. (scalar_range c groups slots globals shapes in_test e.words (part_of c e.within.process).words name [] 0 words.own words.running is, leads))
         next).whole
-    store_tabled (Refer name (Element index)) a b is room more (m, code, (d, bound, (f, value, one))) next =
+    store_tabled (Refer name (Element index)) a b is room (m, code, (d, bound, (f, value, one))) next =
         let n = elements_of slots name.id in
         let first = point e (None ∷ []) [] after in
         let second = point e (Some n ∷ []) [] after in
@@ -92,25 +86,25 @@ module _ (c : Code) (groups : List Membership) (slots : List Slot) (globals : Sh
         joined_first c groups R a f b (point e [] [] mode) third
         (joined_first c groups R1 a d f (point e [] [] mode) second
         (joined_first c groups R2 a m d (point e [] [] mode) first
-        (value_tabled index (λ t. LeadsTo c groups t m first × R2 t) a m [] mode after begun is.1 room code (λ t r. r.0))
+        (value_tabled index (λ t. LeadsTo c groups t m first × R2 t) a m [] mode after begun is.1 room.0 code (λ t r. r.0))
         (plain_tabled c groups e words.above [] after after (quiet_on mode after begun) R2 (instr.Bound n) m d (None ∷ []) (Some n ∷ []) bound refl
         (λ t r leads. (begun.traps_after, leads)) (λ t r. r.0)).whole)
-        (behind n R1 d f more value (λ t r. r.0)).whole)
+        (behind n R1 d f room.1 value (λ t r. r.0)).whole)
         (step_tabled c groups R (instr.StoreAt (spot_of slots name.id)) f b third (point e [] [] Changed) one refl words.above
         (λ t r leads. (array_range c groups slots globals shapes in_test e.words (part_of c e.within.process).words name [] 0 words.own words.running is.0, leads))
         next).whole
 
   -- an assignment
   pub assignment_tabled : (R : Around) (to : Reference) (value : Expression) (a b : ℕ) (mode : Mode) → e.pieces ≡ 0
-      → ReferenceInFrames slots around (IsScalar slots around) to → ExpressionInFrames slots around value → ReferenceHasRoom 0 to
-      → HasRoom (stored_on to) value → (One instr.Turn ⨾ StoreCode slots to (ExpressionCode slots value)) c a b
+      → ReferenceInFrames slots around (IsScalar slots around) to → ExpressionInFrames slots around value
+      → StoreHasRoom to (λ n. HasRoom n value) → (One instr.Turn ⨾ StoreCode slots to (ExpressionCode slots value)) c a b
       → ((t : Table) → R t → LeadsTo c groups t b (point e [] [] Changed)) → TabledFirst c groups R a b (point e [] [] mode)
-  assignment_tabled R to value a b mode pieces is known room more (m, turn, code) next =
+  assignment_tabled R to value a b mode pieces is known room (m, turn, code) next =
       joined_first c groups R a m b (point e [] [] mode) (point e [] [] Fresh)
       (turn_tabled (λ t. LeadsTo c groups t m (point e [] [] Fresh) × R t) a m mode pieces turn (λ t r. r.0))
       (store_tabled R (ExpressionCode slots value) (λ n. HasRoom n value) Fresh Free Free (quiet Fresh tt)
       (λ S d f fits code1 next1. value_tabled value S d f [] Fresh Free (quiet Fresh tt) known fits code1 next1)
-      (λ n S d f fits code1 next1. value_tabled value S d f (Some n ∷ []) Free Free (quiet Free tt) known fits code1 next1) to m b is room more code
+      (λ n S d f fits code1 next1. value_tabled value S d f (Some n ∷ []) Free Free (quiet Free tt) known fits code1 next1) to m b is room code
       next).whole
 
   -- `fail`
@@ -143,18 +137,18 @@ module _ (c : Code) (groups : List Membership) (slots : List Slot) (globals : Sh
         (step_tabled c groups R (instr.Put channel) f b full (point e [] [] Changed) put refl words.above (λ t r leads. (refl, leads)) next).whole
 
     -- a message that is there is taken, and goes to a place
-    pub taken_tabled : (R : Around) (to : Reference) (a b : ℕ) → ReferenceInFrames slots around (IsScalar slots around) to → ReferenceHasRoom 0 to
+    pub taken_tabled : (R : Around) (to : Reference) (a b : ℕ) → ReferenceInFrames slots around (IsScalar slots around) to → StoreHasRoom to (λ n. n < most_operands)
         → StoreCode slots to (One (instr.Take channel)) c a b
         → ((t : Table) → R t → LeadsTo c groups t b (point e [] [] Changed)) → TabledFirst c groups R a b (point e [] [] (MayTake channel))
     taken_tabled R to a b is room code next =
-        store_tabled R (One (instr.Take channel)) (λ n. Unit {0}) (MayTake channel) (MayTake channel) Changed (quiet (MayTake channel) tt)
+        store_tabled R (One (instr.Take channel)) (λ n. n < most_operands) (MayTake channel) (MayTake channel) Changed (quiet (MayTake channel) tt)
         (λ S d f fits take next1. step_tabled c groups S (instr.Take channel) d f (point e [] [] (MayTake channel)) (point e (None ∷ []) [] Changed)
-        take refl words.above (λ t r leads. (refl, none_few, leads)) next1)
+        take refl words.above (λ t r leads. (refl, fits, leads)) next1)
         (λ n S d f fits take next1. step_tabled c groups S (instr.Take channel) d f (point e (Some n ∷ []) [] (MayTake channel))
-        (point e (None ∷ Some n ∷ []) [] Changed) take refl words.above (λ t r leads. (refl, one_few n, leads)) next1) to a b is room tt code next
+        (point e (None ∷ Some n ∷ []) [] Changed) take refl words.above (λ t r leads. (refl, fits, leads)) next1) to a b is room code next
     -- `receive`
     pub receive_tabled : (R : Around) (to : Reference) (a b : ℕ) (mode : Mode) → e.pieces ≡ 0
-        → IsReceiver (slice_get c.channels channel) e.within.process → ReferenceInFrames slots around (IsScalar slots around) to → ReferenceHasRoom 0 to
+        → IsReceiver (slice_get c.channels channel) e.within.process → ReferenceInFrames slots around (IsScalar slots around) to → StoreHasRoom to (λ n. n < most_operands)
         → (One instr.Turn ⨾ One (instr.There channel) ⨾ StoreCode slots to (One (instr.Take channel))) c a b
         → ((t : Table) → R t → LeadsTo c groups t b (point e [] [] Changed)) → TabledFirst c groups R a b (point e [] [] mode)
     receive_tabled R to a b mode pieces receiver is room (m, turn, (d, there, code)) next =
