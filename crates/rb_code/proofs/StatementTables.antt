@@ -116,13 +116,13 @@ module _ (c : Code) (groups : List Membership) (slots : List Slot) (globals : Sh
       (plain_tabled c groups e words.above [] Fresh Free (quiet Fresh tt) R instr.Fail m b [] [] one refl (λ t r leads. (tt, leads))
       (λ t r. leads_from_changed c groups t b (point e [] [] Changed) Free (next t r))).whole
 
-  module _ (channel : ℕ) (main : e.within.main ≡ true) where
+  module _ (channel : ℕ) where
     -- `send`
-    pub send_tabled : (R : Around) (value : Expression) (a b : ℕ) (mode : Mode) → e.pieces ≡ 0
+    pub send_tabled : (R : Around) (value : Expression) (a b : ℕ) (mode : Mode) → e.pieces ≡ 0 → e.within.main ≡ true
         → IsSender (slice_get c.channels channel) e.within.process → ExpressionInFrames slots around value → HasRoom 0 value
         → (One instr.Turn ⨾ One (instr.Room channel) ⨾ ExpressionCode slots value ⨾ One (instr.Put channel)) c a b
         → ((t : Table) → R t → LeadsTo c groups t b (point e [] [] Changed)) → TabledFirst c groups R a b (point e [] [] mode)
-    send_tabled R value a b mode pieces sender known room (m, turn, (d, asks, (f, code, put))) next =
+    send_tabled R value a b mode pieces main sender known room (m, turn, (d, asks, (f, code, put))) next =
         let ready = point e [] [] (MayPut channel) in
         let full = point e (None ∷ []) [] (MayPut channel) in
         let R1 : Around = λ t. LeadsTo c groups t f full × R t in
@@ -147,11 +147,11 @@ module _ (c : Code) (groups : List Membership) (slots : List Slot) (globals : Sh
         (λ n S d f fits take next1. step_tabled c groups S (instr.Take channel) d f (point e (Some n ∷ []) [] (MayTake channel))
         (point e (None ∷ Some n ∷ []) [] Changed) take refl words.above (λ t r leads. (refl, fits, leads)) next1) to a b is room code next
     -- `receive`
-    pub receive_tabled : (R : Around) (to : Reference) (a b : ℕ) (mode : Mode) → e.pieces ≡ 0
+    pub receive_tabled : (R : Around) (to : Reference) (a b : ℕ) (mode : Mode) → e.pieces ≡ 0 → e.within.main ≡ true
         → IsReceiver (slice_get c.channels channel) e.within.process → ReferenceInFrames slots around (IsScalar slots around) to → StoreHasRoom to (λ n. n < most_operands)
         → (One instr.Turn ⨾ One (instr.There channel) ⨾ StoreCode slots to (One (instr.Take channel))) c a b
         → ((t : Table) → R t → LeadsTo c groups t b (point e [] [] Changed)) → TabledFirst c groups R a b (point e [] [] mode)
-    receive_tabled R to a b mode pieces receiver is room (m, turn, (d, there, code)) next =
+    receive_tabled R to a b mode pieces main receiver is room (m, turn, (d, there, code)) next =
         let ready = point e [] [] (MayTake channel) in
         let R1 : Around = λ t. LeadsTo c groups t d ready × R t in
         joined_first c groups R a d b (point e [] [] mode) ready
