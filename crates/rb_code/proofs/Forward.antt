@@ -7,7 +7,7 @@ use Rattle.rb_syntax.specs.declared.expression.Quantifier.TheVariants.{Every, An
 use Rattle.rb_syntax.specs.Tree.{Expression, Literal, Variable, Former, Minus, Negation, Chained, Quantification, Refer, Scalar, Element, Links, NoLink, Linked}
 use Rattle.rb_scope.specs.declared.slot.Slot.{Slot}
 use Rattle.rb_code.specs.Plain.{Code}
-use Rattle.rb_code.specs.Slots.{counter_of, elements_of, quantified_of, spot_of}
+use Rattle.rb_code.specs.Slots.{counter_of, quantified_of, spot_of}
 use Rattle.rb_code.specs.Template.{Template, One}
 use Rattle.rb_code.specs.Forms.{ExpressionCode, LinksCode, OperatorCode, QuantifiedCode, ScalarCode, SubscriptCode}
 use Rattle.rb_code.specs.declared.instr.Instr.{Instr}
@@ -29,7 +29,7 @@ module _ (c : Code) where
   and_one : (P : Template) (a m b : ℕ) → Forward P → P c a m → b ≡ m + 1 → a < b
   and_one P a m b forward p e = let l = forward a m p in omega arith
 
-  operator_forward : (op : Op) (right : Template) → Forward right → Forward (OperatorCode op right)
+  pub operator_forward : (op : Op) (right : Template) → Forward right → Forward (OperatorCode op right)
   operator_forward op.Or right f a b (other, (end, (p, test, (q, push, (r, jump, (s, at_other, (u, code, (v, bool, at_end)))))))) =
       let e0 = test.1 in let e1 = push.1 in let e2 = jump.1 in let e3 = at_other.1 in 
       let l1 = f s u code in let e4 = bool.1 in let e5 = at_end.1 in omega arith

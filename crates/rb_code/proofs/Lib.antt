@@ -62,3 +62,8 @@ pub mod Forward
 pub mod InRanges
 pub mod PlainTables
 pub mod OperatorTables
+pub mod CounterTables
+pub mod ExpressionTables
+pub mod StatementTables
+pub mod LineTables
+pub mod SimpleTables

@@ -1,18 +1,18 @@
 -- Tables of the code of operators, behind the code of their left operands.
-use Rattle.std.proofs.Common.{◌≡◌, ℕ, suc, ◌+◌, ◌<◌, ◌≤◌, pos, List, [], ◌∷◌, length, slice_get, Option, Some, None, refl, ap, sym, ◌∙◌, subst, arith}
+use Rattle.std.proofs.Common.{◌≡◌, ℕ, ◌<◌, pos, List, ◌∷◌, length, Option, None, refl, ◌∙◌, subst, arith}
 use Rattle.rb_syntax.specs.declared.expression.Op.{Op}
 use Rattle.rb_syntax.specs.declared.expression.Op.TheVariants as op
 use Rattle.rb_world.specs.Kind.{Membership}
 use Rattle.rb_code.specs.Plain.{Code}
 use Rattle.rb_code.specs.Operands.{beside}
-use Rattle.rb_code.specs.Sound.{Mode, Entry, Fine, IsAbove, LeadsTo, Loop, MayTrap, Table, Takes2, freed, most_operands}
+use Rattle.rb_code.specs.Sound.{Mode, Entry, Fine, IsAbove, LeadsTo, Loop, Table, Takes2, most_operands}
 use Rattle.rb_code.specs.Template.{Template, One}
 use Rattle.rb_code.specs.Forms.{AndCode, OperatorCode, OrCode}
 use Rattle.rb_code.specs.declared.instr.Instr.{Instr}
 use Rattle.rb_code.specs.declared.instr.Instr.TheVariants as instr
 use Rattle.rb_code.proofs.Forward.{Forward}
-use Rattle.rb_code.proofs.PlainTables.{Cover, Quiet, cover_within, jump_tabled, jump_zero_tabled, plain_tabled, point, push_tabled, quiet_on}
-use Rattle.rb_code.proofs.Tabled.{Around, Tabled, TabledFirst, joined_first}
+use Rattle.rb_code.proofs.PlainTables.{Cover, Quiet, cover_within, jump_tabled, jump_zero_tabled, plain_tabled, point, push_tabled}
+use Rattle.rb_code.proofs.Tabled.{Around, TabledFirst, joined_first}
 
 -- the operands on which the right one of an operator stands, where the left one stands on these
 abbrev pub beside_operands : Op → List (Option ℕ) → List (Option ℕ)

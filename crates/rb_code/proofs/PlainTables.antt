@@ -1,13 +1,13 @@
 -- Tables of instructions that leave the memory as it is, at entries that differ in their operands, loops and modes alone.
-use Rattle.std.proofs.Common.{◌≡◌, ◌⊎◌, inl, inr, ℕ, suc, ◌+◌, ◌<◌, ◌≤◌, ℤ, false, List, [], ◌∷◌, length, slice_get, Option, Some, None, refl, ap, sym, ◌∙◌, subst, arith}
+use Rattle.std.proofs.Common.{◌≡◌, inl, ℕ, ◌+◌, ◌<◌, ◌≤◌, ℤ, false, List, ◌∷◌, length, Option, None, refl, sym, subst, arith}
 use Rattle.rb_world.specs.Kind.{Membership}
 use Rattle.rb_code.specs.Plain.{Code}
-use Rattle.rb_code.specs.Sound.{Mode, Fresh, MayPut, MayTake, Begun, Free, Changed, Entry, Fine, Has, IsAbove, LeadsTo, Loop, MayTrap, Table, at_address, freed, is_in, most_operands}
+use Rattle.rb_code.specs.Sound.{Mode, Fresh, MayPut, MayTake, Begun, Free, Changed, Entry, Fine, Has, IsAbove, LeadsTo, Loop, MayTrap, Table, freed, is_in, most_operands}
 use Rattle.rb_code.specs.Template.{One}
 use Rattle.rb_code.specs.declared.instr.Instr.{Instr}
 use Rattle.rb_code.specs.declared.instr.Instr.TheVariants.{Jump, JumpZero, Push}
 use Rattle.rb_code.proofs.LoopSteps.{drops_first}
-use Rattle.rb_code.proofs.Tabled.{Around, LieAround, Tabled, TabledFirst, one_tabled}
+use Rattle.rb_code.proofs.Tabled.{Around, LieAround, TabledFirst, one_tabled}
 
 -- the entry with other operands, loops and mode
 abbrev pub point : Entry → List (Option ℕ) → List Loop → Mode → Entry

@@ -1,11 +1,11 @@
 -- Code from one address up to another for which a table is known: the table's entries there are sound wherever a whole table agrees with
 -- them and has what is around.
-use Rattle.std.proofs.Common.{◌≡◌, ℕ, ◌+◌, ◌<◌, ◌≤◌, nat_eq, nat_lt, Bool, true, false, cond, List, [], ◌∷◌, filter, slice_get, Option, Some, None, refl, ap, sym, ◌∙◌, subst, arith}
-use Rattle.std.proofs.lemmas.Bool.{eq-eqb, eqb-true, le-ltb, lt-ltb, ltb-false, ltb-true}
+use Rattle.std.proofs.Common.{◌≡◌, ℕ, ◌<◌, ◌≤◌, nat_eq, nat_lt, Bool, true, false, cond, List, [], ◌∷◌, filter, Option, Some, None, refl, ap, sym, ◌∙◌, subst, arith}
+use Rattle.std.proofs.lemmas.Bool.{eq-eqb, le-ltb, lt-ltb, ltb-false, ltb-true}
 use Rattle.rb_world.specs.Kind.{Membership}
-use Rattle.rb_world.proofs.ListFacts.{none_some, some_same}
+use Rattle.rb_world.proofs.ListFacts.{some_same}
 use Rattle.rb_code.specs.Plain.{Code}
-use Rattle.rb_code.specs.Sound.{Mode, Fresh, MayPut, MayTake, Begun, Free, Changed, Entry, Fine, FineAt, Has, IsAbove, IsSoundAt, IsWeaker, LeadsTo, Loop, Table, WeakerMode, WeakerOperand, WeakerOperands, at_address, is_in}
+use Rattle.rb_code.specs.Sound.{Mode, Fresh, MayPut, MayTake, Begun, Free, Changed, Entry, Fine, FineAt, Has, IsAbove, IsSoundAt, IsWeaker, LeadsTo, Loop, Table, WeakerMode, WeakerOperands, at_address, is_in}
 use Rattle.rb_code.specs.Template.{One}
 use Rattle.rb_code.specs.declared.instr.Instr.{Instr}
 

@@ -1,10 +1,9 @@
 -- How many operands expressions need: an expression that stands on n operands finds room for those that its code pushes.
-use Rattle.std.specs.Prelude.{ℕ, suc, ◌<◌, List}
-use Rattle.std.specs.List.{All}
+use Rattle.std.specs.Prelude.{ℕ, suc, ◌<◌}
 use Rattle.rb_syntax.specs.declared.expression.Op.{Op}
 use Rattle.rb_syntax.specs.declared.expression.Op.TheVariants as op
 use Rattle.rb_syntax.specs.declared.expression.Quantifier.{Quantifier}
-use Rattle.rb_syntax.specs.declared.expression.Quantifier.TheVariants.{Every, Any, Total}
+use Rattle.rb_syntax.specs.declared.expression.Quantifier.TheVariants.{Total}
 use Rattle.rb_syntax.specs.Tree.{Expression, Literal, Variable, Former, Minus, Negation, Chained, Quantification, Reference, Refer, Scalar, Element, Links, NoLink, Linked}
 use Rattle.rb_code.specs.Sound.{most_operands}
 
