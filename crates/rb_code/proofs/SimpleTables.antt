@@ -19,13 +19,15 @@ use Rattle.rb_code.specs.Sound.{BeginsAs, Changed, Entry, Free, Fresh, Innermost
 use Rattle.rb_code.specs.Template.{One}
 use Rattle.rb_code.specs.Forms.{CommandCode, ExpressionCode, Owner, ReceiptCode, StoreCode, procedure_start, procedure_words}
 use Rattle.rb_code.specs.declared.instr.Instr.TheVariants.{Take}
-use Rattle.rb_code.proofs.CommandTables.{IsSimple, Known, MayLookBack}
+use Rattle.rb_code.proofs.CommandTables.{IsSimple, Known, MayLookBack, SimpleAreTabled, TakenIsTabled, TestsAreTabled}
+use Rattle.rb_code.proofs.Choices.{Judged, Onward}
 use Rattle.rb_code.proofs.ExpressionTables.{HasWords}
 use Rattle.rb_code.proofs.LineTables.{call_tabled, print_tabled}
 use Rattle.rb_code.proofs.PlainTables.{quiet}
 use Rattle.rb_code.proofs.Resting.{judged, resting}
 use Rattle.rb_code.proofs.Spots.{KeepRules, receives_from, sends_on}
 use Rattle.rb_code.proofs.StatementTables.{assignment_tabled, fail_tabled, receive_tabled, send_tabled, taken_tabled, value_tabled}
+use Rattle.rb_code.proofs.Stretches.{stretch_of}
 use Rattle.rb_code.proofs.Tabled.{Around, TabledFirst}
 
 module _ (tree : Tree) (slots : List Slot) (c : Code) (owner : Owner) (P : Around) (within : Within) where
@@ -151,3 +153,21 @@ module _ (tree : Tree) (slots : List Slot) (c : Code) (owner : Owner) (P : Aroun
         by (Conditional test body otherwise) simple rules is limits room code = absurd simple
         by (Loop test body) simple rules is limits room code = absurd simple
         by (Recovering block) simple rules is limits room code = absurd simple
+
+    pub simple_are_tabled : SimpleAreTabled tree slots c owner P within
+    simple_are_tabled words blocks frames spot command a b simple known rules outside is limits room code =
+        stretch_of c (groups_of tree) P (Onward c (groups_of tree) P within words blocks b)
+        (λ t. P t × LeadsTo c (groups_of tree) t b (resting within words blocks Changed)) a b (resting within words blocks Changed)
+        (simple_tabled words blocks frames spot command a b simple known rules outside is limits room code) (λ t p asked. (p, asked))
+
+  pub tests_are_tabled : TestsAreTabled tree slots c owner P within
+  tests_are_tabled words blocks frames spot x a b known before is room code =
+      stretch_of c (groups_of tree) P (Judged c (groups_of tree) P within words blocks b)
+      (λ t. P t × LeadsTo c (groups_of tree) t b (judged within words blocks)) a b (resting within words blocks Fresh)
+      (test_tabled words blocks frames spot x a b known before is room code) (λ t p asked. (p, asked))
+
+  pub taken_is_tabled : TakenIsTabled tree slots c owner P within
+  taken_is_tabled words blocks frames spot to channel a b known outside is room code =
+      stretch_of c (groups_of tree) P (Onward c (groups_of tree) P within words blocks b)
+      (λ t. P t × LeadsTo c (groups_of tree) t b (resting within words blocks Changed)) a b (resting within words blocks (MayTake channel))
+      (taken_first words blocks frames spot to channel a b known outside is room code) (λ t p asked. (p, asked))
