@@ -78,7 +78,7 @@ module _ (tree : Tree) (slots : List Slot) (c : Code) (owner : Owner) (P : Aroun
   -- of each procedure it is known that it begins as it should, and that it is one of the process
   pub record KnowsProcedures : Type 0 where
     pub own : owner.procedures ≡ procedures_of (slice_get tree.processes within.process)
-    pub there : (number : ℕ) (procedure : ProcedureDeclaration) → slice_get owner.procedures number ≡ Some procedure
+    pub there : (t : Table) → P t → (number : ℕ) (procedure : ProcedureDeclaration) → slice_get owner.procedures number ≡ Some procedure
         → IsProcedureAt (part_of c within.process).procedures (procedure_start c owner.number number)
     pub enters : (t : Table) → P t → (number : ℕ) (procedure : ProcedureDeclaration) → slice_get owner.procedures number ≡ Some procedure
         → BeginsAs (t (procedure_start c owner.number number)) within.process
@@ -140,8 +140,8 @@ module _ (tree : Tree) (slots : List Slot) (c : Code) (owner : Owner) (P : Aroun
               ap (λ o. unwrap_or (option_map (λ (each : ProcedureDeclaration). frame_words (frame_of (variables_of each.body))) o) 0) one in
             call_tabled c (groups_of tree) slots frames.globals frames.running frames.in_test e there (procedure_start c owner.number (procedure_of slots name.id))
             (length arguments) (procedure_words owner.procedures (procedure_of slots name.id)) R b refl
-            (subst (λ k. IsProcedureAt (part_of c within.process).procedures (procedure_start c owner.number k)) (sym same)
-              (procedures.there called.number called.procedure one))
+            (λ t r. subst (λ k. IsProcedureAt (part_of c within.process).procedures (procedure_start c owner.number k)) (sym same)
+              (procedures.there t r.0 called.number called.procedure one))
             (λ t r. subst (λ k. BeginsAs (t (procedure_start c owner.number k)) within.process (length arguments + procedure_words owner.procedures k)) (sym same)
               (subst (λ w. BeginsAs (t (procedure_start c owner.number called.number)) within.process (length arguments + w)) (sym are)
               (subst (λ l. BeginsAs (t (procedure_start c owner.number called.number)) within.process (l + n)) called.parameters
