@@ -1,5 +1,5 @@
 -- The code of a tree that is resolved, within the limits and nested, whose expressions need few operands, has a table.
-use Rattle.std.proofs.Common.{◌≡◌, inl, inr, ℕ, zero, suc, ◌+◌, List, [], ◌∷◌, length, option_map, slice_get, unwrap_or, Option, Some, None, refl, ap, sym, ◌∙◌, subst}
+use Rattle.std.proofs.Common.{◌≡◌, inl, inr, ℕ, zero, suc, List, [], ◌∷◌, option_map, slice_get, unwrap_or, Some, refl, ap, sym, ◌∙◌, subst}
 use Rattle.rb_syntax.specs.Tree.{ProcedureDeclaration, ProcessDeclaration, Tree}
 use Rattle.rb_world.proofs.ListFacts.{none_some, some_same}
 use Rattle.rb_meaning.specs.Groups.{groups_of, procedures_of}

@@ -1,11 +1,11 @@
 -- Tables of the code of all simple statements of a process, and of the tests of its statements.
-use Rattle.std.proofs.Common.{◌≡◌, ℕ, ◌+◌, ◌<◌, ◌≤◌, Bool, true, false, List, [], ◌∷◌, length, map, option_map, slice_get, unwrap_or, Option, Some, None, refl, ap, sym, ◌∙◌, subst, true≢false, arith}
+use Rattle.std.proofs.Common.{◌≡◌, ℕ, ◌+◌, ◌<◌, false, List, [], length, option_map, slice_get, unwrap_or, Option, Some, refl, ap, sym, ◌∙◌, subst, true≢false, arith}
 use Rattle.rb_syntax.specs.Tree.{Identifier, Expression, Reference, Command, Assignment, Printing, Sending, Receiving, Conditional, Loop, Invocation, Failure, Recovering, NoElse, Else, ProcedureDeclaration, Tree}
 use Rattle.rb_meaning.specs.Environment.{frame_of, frame_words}
 use Rattle.rb_meaning.specs.Step.{variables_of}
 use Rattle.rb_meaning.specs.Groups.{channel_number, channels_of, groups_of, procedures_of}
 use Rattle.rb_meaning.specs.Nesting.{Spot, uses_in_command}
-use Rattle.rb_scope.specs.Frames.{Frames, shapes_words}
+use Rattle.rb_scope.specs.Frames.{Frames}
 use Rattle.rb_scope.specs.InFrames.{CommandInFrames, ExpressionInFrames, IsChannel, IsScalar, ReferenceInFrames}
 use Rattle.rb_scope.specs.Limits.{CommandWithin}
 use Rattle.rb_scope.specs.declared.slot.Slot.{Slot}
@@ -15,7 +15,7 @@ use Rattle.rb_code.specs.Memory.{part_of}
 use Rattle.rb_code.specs.Slots.{channel_in, channel_of, procedure_in, procedure_of}
 use Rattle.rb_code.specs.Operands.{HasRoom}
 use Rattle.rb_code.specs.RoomInTree.{CommandHasRoom, StoreHasRoom}
-use Rattle.rb_code.specs.Sound.{BeginsAs, Changed, Entry, Free, Fresh, InnermostIs, IsProcedureAt, IsReceiver, Mode, IsSender, LeadsTo, MayTake, OpenBlock, Table, Within, most_operands}
+use Rattle.rb_code.specs.Sound.{BeginsAs, Changed, Entry, Free, Fresh, IsProcedureAt, IsReceiver, Mode, IsSender, LeadsTo, MayTake, OpenBlock, Table, Within, most_operands}
 use Rattle.rb_code.specs.Template.{One}
 use Rattle.rb_code.specs.Forms.{CommandCode, ExpressionCode, Owner, ReceiptCode, StoreCode, procedure_start, procedure_words}
 use Rattle.rb_code.specs.declared.instr.Instr.TheVariants.{Take}
