@@ -60,9 +60,11 @@ module _ (c : Code) (groups : List Membership) (slots : List Slot) (globals : Sh
     items_tabled (item ∷ items) n R a b mode after begun known room few (m, (p, code, more), one) next =
         joined_first c groups R a p b (point (with_pieces n e) [] [] mode) (point (with_pieces (n + 1) e) [] [] after)
         (item_tabled item.what n (λ t. LeadsTo c groups t p (point (with_pieces (n + 1) e) [] [] after) × R t) a p mode after begun
-        (All-head (λ (each : PrintItem). PrintedInFrames slots frames each.what) item items known) (All-head (λ (each : PrintItem). PrintedHasRoom each.what) item items room) (omega (arith, few)) code (λ t r. r.0))
+        (All-head (λ (each : PrintItem). PrintedInFrames slots frames each.what) item items known)
+        (All-head (λ (each : PrintItem). PrintedHasRoom each.what) item items room) (omega (arith, few)) code (λ t r. r.0))
         (items_tabled items (n + 1) R p b after after (quiet_on mode after begun)
-        (All-tail (λ (each : PrintItem). PrintedInFrames slots frames each.what) item items known) (All-tail (λ (each : PrintItem). PrintedHasRoom each.what) item items room) (omega (arith, few)) (m, more, one) next).whole
+        (All-tail (λ (each : PrintItem). PrintedInFrames slots frames each.what) item items known)
+        (All-tail (λ (each : PrintItem). PrintedHasRoom each.what) item items room) (omega (arith, few)) (m, more, one) next).whole
 
     -- `print`
     pub print_tabled : (items : List PrintItem) (R : Around) (a b : ℕ) (mode : Mode) → e.pieces ≡ 0

@@ -1,6 +1,7 @@
 -- Tables of the code of all simple statements of a process, and of the tests of its statements.
 use Rattle.std.proofs.Common.{◌≡◌, ℕ, ◌+◌, ◌<◌, false, List, [], length, option_map, slice_get, unwrap_or, Option, Some, refl, ap, sym, ◌∙◌, subst, true≢false, arith}
-use Rattle.rb_syntax.specs.Tree.{Identifier, Expression, Reference, Command, Assignment, Printing, Sending, Receiving, Conditional, Loop, Invocation, Failure, Recovering, NoElse, Else, ProcedureDeclaration, Tree}
+use Rattle.rb_syntax.specs.Tree.{Identifier, Expression, Reference, Command, Assignment, Printing, Sending, Receiving}
+use Rattle.rb_syntax.specs.Tree.{Conditional, Loop, Invocation, Failure, Recovering, NoElse, Else, ProcedureDeclaration, Tree}
 use Rattle.rb_meaning.specs.Environment.{frame_of, frame_words}
 use Rattle.rb_meaning.specs.Step.{variables_of}
 use Rattle.rb_meaning.specs.Groups.{channel_number, channels_of, groups_of, procedures_of}

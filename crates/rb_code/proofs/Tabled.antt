@@ -5,7 +5,8 @@ use Rattle.std.proofs.lemmas.Bool.{eq-eqb, le-ltb, lt-ltb, ltb-false, ltb-true}
 use Rattle.rb_world.specs.Kind.{Membership}
 use Rattle.rb_world.proofs.ListFacts.{some_same}
 use Rattle.rb_code.specs.Plain.{Code}
-use Rattle.rb_code.specs.Sound.{Mode, Fresh, MayPut, MayTake, Begun, Free, Changed, Entry, Fine, FineAt, Has, IsAbove, IsSoundAt, IsWeaker, LeadsTo, Loop, Table, WeakerMode, WeakerOperands, at_address, is_in}
+use Rattle.rb_code.specs.Sound.{Mode, Fresh, MayPut, MayTake, Begun, Free, Changed, Entry, Fine, FineAt}
+use Rattle.rb_code.specs.Sound.{Has, IsAbove, IsSoundAt, IsWeaker, LeadsTo, Loop, Table, WeakerMode, WeakerOperands, at_address, is_in}
 use Rattle.rb_code.specs.Template.{One}
 use Rattle.rb_code.specs.declared.instr.Instr.{Instr}
 
