@@ -58,6 +58,7 @@ pub mod Spots
 pub mod CommandTables
 pub mod ProcessTables
 pub mod WholeTables
+pub mod CodeTables
 pub mod Forward
 pub mod InRanges
 pub mod PlainTables

@@ -77,7 +77,7 @@ module _ (c : Code) (groups : List Membership) (slots : List Slot) (globals : Sh
         (λ t r. subst (λ n. LeadsTo c groups t b (point (with_pieces n e) [] [] Changed)) pieces (next t r)))).whole
 
     -- arguments on operands, and the call
-    module _ (to p n : ℕ) (R : Around) (b : ℕ) (pieces : e.pieces ≡ 0) (there : IsProcedureAt (part_of c e.within.process).procedures to)
+    module _ (to p n : ℕ) (R : Around) (b : ℕ) (pieces : e.pieces ≡ 0) (there : (t : Table) → R t → IsProcedureAt (part_of c e.within.process).procedures to)
              (enters : (t : Table) → R t → BeginsAs (t to) e.within.process (p + n))
              (next : (t : Table) → R t → LeadsTo c groups t b (point e [] [] Changed)) where
       arguments_tabled : (arguments : List Expression) (a : ℕ) (os : List (Option ℕ)) (mode after : Mode) → Quiet mode after
@@ -86,7 +86,7 @@ module _ (c : Code) (groups : List Membership) (slots : List Slot) (globals : Sh
       arguments_tabled [] a os mode after begun known room long (m, none, one) =
           step_tabled c groups R (instr.Call to p n) a b (point e os [] mode) (point e [] [] Changed)
           (subst (λ x. One (instr.Call to p n) c x b) none one) refl words.above
-          (λ t r leads. (begun.traps, omega (arith, long), pieces, refl, there, enters t r, leads)) next
+          (λ t r leads. (begun.traps, omega (arith, long), pieces, refl, there t r, enters t r, leads)) next
       arguments_tabled (argument ∷ arguments) a os mode after begun known room long (m, (d, code, more), one) =
           joined_first c groups R a d b (point e os [] mode) (point e (None ∷ os) [] after)
           (value_tabled c groups slots globals shapes in_test e words argument (λ t. LeadsTo c groups t d (point e (None ∷ os) [] after) × R t) a d os mode after

@@ -1,11 +1,11 @@
 -- Tables of the code of all simple statements of a process, and of the tests of its statements.
-use Rattle.std.proofs.Common.{◌≡◌, ℕ, ◌+◌, ◌<◌, ◌≤◌, Bool, true, false, List, [], ◌∷◌, length, map, option_map, slice_get, unwrap_or, Option, Some, None, refl, ap, sym, ◌∙◌, subst, true≢false, arith}
+use Rattle.std.proofs.Common.{◌≡◌, ℕ, ◌+◌, ◌<◌, false, List, [], length, option_map, slice_get, unwrap_or, Option, Some, refl, ap, sym, ◌∙◌, subst, true≢false, arith}
 use Rattle.rb_syntax.specs.Tree.{Identifier, Expression, Reference, Command, Assignment, Printing, Sending, Receiving, Conditional, Loop, Invocation, Failure, Recovering, NoElse, Else, ProcedureDeclaration, Tree}
 use Rattle.rb_meaning.specs.Environment.{frame_of, frame_words}
 use Rattle.rb_meaning.specs.Step.{variables_of}
 use Rattle.rb_meaning.specs.Groups.{channel_number, channels_of, groups_of, procedures_of}
 use Rattle.rb_meaning.specs.Nesting.{Spot, uses_in_command}
-use Rattle.rb_scope.specs.Frames.{Frames, shapes_words}
+use Rattle.rb_scope.specs.Frames.{Frames}
 use Rattle.rb_scope.specs.InFrames.{CommandInFrames, ExpressionInFrames, IsChannel, IsScalar, ReferenceInFrames}
 use Rattle.rb_scope.specs.Limits.{CommandWithin}
 use Rattle.rb_scope.specs.declared.slot.Slot.{Slot}
@@ -15,17 +15,19 @@ use Rattle.rb_code.specs.Memory.{part_of}
 use Rattle.rb_code.specs.Slots.{channel_in, channel_of, procedure_in, procedure_of}
 use Rattle.rb_code.specs.Operands.{HasRoom}
 use Rattle.rb_code.specs.RoomInTree.{CommandHasRoom, StoreHasRoom}
-use Rattle.rb_code.specs.Sound.{BeginsAs, Changed, Entry, Free, Fresh, InnermostIs, IsProcedureAt, IsReceiver, Mode, IsSender, LeadsTo, MayTake, OpenBlock, Table, Within, most_operands}
+use Rattle.rb_code.specs.Sound.{BeginsAs, Changed, Entry, Free, Fresh, IsProcedureAt, IsReceiver, Mode, IsSender, LeadsTo, MayTake, OpenBlock, Table, Within, most_operands}
 use Rattle.rb_code.specs.Template.{One}
 use Rattle.rb_code.specs.Forms.{CommandCode, ExpressionCode, Owner, ReceiptCode, StoreCode, procedure_start, procedure_words}
 use Rattle.rb_code.specs.declared.instr.Instr.TheVariants.{Take}
-use Rattle.rb_code.proofs.CommandTables.{IsSimple, Known, MayLookBack}
+use Rattle.rb_code.proofs.CommandTables.{IsSimple, Known, MayLookBack, SimpleAreTabled, TakenIsTabled, TestsAreTabled}
+use Rattle.rb_code.proofs.Choices.{Judged, Onward}
 use Rattle.rb_code.proofs.ExpressionTables.{HasWords}
 use Rattle.rb_code.proofs.LineTables.{call_tabled, print_tabled}
 use Rattle.rb_code.proofs.PlainTables.{quiet}
 use Rattle.rb_code.proofs.Resting.{judged, resting}
 use Rattle.rb_code.proofs.Spots.{KeepRules, receives_from, sends_on}
 use Rattle.rb_code.proofs.StatementTables.{assignment_tabled, fail_tabled, receive_tabled, send_tabled, taken_tabled, value_tabled}
+use Rattle.rb_code.proofs.Stretches.{stretch_of}
 use Rattle.rb_code.proofs.Tabled.{Around, TabledFirst}
 
 module _ (tree : Tree) (slots : List Slot) (c : Code) (owner : Owner) (P : Around) (within : Within) where
@@ -76,7 +78,7 @@ module _ (tree : Tree) (slots : List Slot) (c : Code) (owner : Owner) (P : Aroun
   -- of each procedure it is known that it begins as it should, and that it is one of the process
   pub record KnowsProcedures : Type 0 where
     pub own : owner.procedures ≡ procedures_of (slice_get tree.processes within.process)
-    pub there : (number : ℕ) (procedure : ProcedureDeclaration) → slice_get owner.procedures number ≡ Some procedure
+    pub there : (t : Table) → P t → (number : ℕ) (procedure : ProcedureDeclaration) → slice_get owner.procedures number ≡ Some procedure
         → IsProcedureAt (part_of c within.process).procedures (procedure_start c owner.number number)
     pub enters : (t : Table) → P t → (number : ℕ) (procedure : ProcedureDeclaration) → slice_get owner.procedures number ≡ Some procedure
         → BeginsAs (t (procedure_start c owner.number number)) within.process
@@ -138,8 +140,8 @@ module _ (tree : Tree) (slots : List Slot) (c : Code) (owner : Owner) (P : Aroun
               ap (λ o. unwrap_or (option_map (λ (each : ProcedureDeclaration). frame_words (frame_of (variables_of each.body))) o) 0) one in
             call_tabled c (groups_of tree) slots frames.globals frames.running frames.in_test e there (procedure_start c owner.number (procedure_of slots name.id))
             (length arguments) (procedure_words owner.procedures (procedure_of slots name.id)) R b refl
-            (subst (λ k. IsProcedureAt (part_of c within.process).procedures (procedure_start c owner.number k)) (sym same)
-              (procedures.there called.number called.procedure one))
+            (λ t r. subst (λ k. IsProcedureAt (part_of c within.process).procedures (procedure_start c owner.number k)) (sym same)
+              (procedures.there t r.0 called.number called.procedure one))
             (λ t r. subst (λ k. BeginsAs (t (procedure_start c owner.number k)) within.process (length arguments + procedure_words owner.procedures k)) (sym same)
               (subst (λ w. BeginsAs (t (procedure_start c owner.number called.number)) within.process (length arguments + w)) (sym are)
               (subst (λ l. BeginsAs (t (procedure_start c owner.number called.number)) within.process (l + n)) called.parameters
@@ -151,3 +153,21 @@ module _ (tree : Tree) (slots : List Slot) (c : Code) (owner : Owner) (P : Aroun
         by (Conditional test body otherwise) simple rules is limits room code = absurd simple
         by (Loop test body) simple rules is limits room code = absurd simple
         by (Recovering block) simple rules is limits room code = absurd simple
+
+    pub simple_are_tabled : SimpleAreTabled tree slots c owner P within
+    simple_are_tabled words blocks frames spot command a b simple known rules outside is limits room code =
+        stretch_of c (groups_of tree) P (Onward c (groups_of tree) P within words blocks b)
+        (λ t. P t × LeadsTo c (groups_of tree) t b (resting within words blocks Changed)) a b (resting within words blocks Changed)
+        (simple_tabled words blocks frames spot command a b simple known rules outside is limits room code) (λ t p asked. (p, asked))
+
+  pub tests_are_tabled : TestsAreTabled tree slots c owner P within
+  tests_are_tabled words blocks frames spot x a b known before is room code =
+      stretch_of c (groups_of tree) P (Judged c (groups_of tree) P within words blocks b)
+      (λ t. P t × LeadsTo c (groups_of tree) t b (judged within words blocks)) a b (resting within words blocks Fresh)
+      (test_tabled words blocks frames spot x a b known before is room code) (λ t p asked. (p, asked))
+
+  pub taken_is_tabled : TakenIsTabled tree slots c owner P within
+  taken_is_tabled words blocks frames spot to channel a b known outside is room code =
+      stretch_of c (groups_of tree) P (Onward c (groups_of tree) P within words blocks b)
+      (λ t. P t × LeadsTo c (groups_of tree) t b (resting within words blocks Changed)) a b (resting within words blocks (MayTake channel))
+      (taken_first words blocks frames spot to channel a b known outside is room code) (λ t p asked. (p, asked))

@@ -1,5 +1,5 @@
 -- Tables of the code of assignments, sends, receives and `fail`.
-use Rattle.std.proofs.Common.{◌≡◌, ℕ, ◌<◌, Bool, true, List, [], ◌∷◌, length, slice_get, Option, Some, None, refl, sym, subst, arith}
+use Rattle.std.proofs.Common.{◌≡◌, ℕ, ◌<◌, Bool, true, List, [], ◌∷◌, length, slice_get, Option, Some, None, refl, sym, subst}
 use Rattle.rb_syntax.specs.Tree.{Expression, Reference, Refer, Scalar, Element}
 use Rattle.rb_scope.specs.Frames.{Frames, Shape}
 use Rattle.rb_scope.specs.InFrames.{ExpressionInFrames, IsScalar, ReferenceInFrames}

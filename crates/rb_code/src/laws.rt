@@ -1,6 +1,7 @@
 //! The laws of code.
 
 ghost use Rattle.rb_code.specs.SoundLaws.{
+  CodeOfTreesIsSound,
   SoundRunsEnd,
   SoundRunsStand,
   SoundSettlingIsSafe,
@@ -39,4 +40,9 @@ pub fn sound_settling_stands()
 pub fn sound_runs_stand()
     ensures stand { SoundRunsStand }
     ensures end { SoundRunsEnd }
+{}
+
+/// The code of every tree that is resolved, within the limits and nested, and whose expressions need few operands, has a table.
+pub fn code_of_trees_is_sound()
+    ensures { CodeOfTreesIsSound }
 {}
