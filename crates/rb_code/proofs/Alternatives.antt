@@ -1,10 +1,9 @@
 -- Tables of recovery blocks, from those of their alternates and of the expression of their test.
-use Rattle.std.proofs.Common.{◌≡◌, ◌⊎◌, inl, inr, ℕ, ◌+◌, ◌<◌, ◌≤◌, List, [], ◌∷◌, slice_get, Option, Some, None, refl, ap, sym, ◌∙◌, subst, arith}
+use Rattle.std.proofs.Common.{◌≡◌, ℕ, ◌+◌, ◌≤◌, List, [], ◌∷◌, slice_get, Some, refl, sym, ◌∙◌, subst, arith}
 use Rattle.rb_world.specs.Kind.{Membership}
 use Rattle.rb_code.specs.Plain.{Block, Code}
-use Rattle.rb_code.specs.Sound.{Begun, Changed, Each, Entry, Free, Fresh, IsAbove, IsAhead, LeadsTo, MayEnter, Mode, OpenBlock, RestartIs, Table, Within, alternates_at, conversation_of}
+use Rattle.rb_code.specs.Sound.{Begun, Changed, Each, Fresh, IsAbove, IsAhead, LeadsTo, MayEnter, Mode, OpenBlock, RestartIs, Table, Within, alternates_at, conversation_of}
 use Rattle.rb_code.specs.Template.{One}
-use Rattle.rb_code.specs.declared.instr.Instr.{Instr}
 use Rattle.rb_code.specs.declared.instr.Instr.TheVariants.{Enter, Jump, Start, Test, Turn}
 use Rattle.rb_code.proofs.Tabled.{Around}
 use Rattle.rb_code.proofs.Stretches.{Stretch, begins_with, in_order, no_stretch, told_less}

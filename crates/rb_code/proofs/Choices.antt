@@ -1,11 +1,10 @@
 -- Tables of branches, loops and blocks, from those of their parts.
-use Rattle.std.proofs.Common.{◌≡◌, ◌⊎◌, inl, inr, ℕ, zero, suc, ◌+◌, ◌-◌, ◌<◌, ◌≤◌, List, [], ◌∷◌, slice_get, Option, Some, None, refl, ap, sym, ◌∙◌, subst, arith}
+use Rattle.std.proofs.Common.{◌≡◌, inr, ℕ, zero, suc, ◌+◌, ◌-◌, ◌≤◌, List, [], ◌∷◌, slice_get, refl, sym, subst, arith}
 use Rattle.rb_world.specs.Kind.{Membership}
 use Rattle.rb_code.specs.Plain.{Code}
-use Rattle.rb_code.specs.Sound.{Begun, Changed, Entry, Free, Fresh, IsAbove, IsReceiver, LeadsTo, MayFrame, MayTake, Mode, OpenBlock, Table, Within}
+use Rattle.rb_code.specs.Sound.{Changed, Free, Fresh, IsAbove, IsReceiver, LeadsTo, MayFrame, MayTake, Mode, OpenBlock, Table, Within}
 use Rattle.rb_code.specs.Template.{One}
 use Rattle.rb_code.specs.Forms.{DropCode, FrameCode}
-use Rattle.rb_code.specs.declared.instr.Instr.{Instr}
 use Rattle.rb_code.specs.declared.instr.Instr.TheVariants.{Absent, Drop, Frame, Jump, JumpZero, Turn}
 use Rattle.rb_code.proofs.Tabled.{Around}
 use Rattle.rb_code.proofs.Stretches.{Stretch, begins_with, in_order, no_stretch, told_less}

@@ -1,20 +1,20 @@
 -- Tables of all statements, from those of expressions and of simple statements.
-use Rattle.std.proofs.Common.{◌≡◌, ◌⊎◌, inl, inr, ℕ, zero, suc, ◌+◌, ◌<◌, ◌≤◌, Bool, true, false, List, [], ◌∷◌, ◌++◌, length, slice_get, Option, Some, None, refl, ap, sym, ◌∙◌, subst, true≢false, arith}
+use Rattle.std.proofs.Common.{◌≡◌, ℕ, ◌+◌, ◌<◌, ◌≤◌, true, false, List, [], ◌∷◌, slice_get, Option, ap, sym, ◌∙◌, subst, true≢false, arith}
 use Rattle.std.proofs.lemmas.List.Sums.{sum_by-cons}
-use Rattle.rb_syntax.specs.Tree.{Declaration, Identifier, Expression, Reference, Command, Assignment, Printing, Sending, Receiving, Conditional, Loop, Invocation, Failure, Recovering, Commands, NoCommand, Then, Body, Scope, Otherwise, NoElse, Else, RecoveryBlock, Recovers, Alternates, NoAlternate, Alternate, Tree}
-use Rattle.rb_meaning.specs.Environment.{frame_of, frame_words, natural}
+use Rattle.rb_syntax.specs.Tree.{Declaration, Identifier, Expression, Reference, Command, Assignment, Printing, Sending, Receiving, Conditional, Loop, Invocation, Failure, Recovering, Commands, NoCommand, Then, Body, Scope, NoElse, Else, Recovers, Alternates, NoAlternate, Alternate, Tree}
+use Rattle.rb_meaning.specs.Environment.{frame_of, frame_words}
 use Rattle.rb_meaning.specs.Groups.{channel_number, channels_of, conversation_of as number_joined, groups_of}
-use Rattle.rb_meaning.specs.Nesting.{Receives, Spot, inside, joined, uses_in, uses_in_alternates, uses_in_body, uses_in_command, uses_in_otherwise}
+use Rattle.rb_meaning.specs.Nesting.{Receives, Spot, inside, joined, uses_in, uses_in_alternates, uses_in_body, uses_in_command}
 use Rattle.rb_scope.specs.Frames.{Frames, in_acceptance, pushed, shape_of, shape_words, shapes_words}
 use Rattle.rb_scope.specs.InFrames.{AlternatesInFrames, BodyInFrames, CommandInFrames, CommandsInFrames, ExpressionInFrames, IsChannel, IsScalar, ReferenceInFrames}
 use Rattle.rb_scope.specs.Limits.{AlternatesWithin, BodyWithin, CommandWithin, CommandsWithin}
 use Rattle.rb_scope.specs.declared.slot.Slot.{Slot}
-use Rattle.rb_code.specs.Plain.{Block, Code}
+use Rattle.rb_code.specs.Plain.{Code}
 use Rattle.rb_code.specs.Memory.{part_of}
 use Rattle.rb_code.specs.Slots.{channel_in, channel_of}
 use Rattle.rb_code.specs.Operands.{HasRoom}
 use Rattle.rb_code.specs.RoomInTree.{AlternatesHaveRoom, BodyHasRoom, CommandHasRoom, CommandsHaveRoom, StoreHasRoom}
-use Rattle.rb_code.specs.Sound.{Begun, Changed, Free, Fresh, InnermostIs, IsAbove, IsReceiver, MayEnter, MayFrame, MayTake, Mode, OpenBlock, Table, Within, conversation_of, most_operands}
+use Rattle.rb_code.specs.Sound.{Begun, Changed, Free, Fresh, InnermostIs, IsAbove, IsReceiver, MayEnter, MayFrame, MayTake, Mode, OpenBlock, Within, conversation_of, most_operands}
 use Rattle.rb_code.specs.Template.{One}
 use Rattle.rb_code.specs.Forms.{AlternatesCode, BlockCode, BodyCode, BranchesCode, CommandCode, CommandsCode, ExpressionCode, OthersCode, Owner, ReceiptCode, StoreCode}
 use Rattle.rb_code.specs.declared.instr.Instr.TheVariants.{Absent, Jump, JumpZero, Take, Turn}
@@ -223,8 +223,10 @@ module _ (tree : Tree) (slots : List Slot) (c : Code) (owner : Owner) (P : Aroun
       alternates_tabled words blocks frames spot (Alternate body others) addresses test a b e known outside rules names limits room (more, is, (m, code, rest)) =
           subst (Alternatives c (groups_of tree) P within words blocks Begun a b) (sym is)
           (alternative c (groups_of tree) P within words blocks a m b more
-          (body_tabled words blocks frames spot Begun body a m known outside tt (rules_first tree (uses_in_body spot body) (uses_in_alternates spot others) rules) names.0 limits.0 room.0 code)
-          (others_tabled words blocks frames spot others more test m b e known outside (rules_second tree (uses_in_body spot body) (uses_in_alternates spot others) rules) names.1 limits.1 room.1 rest))
+          (body_tabled words blocks frames spot Begun body a m known outside tt
+          (rules_first tree (uses_in_body spot body) (uses_in_alternates spot others) rules) names.0 limits.0 room.0 code)
+          (others_tabled words blocks frames spot others more test m b e known outside
+          (rules_second tree (uses_in_body spot body) (uses_in_alternates spot others) rules) names.1 limits.1 room.1 rest))
 
       others_tabled : (words : ℕ) (blocks : List OpenBlock) (frames : Frames) (spot : Spot) (alternates : Alternates) (addresses : List ℕ) (test a b : ℕ) → test ≡ b
           → Known words blocks frames spot → frames.in_test ≡ false → KeepRules tree (uses_in_alternates spot alternates)
@@ -238,5 +240,7 @@ module _ (tree : Tree) (slots : List Slot) (c : Code) (owner : Owner) (P : Aroun
           subst (Alternatives c (groups_of tree) P within words blocks Changed a b) (sym is)
           (other_alternative c (groups_of tree) P within words blocks a d b (d ∷ more) known.above (subst (λ x. One (Jump x) c a d) e jump)
           (alternative c (groups_of tree) P within words blocks d m b more
-          (body_tabled words blocks frames spot Begun body d m known outside tt (rules_first tree (uses_in_body spot body) (uses_in_alternates spot others) rules) names.0 limits.0 room.0 code)
-          (others_tabled words blocks frames spot others more test m b e known outside (rules_second tree (uses_in_body spot body) (uses_in_alternates spot others) rules) names.1 limits.1 room.1 rest)))
+          (body_tabled words blocks frames spot Begun body d m known outside tt
+          (rules_first tree (uses_in_body spot body) (uses_in_alternates spot others) rules) names.0 limits.0 room.0 code)
+          (others_tabled words blocks frames spot others more test m b e known outside
+          (rules_second tree (uses_in_body spot body) (uses_in_alternates spot others) rules) names.1 limits.1 room.1 rest)))

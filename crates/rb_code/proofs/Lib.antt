@@ -68,3 +68,4 @@ pub mod ExpressionTables
 pub mod StatementTables
 pub mod LineTables
 pub mod SimpleTables
+pub mod TreeTables

@@ -1,23 +1,22 @@
 -- Tables of procedures and of processes, from those of their statements.
-use Rattle.std.proofs.Common.{◌≡◌, ℕ, zero, suc, ◌+◌, ◌≤◌, ℤ, pos, Bool, true, false, List, [], ◌∷◌, ◌++◌, length, slice_get, Option, Some, None, refl, ap, sym, ◌∙◌, subst, arith}
+use Rattle.std.proofs.Common.{◌≡◌, ℕ, ◌+◌, true, false, List, [], ◌∷◌, ◌++◌, length, refl, sym, ◌∙◌, subst, arith}
 use Rattle.std.proofs.lemmas.List.Sums.{sum_by-cons}
 use Rattle.std.proofs.lemmas.List.Elements.{All-head, All-tail}
 use Rattle.std.specs.List.{All}
-use Rattle.rb_syntax.specs.Tree.{Identifier, Commands, Body, Scope, ProcedureDeclaration, ProcessDeclaration, Tree}
+use Rattle.rb_syntax.specs.Tree.{Identifier, Body, Scope, ProcedureDeclaration, ProcessDeclaration, Tree}
 use Rattle.rb_meaning.specs.Environment.{Frame, frame_of, frame_words}
 use Rattle.rb_meaning.specs.Step.{bound_to, commands_of, variables_of}
 use Rattle.rb_meaning.specs.Groups.{channels_of, groups_of}
 use Rattle.rb_meaning.specs.Nesting.{Spot, outside, uses_in, uses_in_body, uses_in_procedures}
 use Rattle.rb_scope.specs.Frames.{Sized, call_shape, main_frames, procedure_frames, shape_of, shape_words, shapes_words}
-use Rattle.rb_scope.specs.InFrames.{CommandsInFrames, ProcedureInFrames, ProcessInFrames}
-use Rattle.rb_scope.specs.Limits.{CommandsWithin, ProcedureWithin, ProcessWithin}
+use Rattle.rb_scope.specs.InFrames.{ProcedureInFrames, ProcessInFrames}
+use Rattle.rb_scope.specs.Limits.{ProcedureWithin, ProcessWithin}
 use Rattle.rb_scope.specs.declared.slot.Slot.{Slot}
 use Rattle.rb_code.specs.Plain.{Code, Part, Procedure}
 use Rattle.rb_code.specs.Memory.{part_of}
 use Rattle.rb_code.specs.RoomInTree.{CommandsHaveRoom, ProcessHasRoom}
-use Rattle.rb_code.specs.Sound.{Changed, LeadsTo, Table, Within}
-use Rattle.rb_code.specs.Template.{One}
-use Rattle.rb_code.specs.Forms.{CommandsCode, Owner, ProceduresCode}
+use Rattle.rb_code.specs.Sound.{Changed, LeadsTo, Within}
+use Rattle.rb_code.specs.Forms.{Owner, ProceduresCode}
 use Rattle.rb_code.specs.StandsFor.{ProcessCode}
 use Rattle.rb_code.specs.declared.instr.Instr.TheVariants.{Done, Return}
 use Rattle.rb_code.proofs.Tabled.{Around}

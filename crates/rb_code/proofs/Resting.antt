@@ -1,8 +1,8 @@
 -- What is known between two statements, and the entries of tests and jumps around it.
-use Rattle.std.proofs.Common.{◌≡◌, ◌⊎◌, inl, inr, ℕ, ◌+◌, ◌<◌, ◌≤◌, List, [], ◌∷◌, filter, slice_get, Option, Some, None, refl, ap, sym, ◌∙◌, subst, arith}
+use Rattle.std.proofs.Common.{◌≡◌, inl, ℕ, ◌+◌, ◌<◌, ◌≤◌, List, [], ◌∷◌, Option, Some, None, refl, ap, sym, subst, arith}
 use Rattle.rb_world.specs.Kind.{Membership}
 use Rattle.rb_code.specs.Plain.{Code}
-use Rattle.rb_code.specs.Sound.{BeginsAs, Changed, Entry, Free, Fresh, Has, IsAbove, IsAhead, IsWeaker, LeadsTo, Loop, Mode, OpenBlock, Table, WeakerMode, WeakerOperands, Within, at_address}
+use Rattle.rb_code.specs.Sound.{Changed, Entry, Free, Fresh, Has, IsAbove, IsAhead, LeadsTo, Loop, Mode, OpenBlock, Table, WeakerMode, Within}
 use Rattle.rb_code.specs.Template.{One}
 use Rattle.rb_code.specs.declared.instr.Instr.{Instr}
 use Rattle.rb_code.specs.declared.instr.Instr.TheVariants.{Turn}

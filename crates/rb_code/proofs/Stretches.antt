@@ -1,6 +1,6 @@
 -- A stretch of code for which a table is known, with what it asks of the whole table and what it tells of it. Stretches are put together
 -- from the last to the first: what a jump ahead needs is told by the stretches behind it.
-use Rattle.std.proofs.Common.{◌≡◌, ℕ, zero, suc, ◌+◌, ◌<◌, ◌≤◌, nat_lt, cond, Bool, true, false, List, [], ◌∷◌, filter, slice_get, Option, Some, None, refl, ap, sym, ◌∙◌, subst, arith}
+use Rattle.std.proofs.Common.{◌≡◌, ℕ, ◌<◌, ◌≤◌, nat_lt, cond, Bool, true, false, List, filter, Option, Some, None, refl, ap, sym, ◌∙◌, subst, arith}
 use Rattle.rb_world.specs.Kind.{Membership}
 use Rattle.rb_code.specs.Plain.{Code}
 use Rattle.rb_code.specs.Sound.{Entry, Fine, FineAt, IsAbove, IsSoundAt, LeadsTo, Table, is_in}

@@ -1,21 +1,20 @@
 -- The code of a whole tree has a table, by the tables of expressions and of simple statements.
-use Rattle.std.proofs.Common.{◌≡◌, ℕ, zero, suc, ◌+◌, ◌<◌, ◌≤◌, nat_lt, Bool, true, false, cond, List, [], ◌∷◌, ◌++◌, length, slice_get, Option, Some, None, refl, ap, sym, ◌∙◌, subst, arith}
+use Rattle.std.proofs.Common.{◌≡◌, ℕ, zero, suc, ◌+◌, ◌<◌, ◌≤◌, nat_lt, Bool, true, false, List, [], ◌∷◌, ◌++◌, length, slice_get, Some, None, refl, ap, sym, ◌∙◌, subst, arith}
 use Rattle.std.proofs.lemmas.List.Elements.{All-head, All-tail}
 use Rattle.std.specs.List.{All}
 use Rattle.std.specs.Option.{unwrap_or}
 use Rattle.rb_syntax.specs.Tree.{ProcessDeclaration, Tree}
 use Rattle.rb_world.proofs.ListFacts.{none_some, some_same}
-use Rattle.rb_meaning.specs.Environment.{frame_of, frame_words}
 use Rattle.rb_meaning.specs.Groups.{channels_of, groups_of}
 use Rattle.rb_meaning.specs.Nesting.{IsNested, outside, uses_in, uses_in_procedures, uses_in_processes}
 use Rattle.rb_meaning.proofs.NestedProgram.{uses_kept}
-use Rattle.rb_scope.specs.InFrames.{ProcessInFrames, Resolved}
+use Rattle.rb_scope.specs.InFrames.{Resolved}
 use Rattle.rb_scope.specs.Limits.{IsWithinLimits, ProcessWithin}
 use Rattle.rb_scope.specs.declared.slot.Slot.{Slot}
 use Rattle.rb_code.specs.Plain.{Code, Part}
 use Rattle.rb_code.specs.Memory.{no_part, part_of}
 use Rattle.rb_code.specs.RoomInTree.{FewOperands, ProcessHasRoom}
-use Rattle.rb_code.specs.Sound.{Changed, Entry, HasTable, IsSoundAt, LeadsTo, MainBegins, Table, Within}
+use Rattle.rb_code.specs.Sound.{Changed, Entry, HasTable, IsSoundAt, LeadsTo, Table, Within}
 use Rattle.rb_code.specs.StandsFor.{ProcessesCode, StandsFor}
 use Rattle.rb_code.proofs.Tabled.{AgreeBetween, Around}
 use Rattle.rb_code.proofs.Stretches.{Stretch, cut_at, cut_before, cut_behind, in_order, no_stretch, told_less}

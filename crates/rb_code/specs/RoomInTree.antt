@@ -1,7 +1,7 @@
 -- Statements find room for the operands of their expressions: a premise on a tree, whose expressions are not too deep.
 use Rattle.std.specs.Prelude.{ℕ, suc, ◌<◌, List, [], ◌∷◌}
 use Rattle.std.specs.List.{All}
-use Rattle.rb_syntax.specs.Tree.{Expression, Reference, Refer, Scalar, Element, Printed, Words, Amount, Command, Assignment, Printing, Sending, Receiving, Conditional, Loop, Invocation, Failure, Recovering, Commands, NoCommand, Then, Body, Scope, Otherwise, NoElse, Else, RecoveryBlock, Recovers, Alternates, NoAlternate, Alternate, ProcedureDeclaration, ProcessDeclaration, Tree}
+use Rattle.rb_syntax.specs.Tree.{Expression, Reference, Refer, Scalar, Element, Printed, Words, Amount, Command, Assignment, Printing, Sending, Receiving, Conditional, Loop, Invocation, Failure, Recovering, Commands, NoCommand, Then, Body, Scope, Otherwise, NoElse, Else, RecoveryBlock, Recovers, Alternates, NoAlternate, Alternate, ProcessDeclaration, Tree}
 use Rattle.rb_meaning.specs.Step.{commands_of}
 use Rattle.rb_code.specs.Sound.{most_operands}
 use Rattle.rb_code.specs.Operands.{HasRoom}
