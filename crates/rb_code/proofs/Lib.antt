@@ -68,4 +68,3 @@ pub mod ExpressionTables
 pub mod StatementTables
 pub mod LineTables
 pub mod SimpleTables
-pub mod TreeTables
