@@ -27,7 +27,7 @@ module _ (c : Code) (tree : Tree) (slots : List Slot) where
   procedure_begins : (t : Table) (p : ℕ) (procedures : List ProcedureDeclaration) (entries : List Procedure) (number : ℕ) (procedure : ProcedureDeclaration)
       → ProceduresBegin c tree p procedures entries t → slice_get procedures number ≡ Some procedure
       → LeadsTo c (groups_of tree) t (start_in entries number) (resting (in_procedure p) (call_words procedure) [] Changed)
-        × IsProcedureAt entries (start_in entries number)
+      × IsProcedureAt entries (start_in entries number)
   procedure_begins t p [] entries number procedure all at = absurd (none_some at)
   procedure_begins t p (one ∷ others) [] number procedure all at = absurd all
   procedure_begins t p (one ∷ others) (entry ∷ more) zero procedure all at =
@@ -45,12 +45,12 @@ module _ (c : Code) (tree : Tree) (slots : List Slot) where
   calls_known p process within at is = record {
     own = ap procedures_of (sym at) ∙ ap (λ n. procedures_of (slice_get tree.processes n)) (sym is);
     there = λ t finds number procedure known.
-      subst (λ n. IsProcedureAt (part_of c n).procedures (procedure_start c p number)) (sym is)
-      (procedure_begins t p process.procedures (part_of c p).procedures number procedure (finds p process at) known).1;
+        subst (λ n. IsProcedureAt (part_of c n).procedures (procedure_start c p number)) (sym is)
+        (procedure_begins t p process.procedures (part_of c p).procedures number procedure (finds p process at) known).1;
     enters = λ t finds number procedure known.
-      subst (λ n. BeginsAs (t (procedure_start c p number)) n (call_words procedure)) (sym is)
-      (begins_as t p (procedure_start c p number) (call_words procedure)
-      (procedure_begins t p process.procedures (part_of c p).procedures number procedure (finds p process at) known).0);
+        subst (λ n. BeginsAs (t (procedure_start c p number)) n (call_words procedure)) (sym is)
+        (begins_as t p (procedure_start c p number) (call_words procedure)
+        (procedure_begins t p process.procedures (part_of c p).procedures number procedure (finds p process at) known).0);
   }
 
   pub code_has_table : Resolved tree slots → IsWithinLimits tree → IsNested tree → FewOperands tree → StandsFor tree slots c
@@ -59,6 +59,6 @@ module _ (c : Code) (tree : Tree) (slots : List Slot) where
       tree_has_table c tree slots stands.channels_are
       (λ p process within at is. tests_are_tabled tree slots c (owner_by p process) (CallsFind c tree) within)
       (λ p process within at is.
-        simple_are_tabled tree slots c (owner_by p process) (CallsFind c tree) within stands.channels_are (calls_known p process within at is))
+      simple_are_tabled tree slots c (owner_by p process) (CallsFind c tree) within stands.channels_are (calls_known p process within at is))
       (λ p process within at is. taken_is_tabled tree slots c (owner_by p process) (CallsFind c tree) within)
       resolved limits nested few stands

@@ -35,7 +35,7 @@ cover_loop k first last b loops high cover x p q =
     ∙ ap (λ ls. loop_over k first last ∷ ls) (cover x p (omega arith))
 
 module _ (c : Code) (groups : List Membership) (e : Entry) (above : IsAbove e.blocks e.words) (loops : List Loop) (after : Mode)
-         (q : Quiet after after) where
+    (q : Quiet after after) where
   -- code that pushes one operand on these, in loops and a mode, has a table
   abbrev pub PushesIn : List Loop → Mode → Template → List (Option ℕ) → Type 1
   PushesIn ls mode P os =
@@ -93,17 +93,55 @@ module _ (c : Code) (groups : List Membership) (e : Entry) (above : IsAbove e.bl
           (high_pushes R1 p r (cover_within a (r + 1) p r loops (omega arith) (omega arith) cover) hc (λ t s. s.0)).whole)
           (one_tabled c groups R (instr.Range k past) r (r + 1) (point e (None ∷ None ∷ os) loops after) (range, refl)
           (cover r (omega arith) (omega arith)) above
-          (λ t s. (q.traps, few, unset, (inl ahead, subst (λ m. LeadsTo c groups t past (point e os loops m)) (sym q.is) (out t s),
-          (last, again, more, subst (λ m. LeadsTo c groups t (r + 1) (point e os (loop_over k (r + 1) last ∷ loops) m)) (sym q.is) (next t s)))))).whole
+          (λ t s. (
+            q.traps,
+            few,
+            unset,
+            (
+              inl ahead,
+              subst (λ m. LeadsTo c groups t past (point e os loops m)) (sym q.is) (out t s),
+              (last, again, more, subst (λ m. LeadsTo c groups t (r + 1) (point e os (loop_over k (r + 1) last ∷ loops) m)) (sym q.is) (next t s)),
+            ),
+          ))).whole
 
       -- `every`
       every_tabled : (mode : Mode) (R : Around) (a b : ℕ) (os : List (Option ℕ)) → length os < most_operands → PushesIn loops mode low os
           → PushesIn loops after high (None ∷ os) → ((first last : ℕ) → PushesIn (loop_over k first last ∷ loops) after body os) → Cover a b loops
           → EveryCode k low high body c a b → ((t : Table) → R t → LeadsTo c groups t b (point e (None ∷ os) loops after))
           → TabledFirst c groups R a b (point e os loops mode)
-      every_tabled mode R a b os room low_pushes high_pushes body_pushes cover
-          (loop, (fails, (holds, (end, (p, lc, (r, hc, (d, range, (first, at_loop, (d0, bc,
-          (d1, zero_test, (d2, again, (d3, at_yes, (d4, push1, (d5, jump, (d6, at_no, (d7, push0, at_end)))))))))))))))) next =
+      every_tabled mode R a b os room low_pushes high_pushes body_pushes cover (
+        loop,
+        (
+          fails,
+          (
+            holds,
+            (
+              end,
+              (
+                p,
+                lc,
+                (
+                  r,
+                  hc,
+                  (
+                    d,
+                    range,
+                    (
+                      first,
+                      at_loop,
+                      (
+                        d0,
+                        bc,
+                        (d1, zero_test, (d2, again, (d3, at_yes, (d4, push1, (d5, jump, (d6, at_no, (d7, push0, at_end))))))),
+                      ),
+                    ),
+                  ),
+                ),
+              ),
+            ),
+          ),
+        ),
+      ) next =
           let l0 = low_forward a p lc in let l1 = high_forward p r hc in let l2 = body_forward first d0 bc in
           let n0 = range.1 in let n1 = at_loop.1 in let n2 = zero_test.1 in let n3 = again.1 in let n4 = at_yes.1 in let n5 = push1.1 in
           let n6 = jump.1 in let n7 = at_no.1 in let n8 = push0.1 in let n9 = at_end.1 in
@@ -123,12 +161,12 @@ module _ (c : Code) (groups : List Membership) (e : Entry) (above : IsAbove e.bl
           (λ t s. subst (λ x. LeadsTo c groups t x on) (n4 ∙ m4) s.1.0) (λ t s. s.0))
           (loop_tabled R2 (r + 1) d1 d3 os (back.0, n4 ∙ n3) (omega arith) (cover_within a b (r + 1) d3 loops (omega arith) (omega arith) cover)
           (λ S to_last more.
-            joined_first c groups S (r + 1) d0 d1 (inside (r + 1) d1 os) (inside (r + 1) d1 (None ∷ os))
-            (body_pushes (r + 1) d1 (λ t. LeadsTo c groups t d0 (inside (r + 1) d1 (None ∷ os)) × S t) (r + 1) d0
-            (cover_within (r + 1) d1 (r + 1) d0 (loop_over k (r + 1) d1 ∷ loops) (omega arith) (omega arith) inner) body_code (λ t s. s.0))
-            (jump_zero_tabled c groups e above (loop_over k (r + 1) d1 ∷ loops) after after q S fails d0 d1 None os zero_test
-            (inner d0 (omega arith) (omega arith)) (omega arith)
-            (λ t s. left_behind t (r + 1) d1 fails os (omega arith) (subst (λ x. LeadsTo c groups t x on) (n7 ∙ m7) (more t s).1.0)) to_last).whole)
+          joined_first c groups S (r + 1) d0 d1 (inside (r + 1) d1 os) (inside (r + 1) d1 (None ∷ os))
+          (body_pushes (r + 1) d1 (λ t. LeadsTo c groups t d0 (inside (r + 1) d1 (None ∷ os)) × S t) (r + 1) d0
+          (cover_within (r + 1) d1 (r + 1) d0 (loop_over k (r + 1) d1 ∷ loops) (omega arith) (omega arith) inner) body_code (λ t s. s.0))
+          (jump_zero_tabled c groups e above (loop_over k (r + 1) d1 ∷ loops) after after q S fails d0 d1 None os zero_test
+          (inner d0 (omega arith) (omega arith)) (omega arith)
+          (λ t s. left_behind t (r + 1) d1 fails os (omega arith) (subst (λ x. LeadsTo c groups t x on) (n7 ∙ m7) (more t s).1.0)) to_last).whole)
           (λ t s. s.0)).whole)
           (joined_first c groups R1 d3 d4 d6 on got
           (push_tabled c groups e above loops after after q (λ t. LeadsTo c groups t d4 got × R1 t) (pos 1) d3 d4 os push1
@@ -142,9 +180,39 @@ module _ (c : Code) (groups : List Membership) (e : Entry) (above : IsAbove e.bl
           → PushesIn loops after high (None ∷ os) → ((first last : ℕ) → PushesIn (loop_over k first last ∷ loops) after body os) → Cover a b loops
           → SomeCode k low high body c a b → ((t : Table) → R t → LeadsTo c groups t b (point e (None ∷ os) loops after))
           → TabledFirst c groups R a b (point e os loops mode)
-      some_tabled mode R a b os room low_pushes high_pushes body_pushes cover
-          (loop, (later, (fails, (end, (p, lc, (r, hc, (d, range, (first, at_loop, (d0, bc,
-          (d1, zero_test, (d2, push1, (d3, jump, (d4, at_next, (d5, again, (d6, at_no, (d7, push0, at_end)))))))))))))))) next =
+      some_tabled mode R a b os room low_pushes high_pushes body_pushes cover (
+        loop,
+        (
+          later,
+          (
+            fails,
+            (
+              end,
+              (
+                p,
+                lc,
+                (
+                  r,
+                  hc,
+                  (
+                    d,
+                    range,
+                    (
+                      first,
+                      at_loop,
+                      (
+                        d0,
+                        bc,
+                        (d1, zero_test, (d2, push1, (d3, jump, (d4, at_next, (d5, again, (d6, at_no, (d7, push0, at_end))))))),
+                      ),
+                    ),
+                  ),
+                ),
+              ),
+            ),
+          ),
+        ),
+      ) next =
           let l0 = low_forward a p lc in let l1 = high_forward p r hc in let l2 = body_forward first d0 bc in
           let n0 = range.1 in let n1 = at_loop.1 in let n2 = zero_test.1 in let n3 = push1.1 in let n4 = jump.1 in let n5 = at_next.1 in
           let n6 = again.1 in let n7 = at_no.1 in let n8 = push0.1 in let n9 = at_end.1 in
@@ -164,22 +232,22 @@ module _ (c : Code) (groups : List Membership) (e : Entry) (above : IsAbove e.bl
           (λ t s. subst (λ x. LeadsTo c groups t x on) (n7 ∙ m7) s.1.0) (λ t s. s.0))
           (loop_tabled R1 (r + 1) d4 d6 os (back.0, n7 ∙ n6) (omega arith) (cover_within a b (r + 1) d6 loops (omega arith) (omega arith) cover)
           (λ S to_last more.
-            let S2 : Around = λ t. LeadsTo c groups t d2 answer × S t in
-            let S3 : Around = λ t. LeadsTo c groups t d1 round × S2 t in
-            joined_first c groups S (r + 1) d2 d4 round answer
-            (joined_first c groups S2 (r + 1) d1 d2 round round
-            (joined_first c groups S3 (r + 1) d0 d1 round answer
-            (body_pushes (r + 1) d4 (λ t. LeadsTo c groups t d0 answer × S3 t) (r + 1) d0
-            (cover_within (r + 1) d4 (r + 1) d0 (loop_over k (r + 1) d4 ∷ loops) (omega arith) (omega arith) inner) body_code (λ t s. s.0))
-            (jump_zero_tabled c groups e above (loop_over k (r + 1) d4 ∷ loops) after after q S3 later d0 d1 None os zero_test
-            (inner d0 (omega arith) (omega arith)) (omega arith)
-            (λ t s. subst (λ x. LeadsTo c groups t x round) (n5 ∙ m5) (to_last t s.1.1)) (λ t s. s.0)).whole)
-            (push_tabled c groups e above (loop_over k (r + 1) d4 ∷ loops) after after q S2 (pos 1) d1 d2 os push1
-            (inner d1 (omega arith) (omega arith)) room (λ t s. s.0)).whole)
-            (jump_tabled c groups e above (loop_over k (r + 1) d4 ∷ loops) after after q S end d2 d4 (None ∷ os) (jump.0, n5 ∙ n4)
-            (inner d2 (omega arith) (omega arith)) (omega arith)
-            (λ t s. left_behind t (r + 1) d4 end (None ∷ os) (omega arith)
-            (subst (λ x. LeadsTo c groups t x got) (n9 ∙ m9) (next t (more t s).1)))).whole)
+          let S2 : Around = λ t. LeadsTo c groups t d2 answer × S t in
+          let S3 : Around = λ t. LeadsTo c groups t d1 round × S2 t in
+          joined_first c groups S (r + 1) d2 d4 round answer
+          (joined_first c groups S2 (r + 1) d1 d2 round round
+          (joined_first c groups S3 (r + 1) d0 d1 round answer
+          (body_pushes (r + 1) d4 (λ t. LeadsTo c groups t d0 answer × S3 t) (r + 1) d0
+          (cover_within (r + 1) d4 (r + 1) d0 (loop_over k (r + 1) d4 ∷ loops) (omega arith) (omega arith) inner) body_code (λ t s. s.0))
+          (jump_zero_tabled c groups e above (loop_over k (r + 1) d4 ∷ loops) after after q S3 later d0 d1 None os zero_test
+          (inner d0 (omega arith) (omega arith)) (omega arith)
+          (λ t s. subst (λ x. LeadsTo c groups t x round) (n5 ∙ m5) (to_last t s.1.1)) (λ t s. s.0)).whole)
+          (push_tabled c groups e above (loop_over k (r + 1) d4 ∷ loops) after after q S2 (pos 1) d1 d2 os push1
+          (inner d1 (omega arith) (omega arith)) room (λ t s. s.0)).whole)
+          (jump_tabled c groups e above (loop_over k (r + 1) d4 ∷ loops) after after q S end d2 d4 (None ∷ os) (jump.0, n5 ∙ n4)
+          (inner d2 (omega arith) (omega arith)) (omega arith)
+          (λ t s. left_behind t (r + 1) d4 end (None ∷ os) (omega arith)
+          (subst (λ x. LeadsTo c groups t x got) (n9 ∙ m9) (next t (more t s).1)))).whole)
           (λ t s. s.0)).whole)
           (push_tabled c groups e above loops after after q R (pos 0) d6 b os (push0.0, n9 ∙ n8) (cover d6 (omega arith) (omega arith)) room next).whole
 
@@ -210,11 +278,11 @@ module _ (c : Code) (groups : List Membership) (e : Entry) (above : IsAbove e.bl
           (λ t s. subst (λ x. LeadsTo c groups t x got) (n5 ∙ m5) (next t s.1)) (λ t s. s.0)).whole)
           (loop_tabled R (r + 1) d1 b (None ∷ os) (back.0, n5 ∙ n4) (omega arith) (cover_within a b (r + 1) b loops (omega arith) (omega arith) cover)
           (λ S to_last more.
-            joined_first c groups S (r + 1) d0 d1 round term
-            (body_pushes (r + 1) d1 (λ t. LeadsTo c groups t d0 term × S t) (r + 1) d0
-            (cover_within (r + 1) d1 (r + 1) d0 (loop_over k (r + 1) d1 ∷ loops) (omega arith) (omega arith) inner) body_code (λ t s. s.0))
-            (plain_tabled c groups e above (loop_over k (r + 1) d1 ∷ loops) after after q S instr.Add d0 d1 (None ∷ None ∷ os) (None ∷ os) adds
-            (inner d0 (omega arith) (omega arith)) (λ t s leads. (q.traps, leads)) to_last).whole)
+          joined_first c groups S (r + 1) d0 d1 round term
+          (body_pushes (r + 1) d1 (λ t. LeadsTo c groups t d0 term × S t) (r + 1) d0
+          (cover_within (r + 1) d1 (r + 1) d0 (loop_over k (r + 1) d1 ∷ loops) (omega arith) (omega arith) inner) body_code (λ t s. s.0))
+          (plain_tabled c groups e above (loop_over k (r + 1) d1 ∷ loops) after after q S instr.Add d0 d1 (None ∷ None ∷ os) (None ∷ os) adds
+          (inner d0 (omega arith) (omega arith)) (λ t s leads. (q.traps, leads)) to_last).whole)
           next).whole
 
       pub quantified_tabled : (kind : Quantifier) (mode : Mode) (R : Around) (a b : ℕ) (os : List (Option ℕ)) → Quiet mode after

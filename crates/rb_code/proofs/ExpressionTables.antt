@@ -121,6 +121,7 @@ module _ (c : Code) (groups : List Membership) (slots : List Slot) (globals : Sh
 
     mutual
       unfolding ExpressionCode SubscriptCode LinksCode
+
       pub expression_tabled : (x : Expression) (named : List (List ℕ × ℕ)) (q : ℕ) (R : Around) (a b : ℕ) (os : List (Option ℕ)) (loops : List Loop)
           (mode after : Mode) → Quiet mode after → CountersSet q named loops → ExpressionInFrames slots (frames_with named q) x
           → HasRoom (length os) x → Cover a b loops → ExpressionCode slots x c a b → Leading R a b os loops mode after
@@ -140,18 +141,24 @@ module _ (c : Code) (groups : List Membership) (slots : List Slot) (globals : Sh
       expression_tabled (Former at (Refer name Scalar)) named q R a b os loops mode after quiet set is room cover code next =
           plain_tabled c groups e words.above loops mode after quiet R (instr.Prior (spot_of slots name.id)) a b os (None ∷ os) code
           (cover a (omega arith) (let n = code.1 in omega arith))
-          (λ t r leads. (innermost_on e.blocks (λ block. shapes_words shapes ≤ block.words)
-          (λ block. InRange (part_of c e.within.process).words block.words (spot_of slots name.id) 1)
-          (λ block high. scalar_range block.words (part_of c e.within.process).words name named q words.own high is.1) (words.before is.0), (room, leads))) next
+          (λ t r leads. (
+            innermost_on e.blocks (λ block. shapes_words shapes ≤ block.words)
+                (λ block. InRange (part_of c e.within.process).words block.words (spot_of slots name.id) 1)
+                (λ block high. scalar_range block.words (part_of c e.within.process).words name named q words.own high is.1) (words.before is.0),
+            (room, leads),
+          )) next
       expression_tabled (Former at (Refer name (Element index))) named q R a b os loops mode after quiet set is room cover (m, code, more) next =
           let l = expression_forward c slots index a m code in
           let n0 = more.1.1 in let n1 = more.2.1 in
           element_tabled R (instr.PriorAt (spot_of slots name.id)) (elements_of slots name.id) a m b os loops mode after quiet
           (λ S. expression_tabled index named q S a m os loops mode after quiet set is.1.1 room
           (cover_within a b a m loops (omega arith) (omega arith) cover) code) (omega arith) cover more
-          (λ t d leads. (innermost_on e.blocks (λ block. shapes_words shapes ≤ block.words)
-          (λ block. InRange (part_of c e.within.process).words block.words (spot_of slots name.id) (elements_of slots name.id))
-          (λ block high. array_range block.words (part_of c e.within.process).words name named q words.own high is.1.0) (words.before is.0), leads)) next
+          (λ t d leads. (
+            innermost_on e.blocks (λ block. shapes_words shapes ≤ block.words)
+                (λ block. InRange (part_of c e.within.process).words block.words (spot_of slots name.id) (elements_of slots name.id))
+                (λ block high. array_range block.words (part_of c e.within.process).words name named q words.own high is.1.0) (words.before is.0),
+            leads,
+          )) next
       expression_tabled (Minus operand) named q R a b os loops mode after quiet set is room cover (m, code, one) next =
           let l = expression_forward c slots operand a m code in
           let n = one.1 in

@@ -31,7 +31,7 @@ module _ (c : Code) where
 
   pub operator_forward : (op : Op) (right : Template) → Forward right → Forward (OperatorCode op right)
   operator_forward op.Or right f a b (other, (end, (p, test, (q, push, (r, jump, (s, at_other, (u, code, (v, bool, at_end)))))))) =
-      let e0 = test.1 in let e1 = push.1 in let e2 = jump.1 in let e3 = at_other.1 in 
+      let e0 = test.1 in let e1 = push.1 in let e2 = jump.1 in let e3 = at_other.1 in
       let l1 = f s u code in let e4 = bool.1 in let e5 = at_end.1 in omega arith
   operator_forward op.And right f a b (fails, (end, (p, test, (q, code, (r, bool, (s, jump, (u, at_fails, (v, push, at_end)))))))) =
       let e0 = test.1 in let l1 = f p q code in let e1 = bool.1 in let e2 = jump.1 in let e3 = at_fails.1 in let e4 = push.1 in let e5 = at_end.1 in omega arith
@@ -49,15 +49,75 @@ module _ (c : Code) where
 
   quantified_forward : (kind : Quantifier) (k : ℕ) (low high body : Template) → Forward low → Forward high → Forward body
       → Forward (QuantifiedCode kind k low high body)
-  quantified_forward Every k low high body f g h a b
-      (loop, (fails, (holds, (end, (p, lc, (r, hc, (d, range, (first, at_loop, (d0, bc,
-      (d1, zero_test, (d2, again, (d3, at_yes, (d4, push1, (d5, jump, (d6, at_no, (d7, push0, at_end)))))))))))))))) =
+  quantified_forward Every k low high body f g h a b (
+    loop,
+    (
+      fails,
+      (
+        holds,
+        (
+          end,
+          (
+            p,
+            lc,
+            (
+              r,
+              hc,
+              (
+                d,
+                range,
+                (
+                  first,
+                  at_loop,
+                  (
+                    d0,
+                    bc,
+                    (d1, zero_test, (d2, again, (d3, at_yes, (d4, push1, (d5, jump, (d6, at_no, (d7, push0, at_end))))))),
+                  ),
+                ),
+              ),
+            ),
+          ),
+        ),
+      ),
+    ),
+  ) =
       let l0 = f a p lc in let l1 = g p r hc in let l2 = h first d0 bc in
       let e0 = range.1 in let e1 = at_loop.1 in let e2 = zero_test.1 in let e3 = again.1 in let e4 = at_yes.1 in
       let e5 = push1.1 in let e6 = jump.1 in let e7 = at_no.1 in let e8 = push0.1 in let e9 = at_end.1 in omega arith
-  quantified_forward Any k low high body f g h a b
-      (loop, (next, (fails, (end, (p, lc, (r, hc, (d, range, (first, at_loop, (d0, bc,
-      (d1, zero_test, (d2, push1, (d3, jump, (d4, at_next, (d5, again, (d6, at_no, (d7, push0, at_end)))))))))))))))) =
+  quantified_forward Any k low high body f g h a b (
+    loop,
+    (
+      next,
+      (
+        fails,
+        (
+          end,
+          (
+            p,
+            lc,
+            (
+              r,
+              hc,
+              (
+                d,
+                range,
+                (
+                  first,
+                  at_loop,
+                  (
+                    d0,
+                    bc,
+                    (d1, zero_test, (d2, push1, (d3, jump, (d4, at_next, (d5, again, (d6, at_no, (d7, push0, at_end))))))),
+                  ),
+                ),
+              ),
+            ),
+          ),
+        ),
+      ),
+    ),
+  ) =
       let l0 = f a p lc in let l1 = g p r hc in let l2 = h first d0 bc in
       let e0 = range.1 in let e1 = at_loop.1 in let e2 = zero_test.1 in let e3 = push1.1 in let e4 = jump.1 in
       let e5 = at_next.1 in let e6 = again.1 in let e7 = at_no.1 in let e8 = push0.1 in let e9 = at_end.1 in omega arith
@@ -68,6 +128,7 @@ module _ (c : Code) where
   module _ (slots : List Slot) where
     mutual
       unfolding ExpressionCode SubscriptCode LinksCode
+
       pub expression_forward : (e : Expression) → Forward (ExpressionCode slots e)
       expression_forward (Literal number) a b one = let e = one.1 in omega arith
       expression_forward (Variable (Refer name Scalar)) a b code = scalar_forward (counter_of slots name.id) (spot_of slots name.id) a b code

@@ -39,8 +39,11 @@ module _ (c : Code) (groups : List Membership) (slots : List Slot) (globals : Sh
         → ((t : Table) → R t → LeadsTo c groups t b (point (with_pieces (n + 1) e) [] [] after)) → TabledFirst c groups R a b (point (with_pieces n e) [] [] mode)
     item_tabled (Words text) n R a b mode after begun known room few (k, is, one) next =
         step_tabled c groups R (instr.Text k) a b (point (with_pieces n e) [] [] mode) (point (with_pieces (n + 1) e) [] [] after) one refl words.above
-        (λ t r leads. (slice_get_within c.texts k text is, few,
-        subst (λ m. LeadsTo c groups t (a + 1) (point (with_pieces (n + 1) e) [] [] m)) (sym begun.is) leads)) next
+        (λ t r leads. (
+          slice_get_within c.texts k text is,
+          few,
+          subst (λ m. LeadsTo c groups t (a + 1) (point (with_pieces (n + 1) e) [] [] m)) (sym begun.is) leads,
+        )) next
     item_tabled (Amount value) n R a b mode after begun known room few (m, code, one) next =
         let first = point (with_pieces n e) (None ∷ []) [] after in
         joined_first c groups R a m b (point (with_pieces n e) [] [] mode) first
@@ -80,8 +83,8 @@ module _ (c : Code) (groups : List Membership) (slots : List Slot) (globals : Sh
 
     -- arguments on operands, and the call
     module _ (to p n : ℕ) (R : Around) (b : ℕ) (pieces : e.pieces ≡ 0) (there : (t : Table) → R t → IsProcedureAt (part_of c e.within.process).procedures to)
-             (enters : (t : Table) → R t → BeginsAs (t to) e.within.process (p + n))
-             (next : (t : Table) → R t → LeadsTo c groups t b (point e [] [] Changed)) where
+        (enters : (t : Table) → R t → BeginsAs (t to) e.within.process (p + n))
+        (next : (t : Table) → R t → LeadsTo c groups t b (point e [] [] Changed)) where
       arguments_tabled : (arguments : List Expression) (a : ℕ) (os : List (Option ℕ)) (mode after : Mode) → Quiet mode after
           → All (ExpressionInFrames slots frames) arguments → ArgumentsHaveRoom (length os) arguments → length os + length arguments ≡ p
           → (ArgumentsCode slots arguments ⨾ One (instr.Call to p n)) c a b → TabledFirst c groups R a b (point e os [] mode)

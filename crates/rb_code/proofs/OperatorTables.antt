@@ -26,7 +26,7 @@ beside_long op.And os = refl
 beside_long _ os = refl
 
 module _ (c : Code) (groups : List Membership) (e : Entry) (above : IsAbove e.blocks e.words) (loops : List Loop) (after : Mode)
-         (q : Quiet after after) where
+    (q : Quiet after after) where
   -- code that pushes one operand on these has a table
   abbrev pub PushesOn : Template → List (Option ℕ) → Type 1
   PushesOn P os =

@@ -69,7 +69,7 @@ module _ (tree : Tree) (slots : List Slot) (c : Code) (owner : Owner) (P : Aroun
       → Known tree slots c owner P within words blocks frames spot → frames.in_test ≡ false
       → ReferenceInFrames slots frames (IsScalar slots frames) to → StoreHasRoom to (λ n. n < most_operands) → StoreCode slots to (One (Take channel)) c a b
       → TabledFirst c (groups_of tree) (λ t. P t × LeadsTo c (groups_of tree) t b (resting within words blocks Changed)) a b
-        (resting within words blocks (MayTake channel))
+      (resting within words blocks (MayTake channel))
   taken_first words blocks frames spot to channel a b known outside is room code =
       taken_tabled c (groups_of tree) slots frames.globals frames.running frames.in_test (resting within words blocks (MayTake channel))
       (words_there words blocks frames spot (MayTake channel) known (no_test blocks frames outside)) channel
@@ -83,7 +83,7 @@ module _ (tree : Tree) (slots : List Slot) (c : Code) (owner : Owner) (P : Aroun
         → IsProcedureAt (part_of c within.process).procedures (procedure_start c owner.number number)
     pub enters : (t : Table) → P t → (number : ℕ) (procedure : ProcedureDeclaration) → slice_get owner.procedures number ≡ Some procedure
         → BeginsAs (t (procedure_start c owner.number number)) within.process
-          (length procedure.parameters + frame_words (frame_of (variables_of procedure.body)))
+        (length procedure.parameters + frame_words (frame_of (variables_of procedure.body)))
 
   -- a statement without statements in it
   module _ (channels_are : c.channels ≡ channels_of tree) (procedures : KnowsProcedures) where
@@ -92,7 +92,7 @@ module _ (tree : Tree) (slots : List Slot) (c : Code) (owner : Owner) (P : Aroun
         → CommandInFrames tree slots within.process frames command → CommandWithin command → CommandHasRoom command
         → CommandCode tree slots owner command c a b
         → TabledFirst c (groups_of tree) (λ t. P t × LeadsTo c (groups_of tree) t b (resting within words blocks Changed)) a b
-          (resting within words blocks Changed)
+        (resting within words blocks Changed)
     unfolding CommandCode ReceiptCode
     simple_tabled words blocks frames spot command a b simple known rules outside is limits room code =
         by command simple rules (subst (λ f. CommandInFrames tree slots within.process f command) (plain_frames words blocks frames spot known) is) limits room code
@@ -135,18 +135,18 @@ module _ (tree : Tree) (slots : List Slot) (c : Code) (owner : Owner) (P : Aroun
             let called = is.0 in
             let same : procedure_of slots name.id ≡ called.number = ap procedure_in called.slot in
             let one : slice_get owner.procedures called.number ≡ Some called.procedure =
-              ap (λ procedures. slice_get procedures called.number) procedures.own ∙ called.there in
+            ap (λ procedures. slice_get procedures called.number) procedures.own ∙ called.there in
             let n = frame_words (frame_of (variables_of called.procedure.body)) in
             let are : procedure_words owner.procedures called.number ≡ n =
-              ap (λ o. unwrap_or (option_map (λ (each : ProcedureDeclaration). frame_words (frame_of (variables_of each.body))) o) 0) one in
+            ap (λ o. unwrap_or (option_map (λ (each : ProcedureDeclaration). frame_words (frame_of (variables_of each.body))) o) 0) one in
             call_tabled c (groups_of tree) slots frames.globals frames.running frames.in_test e there (procedure_start c owner.number (procedure_of slots name.id))
             (length arguments) (procedure_words owner.procedures (procedure_of slots name.id)) R b refl
             (λ t r. subst (λ k. IsProcedureAt (part_of c within.process).procedures (procedure_start c owner.number k)) (sym same)
-              (procedures.there t r.0 called.number called.procedure one))
+            (procedures.there t r.0 called.number called.procedure one))
             (λ t r. subst (λ k. BeginsAs (t (procedure_start c owner.number k)) within.process (length arguments + procedure_words owner.procedures k)) (sym same)
-              (subst (λ w. BeginsAs (t (procedure_start c owner.number called.number)) within.process (length arguments + w)) (sym are)
-              (subst (λ l. BeginsAs (t (procedure_start c owner.number called.number)) within.process (l + n)) called.parameters
-              (procedures.enters t r.0 called.number called.procedure one))))
+            (subst (λ w. BeginsAs (t (procedure_start c owner.number called.number)) within.process (length arguments + w)) (sym are)
+            (subst (λ l. BeginsAs (t (procedure_start c owner.number called.number)) within.process (l + n)) called.parameters
+            (procedures.enters t r.0 called.number called.procedure one))))
             (λ t r. r.1) arguments a Changed is.1 room refl code
         by Failure simple rules is limits room code =
             fail_tabled c (groups_of tree) slots frames.globals frames.running frames.in_test e there R a b Changed refl code (λ t r. r.1)

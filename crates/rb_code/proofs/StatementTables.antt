@@ -44,7 +44,7 @@ pub no_cover : (a b : ℕ) → Cover a b []
 no_cover a b x low high = refl
 
 module _ (c : Code) (groups : List Membership) (slots : List Slot) (globals : Shape) (shapes : List Shape) (in_test : Bool) (e : Entry)
-         (words : HasWords c groups slots globals shapes in_test e) where
+    (words : HasWords c groups slots globals shapes in_test e) where
   -- the frames around a statement
   abbrev pub around : Frames
   around = frames_with c groups slots globals shapes in_test [] 0
@@ -64,10 +64,10 @@ module _ (c : Code) (groups : List Membership) (slots : List Slot) (globals : Sh
 
   -- a value, which some code pushes, goes to a place
   module _ (R : Around) (V : Template) (Room : ℕ → Type 0) (mode after done : Mode) (begun : Quiet mode after)
-           (alone : (S : Around) (d f : ℕ) → Room 0 → V c d f → ((t : Table) → S t → LeadsTo c groups t f (point e (None ∷ []) [] done))
-              → TabledFirst c groups S d f (point e [] [] mode))
-           (behind : (n : ℕ) (S : Around) (d f : ℕ) → Room 1 → V c d f → ((t : Table) → S t → LeadsTo c groups t f (point e (None ∷ Some n ∷ []) [] done))
-              → TabledFirst c groups S d f (point e (Some n ∷ []) [] after)) where
+      (alone : (S : Around) (d f : ℕ) → Room 0 → V c d f → ((t : Table) → S t → LeadsTo c groups t f (point e (None ∷ []) [] done))
+      → TabledFirst c groups S d f (point e [] [] mode))
+      (behind : (n : ℕ) (S : Around) (d f : ℕ) → Room 1 → V c d f → ((t : Table) → S t → LeadsTo c groups t f (point e (None ∷ Some n ∷ []) [] done))
+      → TabledFirst c groups S d f (point e (Some n ∷ []) [] after)) where
     pub store_tabled : (to : Reference) (a b : ℕ) → ReferenceInFrames slots around (IsScalar slots around) to → StoreHasRoom to Room
         → StoreCode slots to V c a b → ((t : Table) → R t → LeadsTo c groups t b (point e [] [] Changed)) → TabledFirst c groups R a b (point e [] [] mode)
     store_tabled (Refer name Scalar) a b is room (m, code, one) next =
@@ -146,6 +146,7 @@ module _ (c : Code) (groups : List Membership) (slots : List Slot) (globals : Sh
         take refl words.above (λ t r leads. (refl, fits, leads)) next1)
         (λ n S d f fits take next1. step_tabled c groups S (instr.Take channel) d f (point e (Some n ∷ []) [] (MayTake channel))
         (point e (None ∷ Some n ∷ []) [] Changed) take refl words.above (λ t r leads. (refl, fits, leads)) next1) to a b is room code next
+
     -- `receive`
     pub receive_tabled : (R : Around) (to : Reference) (a b : ℕ) (mode : Mode) → e.pieces ≡ 0 → e.within.main ≡ true
         → IsReceiver (slice_get c.channels channel) e.within.process → ReferenceInFrames slots around (IsScalar slots around) to → StoreHasRoom to (λ n. n < most_operands)

@@ -77,9 +77,9 @@ module _ (c : Code) (groups : List Membership) (R : Around) where
       table = table;
       begins = λ t same r. leads_there c groups t a e lies (there t same);
       sound = λ t same r x g low high is.
-        let at : x ≡ a = (let n = one.1 in omega arith) in
-        let this : e ≡ g = some_same (sym (there t same) ∙ ap t (sym at) ∙ is) in
-        subst (IsSoundAt c groups t x) this (subst (λ y. IsSoundAt c groups t y e) (sym at) (here t r));
+          let at : x ≡ a = (let n = one.1 in omega arith) in
+          let this : e ≡ g = some_same (sym (there t same) ∙ ap t (sym at) ∙ is) in
+          subst (IsSoundAt c groups t x) this (subst (λ y. IsSoundAt c groups t y e) (sym at) (here t r));
     };
     further = let n = one.1 in omega arith;
     at_once = λ t same. leads_there c groups t a e lies (there t same);
