@@ -84,10 +84,10 @@ module _ (n : ℕ) (m : Memory) where
   ahead (x ∷ y ∷ z ∷ more) a b fit began lt in_code = absurd (not_three m x y z more fit)
 
 -- an address is in a loop that it lies between the ends of, and not in one that ends before it
-in_loop : (a : ℕ) (loop : Loop) → loop.first ≤ a → a ≤ loop.last → is_in a loop ≡ true
+pub in_loop : (a : ℕ) (loop : Loop) → loop.first ≤ a → a ≤ loop.last → is_in a loop ≡ true
 in_loop a loop low high = ap (λ p. p && nat_le a loop.last) (le-leb loop.first a low) ∙ le-leb a loop.last high
 
-behind_loop : (a : ℕ) (loop : Loop) → loop.last < a → is_in a loop ≡ false
+pub behind_loop : (a : ℕ) (loop : Loop) → loop.last < a → is_in a loop ≡ false
 behind_loop a loop high = by (is_in a loop) refl
   where
     by : (p : Bool) → is_in a loop ≡ p → is_in a loop ≡ false
@@ -95,11 +95,11 @@ behind_loop a loop high = by (is_in a loop) refl
     by false e = e
 
 -- the filter of a list whose first element passes, and of one whose first does not
-keeps_first : (test : Loop → Bool) (loop : Loop) (around : List Loop) → test loop ≡ true
+pub keeps_first : (test : Loop → Bool) (loop : Loop) (around : List Loop) → test loop ≡ true
     → filter test (loop ∷ around) ≡ loop ∷ filter test around
 keeps_first test loop around e = ap (λ p. cond p (loop ∷ filter test around) (filter test around)) e
 
-drops_first : (test : Loop → Bool) (loop : Loop) (around : List Loop) → test loop ≡ false
+pub drops_first : (test : Loop → Bool) (loop : Loop) (around : List Loop) → test loop ≡ false
     → filter test (loop ∷ around) ≡ filter test around
 drops_first test loop around e = ap (λ p. cond p (loop ∷ filter test around) (filter test around)) e
 

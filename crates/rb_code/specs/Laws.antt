@@ -15,6 +15,7 @@ use Rattle.rb_scope.specs.Limits.{IsWithinLimits}
 use Rattle.rb_scope.specs.declared.slot.Slot.{Slot}
 use Rattle.rb_code.specs.Plain.{Code}
 use Rattle.rb_code.specs.Sound.{HasTable, Table}
+use Rattle.rb_code.specs.RoomInTree.{FewOperands}
 use Rattle.rb_code.specs.StandsFor.{StandsFor}
 use Rattle.rb_code.specs.Turn.{Copy, Link, Standing, kept_from}
 use Rattle.rb_code.specs.WordKind.{sent_by, taken_by}
@@ -61,3 +62,8 @@ pub record Agrees (tree : Tree) (c : Code) (turns : List ℕ) : Type 0 where
 abbrev pub SoundCodeAgreesWithMeaning : Type 0
 SoundCodeAgreesWithMeaning = (tree : Tree) (slots : List Slot) (c : Code) (t : Table) → Resolved tree slots → IsWithinLimits tree
     → IsNested tree → StandsFor tree slots c → HasTable c (groups_of tree) t → (turns : List ℕ) → Agrees tree c turns
+
+-- So code agrees with the meaning: of every such tree whose expressions find room for their operands, every code that stands for it.
+abbrev pub CodeAgreesWithMeaning : Type 0
+CodeAgreesWithMeaning = (tree : Tree) (slots : List Slot) (c : Code) → Resolved tree slots → IsWithinLimits tree → IsNested tree
+    → FewOperands tree → StandsFor tree slots c → (turns : List ℕ) → Agrees tree c turns

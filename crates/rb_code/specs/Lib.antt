@@ -13,6 +13,8 @@ pub mod Forms
 pub mod StandsFor
 pub mod Sound
 pub mod Safe
+pub mod Operands
+pub mod RoomInTree
 pub mod WellFormed
 pub mod Stands
 pub mod StandsInRuns

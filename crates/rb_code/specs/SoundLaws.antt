@@ -1,5 +1,11 @@
 -- The laws of sound code: what stands in its table is executed safely, comes to an end, and stands again.
 use Rattle.std.specs.Prelude.{◌≡◌, ℕ, ◌+◌, ℤ, false, List, [], slice_get, Option, Some, None}
+use Rattle.rb_syntax.specs.Tree.{Tree}
+use Rattle.rb_meaning.specs.Groups.{groups_of}
+use Rattle.rb_meaning.specs.Nesting.{IsNested}
+use Rattle.rb_scope.specs.InFrames.{Resolved}
+use Rattle.rb_scope.specs.Limits.{IsWithinLimits}
+use Rattle.rb_scope.specs.declared.slot.Slot.{Slot}
 use Rattle.rb_world.specs.Kind.{Membership}
 use Rattle.rb_world.specs.Slots.{Slots}
 use Rattle.rb_world.specs.World.{Level, Process, Running, copy_of, last_of}
@@ -11,6 +17,8 @@ use Rattle.rb_code.specs.WellFormed.{ListsChannels}
 use Rattle.rb_code.specs.WordRun.{word_run}
 use Rattle.rb_code.specs.StandsInRuns.{ProcessStands}
 use Rattle.rb_code.specs.Safe.{IsUnchanged, Safe}
+use Rattle.rb_code.specs.RoomInTree.{FewOperands}
+use Rattle.rb_code.specs.StandsFor.{StandsFor}
 use Rattle.rb_code.specs.Stands.{ServedBut, Serves, SettlesSoundly, StandsSoundly, StandsSoundlyAfter}
 
 -- A step of a process that stands is safe: each instruction finds what it needs, and where the turn may be given up it has changed nothing.
@@ -58,3 +66,8 @@ SoundRunsEnd = (c : Code) (groups : List Membership) (t : Table) → HasTable c 
     → (alternate : ℕ) (message : Option ℤ) (slots : Slots) → ServedBut (want c q.state) message
     → execute c (sight q.state alternate (copy_of (last_of q.levels)) message) (most_steps c) (q.state.at + 1) [] (memory_of q.state slots) ≡ Unfinished
     → ⊥
+
+-- The code of a tree that is resolved, within the limits and nested, and whose expressions need no more operands than there are, is sound.
+abbrev pub CodeOfTreesIsSound : Type 0
+CodeOfTreesIsSound = (tree : Tree) (slots : List Slot) (c : Code) → Resolved tree slots → IsWithinLimits tree → IsNested tree → FewOperands tree
+    → StandsFor tree slots c → (t : Table) × HasTable c (groups_of tree) t

@@ -1,7 +1,8 @@
 //! The laws of code.
 
-ghost use Rattle.rb_code.specs.Laws.{SoundCodeAgreesWithMeaning};
+ghost use Rattle.rb_code.specs.Laws.{CodeAgreesWithMeaning, SoundCodeAgreesWithMeaning};
 ghost use Rattle.rb_code.specs.SoundLaws.{
+  CodeOfTreesIsSound,
   SoundRunsEnd,
   SoundRunsStand,
   SoundSettlingIsSafe,
@@ -46,4 +47,14 @@ pub fn sound_runs_stand()
 /// end both are in the same state, process by process.
 pub fn sound_code_agrees_with_meaning()
     ensures { SoundCodeAgreesWithMeaning }
+{}
+
+/// The code of every tree that is resolved, within the limits and nested, and whose expressions need few operands, has a table.
+pub fn code_of_trees_is_sound()
+    ensures { CodeOfTreesIsSound }
+{}
+
+/// So the code of every such tree agrees with the tree's meaning.
+pub fn code_agrees_with_meaning()
+    ensures { CodeAgreesWithMeaning }
 {}
