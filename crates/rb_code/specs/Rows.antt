@@ -12,7 +12,7 @@ use Rattle.rb_code.specs.WordRun.{word_text}
 use Rattle.rb_code.specs.declared.instr.Spot.TheVariants.{Global}
 use Rattle.rb_code.specs.declared.instr.Instr.TheVariants.{Turn, Push, Load, Store, Add, Eq, Gt, Jump, Text, Item, Print, Room, Put, There, Take, Enter, Start, Test, Done}
 
--- x := 1; print "x", x;
+-- the code of rb_meaning's `smallest_tree`
 abbrev pub smallest_code : Code
 smallest_code = record {
   edition = First;
@@ -32,7 +32,7 @@ SmallestListing =
 abbrev pub SmallestRun : Type 0
 SmallestRun = word_text smallest_code [] (times 2 first) ≡ codes "2 out p x 1\n2 done p\nend 2\np done\np.x = 1\n"
 
--- x := 5; ensure x > 6 within 9 by { x := x + 1; print "one"; } else by { x := x + 2; print "two"; } else error;
+-- the code of `one_rejection_tree`, whose first alternate is rejected
 abbrev pub one_rejection_code : Code
 one_rejection_code = record {
   edition = First;
@@ -58,8 +58,7 @@ OneRejectionRun =
     word_text one_rejection_code [] (times 20 first)
     ≡ codes "6 reject p ensure 4 1 test\n10 out p two\n10 done p\nend 20\np done\np.x = 7\n"
 
--- converse C ensure a > 0 within 20 by { a := 1; send c 5; print "p1"; } else by { a := 2; send c 6; print "p2"; } else error; in p,
--- and in q: converse C ensure b = 6 within 20 by { receive c b; print "q", b; } else by { receive c b; print "q", b; } else error;
+-- the code of `conversation_tree`, two members that go back together once
 abbrev pub conversation_code : Code
 conversation_code = record {
   edition = First;

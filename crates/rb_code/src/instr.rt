@@ -10,7 +10,7 @@ pub enum Spot {
 /// One instruction.
 #[derive(Clone, Copy, Debug, PartialEq, Eq)]
 pub enum Instr {
-    /// A turn begins; the turn before ends when this is reached.
+    /// The beginning of a turn, at which the turn before it ends.
     Turn,
     /// Pushes a number.
     Push(i64),
@@ -81,10 +81,10 @@ pub enum Instr {
     Test(u32),
     /// The process is done.
     Done,
-    /// Pops b, then a: the trap `range` if b - a is above 1,023; goes to the address (second) if a is above b; else the counter
-    /// (first) is a, with the end b.
+    /// Pops the upper limit of a quantified expression, then the lower one. The trap `range` where more than 1,024 numbers lie
+    /// between them, both counted; on at the address (second) where none does; else the counter (first) begins at the lower limit.
     Range(u32, u32),
-    /// If the counter (first) is below its end, adds one to it and goes to the address (second); else the counter goes.
+    /// Back to the address (second) with the next number of the counter (first), or past the loop after its last one.
     Again(u32, u32),
     /// Pushes a counter.
     Counter(u32),
