@@ -1,15 +1,14 @@
--- Sound code: what its lists and its conversations are, and that there is a table for its instructions. What is reserved for a word of
--- the language is not asked of a name here, as that is the lexer's to say.
-use Rattle.std.specs.Prelude.{◌≡◌, ℕ, zero, suc, ◌<◌, ◌≤◌, ◌&&◌, nat_eq, nat_le, Bool, true, false, not, List, length, map, slice_get, Option, Some, None}
-use Rattle.std.specs.List.{All, IsDistinct, count_by, list_all}
-use Rattle.rb_base.specs.Bytes.{is_name}
+-- Sound code: what its lists and its conversations are, and that there is a table for its instructions.
+use Rattle.std.specs.Prelude.{◌≡◌, ℕ, zero, suc, ◌<◌, ◌≤◌, nat_eq, Bool, false, List, length, map, slice_get, Option, Some, None}
+use Rattle.std.specs.List.{All, IsDistinct, count_by}
 use Rattle.rb_base.specs.Limits.{most_words}
-use Rattle.rb_base.specs.declared.limits.TheConstants.{LONGEST_NAME, LONGEST_TEXT, MOST_TURNS}
+use Rattle.rb_base.specs.declared.limits.TheConstants.{MOST_TURNS}
 use Rattle.rb_meaning.specs.Environment.{same_name}
 use Rattle.rb_world.specs.Kind.{Ends, Membership}
 use Rattle.rb_world.specs.Reject.{parent_of}
 use Rattle.rb_world.specs.Text.{ProcessNaming, VariableNaming}
 use Rattle.rb_scope.specs.Rules.{most_channel_size}
+use Rattle.rb_scope.specs.Spelled.{IsNaming, IsQuotable}
 use Rattle.rb_scope.specs.Scopes.{most_elements}
 use Rattle.rb_scope.specs.Sites.{most_connections, most_processes}
 use Rattle.rb_code.specs.Plain.{Block, Code, Part, Procedure}
@@ -25,17 +24,6 @@ ListsChannels c = (p : ℕ) (part : Part) → slice_get c.processes p ≡ Some p
 -- a number from 1 to a greatest
 abbrev pub IsWithin : ℕ → ℕ → Type 0
 IsWithin most n = (1 ≤ n) × (n ≤ most)
-
--- a name, but for the words that are reserved
-abbrev pub IsNaming : List ℕ → Type 0
-IsNaming name = (is_name name ≡ true) × (length name ≤ LONGEST_NAME)
-
--- what may stand between the quotes of a text: bytes from the blank to `~` but the quote
-abbrev pub is_quotable : ℕ → Bool
-is_quotable b = nat_le 32 b && nat_le b 126 && not (nat_eq b 34)
-
-abbrev pub IsQuotable : List ℕ → Type 0
-IsQuotable text = (list_all is_quotable text ≡ true) × (length text ≤ LONGEST_TEXT)
 
 -- what is printed of a process: names, and no array with too many elements
 pub record NamesVariable (variable : VariableNaming) : Type 0 where

@@ -11,3 +11,4 @@ pub mod Memory
 pub mod Frames
 pub mod InFrames
 pub mod Limits
+pub mod Spelled

@@ -1,0 +1,24 @@
+-- Laws of the code of accepted sources.
+use Rattle.std.specs.Prelude.{ℕ, List}
+use Rattle.rb_syntax.specs.Tree.{Tree}
+use Rattle.rb_meaning.specs.Groups.{groups_of}
+use Rattle.rb_scope.specs.InFrames.{Resolved}
+use Rattle.rb_scope.specs.declared.slot.Slot.{Slot}
+use Rattle.rb_judge.specs.Verdict.{IsAccepted}
+use Rattle.rb_code.specs.Plain.{Code}
+use Rattle.rb_code.specs.Laws.{Agrees}
+use Rattle.rb_code.specs.StandsFor.{StandsFor}
+use Rattle.rb_code.specs.WellFormed.{IsSound}
+
+-- whatever code stands for the tree of an accepted source keeps this
+abbrev pub OfEveryCode : (Tree → Code → Type 0) → Type 0
+OfEveryCode P = (source : List ℕ) (tree : Tree) (slots : List Slot) (c : Code) → IsAccepted source tree → Resolved tree slots
+    → StandsFor tree slots c → P tree c
+
+-- it is sound, with the conversations of the tree
+abbrev pub IsSoundForGroups : Tree → Code → Type 0
+IsSoundForGroups tree c = IsSound c (groups_of tree)
+
+-- it agrees with the tree's meaning, over every list of turns
+abbrev pub AlwaysAgrees : Tree → Code → Type 0
+AlwaysAgrees tree c = (turns : List ℕ) → Agrees tree c turns

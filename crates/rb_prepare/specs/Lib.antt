@@ -1,0 +1,2 @@
+-- What is said of the code of accepted sources.
+pub mod Laws
