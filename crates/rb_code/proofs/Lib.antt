@@ -2,6 +2,7 @@
 pub mod Leads
 pub mod LaidOut
 pub mod Left
+pub mod Listed
 pub mod Meets
 pub mod Comes
 pub mod Counted

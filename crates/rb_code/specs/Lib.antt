@@ -1,6 +1,8 @@
 -- Code: what it is, how it is listed, which code stands for a tree, the machine that executes it with whole copies, and sound code.
 pub mod Plain
 pub mod Listing
+pub mod Heads
+pub mod Limits
 pub mod Memory
 pub mod Act
 pub mod Turn

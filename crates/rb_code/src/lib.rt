@@ -4,7 +4,11 @@
 pub mod code;
 pub mod instr;
 pub mod laws;
+mod line;
+pub mod listing;
 pub mod rows;
+#[cfg(test)]
+mod tests;
 
 pub use code::{BlockCode, ChannelCode, Code, ProcedureCode, ProcessCode};
 pub use instr::{Instr, Spot};
