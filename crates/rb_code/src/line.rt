@@ -13,6 +13,7 @@ ghost use Rattle.rb_code.specs.Limits.{block_limits};
 ghost use Rattle.rb_code.specs.declared.instr.Instr.TheVariants.{Turn, Add, Sub, Mul, Div, Rem, Eq, Ne, Lt, Le, Gt, Ge, Neg, Not, Bool as ToBool, Item, Print, Return, Fail, Done};
 
 use crate::code::BlockCode;
+use crate::instr::Instr::{Add, Div, Eq, Ge, Gt, Le, Lt, Mul, Ne, Rem, Sub};
 use crate::instr::{Instr, Spot};
 use itoa::Buffer;
 use rb_base::{Names, Text};
@@ -62,16 +63,8 @@ fn put_instr<S: Sink>(out: &mut S, at: &[u8], instr: &Instr, texts: &[Text]) -> 
         Instr::Again(k, a) => put_pair(out, at, b"again", k, a),
         Instr::Counter(k) => put_number(out, at, b"counter", k),
         Instr::Absent(c, a) => put_pair(out, at, b"absent", c, a),
-        Instr::Add | Instr::Sub | Instr::Mul | Instr::Div | Instr::Rem => put_two(
-            out,
-            at,
-            arithmetic_word(instr),
-        ),
-        Instr::Eq | Instr::Ne | Instr::Lt | Instr::Le | Instr::Gt | Instr::Ge => put_two(
-            out,
-            at,
-            comparison_word(instr),
-        ),
+        Add | Sub | Mul | Div | Rem => put_two(out, at, arithmetic_word(instr)),
+        Eq | Ne | Lt | Le | Gt | Ge => put_two(out, at, comparison_word(instr)),
         Instr::Neg | Instr::Not | Instr::Bool => put_two(out, at, change_word(instr)),
         Instr::Turn | Instr::Item | Instr::Print | Instr::Return | Instr::Fail | Instr::Done =>
             put_two(out, at, plain_word(instr)),
