@@ -6,6 +6,9 @@ pub mod Hits
 pub mod NamesAtSites
 pub mod NamesInTrees
 pub mod OwnNumbers
+-- How names and texts are spelled.
+pub mod TokensSpelled
+pub mod Spelling
 -- Verdicts, and what holds of accepted sources.
 pub mod Verdicts
 pub mod Accepted

@@ -3,6 +3,7 @@
 ghost use Rattle.rb_meaning.specs.Nesting.{IsNested};
 ghost use Rattle.rb_meaning.specs.Laws.{HasNestedLevels, HoldsMessagesInSlots, IsAlwaysErased, IsErasedInText, KeepsRejectionsInside, PassesTogether, ReadsFromSlots, TakesNothingBack, TriesTogether};
 ghost use Rattle.rb_scope.specs.Limits.{HasDistinctNames, IsWithinLimits};
+ghost use Rattle.rb_scope.specs.Spelled.{IsSpelled};
 ghost use Rattle.rb_judge.specs.Laws.{HaveVerdicts, HaveOneVerdict, IsShallow, OfEveryAccepted, ParsedAreNumbered, ParsedHaveOwnNumbers};
 
 /// Each source is accepted or refused.
@@ -38,6 +39,11 @@ pub fn accepted_are_within_limits()
 /// Its processes, channels and conversations have names of their own.
 pub fn accepted_have_distinct_names()
     ensures { OfEveryAccepted HasDistinctNames }
+{}
+
+/// Its declared names are names of at most 64 bytes, and its texts hold at most 256, none of which is a quote or unprintable.
+pub fn accepted_are_spelled()
+    ensures { OfEveryAccepted IsSpelled }
 {}
 
 /// At most 901 of its statements and expressions stand inside each other.
