@@ -1,6 +1,6 @@
 -- The names and texts of the tree of a source are spelled as its tokens are.
-use Rattle.std.proofs.Common.{◌≡◌, ℕ, List, [], ◌∷◌, sym, subst}
-use Rattle.std.specs.List.{All, AllByRecursion}
+use Rattle.std.proofs.Common.{◌≡◌, ℕ, List, ◌∷◌, sym, subst}
+use Rattle.std.specs.List.{AllByRecursion}
 use Rattle.std.proofs.lemmas.List.Elements.{All-from_recursion}
 use Rattle.rb_base.specs.declared.place.Place.{Place}
 use Rattle.rb_lex.specs.Tokens.{Lexeme}
@@ -13,12 +13,11 @@ use Rattle.rb_grammar.specs.Grammar.{no_statement_row, statements_row, assignmen
 use Rattle.rb_grammar.specs.Grammar.{waits_row, never_waits_row, if_row, no_else_row, else_row, while_row, call_row, fail_row}
 use Rattle.rb_grammar.specs.Grammar.{recover_row, converse_row, recovery_row, alternates_row, alternate_row, other_alternates_row}
 use Rattle.rb_grammar.specs.Grammar.{error_row, items_row, no_item_row, more_items_row, text_row, amount_row}
-use Rattle.rb_grammar.specs.Machine.{Advances}
 use Rattle.rb_grammar.specs.Parts.{Part}
 use Rattle.rb_grammar.specs.Values.{Value}
 use Rattle.rb_grammar.proofs.Travels.{travels}
 use Rattle.rb_scope.specs.Spelled.{AlternatesSpelled, BodySpelled, CommandSpelled, CommandsSpelled, IsNaming, IsSpelled, OtherwiseSpelled, PrintedSpelled, ProcedureSpelled, ProcessSpelled, RecoverySpelled}
-use Rattle.rb_syntax.specs.Tree.{Identifier, Declaration, PrintItem, Body, Scope, RecoveryBlock, Recovers, ChannelDeclaration, ConversationDeclaration, ProcedureDeclaration, ProcessDeclaration}
+use Rattle.rb_syntax.specs.Tree.{Identifier, Declaration, PrintItem, Body, Scope, RecoveryBlock, Recovers, ChannelDeclaration, ConversationDeclaration}
 use Rattle.rb_meaning.specs.Step.{commands_of}
 use Rattle.rb_judge.specs.Laws.{OfEveryAccepted}
 use Rattle.rb_judge.proofs.TokensSpelled.{TokenSpelled, name_is, text_is, tokens_spelled}

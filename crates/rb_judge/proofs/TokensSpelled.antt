@@ -1,5 +1,5 @@
 -- How the tokens of a source are spelled: names are short, and a text holds few bytes, each of which may stand between quotes.
-use Rattle.std.proofs.Common.{◌≡◌, ℕ, pos, ◌+◌, ◌-◌, ◌==◌, ◌≤◌, nat_lt, nat_le, nat_eq, Bool, true, false, not, ◌&&◌, ◌||◌, cond, List, [], ◌∷◌, ◌++◌, length, take, drop, take_while, Option, Some, refl, ap, sym, subst, ◌∙◌, arith, length-append, append_assoc}
+use Rattle.std.proofs.Common.{◌≡◌, ℕ, pos, ◌+◌, ◌-◌, ◌==◌, ◌≤◌, nat_lt, nat_le, nat_eq, Bool, true, false, not, ◌&&◌, ◌||◌, cond, List, [], ◌∷◌, ◌++◌, length, take, take_while, Option, Some, refl, ap, sym, subst, ◌∙◌, arith, length-append, append_assoc}
 use Rattle.std.specs.List.{AllByRecursion, list_all, prefix_len}
 use Rattle.std.specs.Ordering.{int_eq}
 use Rattle.std.specs.Cmp.Lexicographic.{pointwise}
@@ -124,14 +124,14 @@ text_spelled n passed (b ∷ bs) e each few =
     (λ _. choice (nat_le LONGEST_TEXT n) _ _ whole (λ _. tt)
     (λ more. choice (not (is_printable b)) _ _ whole (λ _. tt)
     (λ printable.
-        let less = leb-false LONGEST_TEXT n more in
-        let longer : List ℕ = passed ++ b ∷ [] in
-        let long : length longer ≡ n + 1 = omega (arith, length-append passed (b ∷ []), e) in
-        let still : list_all is_quotable longer ≡ true =
-        list_all-append is_quotable passed (b ∷ []) ∙ and_from (list_all is_quotable passed) (list_all is_quotable (b ∷ [])) each
-        (and_from (is_quotable b) true (quotable b quote printable) refl) in
-        subst (λ rest. FrontSpelled (text_front (n + 1) bs) (34 ∷ rest)) (append_assoc passed (b ∷ []) bs)
-        (text_spelled (n + 1) longer bs long still (omega arith))))))
+    let less = leb-false LONGEST_TEXT n more in
+    let longer : List ℕ = passed ++ b ∷ [] in
+    let long : length longer ≡ n + 1 = omega (arith, length-append passed (b ∷ []), e) in
+    let still : list_all is_quotable longer ≡ true =
+    list_all-append is_quotable passed (b ∷ []) ∙ and_from (list_all is_quotable passed) (list_all is_quotable (b ∷ [])) each
+    (and_from (is_quotable b) true (quotable b quote printable) refl) in
+    subst (λ rest. FrontSpelled (text_front (n + 1) bs) (34 ∷ rest)) (append_assoc passed (b ∷ []) bs)
+    (text_spelled (n + 1) longer bs long still (omega arith))))))
 
 -- what stands at a front
 front_spelled : (edition : Edition) (b : ℕ) (bs : List ℕ) → FrontSpelled (front edition (b ∷ bs)) (b ∷ bs)

@@ -21,22 +21,25 @@ use Rattle.rb_prepare.proofs.FewArguments.{ScopesTakeFew, few_arguments, procedu
 use Rattle.rb_prepare.proofs.InBrackets.{alternates_operands, body_operands, command_operands, commands_operands, item_operands, most_needed, otherwise_operands, printed_operands, procedure_operands, process_operands, recovery_operands, tree_needs_few}
 use Rattle.rb_prepare.proofs.Pushed.{operands, reference_operands, arguments_have_room, has_room, neither_above}
 
--- an expression that needs few stands on none, or on an index
-fits : (n : ℕ) (e : Expression) → n ≤ 1 → operands e ≤ most_needed → HasRoom n e
-fits n e h few = has_room n e (omega arith)
+-- an expression that needs few stands on nothing, or on an index
+alone : (e : Expression) → operands e ≤ most_needed → HasRoom 0 e
+alone e few = has_room 0 e (omega arith)
+
+on_index : (e : Expression) → operands e ≤ most_needed → HasRoom 1 e
+on_index e few = has_room 1 e (omega arith)
 
 store_fits : (to : Reference) (value : Expression) → reference_operands to ≤ most_needed → operands value ≤ most_needed
     → StoreHasRoom to (λ n. HasRoom n value)
-store_fits (Refer name Scalar) value there few = fits 0 value (omega arith) few
-store_fits (Refer name (Element index)) value there few = (fits 0 index (omega arith) there, fits 1 value (omega arith) few)
+store_fits (Refer name Scalar) value there few = alone value few
+store_fits (Refer name (Element index)) value there few = (alone index there, on_index value few)
 
 receipt_fits : (to : Reference) → reference_operands to ≤ most_needed → StoreHasRoom to (λ n. n < most_operands)
 receipt_fits (Refer name Scalar) there = omega arith
-receipt_fits (Refer name (Element index)) there = (fits 0 index (omega arith) there, omega arith)
+receipt_fits (Refer name (Element index)) there = (alone index there, omega arith)
 
 printed_fits : (what : Printed) → printed_operands what ≤ most_needed → PrintedHasRoom what
 printed_fits (Words text) few = tt
-printed_fits (Amount value) few = fits 0 value (omega arith) few
+printed_fits (Amount value) few = alone value few
 
 items_fit : (items : List PrintItem) → deepest item_operands items ≤ most_needed
     → AllByRecursion (λ item. PrintedHasRoom item.what) items
@@ -52,7 +55,7 @@ mutual
       let parts = neither_above (reference_operands to) (operands value) most_needed few in store_fits to value parts.0 parts.1
   command_fits spot (Printing items) scopes kept few =
       All-from_recursion (λ (item : PrintItem). PrintedHasRoom item.what) items (items_fit items few)
-  command_fits spot (Sending channel value) scopes kept few = fits 0 value (omega arith) few
+  command_fits spot (Sending channel value) scopes kept few = alone value few
   command_fits spot (Receiving channel to otherwise) scopes kept few =
       let parts = neither_above (reference_operands to) (otherwise_operands otherwise) most_needed few in
       (receipt_fits to parts.0, otherwise_fits spot otherwise scopes (all_split IsKept _ _ kept.1).1 parts.1)
@@ -61,13 +64,13 @@ mutual
       let rest = neither_above (body_operands body) (otherwise_operands otherwise) most_needed parts.1 in
       let sites = all_split IsKept _ _ kept in
       let later = all_split IsKept _ _ sites.1 in (
-        fits 0 test (omega arith) parts.0,
+        alone test parts.0,
         body_fits spot body scopes later.0 rest.0,
         otherwise_fits spot otherwise scopes later.1 rest.1,
       )
   command_fits spot (Loop test body) scopes kept few =
       let parts = neither_above (operands test) (body_operands body) most_needed few in
-      (fits 0 test (omega arith) parts.0, body_fits spot body scopes (all_split IsKept _ _ kept).1 parts.1)
+      (alone test parts.0, body_fits spot body scopes (all_split IsKept _ _ kept).1 parts.1)
   command_fits spot (Invocation procedure arguments) scopes kept few =
       let short = few_arguments procedure (length arguments) spot.scopes scopes kept.0 kept.1.0 in
       arguments_have_room 0 most_needed arguments (omega arith) few
@@ -101,7 +104,7 @@ mutual
       let parts = neither_above (operands test) (alternates_operands alternates) most_needed few in
       let sites = all_split IsKept _ _ kept in
       let later = all_split IsKept (expression_sites (tested spot) test) (Bounds bound ∷ alternates_sites spot alternates) sites.1 in
-      (fits 0 test (omega arith) parts.0, alternates_fit spot alternates scopes later.1.1 parts.1)
+      (alone test parts.0, alternates_fit spot alternates scopes later.1.1 parts.1)
 
   alternates_fit : (spot : Spot) (alternates : Alternates) → ScopesTakeFew spot.scopes → AreKept (alternates_sites spot alternates)
       → alternates_operands alternates ≤ most_needed → AlternatesHaveRoom alternates
@@ -135,7 +138,7 @@ process_fits edition spot process scopes kept limits few =
     let parts = neither_above (deepest procedure_operands process.procedures) (commands_operands process.commands) most_needed few in
     let sites = process_parts IsKept edition spot process kept in
     let inside = within_process process spot in
-    let around = (process_few process (recursion_from_All ProcedureWithin process.procedures limits.procedures), scopes) in
+    let around : ScopesTakeFew inside.scopes = (process_few process (recursion_from_All ProcedureWithin process.procedures limits.procedures), scopes) in
     record {
       procedures =
           All-from_recursion (λ (procedure : ProcedureDeclaration). CommandsHaveRoom (commands_of procedure.body)) process.procedures
