@@ -1,10 +1,8 @@
 -- How many operands the expressions of a tree need is bounded by its brackets: four for each that may be opened, and five more.
-use Rattle.std.proofs.Common.{ℕ, ◌+◌, ◌-◌, ◌*◌, ◌≤◌, max, List, [], ◌∷◌, refl, sym, subst, arith}
+use Rattle.std.proofs.Common.{ℕ, ◌+◌, ◌-◌, ◌*◌, ◌≤◌, max, List, refl, sym, subst, arith}
 use Rattle.rb_base.specs.declared.limits.TheConstants.{MOST_OPEN_BRACKETS}
-use Rattle.rb_grammar.specs.declared.level.Level.{Level}
-use Rattle.rb_grammar.specs.declared.level.Level.TheVariants as levels
 use Rattle.rb_grammar.specs.Depth.{deepest}
-use Rattle.rb_grammar.specs.Grammar.{Point, TakesText, chain, joined, Derives, first_edition_row, second_edition_row, program_row}
+use Rattle.rb_grammar.specs.Grammar.{Point, TakesText, joined, Derives, first_edition_row, second_edition_row, program_row}
 use Rattle.rb_grammar.specs.Grammar.{no_connection_row, channels_row, conversations_row, channel_row, conversation_row, names_row}
 use Rattle.rb_grammar.specs.Grammar.{no_name_row, more_names_row, processes_row, no_process_row, more_processes_row, process_row}
 use Rattle.rb_grammar.specs.Grammar.{no_procedure_row, procedures_row, procedure_row, no_parameter_row, parameters_row}
@@ -23,7 +21,7 @@ use Rattle.rb_grammar.specs.Values.{Value}
 use Rattle.rb_grammar.specs.Verdict.{HasTree}
 use Rattle.rb_grammar.proofs.Room.{Keeps, past, opens, closes, past_name, past_number, past_text, past_ensure}
 use Rattle.rb_grammar.proofs.Room.{past_operator, past_comparison, past_quantifier, none, then, around}
-use Rattle.rb_syntax.specs.Tree.{Identifier, Expression, Printed, Words, Amount, PrintItem, Command, Assignment, Printing, Sending, Receiving, Conditional, Loop, Invocation, Failure, Recovering, Commands, NoCommand, Then, Body, Scope, Otherwise, NoElse, Else, RecoveryBlock, Recovers, Alternates, NoAlternate, Alternate, ProcedureDeclaration, ProcessDeclaration, Tree}
+use Rattle.rb_syntax.specs.Tree.{Identifier, Printed, Words, Amount, PrintItem, Command, Assignment, Printing, Sending, Receiving, Conditional, Loop, Invocation, Failure, Recovering, Commands, NoCommand, Then, Body, Scope, Otherwise, NoElse, Else, RecoveryBlock, Recovers, Alternates, NoAlternate, Alternate, ProcedureDeclaration, ProcessDeclaration, Tree}
 use Rattle.rb_prepare.proofs.Pushed.{operands, reference_operands, subscript_operands, links_operands, beside_most}
 use Rattle.rb_prepare.proofs.Needed.{Needs, flat, nothing, one, behind, before, both, wider, upon, inside, operand_extra, chain_extra, operand_first, chain_some, right_extra, linked, chained}
 

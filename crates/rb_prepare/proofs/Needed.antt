@@ -1,11 +1,11 @@
 -- How many operands the parts of a text still need, by how many brackets may still be opened: four for each, and some more.
-use Rattle.std.proofs.Common.{◌≡◌, ℕ, zero, ◌+◌, ◌-◌, ◌*◌, ◌≤◌, max, Some, refl, ap, subst, arith}
+use Rattle.std.proofs.Common.{◌≡◌, ℕ, zero, ◌+◌, ◌-◌, ◌*◌, ◌≤◌, max, Some, ap, arith}
 use Rattle.std.proofs.Math.Nat.{max-le}
 use Rattle.rb_grammar.specs.declared.level.Level.{Level}
 use Rattle.rb_grammar.specs.declared.level.Level.TheVariants as levels
 use Rattle.rb_grammar.specs.declared.terminal.Terminal.{Terminal}
 use Rattle.rb_grammar.specs.declared.terminal.Terminal.TheVariants as terminals
-use Rattle.rb_grammar.specs.Grammar.{Point, TakesOperator, chain}
+use Rattle.rb_grammar.specs.Grammar.{Point, chain}
 use Rattle.rb_grammar.specs.Operators.{operator}
 use Rattle.rb_grammar.proofs.Room as room
 use Rattle.rb_grammar.proofs.Room.{Keeps, Opens, Closes, around, none, then}

@@ -1,6 +1,6 @@
 -- How many operands the code of an expression has on the stack at once, above those on which the expression stands; and that there is
 -- room for them where these are few.
-use Rattle.std.proofs.Common.{◌≡◌, ℕ, suc, ◌+◌, ◌≤◌, ◌<◌, max, List, [], ◌∷◌, length, refl, arith}
+use Rattle.std.proofs.Common.{◌≡◌, ℕ, suc, ◌+◌, ◌≤◌, max, List, [], ◌∷◌, length, refl, arith}
 use Rattle.std.proofs.Math.Nat.{le-max_left, le-max_right}
 use Rattle.rb_syntax.specs.declared.expression.Op.{Op}
 use Rattle.rb_syntax.specs.declared.expression.Op.TheVariants as op
