@@ -13,3 +13,5 @@ pub mod Spelling
 pub mod Verdicts
 pub mod Accepted
 pub mod Stages
+-- The alternates of recovery blocks.
+pub mod Alternates

@@ -2,3 +2,4 @@
 pub mod Verdict
 pub mod Judged
 pub mod Laws
+pub mod HasAlternates

@@ -4,6 +4,7 @@ ghost use Rattle.rb_meaning.specs.Nesting.{IsNested};
 ghost use Rattle.rb_meaning.specs.Laws.{HasNestedLevels, HoldsMessagesInSlots, IsAlwaysErased, IsErasedInText, KeepsRejectionsInside, PassesTogether, ReadsFromSlots, TakesNothingBack, TriesTogether};
 ghost use Rattle.rb_scope.specs.Limits.{HasDistinctNames, IsWithinLimits};
 ghost use Rattle.rb_scope.specs.Spelled.{IsSpelled};
+ghost use Rattle.rb_judge.specs.HasAlternates.{HasAlternates};
 ghost use Rattle.rb_judge.specs.Laws.{HaveVerdicts, HaveOneVerdict, IsShallow, OfEveryAccepted, ParsedAreNumbered, ParsedHaveOwnNumbers};
 
 /// Each source is accepted or refused.
@@ -94,4 +95,9 @@ pub fn accepted_hold_messages_in_slots()
 /// A run that reads messages from their slots is the same.
 pub fn accepted_read_from_slots()
     ensures { OfEveryAccepted ReadsFromSlots }
+{}
+
+/// Each of its recovery blocks has an alternate.
+pub fn accepted_have_alternates()
+    ensures { OfEveryAccepted HasAlternates }
 {}
