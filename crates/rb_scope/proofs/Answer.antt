@@ -37,8 +37,8 @@ first-slot (suc count) zero slot h = refl
 first-slot (suc count) (suc n) slot h = first-slot count n slot (omega arith)
 
 -- the slots behind all sites
-slots-found : (tree : Tree) → HasOwnNumbers tree → AreSlots tree (visited (nothing_found tree.names) (tree_sites tree)).slots
-slots-found tree own =
+pub slots_found : (tree : Tree) → HasOwnNumbers tree → AreSlots tree (visited (nothing_found tree.names) (tree_sites tree)).slots
+slots_found tree own =
     let sites = tree_sites tree in
     let count = length-replicate tree.names ProgramName in
     let apart = all-apart (numbers_in tree) own.distinct in
@@ -58,7 +58,7 @@ found_none tree found slots own e n s =
     let first = sym (visited_first (nothing_found tree.names) (tree_sites tree)) ∙ ap (λ (f : Found). f.first) (sym e) ∙ n in
     record {
       no_fault = nothing_kept (faults_of tree) first;
-      slots_of = subst (AreSlots tree) (sym (s ∙ ap (λ (f : Found). f.slots) e)) (slots-found tree own);
+      slots_of = subst (AreSlots tree) (sym (s ∙ ap (λ (f : Found). f.slots) e)) (slots_found tree own);
     }
 
 -- a fault was found
