@@ -27,6 +27,8 @@ pub mod Printing
 pub mod Cursors
 pub mod Mail
 pub mod Calls
+pub mod Alike
+pub mod AlikeForms
 pub mod Alternates
 pub mod AcceptanceTests
 pub mod Digits
