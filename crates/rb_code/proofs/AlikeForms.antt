@@ -14,7 +14,7 @@ use Rattle.rb_code.proofs.Alike.{Fixed, Same, fixed_one, same_at, same_closed, s
 
 module _ (c d : Code) where
   -- an instruction that names an address
-  jump_alike : (a b : ℕ) → a ≡ b → shown c (Some (instr.Jump a)) ≡ shown d (Some (instr.Jump b))
+  pub jump_alike : (a b : ℕ) → a ≡ b → shown c (Some (instr.Jump a)) ≡ shown d (Some (instr.Jump b))
   jump_alike a b e = ap (λ n. (Some (instr.Jump n), None)) e
 
   zero_alike : (a b : ℕ) → a ≡ b → shown c (Some (instr.JumpZero a)) ≡ shown d (Some (instr.JumpZero b))

@@ -29,6 +29,8 @@ pub mod Mail
 pub mod Calls
 pub mod Alike
 pub mod AlikeForms
+pub mod AlikeParts
+pub mod AlikeStatements
 pub mod Alternates
 pub mod AcceptanceTests
 pub mod Digits
