@@ -1,15 +1,15 @@
 -- Two codes side by side: where their instructions are alike, that is the same but for the numbers of texts, and which templates determine
 -- what lies from one address up to another.
-use Rattle.std.proofs.Common.{◌≡◌, ℕ, ◌+◌, ◌<◌, ◌≤◌, nat_lt, Bool, true, false, List, ◌∷◌, slice_get, Option, Some, None, refl, ap, sym, ◌∙◌, subst, arith}
+use Rattle.std.proofs.Common.{◌≡◌, ℕ, ◌<◌, ◌≤◌, nat_lt, Bool, true, false, List, ◌∷◌, slice_get, Option, Some, None, refl, ap, sym, ◌∙◌, arith}
 use Rattle.rb_code.specs.Plain.{Block, Code}
 use Rattle.rb_code.specs.Template.{Template, One, ◌⨾◌, Empty, Only, At, Label, Quoted, WithBlock, Listed}
 use Rattle.rb_code.specs.declared.instr.Instr.{Instr}
 use Rattle.rb_code.specs.declared.instr.Instr.TheVariants.{Text}
 
 -- an instruction as it is listed: with its text in place of the text's number
-abbrev pub shown : Code → Option Instr → Option Instr × Option (List ℕ)
+abbrev pub shown : Code → Option Instr → Option Instr × Option (Option (List ℕ))
 shown c None = (None, None)
-shown c (Some (Text k)) = (Some (Text 0), slice_get c.texts k)
+shown c (Some (Text k)) = (Some (Text 0), Some (slice_get c.texts k))
 shown c (Some instr) = (Some instr, None)
 
 module _ (c d : Code) where
@@ -115,7 +115,7 @@ module _ (c d : Code) where
     ends = λ a b x y at (k, here, p) (l, there, q). let n = p.1 in let m = q.1 in omega arith;
     told = λ a b x y at p q. tt;
     alike = λ u a b x y at (k, here, p) (l, there, q).
-        alike_one (Text k) (Text l) a b x y (ap (λ o. (Some (Text 0), o)) (here ∙ sym there)) at p q;
+        alike_one (Text k) (Text l) a b x y (ap (λ o. (Some (Text 0), Some o)) (here ∙ sym there)) at p q;
   }
 
   -- an entry of the list of recovery blocks, which both codes have
@@ -129,14 +129,21 @@ module _ (c d : Code) where
     alike = λ h a b x y at (block, here, p) (other, there, q). (f block other).alike h a b x y at p q;
   }
 
+  -- the first of a list, which tells of the address here
+  pub same_entries : {A H T : Type 0} (f : ℕ → A) (entries others : List A) (P Q : List A → Template)
+      → ((more less : List A) → Same H ((more ≡ less) × T) (P more) (Q less))
+      → Same H ((entries ≡ others) × T) (λ e a b. (more : List A) × (entries ≡ f a ∷ more) × P more e a b)
+      (λ e a b. (more : List A) × (others ≡ f a ∷ more) × Q more e a b)
+  same_entries f entries others P Q g = record {
+    ends = λ a b x y at (more, here, p) (less, there, q). (g more less).ends a b x y at p q;
+    told = λ a b x y at (more, here, p) (less, there, q).
+        let t = (g more less).told a b x y at p q in
+        (here ∙ ap (λ z. f z ∷ more) at ∙ ap (λ z. f x ∷ z) t.0 ∙ sym there, t.1);
+    alike = λ h a b x y at (more, here, p) (less, there, q). (g more less).alike h a b x y at p q;
+  }
+
   -- the first of a list of addresses
   pub same_listed : {H T : Type 0} (addresses others : List ℕ) (P Q : List ℕ → Template)
       → ((more less : List ℕ) → Same H ((more ≡ less) × T) (P more) (Q less))
       → Same H ((addresses ≡ others) × T) (Listed addresses P) (Listed others Q)
-  same_listed addresses others P Q f = record {
-    ends = λ a b x y at (more, here, p) (less, there, q). (f more less).ends a b x y at p q;
-    told = λ a b x y at (more, here, p) (less, there, q).
-        let t = (f more less).told a b x y at p q in
-        (here ∙ ap (λ z. z ∷ more) at ∙ ap (λ z. x ∷ z) t.0 ∙ sym there, t.1);
-    alike = λ h a b x y at (more, here, p) (less, there, q). (f more less).alike h a b x y at p q;
-  }
+  same_listed addresses others P Q g = same_entries (λ a. a) addresses others P Q g

@@ -1,5 +1,5 @@
 -- The forms of code determine what they are, where their parts do.
-use Rattle.std.proofs.Common.{◌≡◌, ℕ, zero, suc, pos, List, [], ◌∷◌, Option, Some, None, refl, ap}
+use Rattle.std.proofs.Common.{◌≡◌, ℕ, zero, suc, pos, Option, Some, None, refl, ap}
 use Rattle.rb_syntax.specs.declared.expression.Op.{Op}
 use Rattle.rb_syntax.specs.declared.expression.Op.TheVariants as op
 use Rattle.rb_syntax.specs.declared.expression.Quantifier.{Quantifier}
@@ -7,7 +7,6 @@ use Rattle.rb_syntax.specs.declared.expression.Quantifier.TheVariants.{Every, An
 use Rattle.rb_code.specs.Plain.{Code}
 use Rattle.rb_code.specs.Template.{Template, One, ◌⨾◌, At, Label}
 use Rattle.rb_code.specs.Forms.{AndCode, DropCode, FrameCode, IfCode, IfElseCode, OperatorCode, OrCode, QuantifiedCode, ReceiveCode, ReceiveElseCode, ScalarCode, WhileCode}
-use Rattle.rb_code.specs.declared.instr.Instr.{Instr}
 use Rattle.rb_code.specs.declared.instr.Spot.{Spot}
 use Rattle.rb_code.specs.declared.instr.Instr.TheVariants as instr
 use Rattle.rb_code.proofs.Alike.{Fixed, Same, fixed_one, same_at, same_closed, same_empty, same_labels, same_label, same_one, same_then, shown}

@@ -4,7 +4,7 @@ use Rattle.rb_syntax.specs.Tree.{Identifier, Expression, Literal, Variable, Form
 use Rattle.rb_scope.specs.declared.slot.Slot.{Slot}
 use Rattle.rb_code.specs.Plain.{Code}
 use Rattle.rb_code.specs.Slots.{counter_of, elements_of, quantified_of, spot_of}
-use Rattle.rb_code.specs.Template.{Template, One, ◌⨾◌}
+use Rattle.rb_code.specs.Template.{Template}
 use Rattle.rb_code.specs.Forms.{ArgumentsCode, Called, CallCode, ExpressionCode, ItemsCode, LinksCode, Owner, PrintedCode, StoreCode, SubscriptCode, procedure_start}
 use Rattle.rb_code.specs.declared.instr.Instr.TheVariants as instr
 use Rattle.rb_code.proofs.Alike.{Fixed, Same, alike_one, fixed_one, same_closed, same_empty, same_text, same_then}

@@ -31,6 +31,8 @@ pub mod Alike
 pub mod AlikeForms
 pub mod AlikeParts
 pub mod AlikeStatements
+pub mod AlikeProcesses
+pub mod OneCode
 pub mod Alternates
 pub mod AcceptanceTests
 pub mod Digits

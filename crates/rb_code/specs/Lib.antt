@@ -22,3 +22,4 @@ pub mod Stands
 pub mod StandsInRuns
 pub mod SoundLaws
 pub mod Laws
+pub mod OneCode

@@ -1,6 +1,7 @@
 //! The laws of code.
 
 ghost use Rattle.rb_code.specs.Laws.{CodeAgreesWithMeaning, SoundCodeAgreesWithMeaning};
+ghost use Rattle.rb_code.specs.OneCode.{OneCodeWithSlots};
 ghost use Rattle.rb_code.specs.SoundLaws.{
   CodeOfTreesIsSound,
   SoundRunsEnd,
@@ -57,4 +58,10 @@ pub fn code_of_trees_is_sound()
 /// So the code of every such tree agrees with the tree's meaning.
 pub fn code_agrees_with_meaning()
     ensures { CodeAgreesWithMeaning }
+{}
+
+/// One code stands for a tree whose recovery blocks are numbered: what stands for it with the same slots is the same code, to the number of
+/// each text and the entry of each recovery block.
+pub fn one_code_stands()
+    ensures { OneCodeWithSlots }
 {}

@@ -1,0 +1,5 @@
+use Rattle.rb_code.proofs.OneCode.{one_code_with_slots}
+use Rattle.rb_code.proofs.laws.one_code_stands.Goals as goal
+
+pub returns : goal.returns
+returns c = one_code_with_slots
