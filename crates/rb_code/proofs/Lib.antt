@@ -33,6 +33,8 @@ pub mod AlikeParts
 pub mod AlikeStatements
 pub mod AlikeProcesses
 pub mod OneCode
+pub mod OneSlot
+pub mod SameTemplates
 pub mod Alternates
 pub mod AcceptanceTests
 pub mod Digits

@@ -1,5 +1,5 @@
 -- One code stands for a tree: the numbers of texts follow from their order.
-use Rattle.std.proofs.Common.{◌≡◌, ◌⊎◌, inl, inr, ℕ, suc, ◌+◌, ◌<◌, List, [], ◌∷◌, length, slice_get, unwrap_or, Some, None, refl, ap, sym, ◌∙◌, arith}
+use Rattle.std.proofs.Common.{◌≡◌, ◌⊎◌, inl, inr, ℕ, suc, ◌+◌, ◌<◌, List, [], ◌∷◌, length, slice_get, unwrap_or, Some, None, refl, ap, sym, ◌∙◌, subst, arith}
 use Rattle.std.specs.Option.{option_map}
 use Rattle.rb_base.specs.declared.edition.Edition.{Edition}
 use Rattle.rb_world.specs.Kind.{Ends}
@@ -7,13 +7,19 @@ use Rattle.rb_world.specs.Text.{Naming}
 use Rattle.rb_world.proofs.ListFacts.{none_some, some_same}
 use Rattle.rb_code.specs.Plain.{Block, Code, Part}
 use Rattle.rb_code.specs.Memory.{no_part}
-use Rattle.rb_code.specs.StandsFor.{numbers_from, text_numbers}
-use Rattle.rb_code.specs.OneCode.{OneCodeWithSlots}
+use Rattle.rb_syntax.specs.Tree.{Tree}
+use Rattle.rb_scope.specs.InFrames.{ProcessInFrames, Resolved}
+use Rattle.rb_scope.specs.Slots.{AreSlots}
+use Rattle.rb_scope.specs.declared.slot.Slot.{Slot}
+use Rattle.rb_code.specs.Template.{Template}
+use Rattle.rb_code.specs.StandsFor.{StandsFor, numbers_from, text_numbers}
+use Rattle.rb_code.specs.OneCode.{OneCodeStands, OneCodeWithSlots}
 use Rattle.rb_code.specs.declared.instr.Instr.{Instr}
 use Rattle.rb_code.specs.declared.instr.Instr.TheVariants.{Text}
 use Rattle.rb_code.proofs.Alike.{AlikeBetween, shown}
 use Rattle.rb_code.proofs.AlikeParts.{SameStarts}
 use Rattle.rb_code.proofs.AlikeProcesses.{processes_alike}
+use Rattle.rb_code.proofs.SameTemplates.{processes_same}
 
 -- lists of one length with the same elements
 list_same : {A : Type 0} (xs ys : List A) → length xs ≡ length ys → ((k : ℕ) → k < length xs → slice_get xs k ≡ slice_get ys k) → xs ≡ ys
@@ -133,3 +139,24 @@ one_code_with_slots tree slots c d numbered these those =
     let blocks = list_same c.blocks d.blocks (these.one_block_each ∙ sym those.one_block_each) (λ k low. told.1 k (omega arith) (omega (arith, low, these.one_block_each, many))) in
     code_same c d (these.edition_is ∙ sym those.edition_is) all.0 told.0 blocks (these.channels_are ∙ sym those.channels_are) all.1
     (these.names_are ∙ sym those.names_are)
+
+-- what stands for a tree with some slots does so with others, where it is resolved by both
+stands_with : (tree : Tree) (slots others : List Slot) (d : Code) → Resolved tree slots → Resolved tree others → AreSlots tree slots
+    → StandsFor tree others d → StandsFor tree slots d
+stands_with tree slots others d resolved known are stands =
+    let at : (i : ℕ) → i ≡ 0 + i = λ i. omega arith in
+    let same = processes_same slots others tree are 0 tree.processes
+    (λ i process there. subst (λ k. ProcessInFrames tree slots k process) (at i) (resolved.processes i process there))
+    (λ i process there. subst (λ k. ProcessInFrames tree others k process) (at i) (known.processes i process there)) in
+    record {
+      edition_is = stands.edition_is;
+      names_are = stands.names_are;
+      channels_are = stands.channels_are;
+      instrs_are = subst (λ (P : List Part → Template). P d.processes d 0 (length d.instrs)) (sym same) stands.instrs_are;
+      one_block_each = stands.one_block_each;
+      one_text_each = stands.one_text_each;
+    }
+
+pub one_code_stands : OneCodeStands
+one_code_stands tree slots others c d numbered resolved known are have these those =
+    one_code_with_slots tree slots c d numbered these (stands_with tree slots others d resolved known are those)

@@ -1,7 +1,7 @@
 //! The laws of code.
 
 ghost use Rattle.rb_code.specs.Laws.{CodeAgreesWithMeaning, SoundCodeAgreesWithMeaning};
-ghost use Rattle.rb_code.specs.OneCode.{OneCodeWithSlots};
+ghost use Rattle.rb_code.specs.OneCode.{OneCodeStands, OneCodeWithSlots};
 ghost use Rattle.rb_code.specs.SoundLaws.{
   CodeOfTreesIsSound,
   SoundRunsEnd,
@@ -61,7 +61,8 @@ pub fn code_agrees_with_meaning()
 {}
 
 /// One code stands for a tree whose recovery blocks are numbered: what stands for it with the same slots is the same code, to the number of
-/// each text and the entry of each recovery block.
+/// each text and the entry of each recovery block. Of a tree that is resolved the slots make no difference.
 pub fn one_code_stands()
-    ensures { OneCodeWithSlots }
+    ensures with_slots { OneCodeWithSlots }
+    ensures stands { OneCodeStands }
 {}

@@ -1,5 +1,5 @@
-use Rattle.rb_code.proofs.OneCode.{one_code_with_slots}
+use Rattle.rb_code.proofs.OneCode.{one_code_stands, one_code_with_slots}
 use Rattle.rb_code.proofs.laws.one_code_stands.Goals as goal
 
 pub returns : goal.returns
-returns c = one_code_with_slots
+returns c = record { with_slots = one_code_with_slots; stands = one_code_stands }
