@@ -122,9 +122,28 @@ module _ (c d : Code) where
         (same_then c d (same_at c d fails fails')
         (same_then c d (fixed_one c d (instr.Push (pos 0)) refl)
         (same_at c d end end')))))))))))))
-        (λ u (t0, (t1, (t2, (at_loop, (t4, (t5, (t6, (at_holds, (t8, (t9, (at_fails, (t11, at_end)))))))))))).
-            (tt, (tt, (range_alike k holds holds' at_holds, (tt, (tt, (zero_alike fails fails' at_fails, (again_alike k loop loop' at_loop,
-            (tt, (tt, (jump_alike end end' at_end, (tt, (tt, tt)))))))))))))
+        (λ u (t0, (t1, (t2, (at_loop, (t4, (t5, (t6, (at_holds, (t8, (t9, (at_fails, (t11, at_end)))))))))))). (
+          tt,
+          (
+            tt,
+            (
+              range_alike k holds holds' at_holds,
+              (
+                tt,
+                (
+                  tt,
+                  (
+                    zero_alike fails fails' at_fails,
+                    (
+                      again_alike k loop loop' at_loop,
+                      (tt, (tt, (jump_alike end end' at_end, (tt, (tt, tt))))),
+                    ),
+                  ),
+                ),
+              ),
+            ),
+          ),
+        ))
         (λ t. tt))
     quantified_alike Any =
         four_labels (some_parts k low high body) (λ loop next fails end loop' next' fails' end'.
@@ -142,9 +161,31 @@ module _ (c d : Code) where
         (same_then c d (same_at c d fails fails')
         (same_then c d (fixed_one c d (instr.Push (pos 0)) refl)
         (same_at c d end end')))))))))))))
-        (λ u (t0, (t1, (t2, (at_loop, (t4, (t5, (t6, (t7, (at_next, (t9, (at_fails, (t11, at_end)))))))))))).
-            (tt, (tt, (range_alike k fails fails' at_fails, (tt, (tt, (zero_alike next next' at_next, (tt, (jump_alike end end' at_end,
-            (tt, (again_alike k loop loop' at_loop, (tt, (tt, tt)))))))))))))
+        (λ u (t0, (t1, (t2, (at_loop, (t4, (t5, (t6, (t7, (at_next, (t9, (at_fails, (t11, at_end)))))))))))). (
+          tt,
+          (
+            tt,
+            (
+              range_alike k fails fails' at_fails,
+              (
+                tt,
+                (
+                  tt,
+                  (
+                    zero_alike next next' at_next,
+                    (
+                      tt,
+                      (
+                        jump_alike end end' at_end,
+                        (tt, (again_alike k loop loop' at_loop, (tt, (tt, tt)))),
+                      ),
+                    ),
+                  ),
+                ),
+              ),
+            ),
+          ),
+        ))
         (λ t. tt))
     quantified_alike Total =
         same_labels c d (sum_parts k low high body) (λ loop end loop' end'.
@@ -159,7 +200,7 @@ module _ (c d : Code) where
         (same_then c d (same_one c d (instr.Again k loop) (instr.Again k loop'))
         (same_at c d end end')))))))))
         (λ u (t0, (t1, (t2, (t3, (at_loop, (t5, (t6, (t7, at_end)))))))).
-            (tt, (tt, (tt, (range_alike k end end' at_end, (tt, (tt, (tt, (again_alike k loop loop' at_loop, tt)))))))))
+        (tt, (tt, (tt, (range_alike k end end' at_end, (tt, (tt, (tt, (again_alike k loop loop' at_loop, tt)))))))))
         (λ t. tt))
 
   -- a scalar or a counter, and the words of a frame
@@ -209,7 +250,7 @@ module _ (c d : Code) where
       (same_then c d h
       (same_at c d end end'))))))))
       (λ asked (t0, (t1, (t2, (told, (t4, (at_fails, (more, at_end))))))).
-          (tt, (tt, (zero_alike fails fails' at_fails, (asked, (jump_alike end end' at_end, (tt, (asked, tt))))))))
+      (tt, (tt, (zero_alike fails fails' at_fails, (asked, (jump_alike end end' at_end, (tt, (asked, tt))))))))
       (λ (t0, (t1, (t2, (told, (t4, (at_fails, (more, at_end))))))). (told, more)))
 
   abbrev while_parts : Template → Template → ℕ → ℕ → Template
@@ -227,7 +268,7 @@ module _ (c d : Code) where
       (same_then c d (same_one c d (instr.Jump loop) (instr.Jump loop'))
       (same_at c d end end')))))))
       (λ asked (at_loop, (t1, (t2, (t3, (told, (t5, at_end)))))).
-          (tt, (tt, (tt, (zero_alike end end' at_end, (asked, (jump_alike loop loop' at_loop, tt)))))))
+      (tt, (tt, (tt, (zero_alike end end' at_end, (asked, (jump_alike loop loop' at_loop, tt)))))))
       (λ (at_loop, (t1, (t2, (t3, (told, t5))))). told))
 
   abbrev receive_parts : ℕ → Template → Template → ℕ → ℕ → Template
@@ -247,7 +288,7 @@ module _ (c d : Code) where
       (same_then c d g
       (same_at c d end end')))))))
       (λ asked (t0, (t1, (t2, (t3, (at_none, (told, at_end)))))).
-          (tt, (absent_alike channel none none' at_none, (tt, (jump_alike end end' at_end, (tt, (asked, tt)))))))
+      (tt, (absent_alike channel none none' at_none, (tt, (jump_alike end end' at_end, (tt, (asked, tt)))))))
       (λ (t0, (t1, (t2, (t3, (at_none, (told, at_end)))))). told))
 
   pub receive_alike : (channel : ℕ) (taken : Template) → Fixed c d taken → Fixed c d (ReceiveCode channel taken)

@@ -111,7 +111,7 @@ module _ (c d : Code) where
         (same_then c d f
         (fixed_one c d (instr.Test number) refl)))))))))))
         (λ starts (told, (t1, (t2, (restart, (t4, (t5, (tries, (testing, t8)))))))).
-            (tt, (tt, (tt, (tt, (tt, (tt, ((testing, starts), (tt, (tt, (tt, tt)))))))))))
+        (tt, (tt, (tt, (tt, (tt, (tt, ((testing, starts), (tt, (tt, (tt, tt)))))))))))
         (λ (told, (t1, (t2, (restart, (t4, (t5, (tries, (testing, t8)))))))). (block_same block other told restart testing tries.0, tries.1))))
         (λ starts t. starts)
         (λ (here, inside). with_block n number (blocks_in_alternates alternates) is here inside)
