@@ -1,0 +1,11 @@
+pub mod Growing
+pub mod Emits
+pub mod Rows
+pub mod FrameWords
+pub mod StatementRows
+pub mod RecoveryRows
+pub mod GivenParts
+pub mod ProcessRows
+pub mod LinkSteps
+pub mod QuantifiedRows
+pub mod Slices

@@ -1,0 +1,141 @@
+use Rattle.std.proofs.Common.{rules, ◌≡◌, refl, ap, ◌∙◌, sym, arith, subst, ℕ, ◌+◌, drop, w64}
+use Rattle.std.proofs.lemmas.Grind.{common_steps}
+use Rattle.std.proofs.lemmas.Int.{to_z-of_z}
+use Rattle.rb_syntax.specs.Plain.{expression as plain, identifier, links_of, subscript}
+use Rattle.rb_syntax.specs.Tree.{NoLink, Minus, Negation, Chained, Quantification, Element, Linked, Literal, Variable, Former, Refer, Scalar}
+use Rattle.rb_syntax.proofs.Bridge.{trees}
+use Rattle.rb_code.specs.declared.instr.Instr.TheVariants.{Jump, JumpZero, Range, Prior, LoadAt, PriorAt}
+use Rattle.rb_code.specs.Template.{One}
+use Rattle.rb_gen.specs.Output.{output}
+use Rattle.rb_gen.proofs.Emits.{labelled, filled, both, at}
+use Rattle.rb_gen.proofs.QuantifiedRows.{every_row, some_row, sum_row}
+use Rattle.rb_gen.proofs.Rows.{same_expression, literal, value, former, minus, negation, chained, quantification, scalar, counted, element, no_link, of_every, of_some, of_sum, one_link, op_and, op_or, simple}
+use Rattle.rb_gen.proofs.expressions.+expression.Goals as goal
+
+pub emit_expression-returns-in_ok-put-in-Number : goal.emit_expression-returns-in_ok-put-in-Number
+emit_expression-returns-in_ok-put-in-Number t c =
+    let is : plain c.args.expression.now ≡ Literal c.in-Number.number = grind (arith, trees) in
+    literal c.args.slots.now _ is (to_z-of_z w64 c.in-Number.number.value (search rules)) (c.in_ok-put-in-Number.ensures refl)
+
+pub emit_expression-returns-in_ok-emit_value-in-Value : goal.emit_expression-returns-in_ok-emit_value-in-Value
+emit_expression-returns-in_ok-emit_value-in-Value t c =
+    let is : plain c.args.expression.now ≡ Variable (Refer (identifier c.in-Value.target.name) (subscript c.in-Value.target.index)) = grind (arith, trees) in
+    value c.args.slots.now is c.in_ok-emit_value-in-Value.ensures
+
+pub emit_expression-returns-in_ok-emit_prior-in-Prior : goal.emit_expression-returns-in_ok-emit_prior-in-Prior
+emit_expression-returns-in_ok-emit_prior-in-Prior t c =
+    let is : plain c.args.expression.now ≡ Former c.in-Prior.field-0 (Refer (identifier c.in-Prior.target.name) (subscript c.in-Prior.target.index)) = grind (arith, trees) in
+    former c.args.slots.now is c.in_ok-emit_prior-in-Prior.ensures
+
+pub emit_expression-returns-in_ok-put-in-Neg : goal.emit_expression-returns-in_ok-put-in-Neg
+emit_expression-returns-in_ok-put-in-Neg t c =
+    let is : plain c.args.expression.now ≡ Minus (plain c.deref.result.now) = grind (arith, trees) in
+    minus c.args.slots.now is c.in_ok-emit_expression-in-Neg.ensures (c.in_ok-put-in-Neg.ensures refl)
+
+pub emit_expression-returns-in_ok-put-in-Not : goal.emit_expression-returns-in_ok-put-in-Not
+emit_expression-returns-in_ok-put-in-Not t c =
+    let is : plain c.args.expression.now ≡ Negation (plain c.deref-in-Not.result.now) = grind (arith, trees) in
+    negation c.args.slots.now is c.in_ok-emit_expression-in-Not.ensures (c.in_ok-put-in-Not.ensures refl)
+
+pub emit_expression-returns-in_ok-emit_links-in-Chain : goal.emit_expression-returns-in_ok-emit_links-in-Chain
+emit_expression-returns-in_ok-emit_links-in-Chain t c =
+    let is : plain c.args.expression.now ≡ Chained (plain c.deref-in-Chain.result.now) (links_of c.deref-in-Chain-2.result.now) = grind (arith, trees) in
+    chained c.args.slots.now is c.in_ok-emit_expression-in-Chain.ensures c.in_ok-emit_links-in-Chain.ensures
+
+pub emit_expression-returns-in_ok-emit_quantified-in-Quantified : goal.emit_expression-returns-in_ok-emit_quantified-in-Quantified
+emit_expression-returns-in_ok-emit_quantified-in-Quantified t c =
+    let q = c.in-Quantified.quantified in
+    let is : plain c.args.expression.now ≡ Quantification q.kind q.place (identifier q.name) (plain q.low.value) (plain q.high.value) (plain q.body.value) = grind (arith, trees) in
+    quantification c.args.slots.now is c.in_ok-emit_quantified-in-Quantified.ensures
+
+pub emit_value-returns-in_ok-put_scalar-in-None : goal.emit_value-returns-in_ok-put_scalar-in-None
+emit_value-returns-in_ok-put_scalar-in-None t c =
+    counted c.args.slots.now _ _ _ (ap subscript c.in-None.is) c.counter_of.ensures c.spot_of-spot.ensures c.in_ok-put_scalar-in-None.ensures
+
+pub emit_value-returns-in_ok-put-in-Some-2 : goal.emit_value-returns-in_ok-put-in-Some-2
+emit_value-returns-in_ok-put-in-Some-2 t c =
+    let is : subscript c.args.target.now.index ≡ Element (plain c.deref.result.now) = grind arith in
+    element c.args.slots.now _ (λ v. One (LoadAt v)) _ is c.elements_of.ensures c.spot_of-spot.ensures c.in_ok-emit_expression-in-Some.ensures (c.in_ok-put-in-Some.ensures refl) (c.in_ok-put-in-Some-2.ensures refl)
+
+pub emit_prior-returns-in_ok-put-in-None : goal.emit_prior-returns-in_ok-put-in-None
+emit_prior-returns-in_ok-put-in-None t c =
+    scalar c.args.slots.now (λ v. One (Prior v)) _ _ _ (ap subscript c.in-None.is) c.spot_of-spot.ensures (c.in_ok-put-in-None.ensures refl)
+
+pub emit_prior-returns-in_ok-put-in-Some-2 : goal.emit_prior-returns-in_ok-put-in-Some-2
+emit_prior-returns-in_ok-put-in-Some-2 t c =
+    let is : subscript c.args.target.now.index ≡ Element (plain c.deref.result.now) = grind arith in
+    element c.args.slots.now _ (λ v. One (PriorAt v)) _ is c.elements_of.ensures c.spot_of-spot.ensures c.in_ok-emit_expression-in-Some.ensures (c.in_ok-put-in-Some.ensures refl) (c.in_ok-put-in-Some-2.ensures refl)
+
+pub emit_links-returns : goal.emit_links-returns
+emit_links-returns t c =
+    let is : links_of (drop c.links.link-index c.args.links.now) ≡ NoLink = grind (arith, common_steps) in
+    c.links.invariant _ (no_link c.args.slots.now _ is)
+
+pub emit_links-links-preserved : goal.emit_links-links-preserved
+emit_links-links-preserved t c =
+    let is : links_of (drop c.links.link-index c.args.links.now) ≡ Linked c.link-item.result.op (plain c.link-item.result.right) (links_of (drop (c.links.link-index + 1) c.args.links.now)) = grind (arith, common_steps) in
+    λ after h. c.links.invariant after (one_link c.args.slots.now is c.in_ok-emit_link.ensures h)
+
+pub emit_link-returns-in_ok-put-in_default : goal.emit_link-returns-in_ok-put-in_default
+emit_link-returns-in_ok-put-in_default t c =
+    simple c.args.link.now.op c.in_default.not-Or c.in_default.not-And c.operator.ensures c.in_ok-emit_expression-in_default.ensures c.in_ok-put-in_default.ensures
+
+pub emit_and-returns : goal.emit_and-returns
+emit_and-returns t c = λ p n.
+    labelled c.in_ok-no.no (labelled c.in_ok-end.end
+    (filled (JumpZero c.in_ok-no.no) refl c.in_ok-test.ensures c.patch-2.ensures
+    (both (c.in_ok-emit_expression.ensures p n) (both (c.in_ok-put.ensures refl p n)
+    (filled (Jump c.in_ok-end.end) refl c.in_ok-skip.ensures c.patch.ensures
+    (both (at n _ c.in_ok-no.ensures) (both (c.in_ok-put-2.ensures refl p n) (at n _ c.in_ok-end.ensures))))))))
+
+pub emit_or-returns : goal.emit_or-returns
+emit_or-returns t c = λ p n.
+    labelled c.in_ok-other.other (labelled c.in_ok-end.end
+    (filled (JumpZero c.in_ok-other.other) refl c.in_ok-test.ensures c.patch-2.ensures
+    (both (c.in_ok-put.ensures refl p n)
+    (filled (Jump c.in_ok-end.end) refl c.in_ok-skip.ensures c.patch.ensures
+    (both (at n _ c.in_ok-other.ensures) (both (c.in_ok-emit_expression.ensures p n) (both (c.in_ok-put-2.ensures refl p n) (at n _ c.in_ok-end.ensures))))))))
+
+pub emit_every-returns : goal.emit_every-returns
+emit_every-returns t c =
+    every_row c.quantified_of-counter.result c.quantified_of-counter.ensures
+    (same_expression c.args.slots.now (ap plain (sym c.deref.ensures)) c.in_ok-emit_expression.ensures)
+    (same_expression c.args.slots.now (ap plain (sym c.deref-2.ensures)) c.in_ok-emit_expression-2.ensures)
+    c.in_ok-range.ensures c.in_ok-again.ensures
+    (same_expression c.args.slots.now (ap plain (sym c.deref-3.ensures)) c.in_ok-emit_expression-3.ensures)
+    c.in_ok-test.ensures (c.in_ok-put.ensures refl) c.in_ok-yes.ensures (c.in_ok-put-2.ensures refl) c.in_ok-skip.ensures c.in_ok-no.ensures (c.in_ok-put-3.ensures refl) c.in_ok-end.ensures
+    c.patch.ensures c.patch-2.ensures c.patch-3.ensures
+
+pub emit_some-returns : goal.emit_some-returns
+emit_some-returns t c =
+    some_row c.quantified_of-counter.result c.quantified_of-counter.ensures
+    (same_expression c.args.slots.now (ap plain (sym c.deref.ensures)) c.in_ok-emit_expression.ensures)
+    (same_expression c.args.slots.now (ap plain (sym c.deref-2.ensures)) c.in_ok-emit_expression-2.ensures)
+    c.in_ok-range.ensures c.in_ok-again.ensures
+    (same_expression c.args.slots.now (ap plain (sym c.deref-3.ensures)) c.in_ok-emit_expression-3.ensures)
+    c.in_ok-test.ensures (c.in_ok-put.ensures refl) c.in_ok-skip.ensures c.in_ok-next.ensures (c.in_ok-put-2.ensures refl) c.in_ok-no.ensures (c.in_ok-put-3.ensures refl) c.in_ok-end.ensures
+    c.patch.ensures c.patch-2.ensures c.patch-3.ensures
+
+pub emit_sum-returns : goal.emit_sum-returns
+emit_sum-returns t c =
+    sum_row c.quantified_of-counter.result c.quantified_of-counter.ensures (c.in_ok-put.ensures refl)
+    (same_expression c.args.slots.now (ap plain (sym c.deref.ensures)) c.in_ok-emit_expression.ensures)
+    (same_expression c.args.slots.now (ap plain (sym c.deref-2.ensures)) c.in_ok-emit_expression-2.ensures)
+    c.in_ok-range.ensures c.in_ok-again.ensures
+    (same_expression c.args.slots.now (ap plain (sym c.deref-3.ensures)) c.in_ok-emit_expression-3.ensures)
+    (c.in_ok-put-2.ensures refl) (c.in_ok-put-3.ensures refl) c.in_ok-end.ensures c.patch.ensures
+
+pub emit_link-returns-in_ok-emit_and-in-And : goal.emit_link-returns-in_ok-emit_and-in-And
+emit_link-returns-in_ok-emit_and-in-And t c = op_and c.in-And.is c.in_ok-emit_and-in-And.ensures
+
+pub emit_link-returns-in_ok-emit_or-in-Or : goal.emit_link-returns-in_ok-emit_or-in-Or
+emit_link-returns-in_ok-emit_or-in-Or t c = op_or c.in-Or.is c.in_ok-emit_or-in-Or.ensures
+
+pub emit_quantified-returns-in_ok-emit_every-in-Every : goal.emit_quantified-returns-in_ok-emit_every-in-Every
+emit_quantified-returns-in_ok-emit_every-in-Every t c = of_every c.in-Every.is c.in_ok-emit_every-in-Every.ensures
+
+pub emit_quantified-returns-in_ok-emit_some-in-Any : goal.emit_quantified-returns-in_ok-emit_some-in-Any
+emit_quantified-returns-in_ok-emit_some-in-Any t c = of_some c.in-Any.is c.in_ok-emit_some-in-Any.ensures
+
+pub emit_quantified-returns-in_ok-emit_sum-in-Total : goal.emit_quantified-returns-in_ok-emit_sum-in-Total
+emit_quantified-returns-in_ok-emit_sum-in-Total t c = of_sum c.in-Total.is c.in_ok-emit_sum-in-Total.ensures

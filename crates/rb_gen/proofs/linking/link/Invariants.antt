@@ -1,0 +1,8 @@
+use Rattle.std.proofs.Common.{◌≡◌, ℕ, ◌<◌, ◌≤◌, length, map}
+use Rattle.rb_code.specs.Plain.{procedure}
+use Rattle.rb_gen.specs.Output.{output}
+use Rattle.rb_gen.proofs.LinkSteps.{IsLinkedTo}
+use Rattle.rb_gen.proofs.linking.link.Given as goal
+
+abbrev pub invariant-instrs : goal.invariant-instrs
+invariant-instrs l = IsLinkedTo (map procedure l.procedures) l.from l.at (output l.fn.draft) (output l.draft)

@@ -1,0 +1,128 @@
+use Rattle.std.proofs.Common.{◌≡◌, ℕ, ◌+◌, ◌-◌, ◌++◌, length, take, option_map, drop, List, [], ◌∷◌, ap, ◌∙◌, sym, subst, arith, map, refl}
+use Rattle.std.proofs.lemmas.Grind.{common_steps}
+use Rattle.rb_syntax.specs.Plain.{identifier, expression as plain, command, commands_of, body, otherwise, alternates_of, reference, recovery_block, print_item, declaration}
+use Rattle.rb_syntax.specs.Tree.{Assignment, Printing, Sending, Receiving, Conditional, Loop, Invocation, Failure, Recovering, NoAlternate, Alternate, Then, NoCommand, NoElse, Else}
+use Rattle.rb_syntax.proofs.Bridge.{trees, recovery_out}
+use Rattle.rb_syntax.specs.declared.statement.Recovery.{Recovery, Recovery-F, out-Recovery}
+use Rattle.rb_syntax.specs.declared.statement.Statement.{Statement}
+use Rattle.rb_syntax.specs.declared.statement.Block.{Block}
+use Rattle.rb_meaning.specs.Environment.{frame_of, frame_words}
+use Rattle.rb_code.specs.Plain.{Block as Entry}
+use Rattle.rb_code.specs.declared.instr.Instr.TheVariants.{Jump}
+use Rattle.rb_gen.specs.Output.{output, filled_with}
+use Rattle.rb_gen.specs.Writes.{WritesAlternates, WritesCommand}
+use Rattle.rb_gen.proofs.StatementRows.{assigned, printing, sending, called, failed, received, received_else, conditional, conditional_else, looped, same_command, no_command, one_command, body_row, else_row}
+use Rattle.rb_gen.proofs.RecoveryRows.{recovered, no_alternate, alternates_init, alternates_step, alternates_end, split_alternates, none_alternates}
+use Rattle.rb_gen.proofs.statements.+statement.Goals as goal
+
+pub emit_statements-returns : goal.emit_statements-returns
+emit_statements-returns t c =
+    let is : commands_of (drop c.statements.statement-index c.args.statements.now) ≡ NoCommand = grind (arith, common_steps) in
+    c.statements.invariant _ (no_command c.args.slots.now c.args.words.now _ is)
+
+pub emit_statements-statements-preserved : goal.emit_statements-statements-preserved
+emit_statements-statements-preserved t c =
+    let is : commands_of (drop c.statements.statement-index c.args.statements.now) ≡ Then (command c.statement-item.result) (commands_of (drop (c.statements.statement-index + 1) c.args.statements.now)) = grind (arith, common_steps) in
+    λ after h. c.statements.invariant after (one_command c.args.slots.now c.args.words.now is c.in_ok-emit_statement.ensures h)
+
+pub emit_body-returns : goal.emit_body-returns
+emit_body-returns t c =
+    body_row c.args.slots.now c.args.words.now (map declaration c.args.block.now.vars.items) (commands_of c.args.block.now.body.items) (ap commands_of c.deref-2.ensures.value)
+    (c.in_ok-size.ensures ∙ ap (λ xs. frame_words (frame_of (map declaration xs))) c.deref.ensures.value) c.in_ok-put_frame.ensures c.in_ok-emit_statements.ensures c.in_ok-put_drop.ensures
+
+pub emit_else-returns : goal.emit_else-returns
+emit_else-returns t c =
+    else_row c.args.slots.now c.args.words.now (body c.args.block.now) c.in_ok-skip.ensures c.in_ok-start.ensures c.in_ok-emit_body.ensures c.in_ok-end.ensures c.patch.ensures
+
+pub emit_statement-returns-in_ok-emit_assignment-in-Assign : goal.emit_statement-returns-in_ok-emit_assignment-in-Assign
+emit_statement-returns-in_ok-emit_assignment-in-Assign t c =
+    let is : command c.args.statement.now ≡ Assignment (reference c.in-Assign.target) (plain c.in-Assign.value) = grind (arith, trees) in
+    assigned c.args.slots.now c.args.words.now is c.in_ok-emit_assignment-in-Assign.ensures
+
+pub emit_statement-returns-in_ok-emit_printing-in-Print : goal.emit_statement-returns-in_ok-emit_printing-in-Print
+emit_statement-returns-in_ok-emit_printing-in-Print t c =
+    let is : command c.args.statement.now ≡ Printing (map print_item c.deref.result.now) = grind (arith, trees) in
+    printing c.args.slots.now c.args.words.now is c.in_ok-emit_printing-in-Print.ensures
+
+pub emit_statement-returns-in_ok-emit_sending-in-Send : goal.emit_statement-returns-in_ok-emit_sending-in-Send
+emit_statement-returns-in_ok-emit_sending-in-Send t c =
+    let is : command c.args.statement.now ≡ Sending (identifier c.in-Send.channel) (plain c.in-Send.value) = grind (arith, trees) in
+    sending c.args.slots.now c.args.words.now is c.in_ok-emit_sending-in-Send.ensures
+
+pub emit_statement-returns-in_ok-emit_call-in-Call : goal.emit_statement-returns-in_ok-emit_call-in-Call
+emit_statement-returns-in_ok-emit_call-in-Call t c =
+    let is : command c.args.statement.now ≡ Invocation (identifier c.in-Call.procedure) (map plain c.deref-in-Call.result.now) = grind (arith, trees) in
+    called c.args.slots.now c.args.words.now is c.in_ok-emit_call-in-Call.ensures
+
+pub emit_statement-returns-in_ok-put-in-Fail-2 : goal.emit_statement-returns-in_ok-put-in-Fail-2
+emit_statement-returns-in_ok-put-in-Fail-2 t c =
+    let is : command c.args.statement.now ≡ Failure = grind (arith, trees) in
+    failed c.args.slots.now c.args.words.now is (c.in_ok-put-in-Fail.ensures refl) (c.in_ok-put-in-Fail-2.ensures refl)
+
+pub emit_statement-returns-in_ok-emit_recovery-in-Recover : goal.emit_statement-returns-in_ok-emit_recovery-in-Recover
+emit_statement-returns-in_ok-emit_recovery-in-Recover t c =
+    let is : command c.args.statement.now ≡ Recovering (recovery_block c.in-Recover.recovery) = grind (arith, trees) in
+    same_command c.args.slots.now c.args.words.now is c.in_ok-emit_recovery-in-Recover.ensures
+
+pub emit_statement-returns-in_ok-emit_taking-in-None : goal.emit_statement-returns-in_ok-emit_taking-in-None
+emit_statement-returns-in_ok-emit_taking-in-None t c =
+    let of = Receiving (identifier c.in-Receive.channel) (reference c.in-Receive.target) in
+    let is : command c.args.statement.now ≡ of (otherwise c.in-Receive.other) = grind (arith, trees) in
+    received c.args.slots.now c.args.words.now (is ∙ ap of (ap otherwise c.in-None.is)) c.channel_of-number.ensures (c.in_ok-put-in-Receive.ensures refl) (c.in_ok-put-in-None.ensures refl) c.in_ok-emit_taking-in-None.ensures
+
+pub emit_statement-returns-in_ok-none-in-Some : goal.emit_statement-returns-in_ok-none-in-Some
+emit_statement-returns-in_ok-none-in-Some t c =
+    let of = Receiving (identifier c.in-Receive.channel) (reference c.in-Receive.target) in
+    let is : command c.args.statement.now ≡ of (otherwise c.in-Receive.other) = grind (arith, trees) in
+    received_else c.args.slots.now c.args.words.now (is ∙ ap of (ap otherwise c.in-Some.is)) c.channel_of-number.ensures (c.in_ok-put-in-Receive.ensures refl) c.in_ok-absent-in-Some.ensures c.in_ok-emit_taking-in-Some.ensures c.in_ok-none-in-Some.ensures c.patch.ensures
+
+pub emit_statement-returns-in_ok-end-in-None-other : goal.emit_statement-returns-in_ok-end-in-None-other
+emit_statement-returns-in_ok-end-in-None-other t c =
+    let of = Conditional (plain c.in-If.test) (body c.in-If.block) in
+    let is : command c.args.statement.now ≡ of (otherwise c.in-If.other) = grind (arith, trees) in
+    conditional c.args.slots.now c.args.words.now (is ∙ ap of (ap otherwise c.in-None-other.is)) c.in_ok-over-in-If.ensures c.in_ok-emit_body-in-If.ensures c.in_ok-end-in-None-other.ensures c.patch-in-None-other.ensures
+
+pub emit_statement-returns-in_ok-no-in-Some-other : goal.emit_statement-returns-in_ok-no-in-Some-other
+emit_statement-returns-in_ok-no-in-Some-other t c =
+    let of = Conditional (plain c.in-If.test) (body c.in-If.block) in
+    let is : command c.args.statement.now ≡ of (otherwise c.in-If.other) = grind (arith, trees) in
+    conditional_else c.args.slots.now c.args.words.now (is ∙ ap of (ap otherwise c.in-Some-other.is)) c.in_ok-over-in-If.ensures c.in_ok-emit_body-in-If.ensures c.in_ok-no-in-Some-other.ensures c.patch-in-Some-other.ensures
+
+pub emit_statement-returns-in_ok-end-in-While : goal.emit_statement-returns-in_ok-end-in-While
+emit_statement-returns-in_ok-end-in-While t c =
+    let is : command c.args.statement.now ≡ Loop (plain c.in-While.test) (body c.in-While.block) = grind (arith, trees) in
+    looped c.args.slots.now c.args.words.now is c.in_ok-start-in-While.ensures c.in_ok-over-in-While.ensures c.in_ok-emit_body-in-While.ensures (c.in_ok-put-in-While.ensures refl) c.in_ok-end-in-While.ensures c.patch-in-While.ensures
+
+pub emit_recovery-returns : goal.emit_recovery-returns
+emit_recovery-returns t c =
+    let r : Recovery-F Statement Block Recovery = out-Recovery c.args.recovery.now in
+    let addresses = c.in_ok-alternates.alternates.items in
+    let entry : Entry = record { line = r.place.line; conversation = c.joined_of.result; bound = c.in_ok-bound.bound; restart = c.in_ok-restart.restart; test = c.in_ok-test.test; alternates = addresses } in
+    let before = output c.put-4.new.draft in
+    let behind = output c.emit_alternates.new.draft in
+    let inside : WritesAlternates c.args.slots.now c.args.words.now (alternates_of r.alternates.items) addresses c.in_ok-test.test before behind =
+    subst (λ xs. WritesAlternates c.args.slots.now c.args.words.now (alternates_of xs) addresses c.in_ok-test.test before behind) c.deref.ensures.value
+    (subst (λ (n : ℕ). WritesAlternates c.args.slots.now c.args.words.now (alternates_of c.deref.result.now) addresses n before behind) (sym c.in_ok-test.ensures) c.in_ok-alternates.ensures) in
+    recovered c.args.slots.now c.args.words.now r.number (option_map identifier r.conversation) r.place (plain r.test) r.bound (alternates_of r.alternates.items) entry (recovery_out c.args.recovery.now)
+    refl c.joined_of.ensures c.in_ok-bound.ensures (c.in_ok-put.ensures refl) (c.in_ok-put-2.ensures refl) c.in_ok-restart.ensures (c.in_ok-put-3.ensures refl) (c.in_ok-put-4.ensures refl)
+    inside c.in_ok-test.ensures (c.in_ok-put-5.ensures refl) c.in_ok-emit_expression.ensures (c.in_ok-put-6.ensures refl) c.settle.ensures
+
+pub emit_alternates-returns : goal.emit_alternates-returns
+emit_alternates-returns t c =
+    let is : alternates_of (drop c.others.other-index (take (length c.args.alternates.now - 1) (drop 1 c.args.alternates.now))) ≡ NoAlternate = grind (arith, common_steps) in
+    alternates_end c.args.slots.now c.args.words.now _ c.in_ok-test.test c.others.addresses.items c.others.places.items is c.in_ok-test.ensures (c.fill.ensures ∙ ap (λ (hs : List ℕ). filled_with hs (Jump c.in_ok-test.test) (output c.others.draft)) c.deref.ensures.value) c.others.invariant
+
+pub emit_alternates-returns-in_default : goal.emit_alternates-returns-in_default
+emit_alternates-returns-in_default t c =
+    no_alternate c.args.slots.now c.args.words.now _ _ _ (none_alternates c.args.alternates.now c.in_default.len_below) c.new-addresses.ensures.items
+
+pub emit_alternates-others-init : goal.emit_alternates-others-init
+emit_alternates-others-init t c =
+    alternates_init c.args.slots.now c.args.words.now _ c.in_ok-start.start _ _ (split_alternates c.args.alternates.now c.first-item.result c.in-len1-up.len_at_least c.first-item.is) c.in_ok-start.ensures
+    (c.in_ok-push.ensures.items ∙ ap (λ xs. xs ++ (c.in_ok-start.start ∷ [])) c.new-addresses.ensures.items) c.new-places.ensures.items c.in_ok-emit_body.ensures
+
+pub emit_alternates-others-preserved : goal.emit_alternates-others-preserved
+emit_alternates-others-preserved t c =
+    let others = take (length c.args.alternates.now - 1) (drop 1 c.args.alternates.now) in
+    let is : alternates_of (drop c.others.other-index others) ≡ Alternate (body c.other-item.result) (alternates_of (drop (c.others.other-index + 1) others)) = grind (arith, common_steps) in
+    alternates_step c.args.slots.now c.args.words.now _ c.in_ok-start-2.start c.in_ok-place.place _ _ _ _ is c.in_ok-place.ensures c.in_ok-start-2.ensures c.in_ok-emit_body-2.ensures c.in_ok-push-3.ensures.items c.in_ok-push-2.ensures.items c.others.invariant

@@ -1,0 +1,7 @@
+pub mod Output
+pub mod Emits
+pub mod Lookups
+pub mod Operators
+pub mod Given
+pub mod Writes
+pub mod Channels

@@ -1,0 +1,233 @@
+//! The code of statements with statements inside.
+
+ghost use Rattle.std.specs.Prelude.{◌≡◌, ℕ, length, IfOk, OnOk};
+ghost use Rattle.rb_syntax.specs.Plain.{alternates_of, body, command, commands_of, expression as plain, recovery_block};
+ghost use Rattle.rb_code.specs.Template.{One, ◌⨾◌};
+ghost use Rattle.rb_code.specs.Forms.{ExpressionCode};
+ghost use Rattle.rb_gen.specs.Output.{Output, added, output};
+ghost use Rattle.rb_gen.specs.Emits.{Adds};
+ghost use Rattle.rb_gen.specs.Writes.{WritesAlternates, WritesBody, WritesCommand, WritesCommands, WritesElse, WritesRecovery};
+
+use crate::draft::{Draft, fill, here, leave, patch, put, settle};
+use crate::expressions::emit_expression;
+use crate::frames::{natural, put_drop, put_frame, words_of};
+use crate::lookups::{channel_of, joined_of};
+use crate::simple::{emit_assignment, emit_call, emit_printing, emit_sending, emit_taking};
+use rb_base::Memory;
+use rb_code::{BlockCode, Instr};
+use rb_scope::Slot;
+use rb_syntax::{Block, Expr, Recovery, Statement};
+use std::alloc::Global;
+
+/// The code of a statement.
+#[cycle(statement)]
+pub(crate) fn emit_statement(
+    alloc: Global,
+    draft: &mut Draft,
+    slots: &[Slot],
+    words: &[u32],
+    statement: &Statement<'_>,
+) -> Result<(), Memory>
+    ensures { OnOk result (WritesCommand slots.now words.now (command statement.now) (output draft.old) (output draft.new)) }
+{
+    match statement {
+        Statement::Assign(target, value) => {
+            emit_assignment(draft, slots, target, value)?;
+            Ok(())
+        }
+        Statement::Print(items) => {
+            emit_printing(alloc, draft, slots, items)?;
+            Ok(())
+        }
+        Statement::Send(channel, value) => {
+            emit_sending(draft, slots, channel, value)?;
+            Ok(())
+        }
+        Statement::Receive(channel, target, other) => {
+            let number = channel_of(slots, channel.id);
+            put(draft, Instr::Turn)?;
+            match other {
+                None => {
+                    put(draft, Instr::There(number))?;
+                    emit_taking(draft, slots, number, target)?;
+                    Ok(())
+                }
+                Some(other) => {
+                    let absent = leave(draft)?;
+                    emit_taking(draft, slots, number, target)?;
+                    let none = emit_else(alloc, draft, slots, words, other)?;
+                    patch(draft, absent, Instr::Absent(number, none));
+                    Ok(())
+                }
+            }
+        }
+        Statement::If(test, block, other) => {
+            let over = emit_test(draft, slots, test)?;
+            emit_body(alloc, draft, slots, words, block)?;
+            match other {
+                None => {
+                    let end = here(draft)?;
+                    patch(draft, over, Instr::JumpZero(end));
+                    Ok(())
+                }
+                Some(other) => {
+                    let no = emit_else(alloc, draft, slots, words, other)?;
+                    patch(draft, over, Instr::JumpZero(no));
+                    Ok(())
+                }
+            }
+        }
+        Statement::While(test, block) => {
+            let start = here(draft)?;
+            let over = emit_test(draft, slots, test)?;
+            emit_body(alloc, draft, slots, words, block)?;
+            put(draft, Instr::Jump(start))?;
+            let end = here(draft)?;
+            patch(draft, over, Instr::JumpZero(end));
+            Ok(())
+        }
+        Statement::Call(procedure, arguments) => {
+            emit_call(draft, slots, words, procedure, arguments)?;
+            Ok(())
+        }
+        Statement::Fail => {
+            put(draft, Instr::Turn)?;
+            put(draft, Instr::Fail)?;
+            Ok(())
+        }
+        Statement::Recover(recovery) => {
+            emit_recovery(alloc, draft, slots, words, recovery)?;
+            Ok(())
+        }
+    }
+}
+
+/// The turn and the test of an `if` or a `while`, and a place for what goes by it.
+fn emit_test(draft: &mut Draft, slots: &[Slot], test: &Expr<'_>) -> Result<usize, Memory>
+    ensures { IfOk result (λ place. (o : Output) × Adds (One Instr.Turn ⨾ ExpressionCode slots.now (plain test.now)) (output draft.old) o × ((place ≡ length o.instrs) × (output draft.new ≡ added (Instr.Jump 0) o))) }
+{
+    put(draft, Instr::Turn)?;
+    emit_expression(draft, slots, test)?;
+    let place = leave(draft)?;
+    Ok(place)
+}
+
+/// The code of an `else` behind what it is the other to, and its address.
+#[cycle(statement)]
+fn emit_else(
+    alloc: Global,
+    draft: &mut Draft,
+    slots: &[Slot],
+    words: &[u32],
+    block: &Block<'_>,
+) -> Result<u32, Memory>
+    ensures { IfOk result (λ no. WritesElse slots.now words.now no (body block.now) (output draft.old) (output draft.new)) }
+{
+    let skip = leave(draft)?;
+    let start = here(draft)?;
+    emit_body(alloc, draft, slots, words, block)?;
+    let end = here(draft)?;
+    patch(draft, skip, Instr::Jump(end));
+    Ok(start)
+}
+
+/// The code of statements in order.
+#[cycle(statement)]
+pub(crate) fn emit_statements(
+    alloc: Global,
+    draft: &mut Draft,
+    slots: &[Slot],
+    words: &[u32],
+    statements: &[Statement<'_>],
+) -> Result<(), Memory>
+    ensures { OnOk result (WritesCommands slots.now words.now (commands_of statements.now) (output draft.old) (output draft.new)) }
+{
+    'statements: for statement in statements {
+        emit_statement(alloc, draft, slots, words, statement)?;
+    }
+    Ok(())
+}
+
+/// The code of a block.
+#[cycle(statement)]
+fn emit_body(
+    alloc: Global,
+    draft: &mut Draft,
+    slots: &[Slot],
+    words: &[u32],
+    block: &Block<'_>,
+) -> Result<(), Memory>
+    ensures { OnOk result (WritesBody slots.now words.now (body block.now) (output draft.old) (output draft.new)) }
+{
+    let size = words_of(&block.vars)?;
+    put_frame(draft, size)?;
+    emit_statements(alloc, draft, slots, words, &block.body)?;
+    put_drop(draft, size)?;
+    Ok(())
+}
+
+/// The code of a recovery block.
+#[cycle(statement)]
+fn emit_recovery(
+    alloc: Global,
+    draft: &mut Draft,
+    slots: &[Slot],
+    words: &[u32],
+    recovery: &Recovery<'_>,
+) -> Result<(), Memory>
+    ensures { OnOk result (WritesRecovery slots.now words.now (recovery_block recovery.now) (output draft.old) (output draft.new)) }
+{
+    let number = recovery.number;
+    let bound = natural(recovery.bound)?;
+    put(draft, Instr::Turn)?;
+    put(draft, Instr::Enter(number))?;
+    let restart = here(draft)?;
+    put(draft, Instr::Turn)?;
+    put(draft, Instr::Start(number))?;
+    let alternates = emit_alternates(alloc, draft, slots, words, &recovery.alternates)?;
+    let test = here(draft)?;
+    put(draft, Instr::Turn)?;
+    emit_expression(draft, slots, &recovery.test)?;
+    put(draft, Instr::Test(number))?;
+    let entry = BlockCode {
+        line: recovery.place.line,
+        conversation: joined_of(slots, recovery.conversation),
+        bound,
+        restart,
+        test,
+        alternates,
+    };
+    settle(draft, number, entry);
+    Ok(())
+}
+
+/// The code of alternates, and the address of each.
+#[cycle(statement)]
+fn emit_alternates(
+    alloc: Global,
+    draft: &mut Draft,
+    slots: &[Slot],
+    words: &[u32],
+    alternates: &[Block<'_>],
+) -> Result<Vec<u32>, Memory>
+    ensures { IfOk result (λ addresses. WritesAlternates slots.now words.now (alternates_of alternates.now) addresses.items (length draft.new.instrs.items) (output draft.old) (output draft.new)) }
+{
+    let mut addresses = Vec::new(alloc);
+    let [first, others @ ..] = alternates else {
+        return Ok(addresses);
+    };
+    let start = here(draft)?;
+    addresses.push(start)?;
+    emit_body(alloc, draft, slots, words, first)?;
+    let mut places = Vec::new(alloc);
+    'others: for other in others {
+        let place = leave(draft)?;
+        places.push(place)?;
+        let start = here(draft)?;
+        addresses.push(start)?;
+        emit_body(alloc, draft, slots, words, other)?;
+    }
+    let test = here(draft)?;
+    fill(draft, &places, Instr::Jump(test));
+    Ok(addresses)
+}
