@@ -1,13 +1,13 @@
 -- How code is put together.
-use Rattle.std.proofs.Common.{◌≡◌, ℕ, zero, suc, ◌+◌, ◌<◌, ◌≤◌, List, [], ◌∷◌, ◌++◌, Some, length, refl, sym, ap, ◌∙◌, subst, arith, length-append}
-use Rattle.std.specs.Prelude.{Bool, true, false, slice_get, slice_set, option_map}
+use Rattle.std.proofs.Common.{◌≡◌, ℕ, zero, suc, ◌+◌, ◌≤◌, List, [], ◌∷◌, ◌++◌, Some, length, refl, sym, ap, ◌∙◌, subst, arith, length-append}
+use Rattle.std.specs.Prelude.{false, slice_get, slice_set, option_map}
 use Rattle.rb_code.specs.Plain.{Block, Code}
 use Rattle.rb_code.specs.StandsFor.{numbers_from, text_numbers}
-use Rattle.rb_code.specs.Template.{Template, One, ◌⨾◌, Empty, Only, At, Label, Quoted, WithBlock, Listed}
+use Rattle.rb_code.specs.Template.{Template, ◌⨾◌, Empty, Only, At, Label, Quoted, WithBlock, Listed}
 use Rattle.rb_code.specs.declared.instr.Instr.{Instr}
 use Rattle.rb_code.specs.declared.instr.Instr.TheVariants.{Jump, Text}
 use Rattle.rb_gen.specs.Output.{Output, added, filled_with, is_text, linked, patched, settled}
-use Rattle.rb_gen.specs.Emits.{Grows, Keeps, Follows, Covers, Settles, Includes, Emits, Placed}
+use Rattle.rb_gen.specs.Emits.{Grows, Keeps, Emits, Placed}
 use Rattle.rb_gen.proofs.Growing.{get_end, get_set, get_other, same_length, texts-added, texts-append, texts-set, numbers-append, grows_self, grows_more, keeps_self, follows_self, follows_on, follows_back, includes_front, includes_back, includes_late, includes_early}
 
 -- one template after another
@@ -139,15 +139,18 @@ settled_here {m = m} {k = k} {P = P} {c = c} {e = e} x q =
         numbered = q.follows.numbered;
       };
       stands = λ w h.
-          let there : slice_get w.blocks m ≡ Some x = h.blocks.has m (omega arith) (omega (arith, q.follows.rises)) ∙ get_set e.blocks m x (omega (arith, long, h.blocks.room, q.follows.rises)) in
-          (x, there, q.stands w record {
-            instrs = h.instrs;
-            texts = h.texts;
-            blocks = record {
-              room = omega (arith, long, h.blocks.room);
-              has = λ i a b. h.blocks.has i (omega arith) b ∙ get_other e.blocks m i x (λ same. absurd (omega arith));
-            };
-          });
+          let there : slice_get w.blocks m ≡ Some x = h.blocks.has m (omega arith) (omega (arith, q.follows.rises)) ∙ get_set e.blocks m x (omega (arith, long, h.blocks.room, q.follows.rises)) in (
+            x,
+            there,
+            q.stands w record {
+              instrs = h.instrs;
+              texts = h.texts;
+              blocks = record {
+                room = omega (arith, long, h.blocks.room);
+                has = λ i a b. h.blocks.has i (omega arith) b ∙ get_other e.blocks m i x (λ same. absurd (omega arith));
+              };
+            },
+          );
     }
 
 pub settled_then : {link : Code → Instr → Instr} {m k number : ℕ} {P : Block → Template} {c e f : Output} (x : Block) → number ≡ m → f ≡ settled e number x → Emits link (m + 1) k (P x) c e → Emits link m k (WithBlock number P) c f

@@ -1,5 +1,5 @@
 -- Resolved and numbered trees give what the code of recovery blocks takes from them.
-use Rattle.std.proofs.Common.{◌≡◌, ℕ, suc, ◌+◌, arith, subst, List, [], ◌∷◌, Option, Some, None, refl, sym, ap, ◌∙◌, map}
+use Rattle.std.proofs.Common.{◌≡◌, ℕ, suc, ◌+◌, arith, subst, List, [], ◌∷◌, Option, Some, None, refl, ap, ◌∙◌, map}
 use Rattle.std.specs.Prelude.{slice_get}
 use Rattle.std.specs.List.{All}
 use Rattle.std.proofs.lemmas.List.Elements.{All-head, All-tail}
@@ -61,9 +61,10 @@ module _ (tree : Tree) (slots : List Slot) where
 
   procedures_given : (p : ℕ) (process : ProcessDeclaration) (n : ℕ) (x : List ProcedureDeclaration) → ProceduresNumbered n x → All (ProcedureInFrames tree slots p process) x → ProceduresGiven tree slots n x
   procedures_given p process n [] numbered inside = tt
-  procedures_given p process n (procedure ∷ others) numbered inside =
-      (inside_given p (procedure_frames process procedure) n procedure.body numbered.0 (All-head (ProcedureInFrames tree slots p process) procedure others inside),
-      procedures_given p process (n + blocks_in_body procedure.body) others numbered.1 (All-tail (ProcedureInFrames tree slots p process) procedure others inside))
+  procedures_given p process n (procedure ∷ others) numbered inside = (
+    inside_given p (procedure_frames process procedure) n procedure.body numbered.0 (All-head (ProcedureInFrames tree slots p process) procedure others inside),
+    procedures_given p process (n + blocks_in_body procedure.body) others numbered.1 (All-tail (ProcedureInFrames tree slots p process) procedure others inside),
+  )
 
   process_given : (p n : ℕ) (process : ProcessDeclaration) → ProcessNumbered n process → ProcessInFrames tree slots p process → ProcessGiven tree slots n process
   process_given p n process numbered inside =
@@ -72,9 +73,10 @@ module _ (tree : Tree) (slots : List Slot) where
   pub processes_given : (p n : ℕ) (x : List ProcessDeclaration) → ProcessesNumbered n x → ((i : ℕ) (process : ProcessDeclaration) → slice_get x i ≡ Some process → ProcessInFrames tree slots (p + i) process) → ProcessesGiven tree slots n x
   processes_given p n [] numbered inside = tt
   processes_given p n (process ∷ others) numbered inside =
-      let first : ProcessInFrames tree slots p process = subst (λ (i : ℕ). ProcessInFrames tree slots i process) (omega arith) (inside 0 process refl) in
-      (process_given p n process numbered.0 first,
-      processes_given (p + 1) (n + blocks_in_process process) others numbered.1 (λ i one is. subst (λ (k : ℕ). ProcessInFrames tree slots k one) (omega arith) (inside (suc i) one is)))
+      let first : ProcessInFrames tree slots p process = subst (λ (i : ℕ). ProcessInFrames tree slots i process) (omega arith) (inside 0 process refl) in (
+        process_given p n process numbered.0 first,
+        processes_given (p + 1) (n + blocks_in_process process) others numbered.1 (λ i one is. subst (λ (k : ℕ). ProcessInFrames tree slots k one) (omega arith) (inside (suc i) one is)),
+      )
 
   -- the ends of channels
   pub ends_given : (x : List ChannelDeclaration) → All (ChannelInFrames tree slots) x → map (ends_by slots) x ≡ map (ends_of tree) x

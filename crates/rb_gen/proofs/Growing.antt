@@ -1,12 +1,12 @@
 -- How a list, and the whole draft, goes on from one state to another.
-use Rattle.std.proofs.Common.{◌≡◌, ℕ, zero, suc, ◌+◌, ◌<◌, ◌≤◌, List, [], ◌∷◌, ◌++◌, Some, length, refl, sym, ap, ◌∙◌, subst, arith, length-append}
-use Rattle.std.specs.Prelude.{Bool, true, false, slice_get, slice_set, option_map, map}
+use Rattle.std.proofs.Common.{◌≡◌, ℕ, zero, suc, ◌+◌, ◌<◌, ◌≤◌, List, [], ◌∷◌, ◌++◌, Some, length, refl, sym, ap, ◌∙◌, arith, length-append}
+use Rattle.std.specs.Prelude.{false, slice_get, slice_set, option_map}
 use Rattle.rb_code.specs.Plain.{Block, Code}
 use Rattle.rb_code.specs.StandsFor.{numbers_from, text_numbers}
 use Rattle.rb_code.specs.declared.instr.Instr.{Instr}
 use Rattle.rb_code.specs.declared.instr.Instr.TheVariants.{Text}
 use Rattle.rb_gen.specs.Output.{Output, is_text}
-use Rattle.rb_gen.specs.Emits.{Grows, Keeps, Follows, Covers, Settles, Includes}
+use Rattle.rb_gen.specs.Emits.{Grows, Keeps, Follows, Covers, Includes}
 
 pub get_front : {A : Type 0} (xs ys : List A) (i : ℕ) → i < length xs → slice_get (xs ++ ys) i ≡ slice_get xs i
 get_front [] ys i h = absurd (omega arith)

@@ -3,7 +3,7 @@ use Rattle.std.proofs.Common.{◌≡◌, ℕ, ◌+◌, ◌<◌, ◌≤◌, List,
 use Rattle.std.specs.Prelude.{slice_get, slice_set, option_map}
 use Rattle.rb_code.specs.declared.instr.Instr.{Instr}
 use Rattle.rb_code.specs.declared.instr.Instr.TheVariants.{Call}
-use Rattle.rb_code.specs.Plain.{Block, Procedure}
+use Rattle.rb_code.specs.Plain.{Procedure}
 use Rattle.rb_code.specs.StandsFor.{text_numbers}
 use Rattle.rb_gen.specs.Output.{Output, linked_to, patched}
 use Rattle.rb_gen.specs.Writes.{IsLinked}

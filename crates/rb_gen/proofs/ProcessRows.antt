@@ -1,5 +1,5 @@
 -- The code of procedures, processes and programs, as it is put together.
-use Rattle.std.proofs.Common.{◌≡◌, ℕ, zero, suc, ◌+◌, ◌<◌, ◌≤◌, List, [], ◌∷◌, ◌++◌, length, Option, Some, None, refl, sym, ap, ◌∙◌, subst, arith, append_assoc, map, length-append}
+use Rattle.std.proofs.Common.{◌≡◌, ℕ, ◌+◌, ◌<◌, List, [], ◌∷◌, ◌++◌, length, Option, Some, None, refl, sym, ap, ◌∙◌, subst, arith, append_assoc, map, length-append}
 use Rattle.std.specs.Prelude.{slice_get, option_map}
 use Rattle.std.specs.Option.{unwrap_or}
 use Rattle.rb_syntax.specs.declared.program.Procedure.{Procedure as Held}
@@ -15,18 +15,18 @@ use Rattle.rb_world.specs.Kind.{Ends}
 use Rattle.rb_scope.specs.InFrames.{ProcessInFrames, Resolved}
 use Rattle.rb_scope.specs.declared.slot.Slot.{Slot}
 use Rattle.rb_code.specs.declared.instr.Instr.{Instr}
-use Rattle.rb_code.specs.declared.instr.Instr.TheVariants.{Call, Done, Return, Text}
+use Rattle.rb_code.specs.declared.instr.Instr.TheVariants.{Done, Return}
 use Rattle.rb_code.specs.Memory.{no_part, part_of}
-use Rattle.rb_code.specs.Plain.{Block, Code, Part, Procedure}
+use Rattle.rb_code.specs.Plain.{Code, Part, Procedure}
 use Rattle.rb_code.specs.Template.{Template, One, ◌⨾◌}
-use Rattle.rb_code.specs.Forms.{CommandsCode, Owner, ProceduresCode}
-use Rattle.rb_code.specs.StandsFor.{ProcessCode, ProcessesCode, StandsFor, TellsOfProcess, channels_from, numbers_from, text_numbers}
+use Rattle.rb_code.specs.Forms.{CommandsCode, ProceduresCode}
+use Rattle.rb_code.specs.StandsFor.{ProcessesCode, StandsFor, channels_from, numbers_from, text_numbers}
 use Rattle.rb_gen.specs.Output.{Output, as_it_is, linked, linked_to}
-use Rattle.rb_gen.specs.Emits.{Adds, Emits, Follows, Grows, Includes, Keeps, Settles}
+use Rattle.rb_gen.specs.Emits.{Adds, Emits, Grows, Keeps, Settles}
 use Rattle.rb_gen.specs.Given.{ProcessesGiven}
 use Rattle.rb_gen.specs.Channels.{ends_by}
-use Rattle.rb_gen.specs.Writes.{HasParts, IsLinked, ProcessTemplate, Setting, Writes, WritesCommands, WritesProcedures, WritesProcess, WritesProcesses, room_of}
-use Rattle.rb_gen.proofs.Emits.{as_if, both, both_back, upto}
+use Rattle.rb_gen.specs.Writes.{HasParts, IsLinked, ProcessTemplate, Setting, WritesCommands, WritesProcedures, WritesProcess, WritesProcesses, room_of}
+use Rattle.rb_gen.proofs.Emits.{both, both_back, upto}
 use Rattle.rb_gen.proofs.Growing.{follows_self}
 use Rattle.rb_gen.proofs.GivenParts.{ends_given, processes_given}
 
@@ -49,9 +49,9 @@ module _ (slots : List Slot) (words : List ℕ) where
       let procedure = procedure_declaration held in
       let entry : ℕ → Procedure = λ i. record { name = held.name.text.now; start = i } in
       let one : WritesProcedures slots words (procedure ∷ others) (entry start ∷ more) d after = λ s n (g, k).
-          let all : Emits (linked s.owner.number) n ((n + blocks_in_body procedure.body) + blocks_in_procedures others) (CommandsCode s.tree slots s.owner (commands_of procedure.body) ⨾ One Return ⨾ ProceduresCode s.tree slots s.owner others more) d after =
-          both (p s n g) (both (q s.owner.number (n + blocks_in_body procedure.body)) (h s (n + blocks_in_body procedure.body) k)) in
-          upto (record { follows = all.follows; stands = λ w i. (more, ap (λ j. entry j ∷ more) here, all.stands w i) }) (omega arith) in
+      let all : Emits (linked s.owner.number) n ((n + blocks_in_body procedure.body) + blocks_in_procedures others) (CommandsCode s.tree slots s.owner (commands_of procedure.body) ⨾ One Return ⨾ ProceduresCode s.tree slots s.owner others more) d after =
+      both (p s n g) (both (q s.owner.number (n + blocks_in_body procedure.body)) (h s (n + blocks_in_body procedure.body) k)) in
+      upto (record { follows = all.follows; stands = λ w i. (more, ap (λ j. entry j ∷ more) here, all.stands w i) }) (omega arith) in
       let two : WritesProcedures slots words all (entries ++ (entry start ∷ more)) o after = completes after (entry start ∷ more) (subst (λ l. WritesProcedures slots words l (entry start ∷ more) d after) (sym is) one) in
       subst (λ xs. WritesProcedures slots words all xs o after) (sym (ap (λ xs. xs ++ more) these ∙ append_assoc entries (entry start ∷ []) more)) two
 
@@ -113,16 +113,16 @@ module _ (slots : List Slot) (ends : List Ends) where
   pub processes_step : (all others : List ProcessDeclaration) (process : ProcessDeclaration) {rest : List ProcessDeclaration} {o d e : Output} (p q : ℕ) (part : Part) (parts parts' : List Part) → rest ≡ process ∷ others → q ≡ p + 1 → part.start ≡ length d.instrs → part.words ≡ frame_words (frame_of process.variables) → part.channels ≡ channels_from p 0 ends → WritesProcess slots process part.procedures d e → parts' ≡ parts ++ (part ∷ []) → CompletesProcesses all p rest parts o d → CompletesProcesses all q others parts' o e
   processes_step all others process {o = o} {d = d} {e = e} p q part parts parts' is next start sizes channels inside these completes = λ after more h.
       let one : WritesProcesses slots ends p (process ∷ others) (part ∷ more) d after = λ tree known n (g, k).
-          let first : Emits as_it_is n (n + blocks_in_process process) (ProcessTemplate tree slots p process part.procedures) d e = inside tree p n g in
-          let rest : Emits as_it_is (n + blocks_in_process process) ((n + blocks_in_process process) + blocks_in_processes others) (λ w a b. HasParts (p + 1) more w → ProcessesCode tree slots (p + 1) others more w a b) e after =
-          subst (λ (i : ℕ). Emits as_it_is (n + blocks_in_process process) ((n + blocks_in_process process) + blocks_in_processes others) (λ w a b. HasParts i more w → ProcessesCode tree slots i others more w a b) e after) next (h tree known (n + blocks_in_process process) k) in
-          let both_of = both first rest in
-          upto (record {
-            follows = both_of.follows;
-            stands = λ w i (there, others_there).
-                let (m, body, behind) = both_of.stands w i in
-                (part, more, refl, (m, (record { start_is = start; words_are = sizes; channels_are = channels ∙ ap (channels_from p 0) known }, body (ap (λ x. x.procedures) (part_there w p part there))), behind others_there));
-          }) (omega arith) in
+      let first : Emits as_it_is n (n + blocks_in_process process) (ProcessTemplate tree slots p process part.procedures) d e = inside tree p n g in
+      let rest : Emits as_it_is (n + blocks_in_process process) ((n + blocks_in_process process) + blocks_in_processes others) (λ w a b. HasParts (p + 1) more w → ProcessesCode tree slots (p + 1) others more w a b) e after =
+      subst (λ (i : ℕ). Emits as_it_is (n + blocks_in_process process) ((n + blocks_in_process process) + blocks_in_processes others) (λ w a b. HasParts i more w → ProcessesCode tree slots i others more w a b) e after) next (h tree known (n + blocks_in_process process) k) in
+      let both_of = both first rest in
+      upto (record {
+        follows = both_of.follows;
+        stands = λ w i (there, others_there).
+            let (m, body, behind) = both_of.stands w i in
+            (part, more, refl, (m, (record { start_is = start; words_are = sizes; channels_are = channels ∙ ap (channels_from p 0) known }, body (ap (λ x. x.procedures) (part_there w p part there))), behind others_there));
+      }) (omega arith) in
       let two : WritesProcesses slots ends 0 all (parts ++ (part ∷ more)) o after = completes after (part ∷ more) (subst (λ l. WritesProcesses slots ends p l (part ∷ more) d after) (sym is) one) in
       subst (λ xs. WritesProcesses slots ends 0 all xs o after) (sym (ap (λ xs. xs ++ more) these ∙ append_assoc parts (part ∷ []) more)) two
 
@@ -134,9 +134,10 @@ module _ (slots : List Slot) (ends : List Ends) where
 -- a list has its own elements, from any place on
 has_parts : (w : Code) (before parts : List Part) → w.processes ≡ before ++ parts → HasParts (length before) parts w
 has_parts w before [] is = tt
-has_parts w before (part ∷ parts) is =
-    (ap (λ xs. slice_get xs (length before)) is ∙ there before part parts,
-    subst (λ i. HasParts i parts w) (length-append before (part ∷ [])) (has_parts w (before ++ (part ∷ [])) parts (is ∙ sym (append_assoc before (part ∷ []) parts))))
+has_parts w before (part ∷ parts) is = (
+  ap (λ xs. slice_get xs (length before)) is ∙ there before part parts,
+  subst (λ i. HasParts i parts w) (length-append before (part ∷ [])) (has_parts w (before ++ (part ∷ [])) parts (is ∙ sym (append_assoc before (part ∷ []) parts))),
+)
   where
     there : (before : List Part) (part : Part) (parts : List Part) → slice_get (before ++ (part ∷ parts)) (length before) ≡ Some part
     there [] part parts = refl

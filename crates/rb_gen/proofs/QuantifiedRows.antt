@@ -1,6 +1,5 @@
 -- The code of quantified expressions, as it is put together.
-use Rattle.std.proofs.Common.{◌≡◌, ℕ, List, length, refl, subst, pos}
-use Rattle.rb_code.specs.declared.instr.Instr.{Instr}
+use Rattle.std.proofs.Common.{◌≡◌, ℕ, length, refl, subst, pos}
 use Rattle.rb_code.specs.declared.instr.Instr.TheVariants.{Add, Again, Jump, JumpZero, Push, Range}
 use Rattle.rb_code.specs.Template.{Template, One}
 use Rattle.rb_code.specs.Forms.{EveryCode, SomeCode, SumCode}

@@ -5,20 +5,18 @@ use Rattle.rb_base.specs.declared.place.Place.{Place}
 use Rattle.rb_syntax.specs.declared.expression.Number.{Number}
 use Rattle.rb_syntax.specs.declared.statement.Block.{Block as Held}
 use Rattle.rb_syntax.specs.Plain.{alternates_of, body}
-use Rattle.rb_syntax.specs.Tree.{Identifier, Expression, Recovering, Body, RecoveryBlock, Recovers, Alternates, NoAlternate, Alternate, Tree}
+use Rattle.rb_syntax.specs.Tree.{Identifier, Expression, Body, RecoveryBlock, Recovers, Alternates, NoAlternate, Alternate}
 use Rattle.rb_syntax.specs.Numbered.{blocks_in_alternates, blocks_in_body}
 use Rattle.rb_meaning.specs.Environment.{natural}
 use Rattle.rb_scope.specs.declared.slot.Slot.{Slot}
-use Rattle.rb_code.specs.declared.instr.Instr.{Instr}
 use Rattle.rb_code.specs.declared.instr.Instr.TheVariants.{Turn, Jump, Enter, Start, Test}
-use Rattle.rb_code.specs.Plain.{Block, Code}
-use Rattle.rb_code.specs.Template.{Template, One, ◌⨾◌, At, Only, WithBlock}
-use Rattle.rb_code.specs.Forms.{AlternatesCode, BlockCode, BodyCode, CommandCode, ExpressionCode, OthersCode, Owner, RecoveryCode, TellsOf}
-use Rattle.rb_gen.specs.Output.{Output, added, filled_with, linked, patched, settled}
-use Rattle.rb_gen.specs.Emits.{Adds, Emits}
-use Rattle.rb_gen.specs.Given.{AlternatesGiven}
+use Rattle.rb_code.specs.Plain.{Block}
+use Rattle.rb_code.specs.Template.{One}
+use Rattle.rb_code.specs.Forms.{AlternatesCode, BlockCode, BodyCode, CommandCode, ExpressionCode, OthersCode}
+use Rattle.rb_gen.specs.Output.{Output, added, filled_with, patched, settled}
+use Rattle.rb_gen.specs.Emits.{Adds}
 use Rattle.rb_gen.specs.Lookups.{joined_of}
-use Rattle.rb_gen.specs.Writes.{Setting, Writes, WritesAlternates, WritesBody, WritesOthers, WritesRecovery}
+use Rattle.rb_gen.specs.Writes.{WritesAlternates, WritesBody, WritesOthers, WritesRecovery}
 use Rattle.rb_gen.proofs.Emits.{at, both, filled, filled-last, filled-length, listed, only, settled_then, upto}
 
 append_none : {A : Type 0} (xs : List A) → xs ++ [] ≡ xs
@@ -26,19 +24,18 @@ append_none [] = refl
 append_none (x ∷ xs) = ap (λ l. x ∷ l) (append_none xs)
 
 module _ (slots : List Slot) (words : List ℕ) where
-
   -- a recovery block, whose entry is settled behind its code
   pub recovered : {x : RecoveryBlock} (number : ℕ) (conversation : Option Identifier) (place : Place) (test : Expression) (limit : Number) (alternates : Alternates) (entry : Block) {c c1 c2 c3 c4 c5 c6 c7 c8 f : Output} → x ≡ Recovers number conversation place test limit alternates → entry.line ≡ place.line → entry.conversation ≡ joined_of slots conversation → entry.bound ≡ natural limit.value → Adds (One Turn) c c1 → Adds (One (Enter number)) c1 c2 → entry.restart ≡ length c2.instrs → Adds (One Turn) c2 c3 → Adds (One (Start number)) c3 c4 → WritesAlternates slots words alternates entry.alternates entry.test c4 c5 → entry.test ≡ length c5.instrs → Adds (One Turn) c5 c6 → Adds (ExpressionCode slots test) c6 c7 → Adds (One (Test number)) c7 c8 → f ≡ settled c8 number entry → WritesRecovery slots words x c f
   unfolding CommandCode BlockCode AlternatesCode
   recovered number conversation place test limit alternates entry {c = c} {c2 = c2} {c5 = c5} {f = f} is line joined bound turn enter restart turn2 start inside testing turn3 value tests settles =
       subst (λ x. WritesRecovery slots words x c f) (sym is) (λ s n (numbered, conversation_is, given).
-          let p = s.owner.number in
-          let m = n + 1 in
-          let k = (n + 1) + blocks_in_alternates alternates in
-          upto (settled_then entry numbered settles
-          (both (only m c (record { line_is = line; conversation_is = joined ∙ conversation_is; bound_is = bound }))
-          (both (turn p m) (both (enter p m) (both (at m c2 restart) (both (turn2 p m) (both (start p m)
-          (both (inside s m given) (both (at k c5 testing) (both (turn3 p k) (both (value p k) (tests p k)))))))))))) (omega arith))
+      let p = s.owner.number in
+      let m = n + 1 in
+      let k = (n + 1) + blocks_in_alternates alternates in
+      upto (settled_then entry numbered settles
+      (both (only m c (record { line_is = line; conversation_is = joined ∙ conversation_is; bound_is = bound }))
+      (both (turn p m) (both (enter p m) (both (at m c2 restart) (both (turn2 p m) (both (start p m)
+      (both (inside s m given) (both (at k c5 testing) (both (turn3 p k) (both (value p k) (tests p k)))))))))))) (omega arith))
 
   pub no_alternate : (t : ℕ) {a : Alternates} (addresses : List ℕ) (c : Output) → a ≡ NoAlternate → addresses ≡ [] → WritesAlternates slots words a addresses t c c
   unfolding AlternatesCode

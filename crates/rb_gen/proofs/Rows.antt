@@ -1,5 +1,5 @@
 -- The code of expressions and of simple statements, as it is put together.
-use Rattle.std.proofs.Common.{◌≡◌, ℕ, zero, suc, List, [], ◌∷◌, Option, Some, None, refl, sym, ap, ◌∙◌, subst, ℤ}
+use Rattle.std.proofs.Common.{◌≡◌, ℕ, zero, suc, List, Option, refl, sym, ap, ◌∙◌, subst, ℤ}
 use Rattle.std.specs.Prelude.{false, get_or, map}
 use Rattle.std.specs.Option.{unwrap_or}
 use Rattle.std.proofs.lemmas.Option.{slice_get-map, unwrap_or-slice_get}
@@ -13,16 +13,16 @@ use Rattle.rb_syntax.specs.declared.expression.Op.TheVariants as op
 use Rattle.rb_syntax.specs.declared.expression.Number.{Number}
 use Rattle.rb_syntax.specs.declared.expression.Quantifier.{Quantifier}
 use Rattle.rb_syntax.specs.declared.expression.Quantifier.TheVariants.{Every, Any, Total}
-use Rattle.rb_syntax.specs.Tree.{Identifier, Expression, Literal, Variable, Former, Minus, Negation, Chained, Quantification, Reference, Refer, Subscript, Scalar, Element, Links, NoLink, Linked, ProcedureDeclaration}
+use Rattle.rb_syntax.specs.Tree.{Identifier, Expression, Literal, Variable, Former, Minus, Negation, Chained, Quantification, Refer, Subscript, Scalar, Element, Links, NoLink, Linked, ProcedureDeclaration}
 use Rattle.rb_scope.specs.declared.slot.Slot.{Slot}
 use Rattle.rb_code.specs.declared.instr.Instr.{Instr}
 use Rattle.rb_code.specs.declared.instr.Spot.{Spot}
-use Rattle.rb_code.specs.declared.instr.Instr.TheVariants.{Call, Drop, Frame, Item, Put, Room, Turn, Push, Load, Prior, Bound, LoadAt, PriorAt, Store, StoreAt, Neg, Not}
+use Rattle.rb_code.specs.declared.instr.Instr.TheVariants.{Call, Drop, Frame, Item, Put, Room, Turn, Push, Prior, Bound, LoadAt, PriorAt, Store, StoreAt, Neg, Not}
 use Rattle.rb_code.specs.Slots.{counter_of, elements_of, quantified_of, spot_of}
-use Rattle.rb_code.specs.Template.{Template, One, ◌⨾◌, Empty, Quoted}
+use Rattle.rb_code.specs.Template.{Template, One, ◌⨾◌, Quoted}
 use Rattle.rb_code.specs.Forms.{AndCode, Called, OrCode, PrintedCode, procedure_words, DropCode, FrameCode, EveryCode, ExpressionCode, LinksCode, OperatorCode, QuantifiedCode, ScalarCode, SomeCode, StoreCode, SubscriptCode, SumCode}
 use Rattle.rb_gen.specs.Output.{Output, is_text, linked}
-use Rattle.rb_gen.specs.Operators.{operator}
+use Rattle.rb_gen.specs.InMemory.{operator}
 use Rattle.rb_gen.specs.Emits.{Adds, Emits, Placed}
 use Rattle.rb_gen.specs.Writes.{room_of}
 use Rattle.rb_gen.proofs.Emits.{both, empty}
@@ -185,3 +185,7 @@ call_row p n {count = count} {words = words} {k = k} {l = l} {c = c} {d = d} e f
 pub room_there : (procedures : List ProcedureDeclaration) (words : List ℕ) (number k : ℕ) → words ≡ map room_of procedures → number ≡ k → get_or words number 0 ≡ procedure_words procedures k
 room_there procedures words number k sized same =
     ap (λ xs. get_or xs number 0) sized ∙ ap (λ i. get_or (map room_of procedures) i 0) same ∙ sym (unwrap_or-slice_get (map room_of procedures) k 0) ∙ ap (λ o. unwrap_or o 0) (slice_get-map room_of procedures k)
+
+-- a bound that is known otherwise
+pub bound_row : {m n : ℕ} {c d : Output} → m ≡ n → Adds (One (Bound m)) c d → Adds (One (Bound n)) c d
+bound_row {c = c} {d = d} e p = subst (λ (i : ℕ). Adds (One (Bound i)) c d) e p

@@ -1,30 +1,21 @@
 -- The code of statements, as it is put together.
-use Rattle.std.proofs.Common.{◌≡◌, ℕ, ◌+◌, ◌-◌, ◌<◌, ◌≤◌, suc, List, [], ◌∷◌, ◌++◌, drop, take, length, Option, Some, None, refl, sym, ap, ◌∙◌, subst, arith, append_assoc}
-use Rattle.std.specs.Prelude.{false, get_or}
-use Rattle.rb_base.specs.declared.place.Place.{Place}
-use Rattle.rb_syntax.specs.declared.expression.Number.{Number}
-use Rattle.rb_syntax.specs.declared.statement.Block.{Block as Held}
-use Rattle.rb_syntax.specs.Plain.{alternates_of, body}
-use Rattle.rb_syntax.specs.Tree.{Identifier, Expression, Reference, PrintItem, Declaration, Command, Assignment, Printing, Sending, Receiving, Conditional, Loop, Invocation, Failure, Recovering, Commands, NoCommand, Then, Body, Scope, Otherwise, NoElse, Else, RecoveryBlock, Recovers, Alternates, NoAlternate, Alternate, Tree}
-use Rattle.rb_syntax.specs.Numbered.{blocks_in, blocks_in_alternates, blocks_in_body, blocks_in_command, blocks_in_otherwise}
-use Rattle.rb_meaning.specs.Environment.{frame_of, frame_words, natural}
+use Rattle.std.proofs.Common.{◌≡◌, ℕ, ◌+◌, List, length, refl, sym, subst, arith}
+use Rattle.rb_syntax.specs.Tree.{Identifier, Expression, Reference, PrintItem, Declaration, Command, Assignment, Printing, Sending, Receiving, Conditional, Loop, Invocation, Failure, Commands, NoCommand, Then, Body, Scope, NoElse, Else}
+use Rattle.rb_syntax.specs.Numbered.{blocks_in, blocks_in_body, blocks_in_command}
+use Rattle.rb_meaning.specs.Environment.{frame_of, frame_words}
 use Rattle.rb_scope.specs.declared.slot.Slot.{Slot}
-use Rattle.rb_code.specs.declared.instr.Instr.{Instr}
-use Rattle.rb_code.specs.declared.instr.Instr.TheVariants.{Turn, There, Take, Room, Put, Absent, Jump, JumpZero, Print, Fail, Enter, Start, Test}
-use Rattle.rb_code.specs.Plain.{Block, Code}
+use Rattle.rb_code.specs.declared.instr.Instr.TheVariants.{Turn, There, Take, Room, Put, Absent, Jump, JumpZero, Print, Fail}
 use Rattle.rb_code.specs.Slots.{channel_of}
-use Rattle.rb_code.specs.Template.{Template, One, ◌⨾◌, Empty, At, Label, Only, WithBlock}
-use Rattle.rb_code.specs.Forms.{AlternatesCode, BlockCode, BodyCode, BranchesCode, CallCode, CommandCode, CommandsCode, DropCode, ExpressionCode, FrameCode, ItemsCode, OthersCode, Owner, ReceiptCode, RecoveryCode, StoreCode, TellsOf}
-use Rattle.rb_gen.specs.Output.{Output, added, filled_with, linked, patched, settled}
+use Rattle.rb_code.specs.Template.{One, ◌⨾◌, At, Label}
+use Rattle.rb_code.specs.Forms.{BodyCode, BranchesCode, CallCode, CommandCode, CommandsCode, DropCode, ExpressionCode, FrameCode, ItemsCode, ReceiptCode, StoreCode}
+use Rattle.rb_gen.specs.Output.{Output, added, linked, patched}
 use Rattle.rb_gen.specs.Emits.{Adds, Emits}
-use Rattle.rb_gen.specs.Given.{AlternatesGiven}
-use Rattle.rb_gen.specs.Lookups.{joined_of}
-use Rattle.rb_gen.specs.Writes.{Setting, Writes, WritesAlternates, WritesBody, WritesCommand, WritesCommands, WritesElse, WritesRecovery}
-use Rattle.rb_gen.proofs.Emits.{as_if, at, both, empty, filled, filled-last, filled-length, labelled, listed, only, settled_then, upto}
+use Rattle.rb_gen.specs.InMemory.{LeavesTest}
+use Rattle.rb_gen.specs.Writes.{Setting, WritesBody, WritesCommand, WritesCommands, WritesElse}
+use Rattle.rb_gen.proofs.Emits.{as_if, at, both, empty, filled, labelled, upto}
 use Rattle.rb_gen.proofs.Rows.{then_adds}
 
 module _ (slots : List Slot) (words : List ℕ) where
-
   -- a statement that is known to be another
   pub same_command : {t u : Command} {c d : Output} → t ≡ u → WritesCommand slots words u c d → WritesCommand slots words t c d
   same_command {c = c} {d = d} e h = subst (λ x. WritesCommand slots words x c d) (sym e) h
@@ -61,35 +52,31 @@ module _ (slots : List Slot) (words : List ℕ) where
   unfolding CommandCode ReceiptCode BodyCode
   received_else {channel = channel} {to = to} {other = other} {number = number} {absent = absent} {none = none} {c = c} {h = h} is same p left q r end =
       same_command is (λ s n given.
-          let all : Emits (linked s.owner.number) n (n + blocks_in_body other) (Label (λ gone. Label (λ end. One Turn ⨾ One (Absent number gone) ⨾ StoreCode slots to (One (Take number)) ⨾ One (Jump end) ⨾ At gone ⨾ BodyCode s.tree slots s.owner other ⨾ At end))) c h =
-          as_if (λ w a b (m, turn, (k, jump, (l, taken, (end, rest)))). (none, (end, (m, turn, (k, jump, (l, taken, rest))))))
-          (both (p s.owner.number n) (filled (Absent number none) refl left end (both (q s.owner.number n) (r s n given)))) in
-          subst (λ (k : ℕ). Emits (linked s.owner.number) n (n + blocks_in_body other) (Label (λ gone. Label (λ end. One Turn ⨾ One (Absent k gone) ⨾ StoreCode slots to (One (Take k)) ⨾ One (Jump end) ⨾ At gone ⨾ BodyCode s.tree slots s.owner other ⨾ At end))) c h) same all)
+      let all : Emits (linked s.owner.number) n (n + blocks_in_body other) (Label (λ gone. Label (λ end. One Turn ⨾ One (Absent number gone) ⨾ StoreCode slots to (One (Take number)) ⨾ One (Jump end) ⨾ At gone ⨾ BodyCode s.tree slots s.owner other ⨾ At end))) c h =
+      as_if (λ w a b (m, turn, (k, jump, (l, taken, (end, rest)))). (none, (end, (m, turn, (k, jump, (l, taken, rest))))))
+      (both (p s.owner.number n) (filled (Absent number none) refl left end (both (q s.owner.number n) (r s n given)))) in
+      subst (λ (k : ℕ). Emits (linked s.owner.number) n (n + blocks_in_body other) (Label (λ gone. Label (λ end. One Turn ⨾ One (Absent k gone) ⨾ StoreCode slots to (One (Take k)) ⨾ One (Jump end) ⨾ At gone ⨾ BodyCode s.tree slots s.owner other ⨾ At end))) c h) same all)
 
-  -- what a test leaves: the turn and the test, and a place for what goes by it
-  abbrev pub Tested : Expression → ℕ → Output → Output → Type 0
-  Tested test place c d = (o : Output) × Adds (One Turn ⨾ ExpressionCode slots test) c o × ((place ≡ length o.instrs) × (d ≡ added (Jump 0) o))
-
-  pub conditional : {t : Command} {test : Expression} {then : Body} {over end : ℕ} {c d e f : Output} → t ≡ Conditional test then NoElse → Tested test over c d → WritesBody slots words then d e → end ≡ length e.instrs → f ≡ patched e over (JumpZero end) → WritesCommand slots words t c f
+  pub conditional : {t : Command} {test : Expression} {then : Body} {over end : ℕ} {c d e f : Output} → t ≡ Conditional test then NoElse → LeavesTest slots test over c d → WritesBody slots words then d e → end ≡ length e.instrs → f ≡ patched e over (JumpZero end) → WritesCommand slots words t c f
   unfolding CommandCode BranchesCode BodyCode
   conditional {then = then} {end = end} {e = e} is (o, tested, left) p here patches =
       same_command is (λ s n (given, unit).
-          upto (labelled end (as_if (λ w a b (m, (k, turn, value), rest). (k, turn, (m, value, rest)))
-          (both (tested s.owner.number n) (filled (JumpZero end) refl left patches (both (p s n given) (at (n + blocks_in_body then) e here)))))) (omega arith))
+      upto (labelled end (as_if (λ w a b (m, (k, turn, value), rest). (k, turn, (m, value, rest)))
+      (both (tested s.owner.number n) (filled (JumpZero end) refl left patches (both (p s n given) (at (n + blocks_in_body then) e here)))))) (omega arith))
 
-  pub conditional_else : {t : Command} {test : Expression} {then other : Body} {over gone : ℕ} {c d e f g : Output} → t ≡ Conditional test then (Else other) → Tested test over c d → WritesBody slots words then d e → WritesElse slots words gone other e f → g ≡ patched f over (JumpZero gone) → WritesCommand slots words t c g
+  pub conditional_else : {t : Command} {test : Expression} {then other : Body} {over gone : ℕ} {c d e f g : Output} → t ≡ Conditional test then (Else other) → LeavesTest slots test over c d → WritesBody slots words then d e → WritesElse slots words gone other e f → g ≡ patched f over (JumpZero gone) → WritesCommand slots words t c g
   unfolding CommandCode BranchesCode BodyCode
   conditional_else {then = then} {other = other} {gone = gone} is (o, tested, left) p q patches =
       same_command is (λ s n (given, more).
-          upto (as_if (λ w a b (m, (k, turn, value), (l, jump, (i, first, (end, rest)))). (gone, (end, (k, turn, (m, value, (l, jump, (i, first, rest)))))))
-          (both (tested s.owner.number n) (filled (JumpZero gone) refl left patches (both (p s n given) (q s (n + blocks_in_body then) more))))) (omega arith))
+      upto (as_if (λ w a b (m, (k, turn, value), (l, jump, (i, first, (end, rest)))). (gone, (end, (k, turn, (m, value, (l, jump, (i, first, rest)))))))
+      (both (tested s.owner.number n) (filled (JumpZero gone) refl left patches (both (p s n given) (q s (n + blocks_in_body then) more))))) (omega arith))
 
-  pub looped : {t : Command} {test : Expression} {over_again : Body} {loop over end : ℕ} {c d e f g : Output} → t ≡ Loop test over_again → loop ≡ length c.instrs → Tested test over c d → WritesBody slots words over_again d e → Adds (One (Jump loop)) e f → end ≡ length f.instrs → g ≡ patched f over (JumpZero end) → WritesCommand slots words t c g
+  pub looped : {t : Command} {test : Expression} {over_again : Body} {loop over end : ℕ} {c d e f g : Output} → t ≡ Loop test over_again → loop ≡ length c.instrs → LeavesTest slots test over c d → WritesBody slots words over_again d e → Adds (One (Jump loop)) e f → end ≡ length f.instrs → g ≡ patched f over (JumpZero end) → WritesCommand slots words t c g
   unfolding CommandCode BodyCode
   looped {over_again = x} {loop = loop} {end = end} {c = c} {f = f} is first (o, tested, left) p q here patches =
       same_command is (λ s n given.
-          labelled loop (labelled end (both (at n c first) (as_if (λ w a b (m, (k, turn, value), rest). (k, turn, (m, value, rest)))
-          (both (tested s.owner.number n) (filled (JumpZero end) refl left patches (both (p s n given) (both (q s.owner.number (n + blocks_in_body x)) (at (n + blocks_in_body x) f here)))))))))
+      labelled loop (labelled end (both (at n c first) (as_if (λ w a b (m, (k, turn, value), rest). (k, turn, (m, value, rest)))
+      (both (tested s.owner.number n) (filled (JumpZero end) refl left patches (both (p s n given) (both (q s.owner.number (n + blocks_in_body x)) (at (n + blocks_in_body x) f here)))))))))
 
   pub no_command : {l : Commands} (c : Output) → l ≡ NoCommand → WritesCommands slots words l c c
   unfolding CommandsCode

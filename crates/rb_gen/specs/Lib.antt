@@ -1,7 +1,7 @@
 pub mod Output
 pub mod Emits
 pub mod Lookups
-pub mod Operators
+pub mod InMemory
 pub mod Given
 pub mod Writes
 pub mod Channels

@@ -1,6 +1,6 @@
 -- What the code of each form with recovery blocks adds to the draft, for whatever process has procedures with so many words.
 use Rattle.std.specs.Prelude.{◌≡◌, ℕ, ◌+◌, ◌<◌, ◌≤◌, List, [], ◌∷◌, length, map, option_map, slice_get, Some}
-use Rattle.rb_syntax.specs.Tree.{Alternates, Body, Command, Commands, ProcedureDeclaration, ProcessDeclaration, RecoveryBlock, Recovering, Tree}
+use Rattle.rb_syntax.specs.Tree.{Alternates, Body, Command, Commands, Expression, Identifier, ProcedureDeclaration, ProcessDeclaration, RecoveryBlock, Recovering, Tree}
 use Rattle.rb_syntax.specs.Numbered.{blocks_in, blocks_in_alternates, blocks_in_body, blocks_in_command, blocks_in_procedures, blocks_in_process, blocks_in_processes}
 use Rattle.rb_meaning.specs.Environment.{frame_of, frame_words}
 use Rattle.rb_meaning.specs.Groups.{channels_of}
@@ -11,7 +11,7 @@ use Rattle.rb_code.specs.Memory.{part_of}
 use Rattle.rb_code.specs.Plain.{Code, Part, Procedure}
 use Rattle.rb_code.specs.StandsFor.{ProcessesCode, text_numbers}
 use Rattle.rb_code.specs.Template.{Template, One, ◌⨾◌, At, Label}
-use Rattle.rb_code.specs.Forms.{AlternatesCode, BodyCode, CommandCode, CommandsCode, OthersCode, Owner, ProceduresCode}
+use Rattle.rb_code.specs.Forms.{AlternatesCode, BodyCode, CallCode, CommandCode, CommandsCode, OthersCode, Owner, ProceduresCode}
 use Rattle.rb_code.specs.declared.instr.Instr.TheVariants.{Done, Jump}
 use Rattle.rb_gen.specs.Output.{Output, as_it_is, linked, linked_to}
 use Rattle.rb_gen.specs.Emits.{Emits}
@@ -26,6 +26,11 @@ pub record Setting (words : List ℕ) : Type 0 where
   pub tree : Tree
   pub owner : Owner
   pub sized : words ≡ map room_of owner.procedures
+
+-- a call, which has no recovery block
+abbrev pub WritesCall : List Slot → List ℕ → Identifier → List Expression → Output → Output → Type 0
+WritesCall slots words name arguments old new =
+    (s : Setting words) (n : ℕ) → Emits (linked s.owner.number) n n (CallCode slots s.owner name arguments) old new
 
 -- Code of a form whose recovery blocks, so many, are numbered from any number on.
 abbrev pub Writes : List ℕ → (Tree → ℕ → Type 0) → ℕ → (Tree → Owner → Template) → Output → Output → Type 0

@@ -54,7 +54,11 @@ pub(crate) fn channels_of(
     let mut number: u32 = 0;
     let mut rest = channels;
     'channels: while let [channel, after @ ..] = rest {
-        push_if(&mut numbers, channel.sender == process || channel.receiver == process, number)?;
+        push_if(
+            &mut numbers,
+            channel.sender == process || channel.receiver == process,
+            number,
+        )?;
         number = number.checked_add(1).ok_or(Memory)?;
         rest = after;
     }

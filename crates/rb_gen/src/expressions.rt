@@ -1,13 +1,13 @@
 //! The code of expressions.
 
-ghost use Rattle.std.specs.Prelude.{◌≡◌, OnOk};
-ghost use Rattle.rb_syntax.specs.Plain.{expression as plain, links_of, subscript};
-ghost use Rattle.rb_code.specs.Slots.{counter_of, elements_of, quantified_of, spot_of};
+ghost use Rattle.std.specs.Prelude.{◌≡◌, IfOk, OnOk};
+ghost use Rattle.rb_syntax.specs.Plain.{expression as plain, links_of};
+ghost use Rattle.rb_code.specs.Slots.{elements_of};
 ghost use Rattle.rb_code.specs.Template.{One};
-ghost use Rattle.rb_code.specs.Forms.{AndCode, EveryCode, ExpressionCode, LinksCode, OperatorCode, OrCode, QuantifiedCode, ScalarCode, SomeCode, SubscriptCode, SumCode};
+ghost use Rattle.rb_code.specs.Forms.{AndCode, EveryCode, ExpressionCode, LinksCode, OperatorCode, OrCode, QuantifiedCode, ScalarCode, SomeCode, SumCode};
 ghost use Rattle.rb_gen.specs.Output.{output};
 ghost use Rattle.rb_gen.specs.Emits.{Adds};
-ghost use Rattle.rb_gen.specs.Operators.{operator};
+ghost use Rattle.rb_gen.specs.InMemory.{LeavesTest, PriorCode, ValueCode, operator, over};
 
 use crate::draft::{Draft, here, leave, patch, put};
 use crate::lookups::{counter_of, elements_of, quantified_of, spot_of};
@@ -63,7 +63,7 @@ pub(crate) fn emit_expression(
 /// The code of a variable, an element or a counter.
 #[cycle(expression)]
 fn emit_value(draft: &mut Draft, slots: &[Slot], target: &Target<'_>) -> Result<(), Memory>
-    ensures { let spot = spot_of slots.now target.now.name.id in OnOk result (Adds (SubscriptCode slots.now (ScalarCode (counter_of slots.now target.now.name.id) spot) (One (Instr.LoadAt spot)) (elements_of slots.now target.now.name.id) (subscript target.now.index)) (output draft.old) (output draft.new)) }
+    ensures { OnOk result (Adds (ValueCode slots.now target.now) (output draft.old) (output draft.new)) }
 {
     let spot = spot_of(slots, target.name.id);
     match &target.index {
@@ -73,7 +73,7 @@ fn emit_value(draft: &mut Draft, slots: &[Slot], target: &Target<'_>) -> Result<
         }
         Some(index) => {
             emit_expression(draft, slots, index)?;
-            put(draft, Instr::Bound(elements_of(slots, target.name.id)))?;
+            put_bound(draft, slots, target.name.id)?;
             put(draft, Instr::LoadAt(spot))?;
             Ok(())
         }
@@ -83,7 +83,7 @@ fn emit_value(draft: &mut Draft, slots: &[Slot], target: &Target<'_>) -> Result<
 /// The code of a variable or an element as it was before the recovery block.
 #[cycle(expression)]
 fn emit_prior(draft: &mut Draft, slots: &[Slot], target: &Target<'_>) -> Result<(), Memory>
-    ensures { let spot = spot_of slots.now target.now.name.id in OnOk result (Adds (SubscriptCode slots.now (One (Instr.Prior spot)) (One (Instr.PriorAt spot)) (elements_of slots.now target.now.name.id) (subscript target.now.index)) (output draft.old) (output draft.new)) }
+    ensures { OnOk result (Adds (PriorCode slots.now target.now) (output draft.old) (output draft.new)) }
 {
     let spot = spot_of(slots, target.name.id);
     match &target.index {
@@ -93,11 +93,19 @@ fn emit_prior(draft: &mut Draft, slots: &[Slot], target: &Target<'_>) -> Result<
         }
         Some(index) => {
             emit_expression(draft, slots, index)?;
-            put(draft, Instr::Bound(elements_of(slots, target.name.id)))?;
+            put_bound(draft, slots, target.name.id)?;
             put(draft, Instr::PriorAt(spot))?;
             Ok(())
         }
     }
+}
+
+/// The test that an index lies within an array.
+pub(crate) fn put_bound(draft: &mut Draft, slots: &[Slot], id: u32) -> Result<(), Memory>
+    ensures { OnOk result (Adds (One (Instr.Bound (elements_of slots.now id))) (output draft.old) (output draft.new)) }
+{
+    put(draft, Instr::Bound(elements_of(slots, id)))?;
+    Ok(())
 }
 
 /// The value of a scalar, or the counter.
@@ -207,7 +215,7 @@ fn emit_quantified(
     slots: &[Slot],
     quantified: &Quantified<'_>,
 ) -> Result<(), Memory>
-    ensures { OnOk result (Adds (QuantifiedCode quantified.now.kind (quantified_of slots.now quantified.now.name.id) (ExpressionCode slots.now (plain quantified.now.low.value)) (ExpressionCode slots.now (plain quantified.now.high.value)) (ExpressionCode slots.now (plain quantified.now.body.value))) (output draft.old) (output draft.new)) }
+    ensures { OnOk result (Adds (over (QuantifiedCode quantified.now.kind) slots.now quantified.now) (output draft.old) (output draft.new)) }
 {
     match quantified.kind {
         Quantifier::Every => {
@@ -226,12 +234,8 @@ fn emit_quantified(
 }
 
 #[cycle(expression)]
-fn emit_every(
-    draft: &mut Draft,
-    slots: &[Slot],
-    quantified: &Quantified<'_>,
-) -> Result<(), Memory>
-    ensures { OnOk result (Adds (EveryCode (quantified_of slots.now quantified.now.name.id) (ExpressionCode slots.now (plain quantified.now.low.value)) (ExpressionCode slots.now (plain quantified.now.high.value)) (ExpressionCode slots.now (plain quantified.now.body.value))) (output draft.old) (output draft.new)) }
+fn emit_every(draft: &mut Draft, slots: &[Slot], quantified: &Quantified<'_>) -> Result<(), Memory>
+    ensures { OnOk result (Adds (over EveryCode slots.now quantified.now) (output draft.old) (output draft.new)) }
 {
     let counter = quantified_of(slots, quantified.name.id);
     emit_expression(draft, slots, &quantified.low)?;
@@ -254,12 +258,8 @@ fn emit_every(
 }
 
 #[cycle(expression)]
-fn emit_some(
-    draft: &mut Draft,
-    slots: &[Slot],
-    quantified: &Quantified<'_>,
-) -> Result<(), Memory>
-    ensures { OnOk result (Adds (SomeCode (quantified_of slots.now quantified.now.name.id) (ExpressionCode slots.now (plain quantified.now.low.value)) (ExpressionCode slots.now (plain quantified.now.high.value)) (ExpressionCode slots.now (plain quantified.now.body.value))) (output draft.old) (output draft.new)) }
+fn emit_some(draft: &mut Draft, slots: &[Slot], quantified: &Quantified<'_>) -> Result<(), Memory>
+    ensures { OnOk result (Adds (over SomeCode slots.now quantified.now) (output draft.old) (output draft.new)) }
 {
     let counter = quantified_of(slots, quantified.name.id);
     emit_expression(draft, slots, &quantified.low)?;
@@ -283,7 +283,7 @@ fn emit_some(
 
 #[cycle(expression)]
 fn emit_sum(draft: &mut Draft, slots: &[Slot], quantified: &Quantified<'_>) -> Result<(), Memory>
-    ensures { OnOk result (Adds (SumCode (quantified_of slots.now quantified.now.name.id) (ExpressionCode slots.now (plain quantified.now.low.value)) (ExpressionCode slots.now (plain quantified.now.high.value)) (ExpressionCode slots.now (plain quantified.now.body.value))) (output draft.old) (output draft.new)) }
+    ensures { OnOk result (Adds (over SumCode slots.now quantified.now) (output draft.old) (output draft.new)) }
 {
     let counter = quantified_of(slots, quantified.name.id);
     put(draft, Instr::Push(0))?;
@@ -297,4 +297,18 @@ fn emit_sum(draft: &mut Draft, slots: &[Slot], quantified: &Quantified<'_>) -> R
     let end = here(draft)?;
     patch(draft, range, Instr::Range(counter, end));
     Ok(())
+}
+
+/// The turn and the test of an `if` or a `while`, and a place for what goes by it.
+pub(crate) fn emit_test(
+    draft: &mut Draft,
+    slots: &[Slot],
+    test: &Expr<'_>,
+) -> Result<usize, Memory>
+    ensures { IfOk result (λ place. LeavesTest slots.now (plain test.now) place (output draft.old) (output draft.new)) }
+{
+    put(draft, Instr::Turn)?;
+    emit_expression(draft, slots, test)?;
+    let place = leave(draft)?;
+    Ok(place)
 }

@@ -1,7 +1,7 @@
 //! The code of processes and their procedures.
 
 ghost use Rattle.std.specs.Prelude.{◌≡◌, map, IfOk};
-ghost use Rattle.rb_syntax.specs.Plain.{procedure_declaration, process_declaration};
+ghost use Rattle.rb_syntax.specs.Plain.{procedure_declaration, process_declaration as declared};
 ghost use Rattle.rb_code.specs.Plain.{channel as plain_channel, part as plain_part, procedure as plain_procedure};
 ghost use Rattle.rb_gen.specs.Output.{output};
 ghost use Rattle.rb_gen.specs.Writes.{WritesProcedures, WritesProcess, WritesProcesses, room_of};
@@ -60,7 +60,7 @@ fn emit_process(
     slots: &[Slot],
     process: &Process<'_>,
 ) -> Result<Vec<ProcedureCode>, Memory>
-    ensures { IfOk result (λ entries. WritesProcess slots.now (process_declaration process.now) (map plain_procedure entries.items) (output draft.old) (output draft.new)) }
+    ensures { IfOk result (λ entries. WritesProcess slots.now (declared process.now) (map plain_procedure entries.items) (output draft.old) (output draft.new)) }
 {
     let words = rooms(alloc, &process.procedures)?;
     let from = draft.instrs.len();
@@ -79,7 +79,7 @@ pub(crate) fn emit_processes(
     channels: &[ChannelCode],
     processes: &[Process<'_>],
 ) -> Result<Vec<ProcessCode>, Memory>
-    ensures { IfOk result (λ parts. WritesProcesses slots.now (map plain_channel channels.now) 0 (map process_declaration processes.now) (map plain_part parts.items) (output draft.old) (output draft.new)) }
+    ensures { IfOk result (λ parts. WritesProcesses slots.now (map plain_channel channels.now) 0 (map declared processes.now) (map plain_part parts.items) (output draft.old) (output draft.new)) }
 {
     let mut parts = Vec::with_capacity(alloc, processes.len())?;
     let mut number: u32 = 0;

@@ -1,17 +1,18 @@
 //! The code of statements that have no statements inside.
 
-ghost use Rattle.std.specs.Prelude.{◌≡◌, ℕ, map, get_or, OnOk};
+ghost use Rattle.std.specs.Prelude.{◌≡◌, map, get_or, OnOk};
 ghost use Rattle.rb_syntax.specs.Plain.{expression as plain, identifier, print_item, printed, reference};
 ghost use Rattle.rb_code.specs.Template.{One, ◌⨾◌};
 ghost use Rattle.rb_code.specs.Slots.{channel_of};
-ghost use Rattle.rb_code.specs.Forms.{ArgumentsCode, CallCode, ExpressionCode, ItemsCode, PrintedCode, StoreCode};
-ghost use Rattle.rb_gen.specs.Output.{linked, output};
-ghost use Rattle.rb_gen.specs.Emits.{Adds, Emits};
-ghost use Rattle.rb_gen.specs.Writes.{Setting};
+ghost use Rattle.rb_code.specs.Forms.{ArgumentsCode, ExpressionCode, ItemsCode, PrintedCode, StoreCode};
+ghost use Rattle.rb_gen.specs.Output.{output};
+ghost use Rattle.rb_gen.specs.Emits.{Adds};
+ghost use Rattle.rb_gen.specs.InMemory.{SendCode};
+ghost use Rattle.rb_gen.specs.Writes.{WritesCall};
 
 use crate::draft::{Draft, narrow, put, put_text};
-use crate::expressions::emit_expression;
-use crate::lookups::{channel_of, elements_of, procedure_of, spot_of};
+use crate::expressions::{emit_expression, put_bound};
+use crate::lookups::{channel_of, procedure_of, spot_of};
 use rb_base::Memory;
 use rb_code::Instr;
 use rb_scope::Slot;
@@ -37,7 +38,7 @@ pub(crate) fn emit_assignment(
         }
         Some(index) => {
             emit_expression(draft, slots, index)?;
-            put(draft, Instr::Bound(elements_of(slots, target.name.id)))?;
+            put_bound(draft, slots, target.name.id)?;
             emit_expression(draft, slots, value)?;
             put(draft, Instr::StoreAt(spot))?;
             Ok(())
@@ -63,7 +64,7 @@ pub(crate) fn emit_taking(
         }
         Some(index) => {
             emit_expression(draft, slots, index)?;
-            put(draft, Instr::Bound(elements_of(slots, target.name.id)))?;
+            put_bound(draft, slots, target.name.id)?;
             put(draft, Instr::Take(channel))?;
             put(draft, Instr::StoreAt(spot))?;
             Ok(())
@@ -78,7 +79,7 @@ pub(crate) fn emit_sending(
     channel: &Name<'_>,
     value: &Expr<'_>,
 ) -> Result<(), Memory>
-    ensures { let number = channel_of slots.now channel.now.id in OnOk result (Adds (One Instr.Turn ⨾ One (Instr.Room number) ⨾ ExpressionCode slots.now (plain value.now) ⨾ One (Instr.Put number)) (output draft.old) (output draft.new)) }
+    ensures { OnOk result (Adds (SendCode (channel_of slots.now channel.now.id) (ExpressionCode slots.now (plain value.now))) (output draft.old) (output draft.new)) }
 {
     let number = channel_of(slots, channel.id);
     put(draft, Instr::Turn)?;
@@ -140,11 +141,7 @@ pub(crate) fn emit_printing(
     Ok(())
 }
 
-fn emit_arguments(
-    draft: &mut Draft,
-    slots: &[Slot],
-    arguments: &[Expr<'_>],
-) -> Result<(), Memory>
+fn emit_arguments(draft: &mut Draft, slots: &[Slot], arguments: &[Expr<'_>]) -> Result<(), Memory>
     ensures { OnOk result (Adds (ArgumentsCode slots.now (map plain arguments.now)) (output draft.old) (output draft.new)) }
 {
     let mut rest = arguments;
@@ -173,15 +170,12 @@ pub(crate) fn emit_call(
     procedure: &Name<'_>,
     arguments: &[Expr<'_>],
 ) -> Result<(), Memory>
-    ensures { OnOk result ((s : Setting words.now) (n : ℕ) → Emits (linked s.owner.number) n n (CallCode slots.now s.owner (identifier procedure.now) (map plain arguments.now)) (output draft.old) (output draft.new)) }
+    ensures { OnOk result (WritesCall slots.now words.now (identifier procedure.now) (map plain arguments.now) (output draft.old) (output draft.new)) }
 {
     let number = procedure_of(slots, procedure.id);
     let count = narrow(arguments.len())?;
     put(draft, Instr::Turn)?;
     emit_arguments(draft, slots, arguments)?;
-    put(
-        draft,
-        Instr::Call(number, count, room_at(words, number)),
-    )?;
+    put(draft, Instr::Call(number, count, room_at(words, number)))?;
     Ok(())
 }

@@ -1,22 +1,19 @@
 //! The code of statements with statements inside.
 
 ghost use Rattle.std.specs.Prelude.{◌≡◌, ℕ, length, IfOk, OnOk};
-ghost use Rattle.rb_syntax.specs.Plain.{alternates_of, body, command, commands_of, expression as plain, recovery_block};
-ghost use Rattle.rb_code.specs.Template.{One, ◌⨾◌};
-ghost use Rattle.rb_code.specs.Forms.{ExpressionCode};
-ghost use Rattle.rb_gen.specs.Output.{Output, added, output};
-ghost use Rattle.rb_gen.specs.Emits.{Adds};
+ghost use Rattle.rb_syntax.specs.Plain.{alternates_of, body, command, commands_of, recovery_block};
+ghost use Rattle.rb_gen.specs.Output.{output};
 ghost use Rattle.rb_gen.specs.Writes.{WritesAlternates, WritesBody, WritesCommand, WritesCommands, WritesElse, WritesRecovery};
 
 use crate::draft::{Draft, fill, here, leave, patch, put, settle};
-use crate::expressions::emit_expression;
+use crate::expressions::{emit_expression, emit_test};
 use crate::frames::{natural, put_drop, put_frame, words_of};
 use crate::lookups::{channel_of, joined_of};
 use crate::simple::{emit_assignment, emit_call, emit_printing, emit_sending, emit_taking};
 use rb_base::Memory;
 use rb_code::{BlockCode, Instr};
 use rb_scope::Slot;
-use rb_syntax::{Block, Expr, Recovery, Statement};
+use rb_syntax::{Block, Recovery, Statement};
 use std::alloc::Global;
 
 /// The code of a statement.
@@ -100,16 +97,6 @@ pub(crate) fn emit_statement(
             Ok(())
         }
     }
-}
-
-/// The turn and the test of an `if` or a `while`, and a place for what goes by it.
-fn emit_test(draft: &mut Draft, slots: &[Slot], test: &Expr<'_>) -> Result<usize, Memory>
-    ensures { IfOk result (λ place. (o : Output) × Adds (One Instr.Turn ⨾ ExpressionCode slots.now (plain test.now)) (output draft.old) o × ((place ≡ length o.instrs) × (output draft.new ≡ added (Instr.Jump 0) o))) }
-{
-    put(draft, Instr::Turn)?;
-    emit_expression(draft, slots, test)?;
-    let place = leave(draft)?;
-    Ok(place)
 }
 
 /// The code of an `else` behind what it is the other to, and its address.

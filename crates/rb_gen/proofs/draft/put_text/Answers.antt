@@ -1,4 +1,4 @@
-use Rattle.std.proofs.Common.{◌≡◌, ap, ◌∙◌, ◌∷◌, ◌++◌, [], List, ℕ, refl}
+use Rattle.std.proofs.Common.{ap, ◌∙◌, ◌∷◌, ◌++◌, [], List, ℕ, refl}
 use Rattle.rb_gen.specs.Output.{output}
 use Rattle.rb_gen.proofs.Emits.{quoted}
 use Rattle.rb_gen.proofs.draft.put_text.Goals as goal

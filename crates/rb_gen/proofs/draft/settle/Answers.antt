@@ -1,7 +1,7 @@
 use Rattle.std.proofs.Common.{ap, List}
 use Rattle.std.proofs.lemmas.List.{map-set}
 use Rattle.rb_code.specs.Plain.{Block, block}
-use Rattle.rb_gen.specs.Output.{output, Output}
+use Rattle.rb_gen.specs.Output.{Output}
 use Rattle.rb_gen.proofs.draft.settle.Goals as goal
 
 pub returns-then-at-len : goal.returns-then-at-len

@@ -1,12 +1,11 @@
-use Rattle.std.proofs.Common.{rules, ◌≡◌, refl, ap, ◌∙◌, sym, arith, subst, ℕ, ◌+◌, drop, w64}
+use Rattle.std.proofs.Common.{rules, ◌≡◌, refl, ap, sym, arith, ◌+◌, drop, w64}
 use Rattle.std.proofs.lemmas.Grind.{common_steps}
 use Rattle.std.proofs.lemmas.Int.{to_z-of_z}
 use Rattle.rb_syntax.specs.Plain.{expression as plain, identifier, links_of, subscript}
-use Rattle.rb_syntax.specs.Tree.{NoLink, Minus, Negation, Chained, Quantification, Element, Linked, Literal, Variable, Former, Refer, Scalar}
+use Rattle.rb_syntax.specs.Tree.{NoLink, Minus, Negation, Chained, Quantification, Element, Linked, Literal, Variable, Former, Refer}
 use Rattle.rb_syntax.proofs.Bridge.{trees}
-use Rattle.rb_code.specs.declared.instr.Instr.TheVariants.{Jump, JumpZero, Range, Prior, LoadAt, PriorAt}
+use Rattle.rb_code.specs.declared.instr.Instr.TheVariants.{Jump, JumpZero, Prior, LoadAt, PriorAt}
 use Rattle.rb_code.specs.Template.{One}
-use Rattle.rb_gen.specs.Output.{output}
 use Rattle.rb_gen.proofs.Emits.{labelled, filled, both, at}
 use Rattle.rb_gen.proofs.QuantifiedRows.{every_row, some_row, sum_row}
 use Rattle.rb_gen.proofs.Rows.{same_expression, literal, value, former, minus, negation, chained, quantification, scalar, counted, element, no_link, of_every, of_some, of_sum, one_link, op_and, op_or, simple}
@@ -52,19 +51,19 @@ pub emit_value-returns-in_ok-put_scalar-in-None : goal.emit_value-returns-in_ok-
 emit_value-returns-in_ok-put_scalar-in-None t c =
     counted c.args.slots.now _ _ _ (ap subscript c.in-None.is) c.counter_of.ensures c.spot_of-spot.ensures c.in_ok-put_scalar-in-None.ensures
 
-pub emit_value-returns-in_ok-put-in-Some-2 : goal.emit_value-returns-in_ok-put-in-Some-2
-emit_value-returns-in_ok-put-in-Some-2 t c =
+pub emit_value-returns-in_ok-put-in-Some : goal.emit_value-returns-in_ok-put-in-Some
+emit_value-returns-in_ok-put-in-Some t c =
     let is : subscript c.args.target.now.index ≡ Element (plain c.deref.result.now) = grind arith in
-    element c.args.slots.now _ (λ v. One (LoadAt v)) _ is c.elements_of.ensures c.spot_of-spot.ensures c.in_ok-emit_expression-in-Some.ensures (c.in_ok-put-in-Some.ensures refl) (c.in_ok-put-in-Some-2.ensures refl)
+    element c.args.slots.now _ (λ v. One (LoadAt v)) _ is refl c.spot_of-spot.ensures c.in_ok-emit_expression-in-Some.ensures c.in_ok-put_bound-in-Some.ensures (c.in_ok-put-in-Some.ensures refl)
 
 pub emit_prior-returns-in_ok-put-in-None : goal.emit_prior-returns-in_ok-put-in-None
 emit_prior-returns-in_ok-put-in-None t c =
     scalar c.args.slots.now (λ v. One (Prior v)) _ _ _ (ap subscript c.in-None.is) c.spot_of-spot.ensures (c.in_ok-put-in-None.ensures refl)
 
-pub emit_prior-returns-in_ok-put-in-Some-2 : goal.emit_prior-returns-in_ok-put-in-Some-2
-emit_prior-returns-in_ok-put-in-Some-2 t c =
+pub emit_prior-returns-in_ok-put-in-Some : goal.emit_prior-returns-in_ok-put-in-Some
+emit_prior-returns-in_ok-put-in-Some t c =
     let is : subscript c.args.target.now.index ≡ Element (plain c.deref.result.now) = grind arith in
-    element c.args.slots.now _ (λ v. One (PriorAt v)) _ is c.elements_of.ensures c.spot_of-spot.ensures c.in_ok-emit_expression-in-Some.ensures (c.in_ok-put-in-Some.ensures refl) (c.in_ok-put-in-Some-2.ensures refl)
+    element c.args.slots.now _ (λ v. One (PriorAt v)) _ is refl c.spot_of-spot.ensures c.in_ok-emit_expression-in-Some.ensures c.in_ok-put_bound-in-Some.ensures (c.in_ok-put-in-Some.ensures refl)
 
 pub emit_links-returns : goal.emit_links-returns
 emit_links-returns t c =

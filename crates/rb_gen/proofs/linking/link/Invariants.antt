@@ -1,4 +1,4 @@
-use Rattle.std.proofs.Common.{◌≡◌, ℕ, ◌<◌, ◌≤◌, length, map}
+use Rattle.std.proofs.Common.{map}
 use Rattle.rb_code.specs.Plain.{procedure}
 use Rattle.rb_gen.specs.Output.{output}
 use Rattle.rb_gen.proofs.LinkSteps.{IsLinkedTo}

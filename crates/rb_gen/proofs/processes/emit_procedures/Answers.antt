@@ -1,4 +1,4 @@
-use Rattle.std.proofs.Common.{◌≡◌, List, [], ◌∷◌, ◌++◌, ap, sym, ◌∙◌, subst, map, refl, ℕ}
+use Rattle.std.proofs.Common.{List, [], ◌∷◌, ◌++◌, ap, sym, ◌∙◌, subst, map, refl, ℕ}
 use Rattle.std.proofs.lemmas.List.{map-append}
 use Rattle.rb_syntax.specs.Plain.{procedure_declaration}
 use Rattle.rb_code.specs.declared.code.ProcedureCode.{ProcedureCode}

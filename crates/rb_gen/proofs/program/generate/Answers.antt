@@ -1,4 +1,4 @@
-use Rattle.std.proofs.Common.{◌≡◌, List, ap, ◌∙◌, subst, map, length, refl, [], ◌∷◌}
+use Rattle.std.proofs.Common.{List, ap, ◌∙◌, subst, map, refl}
 use Rattle.std.proofs.lemmas.List.{length-map}
 use Rattle.rb_syntax.specs.declared.program.Channel.{Channel}
 use Rattle.rb_syntax.specs.declared.program.Process.{Process}

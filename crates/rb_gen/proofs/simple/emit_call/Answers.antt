@@ -1,4 +1,4 @@
-use Rattle.std.proofs.Common.{◌≡◌, ap, ◌∙◌, sym, length, map, refl}
+use Rattle.std.proofs.Common.{◌≡◌, ◌∙◌, sym, length, map, refl}
 use Rattle.std.proofs.lemmas.List.{length-map}
 use Rattle.rb_syntax.specs.Plain.{expression}
 use Rattle.rb_gen.proofs.Emits.{both}

@@ -1,7 +1,7 @@
 use Rattle.std.proofs.Common.{◌≡◌, ℕ, ◌+◌, ◌-◌, ◌++◌, length, take, option_map, drop, List, [], ◌∷◌, ap, ◌∙◌, sym, subst, arith, map, refl}
 use Rattle.std.proofs.lemmas.Grind.{common_steps}
 use Rattle.rb_syntax.specs.Plain.{identifier, expression as plain, command, commands_of, body, otherwise, alternates_of, reference, recovery_block, print_item, declaration}
-use Rattle.rb_syntax.specs.Tree.{Assignment, Printing, Sending, Receiving, Conditional, Loop, Invocation, Failure, Recovering, NoAlternate, Alternate, Then, NoCommand, NoElse, Else}
+use Rattle.rb_syntax.specs.Tree.{Assignment, Printing, Sending, Receiving, Conditional, Loop, Invocation, Failure, Recovering, NoAlternate, Alternate, Then, NoCommand}
 use Rattle.rb_syntax.proofs.Bridge.{trees, recovery_out}
 use Rattle.rb_syntax.specs.declared.statement.Recovery.{Recovery, Recovery-F, out-Recovery}
 use Rattle.rb_syntax.specs.declared.statement.Statement.{Statement}
@@ -10,7 +10,7 @@ use Rattle.rb_meaning.specs.Environment.{frame_of, frame_words}
 use Rattle.rb_code.specs.Plain.{Block as Entry}
 use Rattle.rb_code.specs.declared.instr.Instr.TheVariants.{Jump}
 use Rattle.rb_gen.specs.Output.{output, filled_with}
-use Rattle.rb_gen.specs.Writes.{WritesAlternates, WritesCommand}
+use Rattle.rb_gen.specs.Writes.{WritesAlternates}
 use Rattle.rb_gen.proofs.StatementRows.{assigned, printing, sending, called, failed, received, received_else, conditional, conditional_else, looped, same_command, no_command, one_command, body_row, else_row}
 use Rattle.rb_gen.proofs.RecoveryRows.{recovered, no_alternate, alternates_init, alternates_step, alternates_end, split_alternates, none_alternates}
 use Rattle.rb_gen.proofs.statements.+statement.Goals as goal

@@ -1,7 +1,7 @@
 use Rattle.std.proofs.Common.{refl}
 use Rattle.rb_gen.specs.Output.{output}
 use Rattle.rb_gen.proofs.Rows.{then_adds}
-use Rattle.rb_gen.proofs.statements.emit_test.Goals as goal
+use Rattle.rb_gen.proofs.expressions.emit_test.Goals as goal
 
 pub returns : goal.returns
 returns c = (output c.emit_expression.new.draft, then_adds (c.in_ok-put.ensures refl) c.in_ok-emit_expression.ensures, c.in_ok-place.ensures)
