@@ -46,11 +46,13 @@ at n c e = record { follows = follows_self n c; stands = λ w i. (sym e, refl) }
 pub labelled : {link : Code → Instr → Instr} {m n : ℕ} {P : ℕ → Template} {c d : Output} (label : ℕ) → Emits link m n (P label) c d → Emits link m n (Label P) c d
 labelled label p = record { follows = p.follows; stands = λ w i. (label, p.stands w i) }
 
-pub listed : {link : Code → Instr → Instr} {m n : ℕ} {P : List ℕ → Template} {address : ℕ} {more : List ℕ} {c d : Output} → address ≡ length c.instrs → Emits link m n (P more) c d → Emits link m n (Listed (address ∷ more) P) c d
+pub listed : {link : Code → Instr → Instr} {m n : ℕ} {P : List ℕ → Template} {address : ℕ} {more : List ℕ} {c d : Output} → address ≡ length c.instrs
+    → Emits link m n (P more) c d → Emits link m n (Listed (address ∷ more) P) c d
 listed {more = more} e p = record { follows = p.follows; stands = λ w i. (more, ap (λ n. n ∷ more) e, p.stands w i) }
 
 -- one instruction that was pushed
-pub one : (i : Instr) (c d : Output) → d.instrs ≡ c.instrs ++ (i ∷ []) → d.texts ≡ c.texts → d.blocks ≡ c.blocks → is_text i ≡ false → (p n : ℕ) → Emits (linked p) n n (Placed p i) c d
+pub one : (i : Instr) (c d : Output) → d.instrs ≡ c.instrs ++ (i ∷ []) → d.texts ≡ c.texts → d.blocks ≡ c.blocks → is_text i ≡ false → (p n : ℕ)
+    → Emits (linked p) n n (Placed p i) c d
 one i c d e f g t p n = record {
   follows = record {
     rises = omega arith;
@@ -60,12 +62,16 @@ one i c d e f g t p n = record {
     numbered = λ h. ap text_numbers e ∙ texts-added c.instrs i t ∙ h ∙ ap (numbers_from 0) (sym f);
   };
   stands = λ w h.
-      let long : length d.instrs ≡ length c.instrs + 1 = ap length e ∙ length-append c.instrs (i ∷ []) in
-      (h.instrs.has (length c.instrs) (omega arith) (omega arith) ∙ ap (λ (xs : List Instr). option_map (linked p w) (slice_get xs (length c.instrs))) e ∙ ap (option_map (linked p w)) (get_end c.instrs i), long);
+      let long : length d.instrs ≡ length c.instrs + 1 = ap length e ∙ length-append c.instrs (i ∷ []) in (
+        h.instrs.has (length c.instrs) (omega arith) (omega arith) ∙ ap (λ (xs : List Instr). option_map (linked p w) (slice_get xs (length c.instrs))) e ∙ ap
+            (option_map (linked p w)) (get_end c.instrs i),
+        long,
+      );
 }
 
 -- A place that was left is written.
-filled_here : (x : Instr) {p m n k : ℕ} {P : Template} {c e : Output} → is_text x ≡ false → k ≡ length c.instrs → Emits (linked p) m n P (added (Jump 0) c) e → Emits (linked p) m n (Placed p x ⨾ P) c (patched e k x)
+filled_here : (x : Instr) {p m n k : ℕ} {P : Template} {c e : Output} → is_text x ≡ false → k ≡ length c.instrs
+    → Emits (linked p) m n P (added (Jump 0) c) e → Emits (linked p) m n (Placed p x ⨾ P) c (patched e k x)
 filled_here x {p = p} {m = m} {n = n} {k = k} {P = P} {c = c} {e = e} t at q =
     let d = added (Jump 0) c in
     let more : length d.instrs ≡ length c.instrs + 1 = length-append c.instrs (Jump 0 ∷ []) in
@@ -85,7 +91,8 @@ filled_here x {p = p} {m = m} {n = n} {k = k} {P = P} {c = c} {e = e} t at q =
       };
       stands = λ w h.
           let first : slice_get w.instrs (length c.instrs) ≡ Some (linked p w x) =
-          h.instrs.has (length c.instrs) (omega arith) (omega (arith, long)) ∙ ap (λ i. option_map (linked p w) (slice_get (slice_set e.instrs k x) i)) (sym at) ∙ ap (option_map (linked p w)) (get_set e.instrs k x (omega arith)) in
+          h.instrs.has (length c.instrs) (omega arith) (omega (arith, long)) ∙ ap (λ i. option_map (linked p w) (slice_get (slice_set e.instrs k x) i)) (sym at) ∙ ap
+          (option_map (linked p w)) (get_set e.instrs k x (omega arith)) in
           let rest : P w (length d.instrs) (length e.instrs) = q.stands w record {
             instrs = record { has = λ i a b. h.instrs.has i (omega arith) (omega (arith, long)) ∙ ap (option_map (linked p w)) (get_other e.instrs k i x (λ same. absurd (omega arith))) };
             texts = h.texts;
@@ -94,12 +101,14 @@ filled_here x {p = p} {m = m} {n = n} {k = k} {P = P} {c = c} {e = e} t at q =
           (length d.instrs, (first, more), subst (λ i. P w (length d.instrs) i) (sym long) rest);
     }
 
-pub filled : (x : Instr) {p m n k : ℕ} {P : Template} {c d e f : Output} → is_text x ≡ false → (k ≡ length c.instrs) × (d ≡ added (Jump 0) c) → f ≡ patched e k x → Emits (linked p) m n P d e → Emits (linked p) m n (Placed p x ⨾ P) c f
+pub filled : (x : Instr) {p m n k : ℕ} {P : Template} {c d e f : Output} → is_text x ≡ false → (k ≡ length c.instrs) × (d ≡ added (Jump 0) c)
+    → f ≡ patched e k x → Emits (linked p) m n P d e → Emits (linked p) m n (Placed p x ⨾ P) c f
 filled x {p = p} {m = m} {n = n} {P = P} {c = c} {e = e} t (at, left) is q =
     subst (λ o. Emits (linked p) m n (Placed p x ⨾ P) c o) (sym is) (filled_here x t at (subst (λ o. Emits (linked p) m n P o e) left q))
 
 -- a text that was added, and the instruction that names it
-pub quoted : (text : List ℕ) (k : ℕ) (c d : Output) → d.instrs ≡ c.instrs ++ (Text k ∷ []) → d.texts ≡ c.texts ++ (text ∷ []) → d.blocks ≡ c.blocks → k ≡ length c.texts → (p n : ℕ) → Emits (linked p) n n (Quoted text) c d
+pub quoted : (text : List ℕ) (k : ℕ) (c d : Output) → d.instrs ≡ c.instrs ++ (Text k ∷ []) → d.texts ≡ c.texts ++ (text ∷ []) → d.blocks ≡ c.blocks
+    → k ≡ length c.texts → (p n : ℕ) → Emits (linked p) n n (Quoted text) c d
 quoted text k c d f g h at p n =
     let long : length d.texts ≡ length c.texts + 1 = ap length g ∙ length-append c.texts (text ∷ []) in
     let longer : length d.instrs ≡ length c.instrs + 1 = ap length f ∙ length-append c.instrs (Text k ∷ []) in
@@ -116,7 +125,9 @@ quoted text k c d f g h at p n =
       };
       stands = λ w i.
           let named : slice_get w.texts k ≡ Some text = i.texts.has k (omega arith) (omega arith) ∙ ap (option_map (λ t. t)) there in
-          let placed : slice_get w.instrs (length c.instrs) ≡ Some (Text k) = i.instrs.has (length c.instrs) (omega arith) (omega arith) ∙ ap (λ (xs : List Instr). option_map (linked p w) (slice_get xs (length c.instrs))) f ∙ ap (option_map (linked p w)) (get_end c.instrs (Text k)) in
+          let placed : slice_get w.instrs (length c.instrs) ≡ Some (Text k) =
+          i.instrs.has (length c.instrs) (omega arith) (omega arith) ∙ ap (λ (xs : List Instr). option_map (linked p w) (slice_get xs (length c.instrs))) f ∙ ap
+          (option_map (linked p w)) (get_end c.instrs (Text k)) in
           (k, named, (placed, longer));
     }
   where
@@ -124,7 +135,8 @@ quoted text k c d f g h at p n =
     zero_plus i = omega arith
 
 -- The entry of a recovery block, which is settled behind the block's code.
-settled_here : {link : Code → Instr → Instr} {m k : ℕ} {P : Block → Template} {c e : Output} (x : Block) → Emits link (m + 1) k (P x) c e → Emits link m k (WithBlock m P) c (settled e m x)
+settled_here : {link : Code → Instr → Instr} {m k : ℕ} {P : Block → Template} {c e : Output} (x : Block) → Emits link (m + 1) k (P x) c e
+    → Emits link m k (WithBlock m P) c (settled e m x)
 settled_here {m = m} {k = k} {P = P} {c = c} {e = e} x q =
     let long : length (slice_set e.blocks m x) ≡ length e.blocks = same_length e.blocks m x in
     record {
@@ -139,7 +151,8 @@ settled_here {m = m} {k = k} {P = P} {c = c} {e = e} x q =
         numbered = q.follows.numbered;
       };
       stands = λ w h.
-          let there : slice_get w.blocks m ≡ Some x = h.blocks.has m (omega arith) (omega (arith, q.follows.rises)) ∙ get_set e.blocks m x (omega (arith, long, h.blocks.room, q.follows.rises)) in (
+          let there : slice_get w.blocks m ≡ Some x =
+          h.blocks.has m (omega arith) (omega (arith, q.follows.rises)) ∙ get_set e.blocks m x (omega (arith, long, h.blocks.room, q.follows.rises)) in (
             x,
             there,
             q.stands w record {
@@ -153,7 +166,8 @@ settled_here {m = m} {k = k} {P = P} {c = c} {e = e} x q =
           );
     }
 
-pub settled_then : {link : Code → Instr → Instr} {m k number : ℕ} {P : Block → Template} {c e f : Output} (x : Block) → number ≡ m → f ≡ settled e number x → Emits link (m + 1) k (P x) c e → Emits link m k (WithBlock number P) c f
+pub settled_then : {link : Code → Instr → Instr} {m k number : ℕ} {P : Block → Template} {c e f : Output} (x : Block) → number ≡ m
+    → f ≡ settled e number x → Emits link (m + 1) k (P x) c e → Emits link m k (WithBlock number P) c f
 settled_then {link = link} {m = m} {k = k} {number = number} {P = P} {c = c} {e = e} {f = f} x same is q =
     let all : Emits link m k (WithBlock m P) c f = subst (λ o. Emits link m k (WithBlock m P) c o) (sym (is ∙ ap (λ i. settled e i x) same)) (settled_here x q) in
     subst (λ (i : ℕ). Emits link m k (WithBlock i P) c f) (sym same) all

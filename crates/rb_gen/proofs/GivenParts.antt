@@ -59,7 +59,8 @@ module _ (tree : Tree) (slots : List Slot) where
   inside_given : (p : ℕ) (frames : Frames) (n : ℕ) (x : Body) → BodyNumbered n x → CommandsInFrames tree slots p frames (commands_of x) → BodyGiven tree slots n x
   inside_given p frames n (Scope variables commands) numbered inside = commands_given p frames n commands numbered inside
 
-  procedures_given : (p : ℕ) (process : ProcessDeclaration) (n : ℕ) (x : List ProcedureDeclaration) → ProceduresNumbered n x → All (ProcedureInFrames tree slots p process) x → ProceduresGiven tree slots n x
+  procedures_given : (p : ℕ) (process : ProcessDeclaration) (n : ℕ) (x : List ProcedureDeclaration) → ProceduresNumbered n x
+      → All (ProcedureInFrames tree slots p process) x → ProceduresGiven tree slots n x
   procedures_given p process n [] numbered inside = tt
   procedures_given p process n (procedure ∷ others) numbered inside = (
     inside_given p (procedure_frames process procedure) n procedure.body numbered.0 (All-head (ProcedureInFrames tree slots p process) procedure others inside),
@@ -67,10 +68,15 @@ module _ (tree : Tree) (slots : List Slot) where
   )
 
   process_given : (p n : ℕ) (process : ProcessDeclaration) → ProcessNumbered n process → ProcessInFrames tree slots p process → ProcessGiven tree slots n process
-  process_given p n process numbered inside =
-      (procedures_given p process n process.procedures numbered.0 inside.procedures, commands_given p (main_frames process) (n + blocks_in_procedures process.procedures) process.commands numbered.1 inside.commands)
+  process_given p n process numbered inside = (
+    procedures_given p process n process.procedures numbered.0 inside.procedures,
+    commands_given p (main_frames process)
+        (n + blocks_in_procedures process.procedures) process.commands numbered.1 inside.commands,
+  )
 
-  pub processes_given : (p n : ℕ) (x : List ProcessDeclaration) → ProcessesNumbered n x → ((i : ℕ) (process : ProcessDeclaration) → slice_get x i ≡ Some process → ProcessInFrames tree slots (p + i) process) → ProcessesGiven tree slots n x
+  pub processes_given : (p n : ℕ) (x : List ProcessDeclaration) → ProcessesNumbered n x
+      → ((i : ℕ) (process : ProcessDeclaration) → slice_get x i ≡ Some process → ProcessInFrames tree slots (p + i) process)
+      → ProcessesGiven tree slots n x
   processes_given p n [] numbered inside = tt
   processes_given p n (process ∷ others) numbered inside =
       let first : ProcessInFrames tree slots p process = subst (λ (i : ℕ). ProcessInFrames tree slots i process) (omega arith) (inside 0 process refl) in (

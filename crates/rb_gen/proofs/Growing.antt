@@ -53,7 +53,8 @@ pub texts-added : (xs : List Instr) (x : Instr) → is_text x ≡ false → text
 texts-added xs x e = texts-append xs (x ∷ []) ∙ ap (λ l. text_numbers xs ++ l) (no_text x e) ∙ append-none (text_numbers xs)
 
 -- one in the place of another that names the same texts
-pub texts-same : (xs : List Instr) (n : ℕ) (x y : Instr) → slice_get xs n ≡ Some y → text_numbers (x ∷ []) ≡ text_numbers (y ∷ []) → text_numbers (slice_set xs n x) ≡ text_numbers xs
+pub texts-same : (xs : List Instr) (n : ℕ) (x y : Instr) → slice_get xs n ≡ Some y → text_numbers (x ∷ []) ≡ text_numbers (y ∷ [])
+    → text_numbers (slice_set xs n x) ≡ text_numbers xs
 texts-same [] n x y at e = refl
 texts-same (z ∷ xs) zero x y at e =
     let same : z ≡ y = cc in

@@ -37,7 +37,8 @@ same_texts procedures (Call number arguments words) = refl
 same_texts procedures x = refl
 
 -- one more
-pub linked_step : (procedures : List Procedure) (from at : ℕ) (x : Instr) {o c d : Output} → at < length c.instrs → slice_get c.instrs at ≡ Some x → d ≡ patched c at (linked_to procedures x) → IsLinkedTo procedures from at o c → IsLinkedTo procedures from (at + 1) o d
+pub linked_step : (procedures : List Procedure) (from at : ℕ) (x : Instr) {o c d : Output} → at < length c.instrs → slice_get c.instrs at ≡ Some x
+    → d ≡ patched c at (linked_to procedures x) → IsLinkedTo procedures from at o c → IsLinkedTo procedures from (at + 1) o d
 linked_step procedures from at x {o = o} {c = c} {d = d} inside there is h =
     subst (λ e. IsLinkedTo procedures from (at + 1) o e) (sym is) (record {
       long = same_length c.instrs at y ∙ h.long;

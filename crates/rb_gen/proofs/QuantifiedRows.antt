@@ -11,24 +11,38 @@ use Rattle.rb_gen.proofs.Emits.{at, both, filled, labelled}
 abbrev pub Left : ℕ → Output → Output → Type 0
 Left place c d = (place ≡ length c.instrs) × (d ≡ added (Jump 0) c)
 
-pub every_row : {low high body : Template} (counter : ℕ) {k range again test full skip gone end : ℕ} {c c1 c2 c3 c4 c5 c6 c7 c8 c9 d1 d2 d3 : Output} → counter ≡ k → Adds low c c1 → Adds high c1 c2 → Left range c2 c3 → again ≡ length c3.instrs → Adds body c3 c4 → Left test c4 c5 → Adds (One (Again counter again)) c5 c6 → full ≡ length c6.instrs → Adds (One (Push (pos 1))) c6 c7 → Left skip c7 c8 → gone ≡ length c8.instrs → Adds (One (Push (pos 0))) c8 c9 → end ≡ length c9.instrs → d1 ≡ patched c9 skip (Jump end) → d2 ≡ patched d1 test (JumpZero gone) → d3 ≡ patched d2 range (Range counter full) → Adds (EveryCode k low high body) c d3
-every_row {low = L} {high = H} {body = B} counter {again = again} {full = full} {gone = gone} {end = end} {c = c} {c3 = c3} {c6 = c6} {c8 = c8} {c9 = c9} {d3 = d3} same low high ranges here body tests goes at_yes one skips at_no zero at_end p1 p2 p3 = subst (λ (i : ℕ). Adds (EveryCode i L H B) c d3) same (λ p n.
+pub every_row : {low high body : Template} (counter : ℕ) {k range again test full skip gone end : ℕ} {c c1 c2 c3 c4 c5 c6 c7 c8 c9 d1 d2 d3 : Output}
+    → counter ≡ k → Adds low c c1 → Adds high c1 c2 → Left range c2 c3 → again ≡ length c3.instrs → Adds body c3 c4 → Left test c4 c5
+    → Adds (One (Again counter again)) c5 c6 → full ≡ length c6.instrs → Adds (One (Push (pos 1))) c6 c7 → Left skip c7 c8 → gone ≡ length c8.instrs
+    → Adds (One (Push (pos 0))) c8 c9 → end ≡ length c9.instrs → d1 ≡ patched c9 skip (Jump end) → d2 ≡ patched d1 test (JumpZero gone)
+    → d3 ≡ patched d2 range (Range counter full) → Adds (EveryCode k low high body) c d3
+every_row {low = L} {high = H} {body = B} counter {again = again} {full = full} {gone = gone} {end = end} {c = c} {c3 = c3} {c6 = c6} {c8 = c8} {c9 = c9}
+    {d3 = d3} same low high ranges here body tests goes at_yes one skips at_no zero at_end p1 p2 p3 = subst (λ (i : ℕ). Adds (EveryCode i L H B) c d3) same (λ p n.
     labelled again (labelled gone (labelled full (labelled end
     (both (low p n) (both (high p n) (filled (Range counter full) refl ranges p3
     (both (at n c3 here) (both (body p n) (filled (JumpZero gone) refl tests p2
     (both (goes p n) (both (at n c6 at_yes) (both (one p n) (filled (Jump end) refl skips p1
     (both (at n c8 at_no) (both (zero p n) (at n c9 at_end)))))))))))))))))
 
-pub some_row : {low high body : Template} (counter : ℕ) {k range again test skip next gone end : ℕ} {c c1 c2 c3 c4 c5 c6 c7 c8 c9 d1 d2 d3 : Output} → counter ≡ k → Adds low c c1 → Adds high c1 c2 → Left range c2 c3 → again ≡ length c3.instrs → Adds body c3 c4 → Left test c4 c5 → Adds (One (Push (pos 1))) c5 c6 → Left skip c6 c7 → next ≡ length c7.instrs → Adds (One (Again counter again)) c7 c8 → gone ≡ length c8.instrs → Adds (One (Push (pos 0))) c8 c9 → end ≡ length c9.instrs → d1 ≡ patched c9 skip (Jump end) → d2 ≡ patched d1 test (JumpZero next) → d3 ≡ patched d2 range (Range counter gone) → Adds (SomeCode k low high body) c d3
-some_row {low = L} {high = H} {body = B} counter {again = again} {next = next} {gone = gone} {end = end} {c = c} {c3 = c3} {c7 = c7} {c8 = c8} {c9 = c9} {d3 = d3} same low high ranges here body tests one skips at_next goes at_no zero at_end p1 p2 p3 = subst (λ (i : ℕ). Adds (SomeCode i L H B) c d3) same (λ p n.
+pub some_row : {low high body : Template} (counter : ℕ) {k range again test skip next gone end : ℕ} {c c1 c2 c3 c4 c5 c6 c7 c8 c9 d1 d2 d3 : Output}
+    → counter ≡ k → Adds low c c1 → Adds high c1 c2 → Left range c2 c3 → again ≡ length c3.instrs → Adds body c3 c4 → Left test c4 c5
+    → Adds (One (Push (pos 1))) c5 c6 → Left skip c6 c7 → next ≡ length c7.instrs → Adds (One (Again counter again)) c7 c8 → gone ≡ length c8.instrs
+    → Adds (One (Push (pos 0))) c8 c9 → end ≡ length c9.instrs → d1 ≡ patched c9 skip (Jump end) → d2 ≡ patched d1 test (JumpZero next)
+    → d3 ≡ patched d2 range (Range counter gone) → Adds (SomeCode k low high body) c d3
+some_row {low = L} {high = H} {body = B} counter {again = again} {next = next} {gone = gone} {end = end} {c = c} {c3 = c3} {c7 = c7} {c8 = c8} {c9 = c9}
+    {d3 = d3} same low high ranges here body tests one skips at_next goes at_no zero at_end p1 p2 p3 = subst (λ (i : ℕ). Adds (SomeCode i L H B) c d3) same (λ p n.
     labelled again (labelled next (labelled gone (labelled end
     (both (low p n) (both (high p n) (filled (Range counter gone) refl ranges p3
     (both (at n c3 here) (both (body p n) (filled (JumpZero next) refl tests p2
     (both (one p n) (filled (Jump end) refl skips p1
     (both (at n c7 at_next) (both (goes p n) (both (at n c8 at_no) (both (zero p n) (at n c9 at_end)))))))))))))))))
 
-pub sum_row : {low high body : Template} (counter : ℕ) {k range again end : ℕ} {c c0 c1 c2 c3 c4 c5 c6 d : Output} → counter ≡ k → Adds (One (Push (pos 0))) c c0 → Adds low c0 c1 → Adds high c1 c2 → Left range c2 c3 → again ≡ length c3.instrs → Adds body c3 c4 → Adds (One Add) c4 c5 → Adds (One (Again counter again)) c5 c6 → end ≡ length c6.instrs → d ≡ patched c6 range (Range counter end) → Adds (SumCode k low high body) c d
-sum_row {low = L} {high = H} {body = B} counter {again = again} {end = end} {c = c} {c3 = c3} {c6 = c6} {d = d} same zero low high ranges here body adds goes at_end p1 = subst (λ (i : ℕ). Adds (SumCode i L H B) c d) same (λ p n.
+pub sum_row : {low high body : Template} (counter : ℕ) {k range again end : ℕ} {c c0 c1 c2 c3 c4 c5 c6 d : Output} → counter ≡ k
+    → Adds (One (Push (pos 0))) c c0 → Adds low c0 c1 → Adds high c1 c2 → Left range c2 c3 → again ≡ length c3.instrs → Adds body c3 c4
+    → Adds (One Add) c4 c5 → Adds (One (Again counter again)) c5 c6 → end ≡ length c6.instrs → d ≡ patched c6 range (Range counter end)
+    → Adds (SumCode k low high body) c d
+sum_row {low = L} {high = H} {body = B} counter {again = again} {end = end} {c = c} {c3 = c3} {c6 = c6}
+    {d = d} same zero low high ranges here body adds goes at_end p1 = subst (λ (i : ℕ). Adds (SumCode i L H B) c d) same (λ p n.
     labelled again (labelled end
     (both (zero p n) (both (low p n) (both (high p n) (filled (Range counter end) refl ranges p1
     (both (at n c3 here) (both (body p n) (both (adds p n) (both (goes p n) (at n c6 at_end)))))))))))

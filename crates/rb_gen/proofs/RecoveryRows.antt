@@ -25,7 +25,13 @@ append_none (x ∷ xs) = ap (λ l. x ∷ l) (append_none xs)
 
 module _ (slots : List Slot) (words : List ℕ) where
   -- a recovery block, whose entry is settled behind its code
-  pub recovered : {x : RecoveryBlock} (number : ℕ) (conversation : Option Identifier) (place : Place) (test : Expression) (limit : Number) (alternates : Alternates) (entry : Block) {c c1 c2 c3 c4 c5 c6 c7 c8 f : Output} → x ≡ Recovers number conversation place test limit alternates → entry.line ≡ place.line → entry.conversation ≡ joined_of slots conversation → entry.bound ≡ natural limit.value → Adds (One Turn) c c1 → Adds (One (Enter number)) c1 c2 → entry.restart ≡ length c2.instrs → Adds (One Turn) c2 c3 → Adds (One (Start number)) c3 c4 → WritesAlternates slots words alternates entry.alternates entry.test c4 c5 → entry.test ≡ length c5.instrs → Adds (One Turn) c5 c6 → Adds (ExpressionCode slots test) c6 c7 → Adds (One (Test number)) c7 c8 → f ≡ settled c8 number entry → WritesRecovery slots words x c f
+  pub recovered : {x : RecoveryBlock} (number : ℕ) (conversation : Option Identifier) (place : Place) (test : Expression) (limit : Number) (alternates : Alternates)
+      (entry : Block) {c c1 c2 c3 c4 c5 c6 c7 c8 f : Output}
+      → x ≡ Recovers number conversation place test limit alternates → entry.line ≡ place.line → entry.conversation ≡ joined_of slots conversation
+      → entry.bound ≡ natural limit.value → Adds (One Turn) c c1 → Adds (One (Enter number)) c1 c2 → entry.restart ≡ length c2.instrs
+      → Adds (One Turn) c2 c3 → Adds (One (Start number)) c3 c4 → WritesAlternates slots words alternates entry.alternates entry.test c4 c5
+      → entry.test ≡ length c5.instrs → Adds (One Turn) c5 c6 → Adds (ExpressionCode slots test) c6 c7 → Adds (One (Test number)) c7 c8
+      → f ≡ settled c8 number entry → WritesRecovery slots words x c f
   unfolding CommandCode BlockCode AlternatesCode
   recovered number conversation place test limit alternates entry {c = c} {c2 = c2} {c5 = c5} {f = f} is line joined bound turn enter restart turn2 start inside testing turn3 value tests settles =
       subst (λ x. WritesRecovery slots words x c f) (sym is) (λ s n (numbered, conversation_is, given).
@@ -45,13 +51,17 @@ module _ (slots : List Slot) (words : List ℕ) where
   unfolding OthersCode AlternatesCode
   no_other t c is = subst (λ x. WritesOthers slots words x [] t c c) (sym is) (λ s n g. upto (only n c refl) (omega arith))
 
-  pub first_alternate : (t address : ℕ) (more : List ℕ) {a others : Alternates} {b : Body} {c d e : Output} → a ≡ Alternate b others → address ≡ length c.instrs → WritesBody slots words b c d → WritesOthers slots words others more t d e → WritesAlternates slots words a (address ∷ more) t c e
+  pub first_alternate : (t address : ℕ) (more : List ℕ) {a others : Alternates} {b : Body} {c d e : Output} → a ≡ Alternate b others
+      → address ≡ length c.instrs → WritesBody slots words b c d → WritesOthers slots words others more t d e
+      → WritesAlternates slots words a (address ∷ more) t c e
   unfolding AlternatesCode OthersCode BodyCode
   first_alternate t address more {b = b} {c = c} {e = e} is here p q =
       subst (λ x. WritesAlternates slots words x (address ∷ more) t c e) (sym is) (λ s n (g, h). upto (listed here (both (p s n g) (q s (n + blocks_in_body b) h))) (omega arith))
 
   -- a further alternate, whose jump is written once the address of the test is known
-  pub further : (t address place : ℕ) (more : List ℕ) {a others : Alternates} {b : Body} {c d e f : Output} → a ≡ Alternate b others → (place ≡ length c.instrs) × (d ≡ added (Jump 0) c) → address ≡ length d.instrs → WritesBody slots words b d e → WritesOthers slots words others more t e f → WritesOthers slots words a (address ∷ more) t c (patched f place (Jump t))
+  pub further : (t address place : ℕ) (more : List ℕ) {a others : Alternates} {b : Body} {c d e f : Output} → a ≡ Alternate b others
+      → (place ≡ length c.instrs) × (d ≡ added (Jump 0) c) → address ≡ length d.instrs → WritesBody slots words b d e
+      → WritesOthers slots words others more t e f → WritesOthers slots words a (address ∷ more) t c (patched f place (Jump t))
   unfolding OthersCode AlternatesCode BodyCode
   further t address place more {b = b} {c = c} {f = f} is left here p q =
       subst (λ x. WritesOthers slots words x (address ∷ more) t c (patched f place (Jump t))) (sym is)
@@ -63,16 +73,22 @@ module _ (slots : List Slot) (words : List ℕ) where
       (after : Output) (t : ℕ) (more : List ℕ) → WritesOthers slots words rest more t d after → WritesAlternates slots words all (addresses ++ more) t o (filled_with places (Jump t) after)
 
   -- the first alternate
-  pub alternates_init : {a : Alternates} (others : Alternates) {b : Body} {c d : Output} (address : ℕ) (addresses places : List ℕ) → a ≡ Alternate b others → address ≡ length c.instrs → addresses ≡ address ∷ [] → places ≡ [] → WritesBody slots words b c d → Completes a others addresses places c d
+  pub alternates_init : {a : Alternates} (others : Alternates) {b : Body} {c d : Output} (address : ℕ) (addresses places : List ℕ)
+      → a ≡ Alternate b others → address ≡ length c.instrs → addresses ≡ address ∷ [] → places ≡ [] → WritesBody slots words b c d
+      → Completes a others addresses places c d
   alternates_init {a = a} others {c = c} address addresses places is here these none p = λ after t more h.
       subst (λ (xs : List ℕ). WritesAlternates slots words a (xs ++ more) t c (filled_with places (Jump t) after)) (sym these)
       (subst (λ (xs : List ℕ). WritesAlternates slots words a (address ∷ more) t c (filled_with xs (Jump t) after)) (sym none)
       (first_alternate t address more is here p h))
 
   -- one more
-  pub alternates_step : (a : Alternates) {rest others : Alternates} {b : Body} {o d e f : Output} (address place : ℕ) (addresses places addresses' places' : List ℕ) → rest ≡ Alternate b others → (place ≡ length d.instrs) × (e ≡ added (Jump 0) d) → address ≡ length e.instrs → WritesBody slots words b e f → addresses' ≡ addresses ++ (address ∷ []) → places' ≡ places ++ (place ∷ []) → Completes a rest addresses places o d → Completes a others addresses' places' o f
+  pub alternates_step : (a : Alternates) {rest others : Alternates} {b : Body} {o d e f : Output} (address place : ℕ) (addresses places addresses' places' : List ℕ)
+      → rest ≡ Alternate b others → (place ≡ length d.instrs) × (e ≡ added (Jump 0) d) → address ≡ length e.instrs → WritesBody slots words b e f
+      → addresses' ≡ addresses ++ (address ∷ []) → places' ≡ places ++ (place ∷ []) → Completes a rest addresses places o d
+      → Completes a others addresses' places' o f
   alternates_step a {o = o} address place addresses places addresses' places' is left here p these those completes = λ after t more h.
-      let all : WritesAlternates slots words a (addresses ++ (address ∷ more)) t o (filled_with places (Jump t) (patched after place (Jump t))) = completes (patched after place (Jump t)) t (address ∷ more) (further t address place more is left here p h) in
+      let all : WritesAlternates slots words a (addresses ++ (address ∷ more)) t o (filled_with places (Jump t) (patched after place (Jump t))) =
+      completes (patched after place (Jump t)) t (address ∷ more) (further t address place more is left here p h) in
       let one : WritesAlternates slots words a ((addresses ++ (address ∷ [])) ++ more) t o (filled_with places (Jump t) (patched after place (Jump t))) =
       subst (λ (xs : List ℕ). WritesAlternates slots words a xs t o (filled_with places (Jump t) (patched after place (Jump t)))) (sym (append_assoc addresses (address ∷ []) more)) all in
       let two : WritesAlternates slots words a ((addresses ++ (address ∷ [])) ++ more) t o (filled_with (places ++ (place ∷ [])) (Jump t) after) =
@@ -81,11 +97,14 @@ module _ (slots : List Slot) (words : List ℕ) where
       (subst (λ (xs : List ℕ). WritesAlternates slots words a ((addresses ++ (address ∷ [])) ++ more) t o (filled_with xs (Jump t) after)) (sym those) two)
 
   -- all, with their jumps written
-  pub alternates_end : (a : Alternates) {rest : Alternates} {o d f : Output} (t : ℕ) (addresses places : List ℕ) → rest ≡ NoAlternate → t ≡ length d.instrs → f ≡ filled_with places (Jump t) d → Completes a rest addresses places o d → WritesAlternates slots words a addresses (length f.instrs) o f
+  pub alternates_end : (a : Alternates) {rest : Alternates} {o d f : Output} (t : ℕ) (addresses places : List ℕ) → rest ≡ NoAlternate
+      → t ≡ length d.instrs → f ≡ filled_with places (Jump t) d → Completes a rest addresses places o d
+      → WritesAlternates slots words a addresses (length f.instrs) o f
   alternates_end a {o = o} {d = d} {f = f} t addresses places is here end completes =
       let same : t ≡ length f.instrs = here ∙ sym (filled-length places (Jump t) d) ∙ ap (λ (x : Output). length x.instrs) (sym end) in
       let all : WritesAlternates slots words a (addresses ++ []) t o (filled_with places (Jump t) d) = completes d t [] (no_other t d is) in
-      let one : WritesAlternates slots words a addresses t o (filled_with places (Jump t) d) = subst (λ (xs : List ℕ). WritesAlternates slots words a xs t o (filled_with places (Jump t) d)) (append_none addresses) all in
+      let one : WritesAlternates slots words a addresses t o (filled_with places (Jump t) d) =
+      subst (λ (xs : List ℕ). WritesAlternates slots words a xs t o (filled_with places (Jump t) d)) (append_none addresses) all in
       subst (λ (i : ℕ). WritesAlternates slots words a addresses i o f) same (subst (λ x. WritesAlternates slots words a addresses t o x) (sym end) one)
 
 take_all : {A : Type 0} (xs : List A) → take (length xs) xs ≡ xs
@@ -97,7 +116,8 @@ pub split_alternates : (xs : List Held) (x : Held) → 1 ≤ length xs → x ≡
 split_alternates [] x h e = absurd (omega arith)
 split_alternates (y ∷ ys) x h e =
     let one : suc (length ys) - 1 ≡ length ys = omega arith in
-    ap (λ z. Alternate (body z) (alternates_of ys)) (sym e) ∙ ap (λ l. Alternate (body x) (alternates_of l)) (sym (take_all ys)) ∙ ap (λ (n : ℕ). Alternate (body x) (alternates_of (take n ys))) (sym one)
+    ap (λ z. Alternate (body z) (alternates_of ys)) (sym e) ∙ ap (λ l. Alternate (body x) (alternates_of l)) (sym (take_all ys)) ∙ ap
+    (λ (n : ℕ). Alternate (body x) (alternates_of (take n ys))) (sym one)
 
 pub none_alternates : (xs : List Held) → length xs < 1 → alternates_of xs ≡ NoAlternate
 none_alternates [] h = refl

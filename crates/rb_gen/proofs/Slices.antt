@@ -30,11 +30,13 @@ module _ (slots : List Slot) where
   pub no_item : (xs : List Item) (c : Output) → xs ≡ [] → Adds (ItemsCode slots (map print_item xs)) c c
   no_item xs c e = subst (λ l. Adds (ItemsCode slots (map print_item l)) c c) (sym e) (λ p n. empty n c)
 
-  pub one_item : {xs rest : List Item} (x : Item) {c d e : Output} → xs ≡ x ∷ rest → Adds (PrintedCode slots (printed x.what)) c d → Adds (ItemsCode slots (map print_item rest)) d e → Adds (ItemsCode slots (map print_item xs)) c e
+  pub one_item : {xs rest : List Item} (x : Item) {c d e : Output} → xs ≡ x ∷ rest → Adds (PrintedCode slots (printed x.what)) c d
+      → Adds (ItemsCode slots (map print_item rest)) d e → Adds (ItemsCode slots (map print_item xs)) c e
   one_item x {c = c} {e = e} is p q = subst (λ l. Adds (ItemsCode slots (map print_item l)) c e) (sym is) (then_adds p q)
 
   pub no_argument : (xs : List Expr) (c : Output) → xs ≡ [] → Adds (ArgumentsCode slots (map expression xs)) c c
   no_argument xs c e = subst (λ l. Adds (ArgumentsCode slots (map expression l)) c c) (sym e) (λ p n. empty n c)
 
-  pub one_argument : {xs rest : List Expr} (x : Expr) {c d e : Output} → xs ≡ x ∷ rest → Adds (ExpressionCode slots (expression x)) c d → Adds (ArgumentsCode slots (map expression rest)) d e → Adds (ArgumentsCode slots (map expression xs)) c e
+  pub one_argument : {xs rest : List Expr} (x : Expr) {c d e : Output} → xs ≡ x ∷ rest → Adds (ExpressionCode slots (expression x)) c d
+      → Adds (ArgumentsCode slots (map expression rest)) d e → Adds (ArgumentsCode slots (map expression xs)) c e
   one_argument x {c = c} {e = e} is p q = subst (λ l. Adds (ArgumentsCode slots (map expression l)) c e) (sym is) (then_adds p q)

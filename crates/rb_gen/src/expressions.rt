@@ -300,11 +300,7 @@ fn emit_sum(draft: &mut Draft, slots: &[Slot], quantified: &Quantified<'_>) -> R
 }
 
 /// The turn and the test of an `if` or a `while`, and a place for what goes by it.
-pub(crate) fn emit_test(
-    draft: &mut Draft,
-    slots: &[Slot],
-    test: &Expr<'_>,
-) -> Result<usize, Memory>
+pub(crate) fn emit_test(draft: &mut Draft, slots: &[Slot], test: &Expr<'_>) -> Result<usize, Memory>
     ensures { IfOk result (λ place. LeavesTest slots.now (plain test.now) place (output draft.old) (output draft.new)) }
 {
     put(draft, Instr::Turn)?;

@@ -72,7 +72,8 @@ emit_links-returns t c =
 
 pub emit_links-links-preserved : goal.emit_links-links-preserved
 emit_links-links-preserved t c =
-    let is : links_of (drop c.links.link-index c.args.links.now) ≡ Linked c.link-item.result.op (plain c.link-item.result.right) (links_of (drop (c.links.link-index + 1) c.args.links.now)) = grind (arith, common_steps) in
+    let is : links_of (drop c.links.link-index c.args.links.now) ≡ Linked c.link-item.result.op (plain c.link-item.result.right) (links_of (drop (c.links.link-index + 1) c.args.links.now)) =
+    grind (arith, common_steps) in
     λ after h. c.links.invariant after (one_link c.args.slots.now is c.in_ok-emit_link.ensures h)
 
 pub emit_link-returns-in_ok-put-in_default : goal.emit_link-returns-in_ok-put-in_default

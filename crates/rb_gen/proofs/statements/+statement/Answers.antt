@@ -22,7 +22,9 @@ emit_statements-returns t c =
 
 pub emit_statements-statements-preserved : goal.emit_statements-statements-preserved
 emit_statements-statements-preserved t c =
-    let is : commands_of (drop c.statements.statement-index c.args.statements.now) ≡ Then (command c.statement-item.result) (commands_of (drop (c.statements.statement-index + 1) c.args.statements.now)) = grind (arith, common_steps) in
+    let is : commands_of (drop c.statements.statement-index c.args.statements.now) ≡ Then (command c.statement-item.result)
+    (commands_of (drop (c.statements.statement-index + 1) c.args.statements.now)) =
+    grind (arith, common_steps) in
     λ after h. c.statements.invariant after (one_command c.args.slots.now c.args.words.now is c.in_ok-emit_statement.ensures h)
 
 pub emit_body-returns : goal.emit_body-returns
@@ -68,49 +70,57 @@ pub emit_statement-returns-in_ok-emit_taking-in-None : goal.emit_statement-retur
 emit_statement-returns-in_ok-emit_taking-in-None t c =
     let of = Receiving (identifier c.in-Receive.channel) (reference c.in-Receive.target) in
     let is : command c.args.statement.now ≡ of (otherwise c.in-Receive.other) = grind (arith, trees) in
-    received c.args.slots.now c.args.words.now (is ∙ ap of (ap otherwise c.in-None.is)) c.channel_of-number.ensures (c.in_ok-put-in-Receive.ensures refl) (c.in_ok-put-in-None.ensures refl) c.in_ok-emit_taking-in-None.ensures
+    received c.args.slots.now c.args.words.now (is ∙ ap of (ap otherwise c.in-None.is)) c.channel_of-number.ensures (c.in_ok-put-in-Receive.ensures refl)
+    (c.in_ok-put-in-None.ensures refl) c.in_ok-emit_taking-in-None.ensures
 
 pub emit_statement-returns-in_ok-none-in-Some : goal.emit_statement-returns-in_ok-none-in-Some
 emit_statement-returns-in_ok-none-in-Some t c =
     let of = Receiving (identifier c.in-Receive.channel) (reference c.in-Receive.target) in
     let is : command c.args.statement.now ≡ of (otherwise c.in-Receive.other) = grind (arith, trees) in
-    received_else c.args.slots.now c.args.words.now (is ∙ ap of (ap otherwise c.in-Some.is)) c.channel_of-number.ensures (c.in_ok-put-in-Receive.ensures refl) c.in_ok-absent-in-Some.ensures c.in_ok-emit_taking-in-Some.ensures c.in_ok-none-in-Some.ensures c.patch.ensures
+    received_else c.args.slots.now c.args.words.now (is ∙ ap of (ap otherwise c.in-Some.is)) c.channel_of-number.ensures (c.in_ok-put-in-Receive.ensures refl)
+    c.in_ok-absent-in-Some.ensures c.in_ok-emit_taking-in-Some.ensures c.in_ok-none-in-Some.ensures c.patch.ensures
 
 pub emit_statement-returns-in_ok-end-in-None-other : goal.emit_statement-returns-in_ok-end-in-None-other
 emit_statement-returns-in_ok-end-in-None-other t c =
     let of = Conditional (plain c.in-If.test) (body c.in-If.block) in
     let is : command c.args.statement.now ≡ of (otherwise c.in-If.other) = grind (arith, trees) in
-    conditional c.args.slots.now c.args.words.now (is ∙ ap of (ap otherwise c.in-None-other.is)) c.in_ok-over-in-If.ensures c.in_ok-emit_body-in-If.ensures c.in_ok-end-in-None-other.ensures c.patch-in-None-other.ensures
+    conditional c.args.slots.now c.args.words.now (is ∙ ap of (ap otherwise c.in-None-other.is)) c.in_ok-over-in-If.ensures c.in_ok-emit_body-in-If.ensures
+    c.in_ok-end-in-None-other.ensures c.patch-in-None-other.ensures
 
 pub emit_statement-returns-in_ok-no-in-Some-other : goal.emit_statement-returns-in_ok-no-in-Some-other
 emit_statement-returns-in_ok-no-in-Some-other t c =
     let of = Conditional (plain c.in-If.test) (body c.in-If.block) in
     let is : command c.args.statement.now ≡ of (otherwise c.in-If.other) = grind (arith, trees) in
-    conditional_else c.args.slots.now c.args.words.now (is ∙ ap of (ap otherwise c.in-Some-other.is)) c.in_ok-over-in-If.ensures c.in_ok-emit_body-in-If.ensures c.in_ok-no-in-Some-other.ensures c.patch-in-Some-other.ensures
+    conditional_else c.args.slots.now c.args.words.now (is ∙ ap of (ap otherwise c.in-Some-other.is)) c.in_ok-over-in-If.ensures c.in_ok-emit_body-in-If.ensures
+    c.in_ok-no-in-Some-other.ensures c.patch-in-Some-other.ensures
 
 pub emit_statement-returns-in_ok-end-in-While : goal.emit_statement-returns-in_ok-end-in-While
 emit_statement-returns-in_ok-end-in-While t c =
     let is : command c.args.statement.now ≡ Loop (plain c.in-While.test) (body c.in-While.block) = grind (arith, trees) in
-    looped c.args.slots.now c.args.words.now is c.in_ok-start-in-While.ensures c.in_ok-over-in-While.ensures c.in_ok-emit_body-in-While.ensures (c.in_ok-put-in-While.ensures refl) c.in_ok-end-in-While.ensures c.patch-in-While.ensures
+    looped c.args.slots.now c.args.words.now is c.in_ok-start-in-While.ensures c.in_ok-over-in-While.ensures c.in_ok-emit_body-in-While.ensures
+    (c.in_ok-put-in-While.ensures refl) c.in_ok-end-in-While.ensures c.patch-in-While.ensures
 
 pub emit_recovery-returns : goal.emit_recovery-returns
 emit_recovery-returns t c =
     let r : Recovery-F Statement Block Recovery = out-Recovery c.args.recovery.now in
     let addresses = c.in_ok-alternates.alternates.items in
-    let entry : Entry = record { line = r.place.line; conversation = c.joined_of.result; bound = c.in_ok-bound.bound; restart = c.in_ok-restart.restart; test = c.in_ok-test.test; alternates = addresses } in
+    let entry : Entry =
+    record { line = r.place.line; conversation = c.joined_of.result; bound = c.in_ok-bound.bound; restart = c.in_ok-restart.restart; test = c.in_ok-test.test; alternates = addresses } in
     let before = output c.put-4.new.draft in
     let behind = output c.emit_alternates.new.draft in
     let inside : WritesAlternates c.args.slots.now c.args.words.now (alternates_of r.alternates.items) addresses c.in_ok-test.test before behind =
     subst (λ xs. WritesAlternates c.args.slots.now c.args.words.now (alternates_of xs) addresses c.in_ok-test.test before behind) c.deref.ensures.value
     (subst (λ (n : ℕ). WritesAlternates c.args.slots.now c.args.words.now (alternates_of c.deref.result.now) addresses n before behind) (sym c.in_ok-test.ensures) c.in_ok-alternates.ensures) in
-    recovered c.args.slots.now c.args.words.now r.number (option_map identifier r.conversation) r.place (plain r.test) r.bound (alternates_of r.alternates.items) entry (recovery_out c.args.recovery.now)
+    recovered c.args.slots.now c.args.words.now r.number (option_map identifier r.conversation) r.place (plain r.test) r.bound (alternates_of r.alternates.items) entry
+    (recovery_out c.args.recovery.now)
     refl c.joined_of.ensures c.in_ok-bound.ensures (c.in_ok-put.ensures refl) (c.in_ok-put-2.ensures refl) c.in_ok-restart.ensures (c.in_ok-put-3.ensures refl) (c.in_ok-put-4.ensures refl)
     inside c.in_ok-test.ensures (c.in_ok-put-5.ensures refl) c.in_ok-emit_expression.ensures (c.in_ok-put-6.ensures refl) c.settle.ensures
 
 pub emit_alternates-returns : goal.emit_alternates-returns
 emit_alternates-returns t c =
     let is : alternates_of (drop c.others.other-index (take (length c.args.alternates.now - 1) (drop 1 c.args.alternates.now))) ≡ NoAlternate = grind (arith, common_steps) in
-    alternates_end c.args.slots.now c.args.words.now _ c.in_ok-test.test c.others.addresses.items c.others.places.items is c.in_ok-test.ensures (c.fill.ensures ∙ ap (λ (hs : List ℕ). filled_with hs (Jump c.in_ok-test.test) (output c.others.draft)) c.deref.ensures.value) c.others.invariant
+    alternates_end c.args.slots.now c.args.words.now _ c.in_ok-test.test c.others.addresses.items c.others.places.items is c.in_ok-test.ensures
+    (c.fill.ensures ∙ ap (λ (hs : List ℕ). filled_with hs (Jump c.in_ok-test.test) (output c.others.draft)) c.deref.ensures.value) c.others.invariant
 
 pub emit_alternates-returns-in_default : goal.emit_alternates-returns-in_default
 emit_alternates-returns-in_default t c =
@@ -118,11 +128,13 @@ emit_alternates-returns-in_default t c =
 
 pub emit_alternates-others-init : goal.emit_alternates-others-init
 emit_alternates-others-init t c =
-    alternates_init c.args.slots.now c.args.words.now _ c.in_ok-start.start _ _ (split_alternates c.args.alternates.now c.first-item.result c.in-len1-up.len_at_least c.first-item.is) c.in_ok-start.ensures
+    alternates_init c.args.slots.now c.args.words.now _ c.in_ok-start.start _ _
+    (split_alternates c.args.alternates.now c.first-item.result c.in-len1-up.len_at_least c.first-item.is) c.in_ok-start.ensures
     (c.in_ok-push.ensures.items ∙ ap (λ xs. xs ++ (c.in_ok-start.start ∷ [])) c.new-addresses.ensures.items) c.new-places.ensures.items c.in_ok-emit_body.ensures
 
 pub emit_alternates-others-preserved : goal.emit_alternates-others-preserved
 emit_alternates-others-preserved t c =
     let others = take (length c.args.alternates.now - 1) (drop 1 c.args.alternates.now) in
     let is : alternates_of (drop c.others.other-index others) ≡ Alternate (body c.other-item.result) (alternates_of (drop (c.others.other-index + 1) others)) = grind (arith, common_steps) in
-    alternates_step c.args.slots.now c.args.words.now _ c.in_ok-start-2.start c.in_ok-place.place _ _ _ _ is c.in_ok-place.ensures c.in_ok-start-2.ensures c.in_ok-emit_body-2.ensures c.in_ok-push-3.ensures.items c.in_ok-push-2.ensures.items c.others.invariant
+    alternates_step c.args.slots.now c.args.words.now _ c.in_ok-start-2.start c.in_ok-place.place _ _ _ _ is c.in_ok-place.ensures c.in_ok-start-2.ensures
+    c.in_ok-emit_body-2.ensures c.in_ok-push-3.ensures.items c.in_ok-push-2.ensures.items c.others.invariant
