@@ -40,7 +40,7 @@ texts-append [] ys = refl
 texts-append (Text k ∷ xs) ys = ap (λ l. k ∷ l) (texts-append xs ys)
 texts-append (x ∷ xs) ys = texts-append xs ys
 
-append-none : {A : Type 0} (xs : List A) → xs ++ [] ≡ xs
+pub append-none : {A : Type 0} (xs : List A) → xs ++ [] ≡ xs
 append-none [] = refl
 append-none (x ∷ xs) = ap (λ l. x ∷ l) (append-none xs)
 

@@ -27,12 +27,8 @@ use Rattle.rb_gen.specs.Given.{ProcessesGiven}
 use Rattle.rb_gen.specs.Channels.{ends_by}
 use Rattle.rb_gen.specs.Writes.{HasParts, IsLinked, ProcessTemplate, Setting, WritesCommands, WritesProcedures, WritesProcess, WritesProcesses, room_of}
 use Rattle.rb_gen.proofs.Emits.{both, both_back, upto}
-use Rattle.rb_gen.proofs.Growing.{follows_self}
+use Rattle.rb_gen.proofs.Growing.{append-none, follows_self}
 use Rattle.rb_gen.proofs.GivenParts.{ends_given, processes_given}
-
-append_none : {A : Type 0} (xs : List A) → xs ++ [] ≡ xs
-append_none [] = refl
-append_none (x ∷ xs) = ap (λ l. x ∷ l) (append_none xs)
 
 same : {A : Type 0} (o : Option A) → option_map (λ x. x) o ≡ o
 same None = refl
@@ -64,7 +60,7 @@ module _ (slots : List Slot) (words : List ℕ) where
       → CompletesProcedures all rest entries o d → WritesProcedures slots words all entries o d
   procedures_end all {o = o} {d = d} entries is completes =
       let none : WritesProcedures slots words [] [] d d = λ s n g. upto (record { follows = follows_self n d; stands = λ w i. (refl, refl) }) (omega arith) in
-      subst (λ xs. WritesProcedures slots words all xs o d) (append_none entries) (completes d [] (subst (λ l. WritesProcedures slots words l [] d d) (sym is) none))
+      subst (λ xs. WritesProcedures slots words all xs o d) (append-none entries) (completes d [] (subst (λ l. WritesProcedures slots words l [] d d) (sym is) none))
 
 -- a process, whose calls are linked
 linked_process : (p m k : ℕ) (entries : List Procedure) {P : Template} {c d e : Output} → Emits (linked p) m k P c d
@@ -153,7 +149,7 @@ module _ (slots : List Slot) (ends : List Ends) where
       → CompletesProcesses all p rest parts o d → WritesProcesses slots ends 0 all parts o d
   processes_end all {o = o} {d = d} p parts is completes =
       let none : WritesProcesses slots ends p [] [] d d = λ tree known n g. upto (record { follows = follows_self n d; stands = λ w i there. (refl, refl) }) (omega arith) in
-      subst (λ xs. WritesProcesses slots ends 0 all xs o d) (append_none parts) (completes d [] (subst (λ l. WritesProcesses slots ends p l [] d d) (sym is) none))
+      subst (λ xs. WritesProcesses slots ends 0 all xs o d) (append-none parts) (completes d [] (subst (λ l. WritesProcesses slots ends p l [] d d) (sym is) none))
 
 -- a list has its own elements, from any place on
 has_parts : (w : Code) (before parts : List Part) → w.processes ≡ before ++ parts → HasParts (length before) parts w

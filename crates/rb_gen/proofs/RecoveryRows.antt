@@ -17,11 +17,8 @@ use Rattle.rb_gen.specs.Output.{Output, added, filled_with, patched, settled}
 use Rattle.rb_gen.specs.Emits.{Adds}
 use Rattle.rb_gen.specs.Lookups.{joined_of}
 use Rattle.rb_gen.specs.Writes.{WritesAlternates, WritesBody, WritesOthers, WritesRecovery}
+use Rattle.rb_gen.proofs.Growing.{append-none}
 use Rattle.rb_gen.proofs.Emits.{at, both, filled, filled-last, filled-length, listed, only, settled_then, upto}
-
-append_none : {A : Type 0} (xs : List A) → xs ++ [] ≡ xs
-append_none [] = refl
-append_none (x ∷ xs) = ap (λ l. x ∷ l) (append_none xs)
 
 module _ (slots : List Slot) (words : List ℕ) where
   -- a recovery block, whose entry is settled behind its code
@@ -104,21 +101,5 @@ module _ (slots : List Slot) (words : List ℕ) where
       let same : t ≡ length f.instrs = here ∙ sym (filled-length places (Jump t) d) ∙ ap (λ (x : Output). length x.instrs) (sym end) in
       let all : WritesAlternates slots words a (addresses ++ []) t o (filled_with places (Jump t) d) = completes d t [] (no_other t d is) in
       let one : WritesAlternates slots words a addresses t o (filled_with places (Jump t) d) =
-      subst (λ (xs : List ℕ). WritesAlternates slots words a xs t o (filled_with places (Jump t) d)) (append_none addresses) all in
+      subst (λ (xs : List ℕ). WritesAlternates slots words a xs t o (filled_with places (Jump t) d)) (append-none addresses) all in
       subst (λ (i : ℕ). WritesAlternates slots words a addresses i o f) same (subst (λ x. WritesAlternates slots words a addresses t o x) (sym end) one)
-
-take_all : {A : Type 0} (xs : List A) → take (length xs) xs ≡ xs
-take_all [] = refl
-take_all (x ∷ xs) = ap (λ l. x ∷ l) (take_all xs)
-
--- alternates as code splits them
-pub split_alternates : (xs : List Held) (x : Held) → 1 ≤ length xs → x ≡ get_or xs 0 x → alternates_of xs ≡ Alternate (body x) (alternates_of (take (length xs - 1) (drop 1 xs)))
-split_alternates [] x h e = absurd (omega arith)
-split_alternates (y ∷ ys) x h e =
-    let one : suc (length ys) - 1 ≡ length ys = omega arith in
-    ap (λ z. Alternate (body z) (alternates_of ys)) (sym e) ∙ ap (λ l. Alternate (body x) (alternates_of l)) (sym (take_all ys)) ∙ ap
-    (λ (n : ℕ). Alternate (body x) (alternates_of (take n ys))) (sym one)
-
-pub none_alternates : (xs : List Held) → length xs < 1 → alternates_of xs ≡ NoAlternate
-none_alternates [] h = refl
-none_alternates (x ∷ xs) h = absurd (omega arith)

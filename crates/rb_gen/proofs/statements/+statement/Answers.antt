@@ -12,7 +12,8 @@ use Rattle.rb_code.specs.declared.instr.Instr.TheVariants.{Jump}
 use Rattle.rb_gen.specs.Output.{output, filled_with}
 use Rattle.rb_gen.specs.Writes.{WritesAlternates}
 use Rattle.rb_gen.proofs.StatementRows.{assigned, printing, sending, called, failed, received, received_else, conditional, conditional_else, looped, same_command, no_command, one_command, body_row, else_row}
-use Rattle.rb_gen.proofs.RecoveryRows.{recovered, no_alternate, alternates_init, alternates_step, alternates_end, split_alternates, none_alternates}
+use Rattle.rb_gen.proofs.RecoveryRows.{recovered, no_alternate, alternates_init, alternates_step, alternates_end}
+use Rattle.rb_gen.proofs.Slices.{none_left, split}
 use Rattle.rb_gen.proofs.statements.+statement.Goals as goal
 
 pub emit_statements-returns : goal.emit_statements-returns
@@ -124,12 +125,12 @@ emit_alternates-returns t c =
 
 pub emit_alternates-returns-in_default : goal.emit_alternates-returns-in_default
 emit_alternates-returns-in_default t c =
-    no_alternate c.args.slots.now c.args.words.now _ _ _ (none_alternates c.args.alternates.now c.in_default.len_below) c.new-addresses.ensures.items
+    no_alternate c.args.slots.now c.args.words.now _ _ _ (ap alternates_of (none_left c.args.alternates.now c.in_default.len_below)) c.new-addresses.ensures.items
 
 pub emit_alternates-others-init : goal.emit_alternates-others-init
 emit_alternates-others-init t c =
     alternates_init c.args.slots.now c.args.words.now _ c.in_ok-start.start _ _
-    (split_alternates c.args.alternates.now c.first-item.result c.in-len1-up.len_at_least c.first-item.is) c.in_ok-start.ensures
+    (ap alternates_of (split c.args.alternates.now c.first-item.result c.in-len1-up.len_at_least c.first-item.is)) c.in_ok-start.ensures
     (c.in_ok-push.ensures.items ∙ ap (λ xs. xs ++ (c.in_ok-start.start ∷ [])) c.new-addresses.ensures.items) c.new-places.ensures.items c.in_ok-emit_body.ensures
 
 pub emit_alternates-others-preserved : goal.emit_alternates-others-preserved
