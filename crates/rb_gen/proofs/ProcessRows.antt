@@ -137,9 +137,19 @@ module _ (slots : List Slot) (ends : List Ends) where
       upto (record {
         follows = both_of.follows;
         stands = λ w i (there, others_there).
-            let (m, body, behind) = both_of.stands w i in
-            (part, more, refl, (m, (record { start_is = start; words_are = sizes; channels_are = channels ∙ ap (channels_from p 0) known },
-            body (ap (λ x. x.procedures) (part_there w p part there))), behind others_there));
+            let (m, body, behind) = both_of.stands w i in (
+              part,
+              more,
+              refl,
+              (
+                m,
+                (
+                  record { start_is = start; words_are = sizes; channels_are = channels ∙ ap (channels_from p 0) known },
+                  body (ap (λ x. x.procedures) (part_there w p part there)),
+                ),
+                behind others_there,
+              ),
+            );
       }) (omega arith) in
       let two : WritesProcesses slots ends 0 all (parts ++ (part ∷ more)) o after =
       completes after (part ∷ more) (subst (λ l. WritesProcesses slots ends p l (part ∷ more) d after) (sym is) one) in

@@ -1,10 +1,7 @@
 -- The code of recovery blocks, as it is put together.
-use Rattle.std.proofs.Common.{◌≡◌, ℕ, ◌+◌, ◌-◌, ◌<◌, ◌≤◌, suc, List, [], ◌∷◌, ◌++◌, drop, take, length, Option, refl, sym, ap, ◌∙◌, subst, arith, append_assoc}
-use Rattle.std.specs.Prelude.{get_or}
+use Rattle.std.proofs.Common.{◌≡◌, ℕ, ◌+◌, List, [], ◌∷◌, ◌++◌, length, Option, refl, sym, ap, ◌∙◌, subst, arith, append_assoc}
 use Rattle.rb_base.specs.declared.place.Place.{Place}
 use Rattle.rb_syntax.specs.declared.expression.Number.{Number}
-use Rattle.rb_syntax.specs.declared.statement.Block.{Block as Held}
-use Rattle.rb_syntax.specs.Plain.{alternates_of, body}
 use Rattle.rb_syntax.specs.Tree.{Identifier, Expression, Body, RecoveryBlock, Recovers, Alternates, NoAlternate, Alternate}
 use Rattle.rb_syntax.specs.Numbered.{blocks_in_alternates, blocks_in_body}
 use Rattle.rb_meaning.specs.Environment.{natural}

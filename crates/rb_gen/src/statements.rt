@@ -1,7 +1,8 @@
 //! The code of statements with statements inside.
 
 ghost use Rattle.std.specs.Prelude.{◌≡◌, ℕ, length, IfOk, OnOk};
-ghost use Rattle.rb_syntax.specs.Plain.{alternates_of, body, command, commands_of, recovery_block};
+ghost use Rattle.rb_syntax.specs.Plain.{alternates_of, body, command, commands_of, expression as plain, identifier, otherwise, recovery_block, reference};
+ghost use Rattle.rb_syntax.specs.Tree.{Loop, Receiving};
 ghost use Rattle.rb_gen.specs.Output.{output};
 ghost use Rattle.rb_gen.specs.Writes.{WritesAlternates, WritesBody, WritesCommand, WritesCommands, WritesElse, WritesRecovery};
 
@@ -13,7 +14,7 @@ use crate::simple::{emit_assignment, emit_call, emit_printing, emit_sending, emi
 use rb_base::Memory;
 use rb_code::{BlockCode, Instr};
 use rb_scope::Slot;
-use rb_syntax::{Block, Recovery, Statement};
+use rb_syntax::{Block, Expr, Name, Recovery, Statement, Target};
 use std::alloc::Global;
 
 /// The code of a statement.
@@ -41,22 +42,8 @@ pub(crate) fn emit_statement(
             Ok(())
         }
         Statement::Receive(channel, target, other) => {
-            let number = channel_of(slots, channel.id);
-            put(draft, Instr::Turn)?;
-            match other {
-                None => {
-                    put(draft, Instr::There(number))?;
-                    emit_taking(draft, slots, number, target)?;
-                    Ok(())
-                }
-                Some(other) => {
-                    let absent = leave(draft)?;
-                    emit_taking(draft, slots, number, target)?;
-                    let none = emit_else(alloc, draft, slots, words, other)?;
-                    patch(draft, absent, Instr::Absent(number, none));
-                    Ok(())
-                }
-            }
+            emit_receipt(alloc, draft, slots, words, other, channel, target)?;
+            Ok(())
         }
         Statement::If(test, block, other) => {
             let over = emit_test(draft, slots, test)?;
@@ -75,12 +62,7 @@ pub(crate) fn emit_statement(
             }
         }
         Statement::While(test, block) => {
-            let start = here(draft)?;
-            let over = emit_test(draft, slots, test)?;
-            emit_body(alloc, draft, slots, words, block)?;
-            put(draft, Instr::Jump(start))?;
-            let end = here(draft)?;
-            patch(draft, over, Instr::JumpZero(end));
+            emit_loop(alloc, draft, slots, words, block, test)?;
             Ok(())
         }
         Statement::Call(procedure, arguments) => {
@@ -97,6 +79,58 @@ pub(crate) fn emit_statement(
             Ok(())
         }
     }
+}
+
+/// The code of a `receive`, which does not wait if it has a block.
+#[cycle(statement)]
+fn emit_receipt(
+    alloc: Global,
+    draft: &mut Draft,
+    slots: &[Slot],
+    words: &[u32],
+    other: &Option<Block<'_>>,
+    channel: &Name<'_>,
+    target: &Target<'_>,
+) -> Result<(), Memory>
+    ensures { OnOk result (WritesCommand slots.now words.now (Receiving (identifier channel.now) (reference target.now) (otherwise other.now)) (output draft.old) (output draft.new)) }
+{
+    let number = channel_of(slots, channel.id);
+    put(draft, Instr::Turn)?;
+    match other {
+        None => {
+            put(draft, Instr::There(number))?;
+            emit_taking(draft, slots, number, target)?;
+            Ok(())
+        }
+        Some(other) => {
+            let absent = leave(draft)?;
+            emit_taking(draft, slots, number, target)?;
+            let none = emit_else(alloc, draft, slots, words, other)?;
+            patch(draft, absent, Instr::Absent(number, none));
+            Ok(())
+        }
+    }
+}
+
+/// The code of a `while`.
+#[cycle(statement)]
+fn emit_loop(
+    alloc: Global,
+    draft: &mut Draft,
+    slots: &[Slot],
+    words: &[u32],
+    block: &Block<'_>,
+    test: &Expr<'_>,
+) -> Result<(), Memory>
+    ensures { OnOk result (WritesCommand slots.now words.now (Loop (plain test.now) (body block.now)) (output draft.old) (output draft.new)) }
+{
+    let start = here(draft)?;
+    let over = emit_test(draft, slots, test)?;
+    emit_body(alloc, draft, slots, words, block)?;
+    put(draft, Instr::Jump(start))?;
+    let end = here(draft)?;
+    patch(draft, over, Instr::JumpZero(end));
+    Ok(())
 }
 
 /// The code of an `else` behind what it is the other to, and its address.

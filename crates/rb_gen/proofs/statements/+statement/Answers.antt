@@ -67,39 +67,45 @@ emit_statement-returns-in_ok-emit_recovery-in-Recover t c =
     let is : command c.args.statement.now ≡ Recovering (recovery_block c.in-Recover.recovery) = grind (arith, trees) in
     same_command c.args.slots.now c.args.words.now is c.in_ok-emit_recovery-in-Recover.ensures
 
-pub emit_statement-returns-in_ok-emit_taking-in-None : goal.emit_statement-returns-in_ok-emit_taking-in-None
-emit_statement-returns-in_ok-emit_taking-in-None t c =
-    let of = Receiving (identifier c.in-Receive.channel) (reference c.in-Receive.target) in
-    let is : command c.args.statement.now ≡ of (otherwise c.in-Receive.other) = grind (arith, trees) in
-    received c.args.slots.now c.args.words.now (is ∙ ap of (ap otherwise c.in-None.is)) c.channel_of-number.ensures (c.in_ok-put-in-Receive.ensures refl)
-    (c.in_ok-put-in-None.ensures refl) c.in_ok-emit_taking-in-None.ensures
+pub emit_statement-returns-in_ok-emit_receipt-in-Receive : goal.emit_statement-returns-in_ok-emit_receipt-in-Receive
+emit_statement-returns-in_ok-emit_receipt-in-Receive t c =
+    let is : command c.args.statement.now ≡ Receiving (identifier c.in-Receive.channel) (reference c.in-Receive.target) (otherwise c.in-Receive.other) = grind (arith, trees) in
+    same_command c.args.slots.now c.args.words.now is c.in_ok-emit_receipt-in-Receive.ensures
 
-pub emit_statement-returns-in_ok-none-in-Some : goal.emit_statement-returns-in_ok-none-in-Some
-emit_statement-returns-in_ok-none-in-Some t c =
-    let of = Receiving (identifier c.in-Receive.channel) (reference c.in-Receive.target) in
-    let is : command c.args.statement.now ≡ of (otherwise c.in-Receive.other) = grind (arith, trees) in
-    received_else c.args.slots.now c.args.words.now (is ∙ ap of (ap otherwise c.in-Some.is)) c.channel_of-number.ensures (c.in_ok-put-in-Receive.ensures refl)
-    c.in_ok-absent-in-Some.ensures c.in_ok-emit_taking-in-Some.ensures c.in_ok-none-in-Some.ensures c.patch.ensures
-
-pub emit_statement-returns-in_ok-end-in-None-other : goal.emit_statement-returns-in_ok-end-in-None-other
-emit_statement-returns-in_ok-end-in-None-other t c =
-    let of = Conditional (plain c.in-If.test) (body c.in-If.block) in
-    let is : command c.args.statement.now ≡ of (otherwise c.in-If.other) = grind (arith, trees) in
-    conditional c.args.slots.now c.args.words.now (is ∙ ap of (ap otherwise c.in-None-other.is)) c.in_ok-over-in-If.ensures c.in_ok-emit_body-in-If.ensures
-    c.in_ok-end-in-None-other.ensures c.patch-in-None-other.ensures
-
-pub emit_statement-returns-in_ok-no-in-Some-other : goal.emit_statement-returns-in_ok-no-in-Some-other
-emit_statement-returns-in_ok-no-in-Some-other t c =
-    let of = Conditional (plain c.in-If.test) (body c.in-If.block) in
-    let is : command c.args.statement.now ≡ of (otherwise c.in-If.other) = grind (arith, trees) in
-    conditional_else c.args.slots.now c.args.words.now (is ∙ ap of (ap otherwise c.in-Some-other.is)) c.in_ok-over-in-If.ensures c.in_ok-emit_body-in-If.ensures
-    c.in_ok-no-in-Some-other.ensures c.patch-in-Some-other.ensures
-
-pub emit_statement-returns-in_ok-end-in-While : goal.emit_statement-returns-in_ok-end-in-While
-emit_statement-returns-in_ok-end-in-While t c =
+pub emit_statement-returns-in_ok-emit_loop-in-While : goal.emit_statement-returns-in_ok-emit_loop-in-While
+emit_statement-returns-in_ok-emit_loop-in-While t c =
     let is : command c.args.statement.now ≡ Loop (plain c.in-While.test) (body c.in-While.block) = grind (arith, trees) in
-    looped c.args.slots.now c.args.words.now is c.in_ok-start-in-While.ensures c.in_ok-over-in-While.ensures c.in_ok-emit_body-in-While.ensures
-    (c.in_ok-put-in-While.ensures refl) c.in_ok-end-in-While.ensures c.patch-in-While.ensures
+    same_command c.args.slots.now c.args.words.now is c.in_ok-emit_loop-in-While.ensures
+
+pub emit_statement-returns-in_ok-end-in-None : goal.emit_statement-returns-in_ok-end-in-None
+emit_statement-returns-in_ok-end-in-None t c =
+    let of = Conditional (plain c.in-If.test) (body c.in-If.block) in
+    let is : command c.args.statement.now ≡ of (otherwise c.in-If.other) = grind (arith, trees) in
+    conditional c.args.slots.now c.args.words.now (is ∙ ap of (ap otherwise c.in-None.is)) c.in_ok-over-in-If.ensures c.in_ok-emit_body-in-If.ensures
+    c.in_ok-end-in-None.ensures c.patch.ensures
+
+pub emit_statement-returns-in_ok-no-in-Some : goal.emit_statement-returns-in_ok-no-in-Some
+emit_statement-returns-in_ok-no-in-Some t c =
+    let of = Conditional (plain c.in-If.test) (body c.in-If.block) in
+    let is : command c.args.statement.now ≡ of (otherwise c.in-If.other) = grind (arith, trees) in
+    conditional_else c.args.slots.now c.args.words.now (is ∙ ap of (ap otherwise c.in-Some.is)) c.in_ok-over-in-If.ensures c.in_ok-emit_body-in-If.ensures
+    c.in_ok-no-in-Some.ensures c.patch-in-Some.ensures
+
+pub emit_receipt-returns-in_ok-emit_taking-in-None : goal.emit_receipt-returns-in_ok-emit_taking-in-None
+emit_receipt-returns-in_ok-emit_taking-in-None t c =
+    let of = Receiving (identifier c.args.channel.now) (reference c.args.target.now) in
+    received c.args.slots.now c.args.words.now (ap of (ap otherwise c.in-None.is)) c.channel_of-number.ensures (c.in_ok-put.ensures refl) (c.in_ok-put-in-None.ensures refl)
+    c.in_ok-emit_taking-in-None.ensures
+
+pub emit_receipt-returns-in_ok-none-in-Some : goal.emit_receipt-returns-in_ok-none-in-Some
+emit_receipt-returns-in_ok-none-in-Some t c =
+    let of = Receiving (identifier c.args.channel.now) (reference c.args.target.now) in
+    received_else c.args.slots.now c.args.words.now (ap of (ap otherwise c.in-Some.is)) c.channel_of-number.ensures (c.in_ok-put.ensures refl) c.in_ok-absent-in-Some.ensures
+    c.in_ok-emit_taking-in-Some.ensures c.in_ok-none-in-Some.ensures c.patch.ensures
+
+pub emit_loop-returns : goal.emit_loop-returns
+emit_loop-returns t c =
+    looped c.args.slots.now c.args.words.now refl c.in_ok-start.ensures c.in_ok-over.ensures c.in_ok-emit_body.ensures (c.in_ok-put.ensures refl) c.in_ok-end.ensures c.patch.ensures
 
 pub emit_recovery-returns : goal.emit_recovery-returns
 emit_recovery-returns t c =
