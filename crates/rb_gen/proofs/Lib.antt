@@ -1,3 +1,4 @@
+-- Lemmas of the generator.
 pub mod Growing
 pub mod Emits
 pub mod Rows
@@ -9,3 +10,7 @@ pub mod ProcessRows
 pub mod LinkSteps
 pub mod QuantifiedRows
 pub mod Slices
+-- There is code for every tree.
+pub mod Exists
+pub mod ExistsStatements
+pub mod ExistsProcesses

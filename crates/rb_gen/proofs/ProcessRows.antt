@@ -112,7 +112,7 @@ process_row slots words process entries sized body done procedures links = λ tr
     upto (linked_process p n (m + blocks_in process.commands) entries (both_back (body s m h) (both_back (done p m) (procedures s n g))) links) (omega arith)
 
 -- the part of a process that the whole code has
-part_there : (w : Code) (p : ℕ) (part : Part) → slice_get w.processes p ≡ Some part → part_of w p ≡ part
+pub part_there : (w : Code) (p : ℕ) (part : Part) → slice_get w.processes p ≡ Some part → part_of w p ≡ part
 part_there w p part e = ap (λ o. unwrap_or o no_part) e
 
 module _ (slots : List Slot) (ends : List Ends) where

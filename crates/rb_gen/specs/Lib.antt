@@ -1,3 +1,4 @@
+-- What is said of the generator.
 pub mod Output
 pub mod Emits
 pub mod Lookups
@@ -5,3 +6,4 @@ pub mod InMemory
 pub mod Given
 pub mod Writes
 pub mod Channels
+pub mod Laws

@@ -5,6 +5,7 @@ mod channels;
 mod draft;
 mod expressions;
 mod frames;
+pub mod laws;
 mod linking;
 mod lookups;
 mod processes;
