@@ -2,8 +2,19 @@
 
 ghost use Rattle.rb_code.specs.RoomInTree.{FewOperands};
 ghost use Rattle.rb_judge.specs.Laws.{OfEveryAccepted};
+ghost use Rattle.rb_prepare.specs.Laws.{AlwaysAgrees, IsSoundForGroups, OfEveryCode};
 
 /// The expressions of an accepted source find room for their operands.
 pub fn accepted_find_room()
     ensures { OfEveryAccepted FewOperands }
+{}
+
+/// Whatever code stands for an accepted source is sound, with the conversations of the source.
+pub fn code_is_sound()
+    ensures { OfEveryCode IsSoundForGroups }
+{}
+
+/// It agrees with the meaning of the source, over every list of turns.
+pub fn code_agrees()
+    ensures { OfEveryCode AlwaysAgrees }
 {}

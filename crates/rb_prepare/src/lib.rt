@@ -2,3 +2,7 @@
 #![tactic(auto)]
 
 pub mod laws;
+pub mod preparing;
+pub mod sound;
+
+pub use preparing::{Prepared, prepare};
