@@ -11,12 +11,21 @@ use Rattle.rb_run.specs.Runnable.{is_runnable}
 use Rattle.rb_sched.specs.Schedule.{schedule_of}
 use Rattle.rb_syntax.specs.Tree.{Tree}
 use Rattle.rb_judge.specs.Verdict.{IsAccepted, IsRefusedFor}
-use Rattle.rb_top.specs.Words.{Run, Check}
+use Rattle.rb_top.specs.Words.{Run, Check, Compile}
 use Rattle.rb_top.specs.Judgement.{Judgement, ReadsOn, RefusedWith, Writes, too_long_line, source_line, schedule_line, accepted_line, unready, SourceRefused, long_source, bad_source, Accepted}
-use Rattle.rb_top.specs.Judgement.{ScheduleRefused, long_schedule, bad_schedule, at_first, source_refused, source_accepted, unready_tree, ready_tree, schedule_refused, runs, accepts}
+use Rattle.rb_top.specs.Judgement.{ScheduleRefused, long_schedule, bad_schedule, at_first, source_refused, source_accepted, unready_tree, ready_tree, schedule_refused, runs, accepts, CodeGoesOn, ListsCodeOf, lists}
 use Rattle.rb_top.specs.Judgement.{EndsWith, refused_here, written_here, later}
 use Rattle.rb_top.specs.Laws.{AreJudged}
+use Rattle.rb_judge.proofs.BlocksInOrder.{parsed_are_numbered}
+use Rattle.rb_judge.proofs.OwnNumbers.{parsed_have_own_numbers}
 use Rattle.rb_judge.proofs.Verdicts.{have_verdicts}
+use Rattle.rb_scope.specs.Finding.{nothing_found, visited}
+use Rattle.rb_scope.specs.Resolved.{IsResolved}
+use Rattle.rb_scope.specs.Sites.{tree_sites}
+use Rattle.rb_scope.proofs.Answer.{slots_found}
+use Rattle.rb_scope.proofs.ResolvedInFrames.{resolved_in_frames}
+use Rattle.rb_code.specs.Listing.{listing_text}
+use Rattle.rb_gen.proofs.ExistsProcesses.{code_exists}
 
 -- ---- a source
 
@@ -123,6 +132,38 @@ check_judged [] one = absurd (omega (arith, one))
 check_judged (source ∷ []) one = checked source (sourced source)
 check_judged (source ∷ other ∷ more) one = absurd (omega (arith, one))
 
+-- ---- `code`
+
+-- there is code for each accepted source
+has_code : (source : List ℕ) (tree : Tree) → Accepted source tree → (text : List ℕ) × ListsCodeOf tree text
+has_code source tree accepted =
+    let slots = (visited (nothing_found tree.names) (tree_sites tree)).slots in
+    let resolved : IsResolved tree slots = record {
+      no_fault = accepted.accepted.scoped;
+      slots_of = slots_found tree (parsed_have_own_numbers source tree accepted.accepted.derived);
+    } in
+    let frames = resolved_in_frames tree slots resolved in
+    let made = code_exists tree slots frames (parsed_are_numbered source tree accepted.accepted.derived) in
+    (listing_text made.0, record { slots = slots; listed = made.0; resolved = resolved; frames = frames; stands = made.1; is = refl })
+
+code_written : (source : List ℕ) (tree : Tree) → Accepted source tree → (text : List ℕ) × ListsCodeOf tree text → (v : Judgement) × EndsWith Compile [] (source ∷ []) v
+code_written source tree accepted (text, listed) = (
+  Writes text,
+  later [] source [] (Writes text) at_first (written_here (source ∷ []) [] text (source_accepted source tree [] (Writes text) accepted (lists text listed))),
+)
+
+listed_code : (source : List ℕ) → Sourced source → (v : Judgement) × EndsWith Compile [] (source ∷ []) v
+listed_code source (inl (line, refused)) =
+    (RefusedWith line, later [] source [] (RefusedWith line) at_first (refused_here (source ∷ []) [] line (source_refused source line refused)))
+listed_code source (inr (tree, accepted)) = code_written source tree accepted (has_code source tree accepted)
+
+-- `code` reads one
+code_judged : (texts : List (List ℕ)) → length texts ≡ 1 → (v : Judgement) × EndsWith Compile [] texts v
+code_judged [] one = absurd (omega (arith, one))
+code_judged (source ∷ []) one = listed_code source (sourced source)
+code_judged (source ∷ other ∷ more) one = absurd (omega (arith, one))
+
 pub are_judged : AreJudged
 are_judged Run texts two = run_judged texts two
 are_judged Check texts one = check_judged texts one
+are_judged Compile texts one = code_judged texts one

@@ -6,14 +6,16 @@ use Rattle.rb_outside.specs.declared.Failed.{Failed}
 use Rattle.rb_outside.specs.Outside.{File, Faults, Start, bytes_of, named, shut, told_starts, failed_once, was_missing}
 use Rattle.rb_outside.specs.Puts.{Puts}
 use Rattle.rb_outside.proofs.Puts.{failed_after}
-use Rattle.rb_top.specs.Words.{Command, Run, Check, Wanted, Request}
+use Rattle.rb_top.specs.Words.{Command, Run, Check, Compile, Wanted, Request}
 use Rattle.rb_top.specs.declared.read.Unread.{Unread}
 use Rattle.rb_top.specs.declared.read.Unread.TheVariants.{Fault}
 use Rattle.rb_top.specs.declared.read.Unread.TheVariants as unread
 use Rattle.rb_top.specs.declared.status.Status.{Status}
 use Rattle.rb_top.specs.declared.status.Status.TheVariants.{Done, Refused, Usage, ReadFault, WriteFault, Memory}
 use Rattle.rb_top.specs.Judgement.{Judgement, ReadsOn, RefusedWith, Writes, Judges}
-use Rattle.rb_top.specs.Answers.{Scene, WritesNothing, WritesByThen, piece_bytes, IsRead, nothing_yet, one_more, Ended, EndedIn, StoppedAt, StoppedByFault, told, untold, StoppedByFaultIn, StoppedByMissing, StoppedByMissingIn, RanOut, between, within, RanOutIn, ReadFails, by_fault, by_missing, WithRequest, WhereRequested}
+use Rattle.rb_top.specs.Answers.{Scene, WritesNothing, WritesByThen, piece_bytes, IsRead, nothing_yet, one_more, Ended, EndedIn, StoppedAt}
+use Rattle.rb_top.specs.Answers.{StoppedByFault, told, untold, StoppedByFaultIn, StoppedByMissing, StoppedByMissingIn, RanOut, between, within}
+use Rattle.rb_top.specs.Answers.{RanOutIn, ReadFails, by_fault, by_missing, WithRequest, WhereRequested}
 use Rattle.rb_top.specs.Read.{WasRead, WasReadIn, StandsAt, StandsAtIn, StopsForFault, StopsForFaultIn, StopsForMemory, OnUnread}
 use Rattle.rb_top.specs.Read as stops
 use Rattle.rb_top.specs.Stages.{HasReadSince, HasReadIn, StageEnds, status_of_unread}
@@ -172,6 +174,7 @@ ends_short (Some files) request texts rest old now since = between texts rest si
 nothing_by_then : (command : Command) (old new : Scene) → WritesNothing old new → WritesByThen command old new
 nothing_by_then Run old new nothing = nothing
 nothing_by_then Check old new nothing = nothing
+nothing_by_then Compile old new nothing = nothing
 
 module _ (files others : Option (List File)) (request : Request) (texts : List (List ℕ)) (rest : List Wanted) (old now : List Start) (r0 r1 f0 f1 : Faults) (w0 w1 : Option (List ℕ))
     (since : HasReadIn files request texts rest old now) (well : r1.count ≡ r0.count) (judged : Judgement → Type 0)
@@ -253,7 +256,8 @@ read_again None name bytes most old mid was = tt
 read_again (Some files) name bytes most old mid was =
     subst (λ (others : List Start). WasRead files name most bytes others mid) (sym (ap (drop 1) was.started)) was
 
-ended_of : (files : Option (List File)) (request : Request) (a b new : List Start) (judgement : Judgement) → AreStarts files a b → EndedIn files request a new judgement → EndedIn files request b new judgement
+ended_of : (files : Option (List File)) (request : Request) (a b new : List Start) (judgement : Judgement) → AreStarts files a b
+    → EndedIn files request a new judgement → EndedIn files request b new judgement
 ended_of None request a b new judgement same h = tt
 ended_of (Some files) request a b new judgement same h = subst (λ (st : List Start). Ended files request st new judgement) same h
 
@@ -278,6 +282,7 @@ still_by_then : (files : Option (List File)) (command : Command) (a b : List Sta
     WritesByThen command (record { files = files; starts = b; read_faults = r0; written = w0; write_faults = f0 }) new
 still_by_then files Run a b r0 r1 f0 w0 new nothing = record { written = nothing.written; faults = nothing.faults }
 still_by_then files Check a b r0 r1 f0 w0 new nothing = record { written = nothing.written; faults = nothing.faults }
+still_by_then files Compile a b r0 r1 f0 w0 new nothing = record { written = nothing.written; faults = nothing.faults }
 
 -- an answer of the later stages is one of the whole, in which nothing but reads without faults came before
 pub resumed : (files : Option (List File)) (request : Request) (a b : List Start) (r0 r1 f0 : Faults) (w0 : Option (List ℕ)) (new : Scene) (status : Status) →

@@ -4,7 +4,7 @@ use Rattle.std.proofs.lemmas.List.{length-take}
 use Rattle.std.proofs.Math.Seq.{take-append_seam, take-length}
 use Rattle.rb_outside.specs.Outside.{File, Faults, Start, WrotePart, failed_once, went_well, then_written}
 use Rattle.rb_outside.proofs.Puts.{failed_after}
-use Rattle.rb_top.specs.Words.{Command, Run, Check, Request}
+use Rattle.rb_top.specs.Words.{Command, Run, Check, Compile, Request}
 use Rattle.rb_top.specs.Judgement.{usage_line}
 use Rattle.rb_top.specs.Answers.{Scene, ReadFails, by_fault, by_missing, WritesByThen, WritesAll, WritesPart, WritesNothing, WithoutRequest, WithRequest, WhereRequested}
 use Rattle.rb_top.specs.Complete.{IsUnhindered, EndsAs, IsComplete}
@@ -165,7 +165,9 @@ module _ (files0 : Option (List File)) (starts0 : List Start) (r0 : Faults) (w0 
 
   -- the sink is as it was
   seen_still : s2 ≡ s1 → SeenBehind (at_sink mid.write_faults) new
-  seen_still same = subst (λ f. SeenBehind (at_sink mid.write_faults) (record { files = files1; starts = starts1; read_faults = r1; written = w2; write_faults = f })) (sym same) (seen_last files1 starts1 r1 w2 failed s1)
+  seen_still same =
+      let with_faults : Faults → Scene = λ f. record { files = files1; starts = starts1; read_faults = r1; written = w2; write_faults = f } in
+      subst (λ f. SeenBehind (at_sink mid.write_faults) (with_faults f)) (sym same) (seen_last files1 starts1 r1 w2 failed s1)
 
   -- whatever the words ask for
   behind_none : (s t : Status) → WithoutRequest old mid s → Finishes s t told w1 w2 s1 s2 → Seen None old new t
@@ -193,6 +195,7 @@ module _ (files0 : Option (List File)) (starts0 : List Start) (r0 : Faults) (w0 
   writes_by_then : (command : Command) → WritesByThen command old mid → WritesByThen command old (at_sink mid.write_faults)
   writes_by_then Run none = passed_none none
   writes_by_then Check none = passed_none none
+  writes_by_then Compile none = passed_none none
 
   behind_some : (request : Request) (s t : Status) → WithRequest request old mid s → Finishes s t told w1 w2 s1 s2 → Seen (Some request) old new t
   behind_some request Usage t h f = absurd h

@@ -1,12 +1,14 @@
 -- What `clap` makes of plain words: it takes those that give a command, and finds the values that they give it.
-use Rattle.std.proofs.Common.{◌≡◌, ◌∙◌, ℕ, Bool, true, false, List, [], ◌∷◌, ◌++◌, map, codes, Option, Some, None, Box, Bor, ◌<◌, ◌+◌, length, take, slice_index_or, option_and_then, option_map, inl, inr, refl, sym, ap, subst, true≢false}
+use Rattle.std.proofs.Common.{◌≡◌, ◌∙◌, ℕ, Bool, true, false, List, [], ◌∷◌, ◌++◌, map, codes, Option, Some, None, Box, Bor, ◌<◌, ◌+◌, length, take}
+use Rattle.std.proofs.Common.{slice_index_or, option_and_then, option_map, inl, inr, refl, sym, ap, subst, true≢false}
 use Rattle.std.specs.Str.{bytes_eq}
 use Rattle.std.specs.List.{find, fold, list_all}
 use Rattle.std.proofs.lemmas.List.{map-append, take_more}
 use Rattle.std.proofs.lemmas.Slice.Eq.{bytes_eq-Decides}
 use Rattle.std.proofs.lemmas.Bool.{not-true, not-false, and_parts, and_cases, cond-true, cond_both, eqb-true}
 use Rattle.clap.specs.Lexer.{long_of, short_of}
-use Rattle.clap.specs.Walk.{Held, Names, rows_of, answers_to, Rule, Row, Text, Walk, arg_by_index, first_of, idle, nothing_held, rows_after, subcommand_met, to_positional, value, walk, walked, word_met}
+use Rattle.clap.specs.Walk.{Held, Names, rows_of, answers_to, Rule, Row, Text, Walk, arg_by_index, first_of, idle, nothing_held, rows_after}
+use Rattle.clap.specs.Walk.{subcommand_met, to_positional, value, walk, walked, word_met}
 use Rattle.clap.specs.Simple.{App, Shape, built, filled_from, is_simple, label_of, names_of, new_shape, subcommand_of, subcommand_rows, with_rule}
 use Rattle.std.specs.Box.{box_value}
 use Rattle.clap.specs.Values.{kind_of}
@@ -24,7 +26,7 @@ use Rattle.clap.specs.declared.builder.value_parser.Reading.TheVariants.{AsWritt
 use Rattle.clap.proofs.WalkLemmas.{first_value-rows, walk_stopped}
 use Rattle.clap.proofs.FaultLemmas.{stopped_fault}
 use Rattle.clap.proofs.OnLiterals.{clap_on_literals}
-use Rattle.rb_top.specs.Words.{Request, forms, is_plain_word, named_in, request_of}
+use Rattle.rb_top.specs.Words.{Request, check_of, code_of, forms, is_plain_word, named_in, request_of, with_one}
 use Rattle.rb_top.specs.CommandLine.{command_with, program, request_given, required_word}
 
 -- the program is one of which `clap` says all
@@ -248,40 +250,52 @@ run_agrees (a ∷ b ∷ c ∷ more) plain =
     refused (some_fault _ _ _ _ (run-fault (a ∷ b ∷ c ∷ more)) (two-many (codes "run") _ _ refl refl refl refl a b c more first.0 second.0 third.0))
     (asks (codes "run") (a ∷ b ∷ c ∷ more) plain)
 
--- `check` takes one
-module _ (words : List Text) where
-  check-fault : fault_of program (codes "check" ∷ words) ≡ or_else (fault_at (codes "check") (codes "SOURCE" ∷ []) words) []
-  check-fault = fault-name (codes "check") words (leaf (codes "check") (codes "SOURCE" ∷ [])) refl refl refl
+-- a command that takes one word, the name of a source
+module _ (name : Text) (of : Text → Request)
+    (fault : (words : List Text) → fault_of program (name ∷ words) ≡ or_else (fault_at name (codes "SOURCE" ∷ []) words) [])
+    (values : (words : List Text) → subcommand_of program (name ∷ words) ≡ Some (name, rows_after (leaf name (codes "SOURCE" ∷ [])).rules [] words))
+    (gives : (given : Text → Option Text) → request_given name given ≡ option_map of (given (codes "SOURCE")))
+    (form : (words : List Text) → named_in forms name words ≡ with_one of words) where
+  one_agrees : (words : List Text) → list_all is_plain_word words ≡ true → Agrees (name ∷ words)
+  one_agrees [] plain = refused (some_fault _ _ _ _ (fault []) (one-few name _ refl)) (form [])
+  one_agrees (a ∷ []) plain =
+      let first = and_parts _ _ plain in
+      let found : found_in (subcommand_of program (name ∷ a ∷ [])) ≡ Some (of a) =
+      ap found_in (values (a ∷ [])) ∙ gives (λ id. first_of id (rows_after (leaf name (codes "SOURCE" ∷ [])).rules [] (a ∷ [])))
+      ∙ ap (option_map of) (one-value name (codes "SOURCE") refl a first.0) in
+      taken (no_fault _ _ (fault (a ∷ [])) (one-takes name _ refl a first.0)) (found ∙ sym (asks name (a ∷ []) plain ∙ form (a ∷ [])))
+  one_agrees (a ∷ b ∷ more) plain =
+      let first = and_parts _ _ plain in
+      let second = and_parts _ _ first.1 in
+      refused (some_fault _ _ _ _ (fault (a ∷ b ∷ more)) (one-many name _ refl a b more first.0 second.0)) (asks name (a ∷ b ∷ more) plain ∙ form (a ∷ b ∷ more))
 
-  check-values : subcommand_of program (codes "check" ∷ words) ≡ Some (codes "check", rows_after (leaf (codes "check") (codes "SOURCE" ∷ [])).rules [] words)
-  check-values = subcommand-name (codes "check") words (leaf (codes "check") (codes "SOURCE" ∷ [])) refl refl refl
-
+-- `check` and `code` take one
 check_agrees : (words : List Text) → list_all is_plain_word words ≡ true → Agrees (codes "check" ∷ words)
-check_agrees [] plain = refused (some_fault _ _ _ _ (check-fault []) (one-few (codes "check") _ refl)) refl
-check_agrees (a ∷ []) plain =
-    let first = and_parts _ _ plain in
-    taken (no_fault _ _ (check-fault (a ∷ [])) (one-takes (codes "check") _ refl a first.0))
-    (rw (check-values (a ∷ []), one-value (codes "check") (codes "SOURCE") refl a first.0) (sym (asks (codes "check") (a ∷ []) plain)))
-check_agrees (a ∷ b ∷ more) plain =
-    let first = and_parts _ _ plain in
-    let second = and_parts _ _ first.1 in
-    refused (some_fault _ _ _ _ (check-fault (a ∷ b ∷ more)) (one-many (codes "check") _ refl a b more first.0 second.0))
-    (asks (codes "check") (a ∷ b ∷ more) plain)
+check_agrees =
+    one_agrees (codes "check") check_of (λ words. fault-name (codes "check") words (leaf (codes "check") (codes "SOURCE" ∷ [])) refl refl refl)
+    (λ words. subcommand-name (codes "check") words (leaf (codes "check") (codes "SOURCE" ∷ [])) refl refl refl) (λ given. refl) (λ words. refl)
+
+code_agrees : (words : List Text) → list_all is_plain_word words ≡ true → Agrees (codes "code" ∷ words)
+code_agrees =
+    one_agrees (codes "code") code_of (λ words. fault-name (codes "code") words (leaf (codes "code") (codes "SOURCE" ∷ [])) refl refl refl)
+    (λ words. subcommand-name (codes "code") words (leaf (codes "code") (codes "SOURCE" ∷ [])) refl refl refl) (λ given. refl) (λ words. refl)
 
 -- the first word is a command's name, or none
-named : (is_run is_check : Bool) (name : Text) (words : List Text) → list_all is_plain_word (name ∷ words) ≡ true →
-    bytes_eq (codes "run") name ≡ is_run → bytes_eq (codes "check") name ≡ is_check → Agrees (name ∷ words)
-named true is_check name words plain e f = subst (λ n. Agrees (n ∷ words)) ((bytes_eq-Decides _ _).0 e) (run_agrees words (and_parts _ _ plain).1)
-named false true name words plain e f = subst (λ n. Agrees (n ∷ words)) ((bytes_eq-Decides _ _).0 f) (check_agrees words (and_parts _ _ plain).1)
-named false false name words plain e f =
+named : (is_run is_check is_code : Bool) (name : Text) (words : List Text) → list_all is_plain_word (name ∷ words) ≡ true →
+    bytes_eq (codes "run") name ≡ is_run → bytes_eq (codes "check") name ≡ is_check → bytes_eq (codes "code") name ≡ is_code → Agrees (name ∷ words)
+named true is_check is_code name words plain e f h = subst (λ n. Agrees (n ∷ words)) ((bytes_eq-Decides _ _).0 e) (run_agrees words (and_parts _ _ plain).1)
+named false true is_code name words plain e f h = subst (λ n. Agrees (n ∷ words)) ((bytes_eq-Decides _ _).0 f) (check_agrees words (and_parts _ _ plain).1)
+named false false true name words plain e f h = subst (λ n. Agrees (n ∷ words)) ((bytes_eq-Decides _ _).0 h) (code_agrees words (and_parts _ _ plain).1)
+named false false false name words plain e f h =
     let parts = and_parts (is_plain_word name) _ plain in
-    let no_name : subcommand_met names idle name ≡ None = rw (e, f) refl in
+    let no_name : subcommand_met names idle name ≡ None = rw (e, f, h) refl in
     refused (λ none. let both : [] ≡ UnknownArgument ∷ InvalidSubcommand ∷ [] = sym none ∙ other_word name words parts.0 no_name in cc)
-    (asks name words parts.1 ∙ rw (e, f) refl)
+    (asks name words parts.1 ∙ rw (e, f, h) refl)
 
 pub agrees : (words : List Text) → list_all is_plain_word words ≡ true → Agrees words
 agrees [] plain = refused (λ none. let both : [] ≡ MissingSubcommand ∷ [] = sym none ∙ no_words in cc) refl
-agrees (name ∷ words) plain = named (bytes_eq (codes "run") name) (bytes_eq (codes "check") name) name words plain refl refl
+agrees (name ∷ words) plain =
+    named (bytes_eq (codes "run") name) (bytes_eq (codes "check") name) (bytes_eq (codes "code") name) name words plain refl refl refl
 
 -- a word that is not plain names no command
 not_named : (name : Text) (words : List Text) → is_plain_word name ≡ false → named_in forms name words ≡ None

@@ -48,7 +48,8 @@ module _ (request : Request) (files : List File) (old new : List Start) (texts :
       not_missing (bytes_of files gone.next.name) next.text next.stored gone.missing
 
 -- each answer, where nothing outside stands in the way
-pub completed : (request : Request) (old new : Scene) (status : Status) → WithRequest request old new status → (files : List File) (before : List ℕ) (texts : List (List ℕ)) → IsUnhindered request old new files before texts →
+pub completed : (request : Request) (old new : Scene) (status : Status) → WithRequest request old new status
+    → (files : List File) (before : List ℕ) (texts : List (List ℕ)) → IsUnhindered request old new files before texts →
     (status ≡ Memory) ⊎ EndsAsJudged request before texts new status
 completed request old new Usage h files before texts free = absurd h
 completed request old new Done (text, ended, well, all) files before texts free =

@@ -5,12 +5,15 @@ use Rattle.rb_base.specs.declared.limits.TheConstants.{MOST_BYTES}
 use Rattle.rb_run.specs.Ran.{names_of}
 use Rattle.rb_sched.specs.Schedule.{schedule_of}
 use Rattle.rb_syntax.specs.Tree.{Tree}
-use Rattle.rb_top.specs.Words.{Command, Run, Check}
+use Rattle.rb_top.specs.Words.{Command, Run, Check, Compile}
 use Rattle.rb_top.specs.Judgement.{Judgement, ReadsOn, RefusedWith, Writes, SourceRefused, long_source, bad_source, source_line, Accepted}
 use Rattle.rb_top.specs.Judgement.{ScheduleRefused, long_schedule, bad_schedule, schedule_line, ScheduleRuns, JudgesSource, at_first, source_refused, source_accepted}
-use Rattle.rb_top.specs.Judgement.{RunGoesOn, unready_tree, ready_tree, schedule_refused, runs, CheckGoesOn, accepts, Judges, EndsWith, refused_here, written_here, later}
+use Rattle.rb_top.specs.Judgement.{RunGoesOn, unready_tree, ready_tree, schedule_refused, runs, CheckGoesOn, accepts, CodeGoesOn, ListsCodeOf, lists, Judges, EndsWith, refused_here, written_here, later}
 use Rattle.rb_top.specs.Laws.{AreJudgedOnce}
+use Rattle.rb_judge.proofs.BlocksInOrder.{parsed_are_numbered}
 use Rattle.rb_judge.proofs.Verdicts.{have_one_verdict}
+use Rattle.rb_code.specs.Listing.{listing_text}
+use Rattle.rb_code.proofs.OneCode.{one_code_stands}
 
 not_both_lengths : (text : List ℕ) {P : Type 0} → MOST_BYTES < length text → length text ≤ MOST_BYTES → P
 not_both_lengths text long short = absurd (omega (arith, long, short))
@@ -55,23 +58,38 @@ run_once tree schedule text other r s =
 run_stands : (tree : Tree) (schedule text line : List ℕ) → ScheduleRuns tree schedule text → ScheduleRefused tree schedule line → ⊥
 run_stands tree schedule text line r refused = listed_stands tree schedule line r.turns r.short r.listed refused
 
--- `run` goes on in one way from an accepted source
-runs_once : (tree : Tree) (texts : List (List ℕ)) (v w : Judgement) → RunGoesOn tree texts v → RunGoesOn tree texts w → v ≡ w
-runs_once tree texts v w (unready_tree line n a) (unready_tree other m b) = ap RefusedWith (a ∙ sym b)
-runs_once tree texts v w (unready_tree line n a) (ready_tree y) = absurd (true≢false (sym y ∙ n))
-runs_once tree texts v w (ready_tree y) (unready_tree line n a) = absurd (true≢false (sym y ∙ n))
-runs_once tree texts v w (ready_tree y) (ready_tree z) = refl
-runs_once tree texts v w (schedule_refused schedule line r) (schedule_refused again other s) = ap RefusedWith (schedule_once tree schedule line other r s)
-runs_once tree texts v w (schedule_refused schedule line r) (runs again text s) = absurd (run_stands tree schedule text line s r)
-runs_once tree texts v w (runs schedule text r) (schedule_refused again line s) = absurd (run_stands tree schedule text line r s)
-runs_once tree texts v w (runs schedule text r) (runs again other s) = ap Writes (run_once tree schedule text other r s)
+-- a command goes on in one way from an accepted source
+abbrev GoesOnOnce : (Tree → List (List ℕ) → Judgement → Type 0) → Type 0
+GoesOnOnce goes_on =
+    (source : List ℕ) (tree : Tree) (texts : List (List ℕ)) (v w : Judgement) → Accepted source tree → goes_on tree texts v → goes_on tree texts w → v ≡ w
+
+-- `run` does
+runs_once : GoesOnOnce RunGoesOn
+runs_once source tree texts v w accepted (unready_tree line n a) (unready_tree other m b) = ap RefusedWith (a ∙ sym b)
+runs_once source tree texts v w accepted (unready_tree line n a) (ready_tree y) = absurd (true≢false (sym y ∙ n))
+runs_once source tree texts v w accepted (ready_tree y) (unready_tree line n a) = absurd (true≢false (sym y ∙ n))
+runs_once source tree texts v w accepted (ready_tree y) (ready_tree z) = refl
+runs_once source tree texts v w accepted (schedule_refused schedule line r) (schedule_refused again other s) = ap RefusedWith (schedule_once tree schedule line other r s)
+runs_once source tree texts v w accepted (schedule_refused schedule line r) (runs again text s) = absurd (run_stands tree schedule text line s r)
+runs_once source tree texts v w accepted (runs schedule text r) (schedule_refused again line s) = absurd (run_stands tree schedule text line r s)
+runs_once source tree texts v w accepted (runs schedule text r) (runs again other s) = ap Writes (run_once tree schedule text other r s)
 
 -- and so does `check`
-checks_once : (tree : Tree) (texts : List (List ℕ)) (v w : Judgement) → CheckGoesOn tree texts v → CheckGoesOn tree texts w → v ≡ w
-checks_once tree texts v w (accepts text a) (accepts other b) = ap Writes (a ∙ sym b)
+checks_once : GoesOnOnce CheckGoesOn
+checks_once source tree texts v w accepted (accepts text a) (accepts other b) = ap Writes (a ∙ sym b)
 
-module _ (goes_on : Tree → List (List ℕ) → Judgement → Type 0)
-    (once : (tree : Tree) (texts : List (List ℕ)) (v w : Judgement) → goes_on tree texts v → goes_on tree texts w → v ≡ w) where
+-- and `code`: one code stands for a tree
+code_once : (source text other : List ℕ) (tree : Tree) → Accepted source tree → ListsCodeOf tree text → ListsCodeOf tree other → text ≡ other
+code_once source text other tree accepted a b =
+    a.is
+    ∙ ap listing_text (one_code_stands tree a.slots b.slots a.listed b.listed (parsed_are_numbered source tree accepted.accepted.derived)
+    a.frames b.frames a.resolved.slots_of b.resolved.slots_of a.stands b.stands)
+    ∙ sym b.is
+
+codes_once : GoesOnOnce CodeGoesOn
+codes_once source tree texts v w accepted (lists text a) (lists other b) = ap Writes (code_once source text other tree accepted a b)
+
+module _ (goes_on : Tree → List (List ℕ) → Judgement → Type 0) (once : GoesOnOnce goes_on) where
   -- a command that looks at a source first makes one thing of what it has read
   source_judged_once : (texts : List (List ℕ)) (v w : Judgement) → JudgesSource goes_on texts v → JudgesSource goes_on texts w → v ≡ w
   source_judged_once texts v w at_first at_first = refl
@@ -79,12 +97,13 @@ module _ (goes_on : Tree → List (List ℕ) → Judgement → Type 0)
   source_judged_once texts v w (source_refused source line r) (source_accepted again tree more j a on) = absurd (accepted_stands source line tree a r)
   source_judged_once texts v w (source_accepted source tree more j a on) (source_refused again line r) = absurd (accepted_stands source line tree a r)
   source_judged_once texts v w (source_accepted source tree more j a on) (source_accepted again other others k b off) =
-      once other more j k (subst (λ t. goes_on t more j) (accepted_once source tree other a b) on) off
+      once again other more j k b (subst (λ t. goes_on t more j) (accepted_once source tree other a b) on) off
 
 -- each command makes one thing of what it has read
 judges_once : (command : Command) (texts : List (List ℕ)) (v w : Judgement) → Judges command texts v → Judges command texts w → v ≡ w
 judges_once Run texts v w r s = source_judged_once RunGoesOn runs_once texts v w r s
 judges_once Check texts v w r s = source_judged_once CheckGoesOn checks_once texts v w r s
+judges_once Compile texts v w r s = source_judged_once CodeGoesOn codes_once texts v w r s
 
 refused_goes_on : (line : List ℕ) → RefusedWith line ≡ ReadsOn → ⊥
 refused_goes_on line e = cc

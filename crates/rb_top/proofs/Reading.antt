@@ -1,5 +1,6 @@
 -- A file as it is read, piece after piece.
-use Rattle.std.proofs.Common.{◌≡◌, ◌⊎◌, ℕ, ◌+◌, ◌<◌, ◌≤◌, true, List, [], ◌∷◌, ◌++◌, length, take, drop, Option, Some, None, Result, Ok, Err, OnErr, refl, sym, ap, subst, ◌∙◌, inl, inr, arith, length-append}
+use Rattle.std.proofs.Common.{◌≡◌, ◌⊎◌, ℕ, ◌+◌, ◌<◌, ◌≤◌, true, List, [], ◌∷◌, ◌++◌, length, take, drop, Option, Some, None, Result, Ok, Err, OnErr}
+use Rattle.std.proofs.Common.{refl, sym, ap, subst, ◌∙◌, inl, inr, arith, length-append}
 use Rattle.std.specs.Option.{option_map}
 use Rattle.std.proofs.lemmas.List.{length-take-le, take-append-drop}
 use Rattle.std.proofs.Math.Seq.{take-append-add}
@@ -29,7 +30,8 @@ front_grows all before piece after n front inside same size is =
 -- a piece of the file at whose front the shelf stands
 piece_of_front : (files : List File) (name : List ℕ) (old : Start) (earlier others new : List Start) (buffer before : List ℕ) (n : ℕ) →
     Passes files old earlier new buffer n → (has : HasFront files name before others (old ∷ earlier)) →
-    (length before + n ≤ length has.all) × (take n buffer ≡ take n (drop (length before) has.all)) × (new ≡ record { file = Some name; passed = length before + n; went = true } ∷ others) × (n ≡ 0 → length before ≡ length has.all)
+    (length before + n ≤ length has.all) × (take n buffer ≡ take n (drop (length before) has.all))
+    × (new ≡ record { file = Some name; passed = length before + n; went = true } ∷ others) × (n ≡ 0 → length before ≡ length has.all)
 piece_of_front files name old earlier others new buffer before n p has =
     let at : old ≡ record { file = Some name; passed = length before; went = true } = cc (has.started) in
     let rest : earlier ≡ others = cc (has.started) in

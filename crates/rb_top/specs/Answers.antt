@@ -1,7 +1,7 @@
 -- What the top call answers when, what it has written by then, and which files it has started, and how far it has read them.
 use Rattle.std.specs.Prelude.{◌≡◌, ◌⊎◌, ℕ, ◌+◌, ◌<◌, ◌≤◌, true, List, [], ◌∷◌, ◌++◌, length, Option, Some, None}
 use Rattle.rb_outside.specs.Outside.{File, Start, Faults, WrotePart, bytes_of, named, shut, told_starts, failed_once, was_missing, then_written}
-use Rattle.rb_top.specs.Words.{Command, Run, Check, Wanted, Request}
+use Rattle.rb_top.specs.Words.{Command, Run, Check, Compile, Wanted, Request}
 use Rattle.rb_top.specs.Judgement.{Judgement, ReadsOn, RefusedWith, Writes, Judges, usage_line}
 use Rattle.rb_top.specs.declared.status.Status.{Status}
 use Rattle.rb_top.specs.declared.status.Status.TheVariants.{Done, Refused, Usage, ReadFault, WriteFault, Memory}
@@ -131,6 +131,7 @@ pub data ReadFails (request : Request) (old new : Scene) : Type 0 where
 abbrev pub WritesByThen : Command → Scene → Scene → Type 0
 WritesByThen Run old new = WritesNothing old new
 WritesByThen Check old new = WritesNothing old new
+WritesByThen Compile old new = WritesNothing old new
 
 -- each answer, where the words ask for nothing
 abbrev pub WithoutRequest : Scene → Scene → Status → Type 0

@@ -1,5 +1,5 @@
 -- The request that the code gives, as contracts speak of it.
-use Rattle.rb_top.specs.Words.{Request, run_of, check_of}
+use Rattle.rb_top.specs.Words.{Request, run_of, check_of, code_of}
 use Rattle.rb_top.specs.declared.request.Request.{Request as Given}
 use Rattle.rb_top.specs.declared.request.Request.TheVariants as given
 
@@ -7,3 +7,4 @@ use Rattle.rb_top.specs.declared.request.Request.TheVariants as given
 abbrev pub asked : Given → Request
 asked (given.Run source schedule) = run_of source.now schedule.now
 asked (given.Check source) = check_of source.now
+asked (given.Code source) = code_of source.now

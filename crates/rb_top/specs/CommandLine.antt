@@ -2,7 +2,7 @@
 use Rattle.std.specs.Prelude.{ℕ, nat_eq, true, false, cond, List, [], ◌∷◌, map, codes, Option, None, option_and_then, option_map}
 use Rattle.std.specs.Cmp.Lexicographic.{pointwise}
 use Rattle.clap.specs.Words.{App, Rule, Shape, new_app, new_rule}
-use Rattle.rb_top.specs.Words.{Request, run_of, check_of}
+use Rattle.rb_top.specs.Words.{Request, run_of, check_of, code_of}
 
 -- an argument that has to be given, by its place
 abbrev pub required_word : List ℕ → Rule
@@ -26,21 +26,22 @@ program_alone = record {
 
 -- the commands, each with its words
 abbrev pub commands : List Shape
-commands = command_with (codes "run") (codes "SOURCE" ∷ codes "SCHEDULE" ∷ []) ∷ command_with (codes "check") (codes "SOURCE" ∷ []) ∷ []
+commands =
+    command_with (codes "run") (codes "SOURCE" ∷ codes "SCHEDULE" ∷ [])
+    ∷ command_with (codes "check") (codes "SOURCE" ∷ [])
+    ∷ command_with (codes "code") (codes "SOURCE" ∷ []) ∷ []
 
 -- the program with its commands
 abbrev pub program : App
 program = record { top = record program_alone.top { is_leaf = false }; subs = commands }
 
--- the run of two files that are given, and the check of one
+-- the run of two files that are given
 abbrev pub run_given : Option (List ℕ) → Option (List ℕ) → Option Request
 run_given source schedule = option_and_then (λ a. option_map (run_of a) schedule) source
-
-abbrev pub check_given : Option (List ℕ) → Option Request
-check_given source = option_map check_of source
 
 -- what the command of this name asks for, with the words that it was given
 abbrev pub request_given : List ℕ → (List ℕ → Option (List ℕ)) → Option Request
 request_given name given =
     cond (pointwise nat_eq name (codes "run")) (run_given (given (codes "SOURCE")) (given (codes "SCHEDULE")))
-    (cond (pointwise nat_eq name (codes "check")) (check_given (given (codes "SOURCE"))) None)
+    (cond (pointwise nat_eq name (codes "check")) (option_map check_of (given (codes "SOURCE")))
+    (cond (pointwise nat_eq name (codes "code")) (option_map code_of (given (codes "SOURCE"))) None))

@@ -8,10 +8,16 @@ use Rattle.rb_syntax.specs.Tree.{Tree}
 use Rattle.rb_meaning.specs.Meaning.{run_text}
 use Rattle.rb_base.specs.declared.limits.TheConstants.{MOST_BYTES}
 use Rattle.rb_judge.specs.Verdict.{IsAccepted, IsRefusedFor}
+use Rattle.rb_scope.specs.InFrames.{Resolved}
+use Rattle.rb_scope.specs.Resolved.{IsResolved}
+use Rattle.rb_scope.specs.declared.slot.Slot.{Slot}
+use Rattle.rb_code.specs.Plain.{Code}
+use Rattle.rb_code.specs.Listing.{listing_text}
+use Rattle.rb_code.specs.StandsFor.{StandsFor}
 use Rattle.rb_sched.specs.Schedule.{schedule_of}
 use Rattle.rb_run.specs.Ran.{names_of}
 use Rattle.rb_run.specs.Runnable.{is_runnable}
-use Rattle.rb_top.specs.Words.{Command, Run, Check}
+use Rattle.rb_top.specs.Words.{Command, Run, Check, Compile}
 
 -- the line for a text that is too long
 abbrev pub too_long_line : List ℕ
@@ -28,7 +34,7 @@ schedule_line fault = codes "refused " ++ (fault_word fault.name ++ (codes " at 
 
 -- the line for words that give no command
 abbrev pub usage_line : List ℕ
-usage_line = codes "usage: rbl run SOURCE SCHEDULE | check SOURCE\n"
+usage_line = codes "usage: rbl run SOURCE SCHEDULE | check SOURCE | code SOURCE\n"
 
 -- the line for a source that is accepted
 abbrev pub accepted_line : List ℕ
@@ -85,10 +91,24 @@ pub data RunGoesOn (tree : Tree) : List (List ℕ) → Judgement → Type 0 wher
 pub data CheckGoesOn (tree : Tree) : List (List ℕ) → Judgement → Type 0 where
   accepts : (text : List ℕ) → text ≡ accepted_line → CheckGoesOn tree [] (Writes text)
 
+-- the text lists the code that stands for a tree
+pub record ListsCodeOf (tree : Tree) (text : List ℕ) : Type 0 where
+  pub slots : List Slot
+  pub listed : Code
+  pub resolved : IsResolved tree slots
+  pub frames : Resolved tree slots
+  pub stands : StandsFor tree slots listed
+  pub is : text ≡ listing_text listed
+
+-- `code`, with an accepted source: it lists its code
+pub data CodeGoesOn (tree : Tree) : List (List ℕ) → Judgement → Type 0 where
+  lists : (text : List ℕ) → ListsCodeOf tree text → CodeGoesOn tree [] (Writes text)
+
 -- what each command makes of the texts that it has read
 abbrev pub Judges : Command → List (List ℕ) → Judgement → Type 0
 Judges Run texts judgement = JudgesSource RunGoesOn texts judgement
 Judges Check texts judgement = JudgesSource CheckGoesOn texts judgement
+Judges Compile texts judgement = JudgesSource CodeGoesOn texts judgement
 
 -- The judgement with which a command ends: these texts were read already, and these are those of the files after them.
 pub data EndsWith (command : Command) : List (List ℕ) → List (List ℕ) → Judgement → Type 0 where

@@ -8,6 +8,7 @@ use Rattle.rb_base.specs.declared.limits.TheConstants.{MOST_BYTES}
 pub data Command : Type 0 where
   Run : Command
   Check : Command
+  Compile : Command
 
 -- a file that a command reads: its name, and how many bytes it may have at most
 pub record Wanted : Type 0 where
@@ -23,6 +24,7 @@ pub record Request : Type 0 where
 abbrev pub files_of : Command → ℕ
 files_of Run = 2
 files_of Check = 1
+files_of Compile = 1
 
 -- a word that may follow a command's name: not empty, and without `-` at its front
 abbrev pub is_plain_word : List ℕ → Bool
@@ -41,6 +43,10 @@ run_of source schedule = record { command = Run; files = text_named source ∷ t
 abbrev pub check_of : List ℕ → Request
 check_of source = record { command = Check; files = text_named source ∷ [] }
 
+-- the code of the source under a name
+abbrev pub code_of : List ℕ → Request
+code_of source = record { command = Compile; files = text_named source ∷ [] }
+
 -- what `run` and these words ask for: they are two names
 abbrev pub run_with : List (List ℕ) → Option Request
 run_with [] = None
@@ -48,11 +54,11 @@ run_with (a ∷ []) = None
 run_with (a ∷ b ∷ []) = Some (run_of a b)
 run_with (a ∷ b ∷ c ∷ more) = None
 
--- what `check` and these words ask for: they are one name
-abbrev pub check_with : List (List ℕ) → Option Request
-check_with [] = None
-check_with (a ∷ []) = Some (check_of a)
-check_with (a ∷ b ∷ more) = None
+-- what a command asks for that takes one name
+abbrev pub with_one : (List ℕ → Request) → List (List ℕ) → Option Request
+with_one of [] = None
+with_one of (a ∷ []) = Some (of a)
+with_one of (a ∷ b ∷ more) = None
 
 -- the name of a command, and what it asks for with the words that follow
 pub record Form : Type 0 where
@@ -61,7 +67,10 @@ pub record Form : Type 0 where
 
 -- the commands
 abbrev pub forms : List Form
-forms = record { name = codes "run"; with = run_with } ∷ record { name = codes "check"; with = check_with } ∷ []
+forms =
+    record { name = codes "run"; with = run_with }
+    ∷ record { name = codes "check"; with = with_one check_of }
+    ∷ record { name = codes "code"; with = with_one code_of } ∷ []
 
 -- what the first of these commands that has this name asks for with these words
 abbrev pub named_in : List Form → List ℕ → List (List ℕ) → Option Request

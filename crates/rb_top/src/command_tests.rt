@@ -4,7 +4,7 @@ use rb_outside::{MemoryShelf, MemorySink};
 use std::alloc::Global;
 use std::test::Fail;
 
-const USAGE: &str = "usage: rbl run SOURCE SCHEDULE | check SOURCE\n";
+const USAGE: &str = "usage: rbl run SOURCE SCHEDULE | check SOURCE | code SOURCE\n";
 
 const NO_COMMANDS: u8 = 18;
 

@@ -16,7 +16,7 @@ fn row(n: u8) -> (&'static str, u64, usize, u8, &'static str) {
             9,
             99,
             2,
-            "usage: rbl run SOURCE SCHEDULE | check SOURCE\n",
+            "usage: rbl run SOURCE SCHEDULE | check SOURCE | code SOURCE\n",
         ),
         3 => ("run a c", 9, 99, 3, ""),
         4 => ("run a b", 0, 99, 4, ""),

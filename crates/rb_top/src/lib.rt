@@ -2,6 +2,7 @@
 #![tactic(auto)]
 
 pub mod check;
+pub mod code;
 pub mod ending;
 pub mod laws;
 pub mod program;
@@ -22,6 +23,8 @@ pub use words::Words;
 
 #[cfg(test)]
 mod command_tests;
+#[cfg(test)]
+mod code_tests;
 #[cfg(test)]
 mod cuts;
 #[cfg(test)]

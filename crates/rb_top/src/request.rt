@@ -20,6 +20,8 @@ pub enum Request<'a> {
     Run { source: &'a str, schedule: &'a str },
     /// The check of a source.
     Check { source: &'a str },
+    /// The code of a source.
+    Code { source: &'a str },
 }
 
 /// What the words ask for, if they give a command. `Memory` may come for any words.
@@ -73,7 +75,8 @@ fn command_line<'a>(alloc: Global) -> Result<Command<'a>, AllocError>
 {
     program_alone(alloc)
         .subcommand(command_with(alloc, "run", &["SOURCE", "SCHEDULE"])?)?
-        .subcommand(command_with(alloc, "check", &["SOURCE"])?)
+        .subcommand(command_with(alloc, "check", &["SOURCE"])?)?
+        .subcommand(command_with(alloc, "code", &["SOURCE"])?)
 }
 
 // The program, of which one command has to be named; `help` is none.
@@ -122,6 +125,9 @@ fn request_given<'a>(name: &str, given: &ArgMatches<'a>) -> Option<Request<'a>>
         "check" => given
             .get_str("SOURCE")
             .map(|source| Request::Check { source }),
+        "code" => given
+            .get_str("SOURCE")
+            .map(|source| Request::Code { source }),
         _ => None,
     }
 }

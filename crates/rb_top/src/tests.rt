@@ -138,7 +138,7 @@ fn call_row(n: u8) -> Call {
             99,
             99,
             Status::Usage,
-            "usage: rbl run SOURCE SCHEDULE | check SOURCE\n",
+            "usage: rbl run SOURCE SCHEDULE | check SOURCE | code SOURCE\n",
         ),
         1 => (
             "run a b c",
@@ -146,7 +146,7 @@ fn call_row(n: u8) -> Call {
             99,
             99,
             Status::Usage,
-            "usage: rbl run SOURCE SCHEDULE | check SOURCE\n",
+            "usage: rbl run SOURCE SCHEDULE | check SOURCE | code SOURCE\n",
         ),
         2 => (
             "run a -b",
@@ -154,7 +154,7 @@ fn call_row(n: u8) -> Call {
             99,
             99,
             Status::Usage,
-            "usage: rbl run SOURCE SCHEDULE | check SOURCE\n",
+            "usage: rbl run SOURCE SCHEDULE | check SOURCE | code SOURCE\n",
         ),
         3 => ("run a c", 99, 99, 99, Status::ReadFault, ""),
         4 => ("run c b", 99, 99, 99, Status::ReadFault, ""),

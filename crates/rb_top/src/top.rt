@@ -6,6 +6,7 @@ ghost use Rattle.rb_top.specs.Complete.{IsComplete};
 ghost use Rattle.rb_top.specs.Answers.{Scene, WithRequest, WhereRequested};
 
 use crate::check::check_file;
+use crate::code::code_file;
 use crate::refuse::put_usage;
 use crate::request::{Request, requested};
 use crate::run::run_files;
@@ -16,7 +17,7 @@ use std::alloc::Global;
 
 /// Carries out the command that the words give. `run SOURCE SCHEDULE` writes the text of the run of a source over a
 /// schedule, or the line of the first fault of either; the source is read and judged before the schedule is started.
-/// `check SOURCE` says that a source is accepted, or writes the line of its first fault. Memory may be wanting at any time
+/// `check SOURCE` says that a source is accepted, and `code SOURCE` lists its code, or they write the line of its first fault. Memory may be wanting at any time
 /// before the first byte is written.
 ///
 /// `answers` says of each answer when it comes, which files were started by then, how far each was read, and what was
@@ -63,5 +64,6 @@ fn answer<F: Shelf, S: Sink>(
     match request {
         Request::Run { source, schedule } => run_files(alloc, source, schedule, shelf, out),
         Request::Check { source } => check_file(alloc, source, shelf, out),
+        Request::Code { source } => code_file(alloc, source, shelf, out),
     }
 }

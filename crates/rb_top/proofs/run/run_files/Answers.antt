@@ -21,8 +21,20 @@ returns-in-Ok-clause-answers g c =
     let request = run_of c.args.source.now c.args.schedule.now in
     let old = g.F.Shelf.starts c.args.shelf.now in
     let mid = g.F.Shelf.starts c.read_file.new.shelf in
-    let new : Scene = record { files = g.F.Shelf.files c.run_source.new.shelf; starts = g.F.Shelf.starts c.run_source.new.shelf; read_faults = g.F.Shelf.faults c.run_source.new.shelf; written = g.S.Sink.written c.run_source.new.out; write_faults = g.S.Sink.faults c.run_source.new.out } in
-    let later = subst (λ (told : Option (List File)). WithRequest request (record { files = told; starts = drop 1 mid; read_faults = g.F.Shelf.faults c.read_file.new.shelf; written = g.S.Sink.written c.args.out.now; write_faults = g.S.Sink.faults c.args.out.now }) new c.run_source.result)
+    let new : Scene = record {
+      files = g.F.Shelf.files c.run_source.new.shelf;
+      starts = g.F.Shelf.starts c.run_source.new.shelf;
+      read_faults = g.F.Shelf.faults c.run_source.new.shelf;
+      written = g.S.Sink.written c.run_source.new.out;
+      write_faults = g.S.Sink.faults c.run_source.new.out;
+    } in
+    let later = subst (λ (told : Option (List File)). WithRequest request (record {
+      files = told;
+      starts = drop 1 mid;
+      read_faults = g.F.Shelf.faults c.read_file.new.shelf;
+      written = g.S.Sink.written c.args.out.now;
+      write_faults = g.S.Sink.faults c.args.out.now;
+    }) new c.run_source.result)
     c.in-Ok.ensures.files c.run_source.ensures.answers in
     resumed files request (drop 1 mid) old (g.F.Shelf.faults c.args.shelf.now) (g.F.Shelf.faults c.read_file.new.shelf)
     (g.S.Sink.faults c.args.out.now) (g.S.Sink.written c.args.out.now) new c.run_source.result

@@ -13,7 +13,19 @@ returns-in_default-clause-answers g c = memory_at_once (request_of c.args.words.
 pub returns-in-Some-clause-complete : goal.returns-in-Some-clause-complete
 returns-in-Some-clause-complete g c =
     let request : Request = asked c.in-Some.request in
-    let old : Scene = record { files = g.F.Shelf.files c.args.shelf.now; starts = g.F.Shelf.starts c.args.shelf.now; read_faults = g.F.Shelf.faults c.args.shelf.now; written = g.S.Sink.written c.args.out.now; write_faults = g.S.Sink.faults c.args.out.now } in
-    let new : Scene = record { files = g.F.Shelf.files c.answer.new.shelf; starts = g.F.Shelf.starts c.answer.new.shelf; read_faults = g.F.Shelf.faults c.answer.new.shelf; written = g.S.Sink.written c.answer.new.out; write_faults = g.S.Sink.faults c.answer.new.out } in
+    let old : Scene = record {
+      files = g.F.Shelf.files c.args.shelf.now;
+      starts = g.F.Shelf.starts c.args.shelf.now;
+      read_faults = g.F.Shelf.faults c.args.shelf.now;
+      written = g.S.Sink.written c.args.out.now;
+      write_faults = g.S.Sink.faults c.args.out.now;
+    } in
+    let new : Scene = record {
+      files = g.F.Shelf.files c.answer.new.shelf;
+      starts = g.F.Shelf.starts c.answer.new.shelf;
+      read_faults = g.F.Shelf.faults c.answer.new.shelf;
+      written = g.S.Sink.written c.answer.new.out;
+      write_faults = g.S.Sink.faults c.answer.new.out;
+    } in
     let given : request_of c.args.words.now ≡ Some request = c.in-Ok.ensures ∙ ap (option_map asked) c.in-Some.is in
     subst (λ (r : Option Request). IsComplete r old new c.answer.result) (sym given) (completed request old new c.answer.result c.answer.ensures.answers)

@@ -1,0 +1,42 @@
+//! The command `code`.
+ghost use Rattle.std.specs.Prelude.{◌≡◌, [], ◌∷◌};
+ghost use Rattle.rb_top.specs.Words.{code_of};
+ghost use Rattle.rb_top.specs.Answers.{Scene, WithRequest};
+ghost use Rattle.rb_top.specs.Judgement.{JudgesSource, CodeGoesOn};
+ghost use Rattle.rb_top.specs.Stages.{StageEnds};
+
+use crate::read::read_file;
+use crate::source::prepared_source;
+use crate::status::{Status, status_after};
+use rb_base::MOST_BYTES;
+use rb_code::listing::listing;
+use rb_outside::{Shelf, Sink};
+use std::alloc::Global;
+
+/// Reads a source, judges it, and lists its code.
+pub fn code_file<F: Shelf, S: Sink>(
+    alloc: Global,
+    source: &str,
+    shelf: &mut F,
+    out: &mut S,
+) -> Status
+    ensures files { F.files shelf.new ≡ F.files shelf.old }
+    ensures answers { WithRequest (code_of source.now)
+        (record { files = F.files shelf.old; starts = F.starts shelf.old; read_faults = F.faults shelf.old; written = S.written out.old; write_faults = S.faults out.old })
+        (record { files = F.files shelf.new; starts = F.starts shelf.new; read_faults = F.faults shelf.new; written = S.written out.new; write_faults = S.faults out.new })
+        result }
+{
+    match read_file(alloc, shelf, source, MOST_BYTES) {
+        Ok(bytes) => code_source(alloc, bytes.as_slice(), out),
+        Err(unread) => unread.status(),
+    }
+}
+
+fn code_source<S: Sink>(alloc: Global, bytes: &[u8], out: &mut S) -> Status
+    ensures { StageEnds (JudgesSource CodeGoesOn (bytes.now ∷ [])) (S.written out.old) (S.written out.new) (S.faults out.old) (S.faults out.new) result }
+{
+    match prepared_source(alloc, bytes, out) {
+        Ok(prepared) => status_after(listing(&prepared.code, out), Status::Done),
+        Err(status) => status,
+    }
+}
