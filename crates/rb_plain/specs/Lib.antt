@@ -1,2 +1,4 @@
 pub mod Slots
 pub mod Counters
+pub mod Record
+pub mod Recorded

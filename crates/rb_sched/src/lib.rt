@@ -8,6 +8,6 @@ pub mod schedule;
 #[cfg(test)]
 mod tests;
 mod turns;
-mod words;
+pub mod words;
 
 pub use schedule::Schedule;
