@@ -1,0 +1,10 @@
+// Trials: a source and a schedule that are made from a number, as large input that is the same each time.
+#![tactic(auto)]
+
+mod piece;
+mod source;
+#[cfg(test)]
+mod tests;
+pub mod trial;
+
+pub use trial::make;
