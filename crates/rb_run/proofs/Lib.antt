@@ -14,7 +14,7 @@ pub mod OneTurn
 pub mod Endings
 pub mod OneRun
 pub mod Completes
-pub mod NamesMade
+pub mod Scalars
 pub mod EngineTurns
 pub mod EnginePhases
 pub mod WholeRun

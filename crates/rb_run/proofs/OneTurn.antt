@@ -25,7 +25,7 @@ use Rattle.rb_world.proofs.ListFacts.{first_holds, second_holds}
 use Rattle.rb_run.proofs.InsideBlock.{inside, reads_outside}
 use Rattle.rb_run.proofs.Shapes.{shape_of, declared_shape, Fits, KeepsShape, effect-keeps}
 use Rattle.rb_run.proofs.Endings.{same_shape}
-use Rattle.rb_run.proofs.NamesMade.{sizeless}
+use Rattle.rb_run.proofs.Scalars.{sizeless}
 use Rattle.rb_run.proofs.Worlds.{lone_state, world_with, private_facts, world_going, world_trying, world_fallen, Stands, told_of, done_after, Matches, matches_from, told_text-took, told_text-failed}
 use Rattle.rb_meaning.proofs.KnownFacts.{wants_runs}
 use Rattle.rb_run.proofs.Statements.{stepped_to, performs-effect, wants-simple}

@@ -5,7 +5,6 @@ mod ending;
 pub mod engine;
 mod held;
 mod line;
-pub mod naming;
 mod perform;
 mod runnable;
 mod simple;
@@ -13,5 +12,4 @@ mod told;
 mod trial;
 
 pub use engine::{Ended, run};
-pub use naming::names;
 pub use runnable::is_runnable;
