@@ -1,6 +1,6 @@
 -- There is code for every tree whose names are resolved and whose recovery blocks are numbered: the code of each form can be added to
 -- any code so far.
-use Rattle.std.proofs.Common.{◌≡◌, ℕ, zero, suc, ◌+◌, List, [], ◌∷◌, ◌++◌, length, map, replicate, Option, Some, None, refl, sym, ap, ◌∙◌, subst, arith, pos}
+use Rattle.std.proofs.Common.{◌≡◌, ℕ, List, length, Option, Some, None, refl, subst, pos}
 use Rattle.std.specs.Prelude.{false}
 use Rattle.rb_syntax.specs.declared.expression.Op.{Op}
 use Rattle.rb_syntax.specs.declared.expression.Op.TheVariants as op
@@ -58,10 +58,12 @@ and_made p c =
     let c4 = added (Jump 0) c3 in
     let c5 = added (Push (pos 0)) c4 in
     let no = length c4.instrs in
-    let end = length c5.instrs in
-    (patched (patched c5 (length c3.instrs) (Jump end)) (length c.instrs) (JumpZero no), λ k n.
-    labelled no (labelled end (fill_left (JumpZero no) refl (both (right.1 k n) (both (add Bool refl (λ j w. refl) right.0 k n)
-    (fill_left (Jump end) refl (both (at n c4 refl) (both (add (Push (pos 0)) refl (λ j w. refl) c4 k n) (at n c5 refl)))))))))
+    let end = length c5.instrs in (
+      patched (patched c5 (length c3.instrs) (Jump end)) (length c.instrs) (JumpZero no),
+      λ k n.
+          labelled no (labelled end (fill_left (JumpZero no) refl (both (right.1 k n) (both (add Bool refl (λ j w. refl) right.0 k n)
+          (fill_left (Jump end) refl (both (at n c4 refl) (both (add (Push (pos 0)) refl (λ j w. refl) c4 k n) (at n c5 refl)))))))),
+    )
 
 or_made : {P : Template} → Makes P → Makes (OrCode P)
 or_made p c =
@@ -71,10 +73,12 @@ or_made p c =
     let right = p c3 in
     let c5 = added Bool right.0 in
     let other = length c3.instrs in
-    let end = length c5.instrs in
-    (patched (patched c5 (length c2.instrs) (Jump end)) (length c.instrs) (JumpZero other), λ k n.
-    labelled other (labelled end (fill_left (JumpZero other) refl (both (add (Push (pos 1)) refl (λ j w. refl) c1 k n)
-    (fill_left (Jump end) refl (both (at n c3 refl) (both (right.1 k n) (both (add Bool refl (λ j w. refl) right.0 k n) (at n c5 refl)))))))))
+    let end = length c5.instrs in (
+      patched (patched c5 (length c2.instrs) (Jump end)) (length c.instrs) (JumpZero other),
+      λ k n.
+          labelled other (labelled end (fill_left (JumpZero other) refl (both (add (Push (pos 1)) refl (λ j w. refl) c1 k n)
+          (fill_left (Jump end) refl (both (at n c3 refl) (both (right.1 k n) (both (add Bool refl (λ j w. refl) right.0 k n) (at n c5 refl)))))))),
+    )
 
 operator_made : (o : Op) {P : Template} → Makes P → Makes (OperatorCode o P)
 operator_made op.Or p = or_made p
@@ -106,12 +110,13 @@ quantified_made Every k low high over c =
     let c8 = added (Jump 0) c7 in
     let c9 = added (Push (pos 0)) c8 in
     let d1 = patched c9 (length c7.instrs) (Jump (length c9.instrs)) in
-    let d2 = patched d1 (length b.0.instrs) (JumpZero (length c8.instrs)) in
-    (patched d2 (length h.0.instrs) (Range k (length c6.instrs)),
-    every_row k {range = length h.0.instrs} {again = again} {test = length b.0.instrs} {full = length c6.instrs} {skip = length c7.instrs} {gone = length c8.instrs} {end = length c9.instrs}
-    {c5 = c5} {c7 = c7} {c8 = c8} {c9 = c9} {d1 = d1} {d2 = d2}
-    refl l.1 h.1 (refl, refl) refl b.1 (refl, refl) (add (Again k again) refl (λ j w. refl) c5) refl (add (Push (pos 1)) refl (λ j w. refl) c6) (refl, refl) refl
-    (add (Push (pos 0)) refl (λ j w. refl) c8) refl refl refl refl)
+    let d2 = patched d1 (length b.0.instrs) (JumpZero (length c8.instrs)) in (
+      patched d2 (length h.0.instrs) (Range k (length c6.instrs)),
+      every_row k {range = length h.0.instrs} {again = again} {test = length b.0.instrs} {full = length c6.instrs} {skip = length c7.instrs} {gone = length c8.instrs} {end = length c9.instrs}
+          {c5 = c5} {c7 = c7} {c8 = c8} {c9 = c9} {d1 = d1} {d2 = d2}
+          refl l.1 h.1 (refl, refl) refl b.1 (refl, refl) (add (Again k again) refl (λ j w. refl) c5) refl (add (Push (pos 1)) refl (λ j w. refl) c6) (refl, refl) refl
+          (add (Push (pos 0)) refl (λ j w. refl) c8) refl refl refl refl,
+    )
 quantified_made Any k low high over c =
     let l = low c in
     let h = high l.0 in
@@ -124,12 +129,13 @@ quantified_made Any k low high over c =
     let c8 = added (Again k again) c7 in
     let c9 = added (Push (pos 0)) c8 in
     let d1 = patched c9 (length c6.instrs) (Jump (length c9.instrs)) in
-    let d2 = patched d1 (length b.0.instrs) (JumpZero (length c7.instrs)) in
-    (patched d2 (length h.0.instrs) (Range k (length c8.instrs)),
-    some_row k {range = length h.0.instrs} {again = again} {test = length b.0.instrs} {skip = length c6.instrs} {next = length c7.instrs} {gone = length c8.instrs} {end = length c9.instrs}
-    {c5 = c5} {c7 = c7} {c8 = c8} {c9 = c9} {d1 = d1} {d2 = d2}
-    refl l.1 h.1 (refl, refl) refl b.1 (refl, refl) (add (Push (pos 1)) refl (λ j w. refl) c5) (refl, refl) refl (add (Again k again) refl (λ j w. refl) c7) refl
-    (add (Push (pos 0)) refl (λ j w. refl) c8) refl refl refl refl)
+    let d2 = patched d1 (length b.0.instrs) (JumpZero (length c7.instrs)) in (
+      patched d2 (length h.0.instrs) (Range k (length c8.instrs)),
+      some_row k {range = length h.0.instrs} {again = again} {test = length b.0.instrs} {skip = length c6.instrs} {next = length c7.instrs} {gone = length c8.instrs} {end = length c9.instrs}
+          {c5 = c5} {c7 = c7} {c8 = c8} {c9 = c9} {d1 = d1} {d2 = d2}
+          refl l.1 h.1 (refl, refl) refl b.1 (refl, refl) (add (Push (pos 1)) refl (λ j w. refl) c5) (refl, refl) refl (add (Again k again) refl (λ j w. refl) c7) refl
+          (add (Push (pos 0)) refl (λ j w. refl) c8) refl refl refl refl,
+    )
 quantified_made Total k low high over c =
     let c0 = added (Push (pos 0)) c in
     let l = low c0 in
@@ -138,10 +144,11 @@ quantified_made Total k low high over c =
     let b = over c3 in
     let again = length c3.instrs in
     let c5 = added Add b.0 in
-    let c6 = added (Again k again) c5 in
-    (patched c6 (length h.0.instrs) (Range k (length c6.instrs)),
-    sum_row k {range = length h.0.instrs} {again = again} {end = length c6.instrs} {c5 = c5} {c6 = c6} refl (add (Push (pos 0)) refl (λ j w. refl) c) l.1 h.1 (refl, refl) refl b.1 (add Add refl (λ j w. refl) b.0)
-    (add (Again k again) refl (λ j w. refl) c5) refl refl)
+    let c6 = added (Again k again) c5 in (
+      patched c6 (length h.0.instrs) (Range k (length c6.instrs)),
+      sum_row k {range = length h.0.instrs} {again = again} {end = length c6.instrs} {c5 = c5} {c6 = c6} refl (add (Push (pos 0)) refl (λ j w. refl) c) l.1 h.1 (refl, refl) refl b.1 (add Add refl (λ j w. refl) b.0)
+          (add (Again k again) refl (λ j w. refl) c5) refl refl,
+    )
 
 -- ---- expressions
 

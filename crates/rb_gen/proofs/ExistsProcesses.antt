@@ -1,6 +1,6 @@
 -- The code of a whole program can be put together.
-use Rattle.std.proofs.Common.{◌≡◌, ℕ, zero, suc, ◌+◌, ◌<◌, ◌≤◌, List, [], ◌∷◌, length, map, replicate, None, Some, ◌⊎◌, inl, inr, refl, sym, ap, ◌∙◌, subst, arith}
-use Rattle.std.specs.Prelude.{get_or, slice_get}
+use Rattle.std.proofs.Common.{◌≡◌, ℕ, zero, suc, ◌+◌, ◌<◌, ◌≤◌, List, [], ◌∷◌, length, map, replicate, None, ◌⊎◌, inl, inr, refl, ap, ◌∙◌, subst, arith}
+use Rattle.std.specs.Prelude.{get_or}
 use Rattle.std.proofs.lemmas.List.{length-replicate}
 use Rattle.std.proofs.lemmas.Option.{slice_get-get_or}
 use Rattle.rb_syntax.specs.Tree.{Body, Scope, ProcedureDeclaration, ProcessDeclaration, Tree}
@@ -39,9 +39,11 @@ linked_some procedures from o (suc k) h =
     let before = linked_some procedures from o k (omega arith) in
     let x : Instr = get_or before.0.instrs (from + k) Fail in
     let inside : from + k < length before.0.instrs = omega (arith, before.1.long) in
-    let d = patched before.0 (from + k) (linked_to procedures x) in
-    (d, subst (λ (n : ℕ). IsLinkedTo procedures from n o d) (omega arith)
-    (linked_step procedures from (from + k) x inside (slice_get-get_or before.0.instrs (from + k) Fail inside) refl before.1))
+    let d = patched before.0 (from + k) (linked_to procedures x) in (
+      d,
+      subst (λ (n : ℕ). IsLinkedTo procedures from n o d) (omega arith)
+          (linked_step procedures from (from + k) x inside (slice_get-get_or before.0.instrs (from + k) Fail inside) refl before.1),
+    )
 
 -- what is to be added to reach a number, or it is reached already
 rest_to : (m n : ℕ) → ((k : ℕ) × (m + k ≡ n)) ⊎ (n ≤ m)
@@ -72,11 +74,14 @@ module _ (slots : List Slot) (words : List ℕ) where
   procedures_made (procedure ∷ others) c =
       let m = inside_made procedure.body c in
       let o = procedures_made others (added Return m.0) in
-      let entry : Procedure = record { name = procedure.name.text; start = length c.instrs } in
-      (entry ∷ o.0, o.1, λ s n (g, k).
-          let all : Emits (linked s.owner.number) n ((n + blocks_in_body procedure.body) + blocks_in_procedures others) (CommandsCode s.tree slots s.owner (commands_of procedure.body) ⨾ One Return ⨾ ProceduresCode s.tree slots s.owner others o.0) c o.1 =
-          both (m.1 s n g) (both (add Return refl (λ j w. refl) m.0 s.owner.number (n + blocks_in_body procedure.body)) (o.2 s (n + blocks_in_body procedure.body) k)) in
-          upto (record { follows = all.follows; stands = λ w i. (o.0, refl, all.stands w i) }) (omega arith))
+      let entry : Procedure = record { name = procedure.name.text; start = length c.instrs } in (
+        entry ∷ o.0,
+        o.1,
+        λ s n (g, k).
+            let all : Emits (linked s.owner.number) n ((n + blocks_in_body procedure.body) + blocks_in_procedures others) (CommandsCode s.tree slots s.owner (commands_of procedure.body) ⨾ One Return ⨾ ProceduresCode s.tree slots s.owner others o.0) c o.1 =
+            both (m.1 s n g) (both (add Return refl (λ j w. refl) m.0 s.owner.number (n + blocks_in_body procedure.body)) (o.2 s (n + blocks_in_body procedure.body) k)) in
+            upto (record { follows = all.follows; stands = λ w i. (o.0, refl, all.stands w i) }) (omega arith),
+      )
 
 -- ---- processes
 
@@ -99,18 +104,21 @@ module _ (slots : List Slot) (ends : List Ends) where
         words = frame_words (frame_of process.variables);
         channels = channels_from p 0 ends;
         procedures = m.0;
-      } in
-      (part ∷ o.0, o.1, λ tree known n (g, k).
-          let first : Emits as_it_is n (n + blocks_in_process process) (ProcessTemplate tree slots p process m.0) c m.1 = m.2 tree p n g in
-          let behind : Emits as_it_is (n + blocks_in_process process) ((n + blocks_in_process process) + blocks_in_processes others) (λ w a b. HasParts (p + 1) o.0 w → ProcessesCode tree slots (p + 1) others o.0 w a b) m.1 o.1 =
-          o.2 tree known (n + blocks_in_process process) k in
-          let all = both first behind in
-          upto (record {
-            follows = all.follows;
-            stands = λ w i (there, others_there).
-                let (q, body, rest) = all.stands w i in
-                (part, o.0, refl, (q, (record { start_is = refl; words_are = refl; channels_are = ap (channels_from p 0) known }, body (ap (λ x. x.procedures) (part_there w p part there))), rest others_there));
-          }) (omega arith))
+      } in (
+        part ∷ o.0,
+        o.1,
+        λ tree known n (g, k).
+            let first : Emits as_it_is n (n + blocks_in_process process) (ProcessTemplate tree slots p process m.0) c m.1 = m.2 tree p n g in
+            let behind : Emits as_it_is (n + blocks_in_process process) ((n + blocks_in_process process) + blocks_in_processes others) (λ w a b. HasParts (p + 1) o.0 w → ProcessesCode tree slots (p + 1) others o.0 w a b) m.1 o.1 =
+            o.2 tree known (n + blocks_in_process process) k in
+            let all = both first behind in
+            upto (record {
+              follows = all.follows;
+              stands = λ w i (there, others_there).
+                  let (q, body, rest) = all.stands w i in
+                  (part, o.0, refl, (q, (record { start_is = refl; words_are = refl; channels_are = ap (channels_from p 0) known }, body (ap (λ x. x.procedures) (part_there w p part there))), rest others_there));
+            }) (omega arith),
+      )
 
 -- ---- the whole program
 
@@ -133,15 +141,17 @@ code_exists tree slots resolved numbered =
       names = naming_of tree;
     } in
     let given : ProcessesGiven tree slots 0 tree.processes = processes_given tree slots 0 0 tree.processes numbered.processes
-        (λ i process is. subst (λ (k : ℕ). ProcessInFrames tree slots k process) (omega arith) (resolved.processes i process is)) in
+    (λ i process is. subst (λ (k : ℕ). ProcessInFrames tree slots k process) (omega arith) (resolved.processes i process is)) in
     let emits : Emits as_it_is 0 (0 + blocks_in_processes tree.processes) (λ w a b. HasParts 0 parts w → ProcessesCode tree slots 0 tree.processes parts w a b) start end =
-        made.2 tree refl 0 given in
-    let many : 0 + blocks_in_processes tree.processes ≡ length start.blocks = omega (arith, numbered.blocks, length-replicate tree.blocks no_block) in
-    (c, record {
-      edition_is = refl;
-      names_are = refl;
-      channels_are = refl;
-      instrs_are = whole_code c (0 + blocks_in_processes tree.processes) parts emits refl many refl refl refl refl;
-      one_block_each = emits.follows.blocks.long ∙ length-replicate tree.blocks no_block;
-      one_text_each = emits.follows.numbered refl;
-    })
+    made.2 tree refl 0 given in
+    let many : 0 + blocks_in_processes tree.processes ≡ length start.blocks = omega (arith, numbered.blocks, length-replicate tree.blocks no_block) in (
+      c,
+      record {
+        edition_is = refl;
+        names_are = refl;
+        channels_are = refl;
+        instrs_are = whole_code c (0 + blocks_in_processes tree.processes) parts emits refl many refl refl refl refl;
+        one_block_each = emits.follows.blocks.long ∙ length-replicate tree.blocks no_block;
+        one_text_each = emits.follows.numbered refl;
+      },
+    )

@@ -1,26 +1,25 @@
 -- The code of each statement can be added to any code so far.
-use Rattle.std.proofs.Common.{◌≡◌, ℕ, zero, suc, ◌+◌, List, [], ◌∷◌, ◌++◌, length, map, Option, Some, None, refl, sym, ap, ◌∙◌, subst, pos}
-use Rattle.std.specs.Prelude.{get_or, slice_get}
-use Rattle.std.specs.Option.{option_map, unwrap_or}
+use Rattle.std.proofs.Common.{◌≡◌, ℕ, zero, suc, ◌+◌, List, [], ◌∷◌, ◌++◌, length, map, refl, sym, ap, ◌∙◌, subst}
+use Rattle.std.specs.Prelude.{get_or}
+use Rattle.std.specs.Option.{unwrap_or}
 use Rattle.std.proofs.lemmas.Option.{slice_get-map, unwrap_or-slice_get}
-use Rattle.rb_syntax.specs.Tree.{Identifier, Expression, Reference, Refer, Scalar, Element, Printed, Words, Amount, PrintItem, Command, Assignment, Printing, Sending, Receiving, Conditional, Loop, Invocation, Failure, Recovering, Commands, NoCommand, Then, Body, Scope, Otherwise, NoElse, Else, RecoveryBlock, Recovers, Alternates, NoAlternate, Alternate, ProcedureDeclaration}
+use Rattle.rb_syntax.specs.Tree.{Identifier, Expression, Reference, Refer, Scalar, Element, Printed, Words, Amount, PrintItem, Command, Assignment, Printing, Sending, Receiving, Conditional, Loop, Invocation, Failure, Recovering, Commands, NoCommand, Then, Body, Scope, NoElse, Else, RecoveryBlock, Recovers, Alternates, NoAlternate, Alternate, ProcedureDeclaration}
 use Rattle.rb_meaning.specs.Environment.{frame_of, frame_words, natural}
 use Rattle.rb_scope.specs.declared.slot.Slot.{Slot}
 use Rattle.rb_code.specs.declared.instr.Instr.TheVariants.{Turn, Bound, Store, StoreAt, Jump, JumpZero, Frame, Drop, Text, Item, Print, Room, Put, There, Take, Call, Fail, Enter, Start, Test, Absent}
 use Rattle.rb_code.specs.Plain.{Block}
 use Rattle.rb_code.specs.Slots.{channel_of, elements_of, procedure_of, spot_of}
-use Rattle.rb_code.specs.Template.{Template, One, ◌⨾◌, Quoted}
-use Rattle.rb_code.specs.Forms.{ArgumentsCode, CallCode, Called, DropCode, ExpressionCode, FrameCode, ItemsCode, PrintedCode, StoreCode, procedure_words}
+use Rattle.rb_code.specs.Template.{Template, One, Quoted}
+use Rattle.rb_code.specs.Forms.{ArgumentsCode, CallCode, Called, DropCode, FrameCode, ItemsCode, PrintedCode, StoreCode, procedure_words}
 use Rattle.rb_gen.specs.Output.{Output, added, linked, patched, settled}
-use Rattle.rb_gen.specs.Emits.{Adds, Emits}
+use Rattle.rb_gen.specs.Emits.{Emits}
 use Rattle.rb_gen.specs.Lookups.{joined_of}
 use Rattle.rb_gen.specs.Writes.{Setting, WritesAlternates, WritesBody, WritesCommand, WritesCommands, WritesElse, WritesOthers, WritesRecovery, room_of}
 use Rattle.rb_gen.proofs.Emits.{as_if, both, one, quoted}
-use Rattle.rb_gen.proofs.Exists.{After, Makes, add, expression_made, makes_nothing, makes_one, makes_then}
+use Rattle.rb_gen.proofs.Exists.{Makes, add, expression_made, makes_nothing, makes_one, makes_then}
 use Rattle.rb_gen.proofs.Growing.{same_length}
-use Rattle.rb_gen.proofs.Rows.{then_adds}
 use Rattle.rb_gen.proofs.RecoveryRows.{first_alternate, further, no_alternate, no_other, recovered}
-use Rattle.rb_gen.proofs.StatementRows.{assigned, body_row, called, conditional, conditional_else, else_row, failed, looped, no_command, one_command, printing, received, received_else, same_command, sending}
+use Rattle.rb_gen.proofs.StatementRows.{assigned, body_row, called, conditional, conditional_else, else_row, failed, looped, no_command, one_command, printing, received, received_else, sending}
 
 turn_made : Makes (One Turn)
 turn_made = makes_one Turn refl (λ j w. refl)
@@ -68,13 +67,15 @@ module _ (slots : List Slot) where
     call_made name arguments c =
         let before = makes_then turn_made (arguments_made arguments) c in
         let number = procedure_of slots name.id in
-        let d = added (Call number (length arguments) (get_or words number 0)) before.0 in
-        (d, λ s n.
-            let sized : get_or words number 0 ≡ procedure_words s.owner.procedures number = ap (λ ws. get_or ws number 0) s.sized ∙ words_known s.owner.procedures number in
-            let call : Emits (linked s.owner.number) n n (Called s.owner.number number (length arguments) (procedure_words s.owner.procedures number)) before.0 d =
-            subst (λ (k : ℕ). Emits (linked s.owner.number) n n (Called s.owner.number number (length arguments) k) before.0 d) sized
-            (one (Call number (length arguments) (get_or words number 0)) before.0 d refl refl refl refl s.owner.number n) in
-            as_if (λ w a b (m, (k, first, rest), last). (k, first, (m, rest, last))) (both (before.1 s.owner.number n) call))
+        let d = added (Call number (length arguments) (get_or words number 0)) before.0 in (
+          d,
+          λ s n.
+              let sized : get_or words number 0 ≡ procedure_words s.owner.procedures number = ap (λ ws. get_or ws number 0) s.sized ∙ words_known s.owner.procedures number in
+              let call : Emits (linked s.owner.number) n n (Called s.owner.number number (length arguments) (procedure_words s.owner.procedures number)) before.0 d =
+              subst (λ (k : ℕ). Emits (linked s.owner.number) n n (Called s.owner.number number (length arguments) k) before.0 d) sized
+              (one (Call number (length arguments) (get_or words number 0)) before.0 d refl refl refl refl s.owner.number n) in
+              as_if (λ w a b (m, (k, first, rest), last). (k, first, (m, rest, last))) (both (before.1 s.owner.number n) call),
+        )
 
     -- an `else`, with its address, behind whose jump its block was added
     else_of : (other : Body) (c : Output) → ((d : Output) × WritesBody slots words other (added (Jump 0) c) d) → (address : ℕ) × (d : Output) × WritesElse slots words address other c d
@@ -115,9 +116,10 @@ module _ (slots : List Slot) where
       command_made (Loop test body) c =
           let m = makes_then turn_made (expression_made slots test) c in
           let b = body_made body (added (Jump 0) m.0) in
-          let back = added (Jump (length c.instrs)) b.0 in
-          (patched back (length m.0.instrs) (JumpZero (length back.instrs)),
-          looped slots words refl refl (m.0, m.1, (refl, refl)) b.1 (add (Jump (length c.instrs)) refl (λ j w. refl) b.0) refl refl)
+          let back = added (Jump (length c.instrs)) b.0 in (
+            patched back (length m.0.instrs) (JumpZero (length back.instrs)),
+            looped slots words refl refl (m.0, m.1, (refl, refl)) b.1 (add (Jump (length c.instrs)) refl (λ j w. refl) b.0) refl refl,
+          )
       command_made (Invocation name arguments) c = let m = call_made name arguments c in (m.0, called slots words refl m.1)
       command_made Failure c =
           (added Fail (added Turn c), failed slots words refl (add Turn refl (λ j w. refl) c) (add Fail refl (λ j w. refl) (added Turn c)))
@@ -153,12 +155,13 @@ module _ (slots : List Slot) where
             restart = length enter.instrs;
             test = a.1;
             alternates = a.0;
-          } in
-          (settled (added (Test number) t.0) number entry,
-          recovered slots words number conversation place test bound alternates entry refl refl refl refl
-          (add Turn refl (λ j w. refl) c) (add (Enter number) refl (λ j w. refl) (added Turn c)) refl
-          (add Turn refl (λ j w. refl) enter) (add (Start number) refl (λ j w. refl) (added Turn enter)) inside.1 (sym inside.2)
-          (add Turn refl (λ j w. refl) inside.0) t.1 (add (Test number) refl (λ j w. refl) t.0) refl)
+          } in (
+            settled (added (Test number) t.0) number entry,
+            recovered slots words number conversation place test bound alternates entry refl refl refl refl
+                (add Turn refl (λ j w. refl) c) (add (Enter number) refl (λ j w. refl) (added Turn c)) refl
+                (add Turn refl (λ j w. refl) enter) (add (Start number) refl (λ j w. refl) (added Turn enter)) inside.1 (sym inside.2)
+                (add Turn refl (λ j w. refl) inside.0) t.1 (add (Test number) refl (λ j w. refl) t.0) refl,
+          )
 
       -- Alternates, at these addresses, before an acceptance test at any address; and where they end.
       alternates_made : (x : Alternates) (c : Output) → (addresses : List ℕ) × (end : ℕ) × ((t : ℕ) → (d : Output) × WritesAlternates slots words x addresses t c d × (length d.instrs ≡ end))
@@ -173,8 +176,13 @@ module _ (slots : List Slot) where
       others_made (Alternate body others) c =
           let jump = added (Jump 0) c in
           let b = body_made body jump in
-          let o = others_made others b.0 in
-          (length jump.instrs ∷ o.0, o.1, λ t.
-              let d = o.2 t in
-              (patched d.0 (length c.instrs) (Jump t), further slots words t (length jump.instrs) (length c.instrs) o.0 refl (refl, refl) refl b.1 d.1,
-              same_length d.0.instrs (length c.instrs) (Jump t) ∙ d.2))
+          let o = others_made others b.0 in (
+            length jump.instrs ∷ o.0,
+            o.1,
+            λ t.
+                let d = o.2 t in (
+                  patched d.0 (length c.instrs) (Jump t),
+                  further slots words t (length jump.instrs) (length c.instrs) o.0 refl (refl, refl) refl b.1 d.1,
+                  same_length d.0.instrs (length c.instrs) (Jump t) ∙ d.2,
+                ),
+          )

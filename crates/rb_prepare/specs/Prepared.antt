@@ -1,5 +1,5 @@
 -- What `prepare` answers.
-use Rattle.std.specs.Prelude.{◌≡◌, ℕ, List}
+use Rattle.std.specs.Prelude.{ℕ, List}
 use Rattle.rb_syntax.specs.Tree.{Tree}
 use Rattle.rb_meaning.specs.Groups.{groups_of}
 use Rattle.rb_scope.specs.InFrames.{Resolved}

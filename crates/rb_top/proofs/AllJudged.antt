@@ -13,7 +13,7 @@ use Rattle.rb_syntax.specs.Tree.{Tree}
 use Rattle.rb_judge.specs.Verdict.{IsAccepted, IsRefusedFor}
 use Rattle.rb_top.specs.Words.{Run, Check, Compile}
 use Rattle.rb_top.specs.Judgement.{Judgement, ReadsOn, RefusedWith, Writes, too_long_line, source_line, schedule_line, accepted_line, unready, SourceRefused, long_source, bad_source, Accepted}
-use Rattle.rb_top.specs.Judgement.{ScheduleRefused, long_schedule, bad_schedule, at_first, source_refused, source_accepted, unready_tree, ready_tree, schedule_refused, runs, accepts, CodeGoesOn, ListsCodeOf, lists}
+use Rattle.rb_top.specs.Judgement.{ScheduleRefused, long_schedule, bad_schedule, at_first, source_refused, source_accepted, unready_tree, ready_tree, schedule_refused, runs, accepts, ListsCodeOf, lists}
 use Rattle.rb_top.specs.Judgement.{EndsWith, refused_here, written_here, later}
 use Rattle.rb_top.specs.Laws.{AreJudged}
 use Rattle.rb_judge.proofs.BlocksInOrder.{parsed_are_numbered}

@@ -68,7 +68,10 @@ fn source(alloc: Global, largest: Largest) -> Result<String, Fail> {
         }
         Largest::Processes => {
             for n in 0..64 {
-                write!(text, "process p{n} {{ var a[1024]; var b[1024]; var c[1024]; var d[1024]; a[d[1023]] := b[c[0]]; }} ")?;
+                write!(
+                    text,
+                    "process p{n} {{ var a[1024]; var b[1024]; var c[1024]; var d[1024]; a[d[1023]] := b[c[0]]; }} "
+                )?;
             }
         }
         Largest::Brackets => {
@@ -84,10 +87,10 @@ fn source(alloc: Global, largest: Largest) -> Result<String, Fail> {
         }
         Largest::Blocks => {
             text.push_str("process p { ")?;
-            for _ in 0..99 {
+            for _ in 0..32 {
                 text.push_str("ensure 1 within 9 by { var v[9]; ")?;
             }
-            for _ in 0..99 {
+            for _ in 0..32 {
                 text.push_str("} else error; ")?;
             }
             text.push_str("} ")?;
@@ -100,10 +103,10 @@ fn source(alloc: Global, largest: Largest) -> Result<String, Fail> {
 // How the listing ends.
 fn last_bytes(largest: Largest) -> &'static str {
     match largest {
-        Largest::Statements => "419404 turn\n419405 fail\n419406 done\n",
-        Largest::Processes => "\n703 done\n",
-        Largest::Brackets => "push 3\n",
-        Largest::Blocks => "block 98 line 1 ensure within 9 restart 394 test 398 alternates 396\n",
+        Largest::Statements => "419402 turn\n419403 fail\n419404 done\n",
+        Largest::Processes => "\n767 done\n",
+        Largest::Brackets => "592 storeat g 0\n593 done\n",
+        Largest::Blocks => "block 31 line 1 ensure within 9 restart 157 test 161 alternates 159\n",
     }
 }
 

@@ -22,9 +22,9 @@ pub use top::command;
 pub use words::Words;
 
 #[cfg(test)]
-mod command_tests;
-#[cfg(test)]
 mod code_tests;
+#[cfg(test)]
+mod command_tests;
 #[cfg(test)]
 mod cuts;
 #[cfg(test)]

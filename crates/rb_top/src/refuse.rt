@@ -68,7 +68,10 @@ pub fn refuse_long<S: Sink>(out: &mut S) -> Result<(), Failed>
 pub fn put_usage<S: Sink>(out: &mut S) -> Result<(), Failed>
     ensures { Puts usage_line (S.written out.old) (S.written out.new) (S.faults out.old) (S.faults out.new) result }
 {
-    put(out, b"usage: rbl run SOURCE SCHEDULE | check SOURCE | code SOURCE\n")
+    put(
+        out,
+        b"usage: rbl run SOURCE SCHEDULE | check SOURCE | code SOURCE\n",
+    )
 }
 
 /// Writes the line of a source that is accepted.
