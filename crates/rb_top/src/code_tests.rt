@@ -45,19 +45,30 @@ fn row(n: u8) -> (&'static str, Status, &'static str) {
 enum Largest {
     Statements,
     Processes,
+    FirstEdition,
     Brackets,
     Blocks,
 }
 
-const LARGEST: [Largest; 4] = [
+const LARGEST: [Largest; 5] = [
     Largest::Statements,
     Largest::Processes,
+    Largest::FirstEdition,
     Largest::Brackets,
     Largest::Blocks,
 ];
 
+fn edition(largest: Largest) -> &'static str {
+    match largest {
+        Largest::FirstEdition => "",
+        Largest::Statements | Largest::Processes | Largest::Brackets | Largest::Blocks =>
+            "edition 2; ",
+    }
+}
+
 fn source(alloc: Global, largest: Largest) -> Result<String, Fail> {
-    let mut text = String::from_str(alloc, "edition 2; program a; ")?;
+    let mut text = String::from_str(alloc, edition(largest))?;
+    text.push_str("program a; ")?;
     match largest {
         Largest::Statements => {
             text.push_str("process p { ")?;
@@ -71,6 +82,14 @@ fn source(alloc: Global, largest: Largest) -> Result<String, Fail> {
                 write!(
                     text,
                     "process p{n} {{ var a[1024]; var b[1024]; var c[1024]; var d[1024]; a[d[1023]] := b[c[0]]; }} "
+                )?;
+            }
+        }
+        Largest::FirstEdition => {
+            for n in 0..32 {
+                write!(
+                    text,
+                    "process p{n} {{ var a[1024]; var b[1024]; a[b[1023]] := b[a[0]]; }} "
                 )?;
             }
         }
@@ -105,6 +124,7 @@ fn last_bytes(largest: Largest) -> &'static str {
     match largest {
         Largest::Statements => "419402 turn\n419403 fail\n419404 done\n",
         Largest::Processes => "\n767 done\n",
+        Largest::FirstEdition => "\n383 done\n",
         Largest::Brackets => "592 storeat g 0\n593 done\n",
         Largest::Blocks => "block 31 line 1 ensure within 9 restart 157 test 161 alternates 159\n",
     }
