@@ -1,0 +1,15 @@
+-- Lemmas of a process of the machine.
+pub mod Staying
+pub mod Rising
+pub mod Fronts
+pub mod Levels
+pub mod Tied
+pub mod Returns
+pub mod Backs
+pub mod Tops
+pub mod Mailed
+pub mod Joins
+pub mod Running
+pub mod Stepping
+pub mod Leaving
+pub mod Entered

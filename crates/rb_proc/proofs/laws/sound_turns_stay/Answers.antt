@@ -1,0 +1,8 @@
+use Rattle.rb_proc.proofs.Staying.{settling_stays, steps_stay}
+use Rattle.rb_proc.proofs.laws.sound_turns_stay.Goals as goal
+
+pub returns-clause-steps : goal.returns-clause-steps
+returns-clause-steps c = steps_stay
+
+pub returns-clause-settling : goal.returns-clause-settling
+returns-clause-settling c = settling_stays

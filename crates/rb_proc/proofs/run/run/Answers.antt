@@ -1,0 +1,200 @@
+use Rattle.std.proofs.Common.{◌≡◌, ℕ, ◌≤◌, List, refl, ap, sym, ◌∙◌, subst, arith}
+use Rattle.rb_world.specs.World.{Level, copy_of, last_of}
+use Rattle.rb_code.specs.Plain.{code as plain}
+use Rattle.rb_code.specs.Act.{Accepts, Going, Stopped, Trapped, act as acted, execute}
+use Rattle.rb_code.specs.Safe.{IsUnchanged, Ready}
+use Rattle.rb_proc.specs.Stays.{entry_calls}
+use Rattle.rb_code.specs.Turn.{Copy, most_steps}
+use Rattle.rb_proc.specs.Acts.{CursorRises, LeavesEnough}
+use Rattle.rb_proc.specs.Contents.{Contents}
+use Rattle.rb_proc.specs.Outcomes.{pieces_in, whole}
+use Rattle.rb_proc.specs.Sees.{FitSizes, see_of}
+use Rattle.rb_proc.proofs.Running.{falls, fetched, leaves, onward, over, ready_here, rises, same_contents, unchanged}
+use Rattle.rb_proc.proofs.run.run.Goals as goal
+
+pub turn-init : goal.turn-init
+turn-init g c = record {
+  start = c.requires.stays.0;
+  cursors = c.requires.stays.1;
+  runs = record { n = most_steps (plain c.args.code.now); within = (let e : most_steps (plain c.args.code.now) ≤ most_steps (plain c.args.code.now) = omega arith in e); safe = c.requires.safe; stays = c.requires.stays.2; comes = refl };
+  levels = refl;
+  waiting = refl;
+  sized = c.requires.sized;
+}
+
+pub act-requires-clause-ready : goal.act-requires-clause-ready
+act-requires-clause-ready g c =
+    let code = plain c.args.code.now in
+    let see = see_of c.args.sight.now c.args.memory.now.levels in
+    let first = whole code.texts c.args.bench.now c.args.memory.now c.args.mails.now in
+    let m = whole code.texts c.turn.bench c.turn.memory c.turn.mails in
+    let xs = c.turn.bench.operands in
+    let calls = entry_calls (copy_of (last_of c.args.memory.now.levels)) in
+    let start = c.turn.invariant.start in
+    let most = most_steps code in
+    let end = execute code see most c.args.from c.args.bench.now.operands first in
+    let i = c.index-instr.result.now in
+    let q = fetched code see (IsUnchanged first) calls start most c.turn.at xs m end c.turn.invariant.runs i c.index-instr.ensures in
+    subst (λ (ls : List (Level Copy)). Ready code (see_of c.args.sight.now ls) i xs m) (sym c.turn.invariant.levels)
+    (ready_here code see (IsUnchanged first) calls start most c.turn.at xs m end c.turn.invariant.runs i q)
+
+pub act-requires-clause-cursor : goal.act-requires-clause-cursor
+act-requires-clause-cursor g c =
+    let code = plain c.args.code.now in
+    let see = see_of c.args.sight.now c.args.memory.now.levels in
+    let first = whole code.texts c.args.bench.now c.args.memory.now c.args.mails.now in
+    let m = whole code.texts c.turn.bench c.turn.memory c.turn.mails in
+    let xs = c.turn.bench.operands in
+    let calls = entry_calls (copy_of (last_of c.args.memory.now.levels)) in
+    let start = c.turn.invariant.start in
+    let most = most_steps code in
+    let end = execute code see most c.args.from c.args.bench.now.operands first in
+    let i = c.index-instr.result.now in
+    let q = fetched code see (IsUnchanged first) calls start most c.turn.at xs m end c.turn.invariant.runs i c.index-instr.ensures in
+    subst (λ (ls : List (Level Copy)). CursorRises code (see_of c.args.sight.now ls) c.turn.memory.words i) (sym c.turn.invariant.levels)
+    (rises code see (IsUnchanged first) calls start most c.turn.at xs m end c.turn.invariant.runs i q c.turn.invariant.cursors)
+
+pub act-requires-clause-stays : goal.act-requires-clause-stays
+act-requires-clause-stays g c =
+    let code = plain c.args.code.now in
+    let see = see_of c.args.sight.now c.args.memory.now.levels in
+    let first = whole code.texts c.args.bench.now c.args.memory.now c.args.mails.now in
+    let m = whole code.texts c.turn.bench c.turn.memory c.turn.mails in
+    let xs = c.turn.bench.operands in
+    let calls = entry_calls (copy_of (last_of c.args.memory.now.levels)) in
+    let start = c.turn.invariant.start in
+    let most = most_steps code in
+    let end = execute code see most c.args.from c.args.bench.now.operands first in
+    let i = c.index-instr.result.now in
+    let q = fetched code see (IsUnchanged first) calls start most c.turn.at xs m end c.turn.invariant.runs i c.index-instr.ensures in
+    subst (λ (ls : List (Level Copy)). LeavesEnough (entry_calls (copy_of (last_of ls))) (acted code (see_of c.args.sight.now ls) i c.turn.at xs m)) (sym c.turn.invariant.levels)
+    (leaves code see (IsUnchanged first) calls start most c.turn.at xs m end c.turn.invariant.runs i q)
+
+pub turn-smaller : goal.turn-smaller
+turn-smaller g c =
+    let code = plain c.args.code.now in
+    let see = see_of c.args.sight.now c.args.memory.now.levels in
+    let first = whole code.texts c.args.bench.now c.args.memory.now c.args.mails.now in
+    let m = whole code.texts c.turn.bench c.turn.memory c.turn.mails in
+    let xs = c.turn.bench.operands in
+    let calls = entry_calls (copy_of (last_of c.args.memory.now.levels)) in
+    let start = c.turn.invariant.start in
+    let most = most_steps code in
+    let end = execute code see most c.args.from c.args.bench.now.operands first in
+    let i = c.index-instr.result.now in
+    let q = fetched code see (IsUnchanged first) calls start most c.turn.at xs m end c.turn.invariant.runs i c.index-instr.ensures in
+    let moved = subst (λ (ls : List (Level Copy)). Going c.in-Go.to c.act.new.bench.operands (whole code.texts c.act.new.bench c.act.new.memory c.act.new.mails) ≡ acted code (see_of c.args.sight.now ls) i c.turn.at xs m) c.turn.invariant.levels c.in-Go.ensures.moved in
+    falls code see (IsUnchanged first) calls start most c.turn.at xs m end c.turn.invariant.runs i q c.in-Go.to c.act.new.bench.operands (whole code.texts c.act.new.bench c.act.new.memory c.act.new.mails) moved
+
+pub turn-preserved : goal.turn-preserved
+turn-preserved g c =
+    let code = plain c.args.code.now in
+    let see = see_of c.args.sight.now c.args.memory.now.levels in
+    let first = whole code.texts c.args.bench.now c.args.memory.now c.args.mails.now in
+    let m = whole code.texts c.turn.bench c.turn.memory c.turn.mails in
+    let xs = c.turn.bench.operands in
+    let calls = entry_calls (copy_of (last_of c.args.memory.now.levels)) in
+    let start = c.turn.invariant.start in
+    let most = most_steps code in
+    let end = execute code see most c.args.from c.args.bench.now.operands first in
+    let i = c.index-instr.result.now in
+    let q = fetched code see (IsUnchanged first) calls start most c.turn.at xs m end c.turn.invariant.runs i c.index-instr.ensures in
+    let moved = subst (λ (ls : List (Level Copy)). Going c.in-Go.to c.act.new.bench.operands (whole code.texts c.act.new.bench c.act.new.memory c.act.new.mails) ≡ acted code (see_of c.args.sight.now ls) i c.turn.at xs m) c.turn.invariant.levels c.in-Go.ensures.moved in
+    record {
+      runs = onward code see (IsUnchanged first) calls start most c.turn.at xs m end c.turn.invariant.runs i q c.in-Go.to c.act.new.bench.operands (whole code.texts c.act.new.bench c.act.new.memory c.act.new.mails) moved;
+      levels = c.in-Go.ensures.kept.0 ∙ c.turn.invariant.levels;
+      waiting = c.in-Go.ensures.kept.1 ∙ c.turn.invariant.waiting;
+      sized = subst (λ (ns : List ℕ). FitSizes ns code.channels) (sym c.in-Go.ensures.sized) c.turn.invariant.sized;
+      start = start;
+      cursors = c.turn.invariant.cursors;
+    }
+
+pub returns-in-Stop-clause-ended : goal.returns-in-Stop-clause-ended
+returns-in-Stop-clause-ended g c =
+    let code = plain c.args.code.now in
+    let see = see_of c.args.sight.now c.args.memory.now.levels in
+    let first = whole code.texts c.args.bench.now c.args.memory.now c.args.mails.now in
+    let m = whole code.texts c.turn.bench c.turn.memory c.turn.mails in
+    let xs = c.turn.bench.operands in
+    let calls = entry_calls (copy_of (last_of c.args.memory.now.levels)) in
+    let start = c.turn.invariant.start in
+    let most = most_steps code in
+    let end = execute code see most c.args.from c.args.bench.now.operands first in
+    let i = c.index-instr.result.now in
+    let q = fetched code see (IsUnchanged first) calls start most c.turn.at xs m end c.turn.invariant.runs i c.index-instr.ensures in
+    let moved = subst (λ (ls : List (Level Copy)). (Stopped c.turn.at (whole code.texts c.act.new.bench c.act.new.memory c.act.new.mails)) ≡ acted code (see_of c.args.sight.now ls) i c.turn.at xs m) c.turn.invariant.levels c.in-Stop.ensures.moved in
+    over code see (IsUnchanged first) calls start most c.turn.at xs m end c.turn.invariant.runs i q (Stopped c.turn.at (whole code.texts c.act.new.bench c.act.new.memory c.act.new.mails)) moved tt
+
+pub returns-in-Stop-clause-kept : goal.returns-in-Stop-clause-kept
+returns-in-Stop-clause-kept g c =
+    (ap (λ (r : Contents). r.levels) c.in-Stop.ensures.kept.0 ∙ c.turn.invariant.levels, ap (λ (r : Contents). r.waiting) c.in-Stop.ensures.kept.0 ∙ c.turn.invariant.waiting)
+
+pub returns-in-Accepts-clause-ended : goal.returns-in-Accepts-clause-ended
+returns-in-Accepts-clause-ended g c =
+    let code = plain c.args.code.now in
+    let see = see_of c.args.sight.now c.args.memory.now.levels in
+    let first = whole code.texts c.args.bench.now c.args.memory.now c.args.mails.now in
+    let m = whole code.texts c.turn.bench c.turn.memory c.turn.mails in
+    let xs = c.turn.bench.operands in
+    let calls = entry_calls (copy_of (last_of c.args.memory.now.levels)) in
+    let start = c.turn.invariant.start in
+    let most = most_steps code in
+    let end = execute code see most c.args.from c.args.bench.now.operands first in
+    let i = c.index-instr.result.now in
+    let q = fetched code see (IsUnchanged first) calls start most c.turn.at xs m end c.turn.invariant.runs i c.index-instr.ensures in
+    let moved = subst (λ (ls : List (Level Copy)). (Accepts c.in-Accepts.to (whole code.texts c.act.new.bench c.act.new.memory c.act.new.mails)) ≡ acted code (see_of c.args.sight.now ls) i c.turn.at xs m) c.turn.invariant.levels c.in-Accepts.ensures.moved in
+    over code see (IsUnchanged first) calls start most c.turn.at xs m end c.turn.invariant.runs i q (Accepts c.in-Accepts.to (whole code.texts c.act.new.bench c.act.new.memory c.act.new.mails)) moved tt
+
+pub returns-in-Accepts-clause-kept : goal.returns-in-Accepts-clause-kept
+returns-in-Accepts-clause-kept g c =
+    let code = plain c.args.code.now in
+    let see = see_of c.args.sight.now c.args.memory.now.levels in
+    let first = whole code.texts c.args.bench.now c.args.memory.now c.args.mails.now in
+    let m = whole code.texts c.turn.bench c.turn.memory c.turn.mails in
+    let xs = c.turn.bench.operands in
+    let calls = entry_calls (copy_of (last_of c.args.memory.now.levels)) in
+    let start = c.turn.invariant.start in
+    let most = most_steps code in
+    let end = execute code see most c.args.from c.args.bench.now.operands first in
+    let i = c.index-instr.result.now in
+    let q = fetched code see (IsUnchanged first) calls start most c.turn.at xs m end c.turn.invariant.runs i c.index-instr.ensures in
+    let moved = subst (λ (ls : List (Level Copy)). (Accepts c.in-Accepts.to (whole code.texts c.act.new.bench c.act.new.memory c.act.new.mails)) ≡ acted code (see_of c.args.sight.now ls) i c.turn.at xs m) c.turn.invariant.levels c.in-Accepts.ensures.moved in
+    let none = unchanged code see (IsUnchanged first) calls start most c.turn.at xs m end c.turn.invariant.runs i q (Accepts c.in-Accepts.to (whole code.texts c.act.new.bench c.act.new.memory c.act.new.mails)) moved tt in (
+      c.in-Accepts.ensures.kept.0 ∙ same_contents c.args.memory.now c.turn.memory (pieces_in code.texts c.args.bench.now) (pieces_in code.texts c.turn.bench) c.args.bench.now.counters c.turn.bench.counters c.args.mails.now c.turn.mails none c.turn.invariant.levels c.turn.invariant.waiting,
+      c.in-Accepts.ensures.kept.1 ∙ none.slots,
+    )
+
+pub returns-in-Trap-clause-ended : goal.returns-in-Trap-clause-ended
+returns-in-Trap-clause-ended g c =
+    let code = plain c.args.code.now in
+    let see = see_of c.args.sight.now c.args.memory.now.levels in
+    let first = whole code.texts c.args.bench.now c.args.memory.now c.args.mails.now in
+    let m = whole code.texts c.turn.bench c.turn.memory c.turn.mails in
+    let xs = c.turn.bench.operands in
+    let calls = entry_calls (copy_of (last_of c.args.memory.now.levels)) in
+    let start = c.turn.invariant.start in
+    let most = most_steps code in
+    let end = execute code see most c.args.from c.args.bench.now.operands first in
+    let i = c.index-instr.result.now in
+    let q = fetched code see (IsUnchanged first) calls start most c.turn.at xs m end c.turn.invariant.runs i c.index-instr.ensures in
+    let moved = subst (λ (ls : List (Level Copy)). (Trapped c.in-Trap.cause) ≡ acted code (see_of c.args.sight.now ls) i c.turn.at xs m) c.turn.invariant.levels c.in-Trap.ensures.moved in
+    over code see (IsUnchanged first) calls start most c.turn.at xs m end c.turn.invariant.runs i q (Trapped c.in-Trap.cause) moved tt
+
+pub returns-in-Trap-clause-kept : goal.returns-in-Trap-clause-kept
+returns-in-Trap-clause-kept g c =
+    let code = plain c.args.code.now in
+    let see = see_of c.args.sight.now c.args.memory.now.levels in
+    let first = whole code.texts c.args.bench.now c.args.memory.now c.args.mails.now in
+    let m = whole code.texts c.turn.bench c.turn.memory c.turn.mails in
+    let xs = c.turn.bench.operands in
+    let calls = entry_calls (copy_of (last_of c.args.memory.now.levels)) in
+    let start = c.turn.invariant.start in
+    let most = most_steps code in
+    let end = execute code see most c.args.from c.args.bench.now.operands first in
+    let i = c.index-instr.result.now in
+    let q = fetched code see (IsUnchanged first) calls start most c.turn.at xs m end c.turn.invariant.runs i c.index-instr.ensures in
+    let moved = subst (λ (ls : List (Level Copy)). (Trapped c.in-Trap.cause) ≡ acted code (see_of c.args.sight.now ls) i c.turn.at xs m) c.turn.invariant.levels c.in-Trap.ensures.moved in
+    let none = unchanged code see (IsUnchanged first) calls start most c.turn.at xs m end c.turn.invariant.runs i q (Trapped c.in-Trap.cause) moved tt in (
+      c.in-Trap.ensures.kept.0 ∙ same_contents c.args.memory.now c.turn.memory (pieces_in code.texts c.args.bench.now) (pieces_in code.texts c.turn.bench) c.args.bench.now.counters c.turn.bench.counters c.args.mails.now c.turn.mails none c.turn.invariant.levels c.turn.invariant.waiting,
+      c.in-Trap.ensures.kept.1 ∙ none.slots,
+    )

@@ -1,0 +1,23 @@
+-- What one instruction asks of whoever executes it beside what it is ready for.
+use Rattle.std.specs.Prelude.{ℕ, ◌-◌, ◌<◌, ◌^◌, ℤ, List}
+use Rattle.rb_meaning.specs.Environment.{natural}
+use Rattle.rb_code.specs.Plain.{Code}
+use Rattle.rb_code.specs.Memory.{cursor_place, word_at}
+use Rattle.rb_code.specs.Act.{Accepts, Going, Outcome, Sight, Stopped, Trapped, Unfinished, here}
+use Rattle.rb_proc.specs.Stays.{HasEnough}
+use Rattle.rb_code.specs.declared.instr.Instr.{Instr}
+use Rattle.rb_code.specs.declared.instr.Instr.TheVariants.{Put, Take}
+
+-- where it goes on, there are still enough calls and words
+abbrev pub LeavesEnough : ℕ → Outcome → Type 0
+LeavesEnough calls (Going a operands m) = HasEnough calls m
+LeavesEnough calls (Stopped a m) = Unit {0}
+LeavesEnough calls (Accepts a m) = Unit {0}
+LeavesEnough calls (Trapped cause) = Unit {0}
+LeavesEnough calls Unfinished = Unit {0}
+
+-- a cursor that is used can rise
+abbrev pub CursorRises : Code → Sight → List ℤ → Instr → Type 0
+CursorRises c see words (Put channel) = natural (word_at words (cursor_place (here c see) channel)) < 2 ^ 32 - 1
+CursorRises c see words (Take channel) = natural (word_at words (cursor_place (here c see) channel)) < 2 ^ 32 - 1
+CursorRises c see words _ = Unit {0}

@@ -1,0 +1,19 @@
+-- What all instructions up to an end ask and leave.
+use Rattle.std.specs.Prelude.{◌≡◌, ℕ, ◌-◌, ◌<◌, ◌^◌, ℤ, List}
+use Rattle.rb_meaning.specs.Environment.{natural}
+use Rattle.rb_world.specs.Slots.{Slots}
+use Rattle.rb_code.specs.Plain.{Code}
+use Rattle.rb_code.specs.Memory.{cursor_place, part_of, word_at}
+use Rattle.rb_code.specs.Stands.{IsAmong}
+use Rattle.rb_proc.specs.Contents.{Contents}
+use Rattle.rb_proc.specs.declared.next.Ended.{Ended}
+use Rattle.rb_proc.specs.declared.next.Ended.TheVariants as ended
+
+-- the cursors of a process can rise
+abbrev pub CursorsRise : Code → ℕ → List ℤ → Type 0
+CursorsRise c p words = (channel : ℕ) → IsAmong channel (part_of c p).channels → natural (word_at words (cursor_place (part_of c p) channel)) < 2 ^ 32 - 1
+
+-- levels and released lines stay, and all stays unless the turn is over
+abbrev pub KeepsEnded : Ended → Contents → Contents → Slots → Slots → Type 0
+KeepsEnded (ended.Stop a) old new before after = (new.levels ≡ old.levels) × (new.waiting ≡ old.waiting)
+KeepsEnded answer old new before after = (new ≡ old) × (after ≡ before)

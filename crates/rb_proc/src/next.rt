@@ -1,0 +1,25 @@
+//! Where instructions lead.
+
+use rb_base::Cause;
+
+/// Where one instruction leads.
+#[derive(Clone, Copy, Debug)]
+pub enum Next {
+    /// On at an address.
+    Go(u32),
+    /// The turn is over here.
+    Stop,
+    /// The acceptance test held; what follows it stands at an address.
+    Accepts(u32),
+    Trap(Cause),
+}
+
+/// Where all instructions up to an end lead.
+#[derive(Clone, Copy, Debug)]
+pub enum Ended {
+    /// The turn is over at an address.
+    Stop(u32),
+    /// The acceptance test held; what follows it stands at an address.
+    Accepts(u32),
+    Trap(Cause),
+}

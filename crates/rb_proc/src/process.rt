@@ -1,0 +1,325 @@
+//! One process: what it wants, its steps, its levels and its lines.
+
+ghost use Rattle.std.specs.Prelude.{◌≡◌, ℕ, ◌+◌, ◌<◌, ◌≤◌, ◌^◌, false, List, [], ◌∷◌, ◌++◌, length, slice_get, IfOk};
+ghost use Rattle.rb_world.specs.Kind.{Membership};
+ghost use Rattle.rb_world.specs.Reject.{fallen, put_back as put_back_at, raised};
+ghost use Rattle.rb_world.specs.Turn.{freed, stands_now};
+ghost use Rattle.rb_world.specs.World.{Running, settled, without_last};
+ghost use Rattle.rb_cache.specs.Copies.{accepted};
+ghost use Rattle.rb_code.specs.Plain.{Code as Plain, code as plain};
+ghost use Rattle.rb_code.specs.Stands.{Serves, SettlesSoundly, StandsSoundly};
+ghost use Rattle.rb_code.specs.Turn.{want as wanted_in};
+ghost use Rattle.rb_trace.specs.Ended.{state_of};
+ghost use Rattle.rb_code.specs.Memory.{part_of};
+ghost use Rattle.rb_code.specs.WordKind.{cursor_in};
+ghost use Rattle.rb_code.specs.WordRun.{opening_standing};
+ghost use Rattle.rb_proc.specs.Contents.{IsBelowLast};
+ghost use Rattle.rb_proc.specs.Entries.{EntersAs};
+ghost use Rattle.rb_proc.specs.Executable.{IsExecutable};
+ghost use Rattle.rb_proc.specs.Outcomes.{stop_at};
+ghost use Rattle.rb_proc.specs.Runs.{CursorsRise};
+ghost use Rattle.rb_proc.specs.Sees.{AreSized};
+ghost use Rattle.rb_proc.specs.Process.{Seen, StepsTo, alternate_for, kind_of, message_for, step_of, wanted_of};
+
+use crate::answers::{Outcome, Status, Wanted};
+use crate::bench::Bench;
+use crate::next::Ended;
+use crate::recoverable::Recoverable;
+use crate::run::run;
+use crate::sight::Sight;
+use crate::wants::{alternate_of, cursor_of, entry_at, message_of, status_here, want_at};
+use rb_base::{Cause, Memory, State, Steps};
+use rb_code::Code;
+use rb_mail::Mail;
+use std::alloc::Global;
+use std::marker::Model;
+use std::sync::ledger::Ledger;
+
+/// A process of the machine. Contracts see the process of the word machine, with its whole copies.
+#[derive(Drop)]
+pub struct Proc<L: Ledger> {
+    memory: Recoverable<L>,
+    bench: Bench,
+    process: u32,
+    at: u32,
+    last_kept: u32,
+    at_line: bool,
+    status: Status,
+}
+
+impl<L: Ledger> Model for Proc<L> {
+    ghost use Rattle.rb_proc.specs.Process.{Seen};
+
+    ghost Value = { Seen };
+
+    ghost use Rattle.rb_proc.specs.ProcessInside.{seen};
+
+    ghost view = { λ p. seen p.memory p.process p.at p.last_kept p.at_line p.status };
+}
+
+impl<L: Ledger> Proc<L> {
+    /// Process number p of a code, at its body, once it has settled; `Memory` if it is wanting. No other call takes memory.
+    pub fn new(
+        alloc: Global,
+        code: &Code,
+        process: u32,
+        steps: &mut Steps<L>,
+    ) -> Result<Self, Memory>
+        requires code { IsExecutable (plain code.now) }
+        requires process { process < length (plain code.now).processes }
+        requires settles { (groups : List Membership) × SettlesSoundly (plain code.now) groups (opening_standing process (part_of (plain code.now) process)) [] }
+        ensures { IfOk result (λ p. p ≡ record { process = settled (kind_of (plain code.now)) (opening_standing process (part_of (plain code.now) process)) []; waiting = [] }) }
+    {
+        let sight = Sight::new(code, process, None, 0);
+        let memory = Recoverable::new(alloc, sight.body, steps)?;
+        let bench = Bench::new(alloc)?;
+        let mut proc = Proc {
+            memory,
+            bench,
+            process,
+            at: start_of(code, process),
+            last_kept: 0,
+            at_line: false,
+            status: Status::Running,
+        };
+        proc.settle(code, steps);
+        Ok(proc)
+    }
+
+    /// What the process wants of its next turn.
+    pub fn want(&self, code: &Code) -> Wanted
+        requires { IsExecutable (plain code.now) }
+        ensures { result ≡ wanted_of (plain code.now) self.now.process }
+    {
+        match self.status {
+            Status::Running if self.at_line => Wanted::Line,
+            Status::Running => want_at(code, self.at),
+            Status::Finished | Status::Failed(_) => Wanted::Idle,
+        }
+    }
+
+    /// How the process stands; a running one with its number of open levels.
+    pub fn state(&self) -> State
+        ensures { result ≡ state_of (self.now.process.status, length self.now.process.levels) }
+    {
+        match self.status {
+            Status::Running => State::Running(self.memory.levels()),
+            Status::Finished => State::Done,
+            Status::Failed(_) => State::Failed,
+        }
+    }
+
+    /// How many levels are open.
+    pub fn levels(&self) -> u32
+        ensures { result ≡ length self.now.process.levels }
+    {
+        self.memory.levels()
+    }
+
+    /// The last turn that was kept.
+    pub fn last_kept(&self) -> u32
+        ensures { result ≡ self.now.process.state.last_kept }
+    {
+        self.last_kept
+    }
+
+    /// Whether it stands at the test line of its innermost level.
+    pub fn at_line(&self) -> bool
+        ensures { result ≡ self.now.process.at_line }
+    {
+        self.at_line
+    }
+
+    /// One turn: all from the `turn` at which the process stands up to the next one. A message is there, or none.
+    pub fn step(
+        &mut self,
+        code: &Code,
+        mails: &mut [Mail],
+        there: bool,
+        steps: &mut Steps<L>,
+    ) -> Outcome
+        requires code { IsExecutable (plain code.now) }
+        requires running { self.old.process.status ≡ Running }
+        requires away { self.old.process.at_line ≡ false }
+        requires none_waits { self.old.waiting ≡ [] }
+        requires stands { (groups : List Membership) × StandsSoundly (plain code.now) groups self.old.process.state self.old.process.levels }
+        requires serves { Serves (wanted_in (plain code.now) self.old.process.state) (alternate_for (wanted_in (plain code.now) self.old.process.state) self.old.process.levels) (message_for (plain code.now) self.old.process.state mails.old there (wanted_in (plain code.now) self.old.process.state)) self.old.process.levels }
+        requires sized { AreSized (plain code.now) mails.old }
+        requires cursors { CursorsRise (plain code.now) self.old.process.state.process self.old.process.state.words }
+        ensures { StepsTo (plain code.now) self.old.process mails.old (step_of (plain code.now) self.old.process mails.old there) result self.new.process mails.new }
+    {
+        let wanted = want_at(code, self.at);
+        let message = message_of(
+            code,
+            self.process,
+            wanted,
+            there,
+            &self.memory,
+            mails,
+            steps,
+        );
+        let sight = Sight::new(
+            code,
+            self.process,
+            message,
+            alternate_of(wanted, &self.memory),
+        );
+        self.bench.clear();
+        match run(
+            code,
+            &sight,
+            self.at + 1,
+            &mut self.bench,
+            &mut self.memory,
+            mails,
+            steps,
+        ) {
+            Ended::Stop(at) => {
+                self.at = at;
+                self.at_line = false;
+                self.status = status_here(code, at);
+                Outcome::Went
+            }
+            Ended::Accepts(at) => {
+                self.at = at;
+                Outcome::Accepts
+            }
+            Ended::Trap(cause) => Outcome::Trap(cause),
+        }
+    }
+
+    /// The innermost level goes, and what stands before the next `turn` is carried out.
+    pub fn accept(&mut self, code: &Code, steps: &mut Steps<L>)
+        requires code { IsExecutable (plain code.now) }
+        requires none_waits { self.old.waiting ≡ [] }
+        requires open { 0 < length self.old.process.levels }
+        requires settles { (groups : List Membership) × SettlesSoundly (plain code.now) groups (record self.old.process.state { touched = accepted self.old.process.state.touched }) (without_last self.old.process.levels) }
+        ensures { self.new ≡ record self.old { process = settled (kind_of (plain code.now)) (record self.old.process.state { touched = accepted self.old.process.state.touched }) (without_last self.old.process.levels) } }
+    {
+        self.memory.accept();
+        self.settle(code, steps);
+    }
+
+    // Carries out what stands before the next `turn`, and costs none.
+    fn settle(&mut self, code: &Code, steps: &mut Steps<L>)
+        requires code { IsExecutable (plain code.now) }
+        requires none_waits { self.old.waiting ≡ [] }
+        requires settles { (groups : List Membership) × SettlesSoundly (plain code.now) groups self.old.process.state self.old.process.levels }
+        ensures { self.new ≡ record self.old { process = settled (kind_of (plain code.now)) self.old.process.state self.old.process.levels } }
+    {
+        let sight = Sight::new(code, self.process, None, 0);
+        self.bench.clear();
+        let mut mails: [Mail; 0] = [];
+        let ended = run(
+            code,
+            &sight,
+            self.at,
+            &mut self.bench,
+            &mut self.memory,
+            &mut mails,
+            steps,
+        );
+        let at = end_of(ended, self.at);
+        self.at = at;
+        self.at_line = false;
+        self.status = status_here(code, at);
+    }
+
+    /// A turn was kept.
+    pub fn keep(&mut self, turn: u32)
+        ensures { self.new ≡ record self.old { process = record self.old.process { state = record self.old.process.state { last_kept = turn } } } }
+    {
+        self.last_kept = turn;
+    }
+
+    /// It stands at the test line of its innermost level.
+    pub fn stand(&mut self)
+        ensures { self.new ≡ record self.old { process = stands_now self.old.process.state self.old.process.levels } }
+    {
+        self.at_line = true;
+        self.status = Status::Running;
+    }
+
+    /// Enters the recovery block that stands next, if one does, at an alternate; the turn is the last kept one of the level's copy.
+    pub fn enter(&mut self, code: &Code, alternate: u32, turn: u32)
+        requires code { IsExecutable (plain code.now) }
+        requires room { length self.old.process.levels < 32 }
+        ensures process { EntersAs (plain code.now) (wanted_in (plain code.now) self.old.process.state) alternate turn self.old.process self.new.process }
+        ensures waiting { self.new.waiting ≡ self.old.waiting }
+    {
+        if let Some(facts) = entry_at(code, self.at) {
+            self.at += 2;
+            self.last_kept = turn;
+            self.memory.open(facts, alternate, self.at, turn);
+            self.at_line = false;
+            self.status = status_here(code, self.at);
+        }
+    }
+
+    /// The copy of an open level is put back, and the levels inside it go.
+    pub fn put_back(&mut self, level: u32, steps: &mut Steps<L>)
+        requires none_waits { self.old.waiting ≡ [] }
+        requires level { level < length self.old.process.levels }
+        ensures { (c : Plain) → self.new ≡ record self.old { process = put_back_at (kind_of c) level self.old.process } }
+    {
+        let mark = self.memory.put_back(level, steps);
+        self.at = mark.at;
+        self.last_kept = mark.last_kept;
+        self.at_line = false;
+    }
+
+    /// A level goes on to its next alternate.
+    pub fn raise(&mut self, level: u32)
+        requires level { level < length self.old.process.levels }
+        requires few { IsBelowLast (slice_get self.old.process.levels level) }
+        ensures { self.new ≡ record self.old { process = raised level self.old.process } }
+    {
+        self.memory.raise(level);
+    }
+
+    /// The process has failed: its levels go, and are not put back.
+    pub fn fail(&mut self, cause: Cause)
+        ensures { (c : Plain) → self.new ≡ record self.old { process = fallen (kind_of c) cause self.old.process } }
+    {
+        self.memory.forget_levels();
+        self.at_line = false;
+        self.status = Status::Failed(cause);
+    }
+
+    /// Its held lines are released, where no level is open.
+    pub fn release_now(&mut self, steps: &mut Steps<L>)
+        requires none_waits { self.old.waiting ≡ [] }
+        requires none_open { self.old.process.levels ≡ [] }
+        ensures freed { (c : Plain) → self.new ≡ record { process = freed (kind_of c) self.old.process; waiting = self.old.process.state.held } }
+        ensures ticks { steps.new ≤ steps.old + 2 }
+    {
+        self.memory.release(steps);
+    }
+
+    /// The cursor of a channel.
+    pub fn cursor(&self, code: &Code, channel: u32, steps: &mut Steps<L>) -> u64
+        requires { self.now.process.state.process < length code.now.processes.items }
+        ensures cursor { result ≡ cursor_in (plain code.now) self.now.process.state.process self.now.process.state.words channel }
+        ensures ticks { steps.new ≤ steps.old + 1 }
+    {
+        cursor_of(code, self.process, channel, &self.memory, steps)
+    }
+}
+
+// The address of an end, or else this one.
+fn end_of(ended: Ended, at: u32) -> u32
+    ensures { result ≡ stop_at ended at }
+{
+    match ended {
+        Ended::Stop(to) => to,
+        Ended::Accepts(_) | Ended::Trap(_) => at,
+    }
+}
+
+// The first address of a process.
+fn start_of(code: &Code, process: u32) -> u32
+    requires { process < length code.now.processes.items }
+    ensures { result ≡ (part_of (plain code.now) process).start }
+{
+    code.processes[process as usize].start
+}

@@ -1,0 +1,55 @@
+//! All instructions up to an end.
+
+ghost use Rattle.std.specs.Prelude.{◌≡◌, ◌<◌, ◌^◌, ℤ, List, [], length};
+ghost use Rattle.rb_code.specs.Plain.{code as plain};
+ghost use Rattle.rb_code.specs.Act.{execute};
+ghost use Rattle.rb_code.specs.Safe.{IsUnchanged, Safe};
+ghost use Rattle.rb_proc.specs.Stays.{Stays, entry_calls};
+ghost use Rattle.rb_code.specs.Turn.{most_steps};
+ghost use Rattle.rb_world.specs.World.{copy_of, last_of};
+ghost use Rattle.rb_proc.specs.Runs.{CursorsRise, KeepsEnded};
+ghost use Rattle.rb_proc.specs.Outcomes.{ended_of, whole};
+ghost use Rattle.rb_proc.specs.Pieces.{AreTexts};
+ghost use Rattle.rb_proc.specs.Sees.{AreSized, IsTurnOf, see_of};
+
+use crate::bench::Bench;
+use crate::instruction::act;
+use crate::next::{Ended, Next};
+use crate::recoverable::Recoverable;
+use crate::sight::Sight;
+use rb_base::Steps;
+use rb_code::Code;
+use rb_mail::Mail;
+use std::sync::ledger::Ledger;
+
+/// Carries out the instructions from an address on, up to an end.
+pub fn run<L: Ledger>(
+    code: &Code,
+    sight: &Sight,
+    from: u32,
+    bench: &mut Bench,
+    memory: &mut Recoverable<L>,
+    mails: &mut [Mail],
+    steps: &mut Steps<L>,
+) -> Ended
+    requires length { length code.now.instrs.items < 2 ^ 32 }
+    requires texts { AreTexts (plain code.now).texts }
+    requires turn { IsTurnOf (plain code.now) sight.now }
+    requires none_waits { memory.old.waiting ≡ [] }
+    requires sized { AreSized (plain code.now) mails.old }
+    requires safe { Safe (plain code.now) (see_of sight.now memory.old.levels) (IsUnchanged (whole (plain code.now).texts bench.old memory.old mails.old)) (most_steps (plain code.now)) from bench.old.operands (whole (plain code.now).texts bench.old memory.old mails.old) }
+    requires stays { (start : List ℤ) × CursorsRise (plain code.now) sight.now.process start × Stays (plain code.now) (see_of sight.now memory.old.levels) (entry_calls (copy_of (last_of memory.old.levels))) start (most_steps (plain code.now)) from bench.old.operands (whole (plain code.now).texts bench.old memory.old mails.old) }
+    ensures ended { ended_of result (whole (plain code.now).texts bench.new memory.new mails.new) ≡ execute (plain code.now) (see_of sight.now memory.old.levels) (most_steps (plain code.now)) from bench.old.operands (whole (plain code.now).texts bench.old memory.old mails.old) }
+    ensures kept { KeepsEnded result memory.old memory.new mails.old mails.new }
+{
+    let mut at = from;
+    'turn: loop {
+        let instr = code.instrs[at as usize];
+        match act(code, sight, instr, at, bench, memory, mails, steps) {
+            Next::Go(to) => at = to,
+            Next::Stop => return Ended::Stop(at),
+            Next::Accepts(to) => return Ended::Accepts(to),
+            Next::Trap(cause) => return Ended::Trap(cause),
+        }
+    }
+}

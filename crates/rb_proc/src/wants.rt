@@ -1,0 +1,182 @@
+//! What a process wants, by the instructions at which it stands.
+
+ghost use Rattle.std.specs.Prelude.{◌≡◌, ◌+◌, ◌<◌, ◌≤◌, ◌^◌, length, slice_get, IfSome};
+ghost use Rattle.rb_world.specs.World.{status_at};
+ghost use Rattle.rb_code.specs.Plain.{code as plain};
+ghost use Rattle.rb_code.specs.Turn.{enters, wants_by, wants_there};
+ghost use Rattle.rb_world.specs.Slots.{slot_of};
+ghost use Rattle.rb_code.specs.WordKind.{cursor_in};
+ghost use Rattle.rb_proc.specs.Process.{wanted_by};
+ghost use Rattle.rb_proc.specs.Entries.{EntryIs};
+ghost use Rattle.rb_proc.specs.Executable.{IsExecutable};
+ghost use Rattle.rb_proc.specs.Given.{alternate_by, message_by};
+ghost use Rattle.rb_proc.specs.Sees.{AreSized};
+ghost use Rattle.rb_proc.specs.Statuses.{status_of};
+
+use crate::answers::{Status, Wanted};
+use crate::channels::cursor_place;
+use crate::recoverable::{BlockFacts, Recoverable, natural};
+use rb_base::Steps;
+use rb_code::{Code, Instr};
+use rb_mail::Mail;
+use std::sync::ledger::Ledger;
+
+/// What the process wants that runs and stands at an address, and at no test line.
+pub fn want_at(code: &Code, at: u32) -> Wanted
+    requires { length code.now.instrs.items < 2 ^ 32 }
+    ensures { result ≡ wanted_by (wants_there (plain code.now) (slice_get (plain code.now).instrs at) (slice_get (plain code.now).instrs (at + 1))) }
+{
+    match code.instrs.get(at as usize) {
+        None => Wanted::Step,
+        Some(Instr::Done) => Wanted::Idle,
+        Some(_) => match code.instrs.get(at as usize + 1) {
+            None => Wanted::Step,
+            Some(instr) => want_of(code, *instr),
+        },
+    }
+}
+
+// What the instruction behind a `turn` asks of it.
+fn want_of(code: &Code, instr: Instr) -> Wanted
+    ensures { result ≡ wanted_by (wants_by (plain code.now) instr) }
+{
+    match instr {
+        Instr::Room(channel) => Wanted::Room(channel),
+        Instr::There(channel) => Wanted::Message(channel),
+        Instr::Absent(channel, _) => Wanted::Maybe(channel),
+        Instr::Enter(block) if (block as usize) < code.blocks.len() => Wanted::Entry(block),
+        Instr::Start(_) => Wanted::Start,
+        _ => Wanted::Step,
+    }
+}
+
+/// Whether a process that stands at an address is done.
+pub fn status_here(code: &Code, at: u32) -> Status
+    ensures { status_of result ≡ status_at (wants_there (plain code.now) (slice_get (plain code.now).instrs at) (slice_get (plain code.now).instrs (at + 1))) }
+{
+    match code.instrs.get(at as usize) {
+        Some(Instr::Done) => Status::Finished,
+        _ => Status::Running,
+    }
+}
+
+/// The alternate that a step is given.
+pub fn alternate_of<L: Ledger>(wanted: Wanted, memory: &Recoverable<L>) -> u32
+    ensures { result ≡ alternate_by wanted memory.now.levels }
+{
+    match wanted {
+        Wanted::Start => memory.alternate(),
+        _ => 0,
+    }
+}
+
+/// The message that a step is given.
+pub fn message_of<L: Ledger>(
+    code: &Code,
+    process: u32,
+    wanted: Wanted,
+    there: bool,
+    memory: &Recoverable<L>,
+    mails: &[Mail],
+    steps: &mut Steps<L>,
+) -> Option<i64>
+    requires process { process < length code.now.processes.items }
+    requires sized { AreSized (plain code.now) mails.now }
+    ensures message { result ≡ message_by (plain code.now) process memory.now.words mails.now there wanted }
+    ensures ticks { steps.new ≤ steps.old + 1 }
+{
+    match wanted {
+        Wanted::Message(channel) | Wanted::Maybe(channel) if there => {
+            Some(message_in(code, process, channel, memory, mails, steps))
+        }
+        _ => None,
+    }
+}
+
+// What lies in the slot of a receiver's cursor.
+fn message_in<L: Ledger>(
+    code: &Code,
+    process: u32,
+    channel: u32,
+    memory: &Recoverable<L>,
+    mails: &[Mail],
+    steps: &mut Steps<L>,
+) -> i64
+    requires process { process < length code.now.processes.items }
+    requires sized { AreSized (plain code.now) mails.now }
+    ensures message { result ≡ slot_of (plain code.now).channels mails.now channel (cursor_in (plain code.now) process memory.now.words channel) }
+    ensures ticks { steps.new ≤ steps.old + 1 }
+{
+    let cursor = cursor_of(code, process, channel, memory, steps);
+    if (channel as usize) < mails.len() {
+        mails[channel as usize].get(cursor)
+    } else {
+        0
+    }
+}
+
+/// The cursor of a channel.
+pub fn cursor_of<L: Ledger>(
+    code: &Code,
+    process: u32,
+    channel: u32,
+    memory: &Recoverable<L>,
+    steps: &mut Steps<L>,
+) -> u64
+    requires process { process < length code.now.processes.items }
+    ensures cursor { result ≡ cursor_in (plain code.now) process memory.now.words channel }
+    ensures ticks { steps.new ≤ steps.old + 1 }
+{
+    let place = cursor_place(code, process, channel);
+    if place < memory.height() as usize {
+        natural(memory.load(place, steps))
+    } else {
+        0
+    }
+}
+
+/// The recovery block that a process at an address enters, if it does.
+pub fn entry_at(code: &Code, at: u32) -> Option<BlockFacts>
+    requires { IsExecutable (plain code.now) }
+    ensures entry { EntryIs (wants_there (plain code.now) (slice_get (plain code.now).instrs at) (slice_get (plain code.now).instrs (at + 1))) result }
+    ensures within { IfSome result (λ facts. at + 1 < length code.now.instrs.items) }
+{
+    match code.instrs.get(at as usize) {
+        None => None,
+        Some(Instr::Done) => None,
+        Some(_) => match code.instrs.get(at as usize + 1) {
+            None => None,
+            Some(instr) => entry_of(code, *instr),
+        },
+    }
+}
+
+// The recovery block that an instruction enters, if it does.
+fn entry_of(code: &Code, instr: Instr) -> Option<BlockFacts>
+    requires { IsExecutable (plain code.now) }
+    ensures { EntryIs (wants_by (plain code.now) instr) result }
+{
+    match instr {
+        Instr::Enter(block) => facts_at(code, block),
+        _ => None,
+    }
+}
+
+// What is known of a recovery block at its entry.
+fn facts_at(code: &Code, block: u32) -> Option<BlockFacts>
+    requires { IsExecutable (plain code.now) }
+    ensures { EntryIs (enters block (slice_get (plain code.now).blocks block)) result }
+{
+    if (block as usize) < code.blocks.len() {
+        let one = &code.blocks[block as usize];
+        Some(BlockFacts {
+            number: block,
+            line: one.line,
+            conversation: one.conversation,
+            bound: one.bound,
+            alternates: one.alternates.len() as u32,
+        })
+    } else {
+        None
+    }
+}
