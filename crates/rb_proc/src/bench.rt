@@ -18,8 +18,12 @@ pub struct Bench {
 }
 
 impl Bench {
-    /// An empty one; `Memory` if it is wanting.
-    pub fn new(alloc: Global) -> Result<Self, Memory> {
+    /// An empty one, as a turn finds it; `Memory` if it is wanting.
+    pub fn new(alloc: Global) -> Result<Self, Memory>
+        ensures operands { IfOk result (λ bench. bench.operands ≡ []) }
+        ensures line { IfOk result (λ bench. bench.line.pieces ≡ []) }
+        ensures counters { IfOk result (λ bench. bench.counters ≡ no_counters) }
+    {
         Ok(Bench {
             operands: Operands::new(alloc)?,
             line: Line::new(alloc)?,
