@@ -43,18 +43,24 @@ pub record ReadUpTo (names : List (List ℕ)) (text : List ℕ) (turns : List Ke
   pub goes_on : record_of names text ≡ all_in_front (map plain_turn turns) (lines_kept names last at (lines_of rest))
 
 -- what a text comes to at its next line
-at_line : (names : List (List ℕ)) (text line : List ℕ) (turns : List KeptTurn) (last at : ℕ) (rest after : List ℕ) (answer : Result (Option Kept) FaultName) → ReadUpTo names text turns last at rest → lines_of rest ≡ line ∷ lines_of after → line_of_words names last (words_of line) ≡ answer → record_of names text ≡ all_in_front (map plain_turn turns) (after_line answer last at (λ n. lines_kept names n (at + 1) (lines_of after)))
+at_line : (names : List (List ℕ)) (text line : List ℕ) (turns : List KeptTurn) (last at : ℕ) (rest after : List ℕ) (answer : Result (Option Kept) FaultName)
+    → ReadUpTo names text turns last at rest → lines_of rest ≡ line ∷ lines_of after → line_of_words names last (words_of line) ≡ answer
+    → record_of names text ≡ all_in_front (map plain_turn turns) (after_line answer last at (λ n. lines_kept names n (at + 1) (lines_of after)))
 at_line names text line turns last at rest after answer read cut given =
     read.goes_on
     ∙ ap (λ lines. all_in_front (map plain_turn turns) (lines_kept names last at lines)) cut
     ∙ ap (λ first. all_in_front (map plain_turn turns) (after_line first last at (λ n. lines_kept names n (at + 1) (lines_of after)))) given
 
 -- a line without a turn is read
-pub read_none : (names : List (List ℕ)) (text line : List ℕ) (turns : List KeptTurn) (last at : ℕ) (rest after : List ℕ) → ReadUpTo names text turns last at rest → lines_of rest ≡ line ∷ lines_of after → line_of_words names last (words_of line) ≡ Ok None → ReadUpTo names text turns last (at + 1) after
+pub read_none : (names : List (List ℕ)) (text line : List ℕ) (turns : List KeptTurn) (last at : ℕ) (rest after : List ℕ)
+    → ReadUpTo names text turns last at rest → lines_of rest ≡ line ∷ lines_of after → line_of_words names last (words_of line) ≡ Ok None
+    → ReadUpTo names text turns last (at + 1) after
 read_none names text line turns last at rest after read cut given = record { goes_on = at_line names text line turns last at rest after (Ok None) read cut given }
 
 -- a turn more is read
-pub read_kept : (names : List (List ℕ)) (text line : List ℕ) (turns : List KeptTurn) (last at : ℕ) (rest after : List ℕ) (kept : KeptTurn) → ReadUpTo names text turns last at rest → lines_of rest ≡ line ∷ lines_of after → line_of_words names last (words_of line) ≡ Ok (Some (plain_turn kept)) → ReadUpTo names text (turns ++ kept ∷ []) kept.turn (at + 1) after
+pub read_kept : (names : List (List ℕ)) (text line : List ℕ) (turns : List KeptTurn) (last at : ℕ) (rest after : List ℕ) (kept : KeptTurn)
+    → ReadUpTo names text turns last at rest → lines_of rest ≡ line ∷ lines_of after
+    → line_of_words names last (words_of line) ≡ Ok (Some (plain_turn kept)) → ReadUpTo names text (turns ++ kept ∷ []) kept.turn (at + 1) after
 read_kept names text line turns last at rest after kept read cut given =
     let others = lines_kept names kept.turn (at + 1) (lines_of after) in
     record {
@@ -65,7 +71,9 @@ read_kept names text line turns last at rest after kept read cut given =
     }
 
 -- a line has a fault
-pub read_fault : (names : List (List ℕ)) (text line : List ℕ) (turns : List KeptTurn) (last at : ℕ) (rest after : List ℕ) (name : FaultName) → ReadUpTo names text turns last at rest → lines_of rest ≡ line ∷ lines_of after → line_of_words names last (words_of line) ≡ Err name → record_of names text ≡ Err (record { name = name; at = at })
+pub read_fault : (names : List (List ℕ)) (text line : List ℕ) (turns : List KeptTurn) (last at : ℕ) (rest after : List ℕ) (name : FaultName)
+    → ReadUpTo names text turns last at rest → lines_of rest ≡ line ∷ lines_of after → line_of_words names last (words_of line) ≡ Err name
+    → record_of names text ≡ Err (record { name = name; at = at })
 read_fault names text line turns last at rest after name read cut given =
     at_line names text line turns last at rest after (Err name) read cut given
     ∙ all_in_front-Err (map plain_turn turns) (record { name = name; at = at })
@@ -76,7 +84,8 @@ none_left [] e = refl
 none_left (b ∷ bs) e = absurd (grind (arith, nat_tests))
 
 -- all is read
-pub read_all : (names : List (List ℕ)) (text : List ℕ) (turns : List KeptTurn) (last at : ℕ) (rest : List ℕ) → ReadUpTo names text turns last at rest → true ≡ (length rest == 0) → record_of names text ≡ Ok (map plain_turn turns)
+pub read_all : (names : List (List ℕ)) (text : List ℕ) (turns : List KeptTurn) (last at : ℕ) (rest : List ℕ) → ReadUpTo names text turns last at rest
+    → true ≡ (length rest == 0) → record_of names text ≡ Ok (map plain_turn turns)
 read_all names text turns last at rest read none =
     read.goes_on
     ∙ ap (λ r. all_in_front (map plain_turn turns) (lines_kept names last at (lines_of r))) (none_left rest none)
@@ -96,10 +105,13 @@ counted_few word e =
     grind (arith, nat_tests)
 
 -- what is kept of a known process
-kept_after_is : (names : List (List ℕ)) (name : List ℕ) (before turn alternate : ℕ) (kept : Kept) → turn ≤ MOST_TURNS → alternate ≤ MOST_TURNS → kept_after before turn (first_named names name) alternate ≡ Ok (Some kept) → IsKept (length names) before kept
+kept_after_is : (names : List (List ℕ)) (name : List ℕ) (before turn alternate : ℕ) (kept : Kept) → turn ≤ MOST_TURNS → alternate ≤ MOST_TURNS
+    → kept_after before turn (first_named names name) alternate ≡ Ok (Some kept) → IsKept (length names) before kept
 kept_after_is names name before turn alternate kept few_turns few_alternates e = by_place (first_named names name) (λ p found. (position-Some (λ n. pointwise nat_eq n name) names p [] found).0) e
   where
-    by_test : (p : ℕ) (t : Bool) → p < length names → t ≡ nat_lt before turn → cond t (Ok (Some (record { turn = turn; process = p; alternate = alternate }))) (Err V3) ≡ Ok (Some kept) → IsKept (length names) before kept
+    by_test : (p : ℕ) (t : Bool) → p < length names → t ≡ nat_lt before turn
+        → cond t (Ok (Some (record { turn = turn; process = p; alternate = alternate }))) (Err V3) ≡ Ok (Some kept)
+        → IsKept (length names) before kept
     by_test p true known is e =
         let one : Kept = record { turn = turn; process = p; alternate = alternate } in
         let same : one ≡ kept = cc in
@@ -116,12 +128,15 @@ line_is names [] before kept e = absurd (cc)
 line_is names (turn ∷ []) before kept e = absurd (cc)
 line_is names (turn ∷ name ∷ []) before kept e = by_test (is_counted turn && is_name name) refl e
   where
-    by_test : (t : Bool) → t ≡ (is_counted turn && is_name name) → cond t (kept_after before (digits_value 0 turn) (first_named names name) 0) (Err V1) ≡ Ok (Some kept) → IsKept (length names) before kept
+    by_test : (t : Bool) → t ≡ (is_counted turn && is_name name)
+        → cond t (kept_after before (digits_value 0 turn) (first_named names name) 0) (Err V1) ≡ Ok (Some kept) → IsKept (length names) before kept
     by_test true is e = kept_after_is names name before _ 0 kept (counted_few turn (both (is_counted turn) (is_name name) is).0) (omega arith) e
     by_test false is e = absurd (cc)
 line_is names (turn ∷ name ∷ alternate ∷ []) before kept e = by_test (is_counted turn && (is_name name && is_counted alternate)) refl e
   where
-    by_test : (t : Bool) → t ≡ (is_counted turn && (is_name name && is_counted alternate)) → cond t (kept_after before (digits_value 0 turn) (first_named names name) (digits_value 0 alternate)) (Err V1) ≡ Ok (Some kept) → IsKept (length names) before kept
+    by_test : (t : Bool) → t ≡ (is_counted turn && (is_name name && is_counted alternate))
+        → cond t (kept_after before (digits_value 0 turn) (first_named names name) (digits_value 0 alternate)) (Err V1) ≡ Ok (Some kept)
+        → IsKept (length names) before kept
     by_test true is e =
         let first = both (is_counted turn) (is_name name && is_counted alternate) is in
         let last = both (is_name name) (is_counted alternate) (sym first.1) in
@@ -135,11 +150,16 @@ lines_are names [] before at turns e = let none : [] ≡ turns = cc in subst (Ar
 lines_are names (line ∷ lines) before at turns e =
     by_line (line_of_words names before (words_of line)) (λ n us. lines_are names lines n (at + 1) us) (λ kept. line_is names (words_of line) before kept) e
   where
-    by_others : (kept : Kept) (others : Result (List Kept) TextFault) → IsKept (length names) before kept → ((us : List Kept) → others ≡ Ok us → AreKept (length names) kept.turn us) → in_front kept others ≡ Ok turns → AreKept (length names) before turns
+    by_others : (kept : Kept) (others : Result (List Kept) TextFault) → IsKept (length names) before kept
+        → ((us : List Kept) → others ≡ Ok us → AreKept (length names) kept.turn us) → in_front kept others ≡ Ok turns
+        → AreKept (length names) before turns
     by_others kept (Ok us) is later e = let all : kept ∷ us ≡ turns = cc in subst (AreKept (length names) before) all (is, later us refl)
     by_others kept (Err fault) is later e = absurd (cc)
 
-    by_line : (answer : Result (Option Kept) FaultName) → ((n : ℕ) (us : List Kept) → lines_kept names n (at + 1) lines ≡ Ok us → AreKept (length names) n us) → ((kept : Kept) → answer ≡ Ok (Some kept) → IsKept (length names) before kept) → after_line answer before at (λ n. lines_kept names n (at + 1) lines) ≡ Ok turns → AreKept (length names) before turns
+    by_line : (answer : Result (Option Kept) FaultName)
+        → ((n : ℕ) (us : List Kept) → lines_kept names n (at + 1) lines ≡ Ok us → AreKept (length names) n us)
+        → ((kept : Kept) → answer ≡ Ok (Some kept) → IsKept (length names) before kept)
+        → after_line answer before at (λ n. lines_kept names n (at + 1) lines) ≡ Ok turns → AreKept (length names) before turns
     by_line (Ok None) later is e = later before turns e
     by_line (Ok (Some kept)) later is e = by_others kept (lines_kept names kept.turn (at + 1) lines) (is kept refl) (later kept.turn) e
     by_line (Err name) later is e = absurd (cc)
