@@ -1,3 +1,5 @@
+//! Which bytes are letters, digits and parts of names.
+
 ghost use Rattle.std.specs.Prelude.{◌≡◌};
 ghost use Rattle.std.specs.List.{list_all};
 ghost use Rattle.rb_base.specs.Bytes.{is_letter, is_digit, is_name_byte, is_name};

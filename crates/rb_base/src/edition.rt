@@ -1,3 +1,5 @@
+//! The editions of the language, and how many words each allows a process.
+
 ghost use Rattle.std.specs.Prelude.{◌≡◌};
 ghost use Rattle.rb_base.specs.Limits.{most_words};
 

@@ -1,3 +1,5 @@
+//! What a turn came to: causes of rejections and failures, events that are printed, and states of processes.
+
 ghost use Rattle.std.specs.Prelude.{◌≡◌};
 ghost use Rattle.rb_base.specs.Words.{cause_word};
 

@@ -1,3 +1,5 @@
+//! The names of faults, faults at their places, and why a source can be refused.
+
 ghost use Rattle.std.specs.Prelude.{◌≡◌};
 ghost use Rattle.rb_base.specs.Words.{fault_word};
 

@@ -1,5 +1,5 @@
-// What the other crates speak of alike: places, names, faults, causes, editions, limits, the events of a turn, kinds of
-// bytes, and the counter of steps.
+//! What the other crates speak of alike: places, names, faults, causes, editions, limits, the events of a turn, kinds of
+//! bytes, and the counter of steps.
 #![tactic(auto)]
 
 pub mod bytes;

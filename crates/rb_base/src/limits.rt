@@ -1,4 +1,4 @@
-// The limits of the language, each at its one place. Contracts and definitions cite them by these names.
+//! The limits of the language, each at its one place. Contracts and definitions cite them by these names.
 
 /// The most bytes of a source, a schedule or another text that is read as a file.
 pub const MOST_BYTES: usize = 1_048_576;

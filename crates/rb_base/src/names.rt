@@ -1,3 +1,5 @@
+//! The names of a program that are printed, and those that schedules speak of.
+
 ghost use Rattle.std.specs.Prelude.{◌<◌, ◌^◌, vec_len};
 
 use crate::text::Text;

@@ -1,3 +1,5 @@
+//! Which words are numbers in decimal, and the number that each stands for.
+
 ghost use Rattle.std.specs.Prelude.{◌≡◌, ◌+◌, ◌*◌, ◌-◌, ◌≤◌};
 ghost use Rattle.std.specs.List.{list_all};
 ghost use Rattle.rb_base.specs.Bytes.{is_digit, is_number, digits_value, within_numbers};

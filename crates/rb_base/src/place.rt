@@ -1,3 +1,5 @@
+//! Places in a text.
+
 /// A place in a text: the line and the column of a byte, both from 1. Columns count bytes.
 #[derive(Clone, Copy, Debug, PartialEq, Eq, PartialOrd, Ord)]
 pub struct Place {

@@ -1,3 +1,5 @@
+//! Finding a process by its name.
+
 ghost use Rattle.std.specs.Prelude.{◌≡◌, ◌<◌, nat_eq, position, vec_len, IfSome};
 ghost use Rattle.std.specs.Cmp.Lexicographic.{pointwise};
 ghost use Rattle.rb_base.specs.Naming.{first_named, process_names};

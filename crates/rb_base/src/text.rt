@@ -1,3 +1,5 @@
+//! Copies of bytes in memory of their own, and want of memory.
+
 ghost use Rattle.std.specs.Prelude.{◌≡◌, ℕ, List, IfOk};
 
 use std::alloc::{AllocError, AllocFailed, Global};

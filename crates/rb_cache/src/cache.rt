@@ -1,3 +1,5 @@
+//! The recovery cache itself: levels of words are opened, written, and then rejected or accepted.
+
 ghost use Rattle.std.specs.Prelude.{◌≡◌, ℕ, ◌+◌, ◌-◌, ◌<◌, ◌≤◌, pos, List, [], ◌∷◌, ◌++◌, length, take, slice_set, get_or, IfOk};
 ghost use Rattle.std.specs.List.{AllByRecursion};
 ghost use Rattle.rb_cache.specs.Copies.{open_levels, copies, copy_at, last_copy, last_touched, Fits, IsLevel, entered, joined, change_last, accepted};

@@ -1,3 +1,5 @@
+//! Finding the first value that a level saved of a place, along the entries of that place.
+
 ghost use Rattle.std.specs.Prelude.{◌≡◌, ℕ, ◌<◌, ◌≤◌, length, map, take, drop, get_or};
 ghost use Rattle.rb_cache.specs.declared.entry.Entry.{Entry};
 ghost use Rattle.rb_cache.specs.Arena.{saved_of, last_of};

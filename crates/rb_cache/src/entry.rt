@@ -1,3 +1,5 @@
+//! What the cache keeps: an entry for each saved value, and a mark for each open level.
+
 /// A place, the value of its word before it was written, and the stamp that the place had then.
 #[derive(Clone, Copy, Debug, PartialEq, Eq)]
 pub struct Entry {

@@ -1,3 +1,5 @@
+//! Laws of the copies that an open level stands for. Its functions do nothing, and each promises a law.
+
 ghost use Rattle.rb_cache.specs.Laws.{CopiesAreUndone, HeightsAreLengths, GrowingKeepsCopies, ShrinkingKeepsCopies};
 
 /// The copy of a level is what undoing the regions as far out as that level makes of the words.

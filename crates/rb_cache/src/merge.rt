@@ -1,3 +1,5 @@
+//! Accepting the innermost level: its entries are merged into the level around it.
+
 ghost use Rattle.std.specs.Prelude.{◌≡◌, ℕ, ◌+◌, ◌<◌, ◌≤◌, List, ◌∷◌, length, take, drop, reverse, vec_len, vec_capacity};
 ghost use Rattle.std.specs.List.{AllByRecursion};
 ghost use Rattle.rb_cache.specs.declared.entry.Entry.{Entry};

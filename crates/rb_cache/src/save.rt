@@ -1,3 +1,5 @@
+//! Saving the old value of a place before it is written, once in each level.
+
 ghost use Rattle.std.specs.Prelude.{◌≡◌, ℕ, ◌+◌, ◌*◌, ◌<◌, ◌≤◌, pos, [], ◌∷◌, ◌++◌, length, reverse, slice_set, get_or, vec_len, vec_capacity};
 ghost use Rattle.rb_cache.specs.Regions.{recorded};
 ghost use Rattle.rb_cache.specs.Arena.{regions_of, Holds};

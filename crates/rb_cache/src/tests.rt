@@ -1,3 +1,5 @@
+//! Tests of the cache, by steps at random beside whole copies of the words, and at the limits.
+
 ghost use Rattle.std.specs.Prelude.{◌≡◌, ℕ, ◌<◌, ◌≤◌, ◌↔◌, IsTrue, All, length, map};
 ghost use Rattle.std.specs.Vec.{vec_items};
 ghost use Rattle.rb_cache.specs.Copies.{copies, copy_at, open_levels, Fits};

@@ -1,3 +1,5 @@
+//! A list of words in which each word that is touched is counted.
+
 ghost use Rattle.std.specs.Prelude.{◌≡◌, ℕ, ◌+◌, ◌<◌, ◌≤◌, pos, [], ◌++◌, length, take, replicate, slice_set, get_or, IfOk, vec_len, vec_capacity};
 
 use rb_base::{Memory, Steps};

@@ -1,4 +1,4 @@
-// A process's words: one list, in which each word that is read, written or zeroed is counted.
+//! A process's words: one list, in which each word that is read, written or zeroed is counted.
 #![tactic(auto)]
 
 mod cells;

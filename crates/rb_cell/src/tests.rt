@@ -1,3 +1,5 @@
+//! Tests of the words of a process, up to the largest limit.
+
 ghost use Rattle.std.specs.Prelude.{◌≡◌, ℕ, ◌<◌};
 
 use crate::Cells;

@@ -61,6 +61,7 @@ pub mod InsideOut
 pub mod StandsAgain
 pub mod ProcessesStand
 pub mod RunsStand
+pub mod Staying
 pub mod WholeRuns
 pub mod StepComes
 pub mod Callees

@@ -21,5 +21,6 @@ pub mod WellFormed
 pub mod Stands
 pub mod StandsInRuns
 pub mod SoundLaws
+pub mod Stays
 pub mod Laws
 pub mod OneCode

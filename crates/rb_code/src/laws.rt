@@ -13,6 +13,7 @@ ghost use Rattle.rb_code.specs.SoundLaws.{
   SoundStepsStand,
   StandingHasSettled,
 };
+ghost use Rattle.rb_code.specs.Stays.{SoundSettlingStays, SoundStepsStay};
 
 /// Sound code is executed safely: a step of a process that stands in its table finds at each instruction what that needs, and where the
 /// turn may be given up nothing was changed.
@@ -36,6 +37,13 @@ pub fn sound_settling_stands()
     ensures safe { SoundSettlingIsSafe }
     ensures stands { SoundSettlingStands }
     ensures settled { StandingHasSettled }
+{}
+
+/// Within a turn of sound code there are never fewer calls than at the entry of the innermost level, and always a word; and cursors are
+/// used as the turn found them.
+pub fn sound_turns_stay()
+    ensures steps { SoundStepsStay }
+    ensures settling { SoundSettlingStays }
 {}
 
 /// In every run of code that has a table each process stands in it, and what it executes comes to an end.

@@ -1,4 +1,4 @@
-// Code: its instructions, how it is listed, the machine that executes it with whole copies, and its agreement with the meaning.
+//! Code: its instructions, how it is listed, the machine that executes it with whole copies, and its agreement with the meaning.
 #![tactic(auto)]
 
 pub mod code;

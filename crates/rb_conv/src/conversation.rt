@@ -1,3 +1,5 @@
+//! One conversation: its members, its alternates, and whether it is broken.
+
 ghost use Rattle.std.specs.Prelude.{◌≡◌, ◌<◌, not, IfOk, IsTrue};
 ghost use Rattle.rb_conv.specs.Conversations.{is_inside, stands, all_stand, entered, arrived, emptied, opened};
 ghost use Rattle.rb_conv.specs.Reject.{has_next, put_back};

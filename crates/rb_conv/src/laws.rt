@@ -1,3 +1,5 @@
+//! Laws of the table of conversations. Its functions do nothing, and each promises a law.
+
 ghost use Rattle.rb_conv.specs.Laws.{AllStandByEach, MembersStay, OthersStay, PlacesAreExact, TalksAreTheWorlds};
 
 /// At the opening and after each call the table has the alternates and the broken marks that a world has.

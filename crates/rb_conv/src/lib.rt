@@ -1,4 +1,4 @@
-// The table of conversations: who is inside each, who stands at its test line, its alternate, and whether it is broken.
+//! The table of conversations: who is inside each, who stands at its test line, its alternate, and whether it is broken.
 #![tactic(auto)]
 
 mod conversation;

@@ -1,3 +1,5 @@
+//! Where the members of a conversation are, and how they go in, to the test line, and out.
+
 ghost use Rattle.std.specs.Prelude.{◌≡◌, IfOk, nat_eq, ◌&&◌, map};
 ghost use Rattle.std.specs.List.{list_all, list_any};
 ghost use Rattle.rb_conv.specs.Conversations.{is_within, is_at_line, goes, goes_if, outsider, all_outside, one_goes};

@@ -1,3 +1,5 @@
+//! Rejecting a conversation, together with all that lie below it.
+
 ghost use Rattle.std.specs.Prelude.{◌≡◌, ◌<◌, length, cond};
 ghost use Rattle.rb_world.specs.Reject.{is_below};
 ghost use Rattle.rb_conv.specs.Conversations.{conversation_at, emptied, memberships};

@@ -1,3 +1,5 @@
+//! The table of all conversations of a program, by number.
+
 ghost use Rattle.std.specs.Prelude.{◌≡◌, ◌<◌, not, List, length, IfOk, vec_len};
 ghost use Rattle.rb_world.specs.World.{change_at};
 ghost use Rattle.rb_conv.specs.Conversations.{is_inside, stands, all_stand, entered, arrived, emptied, conversation_at, opening};

@@ -1,3 +1,5 @@
+//! Tests of the table, with many conversations in long chains.
+
 ghost use Rattle.std.specs.Prelude.{◌≡◌, ◌<◌, length, IfOk, vec_len};
 
 use crate::Table;

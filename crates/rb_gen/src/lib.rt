@@ -1,4 +1,4 @@
-// From the tree of a program to its code.
+//! From the tree of a program to its code.
 #![tactic(auto)]
 
 mod channels;

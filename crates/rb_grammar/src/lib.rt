@@ -1,5 +1,5 @@
-// What a source is to the grammar: its terminals and rows, the verdict of a text, the machine that reads by the rows and
-// what is true of it; and the cursor, which gives the tokens of a source in order and tells why reading stops.
+//! What a source is to the grammar: its terminals and rows, the verdict of a text, the machine that reads by the rows and
+//! what is true of it; and the cursor, which gives the tokens of a source in order and tells why reading stops.
 #![tactic(auto)]
 
 pub mod cursor;

@@ -1,3 +1,5 @@
+//! Held and released lines of one process, in one buffer that is reserved at the start.
+
 ghost use Rattle.std.specs.Prelude.{◌≡◌, ℕ, ◌+◌, ◌∷◌, ◌++◌, [], cond, length, take, drop, slice_get, nat_lt, not, option_copied, option_map, position, ◌==◌, IfOk};
 ghost use Rattle.std.specs.Borrow.{sem};
 ghost use Rattle.std.specs.Io.BufRead.{Rests};

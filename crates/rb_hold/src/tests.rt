@@ -1,3 +1,5 @@
+//! Tests of held lines: they come out in order, and fit exactly in the room for them.
+
 ghost use Rattle.std.specs.Prelude.{◌≡◌, drop};
 
 use crate::Hold;

@@ -1,4 +1,4 @@
-// The verdict on a source: accepted with all that is made of it, or refused for its first fault.
+//! The verdict on a source: accepted with all that is made of it, or refused for its first fault.
 #![tactic(auto)]
 
 #[cfg(test)]

@@ -1,3 +1,5 @@
+//! Which bytes are blanks, printable or in a comment, and how a place moves on past a byte.
+
 ghost use Rattle.std.specs.Prelude.{◌≡◌, ◌+◌, ◌-◌, ◌≤◌, ◌<◌, ◌^◌};
 ghost use Rattle.rb_lex.specs.Bytes.{
   is_blank,

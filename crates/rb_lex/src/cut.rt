@@ -1,3 +1,5 @@
+//! The token or the fault that stands at the front of the bytes, whatever its kind.
+
 ghost use Rattle.std.specs.Prelude.{◌≡◌, ◌≤◌, ◌<◌, length};
 ghost use Rattle.rb_lex.specs.Tokens.{front};
 ghost use Rattle.rb_lex.specs.Cuts.{front_of, reach_of};

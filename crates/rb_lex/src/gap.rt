@@ -1,3 +1,5 @@
+//! Passing the blanks and comments before a token.
+
 ghost use Rattle.std.specs.Prelude.{◌≡◌, ◌+◌, ◌*◌, ◌-◌, ◌^◌, ◌≤◌, length, false, IfOk};
 ghost use Rattle.rb_base.specs.declared.edition.Edition.{Edition};
 ghost use Rattle.rb_lex.specs.Tokens.{next_from};

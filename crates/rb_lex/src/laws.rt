@@ -1,3 +1,5 @@
+//! Laws of the tokens of a text, and of what the lexer answers.
+
 ghost use Rattle.rb_lex.specs.Laws.{AnswersEnd, AnswersFault, AnswersFirst, EndStays, EndingStands, FaultStays};
 ghost use Rattle.rb_lex.specs.Laws.{HasOneTokenList, HasTokenList, PlacesCount, TokensRise, TokensStand};
 

@@ -1,3 +1,5 @@
+//! The lexer itself, which stands at a place of a source and gives its next token.
+
 ghost use Rattle.std.specs.Prelude.{◌≡◌, ◌≤◌, ◌+◌, ◌*◌, ◌^◌, length, Bool, false, cond, codes};
 ghost use Rattle.rb_lex.specs.Bytes.{first_place};
 ghost use Rattle.rb_lex.specs.Tokens.{edition_of, begins_with, next_from};

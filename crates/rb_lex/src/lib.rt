@@ -1,4 +1,4 @@
-// Tokens of a source, one at a time. They borrow the source: no byte is copied and no memory is taken.
+//! Tokens of a source, one at a time. They borrow the source: no byte is copied and no memory is taken.
 #![tactic(auto)]
 
 mod bytes;

@@ -1,3 +1,5 @@
+//! Tokens that are numbers.
+
 ghost use Rattle.std.specs.Prelude.{◌≡◌, ◌+◌, ◌*◌, ◌≤◌, ◌-◌, ◌^◌, length, take_while};
 ghost use Rattle.std.specs.List.{prefix_len};
 ghost use Rattle.rb_base.specs.Bytes.{is_digit};

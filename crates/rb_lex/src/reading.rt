@@ -1,3 +1,5 @@
+//! Reading what comes next from a place: a gap, and then a token, the end or a fault.
+
 ghost use Rattle.std.specs.Prelude.{◌≡◌, ◌+◌, ◌*◌, ◌^◌, ◌<◌, ◌≤◌, length, false, IfOk};
 ghost use Rattle.rb_lex.specs.Tokens.{next_from};
 ghost use Rattle.rb_lex.specs.Gaps.{HasRoom, Reads, here};

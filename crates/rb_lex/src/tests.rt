@@ -1,5 +1,5 @@
-// Each row has a source and what the lexer answers: for each token its place, kind and text, and then the end or
-// the fault.
+//! Each row has a source and what the lexer answers: for each token its place, kind and text, and then the end or
+//! the fault.
 use crate::{Kind, Lexer, Token};
 use rb_base::{MOST_BYTES, Place, SourceFault};
 use std::alloc::Global;

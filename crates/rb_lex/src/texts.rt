@@ -1,3 +1,5 @@
+//! Tokens that are texts between quotes.
+
 ghost use Rattle.std.specs.Prelude.{◌≡◌, ◌≤◌, ◌+◌, length};
 ghost use Rattle.rb_lex.specs.Tokens.{text_front};
 ghost use Rattle.rb_lex.specs.Cuts.{front_of, reach_of};

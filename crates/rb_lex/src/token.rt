@@ -1,3 +1,5 @@
+//! Tokens and their kinds.
+
 use rb_base::Place;
 
 /// What a token is. A name that the edition reserves is a `Word`.

@@ -1,3 +1,5 @@
+//! Tokens that are names, and which of them an edition reserves.
+
 ghost use Rattle.std.specs.Prelude.{◌≡◌, ◌≤◌, length, take_while, map, nat_eq};
 ghost use Rattle.std.specs.List.{prefix_len, list_any};
 ghost use Rattle.std.specs.Cmp.Lexicographic.{pointwise};

@@ -1,3 +1,5 @@
+//! The slots of one channel, in which the values of its messages lie.
+
 ghost use Rattle.std.specs.Prelude.{◌≡◌, ℕ, ℤ, ◌<◌, ◌%◌, pos, List, length, replicate, slice_get, slice_set, Some, IfOk};
 
 use rb_base::Memory;

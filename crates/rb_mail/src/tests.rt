@@ -1,3 +1,5 @@
+//! Tests of slots, at the limits and across the turn of the ring.
+
 use crate::Mail;
 use std::test::Fail;
 

@@ -1,4 +1,4 @@
-// Trials: a source and a schedule that are made from a number, as large input that is the same each time.
+//! Trials: a source and a schedule that are made from a number, as large input that is the same each time.
 #![tactic(auto)]
 
 mod piece;

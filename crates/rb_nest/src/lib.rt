@@ -1,4 +1,4 @@
-// How conversations and channels of a program nest: the rules, and the first fault.
+//! How conversations and channels of a program nest: the rules, and the first fault.
 #![tactic(auto)]
 
 mod blocks;

@@ -1,3 +1,5 @@
+//! The files of the host as a shelf, and its standard output as a sink.
+
 ghost use Rattle.std.specs.Prelude.{◌≡◌, None};
 ghost use Rattle.rb_outside.specs.Outside.{no_faults};
 ghost use Rattle.rb_outside.specs.Host.{some_start};

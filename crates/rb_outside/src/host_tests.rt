@@ -1,3 +1,5 @@
+//! Files of the host that are read, and output to terminals that take few bytes at a time.
+
 use crate::{Failed, HostShelf, HostSink, Shelf, Sink, put_all};
 use std::cell::Cell;
 use std::fmt::Display;

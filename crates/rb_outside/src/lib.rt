@@ -1,4 +1,4 @@
-// What lies outside the program: files that are read in pieces, and a place that bytes are written to.
+//! What lies outside the program: files that are read in pieces, and a place that bytes are written to.
 #![tactic(auto)]
 
 mod answer;

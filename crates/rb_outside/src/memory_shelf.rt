@@ -1,3 +1,5 @@
+//! A shelf of files that are kept in memory, whose calls fail where they are asked to.
+
 ghost use Rattle.std.specs.Prelude.{◌≡◌, ◌+◌, ◌-◌, ◌^◌, ◌<◌, ◌≤◌, ◌⊎◌, ◌++◌, [], min, Some, length, take, drop, IfOk, OnOk, OnErr, is_err};
 ghost use Rattle.rb_outside.specs.Outside.{IsMissing, IsOpen, Starts, FailsToStart, Reads, bytes_of, went_well, failed_once, was_missing};
 ghost use Rattle.rb_outside.specs.InMemory.{fails, start_fails, after_call, after_start, counted_as, piece_of, after_piece, uncalled, started_bytes};

@@ -1,3 +1,5 @@
+//! What any shelf promises: files that are read one at a time, in pieces.
+
 ghost use Rattle.std.specs.Prelude.{◌≡◌, ℕ, ◌<◌, ◌≤◌, List, Option, length, IfOk, OnOk, OnErr};
 ghost use Rattle.std.specs.Prelude.{◌⊎◌};
 ghost use Rattle.rb_outside.specs.Outside.{Faults, File, Start, IsMissing, IsOpen, Starts, FailsToStart, Reads, went_well, failed_once, was_missing};

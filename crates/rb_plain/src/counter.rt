@@ -1,3 +1,5 @@
+//! The counters of the quantified expressions around an expression.
+
 ghost use Rattle.std.specs.Prelude.{◌≡◌, ◌∷◌};
 ghost use Rattle.rb_meaning.specs.Value.{counter_of};
 ghost use Rattle.rb_plain.specs.Counters.{counted};

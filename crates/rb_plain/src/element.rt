@@ -1,3 +1,5 @@
+//! The elements of an array, and the trap of an index outside it.
+
 ghost use Rattle.std.specs.Prelude.{◌≡◌, Ok};
 ghost use Rattle.rb_meaning.specs.Value.{index_in, number_at, element_at};
 

@@ -1,3 +1,5 @@
+//! The variables of a process with their numbers, by name, and plain copies of them.
+
 ghost use Rattle.std.specs.Prelude.{◌≡◌, length, map, slice_get, slice_set, position, [], ◌∷◌, IfOk, option_map};
 ghost use Rattle.rb_meaning.specs.Environment.{same_name, size_of, zeros, frame_of, found_in, stored_in, values_of, store};
 ghost use Rattle.rb_syntax.specs.Plain.{declaration};

@@ -1,3 +1,5 @@
+//! What each operator gives for two values, and what its left operand decides alone.
+
 ghost use Rattle.std.specs.Prelude.{◌≡◌, Bool, ◌+ℤ◌, ◌-ℤ◌, ◌*ℤ◌, int_lt, int_le, not};
 ghost use Rattle.std.specs.Ordering.{int_eq};
 ghost use Rattle.rb_meaning.specs.Value.{truth, is_zero, divided, remainder, applied, decided};

@@ -1,3 +1,5 @@
+//! The numbers that a quantified expression goes through.
+
 ghost use Rattle.std.specs.Prelude.{◌≡◌, ◌<◌, ◌^◌, ◌+ℤ◌, ◌≤ℤ◌, pos, IfOk};
 ghost use Rattle.rb_meaning.specs.Value.{span};
 

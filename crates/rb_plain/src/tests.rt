@@ -1,3 +1,5 @@
+//! Values of small expressions that are made by hand, and the traps of their evaluation.
+
 use crate::counter::Counters;
 use crate::environment::Environment;
 use crate::value::value_of;

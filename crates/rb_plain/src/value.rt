@@ -1,3 +1,5 @@
+//! The value of an expression over the tree, or the trap that its evaluation meets first.
+
 ghost use Rattle.std.specs.Prelude.{◌≡◌, ◌<◌, ◌+ℤ◌, pos};
 ghost use Rattle.rb_syntax.specs.Plain.{expression as plain, reference, links_of};
 ghost use Rattle.rb_meaning.specs.Value.{value, read, chained, operated, over_span, every_from, some_from, sum_from};

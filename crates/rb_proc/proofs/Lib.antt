@@ -1,5 +1,4 @@
 -- Lemmas of a process of the machine.
-pub mod Staying
 pub mod Rising
 pub mod Fronts
 pub mod Levels

@@ -7,7 +7,7 @@ use Rattle.rb_cache.specs.Copies.{RecoveryCache, copies, open_levels}
 use Rattle.rb_hold.specs.Held.{TwoLists}
 use Rattle.rb_code.specs.Memory.{OpenCall}
 use Rattle.rb_code.specs.Safe.{HasCall, StayAbove}
-use Rattle.rb_proc.specs.Stays.{entry_calls}
+use Rattle.rb_code.specs.Stays.{entry_calls}
 use Rattle.rb_code.specs.Turn.{Copy}
 use Rattle.rb_proc.specs.Contents.{Contents}
 use Rattle.rb_proc.specs.declared.recoverable.LevelMark.{LevelMark}

@@ -10,7 +10,7 @@ use Rattle.rb_code.specs.Plain.{Code}
 use Rattle.rb_code.specs.Memory.{Counting, Memory, OpenCall, cursor_place, word_at}
 use Rattle.rb_code.specs.Act.{Accepts, Going, Outcome, Sight, Stopped, Trapped, Unfinished, act, act_at, execute, here, then_go}
 use Rattle.rb_code.specs.Safe.{IsUnchanged, Ready, ReadyAt, Safe, SafeOn, counted, steps_left}
-use Rattle.rb_proc.specs.Stays.{CursorStays, HasEnough, Stays, StaysOn}
+use Rattle.rb_code.specs.Stays.{CursorStays, HasEnough, Stays, StaysOn}
 use Rattle.rb_code.specs.Stands.{IsAmong}
 use Rattle.rb_code.specs.Turn.{Copy}
 use Rattle.rb_code.specs.declared.instr.Instr.{Instr}

@@ -14,9 +14,9 @@ use Rattle.rb_code.specs.Turn.{Copy, Standing, came_to, memory_of, most_steps, p
 use Rattle.rb_world.specs.Kind.{Membership}
 use Rattle.rb_code.specs.Safe.{IsUnchanged, Safe, SafeOn}
 use Rattle.rb_code.specs.Stands.{Serves, SettlesSoundly, StandsSoundly}
-use Rattle.rb_proc.specs.Stays.{Stays, entry_calls}
+use Rattle.rb_code.specs.Stays.{Stays, entry_calls}
 use Rattle.rb_code.proofs.SoundSteps.{settling_is_safe, steps_are_safe}
-use Rattle.rb_proc.proofs.Staying.{settling_stays, steps_stay}
+use Rattle.rb_code.proofs.Staying.{settling_stays, steps_stay}
 use Rattle.rb_proc.specs.Contents.{Contents}
 use Rattle.rb_proc.specs.Outcomes.{ended_of, mem, stop_at, whole}
 use Rattle.rb_proc.specs.Runs.{CursorsRise, KeepsEnded}

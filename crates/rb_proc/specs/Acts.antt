@@ -4,7 +4,7 @@ use Rattle.rb_meaning.specs.Environment.{natural}
 use Rattle.rb_code.specs.Plain.{Code}
 use Rattle.rb_code.specs.Memory.{cursor_place, word_at}
 use Rattle.rb_code.specs.Act.{Accepts, Going, Outcome, Sight, Stopped, Trapped, Unfinished, here}
-use Rattle.rb_proc.specs.Stays.{HasEnough}
+use Rattle.rb_code.specs.Stays.{HasEnough}
 use Rattle.rb_code.specs.declared.instr.Instr.{Instr}
 use Rattle.rb_code.specs.declared.instr.Instr.TheVariants.{Put, Take}
 

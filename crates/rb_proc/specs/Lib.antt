@@ -1,5 +1,4 @@
 -- What is said of a process of the machine.
-pub mod Stays
 pub mod Places
 pub mod Contents
 pub mod Inside

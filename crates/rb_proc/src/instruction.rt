@@ -6,7 +6,7 @@ ghost use Rattle.rb_code.specs.Plain.{code as plain};
 ghost use Rattle.rb_code.specs.Memory.{Memory};
 ghost use Rattle.rb_code.specs.Act.{Going, act as acted, alternate_address, if_there};
 ghost use Rattle.rb_code.specs.Safe.{Ready};
-ghost use Rattle.rb_proc.specs.Stays.{HasEnough, entry_calls};
+ghost use Rattle.rb_code.specs.Stays.{HasEnough, entry_calls};
 ghost use Rattle.rb_proc.specs.Acts.{CursorRises, LeavesEnough};
 ghost use Rattle.rb_proc.specs.Outcomes.{Keeps, outcome_of, whole};
 ghost use Rattle.rb_proc.specs.Pieces.{AreTexts};

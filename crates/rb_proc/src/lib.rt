@@ -1,4 +1,4 @@
-// One process of the machine: its words, a recovery cache in place of whole copies, its calls and its held lines.
+//! One process of the machine: its words, a recovery cache in place of whole copies, its calls and its held lines.
 #![tactic(auto)]
 
 pub mod answers;
@@ -7,7 +7,6 @@ pub mod calculate;
 pub mod channels;
 pub mod counters;
 pub mod instruction;
-pub mod laws;
 pub mod line;
 pub mod next;
 pub mod operands;

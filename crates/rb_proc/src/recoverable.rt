@@ -9,7 +9,7 @@ ghost use Rattle.rb_code.specs.Plain.{Part};
 ghost use Rattle.rb_code.specs.Memory.{OpenCall as Opened, base_of, body_place, held_place, word_at};
 ghost use Rattle.rb_code.specs.Safe.{HasCall, StayAbove};
 ghost use Rattle.rb_code.specs.Turn.{Copy, prior_words};
-ghost use Rattle.rb_proc.specs.Stays.{entry_calls};
+ghost use Rattle.rb_code.specs.Stays.{entry_calls};
 ghost use Rattle.rb_meaning.specs.Environment.{natural};
 ghost use Rattle.rb_meaning.specs.Step.{most_held};
 ghost use Rattle.rb_hold.specs.Held.{IsLine};

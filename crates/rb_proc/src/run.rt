@@ -4,7 +4,7 @@ ghost use Rattle.std.specs.Prelude.{◌≡◌, ◌<◌, ◌^◌, ℤ, List, [], 
 ghost use Rattle.rb_code.specs.Plain.{code as plain};
 ghost use Rattle.rb_code.specs.Act.{execute};
 ghost use Rattle.rb_code.specs.Safe.{IsUnchanged, Safe};
-ghost use Rattle.rb_proc.specs.Stays.{Stays, entry_calls};
+ghost use Rattle.rb_code.specs.Stays.{Stays, entry_calls};
 ghost use Rattle.rb_code.specs.Turn.{most_steps};
 ghost use Rattle.rb_world.specs.World.{copy_of, last_of};
 ghost use Rattle.rb_proc.specs.Runs.{CursorsRise, KeepsEnded};

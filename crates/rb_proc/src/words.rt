@@ -10,7 +10,7 @@ ghost use Rattle.rb_code.specs.Plain.{Code as Plain};
 ghost use Rattle.rb_code.specs.Memory.{Counting as Counts, Memory, called, dropped, framed, word_at, written};
 ghost use Rattle.rb_code.specs.Act.{Going, Sight as Seen, Trapped, arguments, below, on_top, returned};
 ghost use Rattle.rb_code.specs.Safe.{HasCall, HasTop, StayAbove};
-ghost use Rattle.rb_proc.specs.Stays.{entry_calls};
+ghost use Rattle.rb_code.specs.Stays.{entry_calls};
 ghost use Rattle.rb_code.specs.Turn.{prior_words};
 ghost use Rattle.rb_proc.specs.Outcomes.{Keeps, mem, outcome_of};
 ghost use Rattle.rb_proc.specs.Places.{most_places};

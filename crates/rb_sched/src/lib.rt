@@ -1,4 +1,4 @@
-// Schedules: the list of turns that a text asks for, read without taking memory.
+//! Schedules: the list of turns that a text asks for, read without taking memory.
 #![tactic(auto)]
 
 pub mod laws;

@@ -1,3 +1,5 @@
+//! The turns that one line of a schedule asks for, or the line's fault.
+
 ghost use Rattle.std.specs.Prelude.{◌≡◌, ℕ, ◌<◌, ◌≤◌, ◌^◌, vec_len, Err, MatchResult};
 ghost use Rattle.rb_base.specs.Bytes.{digits_value};
 ghost use Rattle.rb_base.specs.Naming.{process_names};

@@ -1,3 +1,5 @@
+//! The turns that a line still gives, held as numbers, so that no list of them takes memory.
+
 ghost use Rattle.std.specs.Prelude.{◌≡◌, ℕ, ◌-◌, ◌<◌, ◌≤◌, ◌^◌, ◌↔◌, List, [], length, replicate, IsTrue};
 ghost use Rattle.rb_sched.specs.Schedule.{rounds};
 ghost use Rattle.rb_sched.specs.Rounds.{turns_left, AreRounds, TakesFirst};

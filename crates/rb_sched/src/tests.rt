@@ -1,3 +1,5 @@
+//! Schedules that are walked to their end, the longest one too, and texts that are refused.
+
 ghost use Rattle.std.specs.Prelude.{◌≡◌, vec_len, IfOk};
 
 use crate::Schedule;

@@ -1,3 +1,5 @@
+//! How many turns a text has, or its first fault, and its first line that has turns.
+
 ghost use Rattle.std.specs.Prelude.{◌≡◌, ℕ, ◌+◌, ◌<◌, ◌≤◌, ◌^◌, List, [], ◌++◌, length, vec_len, Ok, Err, MatchResult};
 ghost use Rattle.std.specs.Result.{IsOk};
 ghost use Rattle.rb_base.specs.Naming.{process_names};

@@ -19,7 +19,7 @@ use Rattle.rb_scope.proofs.Meanings.{IsMeant, MeansIt}
 
 module _ {A : Type 0} (name : A → Identifier) where
   -- the texts of their names
-  abbrev texts : List A → List (List ℕ)
+  abbrev pub texts : List A → List (List ℕ)
   texts all = map (λ a. (name a).text) all
 
   -- a declaration of a row from this number on: that of one of these, with the number of its place
@@ -62,7 +62,7 @@ module _ {A : Type 0} (name : A → Identifier) where
       both-differ all i k a b (IsDistinct-tail same_name (name c).text (texts all) distinct) (omega arith) e f
 
   -- the place of one by its name
-  place : (all : List A) (k : ℕ) (a : A) (x : List ℕ) → AreDistinct (texts all) → slice_get all k ≡ Some a
+  pub place : (all : List A) (k : ℕ) (a : A) (x : List ℕ) → AreDistinct (texts all) → slice_get all k ≡ Some a
       → same_name (name a).text x ≡ true → position (λ b. same_name (name b).text x) all ≡ Some k
   place all k a x distinct there named =
       position_first (λ b. same_name (name b).text x) all k a there named

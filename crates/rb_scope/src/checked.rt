@@ -1,3 +1,5 @@
+//! A program with what each of its names stands for, or why it is refused.
+
 ghost use Rattle.std.specs.Prelude.{◌≡◌, IfOk, IfErr};
 ghost use Rattle.rb_syntax.specs.Plain.{tree};
 ghost use Rattle.rb_scope.specs.Slots.{HasOwnNumbers};

@@ -1,4 +1,4 @@
-// What each name of a source stands for, and the faults of scopes and limits.
+//! What each name of a source stands for, and the faults of scopes and limits.
 #![tactic(auto)]
 
 mod checked;

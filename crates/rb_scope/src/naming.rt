@@ -1,3 +1,5 @@
+//! The names of an accepted program that its printed lines and its schedules speak of.
+
 ghost use Rattle.std.specs.Prelude.{◌≡◌, map, option_map, Some, IfOk};
 ghost use Rattle.rb_syntax.specs.Plain.{channel_declaration, conversation_declaration, declaration, process_declaration, tree};
 ghost use Rattle.rb_meaning.specs.Environment.{size_of};

@@ -1,3 +1,5 @@
+//! What a name may stand for.
+
 /// What a name of a source stands for. Processes, channels, conversations are numbered in the program, procedures in their
 /// process, each from 0 in the order of declaration.
 #[derive(Clone, Copy, Debug, PartialEq, Eq)]

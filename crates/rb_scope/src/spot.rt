@@ -1,3 +1,5 @@
+//! Where an expression or a statement stands.
+
 use crate::scope::Scopes;
 
 /// Where an expression or a statement stands: the scopes around it, how many words of the running call their variables

@@ -1,3 +1,5 @@
+//! What the use of a name asks for.
+
 /// What a use of a name wants it to stand for.
 #[derive(Clone, Copy, Debug, PartialEq, Eq)]
 pub enum Want {

@@ -1,3 +1,5 @@
+//! Names, numbers, targets and expressions of the tree.
+
 use rb_base::Place;
 
 /// A name where it stands. `id` numbers all names of the text from 0 in order.

@@ -1,4 +1,4 @@
-// The tree of a program, as the parser makes it. Names and texts are slices of the source.
+//! The tree of a program, as the parser makes it. Names and texts are slices of the source.
 #![tactic(auto)]
 
 pub mod expression;

@@ -1,3 +1,5 @@
+//! Programs of the tree, with their channels, conversations, processes and procedures.
+
 use crate::expression::{Name, Number};
 use crate::statement::{Block, Statement, Var};
 use rb_base::Edition;

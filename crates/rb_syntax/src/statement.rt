@@ -1,3 +1,5 @@
+//! Declarations of variables, blocks and statements of the tree, with recovery blocks and printed items.
+
 use crate::expression::{Expr, Name, Number, Target};
 use rb_base::Place;
 

@@ -1,3 +1,5 @@
+//! The lines after the last turn: the end of the run, how each process stands, and its variables.
+
 ghost use Rattle.std.specs.Prelude.{◌≡◌, [], ◌∷◌, ◌++◌, codes, decimal, map};
 ghost use Rattle.std.specs.Fmt.{signed_decimal};
 ghost use Rattle.rb_outside.specs.Puts.{Puts};

@@ -1,4 +1,4 @@
-// The lines of a run, written to a sink.
+//! The lines of a run, written to a sink.
 #![tactic(auto)]
 
 pub mod ending;

@@ -1,3 +1,5 @@
+//! Lines of words, and bytes in pieces, written to a sink.
+
 ghost use Rattle.std.specs.Prelude.{◌≡◌, ℕ, List, [], ◌∷◌, ◌++◌, map};
 ghost use Rattle.std.specs.List.{flat_map};
 ghost use Rattle.rb_outside.specs.Puts.{Puts};

@@ -1,3 +1,5 @@
+//! Laws of worlds at small kinds of process state. These functions have no body, and each promises a law.
+
 ghost use Rattle.rb_world.specs.Samples.{CountsAreUnseen, MarksAreUnseen, MarksAreUnseenInRecords, CountedRunsStand, OutermostIsRejected};
 
 /// Images of worlds, at a small kind of process state: steps that are counted beside it change nothing that is told.

@@ -1,5 +1,5 @@
-// The turn of a world of processes, over any kind of process state: levels, rejections, test lines, channels and printed
-// lines. All of it is definitions and laws, in specs/ and proofs/; no code is run from here.
+//! The turn of a world of processes, over any kind of process state: levels, rejections, test lines, channels and
+//! printed lines. All of it is definitions and laws, in specs/ and proofs/; no code is run from here.
 #![tactic(auto)]
 
 mod laws;

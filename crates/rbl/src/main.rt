@@ -1,4 +1,4 @@
-// The program `rbl`: the top call on the words of its command line, the files of the host and standard output.
+//! The program `rbl`: the top call on the words of its command line, the files of the host and standard output.
 #![tactic(auto)]
 
 use rb_top::run_program;

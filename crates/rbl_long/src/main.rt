@@ -1,4 +1,4 @@
-// The program `rbl` on a source of more than 65,536 bytes, whose run writes more than that.
+//! The program `rbl` on a source of more than 65,536 bytes, whose run writes more than that.
 #![tactic(auto)]
 
 use rb_top::run_program;

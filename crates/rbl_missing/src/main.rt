@@ -1,4 +1,4 @@
-// The program `rbl` on a schedule that is not there: it ends with status 3.
+//! The program `rbl` on a schedule that is not there: it ends with status 3.
 #![tactic(auto)]
 
 use rb_top::run_program;

@@ -1,4 +1,4 @@
-// The program `rbl` on a source with a fault: it ends with status 1.
+//! The program `rbl` on a source with a fault: it ends with status 1.
 #![tactic(auto)]
 
 use rb_top::run_program;

@@ -1,4 +1,4 @@
-// The program `rbl` on words that give no command: it ends with status 2.
+//! The program `rbl` on words that give no command: it ends with status 2.
 #![tactic(auto)]
 
 use rb_top::run_program;

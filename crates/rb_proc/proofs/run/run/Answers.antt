@@ -3,7 +3,7 @@ use Rattle.rb_world.specs.World.{Level, copy_of, last_of}
 use Rattle.rb_code.specs.Plain.{code as plain}
 use Rattle.rb_code.specs.Act.{Accepts, Going, Stopped, Trapped, act as acted, execute}
 use Rattle.rb_code.specs.Safe.{IsUnchanged, Ready}
-use Rattle.rb_proc.specs.Stays.{entry_calls}
+use Rattle.rb_code.specs.Stays.{entry_calls}
 use Rattle.rb_code.specs.Turn.{Copy, most_steps}
 use Rattle.rb_proc.specs.Acts.{CursorRises, LeavesEnough}
 use Rattle.rb_proc.specs.Contents.{Contents}

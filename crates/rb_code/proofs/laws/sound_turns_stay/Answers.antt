@@ -1,5 +1,5 @@
-use Rattle.rb_proc.proofs.Staying.{settling_stays, steps_stay}
-use Rattle.rb_proc.proofs.laws.sound_turns_stay.Goals as goal
+use Rattle.rb_code.proofs.Staying.{settling_stays, steps_stay}
+use Rattle.rb_code.proofs.laws.sound_turns_stay.Goals as goal
 
 pub returns-clause-steps : goal.returns-clause-steps
 returns-clause-steps c = steps_stay

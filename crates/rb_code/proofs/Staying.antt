@@ -12,7 +12,7 @@ use Rattle.rb_code.specs.Sound.{Mode, MayPut, MayTake, Entry, Fine, FineAt, HasT
 use Rattle.rb_code.specs.Safe.{IsThere}
 use Rattle.rb_code.specs.Stands.{IsAmong, BodyFits, Fits, IsLaidOut, Levels, LevelsFit, LoopsFit, ModeFits, OperandsFit, Opened, ReturnsTo, Settles, inside_out, opened}
 use Rattle.rb_code.specs.WellFormed.{ListsChannels}
-use Rattle.rb_proc.specs.Stays.{CursorStays, HasEnough, SoundSettlingStays, SoundStepsStay, Stays, StaysOn, entry_calls}
+use Rattle.rb_code.specs.Stays.{CursorStays, HasEnough, SoundSettlingStays, SoundStepsStay, Stays, StaysOn, entry_calls}
 use Rattle.rb_code.specs.declared.instr.Instr.{Instr}
 use Rattle.rb_code.specs.declared.instr.Instr.TheVariants.{Put, Take, Turn}
 use Rattle.rb_code.proofs.Channels.{receives, sends}
