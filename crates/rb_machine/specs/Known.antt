@@ -1,0 +1,81 @@
+-- What is known of every world of a run of sound code: each process stands in the table, its levels are nested and are those of members,
+-- and all numbers that a turn counts are small.
+use Rattle.std.specs.Prelude.{◌≡◌, ℕ, ◌+◌, ◌<◌, ◌≤◌, nat_eq, true, ℤ, List, length, slice_get, Option, Some}
+use Rattle.std.specs.List.{list_any}
+use Rattle.rb_meaning.specs.Environment.{natural}
+use Rattle.rb_world.specs.Kind.{Membership}
+use Rattle.rb_world.specs.Nested.{AreNested, IsLevelOf}
+use Rattle.rb_world.specs.Present.{TryPresent}
+use Rattle.rb_world.specs.Standing.{Each, IsBareIfFailed, IsShallow}
+use Rattle.rb_world.specs.Turn.{members_of}
+use Rattle.rb_world.specs.World.{Level, Process, Talk}
+use Rattle.rb_code.specs.Memory.{cursor_place, part_of, word_at}
+use Rattle.rb_code.specs.Plain.{Block, Code}
+use Rattle.rb_code.specs.Sound.{Table}
+use Rattle.rb_code.specs.Stands.{IsAmong}
+use Rattle.rb_code.specs.StandsInRuns.{ProcessStands}
+use Rattle.rb_code.specs.Turn.{Copy, Standing, block_facts}
+use Rattle.rb_code.specs.WellFormed.{IsSound}
+use Rattle.rb_code.specs.WordRun.{WordWorld}
+
+-- Of each conversation it is known how many alternates its blocks have.
+abbrev pub HasCounts : Code → List ℕ → Type 0
+HasCounts c counts = (b d : ℕ) (block : Block) → slice_get c.blocks b ≡ Some block → block.conversation ≡ Some d
+    → slice_get counts d ≡ Some (length block.alternates)
+
+-- Sound code with its conversations, and how many alternates each of these has.
+pub record IsLoaded (c : Code) (groups : List Membership) (counts : List ℕ) : Type 0 where
+  pub sound : IsSound c groups
+  pub as_many : length counts ≡ length groups
+  pub counted : HasCounts c counts
+
+-- each level of a conversation is one of a member's
+abbrev pub OfMembers : {C : Type 0} → List Membership → ℕ → List (Level C) → Type 0
+OfMembers groups p levels = (i d : ℕ) → IsLevelOf d levels i → list_any (nat_eq p) (members_of (slice_get groups d)) ≡ true
+
+-- a level is one of a block of the code
+pub record IsOfBlock {C : Type 0} (c : Code) (level : Level C) : Type 0 where
+  pub number : ℕ
+  pub block : Block
+  pub there : slice_get c.blocks number ≡ Some block
+  pub facts : level.facts ≡ block_facts number block
+
+-- Process number p stands in the table, and its levels are those of blocks, one in the other.
+pub record IsPlaced (c : Code) (groups : List Membership) (t : Table) (p : ℕ) (q : Process Standing Copy) : Type 0 where
+  pub number : q.state.process ≡ p
+  pub stands : ProcessStands c t q
+  pub nested : AreNested groups q.levels
+  pub members : OfMembers groups p q.levels
+  pub blocks : Each (λ _ level. IsOfBlock c level) q.levels
+
+-- a level tries an alternate that it has
+pub record IsTried {C : Type 0} (level : Level C) : Type 0 where
+  pub first : 1 ≤ level.alternate
+  pub last : level.alternate ≤ level.facts.alternates
+
+-- a conversation is at an alternate that its blocks have
+abbrev pub IsTalked : List ℕ → ℕ → Talk → Type 0
+IsTalked counts d talk = (n : ℕ) → slice_get counts d ≡ Some n → (1 ≤ talk.alternate) × (talk.alternate ≤ n)
+
+-- cursors among these words are below a number
+abbrev pub CursorsBelow : Code → ℕ → ℕ → List ℤ → Type 0
+CursorsBelow c p t words = (channel : ℕ) → IsAmong channel (part_of c p).channels → natural (word_at words (cursor_place (part_of c p) channel)) < t
+
+-- Process number p before turn number t: no level has used more turns than there were, and no cursor, in the present or in a copy, has
+-- come further.
+pub record IsCounted (c : Code) (t p : ℕ) (q : Process Standing Copy) : Type 0 where
+  pub used : Each (λ _ level. level.used < t) q.levels
+  pub cursors : CursorsBelow c p t q.state.words
+  pub copied : Each (λ _ level. CursorsBelow c p t level.copy.words) q.levels
+
+-- All of it of a world, before turn number t.
+pub record IsKnown (c : Code) (groups : List Membership) (counts : List ℕ) (table : Table) (t : ℕ) (w : WordWorld) : Type 0 where
+  pub processes : length w.processes ≡ length c.processes
+  pub talks : length w.talks ≡ length groups
+  pub shallow : Each IsShallow w.processes
+  pub bare : Each IsBareIfFailed w.processes
+  pub placed : Each (IsPlaced c groups table) w.processes
+  pub counted : Each (IsCounted c t) w.processes
+  pub tried : Each (λ _ q. Each (λ _ level. IsTried level) q.levels) w.processes
+  pub present : Each (λ _ q. TryPresent w.talks q.levels) w.processes
+  pub talked : Each (IsTalked counts) w.talks

@@ -1,0 +1,2 @@
+//! The machine: all processes with their recovery caches, the conversations and the channels, turn by turn.
+#![tactic(auto)]
