@@ -1,0 +1,46 @@
+-- What holds of the machine's parts between two turns, and in a turn once it was counted.
+use Rattle.std.specs.Prelude.{◌≡◌, ◌<◌, ◌≤◌, ◌+◌, ◌-◌, ◌^◌, ℕ, Bool, true, false, List, [], length, slice_get, Option, Some, None}
+use Rattle.rb_base.specs.declared.limits.TheConstants.{MOST_TURNS}
+use Rattle.rb_world.specs.Kind.{Want, NothingLeft, SendsOn, ReceivesOn, MayReceiveOn, Enters, Starts, Acts}
+use Rattle.rb_world.specs.Slots.{Slots}
+use Rattle.rb_world.specs.World.{Running}
+use Rattle.rb_code.specs.Plain.{Block, Code}
+use Rattle.rb_code.specs.WellFormed.{IsSound}
+use Rattle.rb_conv.specs.Conversations.{Conversation, memberships}
+use Rattle.rb_proc.specs.Executable.{IsExecutable}
+use Rattle.rb_proc.specs.Process.{Seen}
+use Rattle.rb_proc.specs.Sees.{AreSized}
+use Rattle.rb_machine.specs.Known.{IsKnown, IsLoaded}
+use Rattle.rb_machine.specs.Worlds.{counts_of, memory_of, world_of}
+use Rattle.rb_machine.specs.declared.links.Link.{Link}
+
+-- no block has so many alternates that the number of one could not rise
+abbrev pub HasFewAlternates : Code → Type 0
+HasFewAlternates c = (b : ℕ) (block : Block) → slice_get c.blocks b ≡ Some block → length block.alternates < 2 ^ 32 - 1
+
+-- The parts stand for a world of a run of sound code, before turn number t.
+pub record IsAtWork (c : Code) (t : ℕ) (procs : List Seen) (table : List Conversation) (slots : Slots) (links : List Link) : Type 0 where
+  pub executable : IsExecutable c
+  pub few : HasFewAlternates c
+  pub loaded : IsLoaded c (memberships table) (counts_of table)
+  pub known : IsKnown c (memberships table) (counts_of table) loaded.sound.table t (world_of procs table (memory_of slots links))
+  pub sized : AreSized c slots
+  pub turns : t ≤ MOST_TURNS + 2
+
+-- process number p is there, runs, and stands at no test line
+pub record MayActNow (one : Seen) : Type 0 where
+  pub running : one.process.status ≡ Running
+  pub away : one.process.at_line ≡ false
+
+abbrev pub MayAct : List Seen → ℕ → Type 0
+MayAct procs p = (one : Seen) → slice_get procs p ≡ Some one → MayActNow one
+
+-- what stands first is a step, and where it waits for a message one is there
+abbrev pub IsStep : Bool → Want → Type 0
+IsStep there NothingLeft = ⊥
+IsStep there (SendsOn channel) = Unit {0}
+IsStep there (ReceivesOn channel) = there ≡ true
+IsStep there (MayReceiveOn channel) = Unit {0}
+IsStep there (Enters facts) = ⊥
+IsStep there Starts = Unit {0}
+IsStep there Acts = Unit {0}
