@@ -34,6 +34,18 @@ pub fn act<L: Ledger>(
     ensures links { vec_len parts.new.links ≤ vec_len parts.old.links + 1 }
     ensures room { vec_capacity parts.old.links ≤ vec_capacity parts.new.links }
 {
+    match parts.procs[p as usize].want(code) {
+        Wanted::Idle | Wanted::Line => Came::IDLE,
+        Wanted::Room(channel) if !has_room(code, &parts.procs, channel, steps) => Came::WAIT,
+        Wanted::Message(channel) => receive(code, parts, turn, p, channel, events, steps),
+        Wanted::Maybe(channel) => {
+            let there = message_there(code, &parts.procs, p, channel, steps);
+            take_step(code, parts, turn, p, there, events, steps)
+        }
+        Wanted::Entry(block) => enter(code, parts, turn, p, block, events, steps),
+        Wanted::Room(_) | Wanted::Start | Wanted::Step =>
+            take_step(code, parts, turn, p, false, events, steps),
+    }
 }
 
 /// Turn number `turn` of process p, before lines are released.
@@ -53,4 +65,16 @@ pub fn take_turn<L: Ledger>(
     ensures links { vec_len parts.new.links ≤ vec_len parts.old.links + 1 }
     ensures room { vec_capacity parts.old.links ≤ vec_capacity parts.new.links }
 {
+    if p as usize >= parts.procs.len() || !parts.procs[p as usize].is_running() {
+        return Came::IDLE;
+    }
+    match parts.procs[p as usize].count_turn() {
+        Some(level) => {
+            let Parts { procs, table, .. } = parts;
+            reject(procs, table, p, level + 1, Cause::Overrun, events, steps);
+            Came::UNDONE
+        }
+        None if parts.procs[p as usize].at_line() => Came::WAIT,
+        None => act(code, parts, turn, p, events, steps),
+    }
 }
