@@ -9,10 +9,15 @@ ghost use Rattle.rb_machine.specs.Moves.{AreAtWork, HasMoved, IsLeft, MovesAt, w
 ghost use Rattle.rb_machine.specs.Worlds.{kind_with};
 
 use crate::came::Came;
+use crate::cascade::reject;
+use crate::channels::{has_room, message_there};
+use crate::entry::enter;
 use crate::parts::Parts;
+use crate::step::take_step;
 use arrayvec::ArrayVec;
-use rb_base::{Event, Steps, TurnKind};
+use rb_base::{Cause, Event, Steps, TurnKind};
 use rb_code::Code;
+use rb_proc::Wanted;
 use std::sync::ledger::Ledger;
 
 /// What stands first in process p decides.
@@ -35,8 +40,8 @@ pub fn act<L: Ledger>(
     ensures room { vec_capacity parts.old.links ≤ vec_capacity parts.new.links }
 {
     match parts.procs[p as usize].want(code) {
-        Wanted::Idle | Wanted::Line => Came::IDLE,
-        Wanted::Room(channel) if !has_room(code, &parts.procs, channel, steps) => Came::WAIT,
+        Wanted::Idle | Wanted::Line => Came::without_pass(TurnKind::Idle),
+        Wanted::Room(channel) if !has_room(code, &parts.procs, channel, steps) => Came::without_pass(TurnKind::Wait),
         Wanted::Message(channel) => receive(code, parts, turn, p, channel, events, steps),
         Wanted::Maybe(channel) => {
             let there = message_there(code, &parts.procs, p, channel, steps);
@@ -66,15 +71,15 @@ pub fn take_turn<L: Ledger>(
     ensures room { vec_capacity parts.old.links ≤ vec_capacity parts.new.links }
 {
     if p as usize >= parts.procs.len() || !parts.procs[p as usize].is_running() {
-        return Came::IDLE;
+        return Came::without_pass(TurnKind::Idle);
     }
     match parts.procs[p as usize].count_turn() {
         Some(level) => {
             let Parts { procs, table, .. } = parts;
             reject(procs, table, p, level + 1, Cause::Overrun, events, steps);
-            Came::UNDONE
+            Came::without_pass(TurnKind::Undone)
         }
-        None if parts.procs[p as usize].at_line() => Came::WAIT,
+        None if parts.procs[p as usize].at_line() => Came::without_pass(TurnKind::Wait),
         None => act(code, parts, turn, p, events, steps),
     }
 }
