@@ -1,1 +1,5 @@
 -- Lemmas of the machine.
+-- How many processes and conversations there are, that levels are few, and that who has failed has none.
+pub mod Sizes
+-- Who stands where, with which levels.
+pub mod Placed
