@@ -3,3 +3,5 @@
 pub mod Sizes
 -- Who stands where, with which levels.
 pub mod Placed
+-- Each level tries an alternate that it has, and each conversation is at one of its blocks'.
+pub mod Alternates
