@@ -1,2 +1,3 @@
 -- What is said of the machine.
 pub mod Known
+pub mod Rising

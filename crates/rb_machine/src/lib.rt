@@ -1,2 +1,4 @@
 //! The machine: all processes with their recovery caches, the conversations and the channels, turn by turn.
 #![tactic(auto)]
+
+pub mod laws;
