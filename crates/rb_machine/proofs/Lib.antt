@@ -2,3 +2,6 @@
 pub mod WordsKept
 pub mod Rising
 pub mod StepsRise
+pub mod RunsRise
+pub mod CountsBelow
+pub mod CountedKept
