@@ -5,3 +5,10 @@ pub mod Sizes
 pub mod Placed
 -- Each level tries an alternate that it has, and each conversation is at one of its blocks'.
 pub mod Alternates
+pub mod WordsKept
+pub mod Rising
+pub mod StepsRise
+pub mod RunsRise
+pub mod CountsBelow
+pub mod CountedKept
+pub mod KnownTurns

@@ -7,3 +7,4 @@ pub mod AtWork
 pub mod Moves
 pub mod Telling
 pub mod Machine
+pub mod Rising
