@@ -55,23 +55,6 @@ fn nested(alloc: Global, declarations: &str, conversations: &str) -> Result<Stri
 }
 
 #[test]
-fn answers_members_parents_and_alternates(rt: HostRuntime) -> Result<(), Fail> {
-    let alloc = rt.alloc();
-    let source = nested(alloc, "program a;", "CD")?;
-    let Ok(judged) = judge(alloc, source.as_bytes()) else {
-        return Err(Fail::from("refused"));
-    };
-    let [outer, inner] = judged.nested.conversations.as_slice() else {
-        return Err(Fail::from("two conversations are declared"));
-    };
-    assert_eq!(rt; outer.members.as_slice(), [0, 1].as_slice());
-    assert_eq!(rt; inner.members.as_slice(), [0, 1].as_slice());
-    assert_eq!(rt; (outer.parent, inner.parent), (None, Some(0)));
-    assert_eq!(rt; (outer.alternates, inner.alternates), (1, 1));
-    Ok(())
-}
-
-#[test]
 fn refuses_smallest(rt: HostRuntime) -> Result<(), Fail> {
     let alloc = rt.alloc();
     for (number, (pieces, wanted)) in SMALLEST.iter().chain(SMALLEST_NESTING.iter()).enumerate() {
