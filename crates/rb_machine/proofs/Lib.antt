@@ -12,3 +12,9 @@ pub mod RunsRise
 pub mod CountsBelow
 pub mod CountedKept
 pub mod KnownTurns
+-- What a load asks of code, and what it makes of it.
+pub mod ExecutableCode
+pub mod FirstProcesses
+pub mod Opens
+pub mod TurnOfParts
+pub mod MachineRuns

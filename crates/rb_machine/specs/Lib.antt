@@ -6,5 +6,6 @@ pub mod Channels
 pub mod AtWork
 pub mod Moves
 pub mod Telling
+pub mod Loading
 pub mod Machine
 pub mod Rising

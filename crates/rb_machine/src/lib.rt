@@ -4,3 +4,8 @@
 pub mod came;
 pub mod links;
 pub mod laws;
+pub mod parts;
+pub mod moves;
+pub mod telling;
+pub mod loading;
+pub mod machine;
