@@ -2,4 +2,5 @@
 #![tactic(auto)]
 
 pub mod came;
+pub mod cascade;
 pub mod links;
