@@ -1,1 +1,4 @@
 -- Lemmas of the machine.
+pub mod SeenCopies
+pub mod RoomsAndMessages
+pub mod KnownNumbers
