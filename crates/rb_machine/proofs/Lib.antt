@@ -2,3 +2,4 @@
 pub mod SeenCopies
 pub mod RoomsAndMessages
 pub mod KnownNumbers
+pub mod Receivers

@@ -1,5 +1,5 @@
 -- Rooms and messages of a world, told by the cursors of the two ends of a channel.
-use Rattle.std.proofs.Common.{◌≡◌, ℕ, ◌+◌, ◌<◌, ◌≤◌, nat_eq, nat_lt, Bool, true, false, cond, ℤ, List, [], ◌∷◌, length, map, option_map, slice_get, get_or, unwrap_or, Option, Some, None, refl, ap, sym, subst, ◌∙◌, eq-eqb, arith}
+use Rattle.std.proofs.Common.{◌≡◌, ℕ, ◌+◌, ◌<◌, nat_lt, Bool, cond, ℤ, List, [], ◌∷◌, length, map, option_map, slice_get, get_or, unwrap_or, Option, Some, None, refl, ap, sym, subst, ◌∙◌, eq-eqb, arith}
 use Rattle.std.proofs.lemmas.Option.{slice_get-map, slice_get_read, slice_get_within}
 use Rattle.rb_world.specs.Channels.{has_room, has_room_for, has_room_on, message_between, message_on, message_there, room_from, seen_copy, seen_count, seen_message}
 use Rattle.rb_world.specs.Kind.{Ends, Membership, ReceivesOn, MayReceiveOn}
@@ -16,7 +16,6 @@ use Rattle.rb_code.specs.Sound.{IsReceiver, IsSender}
 use Rattle.rb_code.specs.Stands.{IsAmong}
 use Rattle.rb_code.specs.Turn.{Common, Copy, Standing}
 use Rattle.rb_code.specs.WordKind.{cursor_in, sent_by, taken_by, word_kind}
-use Rattle.rb_code.specs.WordRun.{WordWorld}
 use Rattle.rb_code.proofs.Channels.{receives, sends}
 use Rattle.rb_proc.specs.Process.{Seen, message_for}
 use Rattle.rb_machine.specs.Channels.{AreNumbered, HasCursor, HasCursors, cursor_at, message_given, outermost_copy, words_at, words_then}

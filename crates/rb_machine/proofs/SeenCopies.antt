@@ -1,5 +1,5 @@
 -- The copy that a receiver sees of a sender, as both lists of levels are walked from the outside in.
-use Rattle.std.proofs.Common.{◌≡◌, ℕ, zero, suc, ◌+◌, ◌≤◌, ◌<◌, Bool, true, false, cond, List, [], ◌∷◌, length, drop, slice_get, Option, Some, None, refl, ap, sym, subst, ◌∙◌, true≢false, add-one, arith}
+use Rattle.std.proofs.Common.{◌≡◌, ℕ, zero, suc, ◌+◌, ◌≤◌, ◌<◌, true, false, cond, List, [], ◌∷◌, length, drop, slice_get, Option, Some, None, refl, ap, sym, subst, ◌∙◌, true≢false, add-one, arith}
 use Rattle.std.proofs.lemmas.List.{drop_all}
 use Rattle.rb_world.specs.Channels.{seen_copy}
 use Rattle.rb_world.specs.World.{Level, is_shared}

@@ -1,5 +1,5 @@
 -- A level that is not shared is the sender's own, and a shared one is passed.
-use Rattle.std.proofs.Common.{◌≡◌, ◌<◌, Bool, true, false, length, slice_get, ap, sym, ◌∙◌, arith}
+use Rattle.std.proofs.Common.{◌≡◌, ◌<◌, true, false, length, slice_get, arith}
 use Rattle.rb_world.specs.World.{is_shared}
 use Rattle.rb_world.proofs.ListFacts.{slice_get-there}
 use Rattle.rb_machine.specs.Channels.{conversation_in}

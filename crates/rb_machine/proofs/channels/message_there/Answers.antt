@@ -1,5 +1,5 @@
 -- The two ends, as they were looked up, and the message that the receiver sees.
-use Rattle.std.proofs.Common.{◌≡◌, ◌<◌, ◌∙◌, sym, length, nat_lt, arith}
+use Rattle.std.proofs.Common.{◌∙◌, sym, nat_lt, arith}
 use Rattle.std.proofs.lemmas.List.{length-map}
 use Rattle.rb_code.specs.Plain.{code as plain, channel as channel_of, part}
 use Rattle.rb_machine.specs.Channels.{message_given}
