@@ -12,3 +12,7 @@ pub mod RunsRise
 pub mod CountsBelow
 pub mod CountedKept
 pub mod KnownTurns
+pub mod SeenCopies
+pub mod RoomsAndMessages
+pub mod KnownNumbers
+pub mod Receivers

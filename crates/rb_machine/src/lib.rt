@@ -2,5 +2,6 @@
 #![tactic(auto)]
 
 pub mod came;
+pub mod channels;
 pub mod links;
 pub mod laws;
