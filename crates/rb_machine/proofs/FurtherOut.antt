@@ -1,11 +1,10 @@
 -- Levels further out than one that is rejected: they stay as they are, and so do the rows of their conversations.
-use Rattle.std.proofs.Common.{◌≡◌, ◌≢◌, ◌<◌, ◌≤◌, ◌+◌, ℕ, zero, suc, nat_eq, Bool, true, false, not, List, [], ◌∷◌, length, position, slice_get, take, Option, Some, None, refl, sym, ap, ◌∙◌, subst, eq-eqb, ne_eqb, suc-ne-zero, arith}
+use Rattle.std.proofs.Common.{◌≡◌, ◌≢◌, ◌<◌, ◌+◌, ℕ, zero, suc, nat_eq, List, length, position, slice_get, take, Option, Some, None, refl, sym, ap, ◌∙◌, subst, eq-eqb, ne_eqb, suc-ne-zero, arith}
 use Rattle.std.specs.Option.{is_none}
-use Rattle.std.proofs.lemmas.Option.{slice_get_within}
 use Rattle.std.proofs.lemmas.List.{length-take-le}
 use Rattle.rb_world.specs.Kind.{Membership}
 use Rattle.rb_world.specs.Nested.{AreNested, HasOutside, IsLevelOf}
-use Rattle.rb_world.specs.Reject.{is_below, parent_of}
+use Rattle.rb_world.specs.Reject.{parent_of}
 use Rattle.rb_world.specs.World.{Level, is_of}
 use Rattle.rb_world.proofs.LevelFacts.{get_take}
 use Rattle.rb_world.proofs.NestedSame.{same_number}

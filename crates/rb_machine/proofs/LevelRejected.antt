@@ -1,22 +1,21 @@
 -- The rejection of one level, by what its parts ensure: the world has come to where it should, and the next level out can be rejected.
-use Rattle.std.proofs.Common.{◌≡◌, ◌∷◌, ◌++◌, ◌<◌, ◌+◌, ℕ, Bool, true, false, not, ◌&&◌, [], List, IsTrue, length, map, nat_eq, nat_lt, get_or, set, slice_get, Option, Some, None, refl, sym, ap, ◌∙◌, subst, true≢false, arith}
+use Rattle.std.proofs.Common.{◌≡◌, ◌∷◌, ◌++◌, ◌<◌, ◌+◌, ℕ, Bool, true, false, not, ◌&&◌, [], List, IsTrue, length, map, nat_eq, nat_lt, get_or, set, slice_get, Some, None, refl, sym, ap, ◌∙◌, subst, true≢false, arith}
 use Rattle.std.proofs.lemmas.Option.{slice_get-get_or}
 use Rattle.rb_base.specs.declared.event.Cause.{Cause}
 use Rattle.rb_base.specs.declared.event.Event.{Event}
 use Rattle.rb_world.specs.Nested.{IsLevelOf}
 use Rattle.rb_world.specs.Reject.{put_back, where_inside}
-use Rattle.rb_world.specs.World.{Process, change_at}
+use Rattle.rb_world.specs.World.{change_at}
 use Rattle.rb_conv.specs.Conversations.{Conversation, conversation_at}
 use Rattle.rb_conv.specs.Reject.{has_next, rejected}
 use Rattle.rb_conv.proofs.Places.{set-changes}
 use Rattle.rb_conv.proofs.TalksAfterCalls.{members_stay}
 use Rattle.rb_code.specs.Plain.{Code}
-use Rattle.rb_code.specs.Turn.{Copy, Standing}
 use Rattle.rb_proc.specs.declared.answers.LevelView.{LevelView}
 use Rattle.rb_proc.specs.Process.{Seen, kind_of}
 use Rattle.rb_proc.specs.Views.{IsViewOf}
-use Rattle.rb_machine.specs.Cascade.{AreQuiet, HasRejected, MayReject, MayRejectAt, SameGroups}
-use Rattle.rb_machine.specs.Rejections.{IsRejection, changed, rejection_of, tried_alone, tried_together}
+use Rattle.rb_machine.specs.Cascade.{AreQuiet, MayReject, MayRejectAt, SameGroups}
+use Rattle.rb_machine.specs.Rejections.{HasRejected, IsRejection, changed, rejection_of, tried_alone, tried_together}
 use Rattle.rb_machine.specs.Worlds.{NoneWaits, kind_with, world_of}
 use Rattle.rb_machine.proofs.NextLevelOut.{may_next_alone, may_next_together}
 use Rattle.rb_machine.proofs.OneRejection.{Viewed, happens_alone, happens_together, viewed}

@@ -16,3 +16,15 @@ pub mod SeenCopies
 pub mod RoomsAndMessages
 pub mod KnownNumbers
 pub mod Receivers
+pub mod CascadeEnds
+pub mod FurtherOut
+pub mod InOrder
+pub mod LevelRejected
+pub mod NextLevelOut
+pub mod OneRejection
+pub mod QuietProcesses
+pub mod RejectedLevels
+pub mod RowsKept
+pub mod SeenWorlds
+pub mod SomeCode
+pub mod WhoIsInside

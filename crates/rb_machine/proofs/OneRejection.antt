@@ -1,13 +1,13 @@
 -- What the machine does at one rejection is what the world does: of a level alone, and of all that are inside a conversation.
-use Rattle.std.proofs.Common.{◌≡◌, ◌<◌, ◌+◌, ℕ, zero, suc, Bool, true, false, not, cond, ◌&&◌, nat_eq, nat_lt, List, [], ◌∷◌, length, map, slice_get, Option, Some, None, refl, sym, ap, ◌∙◌, subst, arith}
+use Rattle.std.proofs.Common.{◌≡◌, ◌+◌, ℕ, Bool, not, ◌&&◌, nat_eq, nat_lt, List, map, slice_get, Option, Some, None, refl, sym, ap, ◌∙◌, subst, arith}
 use Rattle.std.specs.Option.{is_none}
 use Rattle.rb_base.specs.declared.event.Cause.{Cause}
 use Rattle.rb_base.specs.declared.event.Event.{Event}
 use Rattle.rb_base.specs.declared.event.Event.TheVariants.{Reject, RejectAll}
 use Rattle.rb_world.specs.Kind.{Facts}
 use Rattle.rb_world.specs.Nested.{IsLevelOf}
-use Rattle.rb_world.specs.Reject.{broken_talk, first_again, next_talk, parent_of, reset_below}
-use Rattle.rb_world.specs.World.{Level, Process, Talk, World, change_at, process_levels}
+use Rattle.rb_world.specs.Reject.{parent_of, reset_below}
+use Rattle.rb_world.specs.World.{Level, Process, Talk, change_at, process_levels}
 use Rattle.rb_conv.specs.Conversations.{Conversation, conversation_at, memberships, talks}
 use Rattle.rb_conv.specs.Laws.{talk_after}
 use Rattle.rb_conv.specs.Reject.{has_next, rejected}

@@ -1,13 +1,12 @@
 -- A cascade of rejections, level by level: what the rejection of one level comes to, and that of the next level out.
-use Rattle.std.proofs.Common.{◌≡◌, ◌+◌, ℕ, zero, suc, Bool, true, false, not, cond, ◌&&◌, List, [], ◌∷◌, map, length, nat_lt, Option, Some, None, slice_get, refl, sym, ap, ◌∙◌, subst, suc-ne-zero, add-one, arith}
+use Rattle.std.proofs.Common.{◌≡◌, ◌+◌, ℕ, zero, suc, Bool, true, false, not, cond, ◌&&◌, List, [], ◌∷◌, map, nat_lt, Option, Some, None, slice_get, refl, ap, ◌∙◌, add-one}
 use Rattle.std.specs.Option.{is_none}
 use Rattle.rb_base.specs.declared.event.Cause.{Cause}
 use Rattle.rb_base.specs.declared.event.Cause.TheVariants.{Inner}
-use Rattle.rb_base.specs.declared.event.Event.{Event}
 use Rattle.rb_base.specs.declared.event.Event.TheVariants.{Reject, RejectAll}
 use Rattle.rb_world.specs.Kind.{Kind}
-use Rattle.rb_world.specs.Reject.{Happened, after_event, all_back, broken_talk, exhausted_next, fallen_inside, first_again, next_talk, parent_of, private_next, put_back, raised, reject, reject_at, reject_either, reset_below, together_next, where_inside}
-use Rattle.rb_world.specs.World.{Level, Process, Talk, World, change_at, process_levels, with_process}
+use Rattle.rb_world.specs.Reject.{after_event, all_back, broken_talk, exhausted_next, fallen_inside, next_talk, parent_of, private_next, put_back, raised, reject, reject_at, reject_either, reset_below, together_next, where_inside}
+use Rattle.rb_world.specs.World.{Level, Process, World, change_at, process_levels, with_process}
 use Rattle.rb_conv.specs.Laws.{talk_after}
 use Rattle.rb_machine.specs.Rejections.{IsRejection, tried_alone, tried_together}
 

@@ -2,6 +2,7 @@
 pub mod Known
 pub mod Worlds
 pub mod Cascade
+pub mod Rejections
 pub mod Channels
 pub mod AtWork
 pub mod Moves

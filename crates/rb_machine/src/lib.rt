@@ -3,5 +3,6 @@
 
 pub mod came;
 pub mod channels;
+pub mod cascade;
 pub mod links;
 pub mod laws;

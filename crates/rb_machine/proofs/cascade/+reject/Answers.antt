@@ -1,6 +1,6 @@
-use Rattle.std.proofs.Common.{◌≡◌, ◌+◌, ◌-◌, ℕ, sym, subst, arith}
+use Rattle.std.proofs.Common.{◌≡◌, ◌+◌, ◌-◌, subst, arith}
 use Rattle.rb_machine.specs.Cascade.{MayRejectAt}
-use Rattle.rb_machine.proofs.CascadeGoesOn.{ends, falls, falls_quietly, goes_on, groups_twice, one_told}
+use Rattle.rb_machine.proofs.CascadeEnds.{falls, falls_quietly, one_told}
 use Rattle.rb_machine.proofs.cascade.+reject.Goals as goal
 
 pub returns-then-left-eq0-clause-happened : goal.returns-then-left-eq0-clause-happened
@@ -19,7 +19,19 @@ reject_level-requires-clause-may g t c =
 
 pub reject-requires : goal.reject-requires
 reject-requires g t c κs within =
-    let added = one_told c.args.events.now.items c.reject_level.new.events.items c.reject_level.ensures.rejected in
-    (omega (arith, c.if-left-eq0.false, c.decreases), (within, (omega (arith, c.requires.process, c.reject_level.auto.procs),
-    (c.reject_level.ensures.may c.if-reject_level.true, (c.reject_level.ensures.quiet c.if-reject_level.true,
-    omega (arith, c.requires.room, c.if-left-eq0.false, added))))))
+    let added = one_told c.args.events.now.items c.reject_level.new.events.items c.reject_level.ensures.rejected in (
+      omega (arith, c.if-left-eq0.false, c.decreases),
+      (
+        within,
+        (
+          omega (arith, c.requires.process, c.reject_level.auto.procs),
+          (
+            c.reject_level.ensures.may c.if-reject_level.true,
+            (
+              c.reject_level.ensures.quiet c.if-reject_level.true,
+              omega (arith, c.requires.room, c.if-left-eq0.false, added),
+            ),
+          ),
+        ),
+      ),
+    )

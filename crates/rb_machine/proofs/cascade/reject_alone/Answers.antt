@@ -1,4 +1,4 @@
-use Rattle.std.proofs.Common.{◌≡◌, ◌<◌, length, slice_get, sym, subst}
+use Rattle.std.proofs.Common.{◌<◌, length, sym, subst}
 use Rattle.rb_proc.specs.Process.{Seen, kind_of}
 use Rattle.rb_machine.proofs.QuietProcesses.{Rises, back_within, below_last, rises_put_back}
 use Rattle.rb_machine.proofs.SomeCode.{some_code}
