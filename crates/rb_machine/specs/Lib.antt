@@ -6,4 +6,5 @@ pub mod Channels
 pub mod AtWork
 pub mod Moves
 pub mod Telling
+pub mod Reading
 pub mod Machine

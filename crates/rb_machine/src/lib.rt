@@ -3,3 +3,6 @@
 
 pub mod came;
 pub mod links;
+pub mod parts;
+pub mod reading;
+pub mod telling;
