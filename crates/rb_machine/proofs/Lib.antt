@@ -28,3 +28,10 @@ pub mod RowsKept
 pub mod SeenWorlds
 pub mod SomeCode
 pub mod WhoIsInside
+pub mod EndsTold
+pub mod Released
+pub mod Written
+pub mod ReadAt
+pub mod CountsRead
+pub mod LinesLent
+pub mod CountedAtWork

@@ -6,3 +6,6 @@ pub mod channels;
 pub mod cascade;
 pub mod links;
 pub mod laws;
+pub mod parts;
+pub mod reading;
+pub mod telling;
