@@ -2,6 +2,8 @@
 #![tactic(auto)]
 
 pub mod came;
+pub mod channels;
+pub mod cascade;
 pub mod links;
 pub mod laws;
 pub mod parts;
@@ -9,3 +11,5 @@ pub mod moves;
 pub mod telling;
 pub mod loading;
 pub mod machine;
+pub mod reading;
+pub mod telling;
