@@ -1,1 +1,6 @@
 -- Lemmas of the machine.
+pub mod Changed
+pub mod StepFacts
+pub mod KnownHere
+pub mod TestLines
+pub mod TakenSteps

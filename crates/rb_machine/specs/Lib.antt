@@ -6,3 +6,4 @@ pub mod Channels
 pub mod AtWork
 pub mod Moves
 pub mod Telling
+pub mod Stepping

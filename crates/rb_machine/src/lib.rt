@@ -3,3 +3,4 @@
 
 pub mod came;
 pub mod links;
+pub mod parts;
