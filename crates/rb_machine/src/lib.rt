@@ -2,5 +2,9 @@
 #![tactic(auto)]
 
 pub mod came;
+pub mod cascade;
+pub mod innermost;
 pub mod links;
 pub mod parts;
+pub mod step;
+pub mod test_line;
