@@ -9,10 +9,15 @@ ghost use Rattle.rb_machine.specs.Moves.{AreAtWork, HasMoved, IsLeft, MovesAt, w
 ghost use Rattle.rb_machine.specs.Worlds.{kind_with};
 
 use crate::came::Came;
+use crate::cascade::reject;
+use crate::channels::{has_room, message_there};
+use crate::entry::enter;
 use crate::parts::Parts;
+use crate::step::take_step;
 use arrayvec::ArrayVec;
-use rb_base::{Event, Steps, TurnKind};
+use rb_base::{Cause, Event, Steps, TurnKind};
 use rb_code::Code;
+use rb_proc::Wanted;
 use std::sync::ledger::Ledger;
 
 /// What stands first in process p decides.
@@ -34,6 +39,18 @@ pub fn act<L: Ledger>(
     ensures links { vec_len parts.new.links ≤ vec_len parts.old.links + 1 }
     ensures room { vec_capacity parts.old.links ≤ vec_capacity parts.new.links }
 {
+    match parts.procs[p as usize].want(code) {
+        Wanted::Idle | Wanted::Line => Came::without_pass(TurnKind::Idle),
+        Wanted::Room(channel) if !has_room(code, &parts.procs, channel, steps) => Came::without_pass(TurnKind::Wait),
+        Wanted::Message(channel) => receive(code, parts, turn, p, channel, events, steps),
+        Wanted::Maybe(channel) => {
+            let there = message_there(code, &parts.procs, p, channel, steps);
+            take_step(code, parts, turn, p, there, events, steps)
+        }
+        Wanted::Entry(block) => enter(code, parts, turn, p, block, events, steps),
+        Wanted::Room(_) | Wanted::Start | Wanted::Step =>
+            take_step(code, parts, turn, p, false, events, steps),
+    }
 }
 
 /// Turn number `turn` of process p, before lines are released.
@@ -53,4 +70,16 @@ pub fn take_turn<L: Ledger>(
     ensures links { vec_len parts.new.links ≤ vec_len parts.old.links + 1 }
     ensures room { vec_capacity parts.old.links ≤ vec_capacity parts.new.links }
 {
+    if p as usize >= parts.procs.len() || !parts.procs[p as usize].is_running() {
+        return Came::without_pass(TurnKind::Idle);
+    }
+    match parts.procs[p as usize].count_turn() {
+        Some(level) => {
+            let Parts { procs, table, .. } = parts;
+            reject(procs, table, p, level + 1, Cause::Overrun, events, steps);
+            Came::without_pass(TurnKind::Undone)
+        }
+        None if parts.procs[p as usize].at_line() => Came::without_pass(TurnKind::Wait),
+        None => act(code, parts, turn, p, events, steps),
+    }
 }

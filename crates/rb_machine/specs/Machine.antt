@@ -1,0 +1,66 @@
+-- The machine as contracts see it: its code and its conversations, the world of the word machine that it stands for, the released lines
+-- that wait, how many turns it has taken, and how many it may take.
+use Rattle.std.specs.Prelude.{◌≡◌, ◌≤◌, ◌<◌, ◌+◌, ℕ, Bool, List, [], length, replicate}
+use Rattle.rb_base.specs.declared.event.Event.{Event}
+use Rattle.rb_base.specs.declared.limits.TheConstants.{MOST_TURNS}
+use Rattle.rb_world.specs.Kind.{Membership}
+use Rattle.rb_world.specs.Turn.{Told, turn}
+use Rattle.rb_code.specs.Plain.{Code}
+use Rattle.rb_code.specs.WordKind.{word_kind}
+use Rattle.rb_code.specs.WordRun.{WordWorld, opening_of}
+use Rattle.rb_conv.specs.Conversations.{Conversation, memberships}
+use Rattle.rb_trace.specs.Report.{told_of}
+use Rattle.rb_machine.specs.AtWork.{IsAtWork}
+use Rattle.rb_machine.specs.Moves.{world}
+use Rattle.rb_machine.specs.Telling.{running_of}
+use Rattle.rb_machine.specs.Worlds.{lines_of, processes_of}
+use Rattle.rb_machine.specs.declared.parts.Parts.{Parts}
+
+pub record Seen : Type 0 where
+  pub code : Code
+  pub groups : List Membership
+  pub world : WordWorld
+  pub waiting : List (List (List ℕ))
+  pub taken : ℕ
+  pub most : ℕ
+
+abbrev pub seen : {L : Type 0} → Code → Parts L → ℕ → ℕ → Seen
+seen c parts taken most = record {
+  code = c;
+  groups = memberships parts.table;
+  world = world parts;
+  waiting = lines_of parts.procs.items;
+  taken = taken;
+  most = most;
+}
+
+-- What ties the parts: they stand for a world of a run, before the next turn; it is known who runs; and there is room for the links of
+-- all turns that may come.
+pub record IsTied {L : Type 0} (c : Code) (parts : Parts L) (running : List Bool) (links room taken most : ℕ) : Type 0 where
+  pub work : IsAtWork c (taken + 1) parts.procs.items parts.table parts.mails.items parts.links.items
+  pub running_is : running ≡ running_of (processes_of parts.procs.items)
+  pub links_few : links ≤ taken
+  pub links_room : most ≤ room
+  pub taken_few : taken ≤ most
+  pub most_few : most ≤ MOST_TURNS
+
+-- before the first turn
+abbrev pub opening_seen : Code → List Membership → ℕ → Seen
+opening_seen c groups most = record {
+  code = c;
+  groups = groups;
+  world = opening_of c groups;
+  waiting = replicate (length c.processes) [];
+  taken = 0;
+  most = most;
+}
+
+-- what is told of a turn that has come to this world
+abbrev pub turned : Seen → ℕ → WordWorld × Told
+turned m p = turn (word_kind m.code m.groups) (m.taken + 1) p m.world
+
+-- A turn of process number p: the world is that after the same turn of the word machine, and its report and the released lines are what
+-- that turn tells.
+pub record HasTurned (old : Seen) (p : ℕ) (new : Seen) (told : Told) : Type 0 where
+  pub machine : new ≡ record old { world = (turned old p).0; waiting = (turned old p).1.released; taken = old.taken + 1 }
+  pub told_is : told ≡ (turned old p).1

@@ -1,0 +1,117 @@
+//! Loading a program: its processes at their bodies, empty channels, conversations that nobody has entered, and room for links.
+
+ghost use Rattle.std.specs.Prelude.{◌≡◌, ℕ, ◌<◌, ◌≤◌, ◌-◌, ◌^◌, true, [], length, map, vec_len, vec_capacity, IfOk};
+ghost use Rattle.rb_base.specs.declared.limits.TheConstants.{MOST_TURNS};
+ghost use Rattle.rb_world.specs.Slots.{zero_slots};
+ghost use Rattle.rb_world.specs.World.{Process, settled};
+ghost use Rattle.rb_code.specs.Plain.{code as plain};
+ghost use Rattle.rb_code.specs.Turn.{Copy, Standing};
+ghost use Rattle.rb_code.specs.WordRun.{opening_standings};
+ghost use Rattle.rb_conv.specs.Conversations.{memberships, opening};
+ghost use Rattle.rb_proc.specs.Executable.{IsExecutable};
+ghost use Rattle.rb_proc.specs.Process.{kind_of};
+ghost use Rattle.rb_machine.specs.AtWork.{HasFewAlternates};
+ghost use Rattle.rb_machine.specs.Known.{IsLoaded};
+ghost use Rattle.rb_machine.specs.Machine.{IsTied, opening_seen, seen};
+ghost use Rattle.rb_machine.specs.Telling.{running_of};
+ghost use Rattle.rb_machine.specs.Worlds.{NoneWaits, counts_of, processes_of};
+
+use crate::parts::Parts;
+use rb_base::{Memory, Nested, Steps};
+use rb_code::{BlockCode, Code};
+use rb_conv::Table;
+use rb_mail::Mail;
+use rb_proc::{Proc, Status};
+use std::alloc::Global;
+use std::sync::ledger::Ledger;
+
+/// The parts of a machine before its first turn, and who runs.
+#[derive(Drop)]
+pub struct Loaded<L: Ledger> {
+    pub parts: Parts<L>,
+    pub running: Vec<bool>,
+}
+
+/// Loads a program with room for the links of so many turns; `Memory` if it is wanting.
+pub fn load_parts<L: Ledger>(
+    alloc: Global,
+    code: &Code,
+    nested: &Nested,
+    turns: u32,
+    steps: &mut Steps<L>,
+) -> Result<Loaded<L>, Memory>
+    requires loaded { IsLoaded (plain code.now) (memberships (opening nested.now)) (counts_of (opening nested.now)) }
+    requires turns { turns ≤ MOST_TURNS }
+    ensures seen { IfOk result (λ loaded. seen (plain code.now) loaded.parts 0 turns ≡ opening_seen (plain code.now) (memberships (opening nested.now)) turns) }
+    ensures tied { IfOk result (λ loaded. IsTied (plain code.now) loaded.parts loaded.running.items (vec_len loaded.parts.links) (vec_capacity loaded.parts.links) 0 turns) }
+{
+    if !is_numbered(code) {
+        return Err(Memory);
+    }
+    let procs = load_processes(alloc, code, steps)?;
+    let mails = load_mails(alloc, code)?;
+    let table = Table::new(alloc, nested)?;
+    let links = Vec::with_capacity(alloc, turns as usize)?;
+    let running = who_runs(alloc, &procs)?;
+    Ok(Loaded {
+        parts: Parts {
+            procs,
+            mails,
+            table,
+            links,
+        },
+        running,
+    })
+}
+
+// Whether 32 bits number the instructions and the alternates of a code. A source of 1 MiB has far fewer.
+fn is_numbered(code: &Code) -> bool
+    ensures instructions { result ≡ true → length (plain code.now).instrs < 2 ^ 32 }
+    ensures alternates { result ≡ true → HasFewAlternates (plain code.now) }
+{
+    code.instrs.len() < u32::MAX as usize && code.blocks.iter().all(has_few_alternates)
+}
+
+fn has_few_alternates(block: &BlockCode) -> bool
+{
+    block.alternates.len() < u32::MAX as usize
+}
+
+// All processes at their bodies, once they have settled.
+fn load_processes<L: Ledger>(
+    alloc: Global,
+    code: &Code,
+    steps: &mut Steps<L>,
+) -> Result<Vec<Proc<L>>, Memory>
+    requires code { IsExecutable (plain code.now) }
+    ensures processes { IfOk result (λ procs. processes_of procs.items ≡ map (λ (s : Standing). settled (kind_of (plain code.now)) s []) (opening_standings 0 (plain code.now).processes)) }
+    ensures waits { IfOk result (λ procs. NoneWaits procs.items) }
+{
+    let mut procs = Vec::with_capacity(alloc, code.processes.len())?;
+    for process in 0..code.processes.len() {
+        procs.push(Proc::new(alloc, code, process as u32, steps)?)?;
+    }
+    Ok(procs)
+}
+
+// All channels with 0 in their slots.
+fn load_mails(alloc: Global, code: &Code) -> Result<Vec<Mail>, Memory>
+    ensures { IfOk result (λ mails. mails.items ≡ zero_slots (plain code.now).channels) }
+{
+    let mut mails = Vec::with_capacity(alloc, code.channels.len())?;
+    for channel in &code.channels {
+        mails.push(Mail::new(alloc, channel.size)?)?;
+    }
+    Ok(mails)
+}
+
+// Who runs, by number.
+fn who_runs<L: Ledger>(alloc: Global, procs: &[Proc<L>]) -> Result<Vec<bool>, Memory>
+    ensures { IfOk result (λ running. running.items ≡ running_of (processes_of procs.now)) }
+{
+    let mut running = Vec::with_capacity(alloc, procs.len())?;
+    for process in procs {
+        running.push(matches!(process.status(), Status::Running))?;
+    }
+    Ok(running)
+}

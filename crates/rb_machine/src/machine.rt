@@ -1,0 +1,112 @@
+//! The machine: a program's processes, channels and conversations, turn by turn.
+
+ghost use Rattle.std.specs.Prelude.{◌≡◌, ℕ, ◌+◌, ◌<◌, ◌≤◌, [], length, replicate, vec_len, vec_capacity, IfOk};
+ghost use Rattle.rb_base.specs.declared.limits.TheConstants.{MOST_TURNS};
+ghost use Rattle.rb_code.specs.Plain.{code as plain};
+ghost use Rattle.rb_conv.specs.Conversations.{memberships, opening};
+ghost use Rattle.rb_trace.specs.Report.{told_of};
+ghost use Rattle.rb_world.specs.Turn.{told_at_opening};
+ghost use Rattle.rb_machine.specs.Known.{IsLoaded};
+ghost use Rattle.rb_machine.specs.Machine.{HasTurned, opening_seen};
+ghost use Rattle.rb_machine.specs.Worlds.{counts_of};
+
+use crate::loading::load_parts;
+use crate::moves::take_turn;
+use crate::parts::Parts;
+use crate::telling::{release_all, tell, tell_opening};
+use arrayvec::ArrayVec;
+use rb_base::{Memory, Nested, Report, Steps, TurnKind};
+use rb_code::Code;
+use std::alloc::Global;
+use std::marker::Model;
+use std::sync::ledger::Ledger;
+
+/// A program under way. Contracts see the word machine's world, in which each open level has a whole copy of its process; the machine
+/// copies nothing. Only `load` takes memory.
+#[derive(Drop)]
+pub struct Machine<'a, L: Ledger> {
+    code: &'a Code,
+    parts: Parts<L>,
+    running: Vec<bool>,
+    taken: u32,
+    most: u32,
+}
+
+impl<'a, L: Ledger> Model for Machine<'a, L> {
+    ghost use Rattle.std.specs.Prelude.{vec_len, vec_capacity};
+    ghost use Rattle.rb_code.specs.Plain.{code as plain};
+    ghost use Rattle.rb_machine.specs.Machine.{Seen, seen, IsTied};
+
+    ghost Value = { Seen };
+
+    ghost view = { λ m. seen (plain m.code.now) m.parts m.taken m.most };
+
+    ghost invariant = { λ m. IsTied (plain m.code.now) m.parts m.running.items (vec_len m.parts.links) (vec_capacity m.parts.links) m.taken m.most };
+}
+
+impl<'a, L: Ledger> Machine<'a, L> {
+    /// A program before its first turn, with room for so many turns; `Memory` if it is wanting. No other call takes memory.
+    pub fn load(
+        alloc: Global,
+        code: &'a Code,
+        nested: &Nested,
+        turns: u32,
+        steps: &mut Steps<L>,
+    ) -> Result<Self, Memory>
+        requires loaded { IsLoaded (plain code.now) (memberships (opening nested.now)) (counts_of (opening nested.now)) }
+        requires turns { turns ≤ MOST_TURNS }
+        ensures { IfOk result (λ machine. machine ≡ opening_seen (plain code.now) (memberships (opening nested.now)) turns) }
+    {
+        let loaded = load_parts(alloc, code, nested, turns, steps)?;
+        Ok(Machine {
+            code,
+            parts: loaded.parts,
+            running: loaded.running,
+            taken: 0,
+            most: turns,
+        })
+    }
+
+    /// What is told before the first turn: who is done.
+    pub fn opening(&self) -> Report
+        requires { self.now.taken ≡ 0 }
+        ensures { told_of result.kind result.events.items [] ≡ told_at_opening self.now.world }
+    {
+        let mut events = ArrayVec::new();
+        tell_opening(&self.parts.procs, &mut events);
+        Report {
+            kind: TurnKind::Took,
+            events,
+        }
+    }
+
+    /// One turn of process p, as the word machine takes it: the report is what it came to, and the lines that it released wait.
+    pub fn turn(&mut self, p: u32, steps: &mut Steps<L>) -> Report
+        requires more { self.old.taken < self.old.most }
+        requires waits { self.old.waiting ≡ replicate (length self.old.world.processes) [] }
+        ensures { HasTurned self.old p self.new (told_of result.kind result.events.items self.new.waiting) }
+    {
+        self.taken += 1;
+        turn(self.code, &mut self.parts, &mut self.running, self.taken, p, steps)
+    }
+}
+
+// One turn of a machine's parts.
+fn turn<L: Ledger>(
+    code: &Code,
+    parts: &mut Parts<L>,
+    running: &mut Vec<bool>,
+    number: u32,
+    p: u32,
+    steps: &mut Steps<L>,
+) -> Report
+{
+    let mut events = ArrayVec::new();
+    let came = take_turn(code, parts, number, p, &mut events, steps);
+    tell(&parts.procs, running, came.pass, &mut events);
+    release_all(&mut parts.procs, steps);
+    Report {
+        kind: came.kind,
+        events,
+    }
+}
