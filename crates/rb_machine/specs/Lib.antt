@@ -8,6 +8,7 @@ pub mod AtWork
 pub mod Moves
 pub mod Telling
 pub mod Loading
+pub mod Stepping
 pub mod Reading
 pub mod Machine
 pub mod Rising
