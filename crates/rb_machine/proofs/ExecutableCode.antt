@@ -1,6 +1,6 @@
 -- Sound code can be executed, if 32 bits number its instructions and its alternates.
-use Rattle.std.proofs.Common.{◌≡◌, ◌≢◌, ℕ, suc, ◌+◌, ◌-◌, ◌^◌, ◌<◌, ◌≤◌, Bool, true, false, cond, ◌&&◌, ◌||◌, nat_eq, nat_lt, List, [], ◌∷◌, length, map, slice_get, Some, refl, ap, sym, ◌∙◌, subst, arith}
-use Rattle.std.specs.List.{All, list_all}
+use Rattle.std.proofs.Common.{◌≡◌, ◌≢◌, ℕ, suc, ◌+◌, ◌-◌, ◌^◌, ◌<◌, ◌≤◌, Bool, true, false, cond, ◌||◌, nat_eq, nat_lt, List, [], ◌∷◌, length, map, slice_get, Some, ap, sym, ◌∙◌, subst, arith}
+use Rattle.std.specs.List.{list_all}
 use Rattle.std.specs.Option.{unwrap_or}
 use Rattle.std.proofs.lemmas.Bool.{ltb-true}
 use Rattle.std.proofs.lemmas.List.Elements.{recursion_from_All}
@@ -10,10 +10,10 @@ use Rattle.rb_base.specs.declared.edition.Edition.{Edition}
 use Rattle.rb_base.specs.declared.edition.Edition.TheVariants.{First, Second}
 use Rattle.rb_scope.specs.Spelled.{IsQuotable, is_quotable}
 use Rattle.rb_world.specs.Kind.{Ends, Membership}
-use Rattle.rb_world.proofs.ListFacts.{slice_get-there, some_same}
+use Rattle.rb_world.proofs.ListFacts.{slice_get-there}
 use Rattle.rb_world.proofs.Erasing.SameLinesReleased.{get_mapped}
 use Rattle.rb_code.specs.Plain.{Block, Code, Part, block}
-use Rattle.rb_code.specs.Memory.{no_part, part_of, variables_place}
+use Rattle.rb_code.specs.Memory.{no_part, part_of}
 use Rattle.rb_code.specs.StandsFor.{channels_from}
 use Rattle.rb_code.specs.WellFormed.{IsPart, IsWellFormed}
 use Rattle.rb_code.specs.declared.code.BlockCode.{BlockCode}
@@ -83,5 +83,5 @@ pub few_alternates : (blocks : List BlockCode) → list_all (λ (one : BlockCode
 few_alternates blocks h b one there =
     let image = get_mapped block blocks b one there in
     let few = all_there (λ (held : BlockCode). nat_lt (length held.alternates.items) (2 ^ 32 - 1) ≡ true) blocks b image.origin
-        (AllPass-from_list_all (λ (held : BlockCode). nat_lt (length held.alternates.items) (2 ^ 32 - 1)) blocks h) image.there in
+    (AllPass-from_list_all (λ (held : BlockCode). nat_lt (length held.alternates.items) (2 ^ 32 - 1)) blocks h) image.there in
     subst (λ (plain : Block). length plain.alternates < 2 ^ 32 - 1) image.same (ltb-true (length image.origin.alternates.items) (2 ^ 32 - 1) few)

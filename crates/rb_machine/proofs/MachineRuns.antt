@@ -1,5 +1,5 @@
 -- The turns of a machine, one after another, are the run of the word machine.
-use Rattle.std.proofs.Common.{◌≡◌, ℕ, ◌+◌, List, [], ◌∷◌, length, replicate, refl, ap, sym, ◌∙◌, subst}
+use Rattle.std.proofs.Common.{◌≡◌, ℕ, ◌+◌, List, [], ◌∷◌, length, replicate, ap, sym, ◌∙◌}
 use Rattle.rb_world.specs.Kind.{Membership}
 use Rattle.rb_world.specs.Turn.{Told, run, told_first}
 use Rattle.rb_code.specs.Plain.{Code}

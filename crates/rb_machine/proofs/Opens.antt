@@ -1,29 +1,26 @@
 -- A machine that was loaded stands for the world of the word machine before its first turn, and is at work.
-use Rattle.std.proofs.Common.{◌≡◌, ℕ, zero, suc, ◌+◌, ◌<◌, ◌≤◌, ℤ, pos, List, [], ◌∷◌, length, map, replicate, slice_get, slice_index_or, Some, refl, ap, sym, ◌∙◌, subst, arith}
-use Rattle.std.specs.List.{All, AllByRecursion}
+use Rattle.std.proofs.Common.{◌≡◌, ℕ, ◌<◌, ◌≤◌, pos, List, [], ◌∷◌, length, map, replicate, Some, refl, ap, sym, ◌∙◌, subst, arith}
+use Rattle.std.specs.List.{All}
 use Rattle.std.specs.Option.{unwrap_or}
 use Rattle.std.proofs.lemmas.List.{get_or-map, length-map, length-replicate}
 use Rattle.rb_base.specs.declared.names.Nested.{Nested}
-use Rattle.rb_base.specs.declared.limits.TheConstants.{MOST_TURNS}
 use Rattle.rb_world.specs.Kind.{Ends, Membership}
 use Rattle.rb_world.specs.Slots.{Slots, zero_slots}
-use Rattle.rb_world.specs.Turn.{opening_talks}
 use Rattle.rb_world.specs.World.{Process, Talk, settled}
 use Rattle.rb_world.proofs.ListFacts.{slice_get-there}
 use Rattle.rb_code.specs.Memory.{no_part, part_of}
 use Rattle.rb_code.specs.Plain.{Code, channel}
-use Rattle.rb_code.specs.Stands.{SettlesSoundly}
-use Rattle.rb_code.specs.Turn.{Common, Copy, Standing}
+use Rattle.rb_code.specs.Turn.{Copy, Standing}
 use Rattle.rb_code.specs.WellFormed.{JoinsTwo}
 use Rattle.rb_code.specs.WordKind.{word_kind}
-use Rattle.rb_code.specs.WordRun.{WordWorld, opening_of, opening_standing, opening_standings}
+use Rattle.rb_code.specs.WordRun.{WordWorld, opening_of, opening_standings}
 use Rattle.rb_code.specs.declared.code.ChannelCode.{ChannelCode}
 use Rattle.rb_code.proofs.StandsAgain.{opening_settles}
 use Rattle.rb_conv.specs.Conversations.{Conversation, memberships, opening, talks}
 use Rattle.rb_conv.proofs.TalksAfterCalls.{talks_are_the_worlds}
 use Rattle.rb_proc.specs.Executable.{IsExecutable}
-use Rattle.rb_proc.specs.Process.{Seen, kind_of}
-use Rattle.rb_proc.specs.Sees.{AreSized, FitSizes}
+use Rattle.rb_proc.specs.Process.{Seen}
+use Rattle.rb_proc.specs.Sees.{FitSizes}
 use Rattle.rb_machine.specs.AtWork.{HasFewAlternates, IsAtWork}
 use Rattle.rb_machine.specs.Known.{IsKnown, IsLoaded}
 use Rattle.rb_machine.specs.Loading.{AllSettle, first_seen}
@@ -69,13 +66,15 @@ module _ (c : Code) (nested : Nested) (loaded : IsLoaded c (memberships (opening
   pub settles : AllSettle c
   settles p h =
       let there = slice_get-there c.processes p h in
-      let is = ap (λ o. unwrap_or o no_part) there.1 in
-      (groups, record {
-        table = loaded.sound.table;
-        has = loaded.sound.has;
-        lists = loaded.sound.well.lists;
-        settles = opening_settles c loaded.sound.table groups loaded.sound.has p (part_of c p) (there.1 ∙ ap Some (sym is));
-      })
+      let is = ap (λ o. unwrap_or o no_part) there.1 in (
+        groups,
+        record {
+          table = loaded.sound.table;
+          has = loaded.sound.has;
+          lists = loaded.sound.well.lists;
+          settles = opening_settles c loaded.sound.table groups loaded.sound.has p (part_of c p) (there.1 ∙ ap Some (sym is));
+        },
+      )
 
   world_is : world_of firsts table (memory_of (zero_slots c.channels) []) ≡ opening_of c groups
   world_is =

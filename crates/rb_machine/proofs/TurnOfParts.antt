@@ -1,6 +1,5 @@
 -- A turn of the parts is one of the word machine, and leaves them at work.
-use Rattle.std.proofs.Common.{◌≡◌, ℕ, zero, suc, ◌+◌, ◌<◌, ◌≤◌, ◌^◌, Bool, List, [], ◌∷◌, ◌++◌, length, map, replicate, Option, refl, ap, sym, ◌∙◌, subst, arith}
-use Rattle.std.specs.List.{AllByRecursion}
+use Rattle.std.proofs.Common.{◌≡◌, ℕ, zero, suc, ◌+◌, ◌≤◌, Bool, List, [], ◌∷◌, ◌++◌, length, map, replicate, refl, ap, sym, ◌∙◌, subst, arith}
 use Rattle.std.proofs.lemmas.List.{length-map}
 use Rattle.rb_base.specs.declared.edition.Edition.{Edition}
 use Rattle.rb_base.specs.declared.edition.Edition.TheVariants.{First, Second}
@@ -9,19 +8,18 @@ use Rattle.rb_base.specs.declared.event.TurnKind.{TurnKind}
 use Rattle.rb_base.specs.declared.limits.TheConstants.{MOST_TURNS}
 use Rattle.rb_scope.specs.Sites.{most_processes}
 use Rattle.rb_world.specs.Kind.{Kind, Membership}
-use Rattle.rb_world.specs.Turn.{Moved, Told, finishes, freed, lines_freed, move, turn}
+use Rattle.rb_world.specs.Turn.{Moved, finishes, freed, lines_freed, move, turn}
 use Rattle.rb_world.specs.World.{Process, with_each}
 use Rattle.rb_code.specs.Plain.{Code}
 use Rattle.rb_code.specs.Turn.{Common, Copy, Standing}
 use Rattle.rb_code.specs.WordKind.{word_kind}
 use Rattle.rb_code.specs.WordRun.{WordWorld}
-use Rattle.rb_conv.specs.Conversations.{Conversation, memberships, talks}
+use Rattle.rb_conv.specs.Conversations.{memberships}
 use Rattle.rb_proc.specs.Process.{Seen}
 use Rattle.rb_trace.specs.Report.{told_of}
 use Rattle.rb_machine.specs.AtWork.{IsAtWork}
-use Rattle.rb_machine.specs.Cascade.{SameGroups}
 use Rattle.rb_machine.specs.Known.{IsKnown, IsLoaded}
-use Rattle.rb_machine.specs.Moves.{AreAtWork, HasMoved, IsLeft, passes_of, world}
+use Rattle.rb_machine.specs.Moves.{HasMoved, IsLeft, passes_of, world}
 use Rattle.rb_machine.specs.Telling.{ends_told, is_running, running_of}
 use Rattle.rb_machine.specs.Worlds.{NoneWaits, counts_of, kind_with, lines_of, memory_of, processes_of, world_of}
 use Rattle.rb_machine.specs.declared.came.Came.{Came}
@@ -61,6 +59,10 @@ module _ {L : Type 0} (c : Code) (t p : ℕ) (before after : Parts L) (events : 
   abbrev moves_to : Moved Standing Copy Common
   moves_to = move Words t p (world before)
 
+  -- the world once lines were released
+  abbrev world_after : List Seen → WordWorld
+  world_after released = world_of released after.table (memory_of after.mails.items after.links.items)
+
   module _ (moved : HasMoved after events came moves_to) where
     abbrev moved_so : WordWorld → TurnKind → List Event → List Event → Moved Standing Copy Common
     moved_so w kind rejections passes = record { world = w; kind = kind; rejections = rejections; passes = passes }
@@ -77,13 +79,16 @@ module _ {L : Type 0} (c : Code) (t p : ℕ) (before after : Parts L) (events : 
         → told ≡ events ++ ends_told (processes_of before.procs.items) (processes_of after.procs.items) came.pass
         → processes_of released ≡ map (freed Words) (processes_of after.procs.items)
         → lines_of released ≡ map (λ (q : Process Standing Copy). lines_freed Words q.state q.levels) (processes_of after.procs.items)
-        → (world_of released after.table (memory_of after.mails.items after.links.items), told_of came.kind told (lines_of released))
+        → (world_after released, told_of came.kind told (lines_of released))
         ≡ turn Words t p (world before)
     turns_to told released telling free lines =
         ap (λ (all : List (Process Standing Copy)). (record (world after) { processes = all }, told_of came.kind told (lines_of released))) free
         ∙ (ap (λ (all : List Event). (with_each (freed Words) (world after), told_of came.kind all (lines_of released))) telling
-        ∙ (ap (λ (all : List (List (List ℕ))). (with_each (freed Words) (world after), told_of came.kind
-        (events ++ ends_told (processes_of before.procs.items) (processes_of after.procs.items) came.pass) all)) lines
+        ∙ (ap (λ (all : List (List (List ℕ))). (
+          with_each (freed Words) (world after),
+          told_of came.kind
+              (events ++ ends_told (processes_of before.procs.items) (processes_of after.procs.items) came.pass) all,
+        )) lines
         ∙ ap (finishes Words (world before)) moved_is))
 
     -- there are still as many processes as the code has
@@ -109,17 +114,15 @@ module _ {L : Type 0} (c : Code) (t p : ℕ) (before after : Parts L) (events : 
   Knows groups counts w = (loaded : IsLoaded c groups counts) × IsKnown c groups counts loaded.sound.table (t + 1) w
 
   -- the parts are at work before the next turn
-  pub works_on : (released : List Seen) → IsAtWork c t before.procs.items before.table before.mails.items before.links.items → IsLeft c before after events came → t ≤ MOST_TURNS
-      → world_of released after.table (memory_of after.mails.items after.links.items) ≡ (turn Words t p (world before)).0
+  pub works_on : (released : List Seen) → IsAtWork c t before.procs.items before.table before.mails.items before.links.items
+      → IsLeft c before after events came → t ≤ MOST_TURNS → world_after released ≡ (turn Words t p (world before)).0
       → IsAtWork c (t + 1) released after.table after.mails.items after.links.items
   works_on released work left few is =
       let known = known_turn c (memberships before.table) (counts_of before.table) work.loaded t p (world before) work.known in
-      let kept : Knows (memberships after.table) (counts_of after.table) (world_of released after.table (memory_of after.mails.items after.links.items)) =
-          subst (λ (groups : List Membership). Knows groups (counts_of after.table) (world_of released after.table (memory_of after.mails.items after.links.items)))
-          (sym left.groups.members)
-          (subst (λ (counts : List ℕ). Knows (memberships before.table) counts (world_of released after.table (memory_of after.mails.items after.links.items)))
-          (sym left.groups.counts)
-          (subst (λ (w : WordWorld). Knows (memberships before.table) (counts_of before.table) w) (sym is) (work.loaded, known))) in
+      let kept : Knows (memberships after.table) (counts_of after.table) (world_after released) =
+      subst (λ (groups : List Membership). Knows groups (counts_of after.table) (world_after released)) (sym left.groups.members)
+      (subst (λ (counts : List ℕ). Knows (memberships before.table) counts (world_after released)) (sym left.groups.counts)
+      (subst (λ (w : WordWorld). Knows (memberships before.table) (counts_of before.table) w) (sym is) (work.loaded, known))) in
       record {
         executable = work.executable;
         few = work.few;

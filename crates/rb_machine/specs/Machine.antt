@@ -1,15 +1,13 @@
 -- The machine as contracts see it: its code and its conversations, the world of the word machine that it stands for, the released lines
 -- that wait, how many turns it has taken, and how many it may take.
-use Rattle.std.specs.Prelude.{◌≡◌, ◌≤◌, ◌<◌, ◌+◌, ℕ, Bool, List, [], ◌∷◌, length, replicate}
-use Rattle.rb_base.specs.declared.event.Event.{Event}
+use Rattle.std.specs.Prelude.{◌≡◌, ◌≤◌, ◌+◌, ℕ, Bool, List, [], ◌∷◌, length, replicate}
 use Rattle.rb_base.specs.declared.limits.TheConstants.{MOST_TURNS}
 use Rattle.rb_world.specs.Kind.{Membership}
 use Rattle.rb_world.specs.Turn.{Told, turn}
 use Rattle.rb_code.specs.Plain.{Code}
 use Rattle.rb_code.specs.WordKind.{word_kind}
 use Rattle.rb_code.specs.WordRun.{WordWorld, opening_of}
-use Rattle.rb_conv.specs.Conversations.{Conversation, memberships}
-use Rattle.rb_trace.specs.Report.{told_of}
+use Rattle.rb_conv.specs.Conversations.{memberships}
 use Rattle.rb_machine.specs.AtWork.{IsAtWork}
 use Rattle.rb_machine.specs.Moves.{world}
 use Rattle.rb_machine.specs.Telling.{running_of}

@@ -3,19 +3,15 @@
 
 pub mod came;
 pub mod cascade;
-pub mod innermost;
-pub mod links;
-pub mod parts;
-pub mod step;
-pub mod test_line;
 pub mod channels;
-pub mod cascade;
-pub mod links;
+pub mod innermost;
 pub mod laws;
-pub mod parts;
-pub mod moves;
-pub mod telling;
+pub mod links;
 pub mod loading;
 pub mod machine;
+pub mod moves;
+pub mod parts;
 pub mod reading;
+pub mod step;
 pub mod telling;
+pub mod test_line;

@@ -1,6 +1,6 @@
 //! Loading a program: its processes at their bodies, empty channels, conversations that nobody has entered, and room for links.
 
-ghost use Rattle.std.specs.Prelude.{◌≡◌, ℕ, ◌<◌, ◌≤◌, ◌-◌, ◌^◌, nat_lt, true, [], length, map, vec_len, vec_capacity, IfOk};
+ghost use Rattle.std.specs.Prelude.{◌≡◌, ◌<◌, ◌≤◌, ◌-◌, ◌^◌, nat_lt, true, length, map, vec_len, vec_capacity, IfOk};
 ghost use Rattle.std.specs.List.{All, list_all};
 ghost use Rattle.rb_base.specs.declared.limits.TheConstants.{MOST_TURNS};
 ghost use Rattle.rb_world.specs.Slots.{zero_slots};
@@ -13,11 +13,12 @@ ghost use Rattle.rb_machine.specs.AtWork.{HasFewAlternates};
 ghost use Rattle.rb_machine.specs.Known.{IsLoaded};
 ghost use Rattle.rb_machine.specs.Loading.{AllSettle, first_seen};
 ghost use Rattle.rb_machine.specs.Machine.{IsTied, opening_seen, seen};
-ghost use Rattle.rb_machine.specs.Telling.{is_running, running_of};
+ghost use Rattle.rb_machine.specs.Telling.{running_of};
 ghost use Rattle.rb_machine.specs.Worlds.{counts_of, processes_of};
 
 use crate::parts::Parts;
-use rb_base::{Memory, Nested, State, Steps};
+use crate::telling::note_running;
+use rb_base::{Memory, Nested, Steps};
 use rb_code::{BlockCode, ChannelCode, Code};
 use rb_conv::Table;
 use rb_mail::Mail;
@@ -114,15 +115,7 @@ fn load_mails(alloc: Global, channels: &[ChannelCode]) -> Result<Vec<Mail>, Memo
 fn who_runs<L: Ledger>(alloc: Global, procs: &[Proc<L>]) -> Result<Vec<bool>, Memory>
     ensures { IfOk result (λ running. running.items ≡ running_of (processes_of procs.now)) }
 {
-    let mut running = Vec::with_capacity(alloc, procs.len())?;
-    for process in procs {
-        running.push(runs(process))?;
-    }
+    let mut running = vec![in alloc; false; procs.len()]?;
+    note_running(procs, &mut running);
     Ok(running)
-}
-
-fn runs<L: Ledger>(process: &Proc<L>) -> bool
-    ensures { result ≡ is_running process.now.process.status }
-{
-    matches!(process.state(), State::Running(_))
 }

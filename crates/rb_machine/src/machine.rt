@@ -1,6 +1,6 @@
 //! The machine: a program's processes, channels and conversations, turn by turn.
 
-ghost use Rattle.std.specs.Prelude.{◌≡◌, ℕ, ◌+◌, ◌<◌, ◌≤◌, [], length, replicate, vec_len, vec_capacity, IfOk};
+ghost use Rattle.std.specs.Prelude.{◌≡◌, ◌+◌, ◌<◌, ◌≤◌, [], length, replicate, vec_len, vec_capacity, IfOk};
 ghost use Rattle.rb_base.specs.declared.limits.TheConstants.{MOST_TURNS};
 ghost use Rattle.rb_code.specs.Plain.{code as plain};
 ghost use Rattle.rb_conv.specs.Conversations.{memberships, opening};
@@ -91,7 +91,14 @@ impl<'a, L: Ledger> Machine<'a, L> {
         ensures { HasTurned self.old p self.new (told_of result.kind result.events.items self.new.waiting) }
     {
         self.taken += 1;
-        turn(self.code, &mut self.parts, &mut self.running, self.taken, p, steps)
+        turn(
+            self.code,
+            &mut self.parts,
+            &mut self.running,
+            self.taken,
+            p,
+            steps,
+        )
     }
 }
 

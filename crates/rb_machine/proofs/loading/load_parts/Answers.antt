@@ -1,5 +1,5 @@
 -- What was loaded is the machine before its first turn.
-use Rattle.std.proofs.Common.{◌≡◌, List, map, ap, sym, ◌∙◌, subst, arith}
+use Rattle.std.proofs.Common.{List, map, ap, sym, ◌∙◌, subst, arith}
 use Rattle.std.specs.List.{All}
 use Rattle.rb_world.specs.Slots.{zero_slots}
 use Rattle.rb_code.specs.Plain.{channel, code as plain}

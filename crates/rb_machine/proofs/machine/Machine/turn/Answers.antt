@@ -1,5 +1,5 @@
 -- The parts are at work before the next turn, and no line waits.
-use Rattle.std.proofs.Common.{◌≡◌, length, ap, sym, ◌∙◌}
+use Rattle.std.proofs.Common.{length, ap, ◌∙◌}
 use Rattle.rb_machine.specs.Machine.{Seen}
 use Rattle.rb_machine.proofs.TurnOfParts.{none_wait}
 use Rattle.rb_machine.proofs.machine.Machine.turn.Goals as goal
