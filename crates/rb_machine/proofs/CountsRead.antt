@@ -47,6 +47,15 @@ taken_at c standings from (suc n) (first ∷ list) ends e =
     let here : (from + 1) + n ≡ from + suc n = omega arith in
     taken_at c standings (from + 1) n list ends e ∙ ap (λ (m : ℕ). Some (taken_in c standings m ends)) here
 
+-- there are as many counts as channels
+sent_long : (c : Code) (standings : List Standing) (from : ℕ) (list : List Ends) → length (counts_sent c standings from list) ≡ length list
+sent_long c standings from [] = refl
+sent_long c standings from (ends ∷ list) = ap suc (sent_long c standings (from + 1) list)
+
+taken_long : (c : Code) (standings : List Standing) (from : ℕ) (list : List Ends) → length (counts_taken c standings from list) ≡ length list
+taken_long c standings from [] = refl
+taken_long c standings from (ends ∷ list) = ap suc (taken_long c standings (from + 1) list)
+
 -- the state of a process by its number
 state_there : (procs : List Seen) (p : ℕ) (one : Seen) → slice_get procs p ≡ Some one
     → slice_get (map (λ (q : Process Standing Copy). q.state) (processes_of procs)) p ≡ Some one.process.state
@@ -108,3 +117,14 @@ pub channel_there : (code : Held) (n : ℕ) (one : ChannelCode) → n < length (
 channel_there code n one h read =
     let within : n < length code.channels.items = omega (arith, h, length-map code.channels.items ends_of) in
     slice_get-map ends_of code.channels.items n ∙ ap (option_map ends_of) (read_there code.channels.items n one within read)
+
+-- a channel with a count is one of the code
+pub sent_within : (c : Code) (processes : List (Process Standing Copy)) (channel : ℕ) → channel < length (sent_of c processes)
+    → channel < length c.channels
+sent_within c processes channel h =
+    omega (arith, h, sent_long c (map (λ (q : Process Standing Copy). q.state) processes) 0 c.channels)
+
+pub taken_within : (c : Code) (processes : List (Process Standing Copy)) (channel : ℕ) → channel < length (taken_of c processes)
+    → channel < length c.channels
+taken_within c processes channel h =
+    omega (arith, h, taken_long c (map (λ (q : Process Standing Copy). q.state) processes) 0 c.channels)

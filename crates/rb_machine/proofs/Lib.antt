@@ -6,3 +6,4 @@ pub mod ReadAt
 pub mod CountsRead
 pub mod LinesLent
 pub mod CountedAtWork
+pub mod StaysAtWork
