@@ -1,4 +1,33 @@
 -- Lemmas of the machine.
+-- How many processes and conversations there are, that levels are few, and that who has failed has none.
+pub mod Sizes
+-- Who stands where, with which levels.
+pub mod Placed
+-- Each level tries an alternate that it has, and each conversation is at one of its blocks'.
+pub mod Alternates
+pub mod WordsKept
+pub mod Rising
+pub mod StepsRise
+pub mod RunsRise
+pub mod CountsBelow
+pub mod CountedKept
+pub mod KnownTurns
+pub mod SeenCopies
+pub mod RoomsAndMessages
+pub mod KnownNumbers
+pub mod Receivers
+pub mod CascadeEnds
+pub mod FurtherOut
+pub mod InOrder
+pub mod LevelRejected
+pub mod NextLevelOut
+pub mod OneRejection
+pub mod QuietProcesses
+pub mod RejectedLevels
+pub mod RowsKept
+pub mod SeenWorlds
+pub mod SomeCode
+pub mod WhoIsInside
 pub mod EndsTold
 pub mod Released
 pub mod Written

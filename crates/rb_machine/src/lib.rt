@@ -2,7 +2,10 @@
 #![tactic(auto)]
 
 pub mod came;
+pub mod channels;
+pub mod cascade;
 pub mod links;
+pub mod laws;
 pub mod parts;
 pub mod reading;
 pub mod telling;
