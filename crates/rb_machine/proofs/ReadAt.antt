@@ -12,10 +12,6 @@ use Rattle.rb_proc.specs.Process.{Seen}
 use Rattle.rb_machine.specs.Reading.{states_of, variables_of}
 use Rattle.rb_machine.specs.Worlds.{processes_of}
 
--- what was read of a list stands in it
-pub read_there : {A : Type 0} (xs : List A) (i : ℕ) (x : A) → i < length xs → x ≡ get_or xs i x → slice_get xs i ≡ Some x
-read_there xs i x h read = slice_get_read xs (length xs) i x refl h read
-
 -- a process by its number
 pub process_there : (procs : List Seen) (p : ℕ) (one : Seen) → slice_get procs p ≡ Some one → slice_get (processes_of procs) p ≡ Some one.process
 process_there procs p one e = slice_get-map (λ (one : Seen). one.process) procs p ∙ ap (option_map (λ (one : Seen). one.process)) e
