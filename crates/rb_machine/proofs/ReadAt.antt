@@ -1,6 +1,6 @@
 -- What is read of a process by its number.
-use Rattle.std.proofs.Common.{◌≡◌, ◌<◌, ℕ, ℤ, zero, suc, List, [], ◌∷◌, length, get_or, option_map, slice_get, unwrap_or, Option, Some, refl, ap, sym, ◌∙◌, arith}
-use Rattle.std.proofs.lemmas.Option.{slice_get-map, slice_get_read}
+use Rattle.std.proofs.Common.{◌≡◌, ◌<◌, ℕ, ℤ, zero, suc, List, [], ◌∷◌, length, option_map, slice_get, unwrap_or, Option, Some, ap, sym, ◌∙◌, arith}
+use Rattle.std.proofs.lemmas.Option.{slice_get-map}
 use Rattle.rb_base.specs.Lines.{belonging}
 use Rattle.rb_base.specs.declared.event.State.{State}
 use Rattle.rb_trace.specs.Ended.{state_of}
