@@ -7,6 +7,7 @@ pub mod Channels
 pub mod AtWork
 pub mod Moves
 pub mod Telling
+pub mod Stepping
 pub mod Reading
 pub mod Machine
 pub mod Rising
