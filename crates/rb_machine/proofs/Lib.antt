@@ -48,3 +48,4 @@ pub mod ReadAt
 pub mod CountsRead
 pub mod LinesLent
 pub mod CountedAtWork
+pub mod StaysAtWork
