@@ -18,7 +18,7 @@ cut_none (line ∷ more) n e = by (nat_le (length line + 1) n) refl
     by false q = refl
     by true q = absurd (omega (arith, e, leb-true (length line + 1) n q))
 
-held_cons : (line : List ℕ) (lines : List (List ℕ)) → held_bytes (line ∷ lines) ≡ (length line + 1) + held_bytes lines
+pub held_cons : (line : List ℕ) (lines : List (List ℕ)) → held_bytes (line ∷ lines) ≡ (length line + 1) + held_bytes lines
 held_cons line lines = sum_by-cons (λ (l : List ℕ). length l + 1) line lines
 
 pub cut-append : (lines more : List (List ℕ)) (n : ℕ) → held_bytes (cut_held n lines) ≡ n → cut_held n (lines ++ more) ≡ cut_held n lines

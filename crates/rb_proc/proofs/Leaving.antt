@@ -1,20 +1,21 @@
 -- Levels go on to other alternates, or go; and held lines are released.
 use Rattle.std.proofs.Common.{◌≡◌, ℕ, zero, suc, ◌+◌, ◌-◌, ◌<◌, ◌≤◌, ◌^◌, ℤ, pos, List, [], ◌∷◌, map, length, reverse, refl, ap, sym, ◌∙◌, subst, arith}
-use Rattle.std.specs.Prelude.{get_or, slice_get, slice_set, Some}
+use Rattle.std.specs.Prelude.{get_or, nat_lt, slice_get, slice_set, Some}
+use Rattle.std.proofs.lemmas.Bool.{le-ltb, lt-ltb}
 use Rattle.std.proofs.lemmas.List.{length-set}
 use Rattle.rb_world.specs.Reject.{next_alternate}
 use Rattle.rb_world.specs.World.{Level, change_at}
 use Rattle.rb_cell.specs.Store.{Store}
 use Rattle.rb_cache.specs.Copies.{Fits, Level as Touched, Limits, RecoveryCache, change_last, copies, joined, open_levels}
-use Rattle.rb_hold.specs.Held.{TwoLists}
-use Rattle.rb_code.specs.Memory.{held_place}
+use Rattle.rb_hold.specs.Held.{TwoLists, held_bytes}
+use Rattle.rb_code.specs.Memory.{held_place, word_at}
 use Rattle.rb_code.specs.Turn.{Copy}
-use Rattle.rb_proc.specs.Contents.{Contents, IsBelowLast}
+use Rattle.rb_proc.specs.Contents.{Contents, IsBelowLast, TellsHeld}
 use Rattle.rb_proc.specs.declared.recoverable.LevelMark.{LevelMark}
 use Rattle.rb_proc.specs.declared.recoverable.OpenCall.{OpenCall as Held}
 use Rattle.rb_proc.specs.Inside.{Fronts, IsTied, Rise, calls_at, contents, level_of, levels_of}
 use Rattle.rb_proc.proofs.Backs.{pick}
-use Rattle.rb_proc.proofs.Fronts.{held_written}
+use Rattle.rb_proc.proofs.Fronts.{held_cons, held_written}
 use Rattle.rb_proc.proofs.Tied.{copies_long, marks_copied, marks_levels, marks_open, open_long, seen_store, tied_written}
 
 none_there : {A : Type 0} (xs : List A) → length xs ≡ 0 → xs ≡ []
@@ -124,3 +125,15 @@ module _ (store : Store) (cache : RecoveryCache) (calls : List Held) (room : ℕ
         ap (λ (r : Contents). record r { held = []; waiting = before.held }) (seen_store _ _ _ _ _ _ _ tied after later 0 (pos 0) stored copies_are open_are)
         ∙ ap (λ (ts : List Touched). record before { words = slice_set store.words held_place (pos 0); touched = change_last (joined (0 ∷ [])) ts; held = []; waiting = before.held }) no_open
         ∙ ap (λ (ts : List Touched). record before { words = slice_set store.words held_place (pos 0); touched = ts; held = []; waiting = before.held }) (sym no_open)
+
+-- where lines are held the held bytes are some, and where none is the held length is 0 as it stands
+kept_zero : (words : List ℤ) → 0 < length words → word_at words held_place ≡ pos 0 → slice_set words held_place (pos 0) ≡ words
+kept_zero [] some e = absurd (omega arith)
+kept_zero (w ∷ words) some e = ap (λ (v : ℤ). v ∷ words) (sym e)
+
+pub holds_is : (n : ℕ) (lines : List (List ℕ)) (words : List ℤ) → n ≡ held_bytes lines → word_at words held_place ≡ pos (held_bytes lines)
+    → 0 < length words → TellsHeld (nat_lt 0 n) lines words
+holds_is n [] words e held some =
+    subst (λ b. TellsHeld b [] words) (sym (le-ltb 0 n (omega arith))) (refl, kept_zero words some held)
+holds_is n (line ∷ lines) words e held some =
+    subst (λ b. TellsHeld b (line ∷ lines) words) (sym (lt-ltb 0 n (omega (arith, e, held_cons line lines)))) (omega arith)

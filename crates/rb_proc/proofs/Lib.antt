@@ -12,3 +12,5 @@ pub mod Running
 pub mod Stepping
 pub mod Leaving
 pub mod Entered
+pub mod Counted
+pub mod Looked

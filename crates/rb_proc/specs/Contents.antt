@@ -1,5 +1,5 @@
 -- What contracts see of what a process can recover.
-use Rattle.std.specs.Prelude.{◌≡◌, ℕ, ◌+◌, ◌-◌, ◌<◌, ◌^◌, ℤ, pos, List, [], ◌∷◌, ◌++◌, take, slice_set, Option, Some, None}
+use Rattle.std.specs.Prelude.{◌≡◌, ℕ, ◌+◌, ◌-◌, ◌<◌, ◌^◌, ℤ, pos, Bool, MatchBool, List, [], ◌∷◌, ◌++◌, length, take, slice_set, Option, Some, None}
 use Rattle.rb_meaning.specs.Environment.{natural}
 use Rattle.rb_world.specs.Kind.{Facts}
 use Rattle.rb_world.specs.World.{Level}
@@ -36,6 +36,15 @@ line_added bytes line r = record r {
   touched = change_last (joined (held_place ∷ [])) r.touched;
   held = r.held ++ line ∷ [];
 }
+
+-- lines are held; or none is, and the held length is 0 as it stands
+abbrev pub TellsHeld : Bool → List (List ℕ) → List ℤ → Type 0
+TellsHeld some lines words = MatchBool some (0 < length lines) ((lines ≡ []) × (slice_set words held_place (pos 0) ≡ words))
+
+-- where no level is open, the held lines are released, which is what waits then; else nothing is
+abbrev pub released_by : List (Level Copy) → Contents → Contents
+released_by [] r = record r { words = slice_set r.words held_place (pos 0); held = []; waiting = r.held }
+released_by (level ∷ levels) r = record r { waiting = [] }
 
 -- the copy of a level is put back: the levels inside it go, nothing is touched in it, and the lines that were held at its entry stay
 abbrev pub back_at : ℕ → Contents → Level Copy → Contents

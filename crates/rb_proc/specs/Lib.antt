@@ -15,3 +15,5 @@ pub mod Given
 pub mod Process
 pub mod Entries
 pub mod ProcessInside
+pub mod Views
+pub mod Marks

@@ -4,7 +4,7 @@ ghost use Rattle.std.specs.Prelude.{◌≡◌, ℕ, ◌+◌, ◌-◌, ◌<◌, �
 ghost use Rattle.rb_meaning.specs.Environment.{natural as count};
 ghost use Rattle.rb_world.specs.Slots.{Slots, put_slot};
 ghost use Rattle.rb_code.specs.Plain.{Code as Plain, code as plain};
-ghost use Rattle.rb_code.specs.Memory.{Counting as Counts, cursor_place, held_place, part_of, place_among, word_at};
+ghost use Rattle.rb_code.specs.Memory.{Counting as Counts, cursor_place, held_place, part_of, place_among, variables_place, word_at};
 ghost use Rattle.rb_code.specs.Act.{Going, Sight as Seen, if_there, joined_pieces, on_top, printed, put, risen};
 ghost use Rattle.rb_proc.specs.Outcomes.{Keeps, mem, outcome_of};
 ghost use Rattle.rb_proc.specs.Pieces.{AreTexts, piece_text};
@@ -26,6 +26,15 @@ pub fn cursor_place(code: &Code, process: u32, channel: u32) -> usize
     ensures some { 0 < result }
 {
     1 + place_among(&code.processes[process as usize].channels, channel)
+}
+
+/// Where the words of the variables of a process begin.
+pub fn first_variable(code: &Code, process: u32) -> usize
+    requires { process < length code.now.processes.items }
+    ensures place { result ≡ variables_place (part_of (plain code.now) process) }
+    ensures small { result ≤ 2 ^ 63 }
+{
+    1 + code.processes[process as usize].channels.len()
 }
 
 // A channel's place in a list of channels, or its length.

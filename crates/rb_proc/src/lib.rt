@@ -8,6 +8,7 @@ pub mod channels;
 pub mod counters;
 pub mod instruction;
 pub mod line;
+mod marks;
 pub mod next;
 pub mod operands;
 pub mod process;
@@ -18,5 +19,5 @@ pub mod sight;
 pub mod wants;
 pub mod words;
 
-pub use answers::{Outcome, Status, Wanted};
+pub use answers::{LevelView, Outcome, Status, Wanted};
 pub use process::Proc;

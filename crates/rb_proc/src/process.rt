@@ -1,30 +1,35 @@
 //! One process: what it wants, its steps, its levels and its lines.
 
-ghost use Rattle.std.specs.Prelude.{◌≡◌, ℕ, ◌+◌, ◌<◌, ◌≤◌, ◌^◌, false, List, [], ◌∷◌, ◌++◌, length, slice_get, IfOk};
+ghost use Rattle.std.specs.Prelude.{◌≡◌, ℕ, ◌+◌, ◌-◌, ◌<◌, ◌≤◌, ◌^◌, false, List, [], ◌∷◌, ◌++◌, length, position, drop, slice_get, Some, IfOk, option_copied};
+ghost use Rattle.std.specs.Borrow.{sem};
+ghost use Rattle.std.specs.Io.BufRead.{Rests};
 ghost use Rattle.rb_world.specs.Kind.{Membership};
 ghost use Rattle.rb_world.specs.Reject.{fallen, put_back as put_back_at, raised};
-ghost use Rattle.rb_world.specs.Turn.{freed, stands_now};
-ghost use Rattle.rb_world.specs.World.{Running, settled, without_last};
+ghost use Rattle.rb_world.specs.Standing.{Each};
+ghost use Rattle.rb_world.specs.Turn.{freed, is_over, lines_freed, stands_at, stands_now, turn_used};
+ghost use Rattle.rb_world.specs.World.{Running, copy_of, is_of, settled, without_last};
 ghost use Rattle.rb_cache.specs.Copies.{accepted};
 ghost use Rattle.rb_code.specs.Plain.{Code as Plain, code as plain};
 ghost use Rattle.rb_code.specs.Stands.{Serves, SettlesSoundly, StandsSoundly};
-ghost use Rattle.rb_code.specs.Turn.{want as wanted_in};
+ghost use Rattle.rb_code.specs.Turn.{prior_words, want as wanted_in};
 ghost use Rattle.rb_trace.specs.Ended.{state_of};
-ghost use Rattle.rb_code.specs.Memory.{part_of};
+ghost use Rattle.rb_code.specs.Memory.{cursor_place, part_of};
 ghost use Rattle.rb_code.specs.WordKind.{cursor_in};
-ghost use Rattle.rb_code.specs.WordRun.{opening_standing};
+ghost use Rattle.rb_code.specs.WordRun.{opening_standing, variable_words};
 ghost use Rattle.rb_proc.specs.Contents.{IsBelowLast};
 ghost use Rattle.rb_proc.specs.Entries.{EntersAs};
 ghost use Rattle.rb_proc.specs.Executable.{IsExecutable};
 ghost use Rattle.rb_proc.specs.Outcomes.{stop_at};
 ghost use Rattle.rb_proc.specs.Runs.{CursorsRise};
 ghost use Rattle.rb_proc.specs.Sees.{AreSized};
+ghost use Rattle.rb_proc.specs.Views.{CursorThen, IsViewOf};
 ghost use Rattle.rb_proc.specs.Process.{Seen, StepsTo, alternate_for, kind_of, message_for, step_of, wanted_of};
 
-use crate::answers::{Outcome, Status, Wanted};
+use crate::answers::{LevelView, Outcome, Status, Wanted};
 use crate::bench::Bench;
+use crate::channels::{cursor_place as place_of_cursor, first_variable};
 use crate::next::Ended;
-use crate::recoverable::Recoverable;
+use crate::recoverable::{Recoverable, natural};
 use crate::run::run;
 use crate::sight::Sight;
 use crate::wants::{alternate_of, cursor_of, entry_at, message_of, status_here, want_at};
@@ -58,6 +63,8 @@ impl<L: Ledger> Model for Proc<L> {
 }
 
 impl<L: Ledger> Proc<L> {
+    ghost use Rattle.rb_proc.specs.contracts.process.Proc.{the_row};
+
     /// Process number p of a code, at its body, once it has settled; `Memory` if it is wanting. No other call takes memory.
     pub fn new(
         alloc: Global,
@@ -116,6 +123,28 @@ impl<L: Ledger> Proc<L> {
         self.memory.levels()
     }
 
+    /// An open level; levels count from 0, the outermost.
+    pub fn level(&self, k: u32) -> LevelView
+        requires { k < length self.now.process.levels }
+        ensures { IsViewOf (slice_get self.now.process.levels k) result }
+    {
+        self.memory.level(k)
+    }
+
+    /// The first level of a conversation, from the outside in.
+    pub fn place_in(&self, conversation: u32) -> Option<u32>
+        ensures { result ≡ position (is_of conversation) self.now.process.levels }
+    {
+        self.memory.place_in(conversation)
+    }
+
+    /// Whether it stands at the test line of a conversation.
+    pub fn stands_at(&self, conversation: u32) -> bool
+        ensures { result ≡ stands_at conversation self.now.process }
+    {
+        self.at_line && self.memory.is_last_of(conversation)
+    }
+
     /// The last turn that was kept.
     pub fn last_kept(&self) -> u32
         ensures { result ≡ self.now.process.state.last_kept }
@@ -146,7 +175,8 @@ impl<L: Ledger> Proc<L> {
         requires serves { Serves (wanted_in (plain code.now) self.old.process.state) (alternate_for (wanted_in (plain code.now) self.old.process.state) self.old.process.levels) (message_for (plain code.now) self.old.process.state mails.old there (wanted_in (plain code.now) self.old.process.state)) self.old.process.levels }
         requires sized { AreSized (plain code.now) mails.old }
         requires cursors { CursorsRise (plain code.now) self.old.process.state.process self.old.process.state.words }
-        ensures { StepsTo (plain code.now) self.old.process mails.old (step_of (plain code.now) self.old.process mails.old there) result self.new.process mails.new }
+        ensures came { StepsTo (plain code.now) self.old.process mails.old (step_of (plain code.now) self.old.process mails.old there) result self.new.process mails.new }
+        ensures sized { AreSized (plain code.now) mails.new }
     {
         let wanted = want_at(code, self.at);
         let message = message_of(
@@ -225,6 +255,15 @@ impl<L: Ledger> Proc<L> {
         self.status = status_here(code, at);
     }
 
+    /// Each open level has used one turn more; tells the first one, from the outside in, that is over its bound then.
+    pub fn count_turn(&mut self) -> Option<u32>
+        requires few { Each (λ _ level. level.used < 2 ^ 32 - 1) self.old.process.levels }
+        ensures turn { self.new ≡ record self.old { process = turn_used self.old.process } }
+        ensures over { result ≡ position is_over self.new.process.levels }
+    {
+        self.memory.count_turn()
+    }
+
     /// A turn was kept.
     pub fn keep(&mut self, turn: u32)
         ensures { self.new ≡ record self.old { process = record self.old.process { state = record self.old.process.state { last_kept = turn } } } }
@@ -286,14 +325,22 @@ impl<L: Ledger> Proc<L> {
         self.status = Status::Failed(cause);
     }
 
-    /// Its held lines are released, where no level is open.
-    pub fn release_now(&mut self, steps: &mut Steps<L>)
+    /// Its held lines are released if no level is open. Where none is held nothing is touched.
+    pub fn release_if_free(&mut self, steps: &mut Steps<L>)
         requires none_waits { self.old.waiting ≡ [] }
-        requires none_open { self.old.process.levels ≡ [] }
-        ensures freed { (c : Plain) → self.new ≡ record { process = freed (kind_of c) self.old.process; waiting = self.old.process.state.held } }
+        ensures freed { (c : Plain) → self.new ≡ record { process = freed (kind_of c) self.old.process; waiting = lines_freed (kind_of c) self.old.process.state self.old.process.levels } }
         ensures ticks { steps.new ≤ steps.old + 2 }
+        ensures quiet { self.old.process.state.held ≡ [] → steps.new ≡ steps.old }
     {
-        self.memory.release(steps);
+        self.memory.release_if_free(steps);
+    }
+
+    /// Lends the first released line that waits, which no longer does then; `None` exactly where none waits.
+    pub fn released(&mut self) -> Option<&[u8]>
+        ensures lent { option_copied result ≡ slice_get self.old.waiting 0 }
+        ensures* after { sem 𝓛 (Rests (the_row L.row L.Ledger) self.entry (λ new. new ≡ record self.old { waiting = drop 1 self.old.waiting })) }
+    {
+        self.memory.released()
     }
 
     /// The cursor of a channel.
@@ -303,6 +350,29 @@ impl<L: Ledger> Proc<L> {
         ensures ticks { steps.new ≤ steps.old + 1 }
     {
         cursor_of(code, self.process, channel, &self.memory, steps)
+    }
+
+    /// The cursor of a channel as it was at the entry of an open level; levels count from 0, the outermost.
+    pub fn cursor_then(&self, code: &Code, channel: u32, level: u32, steps: &mut Steps<L>) -> u64
+        requires process { self.now.process.state.process < length code.now.processes.items }
+        requires level { level < length self.now.process.levels }
+        requires place { cursor_place (part_of (plain code.now) self.now.process.state.process) channel < length (prior_words (copy_of (slice_get self.now.process.levels level))) }
+        ensures cursor { CursorThen (plain code.now) self.now.process.state.process channel (slice_get self.now.process.levels level) result }
+        ensures ticks { steps.new ≤ steps.old + 1 }
+    {
+        let place = place_of_cursor(code, self.process, channel);
+        natural(self.memory.at_entry(level, place, steps))
+    }
+
+    /// A word of its variables, by its place among them.
+    pub fn word(&self, code: &Code, at: u32, steps: &mut Steps<L>) -> i64
+        requires process { self.now.process.state.process < length code.now.processes.items }
+        requires at { at < length (variable_words (plain code.now) self.now.process.state) }
+        ensures word { slice_get (variable_words (plain code.now) self.now.process.state) at ≡ Some result }
+        ensures ticks { steps.new ≤ steps.old + 1 }
+    {
+        let first = first_variable(code, self.process);
+        self.memory.load(first + at as usize, steps)
     }
 }
 

@@ -1,9 +1,12 @@
 //! What a process can recover: its words with the recovery cache, its open calls and its held lines.
 
-ghost use Rattle.std.specs.Prelude.{◌≡◌, ℕ, ◌+◌, ◌-◌, ◌*◌, ◌<◌, ◌≤◌, ◌^◌, ℤ, pos, Bool, nat_le, nat_lt, not, cond, List, [], ◌∷◌, ◌++◌, length, take, replicate, slice_get, slice_set, Some, IfOk};
-ghost use Rattle.rb_world.specs.Turn.{tried_at};
+ghost use Rattle.std.specs.Prelude.{◌≡◌, ℕ, ◌+◌, ◌-◌, ◌*◌, ◌<◌, ◌≤◌, ◌^◌, ℤ, pos, Bool, nat_le, nat_lt, not, cond, List, [], ◌∷◌, ◌++◌, length, map, position, take, drop, replicate, slice_get, slice_set, Some, IfOk, option_copied};
+ghost use Rattle.std.specs.Borrow.{sem};
+ghost use Rattle.std.specs.Io.BufRead.{Rests};
+ghost use Rattle.rb_world.specs.Standing.{Each};
+ghost use Rattle.rb_world.specs.Turn.{is_last_of, is_over, one_used, tried_at};
 ghost use Rattle.rb_world.specs.Reject.{next_alternate};
-ghost use Rattle.rb_world.specs.World.{change_at, Level, last_of, without_last, copy_of};
+ghost use Rattle.rb_world.specs.World.{change_at, Level, is_of, last_of, without_last, copy_of};
 ghost use Rattle.rb_cache.specs.Copies.{Level as Touched, Fits, accepted, change_last, copies, copy_at, entered, joined, open_levels};
 ghost use Rattle.rb_code.specs.Plain.{Part};
 ghost use Rattle.rb_code.specs.Memory.{OpenCall as Opened, base_of, body_place, held_place, word_at};
@@ -13,10 +16,13 @@ ghost use Rattle.rb_code.specs.Stays.{entry_calls};
 ghost use Rattle.rb_meaning.specs.Environment.{natural};
 ghost use Rattle.rb_meaning.specs.Step.{most_held};
 ghost use Rattle.rb_hold.specs.Held.{IsLine};
-ghost use Rattle.rb_proc.specs.Contents.{Contents, IsBelowLast, IsMarkOf, PutBack, facts_of, line_added};
+ghost use Rattle.rb_proc.specs.Contents.{Contents, IsBelowLast, IsMarkOf, PutBack, TellsHeld, facts_of, line_added, released_by};
 ghost use Rattle.rb_proc.specs.Inside.{told as told_by};
 ghost use Rattle.rb_proc.specs.Places.{most_places};
+ghost use Rattle.rb_proc.specs.Views.{IsViewOf};
 
+use crate::answers::LevelView;
+use crate::marks::{count_turn, is_last_in, next_mark, place_in, view_of};
 use crate::room::put;
 use rb_base::{Memory, Steps};
 use rb_cache::Cache;
@@ -83,6 +89,8 @@ impl<L: Ledger> Model for Recoverable<L> {
 }
 
 impl<L: Ledger> Recoverable<L> {
+    ghost use Rattle.rb_proc.specs.contracts.recoverable.Recoverable.{the_row};
+
     /// So many words, each 0, with no call and no level.
     pub fn new(alloc: Global, words: u32, steps: &mut Steps<L>) -> Result<Self, Memory>
         requires some { 0 < words }
@@ -148,6 +156,15 @@ impl<L: Ledger> Recoverable<L> {
         self.cache.prior(&self.cells, at as u32, steps)
     }
 
+    /// The word at a place in the copy of an open level; levels count from 0, the outermost.
+    pub fn at_entry(&self, level: u32, at: usize, steps: &mut Steps<L>) -> i64
+        requires { at < length (prior_words (copy_of (slice_get self.now.levels level))) }
+        ensures word { result ≡ word_at (prior_words (copy_of (slice_get self.now.levels level))) at }
+        ensures ticks { steps.new ≤ steps.old + 1 }
+    {
+        self.cache.at_entry(&self.cells, level, at as u32, steps)
+    }
+
     /// Changes a word that is not the held length. No copy changes.
     pub fn store(&mut self, at: usize, value: i64, steps: &mut Steps<L>)
         requires some { 0 < at }
@@ -184,8 +201,8 @@ impl<L: Ledger> Recoverable<L> {
         self.cells.drop_to(self.cells.height() - n);
     }
 
-    /// Releases all held lines, where no level is open.
-    pub fn release(&mut self, steps: &mut Steps<L>)
+    // Releases all held lines, where no level is open.
+    fn release(&mut self, steps: &mut Steps<L>)
         requires none_waits { self.old.waiting ≡ [] }
         requires none_open { length self.old.levels ≡ 0 }
         ensures lines { self.new ≡ record self.old { words = slice_set self.old.words held_place (pos 0); held = []; waiting = self.old.held } }
@@ -193,6 +210,64 @@ impl<L: Ledger> Recoverable<L> {
     {
         self.hold.release();
         self.cache.write(&mut self.cells, 0, 0, steps);
+    }
+
+    // Whether lines are held. Where none is, the held length is 0 as it stands.
+    fn holds(&self) -> bool
+        ensures { TellsHeld result self.now.held self.now.words }
+    {
+        self.hold.length() > 0
+    }
+
+    /// Releases all held lines if no level is open. Where none is held nothing is touched.
+    pub fn release_if_free(&mut self, steps: &mut Steps<L>)
+        requires none_waits { self.old.waiting ≡ [] }
+        ensures lines { self.new ≡ released_by self.old.levels self.old }
+        ensures ticks { steps.new ≤ steps.old + 2 }
+        ensures quiet { self.old.held ≡ [] → steps.new ≡ steps.old }
+    {
+        if self.levels() == 0 && self.holds() {
+            self.release(steps);
+        }
+    }
+
+    /// Lends the first line that waits, which no longer does then; `None` exactly where none waits.
+    pub fn released(&mut self) -> Option<&[u8]>
+        ensures lent { option_copied result ≡ slice_get self.old.waiting 0 }
+        ensures* after { sem 𝓛 (Rests (the_row L.row L.Ledger) self.entry (λ new. new ≡ record self.old { waiting = drop 1 self.old.waiting })) }
+    {
+        self.hold.next_line()
+    }
+
+    /// An open level; levels count from 0, the outermost.
+    pub fn level(&self, k: u32) -> LevelView
+        requires { k < length self.now.levels }
+        ensures { IsViewOf (slice_get self.now.levels k) result }
+    {
+        view_of(self.marks[k as usize])
+    }
+
+    /// The first level of a conversation, from the outside in.
+    pub fn place_in(&self, conversation: u32) -> Option<u32>
+        ensures { result ≡ position (is_of conversation) self.now.levels }
+    {
+        place_in(&self.marks, conversation)
+    }
+
+    /// Whether the innermost level is one of a conversation.
+    pub fn is_last_of(&self, conversation: u32) -> bool
+        ensures { result ≡ is_last_of conversation (last_of self.now.levels) }
+    {
+        is_last_in(&self.marks, conversation)
+    }
+
+    /// Each level has used one turn more; tells the first one, from the outside in, that is over its bound then.
+    pub fn count_turn(&mut self) -> Option<u32>
+        requires { Each (λ _ level. level.used < 2 ^ 32 - 1) self.old.levels }
+        ensures turn { self.new ≡ record self.old { levels = map one_used self.old.levels } }
+        ensures over { result ≡ position is_over self.new.levels }
+    {
+        count_turn(&mut self.marks)
     }
 
     /// A level goes on to its next alternate, with no turns used.
@@ -310,18 +385,6 @@ impl<L: Ledger> Recoverable<L> {
         let _all = self.hold.length();
         self.hold.cut_to(held as u32);
         mark
-    }
-}
-
-// The mark of a level that goes on to its next alternate.
-fn next_mark(mark: LevelMark) -> LevelMark
-    requires { mark.alternate < 2 ^ 32 - 1 }
-    ensures { result ≡ record mark { alternate = mark.alternate + 1; used = 0 } }
-{
-    LevelMark {
-        alternate: mark.alternate + 1,
-        used: 0,
-        ..mark
     }
 }
 

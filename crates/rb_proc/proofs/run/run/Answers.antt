@@ -198,3 +198,15 @@ returns-in-Trap-clause-kept g c =
       c.in-Trap.ensures.kept.0 ∙ same_contents c.args.memory.now c.turn.memory (pieces_in code.texts c.args.bench.now) (pieces_in code.texts c.turn.bench) c.args.bench.now.counters c.turn.bench.counters c.args.mails.now c.turn.mails none c.turn.invariant.levels c.turn.invariant.waiting,
       c.in-Trap.ensures.kept.1 ∙ none.slots,
     )
+
+pub returns-in-Stop-clause-sized : goal.returns-in-Stop-clause-sized
+returns-in-Stop-clause-sized g c =
+    subst (λ (ns : List ℕ). FitSizes ns (plain c.args.code.now).channels) (sym c.in-Stop.ensures.sized) c.turn.invariant.sized
+
+pub returns-in-Accepts-clause-sized : goal.returns-in-Accepts-clause-sized
+returns-in-Accepts-clause-sized g c =
+    subst (λ (ns : List ℕ). FitSizes ns (plain c.args.code.now).channels) (sym c.in-Accepts.ensures.sized) c.turn.invariant.sized
+
+pub returns-in-Trap-clause-sized : goal.returns-in-Trap-clause-sized
+returns-in-Trap-clause-sized g c =
+    subst (λ (ns : List ℕ). FitSizes ns (plain c.args.code.now).channels) (sym c.in-Trap.ensures.sized) c.turn.invariant.sized

@@ -40,8 +40,8 @@ run-requires-clause-stays g c =
           stands.0 stands.1 serves,
     )
 
-pub returns-in-Stop : goal.returns-in-Stop
-returns-in-Stop g c =
+pub returns-in-Stop-clause-came : goal.returns-in-Stop-clause-came
+returns-in-Stop-clause-came g c =
     let code = plain c.args.code.now in
     let i = c.self.inside in
     let e = c.in-Stop.ensures.ended ∙ executes code i.memory i.process i.at i.last_kept i.at_line i.status c.args.mails.now c.args.there c.clear.new.self c.new-sight.result
@@ -52,8 +52,8 @@ returns-in-Stop g c =
     (ap (λ (ls : List (Level Copy)). record { state = standing c.run.new.memory i.process c.in-Stop.at i.last_kept; levels = ls; at_line = false; status = status_of c.status_here-self-inside.result }) c.in-Stop.ensures.kept.0
     ∙ ap (λ (st : Stands). record { state = standing c.run.new.memory i.process c.in-Stop.at i.last_kept; levels = i.memory.levels; at_line = false; status = st }) c.status_here-self-inside.ensures) refl)
 
-pub returns-in-Accepts : goal.returns-in-Accepts
-returns-in-Accepts g c =
+pub returns-in-Accepts-clause-came : goal.returns-in-Accepts-clause-came
+returns-in-Accepts-clause-came g c =
     let code = plain c.args.code.now in
     let i = c.self.inside in
     let e = c.in-Accepts.ensures.ended ∙ executes code i.memory i.process i.at i.last_kept i.at_line i.status c.args.mails.now c.args.there c.clear.new.self c.new-sight.result
@@ -63,8 +63,8 @@ returns-in-Accepts g c =
     (accept_comes code ((seen i.memory i.process i.at i.last_kept i.at_line i.status).process) c.args.mails.now c.args.there c.in-Accepts.at (whole code.texts c.run.new.bench c.run.new.memory c.run.new.mails) _ c.run.new.mails e
     (ap (λ (ls : List (Level Copy)). record { state = standing c.run.new.memory i.process c.in-Accepts.at i.last_kept; levels = ls; at_line = i.at_line; status = status_of i.status }) (ap (λ (r : Contents). r.levels) c.in-Accepts.ensures.kept.0)) c.in-Accepts.ensures.kept.1)
 
-pub returns-in-Trap : goal.returns-in-Trap
-returns-in-Trap g c =
+pub returns-in-Trap-clause-came : goal.returns-in-Trap-clause-came
+returns-in-Trap-clause-came g c =
     let code = plain c.args.code.now in
     let i = c.self.inside in
     let e = c.in-Trap.ensures.ended ∙ executes code i.memory i.process i.at i.last_kept i.at_line i.status c.args.mails.now c.args.there c.clear.new.self c.new-sight.result
