@@ -5,3 +5,7 @@ pub mod Sizes
 pub mod Placed
 -- Each level tries an alternate that it has, and each conversation is at one of its blocks'.
 pub mod Alternates
+pub mod SeenCopies
+pub mod RoomsAndMessages
+pub mod KnownNumbers
+pub mod Receivers

@@ -2,4 +2,5 @@
 #![tactic(auto)]
 
 pub mod came;
+pub mod channels;
 pub mod links;
