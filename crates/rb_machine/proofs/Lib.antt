@@ -9,3 +9,6 @@ pub mod SeenCopies
 pub mod RoomsAndMessages
 pub mod KnownNumbers
 pub mod Receivers
+-- Where the entry of a recovery block leads, and what a counted turn leaves.
+pub mod Entering
+pub mod CountedTurns

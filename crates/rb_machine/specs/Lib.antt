@@ -7,3 +7,5 @@ pub mod AtWork
 pub mod Moves
 pub mod Telling
 pub mod Machine
+pub mod Entries
+pub mod Counted

@@ -4,3 +4,6 @@
 pub mod came;
 pub mod channels;
 pub mod links;
+pub mod entry;
+pub mod moves;
+pub mod undone;
