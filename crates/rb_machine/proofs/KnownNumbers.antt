@@ -16,7 +16,7 @@ use Rattle.rb_world.specs.Slots.{Slots}
 use Rattle.rb_conv.specs.Conversations.{Conversation, memberships}
 use Rattle.rb_proc.specs.Process.{Seen}
 use Rattle.rb_machine.specs.AtWork.{IsAtWork}
-use Rattle.rb_machine.specs.Channels.{AreNumbered, HasCursors}
+use Rattle.rb_machine.specs.Channels.{AreNumbered, HoldsCursors}
 use Rattle.rb_machine.specs.Known.{IsKnown, IsPlaced}
 use Rattle.rb_machine.specs.Worlds.{counts_of, memory_of, world_of}
 use Rattle.rb_machine.specs.declared.links.Link.{Link}
@@ -31,7 +31,7 @@ module _ (c : Code) (groups : List Membership) (sound : IsSound c groups) where
 
   -- the words of the main body begin within a copy
   copy_high : (q : Process Standing Copy) (i : ℕ) (level : Level Copy) → ProcessStands c sound.table q → slice_get q.levels i ≡ Some level
-      → HasCursors c q.state.process level
+      → HoldsCursors c q.state.process level
   copy_high q i level stands there =
       let back = copy_stands c groups sound.table sound.has sound.well.lists q i level there stands in
       let around = inside_out (take (i + 1) q.levels) in
@@ -46,7 +46,7 @@ module _ (c : Code) (groups : List Membership) (sound : IsSound c groups) where
         as_many = sym (length-map procs (λ (one : Seen). one.process)) ∙ known.processes;
         numbers = λ p one there. (at p one there).number;
         lists = sound.well.lists;
-        copies = λ p one there i level found. subst (λ n. HasCursors c n level) (at p one there).number
+        copies = λ p one there i level found. subst (λ n. HoldsCursors c n level) (at p one there).number
             (copy_high one.process i level (at p one there).stands found);
       }
 

@@ -5,6 +5,13 @@ pub mod Sizes
 pub mod Placed
 -- Each level tries an alternate that it has, and each conversation is at one of its blocks'.
 pub mod Alternates
+pub mod WordsKept
+pub mod Rising
+pub mod StepsRise
+pub mod RunsRise
+pub mod CountsBelow
+pub mod CountedKept
+pub mod KnownTurns
 pub mod SeenCopies
 pub mod RoomsAndMessages
 pub mod KnownNumbers
@@ -12,3 +19,22 @@ pub mod Receivers
 -- Where the entry of a recovery block leads, and what a counted turn leaves.
 pub mod Entering
 pub mod CountedTurns
+pub mod CascadeEnds
+pub mod FurtherOut
+pub mod InOrder
+pub mod LevelRejected
+pub mod NextLevelOut
+pub mod OneRejection
+pub mod QuietProcesses
+pub mod RejectedLevels
+pub mod RowsKept
+pub mod SeenWorlds
+pub mod SomeCode
+pub mod WhoIsInside
+pub mod EndsTold
+pub mod Released
+pub mod Written
+pub mod ReadAt
+pub mod CountsRead
+pub mod LinesLent
+pub mod CountedAtWork

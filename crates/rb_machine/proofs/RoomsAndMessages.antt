@@ -1,7 +1,8 @@
 -- Rooms and messages of a world, told by the cursors of the two ends of a channel.
 use Rattle.std.proofs.Common.{◌≡◌, ℕ, ◌+◌, ◌<◌, nat_lt, Bool, cond, ℤ, List, [], ◌∷◌, length, map, option_map, slice_get, get_or, unwrap_or, Option, Some, None, refl, ap, sym, subst, ◌∙◌, eq-eqb, arith}
 use Rattle.std.proofs.lemmas.Option.{slice_get-map, slice_get_read, slice_get_within}
-use Rattle.rb_world.specs.Channels.{has_room, has_room_for, has_room_on, message_between, message_on, message_there, room_from, seen_copy, seen_count, seen_message}
+use Rattle.rb_world.specs.Channels.{has_room, has_room_for, has_room_on, room_from}
+use Rattle.rb_world.specs.Channels.{message_between, message_on, message_there, seen_copy, seen_count, seen_message}
 use Rattle.rb_world.specs.Kind.{Ends, Membership, ReceivesOn, MayReceiveOn}
 use Rattle.rb_world.specs.Slots.{Slots, slot_of}
 use Rattle.rb_world.specs.Standing.{Each}
@@ -18,7 +19,7 @@ use Rattle.rb_code.specs.Turn.{Common, Copy, Standing}
 use Rattle.rb_code.specs.WordKind.{cursor_in, sent_by, taken_by, word_kind}
 use Rattle.rb_code.proofs.Channels.{receives, sends}
 use Rattle.rb_proc.specs.Process.{Seen, message_for}
-use Rattle.rb_machine.specs.Channels.{AreNumbered, HasCursor, HasCursors, cursor_at, message_given, outermost_copy, words_at, words_then}
+use Rattle.rb_machine.specs.Channels.{AreNumbered, HasCursor, HoldsCursors, cursor_at, message_given, outermost_copy, words_at, words_then}
 use Rattle.rb_machine.specs.Worlds.{processes_of}
 
 -- equal numbers are compared alike
@@ -35,7 +36,8 @@ channel_lent code lists k one same h read =
     ap (λ l. slice_get (map channel_of l) k) (sym same) ∙ (slice_get-map channel_of lists k ∙ ap (option_map channel_of) (lent lists k one h read))
 
 -- a process by its number, as the world has it
-process_at : (procs : List Seen) (p : ℕ) (o : Option Seen) → slice_get procs p ≡ o → slice_get (processes_of procs) p ≡ option_map (λ (one : Seen). one.process) o
+process_at : (procs : List Seen) (p : ℕ) (o : Option Seen) → slice_get procs p ≡ o
+    → slice_get (processes_of procs) p ≡ option_map (λ (one : Seen). one.process) o
 process_at procs p o e = slice_get-map (λ (one : Seen). one.process) procs p ∙ ap (option_map (λ (one : Seen). one.process)) e
 
 words_are : (procs : List Seen) (p : ℕ) (one : Seen) → slice_get procs p ≡ Some one → words_at procs p ≡ one.process.state.words
@@ -55,7 +57,7 @@ module _ (c : Code) (procs : List Seen) (numbered : AreNumbered c procs) where
       record {
         exists = omega (arith, number, slice_get_within procs p one there, numbered.as_many);
         among = subst (λ n. IsAmong channel (part_of c n).channels) (sym number) among;
-        copies = subst (λ n. Each (λ _ level. HasCursors c n level) one.process.levels) (sym number) (numbered.copies p one there);
+        copies = subst (λ n. Each (λ _ level. HoldsCursors c n level) one.process.levels) (sym number) (numbered.copies p one there);
       }
 
   pub sender_has_cursor : (channel : ℕ) (ends : Ends) (one : Seen) → slice_get c.channels channel ≡ Some ends
@@ -73,7 +75,7 @@ module _ (c : Code) (procs : List Seen) (numbered : AreNumbered c procs) where
   pub is_of_code : (p : ℕ) (one : Seen) → slice_get procs p ≡ Some one → one.process.state.process < length c.processes
   is_of_code p one there = omega (arith, numbered.numbers p one there, slice_get_within procs p one there, numbered.as_many)
 
-  -- its cursor, by its number
+  -- the cursor of a process, by its number
   own_cursor : (p channel : ℕ) (one : Seen) → slice_get procs p ≡ Some one → cursor_at c channel one.process None ≡ cursor_in c p (words_at procs p) channel
   own_cursor p channel one there =
       ap (λ n. cursor_in c n one.process.state.words channel) (numbered.numbers p one there)

@@ -13,21 +13,21 @@ use Rattle.rb_code.specs.WordKind.{cursor_in}
 use Rattle.rb_proc.specs.Process.{Seen}
 
 -- a copy has the held length and all cursors of its process
-abbrev pub HasCursors : Code → ℕ → Level Copy → Type 0
-HasCursors c p level = variables_place (part_of c p) ≤ length level.copy.words
+abbrev pub HoldsCursors : Code → ℕ → Level Copy → Type 0
+HoldsCursors c p level = variables_place (part_of c p) ≤ length level.copy.words
 
 -- There are as many processes as the code has, each knows its number, and cursors stand in all its copies.
 pub record AreNumbered (c : Code) (procs : List Seen) : Type 0 where
   pub as_many : length procs ≡ length c.processes
   pub numbers : Each (λ p (one : Seen). one.process.state.process ≡ p) procs
   pub lists : ListsChannels c
-  pub copies : Each (λ p (one : Seen). Each (λ _ level. HasCursors c p level) one.process.levels) procs
+  pub copies : Each (λ p (one : Seen). Each (λ _ level. HoldsCursors c p level) one.process.levels) procs
 
 -- A process of the code in which the cursor of a channel stands, as in all its copies.
 pub record HasCursor (c : Code) (channel : ℕ) (one : Seen) : Type 0 where
   pub exists : one.process.state.process < length c.processes
   pub among : IsAmong channel (part_of c one.process.state.process).channels
-  pub copies : Each (λ _ level. HasCursors c one.process.state.process level) one.process.levels
+  pub copies : Each (λ _ level. HoldsCursors c one.process.state.process level) one.process.levels
 
 -- the conversation of a level, and none where there is no level
 abbrev pub conversation_in : {C : Type 0} → Option (Level C) → Option ℕ

@@ -1,6 +1,6 @@
 -- What is known of every world of a run of sound code: each process stands in the table, its levels are nested and are those of members,
 -- and all numbers that a turn counts are small.
-use Rattle.std.specs.Prelude.{◌≡◌, ℕ, ◌+◌, ◌<◌, ◌≤◌, nat_eq, true, ℤ, List, length, slice_get, Option, Some}
+use Rattle.std.specs.Prelude.{◌≡◌, ℕ, ◌<◌, ◌≤◌, nat_eq, true, ℤ, List, length, slice_get, Some}
 use Rattle.std.specs.List.{list_any}
 use Rattle.rb_meaning.specs.Environment.{natural}
 use Rattle.rb_world.specs.Kind.{Membership}
@@ -61,12 +61,15 @@ IsTalked counts d talk = (n : ℕ) → slice_get counts d ≡ Some n → (1 ≤ 
 abbrev pub CursorsBelow : Code → ℕ → ℕ → List ℤ → Type 0
 CursorsBelow c p t words = (channel : ℕ) → IsAmong channel (part_of c p).channels → natural (word_at words (cursor_place (part_of c p) channel)) < t
 
--- Process number p before turn number t: no level has used more turns than there were, and no cursor, in the present or in a copy, has
--- come further.
-pub record IsCounted (c : Code) (t p : ℕ) (q : Process Standing Copy) : Type 0 where
-  pub used : Each (λ _ level. level.used < t) q.levels
-  pub cursors : CursorsBelow c p t q.state.words
-  pub copied : Each (λ _ level. CursorsBelow c p t level.copy.words) q.levels
+-- Of process number p no level has used as many turns as a number, and no cursor, in the present or in a copy, has come as far as another.
+pub record IsBelow (c : Code) (turns messages p : ℕ) (q : Process Standing Copy) : Type 0 where
+  pub used : Each (λ _ level. level.used < turns) q.levels
+  pub cursors : CursorsBelow c p messages q.state.words
+  pub copied : Each (λ _ level. CursorsBelow c p messages level.copy.words) q.levels
+
+-- Before turn number t both lie below that number.
+abbrev pub IsCounted : Code → ℕ → ℕ → Process Standing Copy → Type 0
+IsCounted c t p q = IsBelow c t t p q
 
 -- All of it of a world, before turn number t.
 pub record IsKnown (c : Code) (groups : List Membership) (counts : List ℕ) (table : Table) (t : ℕ) (w : WordWorld) : Type 0 where

@@ -24,7 +24,7 @@ pub record Seen : Type 0 where
   pub taken : ℕ
   pub most : ℕ
 
-abbrev pub seen : Code → Parts → ℕ → ℕ → Seen
+abbrev pub seen : {L : Type 0} → Code → Parts L → ℕ → ℕ → Seen
 seen c parts taken most = record {
   code = c;
   groups = memberships parts.table;
@@ -36,7 +36,7 @@ seen c parts taken most = record {
 
 -- What ties the parts: they stand for a world of a run, before the next turn; it is known who runs; and there is room for the links of
 -- all turns that may come.
-pub record IsTied (c : Code) (parts : Parts) (running : List Bool) (links room taken most : ℕ) : Type 0 where
+pub record IsTied {L : Type 0} (c : Code) (parts : Parts L) (running : List Bool) (links room taken most : ℕ) : Type 0 where
   pub work : IsAtWork c (taken + 1) parts.procs.items parts.table parts.mails.items parts.links.items
   pub running_is : running ≡ running_of (processes_of parts.procs.items)
   pub links_few : links ≤ taken

@@ -1,6 +1,6 @@
 //! Whether a channel has room for a message, and whether one is there.
 
-ghost use Rattle.std.specs.Prelude.{◌≡◌, ℕ, ◌+◌, ◌<◌, ◌≤◌, nat_lt, List, length, slice_get,};
+ghost use Rattle.std.specs.Prelude.{◌≡◌, ℕ, ◌+◌, ◌<◌, ◌≤◌, nat_lt, List, length, slice_get};
 ghost use Rattle.rb_world.specs.Channels.{has_room, message_there, seen_copy};
 ghost use Rattle.rb_world.specs.Kind.{Membership};
 ghost use Rattle.rb_world.specs.World.{Talk, is_shared};
@@ -75,7 +75,9 @@ fn first_own_level<L: Ledger>(sender: &Proc<L>, receiver: &Proc<L>) -> Option<u3
     ensures copy { IsCopyAt sender.now.process.levels result (seen_copy sender.now.process.levels receiver.now.process.levels) }
 {
     for level in 0..sender.levels() {
-        if !is_shared(conversation_at(sender, level), conversation_at(receiver, level)) {
+        let own = conversation_at(sender, level);
+        let other = conversation_at(receiver, level);
+        if !is_shared(own, other) {
             return Some(level);
         }
     }
@@ -122,12 +124,7 @@ fn seen_count<L: Ledger>(
 }
 
 // From which number on the receiver leaves room for so many messages as a channel's size.
-fn room_from<L: Ledger>(
-    code: &Code,
-    receiver: &Proc<L>,
-    channel: u32,
-    steps: &mut Steps<L>,
-) -> u64
+fn room_from<L: Ledger>(code: &Code, receiver: &Proc<L>, channel: u32, steps: &mut Steps<L>) -> u64
     requires cursors { HasCursor (plain code.now) channel receiver.now }
     ensures cursor { result ≡ cursor_at (plain code.now) channel receiver.now.process (outermost_copy receiver.now.process.levels) }
     ensures ticks { steps.new ≤ steps.old + 1 }

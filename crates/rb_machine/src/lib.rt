@@ -3,7 +3,12 @@
 
 pub mod came;
 pub mod channels;
+pub mod cascade;
 pub mod links;
 pub mod entry;
 pub mod moves;
 pub mod undone;
+pub mod laws;
+pub mod parts;
+pub mod reading;
+pub mod telling;

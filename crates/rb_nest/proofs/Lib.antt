@@ -8,3 +8,4 @@ pub mod FirstAnswers
 pub mod Parents
 pub mod Faults
 pub mod Members
+pub mod Joined

@@ -1,5 +1,5 @@
 -- What it means that a tree is nested, or refused.
-use Rattle.std.specs.Prelude.{◌≡◌, ℕ, [], slice_get, Some}
+use Rattle.std.specs.Prelude.{◌≡◌, ℕ, [], slice_get, Option, Some}
 use Rattle.rb_base.specs.declared.fault.Refusal.{Refusal}
 use Rattle.rb_base.specs.declared.fault.Refusal.TheVariants.{Fault, Memory}
 use Rattle.rb_base.specs.declared.names.Nested.{Nested}
@@ -9,6 +9,10 @@ use Rattle.rb_meaning.specs.Nesting.{alternates_of}
 use Rattle.rb_scope.specs.FirstFault.{IsFirstOf}
 use Rattle.rb_nest.specs.Groups.{alternates, memberships}
 use Rattle.rb_nest.specs.Rules.{nesting_faults}
+
+-- there is a number
+abbrev pub IsNumber : Option ℕ → Type 0
+IsNumber o = (n : ℕ) × (o ≡ Some n)
 
 -- A tree keeps every rule of nesting, and these are its conversations, with members, parents and numbers of alternates.
 pub record IsNest (tree : Tree) (nested : Nested) : Type 0 where

@@ -12,8 +12,6 @@ mod nesting;
 mod processes;
 mod rules;
 mod spot;
-#[cfg(test)]
-mod tests;
 mod usage;
 mod uses;
 mod walk;

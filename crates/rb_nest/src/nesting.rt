@@ -1,13 +1,15 @@
 //! The conversations of a program, or its first fault of nesting.
 
-ghost use Rattle.std.specs.Prelude.{◌≡◌, ℕ, None, slice_get, map, Some, IfOk, IfErr, MatchResult};
+ghost use Rattle.std.specs.Prelude.{◌≡◌, ℕ, [], None, slice_get, map, Some, IfOk, IfErr, MatchResult};
 ghost use Rattle.rb_syntax.specs.Plain.{conversation_declaration, identifier, tree};
 ghost use Rattle.rb_meaning.specs.Groups.{groups_of, membership_of, process_number};
 ghost use Rattle.rb_meaning.specs.Nesting.{alternates_of};
 ghost use Rattle.rb_scope.specs.FirstFault.{IsFirstOf};
+ghost use Rattle.rb_scope.specs.Limits.{HasDistinctNames};
+ghost use Rattle.rb_scope.specs.Resolved.{IsResolved};
 ghost use Rattle.rb_scope.specs.Finding.{first_after};
 ghost use Rattle.rb_nest.specs.Groups.{alternates, membership, memberships};
-ghost use Rattle.rb_nest.specs.Nest.{IsNest, IsRefused};
+ghost use Rattle.rb_nest.specs.Nest.{IsNest, IsNumber, IsRefused};
 ghost use Rattle.rb_nest.specs.Rules.{nesting_faults};
 
 use crate::conversations::facts_of_conversations;
@@ -21,9 +23,9 @@ use rb_syntax::{Conversation, Name, Program};
 use std::alloc::Global;
 
 /// The conversations of a program whose names are resolved: members, parents and numbers of alternates; or the first fault of
-/// nesting, N1 to N13. Counts that a number of 32 bits can't hold are want of memory; so is a second conversation of one
-/// name, which no program has whose names are resolved.
+/// nesting, N1 to N13. Counts that a number of 32 bits can't hold are want of memory.
 pub fn nest(alloc: Global, checked: &Checked<'_>) -> Result<Nested, Refusal>
+    requires { IsResolved (tree checked.now.program) checked.now.slots.items }
     ensures nested { IfOk result (λ nested. IsNest (tree checked.now.program) nested) }
     ensures refused { IfErr result (IsRefused (tree checked.now.program)) }
 {
@@ -36,6 +38,7 @@ pub fn nest(alloc: Global, checked: &Checked<'_>) -> Result<Nested, Refusal>
 
 /// The conversations of a program, or its first fault of nesting.
 fn judge(alloc: Global, program: &Program<'_>) -> Result<Result<Nested, SourceFault>, Memory>
+    requires { HasDistinctNames (tree program.now) }
     ensures { IfOk result (λ judged. MatchResult judged (IsNest (tree program.now)) (IsFirstOf (nesting_faults (tree program.now)))) }
 {
     let uses = Uses::new(alloc, program)?;
@@ -63,6 +66,8 @@ fn first_fault(alloc: Global, uses: &Uses<'_, '_>) -> Result<Option<SourceFault>
 
 /// The conversations, each of which is joined somewhere.
 fn nested(alloc: Global, uses: &Uses<'_, '_>) -> Result<Nested, Memory>
+    requires no_fault { nesting_faults (tree uses.now.program.now) ≡ [] }
+    requires distinct { HasDistinctNames (tree uses.now.program.now) }
     ensures groups { IfOk result (λ nested. memberships nested ≡ groups_of (tree uses.now.program.now)) }
     ensures counts { IfOk result (λ nested. (c n : ℕ) → slice_get (alternates nested) c ≡ Some n → alternates_of (tree uses.now.program.now) c ≡ Some n) }
 {
@@ -80,6 +85,7 @@ fn group(
     number: usize,
     conversation: &Conversation<'_>,
 ) -> Result<Group, Memory>
+    requires { IsNumber (alternates_of (tree uses.now.program.now) number) }
     ensures membership { IfOk result (λ group. membership group ≡ membership_of (tree uses.now.program.now) (conversation_declaration conversation.now)) }
     ensures alternates { IfOk result (λ group. alternates_of (tree uses.now.program.now) number ≡ Some group.alternates) }
 {
@@ -88,8 +94,7 @@ fn group(
         None => None,
         Some(parent) => Some(small(parent)?),
     };
-    // A conversation that nobody joins breaks a rule, unless another has its name.
-    let alternates = small(uses.alternates(number).ok_or(Memory)?)?;
+    let alternates = small(uses.alternates(number).unwrap())?;
     Ok(Group {
         members,
         parent,

@@ -11,7 +11,10 @@ room_from-from-requires g c =
     let ends = channel_of c.in-Some.ends.now in
     let there = channel_lent c.args.code.now c.deref.result.now c.args.channel c.in-Some.ends.now c.deref.ensures.value found.3.0 found.1 in
     let receiver = lent c.args.procs.now ends.receiver c.in-Some-get-2.receiver.now end.3.0 end.1 in
-    record { cursors = receiver_has_cursor (plain c.args.code.now) c.args.procs.now c.requires.numbered c.args.channel ends c.in-Some-get-2.receiver.now there receiver }
+    record {
+      cursors = receiver_has_cursor (plain c.args.code.now) c.args.procs.now c.requires.numbered c.args.channel ends
+          c.in-Some-get-2.receiver.now there receiver;
+    }
 
 pub returns-clause-room : goal.returns-clause-room
 returns-clause-room g c groups talks memory =

@@ -13,13 +13,19 @@ seen_count-seen-requires g c =
     let ends = channel_of c.in-Some.ends.now in
     let there = channel_lent c.args.code.now c.deref.result.now c.args.channel c.in-Some.ends.now c.deref.ensures.value found.3.0 found.1 in
     let sender = lent c.args.procs.now ends.sender c.in-Some-get.sender.now start.3.0 start.1 in
-    record { cursors = sender_has_cursor (plain c.args.code.now) c.args.procs.now c.requires.numbered c.args.channel ends c.in-Some-get.sender.now there sender }
+    record {
+      cursors = sender_has_cursor (plain c.args.code.now) c.args.procs.now c.requires.numbered c.args.channel ends
+          c.in-Some-get.sender.now there sender;
+    }
 
 pub cursor-taken-requires : goal.cursor-taken-requires
 cursor-taken-requires g c =
     let receiver = lent c.args.procs.now c.args.p c.index-procs-p.result c.requires.process c.index-procs-p.is in
-    omega (arith, is_of_code (plain c.args.code.now) c.args.procs.now c.requires.numbered c.args.p c.index-procs-p.result receiver,
-    length-map c.args.code.now.processes.items part)
+    omega (
+      arith,
+      is_of_code (plain c.args.code.now) c.args.procs.now c.requires.numbered c.args.p c.index-procs-p.result receiver,
+      length-map c.args.code.now.processes.items part,
+    )
 
 pub returns-clause-there : goal.returns-clause-there
 returns-clause-there g c groups talks memory =

@@ -22,3 +22,7 @@ returns c =
       groups = c.in_ok-nested-in-None.ensures.groups ∙ ap groups_of same;
       counts = λ n m e. ap (λ t. alternates_of t n) (sym same) ∙ c.in_ok-nested-in-None.ensures.counts n m e;
     }
+
+pub nested-requires-clause-no_fault : goal.nested-requires-clause-no_fault
+nested-requires-clause-no_fault c =
+    nothing_kept (nesting_faults (tree c.in_ok-uses.uses.program.now)) (sym c.in_ok-fault.ensures ∙ c.in-None.is)

@@ -1,6 +1,8 @@
 use Rattle.std.proofs.Common.{◌≡◌, ℕ, zero, suc, ◌+◌, List, [], ◌∷◌, ◌++◌, drop, length, map, slice_get, arith}
 use Rattle.std.proofs.Common.{Option, Some, refl, ap, sym, subst, ◌∙◌, length-append}
+use Rattle.std.specs.Option.{option_map}
 use Rattle.std.proofs.lemmas.List.{length-map, map-append}
+use Rattle.std.proofs.lemmas.Option.{slice_get-map, slice_get_read}
 use Rattle.rb_base.specs.declared.names.Group.{Group}
 use Rattle.rb_syntax.specs.declared.program.Conversation.{Conversation}
 use Rattle.rb_syntax.specs.Plain.{conversation_declaration, tree}
@@ -8,6 +10,7 @@ use Rattle.rb_meaning.specs.Groups.{membership_of}
 use Rattle.rb_meaning.specs.Nesting.{alternates_of}
 use Rattle.rb_nest.specs.Groups.{membership}
 use Rattle.rb_nest.proofs.After.{made_more}
+use Rattle.rb_nest.proofs.Joined.{conversation_joined}
 use Rattle.rb_nest.proofs.nesting.nested.Goals as goal
 
 -- each entry is what a function gives for its place
@@ -44,3 +47,14 @@ loop-number-preserved c =
           subst (λ (gs : List Group). Agree (alternates_of whole) (map count gs)) (sym c.in_ok-push.ensures.items)
           (subst (Agree (alternates_of whole)) (sym (map-append count groups (one ∷ []))) alternates);
     }
+
+pub group-requires : goal.group-requires
+group-requires c =
+    let whole = tree c.args.uses.now.program.now in
+    let one = conversation_declaration c.conversation-item.result in
+    conversation_joined whole c.loop-number.number one c.requires.no_fault c.requires.distinct
+    (ap (λ items. slice_get (map conversation_declaration items) c.loop-number.number) (sym c.deref-conversation-items.ensures.value)
+    ∙ slice_get-map conversation_declaration c.deref-conversation-items.result.now c.loop-number.number
+    ∙ ap (option_map conversation_declaration)
+    (slice_get_read c.deref-conversation-items.result.now (length c.deref-conversation-items.result.now) c.loop-number.number
+    c.conversation-item.result refl c.loop-number-test.true c.conversation-item.is))
