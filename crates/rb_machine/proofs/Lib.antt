@@ -38,3 +38,8 @@ pub mod ReadAt
 pub mod CountsRead
 pub mod LinesLent
 pub mod CountedAtWork
+pub mod Changed
+pub mod StepFacts
+pub mod KnownHere
+pub mod TestLines
+pub mod TakenSteps

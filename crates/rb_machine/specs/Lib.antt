@@ -12,3 +12,4 @@ pub mod Machine
 pub mod Entries
 pub mod Counted
 pub mod Rising
+pub mod Stepping

@@ -12,3 +12,4 @@ pub mod laws;
 pub mod parts;
 pub mod reading;
 pub mod telling;
+pub mod parts;

@@ -177,6 +177,7 @@ impl<L: Ledger> Proc<L> {
         requires cursors { CursorsRise (plain code.now) self.old.process.state.process self.old.process.state.words }
         ensures came { StepsTo (plain code.now) self.old.process mails.old (step_of (plain code.now) self.old.process mails.old there) result self.new.process mails.new }
         ensures sized { AreSized (plain code.now) mails.new }
+        ensures waiting { self.new.waiting ≡ self.old.waiting }
     {
         let wanted = want_at(code, self.at);
         let message = message_of(
