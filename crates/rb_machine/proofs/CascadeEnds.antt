@@ -28,7 +28,8 @@ module _ (procs : List Seen) (table : List Conversation) (p : ℕ) (cause : Caus
       subst (λ (n : ℕ). HasHappened (reject (kind_with c table) p n cause) memory procs table events (set procs p new) table events) (sym none)
       (record {
         world = ap (λ (later : List Seen). world_of later table memory) (fallen_at c)
-            ∙ ap (λ qs. record { processes = qs; talks = (world_of procs table memory).talks; memory = memory }) (processes_at p (fallen (kind_of c) cause) procs);
+            ∙ ap (λ qs. record { processes = qs; talks = (world_of procs table memory).talks; memory = memory })
+            (processes_at p (fallen (kind_of c) cause) procs);
         told = sym (append-nil events);
       })
 

@@ -1,5 +1,5 @@
 -- The counts of a machine at work can be read.
-use Rattle.std.proofs.Common.{◌≡◌, ◌<◌, ◌^◌, ℕ, List, slice_get, Some, arith}
+use Rattle.std.proofs.Common.{ℕ, List, arith}
 use Rattle.rb_world.specs.Slots.{Slots}
 use Rattle.rb_code.specs.Plain.{Code}
 use Rattle.rb_code.specs.WellFormed.{JoinsTwo}
@@ -8,7 +8,6 @@ use Rattle.rb_conv.specs.Conversations.{Conversation}
 use Rattle.rb_proc.specs.Process.{Seen}
 use Rattle.rb_machine.specs.AtWork.{IsAtWork}
 use Rattle.rb_machine.specs.Channels.{AreNumbered}
-use Rattle.rb_machine.specs.Known.{CursorsBelow}
 use Rattle.rb_machine.specs.Reading.{AreCounted}
 use Rattle.rb_machine.specs.declared.links.Link.{Link}
 use Rattle.rb_machine.proofs.ReadAt.{process_there}

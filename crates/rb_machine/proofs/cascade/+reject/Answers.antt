@@ -10,7 +10,8 @@ returns-then-left-eq0-clause-happened g t c =
 
 pub returns-then-left-eq0-clause-waits : goal.returns-then-left-eq0-clause-waits
 returns-then-left-eq0-clause-waits g t c =
-    falls_quietly c.args.procs.now c.args.table.now c.args.p c.args.cause c.index-procs-p.result c.fail.new.self c.requires.process c.fail.ensures c.requires.quiet.lines
+    falls_quietly c.args.procs.now c.args.table.now c.args.p c.args.cause c.index-procs-p.result c.fail.new.self
+    c.requires.process c.fail.ensures c.requires.quiet.lines
 
 pub reject_level-requires-clause-may : goal.reject_level-requires-clause-may
 reject_level-requires-clause-may g t c =

@@ -12,5 +12,6 @@ raise-requires-clause-level g c =
 pub raise-requires-clause-few : goal.raise-requires-clause-few
 raise-requires-clause-few g c =
     let later : Rises c.put_back.new.self.process =
-    subst (λ (one : Seen). Rises one.process) (sym (c.put_back.ensures some_code)) (rises_put_back (kind_of some_code) c.args.inner c.args.proc.now.process c.requires.rise) in
+    subst (λ (one : Seen). Rises one.process) (sym (c.put_back.ensures some_code))
+    (rises_put_back (kind_of some_code) c.args.inner c.args.proc.now.process c.requires.rise) in
     below_last c.put_back.new.self.process.levels c.args.inner later (raise-requires-clause-level g c)
