@@ -1,5 +1,5 @@
 -- Lists of which one element or each has changed, and what is known of each.
-use Rattle.std.proofs.Common.{◌≡◌, ℕ, zero, suc, List, [], ◌∷◌, length, map, slice_get, Some, refl, ap, sym, ◌∙◌, subst, arith}
+use Rattle.std.proofs.Common.{◌≡◌, ℕ, zero, suc, ◌<◌, List, [], ◌∷◌, ◌++◌, length, map, take, drop, get_or, slice_get, Some, None, refl, ap, sym, ◌∙◌, subst, arith}
 use Rattle.std.specs.List.{AllByRecursion}
 use Rattle.rb_world.specs.Standing.{Each}
 use Rattle.rb_world.specs.World.{change_at, last_of}
@@ -64,7 +64,23 @@ last_found [] x e = absurd (none_some e)
 last_found (y ∷ []) x e = (0, e)
 last_found (y ∷ z ∷ zs) x e = let found = last_found (z ∷ zs) x e in (suc found.0, found.1)
 
+-- a list with an element has a last one
+pub none_last : {A : Type 0} (xs : List A) → 0 < length xs → last_of xs ≡ None → ⊥
+none_last [] h e = omega (arith, h)
+none_last (x ∷ []) h e = cc
+none_last (x ∷ y ∷ ys) h e = none_last (y ∷ ys) (omega arith) e
+
 -- a list without elements
 pub no_elements : {A : Type 0} (xs : List A) → length xs ≡ 0 → xs ≡ []
 no_elements [] e = refl
 no_elements (x ∷ xs) e = absurd (omega (arith, e))
+
+-- what is not changed yet is as it was
+pub rest_there : {A : Type 0} (f : A → A) (xs ys : List A) (i : ℕ) (d : A) → i < length xs → ys ≡ map f (take i xs) ++ drop i xs
+    → get_or ys i d ≡ get_or xs i d
+rest_there {A} f xs ys i d h e = ap (λ zs. get_or zs i d) e ∙ by xs i h
+  where
+    by : (xs : List A) (i : ℕ) → i < length xs → get_or (map f (take i xs) ++ drop i xs) i d ≡ get_or xs i d
+    by [] i h = absurd (omega (arith, h))
+    by (x ∷ xs) zero h = refl
+    by (x ∷ xs) (suc i) h = by xs i (omega (arith, h))

@@ -126,13 +126,15 @@ module _ (c : Code) (table : List Conversation) (loaded : IsLoaded c (membership
   pub may_leave : Each (MayLeave c) procs
   may_leave p one e at_line =
       let q = one.process in
-      let placed = known.placed p q (process_there procs p one e) in
-      (memberships table, record {
-        table = loaded.sound.table;
-        has = loaded.sound.has;
-        lists = loaded.sound.well.lists;
-        settles = line_settles c loaded.sound.table q.status q.at_line q.state q.levels placed.stands.now at_line;
-      })
+      let placed = known.placed p q (process_there procs p one e) in (
+        memberships table,
+        record {
+          table = loaded.sound.table;
+          has = loaded.sound.has;
+          lists = loaded.sound.well.lists;
+          settles = line_settles c loaded.sound.table q.status q.at_line q.state q.levels placed.stands.now at_line;
+        },
+      )
 
   -- who may act, and wants a step, may take it
   pub may_step : (slots : Slots) (there : Bool) (p : ℕ) (one : Seen) → slice_get procs p ≡ Some one → NoneWaits procs → MayActNow one
@@ -146,12 +148,15 @@ module _ (c : Code) (table : List Conversation) (loaded : IsLoaded c (membership
         running = act.running;
         away = act.away;
         none_waits = all_there (λ (x : Seen). x.waiting ≡ []) procs p one waits e;
-        stands = (memberships table, record {
-          table = loaded.sound.table;
-          has = loaded.sound.has;
-          lists = loaded.sound.well.lists;
-          stands = stands_to_step c (memberships table) loaded.sound.table loaded.sound.has loaded.sound.well.lists q placed.stands act.running act.away;
-        });
+        stands = (
+          memberships table,
+          record {
+            table = loaded.sound.table;
+            has = loaded.sound.has;
+            lists = loaded.sound.well.lists;
+            stands = stands_to_step c (memberships table) loaded.sound.table loaded.sound.has loaded.sound.well.lists q placed.stands act.running act.away;
+          },
+        );
         serves = step_serves c q.state slots there q.levels (want c q.state) (known.tried p q here) step;
         cursors = subst (λ n. CursorsRise c n q.state.words) (sym placed.number) (λ channel among.
             let less = below channel among in

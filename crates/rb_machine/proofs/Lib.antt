@@ -1,4 +1,11 @@
 -- Lemmas of the machine.
+pub mod Changed
+pub mod InnermostLevel
+pub mod StepFacts
+pub mod KnownHere
+pub mod TestLines
+pub mod TakenSteps
+pub mod StepTaken
 -- How many processes and conversations there are, that levels are few, and that who has failed has none.
 pub mod Sizes
 -- Who stands where, with which levels.

@@ -19,12 +19,13 @@ use Rattle.rb_code.specs.WordRun.{WordWorld}
 use Rattle.rb_conv.specs.Conversations.{Conversation, talks}
 use Rattle.rb_conv.proofs.TalksAfterCalls.{map_changed}
 use Rattle.rb_proc.specs.Process.{Seen, alternate_for, kind_of, message_for, step_of}
+use Rattle.rb_proc.specs.declared.answers.Outcome.{Outcome}
 use Rattle.rb_proc.specs.declared.answers.Outcome.TheVariants as outcome
 use Rattle.rb_machine.specs.Cascade.{HasHappened}
 use Rattle.rb_machine.specs.Stepping.{HasStepped, HasTaken, HoldsTest, IsListed, MayLeave, MayStep, SettlesOnceAccepted, conversation_in, turn_kept}
 use Rattle.rb_machine.specs.Worlds.{NoneWaits, kind_with, link_of, lines_of, memory_of, processes_of, world_of}
 use Rattle.rb_machine.specs.declared.links.Link.{Link as Linked}
-use Rattle.rb_machine.proofs.Changed.{all_changed, change_after, change_twice, same_there}
+use Rattle.rb_machine.proofs.Changed.{all_changed, change_after, change_twice, none_last, same_there}
 use Rattle.rb_machine.proofs.KnownHere.{process_there}
 use Rattle.rb_machine.proofs.StepFacts.{HasTrapped, HeldTest, WentOn, has_trapped, held_inside, held_only, held_settles, held_test, relinked, same_process, step_relinked, went_on, went_settled}
 
@@ -41,12 +42,6 @@ processes_put p one procs = map_changed (λ (x : Seen). x.process) (λ _. one) (
 -- a process of which no released line waits
 abbrev pub calm : Process Standing Copy → Seen
 calm q = record { process = q; waiting = [] }
-
--- where a level is open there is an innermost one
-none_innermost : (levels : List (Level Copy)) → 0 < length levels → last_of levels ≡ None → ⊥
-none_innermost [] h e = omega (arith, h)
-none_innermost (l ∷ []) h e = cc
-none_innermost (l ∷ m ∷ ls) h e = none_innermost (m ∷ ls) (omega arith) e
 
 module _ (c : Code) (table : List Conversation) (slots : Slots) (links : List Linked) (there : Bool) (turn p : ℕ) (one : Seen) (procs : List Seen)
     (here : slice_get procs p ≡ Some one) (may : MayStep c slots there one) (number : one.process.state.process ≡ p) where
@@ -71,6 +66,13 @@ module _ (c : Code) (table : List Conversation) (slots : Slots) (links : List Li
 
   is_made : taken ≡ made (relinked linked (step_of c one.process slots there))
   is_made = ap made (step_relinked c one.process slots there linked)
+
+  -- no line waits once the turn was kept
+  pub kept_waits : (answer : Outcome) (slots' : Slots) (procs1 procs' : List Seen) (stepping : HasStepped c there p one answer slots slots' procs procs1)
+      → procs' ≡ change_at p (turn_kept turn) procs1 → NoneWaits procs → NoneWaits procs'
+  kept_waits answer slots' procs1 procs' stepping kept h =
+      subst NoneWaits (sym (kept ∙ (ap (change_at p (turn_kept turn)) stepping.processes ∙ change_after p (turn_kept turn) (calm stepping.later) procs)))
+      (all_changed (λ (x : Seen). x.waiting ≡ []) p (λ _. turn_kept turn (calm stepping.later)) procs (λ x none. refl) h)
 
   -- it went on
   module _ (slots' : Slots) (procs1 procs' : List Seen) (stepping : HasStepped c there p one outcome.Went slots slots' procs procs1)
@@ -147,7 +149,7 @@ module _ (c : Code) (table : List Conversation) (slots : Slots) (links : List Li
   -- its acceptance test held
   module _ (slots' : Slots) (procs1 procs2 : List Seen) (stepping : HasStepped c there p one outcome.Accepts slots slots' procs procs1)
       (kept : procs2 ≡ change_at p (turn_kept turn) procs1) where
-    abbrev holder : Seen
+    abbrev pub holder : Seen
     holder = turn_kept turn (calm stepping.later)
 
     held : HeldTest one.process slots (step_of c one.process slots there) stepping.later slots'
@@ -192,11 +194,10 @@ module _ (c : Code) (table : List Conversation) (slots : Slots) (links : List Li
     pub held_leave : Each (MayLeave c) procs → Each (MayLeave c) procs2
     held_leave each =
         subst (Each (MayLeave c)) (sym put_held) (Each-change_at (MayLeave c) p (λ _. holder) procs each (λ x e at_line.
-            absurd (true≢false (sym at_line ∙ (ap (λ (q : Process Standing Copy). q.at_line) holder_is ∙ may.away)))))
+        absurd (true≢false (sym at_line ∙ (ap (λ (q : Process Standing Copy). q.at_line) holder_is ∙ may.away)))))
 
     pub held_waits : NoneWaits procs → NoneWaits procs2
-    held_waits h =
-        subst NoneWaits (sym put_held) (all_changed (λ (x : Seen). x.waiting ≡ []) p (λ _. holder) procs (λ x none. refl) h)
+    held_waits h = kept_waits outcome.Accepts slots' procs1 procs2 stepping kept h
 
     pub last_held : (later : Seen) → slice_get procs1 p ≡ Some later → later.process.state.last_kept ≡ one.process.state.last_kept
     last_held later e =
@@ -270,7 +271,7 @@ module _ (c : Code) (table : List Conversation) (slots : Slots) (links : List Li
             → HasTaken (memory_of slots' links') procs' table' pass (accepted (kind_with c table) p one.process.levels o before
             (at_test, record { slots = slots; links = record { turn = turn; process = held.later.process; alternate = alternate; before = held.later.last_kept } ∷ linked }))
         by None last k =
-            absurd (none_innermost one.process.levels
+            absurd (none_last one.process.levels
             (held_inside c may.stands.0 one.process.state one.process.levels alternate message may.stands.1 may.serves
             (record { slots = slots; links = [] }) held.later held.is) last)
         by (Some level) last k = on_level level.facts.conversation k

@@ -18,7 +18,7 @@ use Rattle.rb_proc.specs.Process.{Seen, kind_of}
 use Rattle.rb_machine.specs.Cascade.{SameGroups}
 use Rattle.rb_machine.specs.Stepping.{HasTaken, HoldsTest, MayLeave, conversation_in, level_gone, line_left, stood}
 use Rattle.rb_machine.specs.Worlds.{NoneWaits, counts_of, kind_with, processes_of, world_of}
-use Rattle.rb_machine.proofs.Changed.{all_changed, all_mapped, change_there}
+use Rattle.rb_machine.proofs.Changed.{all_changed, all_mapped, change_there, none_last}
 
 -- the members of a conversation that is there
 pub members_there : (table : List Conversation) (d : ℕ) → d < length table
@@ -112,39 +112,51 @@ line_passed c memory procs procs' table table' d alternate h e left gone tries =
       passes = ap (λ n. Pass d n ∷ []) (tries ∙ alternate_there table d h);
     })
 
-module _ (c : Code) (memory : Common) (procs : List Seen) (table : List Conversation) (p : ℕ) (one : Seen) (there : slice_get procs p ≡ Some one)
-    (level : Level Copy) (last : last_of one.process.levels ≡ Some level) where
+module _ (c : Code) (memory : Common) (procs : List Seen) (table : List Conversation) (p : ℕ) (one : Seen) (there : slice_get procs p ≡ Some one) where
+  -- what an acceptance comes to, by the innermost level and by its conversation
   abbrev Comes : Option (Level Copy) → Moved Standing Copy Common
   Comes o = accepted (kind_with c table) p one.process.levels o (world_of procs table memory) (one.process.state, memory)
 
+  abbrev ComesAt : Option ℕ → Moved Standing Copy Common
+  ComesAt o = accepted_at (kind_with c table) p one.process.levels o (world_of procs table memory) (one.process.state, memory)
+
   -- a private level has gone
-  pub alone_taken : (procs' : List Seen) → level.facts.conversation ≡ None → procs' ≡ change_at p (level_gone c) procs
-      → HasTaken memory procs' table None (Comes (last_of one.process.levels))
-  alone_taken procs' alone gone =
-      subst (λ o. HasTaken memory procs' table None (Comes o)) (sym last)
-      (subst (λ o. HasTaken memory procs' table None (accepted_at (kind_with c table) p one.process.levels o (world_of procs table memory)
-      (one.process.state, memory))) (sym alone) (record {
-        world = ap (λ qs. record { processes = qs; talks = talks table; memory = memory })
+  pub alone_taken : (procs' : List Seen) → 0 < length one.process.levels → conversation_in (last_of one.process.levels) ≡ None
+      → procs' ≡ change_at p (level_gone c) procs → HasTaken memory procs' table None (Comes (last_of one.process.levels))
+  alone_taken procs' inside alone gone = by (last_of one.process.levels) refl alone
+    where
+      at_none : HasTaken memory procs' table None (ComesAt None)
+      at_none = record {
+        world = ap (λ (qs : List (Process Standing Copy)). record { processes = qs; talks = talks table; memory = memory })
             (ap processes_of (gone ∙ change_there p (level_gone c) one procs there)
             ∙ map_changed (λ (x : Seen). x.process) (λ _. level_gone c one) (λ _. (level_gone c one).process) p procs (λ x e. refl));
         kind = refl;
         rejections = refl;
         passes = refl;
-      }))
+      }
+
+      by : (o : Option (Level Copy)) → last_of one.process.levels ≡ o → conversation_in o ≡ None → HasTaken memory procs' table None (Comes o)
+      by None last alone = absurd (none_last one.process.levels inside last)
+      by (Some level) last alone = subst (λ (o : Option ℕ). HasTaken memory procs' table None (ComesAt o)) (sym alone) at_none
 
   -- a member has come to its test line
-  pub together_taken : (d : ℕ) (procs1 procs' : List Seen) (table' : List Conversation) (pass : Option Event) → level.facts.conversation ≡ Some d
-      → procs1 ≡ change_at p stood procs
+  pub together_taken : (d : ℕ) (procs1 procs' : List Seen) (table' : List Conversation) (pass : Option Event)
+      → Some d ≡ conversation_in (last_of one.process.levels) → procs1 ≡ change_at p stood procs
       → HasTaken memory procs' table' pass (at_test_line (kind_with c table) d (world_of procs1 table memory))
       → HasTaken memory procs' table' pass (Comes (last_of one.process.levels))
-  together_taken d procs1 procs' table' pass of_it stands h =
-      subst (λ o. HasTaken memory procs' table' pass (Comes o)) (sym last)
-      (subst (λ o. HasTaken memory procs' table' pass (accepted_at (kind_with c table) p one.process.levels o (world_of procs table memory)
-      (one.process.state, memory))) (sym of_it)
-      (subst (λ qs. HasTaken memory procs' table' pass (at_test_line (kind_with c table) d (record { processes = qs; talks = talks table; memory = memory })))
-      (ap processes_of (stands ∙ change_there p stood one procs there)
-      ∙ map_changed (λ (x : Seen). x.process) (λ _. stood one) (λ _. (stood one).process) p procs (λ x e. refl))
-      h))
+  together_taken d procs1 procs' table' pass of_it stands h = by (last_of one.process.levels) of_it
+    where
+      at_some : HasTaken memory procs' table' pass (ComesAt (Some d))
+      at_some =
+          subst (λ (qs : List (Process Standing Copy)). HasTaken memory procs' table' pass
+          (at_test_line (kind_with c table) d (record { processes = qs; talks = talks table; memory = memory })))
+          (ap processes_of (stands ∙ change_there p stood one procs there)
+          ∙ map_changed (λ (x : Seen). x.process) (λ _. stood one) (λ _. (stood one).process) p procs (λ x e. refl))
+          h
+
+      by : (o : Option (Level Copy)) → Some d ≡ conversation_in o → HasTaken memory procs' table' pass (Comes o)
+      by None of_it = absurd (none_some (sym of_it))
+      by (Some level) of_it = subst (λ (o : Option ℕ). HasTaken memory procs' table' pass (ComesAt o)) of_it at_some
 
 -- who stands may leave, and the others still may
 pub stood_leave : (c : Code) (p : ℕ) (procs procs' : List Seen) → procs' ≡ change_at p stood procs

@@ -2,6 +2,12 @@
 #![tactic(auto)]
 
 pub mod came;
+pub mod cascade;
+pub mod innermost;
+pub mod links;
+pub mod parts;
+pub mod step;
+pub mod test_line;
 pub mod channels;
 pub mod cascade;
 pub mod links;
