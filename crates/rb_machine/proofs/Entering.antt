@@ -19,17 +19,19 @@ use Rattle.rb_code.specs.WordRun.{WordWorld}
 use Rattle.rb_conv.specs.Conversations.{Conversation, conversation_at, entered, membership, memberships, talks}
 use Rattle.rb_conv.proofs.TalksAfterCalls.{members_stay, talks_are_the_worlds}
 use Rattle.rb_proc.specs.Entries.{EntersAs, entered_process}
-use Rattle.rb_proc.specs.Process.{Seen}
+use Rattle.rb_proc.specs.Process.{Seen, kind_of}
 use Rattle.rb_machine.specs.AtWork.{IsAtWork, MayActNow}
 use Rattle.rb_machine.specs.Cascade.{SameGroups}
-use Rattle.rb_machine.specs.Entries.{IsListedBlock, block_entered, entry_at, has_fallen}
+use Rattle.rb_machine.specs.Entries.{IsListedBlock, entry_at}
 use Rattle.rb_machine.specs.Known.{IsPlaced}
 use Rattle.rb_machine.specs.Moves.{WantsBlock}
-use Rattle.rb_machine.specs.Worlds.{NoneWaits, counts_of, kind_with, link_of, memory_of, processes_of, world_of}
+use Rattle.rb_machine.specs.Rejections.{changed}
+use Rattle.rb_machine.specs.Worlds.{counts_of, kind_with, link_of, memory_of, processes_of, world_of}
 use Rattle.rb_machine.specs.declared.links.Link.{Link}
-use Rattle.rb_machine.proofs.Changed.{all_changed}
+use Rattle.rb_machine.proofs.Changed.{change_there}
 use Rattle.rb_machine.proofs.KnownHere.{process_there}
 use Rattle.rb_machine.proofs.Placed.Wants.{IsEntering, enters_block}
+use Rattle.rb_machine.proofs.SeenWorlds.{processes_at}
 
 -- a move without rejections or a pass has come to the world of these parts
 pub record ComesTo (procs : List Seen) (table : List Conversation) (memory : Common) (turned : TurnKind) (moved : Moved Standing Copy Common) : Type 0 where
@@ -41,7 +43,7 @@ pub record ComesTo (procs : List Seen) (table : List Conversation) (memory : Com
 -- the process once it has entered the block that it wants to enter
 pub entered_seen : (c : Code) (facts : Facts) (alternate turn : ℕ) (one later : Seen) → want c one.process.state ≡ Enters facts
     → EntersAs c (want c one.process.state) alternate turn one.process later.process → later.waiting ≡ one.waiting
-    → later ≡ block_entered c facts alternate turn one
+    → later ≡ changed (entered_process c facts alternate turn) one
 entered_seen c facts alternate turn one later wants enters waiting =
     let is : later.process ≡ entered_process c facts alternate turn one.process =
     subst (λ (w : Want). EntersAs c w alternate turn one.process later.process) wants enters in
@@ -74,22 +76,6 @@ link_added slots links link =
     ap (λ (ls : List Kept). record { slots = slots; links = ls })
     (ap reverse (map-append link_of links (link ∷ [])) ∙ reverse-append (map link_of links) (link_of link ∷ []))
 
--- what is seen of processes of which one was changed
-pub processes_changed : (p : ℕ) (f : Seen → Seen) (one : Seen) (procs : List Seen) → slice_get procs p ≡ Some one
-    → processes_of (change_at p f procs) ≡ change_at p (λ _. (f one).process) (processes_of procs)
-processes_changed p f one [] e = refl
-processes_changed zero f one (x ∷ procs) e =
-    ap (λ (y : Seen). (f y).process ∷ processes_of procs) (some_same e)
-processes_changed (suc p) f one (x ∷ procs) e =
-    ap (λ (qs : List (Process Standing Copy)). x.process ∷ qs) (processes_changed p f one procs e)
-
-processes_by : (p : ℕ) (f : Seen → Seen) (g : Process Standing Copy → Process Standing Copy) (procs : List Seen)
-    → ((one : Seen) → (f one).process ≡ g one.process) → processes_of (change_at p f procs) ≡ change_at p g (processes_of procs)
-processes_by p f g [] same = refl
-processes_by zero f g (x ∷ procs) same = ap (λ (q : Process Standing Copy). q ∷ processes_of procs) (same x)
-processes_by (suc p) f g (x ∷ procs) same =
-    ap (λ (qs : List (Process Standing Copy)). x.process ∷ qs) (processes_by p f g procs same)
-
 -- the conversation of a table, as its world has it
 talk_there : (table : List Conversation) (d : ℕ) → d < length table → slice_get (talks table) d ≡ Some (conversation_at table d).talk
 talk_there [] d h = absurd (omega (arith, h))
@@ -109,7 +95,7 @@ module _ (c : Code) (table : List Conversation) (slots : Slots) (links : List Li
 
   -- a level was opened
   pub opened_world : (one : Seen) → slice_get procs p ≡ Some one → one.process.state.process ≡ p → (alternate : ℕ) (procs' : List Seen)
-      (table' : List Conversation) (links' : List Link) → procs' ≡ change_at p (block_entered c facts alternate turn) procs
+      (table' : List Conversation) (links' : List Link) → procs' ≡ change_at p (changed (entered_process c facts alternate turn)) procs
       → links' ≡ links ++ record { turn = turn; process = p; alternate = 0; before = one.process.state.last_kept } ∷ []
       → talks table' ≡ talks table
       → world_of procs' table' (memory_of slots links') ≡ (open_at k turn p facts alternate one.process before).world
@@ -117,7 +103,9 @@ module _ (c : Code) (table : List Conversation) (slots : Slots) (links : List Li
       let later = entered_process c facts alternate turn one.process in
       let link : ℕ → Kept = λ r. record { turn = turn; process = r; alternate = 0; before = one.process.state.last_kept } in
       let qs : processes_of procs' ≡ change_at p (λ _. later) (processes_of procs) =
-      ap processes_of opens ∙ processes_changed p (block_entered c facts alternate turn) one procs here in
+      ap processes_of opens
+      ∙ (processes_at p (entered_process c facts alternate turn) procs
+      ∙ change_there p (entered_process c facts alternate turn) one.process (processes_of procs) (process_there procs p one here)) in
       let m : memory_of slots links' ≡ record { slots = slots; links = link one.process.state.process ∷ (memory_of slots links).links } =
       ap (memory_of slots) linked
       ∙ (link_added slots links (record { turn = turn; process = p; alternate = 0; before = one.process.state.last_kept })
@@ -127,11 +115,11 @@ module _ (c : Code) (table : List Conversation) (slots : Slots) (links : List Li
       ∙ ap (λ (x : Common). record { processes = change_at p (λ _. later) (processes_of procs); talks = talks table; memory = x }) m)
 
   -- a member has failed
-  pub fallen_world : (procs' : List Seen) (table' : List Conversation) → procs' ≡ change_at p (has_fallen c Broken) procs → talks table' ≡ talks table
+  pub fallen_world : (procs' : List Seen) (table' : List Conversation) → procs' ≡ change_at p (changed (fallen (kind_of c) Broken)) procs → talks table' ≡ talks table
       → world_of procs' table' (memory_of slots links) ≡ with_process p (fallen k Broken) before
   fallen_world procs' table' falls same =
       ap (λ (x : List (Process Standing Copy)). record { processes = x; talks = talks table'; memory = memory_of slots links })
-      (ap processes_of falls ∙ processes_by p (has_fallen c Broken) (fallen k Broken) procs (λ one. refl))
+      (ap processes_of falls ∙ processes_at p (fallen k Broken) procs)
       ∙ ap (λ (x : List Talk). record { processes = change_at p (fallen k Broken) (processes_of procs); talks = x; memory = memory_of slots links }) same
 
   module _ (q : Process Standing Copy) where
@@ -180,18 +168,6 @@ module _ (c : Code) (table : List Conversation) (slots : Slots) (links : List Li
   entry_allowed q few =
       ap (λ (b : Bool). cond b (trapped k p Depth before) (enter_either k turn p facts facts.conversation q before))
       (below_most (length q.levels) few)
-
--- no line waits after an entry, nor after a failure
-pub entered_waits : (c : Code) (facts : Facts) (alternate turn p : ℕ) (procs procs' : List Seen)
-    → procs' ≡ change_at p (block_entered c facts alternate turn) procs → NoneWaits procs → NoneWaits procs'
-entered_waits c facts alternate turn p procs procs' e none =
-    subst NoneWaits (sym e)
-    (all_changed (λ (one : Seen). one.waiting ≡ []) p (block_entered c facts alternate turn) procs (λ one h. h) none)
-
-pub fallen_waits : (c : Code) (p : ℕ) (procs procs' : List Seen) → procs' ≡ change_at p (has_fallen c Broken) procs → NoneWaits procs
-    → NoneWaits procs'
-fallen_waits c p procs procs' e none =
-    subst NoneWaits (sym e) (all_changed (λ (one : Seen). one.waiting ≡ []) p (has_fallen c Broken) procs (λ one h. h) none)
 
 -- what a process that wants to enter a block has
 module _ (c : Code) (t : ℕ) (procs : List Seen) (table : List Conversation) (slots : Slots) (links : List Link)
@@ -242,7 +218,7 @@ module _ (c : Code) (t : ℕ) (procs : List Seen) (table : List Conversation) (s
       abbrev Moves : Moved Standing Copy Common
       Moves = enters (kind_with c table) turn p facts one.process (world_of procs table (memory_of slots links))
 
-      pub has_opened : (alternate : ℕ) → answer ≡ Some alternate → procs' ≡ change_at p (block_entered c facts alternate turn) procs
+      pub has_opened : (alternate : ℕ) → answer ≡ Some alternate → procs' ≡ change_at p (changed (entered_process c facts alternate turn)) procs
           → (links' : List Link)
           → links' ≡ links ++ record { turn = turn; process = p; alternate = 0; before = one.process.state.last_kept } ∷ []
           → ComesTo procs' table' (memory_of slots links') Took Moves
@@ -257,7 +233,7 @@ module _ (c : Code) (t : ℕ) (procs : List Seen) (table : List Conversation) (s
             passes = refl;
           })
 
-      pub has_failed : answer ≡ None → procs' ≡ change_at p (has_fallen c Broken) procs → ComesTo procs' table' (memory_of slots links) Undone Moves
+      pub has_failed : answer ≡ None → procs' ≡ change_at p (changed (fallen (kind_of c) Broken)) procs → ComesTo procs' table' (memory_of slots links) Undone Moves
       has_failed is falls =
           subst (ComesTo procs' table' (memory_of slots links) Undone)
           (sym (entry_allowed c table slots links turn p procs facts one.process few

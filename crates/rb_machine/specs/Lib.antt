@@ -10,6 +10,5 @@ pub mod Telling
 pub mod Reading
 pub mod Machine
 pub mod Entries
-pub mod Counted
 pub mod Rising
 pub mod Stepping

@@ -3,18 +3,21 @@
 ghost use Rattle.std.specs.Prelude.{◌≡◌, ◌+◌, ◌<◌, ◌≤◌, [], ◌∷◌, ◌++◌, length, slice_get, vec_len, vec_capacity, Some};
 ghost use Rattle.rb_base.specs.declared.event.Cause.TheVariants.{Broken};
 ghost use Rattle.rb_world.specs.Kind.{Facts, Enters};
+ghost use Rattle.rb_world.specs.Reject.{fallen};
 ghost use Rattle.rb_world.specs.Turn.{enters};
 ghost use Rattle.rb_world.specs.World.{change_at};
 ghost use Rattle.rb_code.specs.Plain.{Code as Plain, code as plain};
 ghost use Rattle.rb_code.specs.Sound.{conversation_of};
 ghost use Rattle.rb_code.specs.Turn.{want};
 ghost use Rattle.rb_conv.specs.Conversations.{conversation_at, talks};
+ghost use Rattle.rb_proc.specs.Entries.{entered_process};
 ghost use Rattle.rb_proc.specs.Executable.{IsExecutable};
-ghost use Rattle.rb_proc.specs.Process.{Seen};
+ghost use Rattle.rb_proc.specs.Process.{Seen, kind_of};
 ghost use Rattle.rb_machine.specs.AtWork.{MayAct};
 ghost use Rattle.rb_machine.specs.Cascade.{SameGroups};
-ghost use Rattle.rb_machine.specs.Entries.{IsListedBlock, block_entered, entry_at, has_fallen, joined_at};
+ghost use Rattle.rb_machine.specs.Entries.{IsListedBlock, entry_at, joined_at};
 ghost use Rattle.rb_machine.specs.Moves.{AreAtWork, HasMoved, IsLeft, MovesAt, WantsBlock};
+ghost use Rattle.rb_machine.specs.Rejections.{changed};
 ghost use Rattle.rb_machine.specs.Worlds.{kind_with};
 
 use crate::came::Came;
@@ -116,7 +119,7 @@ fn open<L: Ledger>(
     requires process { p < length procs.old }
     requires shallow { (one : Seen) → slice_get procs.old p ≡ Some one → length one.process.levels < 32 }
     requires room { vec_len links.old < vec_capacity links.old }
-    ensures processes { (one : Seen) (facts : Facts) → slice_get procs.old p ≡ Some one → want (plain code.now) one.process.state ≡ Enters facts → procs.new ≡ change_at p (block_entered (plain code.now) facts alternate turn) procs.old }
+    ensures processes { (one : Seen) (facts : Facts) → slice_get procs.old p ≡ Some one → want (plain code.now) one.process.state ≡ Enters facts → procs.new ≡ change_at p (changed (entered_process (plain code.now) facts alternate turn)) procs.old }
     ensures links { (one : Seen) → slice_get procs.old p ≡ Some one → links.new.items ≡ links.old.items ++ record { turn = turn; process = p; alternate = 0; before = one.process.state.last_kept } ∷ [] }
     ensures len { vec_len links.new ≡ vec_len links.old + 1 }
     ensures room { vec_capacity links.old ≤ vec_capacity links.new }
@@ -137,7 +140,7 @@ fn open<L: Ledger>(
 // Process p fails, since the conversation that it enters is broken for good.
 fn fail<L: Ledger>(procs: &mut [Proc<L>], p: u32)
     requires { p < length procs.old }
-    ensures { (c : Plain) → procs.new ≡ change_at p (has_fallen c Broken) procs.old }
+    ensures { (c : Plain) → procs.new ≡ change_at p (changed (fallen (kind_of c) Broken)) procs.old }
 {
     procs[p as usize].fail(Cause::Broken);
 }

@@ -3,19 +3,15 @@
 
 pub mod came;
 pub mod cascade;
-pub mod innermost;
-pub mod links;
-pub mod parts;
-pub mod step;
-pub mod test_line;
 pub mod channels;
-pub mod cascade;
-pub mod links;
 pub mod entry;
-pub mod moves;
-pub mod undone;
+pub mod innermost;
 pub mod laws;
+pub mod links;
+pub mod moves;
 pub mod parts;
 pub mod reading;
+pub mod step;
 pub mod telling;
-pub mod parts;
+pub mod test_line;
+pub mod undone;

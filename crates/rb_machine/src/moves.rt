@@ -10,8 +10,8 @@ ghost use Rattle.rb_code.specs.Plain.{code as plain};
 ghost use Rattle.rb_code.specs.Turn.{want};
 ghost use Rattle.rb_proc.specs.Process.{Seen};
 ghost use Rattle.rb_machine.specs.AtWork.{MayAct};
-ghost use Rattle.rb_machine.specs.Counted.{turn_counted};
 ghost use Rattle.rb_machine.specs.Moves.{AreAtWork, HasMoved, IsLeft, MovesAt, world};
+ghost use Rattle.rb_machine.specs.Rejections.{changed};
 ghost use Rattle.rb_machine.specs.Telling.{is_running};
 ghost use Rattle.rb_machine.specs.Worlds.{kind_with};
 
@@ -198,7 +198,7 @@ fn run<L: Ledger>(
 fn count<L: Ledger>(procs: &mut [Proc<L>], p: u32) -> Option<u32>
     requires process { p < length procs.old }
     requires few { (one : Seen) → slice_get procs.old p ≡ Some one → Each (λ _ level. level.used < 2 ^ 32 - 1) one.process.levels }
-    ensures counted { procs.new ≡ change_at p turn_counted procs.old }
+    ensures counted { procs.new ≡ change_at p (changed turn_used) procs.old }
     ensures over { (one : Seen) → slice_get procs.new p ≡ Some one → result ≡ position is_over one.process.levels }
 {
     procs[p as usize].count_turn()

@@ -3,18 +3,21 @@ use Rattle.std.proofs.Common.{◌≡◌, ◌<◌, ◌+◌, ap, sym, ◌∙◌, s
 use Rattle.std.proofs.lemmas.List.{with_items_is}
 use Rattle.std.proofs.lemmas.Option.{slice_get_read}
 use Rattle.rb_base.specs.declared.event.Cause.TheVariants.{Broken}
+use Rattle.rb_world.specs.Reject.{fallen}
 use Rattle.rb_world.specs.Turn.{Moved}
 use Rattle.rb_world.specs.World.{change_at}
 use Rattle.rb_world.proofs.ListFacts.{some_same}
 use Rattle.rb_code.specs.Plain.{code as plain}
 use Rattle.rb_code.specs.Turn.{Common, Copy, Standing, want}
-use Rattle.rb_proc.specs.Process.{Seen}
-use Rattle.rb_machine.specs.Entries.{block_entered, has_fallen}
+use Rattle.rb_proc.specs.Entries.{entered_process}
+use Rattle.rb_proc.specs.Process.{Seen, kind_of}
 use Rattle.rb_machine.specs.Moves.{WantsBlock, passes_of}
+use Rattle.rb_machine.specs.Rejections.{changed}
 use Rattle.rb_machine.specs.Worlds.{NoneWaits, memory_of, world_of}
 use Rattle.rb_machine.proofs.Changed.{no_elements}
-use Rattle.rb_machine.proofs.Entering.{entered_waits, entry_trapped, fallen_waits, few_levels, has_failed, has_opened, is_listed, wants_block}
+use Rattle.rb_machine.proofs.Entering.{entry_trapped, few_levels, has_failed, has_opened, is_listed, wants_block}
 use Rattle.rb_machine.proofs.KnownHere.{are_quiet, may_reject}
+use Rattle.rb_machine.proofs.QuietProcesses.{waits_at}
 use Rattle.rb_machine.proofs.entry.enter.Goals as goal
 
 pub undo-requires-clause-may : goal.undo-requires-clause-may
@@ -94,7 +97,7 @@ returns-in-None-clause-moved g c facts one there wants =
     let h = has_failed code (c.args.turn + 1) procs parts.table parts.mails.items parts.links.items c.requires.work.work c.args.p one there
     (c.requires.acting one there) c.args.block facts (wants one there) number c.args.turn few c.alternate_for.result c.alternate_for.ensures.alternate
     c.fail.new.procs c.alternate_for.new.table c.alternate_for.ensures.talks c.in-None.is
-    (subst (λ (xs : List Seen). c.fail.new.procs ≡ change_at c.args.p (has_fallen code Broken) xs) c.deref_mut.ensures.value (c.fail.ensures code)) in
+    (subst (λ (xs : List Seen). c.fail.new.procs ≡ change_at c.args.p (changed (fallen (kind_of code) Broken)) xs) c.deref_mut.ensures.value (c.fail.ensures code)) in
     let kept = with_items_is parts.procs c.fail.new.procs (omega (arith, c.fail.auto.procs, c.deref_mut.ensures.len)) in
     record {
       worlds = ap (λ (xs : List Seen). world_of xs c.alternate_for.new.table (memory_of parts.mails.items parts.links.items)) kept ∙ h.world;
@@ -109,9 +112,9 @@ returns-in-None-clause-left g c =
     let parts = c.args.parts.now in
     let kept = with_items_is parts.procs c.fail.new.procs (omega (arith, c.fail.auto.procs, c.deref_mut.ensures.len)) in
     record {
-      waits = subst NoneWaits (sym kept) (fallen_waits code c.args.p parts.procs.items c.fail.new.procs
-          (subst (λ (xs : List Seen). c.fail.new.procs ≡ change_at c.args.p (has_fallen code Broken) xs) c.deref_mut.ensures.value (c.fail.ensures code))
-          c.requires.work.waits);
+      waits = subst NoneWaits (sym (kept ∙ (c.fail.ensures code
+          ∙ ap (λ (xs : List Seen). change_at c.args.p (changed (fallen (kind_of code) Broken)) xs) c.deref_mut.ensures.value)))
+          (waits_at c.args.p (fallen (kind_of code) Broken) parts.procs.items c.requires.work.waits);
       groups = c.alternate_for.ensures.groups;
       sized = c.requires.work.work.sized;
       few = omega (arith, c.requires.none, ap (λ pass. length (passes_of pass)) c.without_pass.ensures.pass);
@@ -127,7 +130,7 @@ returns-in-Some-clause-moved g c facts one there wants =
     omega (arith, c.levels-levels.ensures, ap (λ (x : Seen). length x.process.levels) (some_same (sym here ∙ there))) in
     let number = subst (WantsBlock c.args.block) (wants one there) (c.requires.wants one there) in
     let lent = ap (λ (xs : List Seen). slice_get xs c.args.p) c.deref_mut-in-Some.ensures.value ∙ there in
-    let opens = subst (λ (xs : List Seen). c.open.new.procs ≡ change_at c.args.p (block_entered code facts c.in-Some.alternate c.args.turn) xs)
+    let opens = subst (λ (xs : List Seen). c.open.new.procs ≡ change_at c.args.p (changed (entered_process code facts c.in-Some.alternate c.args.turn)) xs)
     c.deref_mut-in-Some.ensures.value (c.open.ensures.processes one facts lent (wants one there)) in
     let h = has_opened code (c.args.turn + 1) procs parts.table parts.mails.items parts.links.items c.requires.work.work c.args.p one there
     (c.requires.acting one there) c.args.block facts (wants one there) number c.args.turn few c.alternate_for.result c.alternate_for.ensures.alternate
@@ -150,12 +153,12 @@ returns-in-Some-clause-left g c =
     let here = slice_get_read procs (length procs) c.args.p one refl c.requires.process c.index.ensures in
     let wants = wants_block c.args.block (want code one.process.state) (c.requires.wants one here) in
     let lent = ap (λ (xs : List Seen). slice_get xs c.args.p) c.deref_mut-in-Some.ensures.value ∙ here in
-    let opens = subst (λ (xs : List Seen). c.open.new.procs ≡ change_at c.args.p (block_entered code wants.0 c.in-Some.alternate c.args.turn) xs)
+    let opens = subst (λ (xs : List Seen). c.open.new.procs ≡ change_at c.args.p (changed (entered_process code wants.0 c.in-Some.alternate c.args.turn)) xs)
     c.deref_mut-in-Some.ensures.value (c.open.ensures.processes one wants.0 lent wants.1) in
     let kept = with_items_is parts.procs c.open.new.procs (omega (arith, c.open.auto.procs, c.deref_mut-in-Some.ensures.len)) in
     record {
-      waits = subst NoneWaits (sym kept)
-          (entered_waits code wants.0 c.in-Some.alternate c.args.turn c.args.p procs c.open.new.procs opens c.requires.work.waits);
+      waits = subst NoneWaits (sym (kept ∙ opens))
+          (waits_at c.args.p (entered_process code wants.0 c.in-Some.alternate c.args.turn) procs c.requires.work.waits);
       groups = c.alternate_for.ensures.groups;
       sized = c.requires.work.work.sized;
       few = omega (arith, c.requires.none, ap (λ pass. length (passes_of pass)) c.without_pass-in-Some.ensures.pass);

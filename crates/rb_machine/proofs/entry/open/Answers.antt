@@ -5,8 +5,9 @@ use Rattle.rb_world.specs.Kind.{Enters}
 use Rattle.rb_code.specs.Plain.{code as plain}
 use Rattle.rb_code.specs.Turn.{want}
 use Rattle.rb_conv.proofs.Places.{set-changes}
+use Rattle.rb_proc.specs.Entries.{entered_process}
 use Rattle.rb_proc.specs.Process.{Seen}
-use Rattle.rb_machine.specs.Entries.{block_entered}
+use Rattle.rb_machine.specs.Rejections.{changed}
 use Rattle.rb_machine.specs.declared.links.Link.{Link}
 use Rattle.rb_machine.proofs.Entering.{entered_seen}
 use Rattle.rb_machine.proofs.entry.open.Goals as goal
@@ -19,7 +20,7 @@ returns-clause-processes g c one facts there wants =
     let is : get_or procs c.args.p was ≡ one = get_or_from_slice_get procs c.args.p one was there in
     let entered = entered_seen code facts c.args.alternate c.args.turn (get_or procs c.args.p was) c.enter.new.self
     (subst (λ (x : Seen). want code x.process.state ≡ Enters facts) (sym is) wants) c.enter.ensures.process c.enter.ensures.waiting in
-    ap (set procs c.args.p) entered ∙ set-changes (block_entered code facts c.args.alternate c.args.turn) procs c.args.p was c.requires.process
+    ap (set procs c.args.p) entered ∙ set-changes (changed (entered_process code facts c.args.alternate c.args.turn)) procs c.args.p was c.requires.process
 
 pub returns-clause-links : goal.returns-clause-links
 returns-clause-links g c one there =
