@@ -29,6 +29,9 @@ pub mod SeenCopies
 pub mod RoomsAndMessages
 pub mod KnownNumbers
 pub mod Receivers
+-- Where the entry of a recovery block leads, and what a counted turn leaves.
+pub mod Entering
+pub mod CountedTurns
 pub mod CascadeEnds
 pub mod FurtherOut
 pub mod InOrder
@@ -49,3 +52,8 @@ pub mod CountsRead
 pub mod LinesLent
 pub mod CountedAtWork
 pub mod StaysAtWork
+pub mod Changed
+pub mod StepFacts
+pub mod KnownHere
+pub mod TestLines
+pub mod TakenSteps

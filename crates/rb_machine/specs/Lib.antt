@@ -11,4 +11,6 @@ pub mod Loading
 pub mod Stepping
 pub mod Reading
 pub mod Machine
+pub mod Entries
 pub mod Rising
+pub mod Stepping
