@@ -4,15 +4,12 @@
 pub mod came;
 pub mod cascade;
 pub mod channels;
+pub mod entry;
 pub mod innermost;
 pub mod laws;
 pub mod links;
 pub mod loading;
 pub mod machine;
-pub mod entry;
-pub mod innermost;
-pub mod laws;
-pub mod links;
 pub mod moves;
 pub mod parts;
 pub mod reading;
