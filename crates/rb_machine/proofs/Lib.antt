@@ -52,8 +52,3 @@ pub mod CountsRead
 pub mod LinesLent
 pub mod CountedAtWork
 pub mod StaysAtWork
-pub mod Changed
-pub mod StepFacts
-pub mod KnownHere
-pub mod TestLines
-pub mod TakenSteps

@@ -13,4 +13,3 @@ pub mod Reading
 pub mod Machine
 pub mod Entries
 pub mod Rising
-pub mod Stepping
