@@ -10,5 +10,6 @@ pub mod Telling
 pub mod Reading
 pub mod Machine
 pub mod Entries
+pub mod Turns
 pub mod Rising
 pub mod Stepping
