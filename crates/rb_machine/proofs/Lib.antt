@@ -16,3 +16,10 @@ pub mod SeenCopies
 pub mod RoomsAndMessages
 pub mod KnownNumbers
 pub mod Receivers
+pub mod EndsTold
+pub mod Released
+pub mod Written
+pub mod ReadAt
+pub mod CountsRead
+pub mod LinesLent
+pub mod CountedAtWork

@@ -5,3 +5,6 @@ pub mod came;
 pub mod channels;
 pub mod links;
 pub mod laws;
+pub mod parts;
+pub mod reading;
+pub mod telling;
