@@ -1,11 +1,10 @@
 -- Levels further out than one that is rejected: they stay as they are, and so do the rows of their conversations.
-use Rattle.std.proofs.Common.{◌≡◌, ◌≢◌, ◌<◌, ◌≤◌, ◌+◌, ℕ, zero, suc, nat_eq, Bool, true, false, not, List, [], ◌∷◌, length, position, slice_get, take, Option, Some, None, refl, sym, ap, ◌∙◌, subst, eq-eqb, ne_eqb, suc-ne-zero, arith}
+use Rattle.std.proofs.Common.{◌≡◌, ◌≢◌, ◌<◌, ◌+◌, ℕ, zero, suc, nat_eq, List, length, position, slice_get, take, Option, Some, None, refl, sym, ap, ◌∙◌, subst, eq-eqb, ne_eqb, suc-ne-zero, arith}
 use Rattle.std.specs.Option.{is_none}
-use Rattle.std.proofs.lemmas.Option.{slice_get_within}
 use Rattle.std.proofs.lemmas.List.{length-take-le}
 use Rattle.rb_world.specs.Kind.{Membership}
 use Rattle.rb_world.specs.Nested.{AreNested, HasOutside, IsLevelOf}
-use Rattle.rb_world.specs.Reject.{is_below, parent_of}
+use Rattle.rb_world.specs.Reject.{parent_of}
 use Rattle.rb_world.specs.World.{Level, is_of}
 use Rattle.rb_world.proofs.LevelFacts.{get_take}
 use Rattle.rb_world.proofs.NestedSame.{same_number}
@@ -48,8 +47,8 @@ module _ {C : Type 0} where
   place_of_level groups c j levels nested at = place_found groups c j levels levels nested at (λ i below. refl)
 
 -- rows that are alike: a level tries with one what it tries with the other
-tries_alike : (table table' : List Conversation) (d : ℕ) (level : Level Copy) → d < length table' → conversation_at table' d ≡ conversation_at table d
-    → TriesWith table d level → TriesWith table' d level
+tries_alike : (table table' : List Conversation) (d : ℕ) (level : Level Copy) → d < length table'
+    → conversation_at table' d ≡ conversation_at table d → TriesWith table d level → TriesWith table' d level
 tries_alike table table' d level there same tries = record {
   there = there;
   present = tries.present ∙ ap (λ (x : Conversation). x.talk.alternate) (sym same);
@@ -57,7 +56,8 @@ tries_alike table table' d level there same tries = record {
 }
 
 -- the next level out may be rejected, where the table stays
-pub may_after_alone : (table : List Conversation) (j : ℕ) (levels : List (Level Copy)) → MayReject table (j + 1) levels → MayReject table j (take (j + 1) levels)
+pub may_after_alone : (table : List Conversation) (j : ℕ) (levels : List (Level Copy)) → MayReject table (j + 1) levels
+    → MayReject table j (take (j + 1) levels)
 may_after_alone table j levels may = record {
   within = let long : length (take (j + 1) levels) ≡ j + 1 = length-take-le (j + 1) levels may.within in omega (arith, long);
   nested = nested_taken (memberships table) (j + 1) levels may.nested;
@@ -78,7 +78,8 @@ may_after_together table c j levels there at may =
           let tries : TriesWith table d outer.level = alone.tries i d outer below in
           let out : IsLevelOf d levels i = record { level = outer.level; there = (get_take (j + 1) levels i outer.level outer.there).1; of_it = outer.of_it } in
           let other : d ≢ c = λ (same : d ≡ c).
-          let one : i ≡ j = same_number groups levels levels may.nested may.nested c i j (subst (λ (x : ℕ). IsLevelOf x levels i) same out) at in omega (arith, below, one) in
+          let moved : IsLevelOf c levels i = subst (λ (x : ℕ). IsLevelOf x levels i) same out in
+          let one : i ≡ j = same_number groups levels levels may.nested may.nested c i j moved at in omega (arith, below, one) in
           tries_alike table (rejected c table) d outer.level (subst (λ (n : ℕ). d < n) (sym (length-rejected table c)) tries.there)
           (row_beside table c d there tries.there other (not_below groups levels may.nested (length table) c d i j at out (omega (arith, below)))) tries;
     }

@@ -1,8 +1,6 @@
 -- A list whose elements are changed in order: so far, one more, and all of them.
-use Rattle.std.proofs.Common.{◌≡◌, ◌<◌, ◌≤◌, ◌+◌, ◌++◌, ℕ, zero, suc, List, [], ◌∷◌, length, get_or, set, map, take, drop, refl, sym, ap, ◌∙◌, subst, append-nil, add-one, arith}
-use Rattle.std.proofs.Math.Seq.{drop-cons}
+use Rattle.std.proofs.Common.{◌≡◌, ◌≤◌, ◌+◌, ◌++◌, ℕ, zero, suc, List, [], ◌∷◌, length, set, map, take, drop, refl, sym, ap, ◌∙◌, append-nil, add-one, arith}
 use Rattle.std.proofs.lemmas.List.{drop-set-lt, drop_all, take_all}
-use Rattle.std.specs.List.{AllByRecursion}
 
 -- all of them
 pub all_in_order : {A : Type 0} (f : A → A) (xs ys : List A) (n : ℕ) → length xs ≤ n → ys ≡ map f (take n xs) ++ drop n xs → ys ≡ map f xs
@@ -29,14 +27,3 @@ rest_fewer {A} xs ys i same = later ys i ∙ ap (drop 1) same ∙ sym (later xs 
     later [] (suc n) = refl
     later (z ∷ zs) zero = refl
     later (z ∷ zs) (suc n) = later zs n
-
--- what holds of each holds of those behind
-all_behind : {A : Type 0} (P : A → Type 0) (i : ℕ) (xs : List A) → AllByRecursion P xs → AllByRecursion P (drop i xs)
-all_behind P zero xs all = all
-all_behind P (suc i) [] all = all
-all_behind P (suc i) (x ∷ xs) all = all_behind P i xs all.1
-
--- so it holds of the next one
-pub holds_next : {A : Type 0} (P : A → Type 0) (xs ys : List A) (i : ℕ) (d : A) → AllByRecursion P xs → drop i ys ≡ drop i xs → i < length ys → P (get_or ys i d)
-holds_next P xs ys i d all same within =
-    (subst (AllByRecursion P) (sym same ∙ drop-cons ys i d within) (all_behind P i xs all)).0

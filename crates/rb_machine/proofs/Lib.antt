@@ -1,4 +1,11 @@
 -- Lemmas of the machine.
+pub mod Changed
+pub mod InnermostLevel
+pub mod StepFacts
+pub mod KnownHere
+pub mod TestLines
+pub mod TakenSteps
+pub mod StepTaken
 -- How many processes and conversations there are, that levels are few, and that who has failed has none.
 pub mod Sizes
 -- Who stands where, with which levels.
@@ -16,6 +23,18 @@ pub mod SeenCopies
 pub mod RoomsAndMessages
 pub mod KnownNumbers
 pub mod Receivers
+pub mod CascadeEnds
+pub mod FurtherOut
+pub mod InOrder
+pub mod LevelRejected
+pub mod NextLevelOut
+pub mod OneRejection
+pub mod QuietProcesses
+pub mod RejectedLevels
+pub mod RowsKept
+pub mod SeenWorlds
+pub mod SomeCode
+pub mod WhoIsInside
 pub mod EndsTold
 pub mod Released
 pub mod Written
@@ -23,3 +42,4 @@ pub mod ReadAt
 pub mod CountsRead
 pub mod LinesLent
 pub mod CountedAtWork
+pub mod StaysAtWork

@@ -1,5 +1,5 @@
 -- Once a level is spent, process p can be rejected from the next level out on.
-use Rattle.std.proofs.Common.{◌≡◌, ◌<◌, ◌+◌, ℕ, List, length, map, option_map, slice_get, take, Option, Some, refl, sym, ap, ◌∙◌, subst}
+use Rattle.std.proofs.Common.{◌≡◌, ◌<◌, ◌+◌, ℕ, List, length, map, option_map, slice_get, take, Option, Some, sym, ap, ◌∙◌, subst}
 use Rattle.std.proofs.lemmas.Option.{slice_get-map}
 use Rattle.rb_world.specs.Kind.{Kind}
 use Rattle.rb_world.specs.Nested.{IsLevelOf}

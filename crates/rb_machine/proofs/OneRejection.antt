@@ -1,13 +1,12 @@
 -- What the machine does at one rejection is what the world does: of a level alone, and of all that are inside a conversation.
-use Rattle.std.proofs.Common.{◌≡◌, ◌<◌, ◌+◌, ℕ, zero, suc, Bool, true, false, not, cond, ◌&&◌, nat_eq, nat_lt, List, [], ◌∷◌, length, map, slice_get, Option, Some, None, refl, sym, ap, ◌∙◌, subst, arith}
+use Rattle.std.proofs.Common.{◌≡◌, ◌+◌, ℕ, Bool, not, ◌&&◌, nat_eq, nat_lt, List, map, slice_get, Option, Some, None, refl, sym, ap, ◌∙◌, arith}
 use Rattle.std.specs.Option.{is_none}
 use Rattle.rb_base.specs.declared.event.Cause.{Cause}
-use Rattle.rb_base.specs.declared.event.Event.{Event}
 use Rattle.rb_base.specs.declared.event.Event.TheVariants.{Reject, RejectAll}
 use Rattle.rb_world.specs.Kind.{Facts}
 use Rattle.rb_world.specs.Nested.{IsLevelOf}
-use Rattle.rb_world.specs.Reject.{broken_talk, first_again, next_talk, parent_of, reset_below}
-use Rattle.rb_world.specs.World.{Level, Process, Talk, World, change_at, process_levels}
+use Rattle.rb_world.specs.Reject.{parent_of, reset_below}
+use Rattle.rb_world.specs.World.{Level, Process, Talk, change_at, process_levels}
 use Rattle.rb_conv.specs.Conversations.{Conversation, conversation_at, memberships, talks}
 use Rattle.rb_conv.specs.Laws.{talk_after}
 use Rattle.rb_conv.specs.Reject.{has_next, rejected}
@@ -21,7 +20,7 @@ use Rattle.rb_machine.specs.Cascade.{MayReject, TriesWith}
 use Rattle.rb_machine.specs.Rejections.{IsRejection, changed, rejection_of, told_of, tried_alone, tried_together}
 use Rattle.rb_machine.specs.Worlds.{kind_with, processes_of, world_of}
 use Rattle.rb_machine.proofs.FurtherOut.{lone_outermost}
-use Rattle.rb_machine.proofs.RejectedLevels.{rejected_alone, rejected_together}
+use Rattle.rb_machine.proofs.RejectedLevels.{rejected_alone, rejected_together, same_rejection}
 use Rattle.rb_machine.proofs.SeenWorlds.{levels_there, processes_at, processes_each}
 
 -- the level that a view tells of
@@ -68,13 +67,14 @@ module _ (procs : List Seen) (table : List Conversation) (p j : ℕ) (cause : Ca
       let k = kind_with code table in
       let more = nat_lt view.alternate view.alternates in
       let told : Reject p seen.level.facts.line seen.level.alternate cause ≡ rejection_of p view cause =
-      ap (λ (l : ℕ). Reject p l seen.level.alternate cause) seen.line ∙ ap (λ (a : ℕ). Reject p view.line a cause) seen.alternate ∙ ap (told_of p view cause) (sym alone) in
+      ap (λ (l : ℕ). Reject p l seen.level.alternate cause) seen.line
+      ∙ ap (λ (a : ℕ). Reject p view.line a cause) seen.alternate
+      ∙ ap (told_of p view cause) (sym alone) in
       let after : change_at p (tried_alone k more j) w.processes ≡ processes_of procs' =
       sym (ap processes_of same ∙ processes_at p (tried_alone k more j) procs) in
-      subst (λ (event : Event). IsRejection k p j cause (not more) event w (world_of procs' table memory)) told
-      (subst (λ (qs : List (Process Standing Copy)). IsRejection k p j cause (not more) (Reject p seen.level.facts.line seen.level.alternate cause) w
-      (record { processes = qs; talks = talks table; memory = memory })) after
-      (rejected_alone k p j cause w seen.level level_seen (seen.conversation ∙ alone) more (more_seen one.process.levels j view seen)))
+      same_rejection k p j cause w refl told
+      (ap (λ (qs : List (Process Standing Copy)). record { processes = qs; talks = talks table; memory = memory }) after)
+      (rejected_alone k p j cause w seen.level level_seen (seen.conversation ∙ alone) more (more_seen one.process.levels j view seen))
 
   -- a level of a conversation
   pub happens_together : (c : ℕ) → view.conversation ≡ Some c → MayReject table (j + 1) one.process.levels → (procs' : List Seen)
@@ -97,12 +97,9 @@ module _ (procs : List Seen) (table : List Conversation) (p j : ℕ) (cause : Ca
       let after : map (tried_together k more (is_none parent) c) w.processes ≡ processes_of procs' =
       ap (λ (b : Bool). map (tried_together k more b c) w.processes) lone
       ∙ sym (ap processes_of same ∙ processes_each (tried_together k more (nat_eq j 0) c) procs) in
-      let talked : change_at c (talk_after more parent) (reset_below groups c w.talks) ≡ talks (rejected c table) =
-      sym (talks_are_the_worlds.1 table c p).rejection in
-      subst (λ (b : Bool). IsRejection k p j cause (not more && not b) (rejection_of p view cause) w (world_of procs' (rejected c table) memory)) lone
-      (subst (λ (event : Event). IsRejection k p j cause (not more && not (is_none parent)) event w (world_of procs' (rejected c table) memory)) told
-      (subst (λ (ts : List Talk). IsRejection k p j cause (not more && not (is_none parent)) (RejectAll c seen.level.alternate p cause) w
-      (record { processes = processes_of procs'; talks = ts; memory = memory })) talked
-      (subst (λ (qs : List (Process Standing Copy)). IsRejection k p j cause (not more && not (is_none parent)) (RejectAll c seen.level.alternate p cause) w
-      (record { processes = qs; talks = change_at c (talk_after more parent) (reset_below groups c w.talks); memory = memory })) after
-      (rejected_together k p j cause w seen.level level_seen c (seen.conversation ∙ of_c) more left parent refl))))
+      let reset : List Talk = change_at c (talk_after more parent) (reset_below groups c w.talks) in
+      let talked : reset ≡ talks (rejected c table) = sym (talks_are_the_worlds.1 table c p).rejection in
+      same_rejection k p j cause w (ap (λ (b : Bool). not more && not b) lone) told
+      (ap (λ (qs : List (Process Standing Copy)). record { processes = qs; talks = reset; memory = memory }) after
+      ∙ ap (λ (ts : List Talk). record { processes = processes_of procs'; talks = ts; memory = memory }) talked)
+      (rejected_together k p j cause w seen.level level_seen c (seen.conversation ∙ of_c) more left parent refl)

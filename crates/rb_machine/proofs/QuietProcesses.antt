@@ -1,5 +1,5 @@
 -- Processes whose levels go back: no line waits as before, and the alternate of every level that is left can rise.
-use Rattle.std.proofs.Common.{◌≡◌, ◌+◌, ◌-◌, ◌^◌, ◌<◌, ℕ, zero, suc, List, [], ◌∷◌, length, map, position, slice_get, take, Option, Some, None, refl, sym, ap, ◌∙◌, subst, not-suc-le-zero, le_of_suc-le-suc, arith}
+use Rattle.std.proofs.Common.{◌+◌, ◌-◌, ◌^◌, ◌<◌, ℕ, zero, suc, List, [], ◌∷◌, length, map, position, slice_get, take, Option, Some, None, ◌∙◌, not-suc-le-zero, le_of_suc-le-suc, arith}
 use Rattle.std.specs.List.{AllByRecursion}
 use Rattle.std.proofs.lemmas.Option.{slice_get_within}
 use Rattle.rb_world.specs.Kind.{Kind}
@@ -8,7 +8,8 @@ use Rattle.rb_world.specs.World.{Level, Process, change_at, is_of}
 use Rattle.rb_world.proofs.ListFacts.{slice_get-there}
 use Rattle.rb_world.proofs.Members.CascadeSteps.{put_back_outer}
 use Rattle.rb_code.specs.Turn.{Common, Copy, Standing}
-use Rattle.rb_proc.specs.Process.{IsBelowLast, Seen}
+use Rattle.rb_proc.specs.Contents.{IsBelowLast}
+use Rattle.rb_proc.specs.Process.{Seen}
 use Rattle.rb_machine.specs.Cascade.{AreQuiet}
 use Rattle.rb_machine.specs.Rejections.{changed}
 use Rattle.rb_machine.specs.Worlds.{CanRise, NoneWaits}

@@ -1,13 +1,13 @@
 -- A cascade of rejections, level by level: what the rejection of one level comes to, and that of the next level out.
-use Rattle.std.proofs.Common.{◌≡◌, ◌+◌, ℕ, zero, suc, Bool, true, false, not, cond, ◌&&◌, List, [], ◌∷◌, map, length, nat_lt, Option, Some, None, slice_get, refl, sym, ap, ◌∙◌, subst, suc-ne-zero, add-one, arith}
+use Rattle.std.proofs.Common.{◌≡◌, ◌+◌, ℕ, zero, suc, Bool, true, false, not, cond, ◌&&◌, List, [], ◌∷◌, map, nat_lt, Option, Some, None, slice_get, refl, ap, ◌∙◌, add-one}
 use Rattle.std.specs.Option.{is_none}
 use Rattle.rb_base.specs.declared.event.Cause.{Cause}
 use Rattle.rb_base.specs.declared.event.Cause.TheVariants.{Inner}
 use Rattle.rb_base.specs.declared.event.Event.{Event}
 use Rattle.rb_base.specs.declared.event.Event.TheVariants.{Reject, RejectAll}
 use Rattle.rb_world.specs.Kind.{Kind}
-use Rattle.rb_world.specs.Reject.{Happened, after_event, all_back, broken_talk, exhausted_next, fallen_inside, first_again, next_talk, parent_of, private_next, put_back, raised, reject, reject_at, reject_either, reset_below, together_next, where_inside}
-use Rattle.rb_world.specs.World.{Level, Process, Talk, World, change_at, process_levels, with_process}
+use Rattle.rb_world.specs.Reject.{after_event, all_back, broken_talk, exhausted_next, fallen_inside, next_talk, parent_of, private_next, put_back, raised, reject, reject_at, reject_either, reset_below, together_next, where_inside}
+use Rattle.rb_world.specs.World.{Level, Process, World, change_at, process_levels, with_process}
 use Rattle.rb_conv.specs.Laws.{talk_after}
 use Rattle.rb_machine.specs.Rejections.{IsRejection, tried_alone, tried_together}
 
@@ -21,6 +21,15 @@ pub map_twice : {A : Type 0} (f g : A → A) (xs : List A) → map f (map g xs) 
 map_twice f g [] = refl
 map_twice {A} f g (x ∷ xs) = ap (λ (ys : List A). f (g x) ∷ ys) (map_twice f g xs)
 
+-- the same rejection, told of equal values
+pub same_rejection : {S C M : Type 0} (k : Kind S C M) (p j : ℕ) (cause : Cause) (w : World S C M) {a b : Bool} {event other : Event} {v u : World S C M}
+    → a ≡ b → event ≡ other → v ≡ u → IsRejection k p j cause a event w v → IsRejection k p j cause b other w u
+same_rejection {S} {C} {M} k p j cause w {b = b} {event = event} {other = other} {v = v} spent told later is =
+    is
+    ∙ ap (λ (x : Bool). after_event event (cond x (reject k p j Inner v) (v, []))) spent
+    ∙ ap (λ (x : Event). after_event x (cond b (reject k p j Inner v) (v, []))) told
+    ∙ ap (λ (x : World S C M). after_event other (cond b (reject k p j Inner x) (x, []))) later
+
 module _ {S C M : Type 0} (k : Kind S C M) (p j : ℕ) (cause : Cause) (w : World S C M) (level : Level C) where
   rejected_either : (there : slice_get (process_levels w p) j ≡ Some level) (conversation : Option ℕ) → level.facts.conversation ≡ conversation
       → reject k p (j + 1) cause w ≡ reject_either k p j cause level conversation w (reject k p j Inner)
@@ -33,7 +42,8 @@ module _ {S C M : Type 0} (k : Kind S C M) (p j : ℕ) (cause : Cause) (w : Worl
   private_goes : (more : Bool) → private_next more p j (with_process p (put_back k j) w) (reject k p j Inner)
       ≡ cond (not more) (reject k p j Inner (with_process p (tried_alone k more j) w)) (with_process p (tried_alone k more j) w, [])
   private_goes true =
-      ap (λ (qs : List (Process S C)). (record { processes = qs; talks = w.talks; memory = w.memory }, [])) (change_twice p (raised j) (put_back k j) w.processes)
+      ap (λ (qs : List (Process S C)). (record { processes = qs; talks = w.talks; memory = w.memory }, []))
+      (change_twice p (raised j) (put_back k j) w.processes)
   private_goes false = refl
 
   pub rejected_alone : slice_get (process_levels w p) j ≡ Some level → level.facts.conversation ≡ None → (more : Bool)
@@ -41,7 +51,8 @@ module _ {S C M : Type 0} (k : Kind S C M) (p j : ℕ) (cause : Cause) (w : Worl
       → IsRejection k p j cause (not more) (Reject p level.facts.line level.alternate cause) w (with_process p (tried_alone k more j) w)
   rejected_alone there e more is =
       rejected_either there None e
-      ∙ ap (λ (b : Bool). after_event (Reject p level.facts.line level.alternate cause) (private_next b p j (with_process p (put_back k j) w) (reject k p j Inner))) is
+      ∙ ap (λ (b : Bool). after_event (Reject p level.facts.line level.alternate cause)
+      (private_next b p j (with_process p (put_back k j) w) (reject k p j Inner))) is
       ∙ ap (after_event (Reject p level.facts.line level.alternate cause)) (private_goes more)
 
   -- the world once all that are inside a conversation were rejected
@@ -57,11 +68,13 @@ module _ {S C M : Type 0} (k : Kind S C M) (p j : ℕ) (cause : Cause) (w : Worl
       → together_next k more c (all_back k c w) (reject k p j Inner)
       ≡ cond (not more && not (is_none parent)) (reject k p j Inner (all_tried more parent c)) (all_tried more parent c, [])
   together_goes c true parent e =
-      ap (λ (qs : List (Process S C)). (record { processes = qs; talks = change_at c next_talk (reset_below k.groups c w.talks); memory = w.memory }, []))
+      ap (λ (qs : List (Process S C)).
+      (record { processes = qs; talks = change_at c next_talk (reset_below k.groups c w.talks); memory = w.memory }, []))
       (map_twice (where_inside raised c) (where_inside (put_back k) c) w.processes)
   together_goes c false None e =
       ap (λ (o : Option ℕ). exhausted_next k o c (all_back k c w) (reject k p j Inner)) e
-      ∙ ap (λ (qs : List (Process S C)). (record { processes = qs; talks = change_at c broken_talk (reset_below k.groups c w.talks); memory = w.memory }, []))
+      ∙ ap (λ (qs : List (Process S C)).
+      (record { processes = qs; talks = change_at c broken_talk (reset_below k.groups c w.talks); memory = w.memory }, []))
       (map_twice (fallen_inside k c) (where_inside (put_back k) c) w.processes)
   together_goes c false (Some parent) e =
       ap (λ (o : Option ℕ). exhausted_next k o c (all_back k c w) (reject k p j Inner)) e

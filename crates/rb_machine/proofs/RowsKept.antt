@@ -1,5 +1,5 @@
 -- What the rejection of a conversation leaves in the table: numbers of alternates, and the rows that are neither it nor below it.
-use Rattle.std.proofs.Common.{◌≡◌, ◌≢◌, ◌<◌, ℕ, zero, suc, nat_eq, ◌+◌, Bool, true, false, cond, List, [], ◌∷◌, length, map, Option, Some, None, refl, sym, ap, ◌∙◌, subst, ne_eqb, arith}
+use Rattle.std.proofs.Common.{◌≡◌, ◌≢◌, ◌<◌, ℕ, zero, suc, ◌+◌, Bool, true, false, cond, List, [], ◌∷◌, length, Option, Some, None, refl, sym, ap, ◌∙◌, subst, ne_eqb}
 use Rattle.rb_world.specs.Reject.{is_below}
 use Rattle.rb_world.specs.World.{change_at}
 use Rattle.rb_world.proofs.ListFacts.{length-change_at}

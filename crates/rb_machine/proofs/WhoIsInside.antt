@@ -1,7 +1,7 @@
 -- Who is inside a conversation, by the place of its level.
-use Rattle.std.proofs.Common.{◌≡◌, ℕ, Bool, true, false, cond, List, position, Option, Some, None, refl, sym, ap, ◌∙◌}
+use Rattle.std.proofs.Common.{◌≡◌, ℕ, position, Option, Some, None, refl}
 use Rattle.std.specs.Option.{is_some}
-use Rattle.rb_world.specs.World.{Level, Process, is_inside, is_of}
+use Rattle.rb_world.specs.World.{Process, is_inside, is_of}
 use Rattle.rb_world.proofs.LevelFacts.{any_level, level_at_place}
 use Rattle.rb_world.proofs.Erasing.BreakingKeepsErasure.{not_inside}
 

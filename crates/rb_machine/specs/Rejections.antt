@@ -1,5 +1,5 @@
 -- One rejection of a cascade: what is told of it, what it does to each process, and how the cascade goes on.
-use Rattle.std.specs.Prelude.{◌≡◌, ◌+◌, ℕ, Bool, true, false, cond, [], Option, Some, None}
+use Rattle.std.specs.Prelude.{◌≡◌, ◌+◌, ℕ, Bool, true, false, cond, List, [], ◌∷◌, ◌++◌, Option, Some, None}
 use Rattle.rb_base.specs.declared.event.Cause.{Cause}
 use Rattle.rb_base.specs.declared.event.Cause.TheVariants.{Inner}
 use Rattle.rb_base.specs.declared.event.Event.{Event}
@@ -7,9 +7,12 @@ use Rattle.rb_base.specs.declared.event.Event.TheVariants.{Reject, RejectAll}
 use Rattle.rb_world.specs.Kind.{Kind}
 use Rattle.rb_world.specs.Reject.{after_event, fallen_inside, put_back, raised, reject, where_inside}
 use Rattle.rb_world.specs.World.{Process, World}
-use Rattle.rb_code.specs.Turn.{Copy, Standing}
+use Rattle.rb_code.specs.Plain.{Code}
+use Rattle.rb_code.specs.Turn.{Common, Copy, Standing}
+use Rattle.rb_conv.specs.Conversations.{Conversation}
 use Rattle.rb_proc.specs.declared.answers.LevelView.{LevelView}
 use Rattle.rb_proc.specs.Process.{Seen}
+use Rattle.rb_machine.specs.Worlds.{kind_with, world_of}
 
 -- the rejection of a level that is private, or one of a conversation
 abbrev pub told_of : ℕ → LevelView → Cause → Option ℕ → Event
@@ -39,3 +42,11 @@ tried_together k false false c q = where_inside (put_back k) c q
 -- left and another is around it, that is rejected next.
 abbrev pub IsRejection : {S C M : Type 0} → Kind S C M → ℕ → ℕ → Cause → Bool → Event → World S C M → World S C M → Type 0
 IsRejection k p j cause spent event w w' = reject k p (j + 1) cause w ≡ after_event event (cond spent (reject k p j Inner w') (w', []))
+
+-- Level number j of process p was rejected, and one event tells it. If the level is spent the next one out is to be rejected.
+pub record HasRejected (p j : ℕ) (cause : Cause) (spent : Bool) (procs : List Seen) (table : List Conversation) (events : List Event)
+    (procs' : List Seen) (table' : List Conversation) (events' : List Event) : Type 0 where
+  pub event : Event
+  pub told : events' ≡ events ++ event ∷ []
+  pub worlds : (c : Code) (memory : Common)
+      → IsRejection (kind_with c table) p j cause spent event (world_of procs table memory) (world_of procs' table' memory)

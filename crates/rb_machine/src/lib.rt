@@ -2,9 +2,13 @@
 #![tactic(auto)]
 
 pub mod came;
+pub mod cascade;
 pub mod channels;
-pub mod links;
+pub mod innermost;
 pub mod laws;
+pub mod links;
 pub mod parts;
 pub mod reading;
+pub mod step;
 pub mod telling;
+pub mod test_line;

@@ -22,6 +22,7 @@ ghost use Rattle.rb_proc.specs.Executable.{IsExecutable};
 ghost use Rattle.rb_proc.specs.Outcomes.{stop_at};
 ghost use Rattle.rb_proc.specs.Runs.{CursorsRise};
 ghost use Rattle.rb_proc.specs.Sees.{AreSized};
+ghost use Rattle.rb_proc.specs.Statuses.{status_of};
 ghost use Rattle.rb_proc.specs.Views.{CursorThen, IsViewOf};
 ghost use Rattle.rb_proc.specs.Process.{Seen, StepsTo, alternate_for, kind_of, message_for, step_of, wanted_of};
 
@@ -177,6 +178,7 @@ impl<L: Ledger> Proc<L> {
         requires cursors { CursorsRise (plain code.now) self.old.process.state.process self.old.process.state.words }
         ensures came { StepsTo (plain code.now) self.old.process mails.old (step_of (plain code.now) self.old.process mails.old there) result self.new.process mails.new }
         ensures sized { AreSized (plain code.now) mails.new }
+        ensures waiting { self.new.waiting ≡ self.old.waiting }
     {
         let wanted = want_at(code, self.at);
         let message = message_of(
@@ -349,6 +351,7 @@ impl<L: Ledger> Proc<L> {
         requires { self.now.process.state.process < length code.now.processes.items }
         ensures cursor { result ≡ cursor_in (plain code.now) self.now.process.state.process self.now.process.state.words channel }
         ensures ticks { steps.new ≤ steps.old + 1 }
+        ensures rise { steps.old ≤ steps.new }
     {
         cursor_of(code, self.process, channel, &self.memory, steps)
     }
@@ -370,9 +373,17 @@ impl<L: Ledger> Proc<L> {
         requires at { at < length (variable_words (plain code.now) self.now.process.state) }
         ensures word { slice_get (variable_words (plain code.now) self.now.process.state) at ≡ Some result }
         ensures ticks { steps.new ≤ steps.old + 1 }
+        ensures rise { steps.old ≤ steps.new }
     {
         let first = first_variable(code, self.process);
         self.memory.load(first + at as usize, steps)
+    }
+
+    /// Whether it runs, is done, or has failed, and then with which cause.
+    pub fn status(&self) -> Status
+        ensures { status_of result ≡ self.now.process.status }
+    {
+        self.status
     }
 }
 

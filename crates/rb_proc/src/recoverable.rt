@@ -145,6 +145,7 @@ impl<L: Ledger> Recoverable<L> {
         requires { at < length self.now.words }
         ensures word { result ≡ word_at self.now.words at }
         ensures ticks { steps.new ≤ steps.old + 1 }
+        ensures rise { steps.old ≤ steps.new }
     {
         self.cells.read(at as u32, steps)
     }

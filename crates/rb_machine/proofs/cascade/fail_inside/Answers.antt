@@ -8,8 +8,8 @@ use Rattle.rb_machine.proofs.cascade.fail_inside.Goals as goal
 
 pub loop-proc-preserved : goal.loop-proc-preserved
 loop-proc-preserved g c = λ code.
-    one_more (changed (fallen_inside (kind_of code) c.args.conversation)) c.args.procs.now c.loop-proc.procs c.loop-proc.proc-index c.proc-item.result c.fail_at.new.proc
-    c.loop-proc-test.true c.loop-proc.auto.procs (c.loop-proc.invariant code) (c.fail_at.ensures code)
+    one_more (changed (fallen_inside (kind_of code) c.args.conversation)) c.args.procs.now c.loop-proc.procs c.loop-proc.proc-index c.proc-item.result
+    c.fail_at.new.proc c.loop-proc-test.true c.loop-proc.auto.procs (c.loop-proc.invariant code) (c.fail_at.ensures code)
 
 pub returns : goal.returns
 returns g c = λ code.

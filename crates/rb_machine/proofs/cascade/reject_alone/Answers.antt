@@ -1,4 +1,4 @@
-use Rattle.std.proofs.Common.{◌≡◌, ◌<◌, length, slice_get, sym, subst}
+use Rattle.std.proofs.Common.{◌<◌, length, sym, subst}
 use Rattle.rb_proc.specs.Process.{Seen, kind_of}
 use Rattle.rb_machine.proofs.QuietProcesses.{Rises, back_within, below_last, rises_put_back}
 use Rattle.rb_machine.proofs.SomeCode.{some_code}
@@ -12,5 +12,6 @@ raise-requires-clause-level g c =
 pub raise-requires-clause-few : goal.raise-requires-clause-few
 raise-requires-clause-few g c =
     let later : Rises c.put_back.new.self.process =
-    subst (λ (one : Seen). Rises one.process) (sym (c.put_back.ensures some_code)) (rises_put_back (kind_of some_code) c.args.inner c.args.proc.now.process c.requires.rise) in
+    subst (λ (one : Seen). Rises one.process) (sym (c.put_back.ensures some_code))
+    (rises_put_back (kind_of some_code) c.args.inner c.args.proc.now.process c.requires.rise) in
     below_last c.put_back.new.self.process.levels c.args.inner later (raise-requires-clause-level g c)

@@ -1,8 +1,8 @@
-use Rattle.std.proofs.Common.{◌≡◌, ◌∷◌, ℕ, Bool, true, false, List, map, nat_eq, sym, ap, ◌∙◌, subst, eq-eqb, ne_eqb}
+use Rattle.std.proofs.Common.{◌≡◌, Bool, true, false, map, nat_eq, sym, ap, ◌∙◌, subst, eq-eqb, ne_eqb}
 use Rattle.rb_world.specs.Reject.{fallen_inside, put_back, raised, where_inside}
 use Rattle.rb_conv.specs.Conversations.{conversation_at}
 use Rattle.rb_conv.specs.Reject.{has_next}
-use Rattle.rb_proc.specs.Process.{Seen, kind_of}
+use Rattle.rb_proc.specs.Process.{kind_of}
 use Rattle.rb_machine.specs.Cascade.{AreQuiet}
 use Rattle.rb_machine.specs.Rejections.{changed, tried_together}
 use Rattle.rb_machine.proofs.QuietProcesses.{quiet_each, rises_inside}
