@@ -43,3 +43,4 @@ pub mod CountsRead
 pub mod LinesLent
 pub mod CountedAtWork
 pub mod StaysAtWork
+pub mod LentAtWork
