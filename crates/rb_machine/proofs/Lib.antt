@@ -19,10 +19,19 @@ pub mod RunsRise
 pub mod CountsBelow
 pub mod CountedKept
 pub mod KnownTurns
+-- What a load asks of code, and what it makes of it.
+pub mod ExecutableCode
+pub mod FirstProcesses
+pub mod Opens
+pub mod TurnOfParts
+pub mod MachineRuns
 pub mod SeenCopies
 pub mod RoomsAndMessages
 pub mod KnownNumbers
 pub mod Receivers
+-- Where the entry of a recovery block leads, and what a counted turn leaves.
+pub mod Entering
+pub mod CountedTurns
 pub mod CascadeEnds
 pub mod FurtherOut
 pub mod InOrder

@@ -4,11 +4,16 @@
 pub mod came;
 pub mod cascade;
 pub mod channels;
+pub mod entry;
 pub mod innermost;
 pub mod laws;
 pub mod links;
+pub mod loading;
+pub mod machine;
+pub mod moves;
 pub mod parts;
 pub mod reading;
 pub mod step;
 pub mod telling;
 pub mod test_line;
+pub mod undone;

@@ -1,15 +1,19 @@
 //! The machine: a program's processes, channels and conversations, turn by turn.
 
-ghost use Rattle.std.specs.Prelude.{◌≡◌, ℕ, ◌+◌, ◌<◌, ◌≤◌, [], length, replicate, vec_len, vec_capacity, IfOk};
+ghost use Rattle.std.specs.Prelude.{◌≡◌, ◌+◌, ◌<◌, ◌≤◌, [], length, replicate, vec_len, vec_capacity, IfOk};
 ghost use Rattle.rb_base.specs.declared.limits.TheConstants.{MOST_TURNS};
 ghost use Rattle.rb_code.specs.Plain.{code as plain};
 ghost use Rattle.rb_code.specs.WellFormed.{IsSound};
 ghost use Rattle.rb_conv.specs.Conversations.{memberships, opening};
 ghost use Rattle.rb_trace.specs.Report.{told_of};
-ghost use Rattle.rb_world.specs.Turn.{told_at_opening};
+ghost use Rattle.rb_world.specs.Turn.{told_at_opening, turn};
+ghost use Rattle.rb_machine.specs.AtWork.{IsAtWork};
+ghost use Rattle.rb_machine.specs.Cascade.{SameGroups};
 ghost use Rattle.rb_machine.specs.Known.{IsLoaded};
 ghost use Rattle.rb_machine.specs.Machine.{HasTurned, opening_seen};
-ghost use Rattle.rb_machine.specs.Worlds.{counts_of};
+ghost use Rattle.rb_machine.specs.Moves.{AreAtWork, world};
+ghost use Rattle.rb_machine.specs.Telling.{running_of};
+ghost use Rattle.rb_machine.specs.Worlds.{counts_of, kind_with, lines_of, processes_of};
 
 use crate::loading::load_parts;
 use crate::moves::take_turn;
@@ -90,7 +94,14 @@ impl<'a, L: Ledger> Machine<'a, L> {
         ensures { HasTurned self.old p self.new (told_of result.kind result.events.items self.new.waiting) }
     {
         self.taken += 1;
-        turn(self.code, &mut self.parts, &mut self.running, self.taken, p, steps)
+        turn(
+            self.code,
+            &mut self.parts,
+            &mut self.running,
+            self.taken,
+            p,
+            steps,
+        )
     }
 
     /// How many turns it has taken.
@@ -148,15 +159,25 @@ impl<'a, L: Ledger> Final for Machine<'a, L> {
     }
 }
 
-// One turn of a machine's parts.
+// Turn number `number` of process p.
 fn turn<L: Ledger>(
     code: &Code,
     parts: &mut Parts<L>,
-    running: &mut Vec<bool>,
+    running: &mut [bool],
     number: u32,
     p: u32,
     steps: &mut Steps<L>,
 ) -> Report
+    requires work { AreAtWork (plain code.now) number parts.old }
+    requires running { running.old ≡ running_of (processes_of parts.old.procs.items) }
+    requires room { vec_len parts.old.links < vec_capacity parts.old.links }
+    requires few { number ≤ MOST_TURNS }
+    ensures turned { (world parts.new, told_of result.kind result.events.items (lines_of parts.new.procs.items)) ≡ turn (kind_with (plain code.now) parts.old.table) number p (world parts.old) }
+    ensures groups { SameGroups parts.old.table parts.new.table }
+    ensures work { IsAtWork (plain code.now) (number + 1) parts.new.procs.items parts.new.table parts.new.mails.items parts.new.links.items }
+    ensures running { running.new ≡ running_of (processes_of parts.new.procs.items) }
+    ensures links { vec_len parts.new.links ≤ vec_len parts.old.links + 1 }
+    ensures room { vec_capacity parts.old.links ≤ vec_capacity parts.new.links }
 {
     let mut events = ArrayVec::new();
     let came = take_turn(code, parts, number, p, &mut events, steps);
