@@ -1,7 +1,6 @@
 -- Lists of which one element or each has changed, and what is known of each.
 use Rattle.std.proofs.Common.{◌≡◌, ℕ, zero, suc, ◌<◌, List, [], ◌∷◌, ◌++◌, length, map, take, drop, get_or, slice_get, Some, None, refl, ap, sym, ◌∙◌, subst, arith}
 use Rattle.std.specs.List.{AllByRecursion}
-use Rattle.rb_world.specs.Standing.{Each}
 use Rattle.rb_world.specs.World.{change_at, last_of}
 use Rattle.rb_world.proofs.ListFacts.{none_some, some_same}
 

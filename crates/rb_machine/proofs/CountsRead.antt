@@ -17,7 +17,7 @@ use Rattle.rb_code.proofs.Channels.{receives, sends}
 use Rattle.rb_proc.specs.Process.{Seen}
 use Rattle.rb_machine.specs.Reading.{AreCounted, HasEnd, sent_of, taken_of}
 use Rattle.rb_machine.specs.Worlds.{processes_of}
-use Rattle.rb_machine.proofs.ReadAt.{read_there}
+use Rattle.rb_machine.proofs.RoomsAndMessages.{channel_lent}
 
 -- how many values the sender of a channel has sent, and the receiver of one has taken, by the channel's number
 abbrev sent_in : Code → List Standing → ℕ → Ends → ℕ
@@ -47,6 +47,15 @@ taken_at c standings from (suc n) (first ∷ list) ends e =
     let here : (from + 1) + n ≡ from + suc n = omega arith in
     taken_at c standings (from + 1) n list ends e ∙ ap (λ (m : ℕ). Some (taken_in c standings m ends)) here
 
+-- there are as many counts as channels
+sent_long : (c : Code) (standings : List Standing) (from : ℕ) (list : List Ends) → length (counts_sent c standings from list) ≡ length list
+sent_long c standings from [] = refl
+sent_long c standings from (ends ∷ list) = ap suc (sent_long c standings (from + 1) list)
+
+taken_long : (c : Code) (standings : List Standing) (from : ℕ) (list : List Ends) → length (counts_taken c standings from list) ≡ length list
+taken_long c standings from [] = refl
+taken_long c standings from (ends ∷ list) = ap suc (taken_long c standings (from + 1) list)
+
 -- the state of a process by its number
 state_there : (procs : List Seen) (p : ℕ) (one : Seen) → slice_get procs p ≡ Some one
     → slice_get (map (λ (q : Process Standing Copy). q.state) (processes_of procs)) p ≡ Some one.process.state
@@ -74,14 +83,14 @@ module _ (c : Code) (procs : List Seen) (counted : AreCounted c procs) (channel 
   pub sender_counts : HasEnd c procs channel ends.sender
   sender_counts = record {
     there = there ends.sender (counted.ends channel ends at).sender;
-    among = sends c counted.lists ends.sender (exists ends.sender (counted.ends channel ends at).sender) channel
+    among = sends c counted.numbered.lists ends.sender (exists ends.sender (counted.ends channel ends at).sender) channel
         (subst (λ o. IsSender o ends.sender) (sym at) refl);
   }
 
   pub receiver_counts : HasEnd c procs channel ends.receiver
   receiver_counts = record {
     there = there ends.receiver (counted.ends channel ends at).receiver;
-    among = receives c counted.lists ends.receiver (exists ends.receiver (counted.ends channel ends at).receiver) channel
+    among = receives c counted.numbered.lists ends.receiver (exists ends.receiver (counted.ends channel ends at).receiver) channel
         (subst (λ o. IsReceiver o ends.receiver) (sym at) refl);
   }
 
@@ -107,4 +116,15 @@ pub channel_there : (code : Held) (n : ℕ) (one : ChannelCode) → n < length (
     → slice_get (plain code).channels n ≡ Some (ends_of one)
 channel_there code n one h read =
     let within : n < length code.channels.items = omega (arith, h, length-map code.channels.items ends_of) in
-    slice_get-map ends_of code.channels.items n ∙ ap (option_map ends_of) (read_there code.channels.items n one within read)
+    channel_lent code code.channels.items n one refl within read
+
+-- a channel with a count is one of the code
+pub sent_within : (c : Code) (processes : List (Process Standing Copy)) (channel : ℕ) → channel < length (sent_of c processes)
+    → channel < length c.channels
+sent_within c processes channel h =
+    omega (arith, h, sent_long c (map (λ (q : Process Standing Copy). q.state) processes) 0 c.channels)
+
+pub taken_within : (c : Code) (processes : List (Process Standing Copy)) (channel : ℕ) → channel < length (taken_of c processes)
+    → channel < length c.channels
+taken_within c processes channel h =
+    omega (arith, h, taken_long c (map (λ (q : Process Standing Copy). q.state) processes) 0 c.channels)

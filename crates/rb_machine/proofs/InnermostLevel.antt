@@ -1,8 +1,8 @@
 -- The innermost level of a process, and the alternate that its next step starts.
-use Rattle.std.proofs.Common.{◌≡◌, ℕ, zero, suc, ◌-◌, Bool, false, List, length, slice_get, Option, Some, None, refl, sym, ap, ◌∙◌, subst, arith}
+use Rattle.std.proofs.Common.{◌≡◌, ℕ, ◌-◌, false, List, length, slice_get, Option, Some, None, refl, sym, ap, ◌∙◌, subst, arith}
 use Rattle.rb_world.specs.Kind.{Want, NothingLeft, SendsOn, ReceivesOn, MayReceiveOn, Enters, Starts, Acts}
 use Rattle.rb_world.specs.Turn.{tried_at}
-use Rattle.rb_world.specs.World.{Level, Process, Running, Status, last_of}
+use Rattle.rb_world.specs.World.{Level, Process, Running, last_of}
 use Rattle.rb_code.specs.Plain.{Code}
 use Rattle.rb_code.specs.Turn.{Copy, Standing, want}
 use Rattle.rb_proc.specs.Process.{alternate_for, wanted_by, wanted_now, wanted_of}

@@ -4,27 +4,25 @@ use Rattle.std.proofs.Common.{◌≡◌, ℕ, zero, suc, ◌+◌, ◌-◌, ◌<�
 use Rattle.std.proofs.lemmas.Option.{slice_get-map}
 use Rattle.rb_base.specs.declared.limits.TheConstants.{MOST_TURNS}
 use Rattle.rb_cache.specs.Copies.{accepted}
-use Rattle.rb_world.specs.Kind.{Membership, Want, NothingLeft, SendsOn, ReceivesOn, MayReceiveOn, Enters, Starts, Acts}
+use Rattle.rb_world.specs.Kind.{Want, NothingLeft, SendsOn, ReceivesOn, MayReceiveOn, Enters, Starts, Acts}
 use Rattle.rb_world.specs.Nested.{IsLevelOf}
-use Rattle.rb_world.specs.Present.{IsPresent, TryPresent}
+use Rattle.rb_world.specs.Present.{IsPresent}
 use Rattle.rb_world.specs.Slots.{Slots}
 use Rattle.rb_world.specs.Standing.{Each}
 use Rattle.rb_world.specs.Turn.{tried_at}
-use Rattle.rb_world.specs.World.{Level, Process, Status, Running, Finished, FailedWith, last_of, without_last}
+use Rattle.rb_world.specs.World.{Level, Status, Running, Finished, FailedWith, last_of, without_last}
 use Rattle.rb_world.proofs.ListFacts.{none_some, some_same}
 use Rattle.rb_code.specs.Plain.{Code}
-use Rattle.rb_code.specs.Safe.{IsThere}
-use Rattle.rb_code.specs.Sound.{HasTable, Table}
-use Rattle.rb_code.specs.Stands.{IsAlternate, Serves, Settles, Stands}
-use Rattle.rb_code.specs.StandsInRuns.{ProcessStands, StandsNow}
+use Rattle.rb_code.specs.Sound.{Table}
+use Rattle.rb_code.specs.Stands.{IsAlternate, Serves, Settles}
+use Rattle.rb_code.specs.StandsInRuns.{StandsNow}
 use Rattle.rb_code.specs.Turn.{Common, Copy, Standing, want}
-use Rattle.rb_code.specs.WellFormed.{ListsChannels}
 use Rattle.rb_code.proofs.ProcessesStand.{stands_to_step}
-use Rattle.rb_conv.specs.Conversations.{Conversation, conversation_at, memberships, nobody, talks}
+use Rattle.rb_conv.specs.Conversations.{Conversation, conversation_at, memberships, talks}
 use Rattle.rb_proc.specs.Process.{Seen, alternate_for, message_for}
 use Rattle.rb_proc.specs.Runs.{CursorsRise}
-use Rattle.rb_machine.specs.AtWork.{HasFewAlternates, IsAtWork, IsStep, MayActNow}
-use Rattle.rb_machine.specs.Cascade.{AreQuiet, MayReject, MayRejectAt, TriesWith}
+use Rattle.rb_machine.specs.AtWork.{HasFewAlternates, IsStep, MayActNow}
+use Rattle.rb_machine.specs.Cascade.{AreQuiet, MayRejectAt, TriesWith}
 use Rattle.rb_machine.specs.Known.{IsKnown, IsLoaded, IsTried}
 use Rattle.rb_machine.specs.Stepping.{IsListed, MayLeave, MayStep, conversation_in}
 use Rattle.rb_machine.specs.Worlds.{CanRise, NoneWaits, counts_of, processes_of, world_of}

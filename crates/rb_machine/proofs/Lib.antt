@@ -19,6 +19,12 @@ pub mod RunsRise
 pub mod CountsBelow
 pub mod CountedKept
 pub mod KnownTurns
+-- What a load asks of code, and what it makes of it.
+pub mod ExecutableCode
+pub mod FirstProcesses
+pub mod Opens
+pub mod TurnOfParts
+pub mod MachineRuns
 pub mod SeenCopies
 pub mod RoomsAndMessages
 pub mod KnownNumbers
@@ -47,8 +53,5 @@ pub mod ReadAt
 pub mod CountsRead
 pub mod LinesLent
 pub mod CountedAtWork
-pub mod Changed
-pub mod StepFacts
-pub mod KnownHere
-pub mod TestLines
-pub mod TakenSteps
+pub mod StaysAtWork
+pub mod LentAtWork

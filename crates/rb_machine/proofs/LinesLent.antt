@@ -10,14 +10,14 @@ use Rattle.rb_proc.specs.Process.{Seen}
 use Rattle.rb_machine.specs.Reading.{HasLent}
 use Rattle.rb_machine.specs.Worlds.{lines_of, processes_of}
 use Rattle.rb_machine.specs.declared.parts.Parts.{Parts}
-use Rattle.rb_machine.proofs.ReadAt.{read_there}
+use Rattle.rb_machine.proofs.RoomsAndMessages.{lent}
 
 module _ (procs : List Seen) (p : ℕ) (one after : Seen) (within : p < length procs) (read : one ≡ get_or procs p one)
     (is : after ≡ record one { waiting = drop 1 one.waiting }) where
   own : belonging (lines_of procs) p ≡ one.waiting
   own =
       ap (λ (o : Option (List (List ℕ))). unwrap_or o [])
-      (slice_get-map (λ (one : Seen). one.waiting) procs p ∙ ap (option_map (λ (one : Seen). one.waiting)) (read_there procs p one within read))
+      (slice_get-map (λ (one : Seen). one.waiting) procs p ∙ ap (option_map (λ (one : Seen). one.waiting)) (lent procs p one within read))
 
   pub line_lent : (line : Option (List ℕ)) → line ≡ slice_get one.waiting 0 → line ≡ next_line (lines_of procs) p
   line_lent line e = e ∙ ap (λ (lines : List (List ℕ)). slice_get lines 0) (sym own)

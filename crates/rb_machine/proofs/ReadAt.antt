@@ -1,6 +1,6 @@
 -- What is read of a process by its number.
-use Rattle.std.proofs.Common.{◌≡◌, ◌<◌, ℕ, ℤ, zero, suc, List, [], ◌∷◌, length, get_or, option_map, slice_get, unwrap_or, Option, Some, refl, ap, sym, ◌∙◌, arith}
-use Rattle.std.proofs.lemmas.Option.{slice_get-map, slice_get_read}
+use Rattle.std.proofs.Common.{◌≡◌, ◌<◌, ℕ, ℤ, zero, suc, List, [], ◌∷◌, length, option_map, slice_get, unwrap_or, Option, Some, ap, sym, ◌∙◌, arith}
+use Rattle.std.proofs.lemmas.Option.{slice_get-map}
 use Rattle.rb_base.specs.Lines.{belonging}
 use Rattle.rb_base.specs.declared.event.State.{State}
 use Rattle.rb_trace.specs.Ended.{state_of}
@@ -11,10 +11,6 @@ use Rattle.rb_code.specs.WordRun.{variable_words}
 use Rattle.rb_proc.specs.Process.{Seen}
 use Rattle.rb_machine.specs.Reading.{states_of, variables_of}
 use Rattle.rb_machine.specs.Worlds.{processes_of}
-
--- what was read of a list stands in it
-pub read_there : {A : Type 0} (xs : List A) (i : ℕ) (x : A) → i < length xs → x ≡ get_or xs i x → slice_get xs i ≡ Some x
-read_there xs i x h read = slice_get_read xs (length xs) i x refl h read
 
 -- a process by its number
 pub process_there : (procs : List Seen) (p : ℕ) (one : Seen) → slice_get procs p ≡ Some one → slice_get (processes_of procs) p ≡ Some one.process

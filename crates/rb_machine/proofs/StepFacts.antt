@@ -1,13 +1,12 @@
 -- A step of a process that stands in the table of sound code: it passes links through, keeps the process's number and its last kept turn, and
 -- what it comes to has settled, also once its turn was kept.
-use Rattle.std.proofs.Common.{◌≡◌, ℕ, ◌+◌, ◌<◌, ℤ, Bool, List, [], ◌∷◌, length, Option, Some, None, refl, ap, sym, ◌∙◌, subst, arith}
+use Rattle.std.proofs.Common.{◌≡◌, ℕ, ◌+◌, ◌<◌, ℤ, Bool, List, [], ◌∷◌, length, Option, refl, ap, sym, subst, arith}
 use Rattle.rb_base.specs.declared.event.Cause.{Cause}
 use Rattle.rb_cache.specs.Copies.{accepted}
 use Rattle.rb_world.specs.Kind.{Membership, Stepped, Trapped, Went, Held}
 use Rattle.rb_world.specs.Slots.{Slots}
 use Rattle.rb_world.specs.World.{Level, Process, copy_of, goes_on, last_of, settled, without_last}
 use Rattle.rb_code.specs.Plain.{Code}
-use Rattle.rb_code.specs.Memory.{Memory}
 use Rattle.rb_code.specs.Act.{Accepts, Going, Outcome, Sight, Stopped, Trapped as Trap, Unfinished, execute}
 use Rattle.rb_code.specs.Turn.{Common, Copy, Link, Standing, came_to, memory_of, most_steps, sight, standing_at, step, want}
 use Rattle.rb_code.specs.Safe.{IsUnchanged}

@@ -1,5 +1,5 @@
 -- A step of process number p, from what is known of the machine's parts: what it asks for, and where each of its outcomes leads.
-use Rattle.std.proofs.Common.{◌≡◌, ℕ, ◌+◌, ◌<◌, ◌≤◌, Bool, List, [], ◌∷◌, ◌++◌, length, slice_get, get_or, Option, Some, None, option_map, refl, ap, sym, ◌∙◌, subst, arith}
+use Rattle.std.proofs.Common.{◌≡◌, ℕ, ◌+◌, ◌≤◌, Bool, List, [], ◌∷◌, ◌++◌, length, slice_get, get_or, Option, Some, None, option_map, ap, sym, ◌∙◌, subst, arith}
 use Rattle.std.proofs.lemmas.Option.{get_or_from_slice_get}
 use Rattle.rb_base.specs.declared.event.Cause.{Cause}
 use Rattle.rb_base.specs.declared.event.Event.{Event}

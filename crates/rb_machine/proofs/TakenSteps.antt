@@ -1,29 +1,28 @@
 -- Where a step of a process leads, in the world that the machine's parts stand for.
-use Rattle.std.proofs.Common.{◌≡◌, ℕ, ◌+◌, ◌<◌, ◌≤◌, ℤ, Bool, true, false, List, [], ◌∷◌, ◌++◌, length, map, reverse, slice_get, Option, Some, None, option_map, refl, ap, sym, ◌∙◌, subst, true≢false, arith}
+use Rattle.std.proofs.Common.{◌≡◌, ℕ, ◌<◌, ℤ, Bool, List, [], ◌∷◌, ◌++◌, length, map, reverse, slice_get, Option, Some, None, option_map, refl, ap, sym, ◌∙◌, subst, true≢false}
 use Rattle.std.proofs.lemmas.List.{map-append, reverse-append}
 use Rattle.rb_base.specs.declared.event.Cause.{Cause}
 use Rattle.rb_base.specs.declared.event.Event.{Event}
-use Rattle.rb_base.specs.declared.event.TurnKind.{TurnKind}
-use Rattle.rb_base.specs.declared.event.TurnKind.TheVariants.{Took, Undone}
+use Rattle.rb_base.specs.declared.event.TurnKind.TheVariants.{Undone}
 use Rattle.rb_cache.specs.Copies.{accepted as accepted_in}
-use Rattle.rb_world.specs.Kind.{Stepped, Trapped, Went, Held}
+use Rattle.rb_world.specs.Kind.{Stepped}
 use Rattle.rb_world.specs.Reject.{reject}
 use Rattle.rb_world.specs.Slots.{Slots}
 use Rattle.rb_world.specs.Standing.{Each}
 use Rattle.rb_world.specs.Turn.{Moved, accepted, accepted_at, at_test_line, stands_now, stepped, steps, took, undone}
-use Rattle.rb_world.specs.World.{Level, Process, World, change_at, copy_of, goes_on, last_of, levels_of, process_levels, settled, without_last}
+use Rattle.rb_world.specs.World.{Level, Process, change_at, last_of, levels_of, process_levels, settled, without_last}
 use Rattle.rb_world.proofs.ListFacts.{Each-change_at, some_same, slice_get-change_at}
 use Rattle.rb_code.specs.Plain.{Code}
-use Rattle.rb_code.specs.Turn.{Common, Copy, Link, Standing, step, want}
+use Rattle.rb_code.specs.Turn.{Common, Copy, Link, Standing, want}
 use Rattle.rb_code.specs.WordRun.{WordWorld}
 use Rattle.rb_conv.specs.Conversations.{Conversation, talks}
 use Rattle.rb_conv.proofs.TalksAfterCalls.{map_changed}
-use Rattle.rb_proc.specs.Process.{Seen, alternate_for, kind_of, message_for, step_of}
+use Rattle.rb_proc.specs.Process.{Seen, alternate_for, message_for, step_of}
 use Rattle.rb_proc.specs.declared.answers.Outcome.{Outcome}
 use Rattle.rb_proc.specs.declared.answers.Outcome.TheVariants as outcome
 use Rattle.rb_machine.specs.Cascade.{HasHappened}
 use Rattle.rb_machine.specs.Stepping.{HasStepped, HasTaken, HoldsTest, IsListed, MayLeave, MayStep, SettlesOnceAccepted, conversation_in, turn_kept}
-use Rattle.rb_machine.specs.Worlds.{NoneWaits, kind_with, link_of, lines_of, memory_of, processes_of, world_of}
+use Rattle.rb_machine.specs.Worlds.{NoneWaits, kind_with, link_of, memory_of, processes_of, world_of}
 use Rattle.rb_machine.specs.declared.links.Link.{Link as Linked}
 use Rattle.rb_machine.proofs.Changed.{all_changed, change_after, change_twice, none_last, same_there}
 use Rattle.rb_machine.proofs.KnownHere.{process_there}

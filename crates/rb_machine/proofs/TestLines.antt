@@ -1,9 +1,8 @@
 -- Test lines, where they are passed and where not, in the world that the machine's parts stand for.
-use Rattle.std.proofs.Common.{◌≡◌, ℕ, zero, suc, ◌+◌, ◌<◌, Bool, true, false, cond, ◌&&◌, List, [], ◌∷◌, length, map, take, slice_get, Option, Some, None, option_map, refl, ap, sym, ◌∙◌, subst, true≢false, arith}
-use Rattle.std.specs.List.{AllByRecursion, list_all}
+use Rattle.std.proofs.Common.{◌≡◌, ℕ, zero, suc, ◌<◌, Bool, true, false, cond, ◌&&◌, List, [], ◌∷◌, length, map, take, slice_get, Option, Some, None, refl, ap, sym, ◌∙◌, subst, arith}
+use Rattle.std.specs.List.{list_all}
 use Rattle.rb_base.specs.declared.event.Event.{Event}
 use Rattle.rb_base.specs.declared.event.Event.TheVariants.{Pass}
-use Rattle.rb_world.specs.Kind.{Membership}
 use Rattle.rb_world.specs.Reject.{first_again}
 use Rattle.rb_world.specs.Standing.{Each}
 use Rattle.rb_world.specs.Turn.{Moved, accepted, accepted_at, all_leave, all_stand, alternate_of, at_test_line, leaves, members_of, passed, took}
@@ -11,10 +10,9 @@ use Rattle.rb_world.specs.World.{Level, Process, change_at, last_of, talk_at}
 use Rattle.rb_world.proofs.ListFacts.{none_some, some_same, Each-change_at, first_holds, second_holds}
 use Rattle.rb_code.specs.Plain.{Code}
 use Rattle.rb_code.specs.Turn.{Common, Copy, Standing}
-use Rattle.rb_code.specs.WordRun.{WordWorld}
-use Rattle.rb_conv.specs.Conversations.{Conversation, conversation_at, emptied, membership, memberships, nobody, talks}
+use Rattle.rb_conv.specs.Conversations.{Conversation, conversation_at, emptied, membership, memberships, talks}
 use Rattle.rb_conv.proofs.TalksAfterCalls.{map_changed, map_same, members_stay, talks_are_the_worlds}
-use Rattle.rb_proc.specs.Process.{Seen, kind_of}
+use Rattle.rb_proc.specs.Process.{Seen}
 use Rattle.rb_machine.specs.Cascade.{SameGroups}
 use Rattle.rb_machine.specs.Stepping.{HasTaken, HoldsTest, MayLeave, conversation_in, level_gone, line_left, stood}
 use Rattle.rb_machine.specs.Worlds.{NoneWaits, counts_of, kind_with, processes_of, world_of}

@@ -7,9 +7,10 @@ pub mod Channels
 pub mod AtWork
 pub mod Moves
 pub mod Telling
+pub mod Loading
+pub mod Stepping
 pub mod Reading
 pub mod Machine
 pub mod Entries
 pub mod Turns
 pub mod Rising
-pub mod Stepping

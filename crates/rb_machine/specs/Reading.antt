@@ -10,7 +10,7 @@ use Rattle.rb_code.specs.Memory.{part_of}
 use Rattle.rb_code.specs.Plain.{Code}
 use Rattle.rb_code.specs.Stands.{IsAmong}
 use Rattle.rb_code.specs.Turn.{Copy, Standing}
-use Rattle.rb_code.specs.WellFormed.{JoinsTwo, ListsChannels}
+use Rattle.rb_code.specs.WellFormed.{JoinsTwo}
 use Rattle.rb_code.specs.WordRun.{counts_sent, counts_taken, variable_words}
 use Rattle.rb_proc.specs.Process.{Seen}
 use Rattle.rb_machine.specs.Channels.{AreNumbered}
@@ -30,10 +30,9 @@ sent_of c processes = counts_sent c (map (λ (q : Process Standing Copy). q.stat
 abbrev pub taken_of : Code → List (Process Standing Copy) → List ℕ
 taken_of c processes = counts_taken c (map (λ (q : Process Standing Copy). q.state) processes) 0 c.channels
 
--- Processes of this code by number, whose channels are those of which they are ends; and no cursor is too great for a signed number.
+-- Processes of this code by number, and channels between them; and no cursor is too great for a signed number.
 pub record AreCounted (c : Code) (procs : List Seen) : Type 0 where
   pub numbered : AreNumbered c procs
-  pub lists : ListsChannels c
   pub ends : Each (λ _ ends. JoinsTwo c ends) c.channels
   pub cursors : Each (λ p (one : Seen). CursorsBelow c p (2 ^ 63) one.process.state.words) procs
 

@@ -8,6 +8,8 @@ pub mod entry;
 pub mod innermost;
 pub mod laws;
 pub mod links;
+pub mod loading;
+pub mod machine;
 pub mod moves;
 pub mod parts;
 pub mod reading;

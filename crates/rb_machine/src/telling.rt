@@ -100,8 +100,8 @@ fn add(events: &mut ArrayVec<Event, 96>, event: Option<Event>)
     }
 }
 
-// Notes who runs.
-fn note_running<L: Ledger>(procs: &[Proc<L>], running: &mut [bool])
+/// Notes who runs.
+pub(crate) fn note_running<L: Ledger>(procs: &[Proc<L>], running: &mut [bool])
     requires { length running.old ≡ length procs.now }
     ensures { running.new ≡ running_of (processes_of procs.now) }
 {

@@ -3,7 +3,6 @@ use Rattle.std.proofs.Common.{List, None, get_or, refl, ap, sym, ◌∙◌, subs
 use Rattle.std.proofs.lemmas.List.{with_items_is}
 use Rattle.std.specs.Vec.{with_items}
 use Rattle.rb_code.specs.Plain.{code as plain}
-use Rattle.rb_code.specs.Turn.{want}
 use Rattle.rb_proc.specs.Process.{Seen}
 use Rattle.rb_proc.specs.Sees.{AreSized}
 use Rattle.rb_proc.specs.declared.answers.Outcome.TheVariants as outcome
