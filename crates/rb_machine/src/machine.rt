@@ -3,6 +3,7 @@
 ghost use Rattle.std.specs.Prelude.{◌≡◌, ◌+◌, ◌<◌, ◌≤◌, [], length, replicate, vec_len, vec_capacity, IfOk};
 ghost use Rattle.rb_base.specs.declared.limits.TheConstants.{MOST_TURNS};
 ghost use Rattle.rb_code.specs.Plain.{code as plain};
+ghost use Rattle.rb_code.specs.WellFormed.{IsSound};
 ghost use Rattle.rb_conv.specs.Conversations.{memberships, opening};
 ghost use Rattle.rb_trace.specs.Report.{told_of};
 ghost use Rattle.rb_world.specs.Turn.{told_at_opening, turn};
@@ -17,9 +18,10 @@ ghost use Rattle.rb_machine.specs.Worlds.{counts_of, kind_with, lines_of, proces
 use crate::loading::load_parts;
 use crate::moves::take_turn;
 use crate::parts::Parts;
+use crate::reading::{sent_on, state_at, taken_on, word_at};
 use crate::telling::{release_all, tell, tell_opening};
 use arrayvec::ArrayVec;
-use rb_base::{Memory, Nested, Report, Steps, TurnKind};
+use rb_base::{Final, Lines, Memory, Nested, Report, State, Steps, TurnKind};
 use rb_code::Code;
 use std::alloc::Global;
 use std::marker::Model;
@@ -72,10 +74,11 @@ impl<'a, L: Ledger> Machine<'a, L> {
         })
     }
 
-    /// What is told before the first turn: who is done.
+    /// What is told before the first turn: who is done. Contracts learn here that the machine's code is sound, as it is of every machine.
     pub fn opening(&self) -> Report
         requires { self.now.taken ≡ 0 }
-        ensures { told_of result.kind result.events.items [] ≡ told_at_opening self.now.world }
+        ensures told { told_of result.kind result.events.items [] ≡ told_at_opening self.now.world }
+        ensures sound { IsSound self.now.code self.now.groups }
     {
         let mut events = ArrayVec::new();
         tell_opening(&self.parts.procs, &mut events);
@@ -100,6 +103,60 @@ impl<'a, L: Ledger> Machine<'a, L> {
             p,
             steps,
         )
+    }
+
+    /// How many turns it has taken.
+    pub fn turns_taken(&self) -> u32
+        ensures { result ≡ self.now.taken }
+    {
+        self.taken
+    }
+}
+
+// The released lines of each process, which wait until they are written.
+impl<'a, L: Ledger> Lines for Machine<'a, L> {
+    ghost use Rattle.std.specs.Prelude.{[]};
+    ghost use Rattle.rb_machine.specs.Machine.{Seen};
+
+    ghost waiting = { λ m. m.waiting };
+
+    ghost Rest = { Seen };
+
+    ghost rest = { λ m. record m { waiting = [] } };
+
+    fn released(&mut self, p: u32) -> Option<&[u8]> {
+        self.parts.released(p)
+    }
+}
+
+// How the processes and the channels stand, for the ending of a run.
+impl<'a, L: Ledger> Final for Machine<'a, L> {
+    ghost use Rattle.rb_machine.specs.Reading.{sent_of, states_of, taken_of, variables_of};
+
+    type Ledger = L;
+
+    ghost states = { λ m. states_of m.world.processes };
+
+    ghost words = { λ m. variables_of m.code m.world.processes };
+
+    ghost sent = { λ m. sent_of m.code m.world.processes };
+
+    ghost taken = { λ m. taken_of m.code m.world.processes };
+
+    fn state(&self, p: u32) -> State {
+        state_at(&self.parts.procs, p)
+    }
+
+    fn word(&self, p: u32, at: u32, steps: &mut Steps<L>) -> i64 {
+        word_at(self.code, &self.parts.procs, p, at, steps)
+    }
+
+    fn sent(&self, channel: u32, steps: &mut Steps<L>) -> i64 {
+        sent_on(self.code, &self.parts.procs, channel, steps)
+    }
+
+    fn taken(&self, channel: u32, steps: &mut Steps<L>) -> i64 {
+        taken_on(self.code, &self.parts.procs, channel, steps)
     }
 }
 
