@@ -10,6 +10,7 @@ use Rattle.rb_code.specs.WordRun.{opening_standing, opening_standings}
 use Rattle.rb_proc.specs.Process.{Seen}
 use Rattle.rb_machine.specs.Loading.{first_seen}
 
+-- the states of one process more
 one_more_opens : (p i : ℕ) (parts : List Part) (part : Part) → slice_get parts i ≡ Some part
     → opening_standings p (take (suc i) parts) ≡ opening_standings p (take i parts) ++ opening_standing (p + i) part ∷ []
 one_more_opens p i [] part e = absurd (none_some e)
@@ -21,6 +22,7 @@ one_more_opens p (suc i) (first ∷ parts) part e =
     ap (λ (others : List Standing). opening_standing p first ∷ others)
     (one_more_opens (p + 1) i parts part e ∙ ap (λ n. opening_standings (p + 1) (take i parts) ++ opening_standing n part ∷ []) own)
 
+-- and that process once it has settled
 pub one_more_first : (c : Code) (i : ℕ) → i < length c.processes
     → map (first_seen c) (opening_standings 0 (take (i + 1) c.processes))
     ≡ map (first_seen c) (opening_standings 0 (take i c.processes)) ++ first_seen c (opening_standing i (part_of c i)) ∷ []

@@ -41,6 +41,7 @@ freed_run : {M : Type 0} (k : Kind Standing Copy M) (processes : List (Process S
 freed_run k [] = refl
 freed_run k (q ∷ processes) = ap (λ (others : List Bool). is_running q.status ∷ others) (freed_run k processes)
 
+-- so who ran before it runs after it
 pub running_after : (c : Code) (groups : List Membership) (procs released : List Seen) (running : List Bool)
     → processes_of released ≡ map (freed (word_kind c groups)) (processes_of procs) → running ≡ running_of (processes_of procs)
     → running ≡ running_of (processes_of released)
@@ -100,9 +101,11 @@ module _ {L : Type 0} (c : Code) (t p : ℕ) (before after : Parts L) (events : 
         ∙ (sym (length-map moves_to.world.processes (freed Words))
         ∙ (turn-processes Words t p (world before) ∙ work.known.processes)))
 
+    -- which are few
     pub few_after : (work : IsAtWork c t before.procs.items before.table before.mails.items before.links.items) → length after.procs.items ≤ 64
     few_after work = omega (arith, as_many_after work, work.loaded.sound.well.few_processes, processes_few c.edition)
 
+    -- and it was noted of as many whether they run
     pub running_as_many : (running : List Bool) → IsAtWork c t before.procs.items before.table before.mails.items before.links.items
         → running ≡ running_of (processes_of before.procs.items) → length running ≡ length after.procs.items
     running_as_many running work is =

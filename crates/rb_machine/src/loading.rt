@@ -33,7 +33,8 @@ pub struct Loaded<L: Ledger> {
     pub running: Vec<bool>,
 }
 
-/// Loads a program with room for the links of so many turns; `Memory` if it is wanting.
+/// Loads a program with room for the links of so many turns; `Memory` if it is wanting, or if 32 bits do not number the instructions and
+/// the alternates of the code.
 pub fn load_parts<L: Ledger>(
     alloc: Global,
     code: &Code,

@@ -51,7 +51,8 @@ impl<'a, L: Ledger> Model for Machine<'a, L> {
 }
 
 impl<'a, L: Ledger> Machine<'a, L> {
-    /// A program before its first turn, with room for so many turns; `Memory` if it is wanting. No other call takes memory.
+    /// A program before its first turn, with room for so many turns; `Memory` if it is wanting, or if the code has more instructions, or a
+    /// block more alternates, than 32 bits number. No other call takes memory.
     pub fn load(
         alloc: Global,
         code: &'a Code,

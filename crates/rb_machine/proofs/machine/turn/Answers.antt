@@ -1,7 +1,7 @@
 -- What a turn of the parts told and left is what the turn of the word machine does.
 use Rattle.std.proofs.Common.{List, ◌++◌, length, map, ap, sym, ◌∙◌, arith}
 use Rattle.std.proofs.lemmas.List.{with_items_is}
-use Rattle.rb_world.specs.Turn.{Told, freed, lines_freed, turn}
+use Rattle.rb_world.specs.Turn.{Told, freed, lines_freed}
 use Rattle.rb_world.specs.World.{Process}
 use Rattle.rb_code.specs.Turn.{Copy, Standing}
 use Rattle.rb_code.specs.WordKind.{word_kind}
