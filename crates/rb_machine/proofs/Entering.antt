@@ -69,6 +69,13 @@ joined_groups table table' d p e = record {
   counts = ap counts_of e ∙ counts_joined p d table;
 }
 
+-- the link of an entry leads to the last kept turn before
+pub entry_link : (turn p before last : ℕ) (links links' : List Link) → before ≡ last
+    → links' ≡ links ++ record { turn = turn; process = p; alternate = 0; before = before } ∷ []
+    → links' ≡ links ++ record { turn = turn; process = p; alternate = 0; before = last } ∷ []
+entry_link turn p before last links links' is linked =
+    subst (λ (n : ℕ). links' ≡ links ++ record { turn = turn; process = p; alternate = 0; before = n } ∷ []) is linked
+
 -- the newest link comes first
 pub link_added : (slots : Slots) (links : List Link) (link : Link)
     → memory_of slots (links ++ link ∷ []) ≡ record { slots = slots; links = link_of link ∷ (memory_of slots links).links }

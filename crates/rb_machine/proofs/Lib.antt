@@ -32,6 +32,8 @@ pub mod Receivers
 -- Where the entry of a recovery block leads, and what a counted turn leaves.
 pub mod Entering
 pub mod CountedTurns
+pub mod Acting
+pub mod TurnsTaken
 pub mod CascadeEnds
 pub mod FurtherOut
 pub mod InOrder

@@ -12,4 +12,5 @@ pub mod Stepping
 pub mod Reading
 pub mod Machine
 pub mod Entries
+pub mod Turns
 pub mod Rising

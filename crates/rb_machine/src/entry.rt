@@ -63,14 +63,7 @@ pub fn enter<L: Ledger>(
             Came::without_pass(TurnKind::Undone)
         }
         Some(alternate) => {
-            open(
-                code,
-                &mut parts.procs,
-                &mut parts.links,
-                turn,
-                p,
-                alternate,
-            );
+            open(code, &mut parts.procs, &mut parts.links, turn, p, alternate);
             Came::without_pass(TurnKind::Took)
         }
     }

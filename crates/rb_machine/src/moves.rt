@@ -12,8 +12,8 @@ ghost use Rattle.rb_proc.specs.Process.{Seen};
 ghost use Rattle.rb_machine.specs.AtWork.{MayAct};
 ghost use Rattle.rb_machine.specs.Moves.{AreAtWork, HasMoved, IsLeft, MovesAt, world};
 ghost use Rattle.rb_machine.specs.Rejections.{changed};
-ghost use Rattle.rb_machine.specs.Telling.{is_running};
-ghost use Rattle.rb_machine.specs.Worlds.{kind_with};
+ghost use Rattle.rb_machine.specs.Turns.{runs_there};
+ghost use Rattle.rb_machine.specs.Worlds.{kind_with, processes_of};
 
 use crate::came::Came;
 use crate::channels::{has_room, message_there};
@@ -22,9 +22,9 @@ use crate::parts::Parts;
 use crate::step::take_step;
 use crate::undone::undo;
 use arrayvec::ArrayVec;
-use rb_base::{Cause, Event, State, Steps, TurnKind};
+use rb_base::{Cause, Event, Steps, TurnKind};
 use rb_code::Code;
-use rb_proc::{Proc, Wanted};
+use rb_proc::{Proc, Status, Wanted};
 use std::sync::ledger::Ledger;
 
 /// What stands first in process p decides.
@@ -52,9 +52,7 @@ pub fn act<L: Ledger>(
         Wanted::Message(channel) => receive(code, parts, turn, p, channel, events, steps),
         Wanted::Maybe(channel) => look(code, parts, turn, p, channel, events, steps),
         Wanted::Entry(block) => enter(code, parts, turn, p, block, events, steps),
-        Wanted::Start | Wanted::Step => {
-            take_step(code, parts, turn, p, false, events, steps)
-        }
+        Wanted::Start | Wanted::Step => { take_step(code, parts, turn, p, false, events, steps) }
     }
 }
 
@@ -157,17 +155,21 @@ pub fn take_turn<L: Ledger>(
     ensures links { vec_len parts.new.links ≤ vec_len parts.old.links + 1 }
     ensures room { vec_capacity parts.old.links ≤ vec_capacity parts.new.links }
 {
-    if p as usize >= parts.procs.len() || !is_running(&parts.procs[p as usize]) {
-        return Came::without_pass(TurnKind::Idle);
+    if is_running(&parts.procs, p) {
+        run(code, parts, turn, p, events, steps)
+    } else {
+        Came::without_pass(TurnKind::Idle)
     }
-    run(code, parts, turn, p, events, steps)
 }
 
-// Whether a process runs.
-fn is_running<L: Ledger>(proc: &Proc<L>) -> bool
-    ensures { result ≡ is_running proc.now.process.status }
+// Whether process p is there, and runs.
+fn is_running<L: Ledger>(procs: &[Proc<L>], p: u32) -> bool
+    ensures { result ≡ runs_there (slice_get (processes_of procs.now) p) }
 {
-    matches!(proc.state(), State::Running(_))
+    match procs.get(p as usize) {
+        None => false,
+        Some(proc) => matches!(proc.status(), Status::Running),
+    }
 }
 
 // A turn of process p, which runs: each of its levels counts it.

@@ -34,6 +34,14 @@ pub fn undo<L: Ledger>(
     ensures left { (c : Plain) → AreSized c parts.old.mails.items → IsLeft c parts.old parts.new events.new.items result }
     ensures links { parts.new.links ≡ parts.old.links }
 {
-    reject(&mut parts.procs, &mut parts.table, p, left, cause, events, steps);
+    reject(
+        &mut parts.procs,
+        &mut parts.table,
+        p,
+        left,
+        cause,
+        events,
+        steps,
+    );
     Came::without_pass(TurnKind::Undone)
 }

@@ -4,16 +4,16 @@ use Rattle.std.proofs.lemmas.List.{with_items_is}
 use Rattle.std.proofs.lemmas.Option.{slice_get_read}
 use Rattle.rb_base.specs.declared.event.Cause.TheVariants.{Broken}
 use Rattle.rb_world.specs.Reject.{fallen}
-use Rattle.rb_world.specs.Turn.{Moved}
 use Rattle.rb_world.specs.World.{change_at}
 use Rattle.rb_world.proofs.ListFacts.{some_same}
 use Rattle.rb_code.specs.Plain.{code as plain}
-use Rattle.rb_code.specs.Turn.{Common, Copy, Standing, want}
+use Rattle.rb_code.specs.Turn.{want}
 use Rattle.rb_proc.specs.Entries.{entered_process}
 use Rattle.rb_proc.specs.Process.{Seen, kind_of}
 use Rattle.rb_machine.specs.Moves.{WantsBlock, passes_of}
 use Rattle.rb_machine.specs.Rejections.{changed}
 use Rattle.rb_machine.specs.Worlds.{NoneWaits, memory_of, world_of}
+use Rattle.rb_machine.proofs.Acting.{moved_as}
 use Rattle.rb_machine.proofs.Changed.{no_elements}
 use Rattle.rb_machine.proofs.Entering.{entry_trapped, few_levels, has_failed, has_opened, is_listed, wants_block}
 use Rattle.rb_machine.proofs.KnownHere.{are_quiet, may_reject}
@@ -43,8 +43,12 @@ undo-requires-clause-few g c =
     let procs = parts.procs.items in
     let one = c.index.result.now in
     let here = slice_get_read procs (length procs) c.args.p one refl c.requires.process c.index.ensures in
-    omega (arith, c.levels-levels.ensures, few_levels (plain c.args.code.now) (c.args.turn + 1) procs parts.table parts.mails.items parts.links.items
-    c.requires.work.work c.args.p one here (c.requires.acting one here))
+    omega (
+      arith,
+      c.levels-levels.ensures,
+      few_levels (plain c.args.code.now) (c.args.turn + 1) procs parts.table parts.mails.items parts.links.items
+          c.requires.work.work c.args.p one here (c.requires.acting one here),
+    )
 
 pub returns-then-levels-ge-MOST_OPEN_LEVELS-clause-moved : goal.returns-then-levels-ge-MOST_OPEN_LEVELS-clause-moved
 returns-then-levels-ge-MOST_OPEN_LEVELS-clause-moved g c facts one there wants =
@@ -54,15 +58,9 @@ returns-then-levels-ge-MOST_OPEN_LEVELS-clause-moved g c facts one there wants =
     let here = slice_get_read procs (length procs) c.args.p c.index.result.now refl c.requires.process c.index.ensures in
     let levels : c.levels-levels.result ≡ length one.process.levels =
     c.levels-levels.ensures ∙ ap (λ (x : Seen). length x.process.levels) (some_same (sym here ∙ there)) in
-    let e = sym (entry_trapped code parts.table parts.mails.items parts.links.items c.args.turn c.args.p procs facts one there c.levels-levels.result levels
-    c.if-levels-ge-MOST_OPEN_LEVELS.true) in
-    let h = c.undo.ensures.moved code in
-    record {
-      worlds = h.worlds ∙ ap (λ (m : Moved Standing Copy Common). m.world) e;
-      kind = h.kind ∙ ap (λ (m : Moved Standing Copy Common). m.kind) e;
-      rejections = h.rejections ∙ ap (λ (m : Moved Standing Copy Common). m.rejections) e;
-      passes = h.passes ∙ ap (λ (m : Moved Standing Copy Common). m.passes) e;
-    }
+    moved_as (sym (entry_trapped code parts.table parts.mails.items parts.links.items c.args.turn c.args.p procs facts one there c.levels-levels.result levels
+    c.if-levels-ge-MOST_OPEN_LEVELS.true))
+    (c.undo.ensures.moved code)
 
 pub returns-then-levels-ge-MOST_OPEN_LEVELS-clause-left : goal.returns-then-levels-ge-MOST_OPEN_LEVELS-clause-left
 returns-then-levels-ge-MOST_OPEN_LEVELS-clause-left g c = c.undo.ensures.left (plain c.args.code.now) c.requires.work.work.sized

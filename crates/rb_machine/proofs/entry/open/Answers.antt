@@ -1,5 +1,5 @@
 -- Only the process that enters is changed, and its last kept turn is read before.
-use Rattle.std.proofs.Common.{◌≡◌, ℕ, ap, sym, ◌∙◌, ◌∷◌, ◌++◌, [], List, get_or, set, subst}
+use Rattle.std.proofs.Common.{◌≡◌, ap, sym, ◌∙◌, get_or, set, subst}
 use Rattle.std.proofs.lemmas.Option.{get_or_from_slice_get}
 use Rattle.rb_world.specs.Kind.{Enters}
 use Rattle.rb_code.specs.Plain.{code as plain}
@@ -8,8 +8,7 @@ use Rattle.rb_conv.proofs.Places.{set-changes}
 use Rattle.rb_proc.specs.Entries.{entered_process}
 use Rattle.rb_proc.specs.Process.{Seen}
 use Rattle.rb_machine.specs.Rejections.{changed}
-use Rattle.rb_machine.specs.declared.links.Link.{Link}
-use Rattle.rb_machine.proofs.Entering.{entered_seen}
+use Rattle.rb_machine.proofs.Entering.{entered_seen, entry_link}
 use Rattle.rb_machine.proofs.entry.open.Goals as goal
 
 pub returns-clause-processes : goal.returns-clause-processes
@@ -24,7 +23,7 @@ returns-clause-processes g c one facts there wants =
 
 pub returns-clause-links : goal.returns-clause-links
 returns-clause-links g c one there =
-    let before = c.last_kept-before.ensures
-    ∙ ap (λ (x : Seen). x.process.state.last_kept) (get_or_from_slice_get c.args.procs.now c.args.p one c.index-procs-p.result there) in
-    let link : ℕ → Link = λ n. record { turn = c.args.turn; process = c.args.p; alternate = 0; before = n } in
-    c.add.ensures.items ∙ ap (λ (n : ℕ). c.args.links.now.items ++ link n ∷ []) before
+    let procs = c.args.procs.now in
+    let was = c.index-procs-p.result in
+    let last = c.last_kept-before.ensures ∙ ap (λ (x : Seen). x.process.state.last_kept) (get_or_from_slice_get procs c.args.p one was there) in
+    entry_link c.args.turn c.args.p c.last_kept-before.result one.process.state.last_kept c.args.links.now.items c.add.new.links.items last c.add.ensures.items

@@ -1,6 +1,5 @@
 -- Only the process whose turn it is has counted it.
-use Rattle.std.proofs.Common.{◌≡◌, ap, sym, ◌∙◌, get_or, set, position}
-use Rattle.std.proofs.lemmas.Option.{get_or_from_slice_get}
+use Rattle.std.proofs.Common.{ap, ◌∙◌, set, position}
 use Rattle.rb_world.specs.Turn.{is_over, turn_used}
 use Rattle.rb_conv.proofs.Places.{set-changes}
 use Rattle.rb_proc.specs.Process.{Seen}

@@ -1,5 +1,5 @@
 -- The processes that are rejected are those of the parts, and there were no events before.
-use Rattle.std.proofs.Common.{◌≡◌, subst, sym, ap, ◌∙◌, ◌++◌, List, length, arith}
+use Rattle.std.proofs.Common.{subst, sym, ap, ◌∙◌, ◌++◌, List, length, arith}
 use Rattle.std.proofs.lemmas.List.{with_items_is}
 use Rattle.rb_base.specs.declared.event.Event.{Event}
 use Rattle.rb_world.specs.Reject.{reject}
