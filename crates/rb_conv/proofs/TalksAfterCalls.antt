@@ -16,14 +16,14 @@ use Rattle.rb_conv.specs.Laws.{MembersStay, TalksAreTheWorlds, talk_after}
 use Rattle.rb_conv.proofs.EmptyBelow.{membership_kept, outside_kept}
 
 -- what is seen of a list with one element changed
-map_changed : {A B : Type 0} (v : A → B) (f : A → A) (g : B → B) (c : ℕ) (xs : List A)
+pub map_changed : {A B : Type 0} (v : A → B) (f : A → A) (g : B → B) (c : ℕ) (xs : List A)
     → ((x : A) → slice_get xs c ≡ Some x → v (f x) ≡ g (v x)) → map v (change_at c f xs) ≡ change_at c g (map v xs)
 map_changed v f g c [] h = refl
 map_changed {A} {B} v f g zero (x ∷ xs) h = ap (λ (b : B). b ∷ map v xs) (h x refl)
 map_changed {A} {B} v f g (suc c) (x ∷ xs) h = ap (λ (bs : List B). v x ∷ bs) (map_changed v f g c xs h)
 
 -- the same, where nothing of the change is seen
-map_same : {A B : Type 0} (v : A → B) (f : A → A) (c : ℕ) (xs : List A) → ((x : A) → v (f x) ≡ v x) → map v (change_at c f xs) ≡ map v xs
+pub map_same : {A B : Type 0} (v : A → B) (f : A → A) (c : ℕ) (xs : List A) → ((x : A) → v (f x) ≡ v x) → map v (change_at c f xs) ≡ map v xs
 map_same v f c [] h = refl
 map_same {A} {B} v f zero (x ∷ xs) h = ap (λ (b : B). b ∷ map v xs) (h x)
 map_same {A} {B} v f (suc c) (x ∷ xs) h = ap (λ (bs : List B). v x ∷ bs) (map_same v f c xs h)

@@ -1,11 +1,12 @@
 //! One conversation: its members, its alternates, and whether it is broken.
 
-ghost use Rattle.std.specs.Prelude.{◌≡◌, ◌<◌, not, IfOk, IsTrue};
-ghost use Rattle.rb_conv.specs.Conversations.{is_inside, stands, all_stand, entered, arrived, emptied, opened};
+ghost use Rattle.std.specs.Prelude.{◌≡◌, ◌<◌, not, length, slice_get, Some, IfOk, IsTrue};
+ghost use Rattle.rb_conv.specs.Conversations.{is_inside, stands, all_stand, entered, arrived, emptied, membership, opened};
 ghost use Rattle.rb_conv.specs.Reject.{has_next, put_back};
 
 use crate::member::{
-    Member, Place, all_go_off_line, all_go_out, all_stand, is_inside, one_goes, outsiders, stands,
+    Member, Place, all_go_off_line, all_go_out, all_stand, is_inside, one_goes, outsiders,
+    process_of, stands,
 };
 use rb_base::{Group, Memory};
 use std::alloc::Global;
@@ -47,6 +48,21 @@ impl Conversation {
             alternate: 1,
             is_broken: false,
         })
+    }
+
+    /// How many declared members it has.
+    pub(crate) fn members(&self) -> usize
+        ensures { result ≡ length (membership self.now).members }
+    {
+        self.members.len()
+    }
+
+    /// The member with a number, as they are declared.
+    pub(crate) fn member(&self, k: usize) -> u32
+        requires { k < length (membership self.now).members }
+        ensures { slice_get (membership self.now).members k ≡ Some result }
+    {
+        process_of(&self.members, k)
     }
 
     /// Whether a process is inside.

@@ -1,6 +1,6 @@
 //! Where the members of a conversation are, and how they go in, to the test line, and out.
 
-ghost use Rattle.std.specs.Prelude.{◌≡◌, IfOk, nat_eq, ◌&&◌, map};
+ghost use Rattle.std.specs.Prelude.{◌≡◌, ◌<◌, IfOk, nat_eq, ◌&&◌, length, map, slice_get, Some};
 ghost use Rattle.std.specs.List.{list_all, list_any};
 ghost use Rattle.rb_conv.specs.Conversations.{is_within, is_at_line, goes, goes_if, outsider, all_outside, one_goes};
 ghost use Rattle.rb_conv.specs.Reject.{off_line, goes_off_line};
@@ -96,6 +96,14 @@ pub(crate) fn outsiders(alloc: Global, processes: &[u32]) -> Result<Vec<Member>,
         members.push(Member::outside(*process))?;
     }
     Ok(members)
+}
+
+/// The process that is the member with a number.
+pub(crate) fn process_of(members: &[Member], k: usize) -> u32
+    requires { k < length members.now }
+    ensures { slice_get (map (λ member. member.process) members.now) k ≡ Some result }
+{
+    members[k].process
 }
 
 /// Whether a process is inside.

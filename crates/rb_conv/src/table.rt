@@ -1,8 +1,8 @@
 //! The table of all conversations of a program, by number.
 
-ghost use Rattle.std.specs.Prelude.{◌≡◌, ◌<◌, not, List, length, IfOk, vec_len};
+ghost use Rattle.std.specs.Prelude.{◌≡◌, ◌<◌, not, List, length, slice_get, Some, IfOk, vec_len};
 ghost use Rattle.rb_world.specs.World.{change_at};
-ghost use Rattle.rb_conv.specs.Conversations.{is_inside, stands, all_stand, entered, arrived, emptied, conversation_at, opening};
+ghost use Rattle.rb_conv.specs.Conversations.{is_inside, stands, all_stand, entered, arrived, emptied, conversation_at, membership, opening};
 ghost use Rattle.rb_conv.specs.Reject.{has_next, rejected};
 
 use crate::conversation::Conversation;
@@ -39,6 +39,23 @@ impl Table {
             conversations.push(Conversation::new(alloc, group)?)?;
         }
         Ok(Table { conversations })
+    }
+
+    /// How many declared members conversation `c` has.
+    pub fn members(&self, c: u32) -> usize
+        requires { c < length self.now }
+        ensures { result ≡ length (membership (conversation_at self.now c)).members }
+    {
+        self.conversations[c as usize].members()
+    }
+
+    /// Member number `k` of conversation `c`, in the order in which they are declared.
+    pub fn member(&self, c: u32, k: usize) -> u32
+        requires conversation { c < length self.now }
+        requires member { k < length (membership (conversation_at self.now c)).members }
+        ensures { slice_get (membership (conversation_at self.now c)).members k ≡ Some result }
+    {
+        self.conversations[c as usize].member(k)
     }
 
     /// Whether process `p` is inside conversation `c`.

@@ -1,4 +1,11 @@
 -- Lemmas of the machine.
+pub mod Changed
+pub mod InnermostLevel
+pub mod StepFacts
+pub mod KnownHere
+pub mod TestLines
+pub mod TakenSteps
+pub mod StepTaken
 -- How many processes and conversations there are, that levels are few, and that who has failed has none.
 pub mod Sizes
 -- Who stands where, with which levels.
@@ -12,3 +19,39 @@ pub mod RunsRise
 pub mod CountsBelow
 pub mod CountedKept
 pub mod KnownTurns
+-- What a load asks of code, and what it makes of it.
+pub mod ExecutableCode
+pub mod FirstProcesses
+pub mod Opens
+pub mod TurnOfParts
+pub mod MachineRuns
+pub mod SeenCopies
+pub mod RoomsAndMessages
+pub mod KnownNumbers
+pub mod Receivers
+-- Where the entry of a recovery block leads, and what a counted turn leaves.
+pub mod Entering
+pub mod CountedTurns
+pub mod Acting
+pub mod TurnsTaken
+pub mod CascadeEnds
+pub mod FurtherOut
+pub mod InOrder
+pub mod LevelRejected
+pub mod NextLevelOut
+pub mod OneRejection
+pub mod QuietProcesses
+pub mod RejectedLevels
+pub mod RowsKept
+pub mod SeenWorlds
+pub mod SomeCode
+pub mod WhoIsInside
+pub mod EndsTold
+pub mod Released
+pub mod Written
+pub mod ReadAt
+pub mod CountsRead
+pub mod LinesLent
+pub mod CountedAtWork
+pub mod StaysAtWork
+pub mod LentAtWork

@@ -37,7 +37,7 @@ pub record AreQuiet (procs : List Seen) : Type 0 where
 pub record HasHappened (f : WordWorld → Happened Standing Copy Common) (memory : Common) (procs : List Seen) (table : List Conversation)
     (events : List Event) (procs' : List Seen) (table' : List Conversation) (events' : List Event) : Type 0 where
   pub world : world_of procs' table' memory ≡ (f (world_of procs table memory)).0
-  pub events : events' ≡ events ++ (f (world_of procs table memory)).1
+  pub told : events' ≡ events ++ (f (world_of procs table memory)).1
 
 -- members, parents and numbers of alternates stay
 pub record SameGroups (table table' : List Conversation) : Type 0 where

@@ -1,15 +1,13 @@
 -- The machine as contracts see it: its code and its conversations, the world of the word machine that it stands for, the released lines
 -- that wait, how many turns it has taken, and how many it may take.
-use Rattle.std.specs.Prelude.{◌≡◌, ◌≤◌, ◌<◌, ◌+◌, ℕ, Bool, List, [], length, replicate}
-use Rattle.rb_base.specs.declared.event.Event.{Event}
+use Rattle.std.specs.Prelude.{◌≡◌, ◌≤◌, ◌+◌, ℕ, Bool, List, [], ◌∷◌, length, replicate}
 use Rattle.rb_base.specs.declared.limits.TheConstants.{MOST_TURNS}
 use Rattle.rb_world.specs.Kind.{Membership}
 use Rattle.rb_world.specs.Turn.{Told, turn}
 use Rattle.rb_code.specs.Plain.{Code}
 use Rattle.rb_code.specs.WordKind.{word_kind}
 use Rattle.rb_code.specs.WordRun.{WordWorld, opening_of}
-use Rattle.rb_conv.specs.Conversations.{Conversation, memberships}
-use Rattle.rb_trace.specs.Report.{told_of}
+use Rattle.rb_conv.specs.Conversations.{memberships}
 use Rattle.rb_machine.specs.AtWork.{IsAtWork}
 use Rattle.rb_machine.specs.Moves.{world}
 use Rattle.rb_machine.specs.Telling.{running_of}
@@ -24,7 +22,7 @@ pub record Seen : Type 0 where
   pub taken : ℕ
   pub most : ℕ
 
-abbrev pub seen : Code → Parts → ℕ → ℕ → Seen
+abbrev pub seen : {L : Type 0} → Code → Parts L → ℕ → ℕ → Seen
 seen c parts taken most = record {
   code = c;
   groups = memberships parts.table;
@@ -36,7 +34,7 @@ seen c parts taken most = record {
 
 -- What ties the parts: they stand for a world of a run, before the next turn; it is known who runs; and there is room for the links of
 -- all turns that may come.
-pub record IsTied (c : Code) (parts : Parts) (running : List Bool) (links room taken most : ℕ) : Type 0 where
+pub record IsTied {L : Type 0} (c : Code) (parts : Parts L) (running : List Bool) (links room taken most : ℕ) : Type 0 where
   pub work : IsAtWork c (taken + 1) parts.procs.items parts.table parts.mails.items parts.links.items
   pub running_is : running ≡ running_of (processes_of parts.procs.items)
   pub links_few : links ≤ taken
@@ -64,3 +62,11 @@ turned m p = turn (word_kind m.code m.groups) (m.taken + 1) p m.world
 pub record HasTurned (old : Seen) (p : ℕ) (new : Seen) (told : Told) : Type 0 where
   pub machine : new ≡ record old { world = (turned old p).0; waiting = (turned old p).1.released; taken = old.taken + 1 }
   pub told_is : told ≡ (turned old p).1
+
+-- Turns of these processes, one after another, lead from one machine to another, and this is told of them; before each turn the lines that
+-- the turns before it released were taken.
+abbrev pub HasRun : Seen → List ℕ → List Told → Seen → Type 0
+HasRun old [] all new = (new ≡ old) × (all ≡ [])
+HasRun old (p ∷ ps) all new =
+    (next : Seen) × (one : Told) × (others : List Told) × HasTurned old p next one × (all ≡ one ∷ others)
+    × HasRun (record next { waiting = replicate (length next.world.processes) [] }) ps others new

@@ -17,11 +17,11 @@ use Rattle.rb_machine.specs.declared.came.Came.{Came}
 use Rattle.rb_machine.specs.declared.parts.Parts.{Parts}
 
 -- the world that parts stand for
-abbrev pub world : Parts → WordWorld
+abbrev pub world : {L : Type 0} → Parts L → WordWorld
 world parts = world_of parts.procs.items parts.table (memory_of parts.mails.items parts.links.items)
 
 -- the parts stand for a world of a run before turn number t, and no released line waits
-pub record AreAtWork (c : Code) (t : ℕ) (parts : Parts) : Type 0 where
+pub record AreAtWork {L : Type 0} (c : Code) (t : ℕ) (parts : Parts L) : Type 0 where
   pub work : IsAtWork c t parts.procs.items parts.table parts.mails.items parts.links.items
   pub waits : NoneWaits parts.procs.items
 
@@ -31,18 +31,18 @@ passes_of None = []
 passes_of (Some event) = event ∷ []
 
 -- what a turn of process number p comes to, which is there
-abbrev pub MovesAt : Parts → ℕ → (Process Standing Copy → WordWorld → Moved Standing Copy Common) → (Moved Standing Copy Common → Type 0) → Type 0
+abbrev pub MovesAt : {L : Type 0} → Parts L → ℕ → (Process Standing Copy → WordWorld → Moved Standing Copy Common) → (Moved Standing Copy Common → Type 0) → Type 0
 MovesAt parts p move Is = (one : Seen) → slice_get parts.procs.items p ≡ Some one → Is (move one.process (world parts))
 
 -- The parts have come to where a move of their world leads, with its rejections as events, its kind and its pass.
-pub record HasMoved (parts : Parts) (events : List Event) (came : Came) (moved : Moved Standing Copy Common) : Type 0 where
+pub record HasMoved {L : Type 0} (parts : Parts L) (events : List Event) (came : Came) (moved : Moved Standing Copy Common) : Type 0 where
   pub worlds : world parts ≡ moved.world
   pub kind : came.kind ≡ moved.kind
   pub rejections : events ≡ moved.rejections
   pub passes : passes_of came.pass ≡ moved.passes
 
 -- What a move leaves: no line waits, conversations have the same members, and slots their sizes; and there are few events.
-pub record IsLeft (c : Code) (before after : Parts) (events : List Event) (came : Came) : Type 0 where
+pub record IsLeft {L : Type 0} (c : Code) (before after : Parts L) (events : List Event) (came : Came) : Type 0 where
   pub waits : NoneWaits after.procs.items
   pub groups : SameGroups before.table after.table
   pub sized : AreSized c after.mails.items

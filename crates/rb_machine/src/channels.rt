@@ -1,14 +1,14 @@
 //! Whether a channel has room for a message, and whether one is there.
 
-ghost use Rattle.std.specs.Prelude.{◌≡◌, ℕ, ◌+◌, ◌<◌, ◌≤◌, List, length, slice_get, Some};
-ghost use Rattle.rb_world.specs.Channels.{has_room, message_there};
+ghost use Rattle.std.specs.Prelude.{◌≡◌, ℕ, ◌+◌, ◌<◌, ◌≤◌, nat_lt, List, length, slice_get};
+ghost use Rattle.rb_world.specs.Channels.{has_room, message_there, seen_copy};
 ghost use Rattle.rb_world.specs.Kind.{Membership};
-ghost use Rattle.rb_world.specs.World.{Talk};
+ghost use Rattle.rb_world.specs.World.{Talk, is_shared};
 ghost use Rattle.rb_code.specs.Plain.{code as plain};
-ghost use Rattle.rb_code.specs.Sound.{IsReceiver, IsSender};
+ghost use Rattle.rb_code.specs.Sound.{IsReceiver};
 ghost use Rattle.rb_code.specs.Turn.{Common};
 ghost use Rattle.rb_code.specs.WordKind.{word_kind};
-ghost use Rattle.rb_machine.specs.Channels.{AreNumbered, message_given};
+ghost use Rattle.rb_machine.specs.Channels.{AreNumbered, HasCursor, IsCopyAt, conversation_in, cursor_at, message_given, outermost_copy};
 ghost use Rattle.rb_machine.specs.Worlds.{processes_of};
 
 use rb_base::Steps;
@@ -17,7 +17,7 @@ use rb_proc::Proc;
 use std::sync::ledger::Ledger;
 
 /// Whether a send on a channel has room: less than its size more messages were sent than the receiver had taken at the entry of its
-/// outermost level, or has taken by now if it has no level.
+/// outermost level, or has taken by now if it has no level. A channel has no room if the code does not have it, nor both its ends.
 pub fn has_room<L: Ledger>(
     code: &Code,
     procs: &[Proc<L>],
@@ -28,10 +28,22 @@ pub fn has_room<L: Ledger>(
     ensures room { (groups : List Membership) (talks : List Talk) (memory : Common) → result ≡ has_room (word_kind (plain code.now) groups) (record { processes = processes_of procs.now; talks = talks; memory = memory }) channel }
     ensures ticks { steps.new ≤ steps.old + 2 }
 {
+    let Some(ends) = code.channels.get(channel as usize) else {
+        return false;
+    };
+    let Some(sender) = procs.get(ends.sender as usize) else {
+        return false;
+    };
+    let Some(receiver) = procs.get(ends.receiver as usize) else {
+        return false;
+    };
+    let sent = sender.cursor(code, channel, steps);
+    let from = room_from(code, receiver, channel, steps);
+    is_within(sent, from, ends.size)
 }
 
 /// Whether a message is there for process p, the receiver of a channel: more were sent than it has taken, up to the entry of the sender's
-/// first level that the two do not share.
+/// first level that the two do not share. None is there if the code does not have the sender.
 pub fn message_there<L: Ledger>(
     code: &Code,
     procs: &[Proc<L>],
@@ -45,4 +57,88 @@ pub fn message_there<L: Ledger>(
     ensures there { (groups : List Membership) (talks : List Talk) (memory : Common) → message_there (word_kind (plain code.now) groups) (record { processes = processes_of procs.now; talks = talks; memory = memory }) channel ≡ message_given (plain code.now) memory.slots procs.now p channel result }
     ensures ticks { steps.new ≤ steps.old + 2 }
 {
+    let Some(ends) = code.channels.get(channel as usize) else {
+        return false;
+    };
+    let Some(sender) = procs.get(ends.sender as usize) else {
+        return false;
+    };
+    let receiver = &procs[p as usize];
+    let seen = seen_count(code, sender, receiver, channel, steps);
+    let taken = receiver.cursor(code, channel, steps);
+    taken < seen
+}
+
+// The sender's first level that it does not share with the receiver, whose copy is what the receiver sees of it; none where the receiver
+// sees its present state.
+fn first_own_level<L: Ledger>(sender: &Proc<L>, receiver: &Proc<L>) -> Option<u32>
+    ensures copy { IsCopyAt sender.now.process.levels result (seen_copy sender.now.process.levels receiver.now.process.levels) }
+{
+    for level in 0..sender.levels() {
+        let own = conversation_at(sender, level);
+        let other = conversation_at(receiver, level);
+        if !is_shared(own, other) {
+            return Some(level);
+        }
+    }
+    None
+}
+
+// Whether both are of one conversation.
+fn is_shared(one: Option<u32>, other: Option<u32>) -> bool
+    ensures { result ≡ is_shared one other }
+{
+    match (one, other) {
+        (Some(conversation), Some(another)) => another == conversation,
+        _ => false,
+    }
+}
+
+// The conversation of a level, and none where it is of none or no such level is open.
+fn conversation_at<L: Ledger>(proc: &Proc<L>, level: u32) -> Option<u32>
+    ensures { result ≡ conversation_in (slice_get proc.now.process.levels level) }
+{
+    if level < proc.levels() {
+        proc.level(level).conversation
+    } else {
+        None
+    }
+}
+
+// How many messages of a channel the receiver sees of the sender.
+fn seen_count<L: Ledger>(
+    code: &Code,
+    sender: &Proc<L>,
+    receiver: &Proc<L>,
+    channel: u32,
+    steps: &mut Steps<L>,
+) -> u64
+    requires cursors { HasCursor (plain code.now) channel sender.now }
+    ensures cursor { result ≡ cursor_at (plain code.now) channel sender.now.process (seen_copy sender.now.process.levels receiver.now.process.levels) }
+    ensures ticks { steps.new ≤ steps.old + 1 }
+{
+    match first_own_level(sender, receiver) {
+        None => sender.cursor(code, channel, steps),
+        Some(level) => sender.cursor_then(code, channel, level, steps),
+    }
+}
+
+// From which number on the receiver leaves room for so many messages as a channel's size.
+fn room_from<L: Ledger>(code: &Code, receiver: &Proc<L>, channel: u32, steps: &mut Steps<L>) -> u64
+    requires cursors { HasCursor (plain code.now) channel receiver.now }
+    ensures cursor { result ≡ cursor_at (plain code.now) channel receiver.now.process (outermost_copy receiver.now.process.levels) }
+    ensures ticks { steps.new ≤ steps.old + 1 }
+{
+    if receiver.levels() > 0 {
+        receiver.cursor_then(code, channel, 0, steps)
+    } else {
+        receiver.cursor(code, channel, steps)
+    }
+}
+
+// Whether less than `size` more than `from` were sent.
+fn is_within(sent: u64, from: u64, size: u32) -> bool
+    ensures { result ≡ nat_lt sent (size + from) }
+{
+    sent < from || sent - from < u64::from(size)
 }

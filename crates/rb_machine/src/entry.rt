@@ -1,20 +1,34 @@
 //! The entry of a recovery block, alone or as a member of a conversation.
 
-ghost use Rattle.std.specs.Prelude.{◌≡◌, ◌+◌, ◌<◌, ◌≤◌, [], length, slice_get, vec_len, vec_capacity, Some};
+ghost use Rattle.std.specs.Prelude.{◌≡◌, ◌+◌, ◌<◌, ◌≤◌, [], ◌∷◌, ◌++◌, length, slice_get, vec_len, vec_capacity, Some};
+ghost use Rattle.rb_base.specs.declared.event.Cause.TheVariants.{Broken};
 ghost use Rattle.rb_world.specs.Kind.{Facts, Enters};
+ghost use Rattle.rb_world.specs.Reject.{fallen};
 ghost use Rattle.rb_world.specs.Turn.{enters};
-ghost use Rattle.rb_code.specs.Plain.{code as plain};
+ghost use Rattle.rb_world.specs.World.{change_at};
+ghost use Rattle.rb_code.specs.Plain.{Code as Plain, code as plain};
+ghost use Rattle.rb_code.specs.Sound.{conversation_of};
 ghost use Rattle.rb_code.specs.Turn.{want};
-ghost use Rattle.rb_proc.specs.Process.{Seen};
+ghost use Rattle.rb_conv.specs.Conversations.{conversation_at, talks};
+ghost use Rattle.rb_proc.specs.Entries.{entered_process};
+ghost use Rattle.rb_proc.specs.Executable.{IsExecutable};
+ghost use Rattle.rb_proc.specs.Process.{Seen, kind_of};
 ghost use Rattle.rb_machine.specs.AtWork.{MayAct};
+ghost use Rattle.rb_machine.specs.Cascade.{SameGroups};
+ghost use Rattle.rb_machine.specs.Entries.{IsListedBlock, entry_at, joined_at};
 ghost use Rattle.rb_machine.specs.Moves.{AreAtWork, HasMoved, IsLeft, MovesAt, WantsBlock};
+ghost use Rattle.rb_machine.specs.Rejections.{changed};
 ghost use Rattle.rb_machine.specs.Worlds.{kind_with};
 
 use crate::came::Came;
+use crate::links::{Link, add};
 use crate::parts::Parts;
+use crate::undone::undo;
 use arrayvec::ArrayVec;
-use rb_base::{Event, Steps};
+use rb_base::{Cause, Event, MOST_OPEN_LEVELS, Steps, TurnKind};
 use rb_code::Code;
+use rb_conv::Table;
+use rb_proc::Proc;
 use std::sync::ledger::Ledger;
 
 /// Process p enters a recovery block, at its first alternate, or at the present one of its conversation. It fails where that is broken
@@ -39,4 +53,87 @@ pub fn enter<L: Ledger>(
     ensures links { vec_len parts.new.links ≤ vec_len parts.old.links + 1 }
     ensures room { vec_capacity parts.old.links ≤ vec_capacity parts.new.links }
 {
+    let levels = parts.procs[p as usize].levels();
+    if levels >= MOST_OPEN_LEVELS {
+        return undo(parts, p, levels, Cause::Depth, events, steps);
+    }
+    match alternate_for(code, &mut parts.table, p, block) {
+        None => {
+            fail(&mut parts.procs, p);
+            Came::without_pass(TurnKind::Undone)
+        }
+        Some(alternate) => {
+            open(code, &mut parts.procs, &mut parts.links, turn, p, alternate);
+            Came::without_pass(TurnKind::Took)
+        }
+    }
+}
+
+// The alternate at which process p enters a block: the first, or the present one of its conversation, inside which it is from then on.
+// There is none where the conversation is broken for good.
+fn alternate_for(code: &Code, table: &mut Table, p: u32, block: u32) -> Option<u32>
+    requires { IsListedBlock (plain code.now) table.old block }
+    ensures alternate { result ≡ entry_at table.old (conversation_of (slice_get (plain code.now).blocks block)) }
+    ensures talks { talks table.new ≡ talks table.old }
+    ensures groups { SameGroups table.old table.new }
+{
+    match code.blocks[block as usize].conversation {
+        None => Some(1),
+        Some(conversation) => join(table, p, conversation),
+    }
+}
+
+// Process p joins a conversation at its present alternate, unless it is broken for good.
+fn join(table: &mut Table, p: u32, conversation: u32) -> Option<u32>
+    requires { conversation < length table.old }
+    ensures alternate { result ≡ joined_at (conversation_at table.old conversation).talk }
+    ensures talks { talks table.new ≡ talks table.old }
+    ensures groups { SameGroups table.old table.new }
+{
+    let alternate = table.alternate(conversation);
+    if table.enter(conversation, p) {
+        Some(alternate)
+    } else {
+        None
+    }
+}
+
+// Process p opens a level of the block that stands next, at an alternate. The turn is kept before, so that it is the last kept one of the
+// level's copy.
+fn open<L: Ledger>(
+    code: &Code,
+    procs: &mut [Proc<L>],
+    links: &mut Vec<Link>,
+    turn: u32,
+    p: u32,
+    alternate: u32,
+)
+    requires code { IsExecutable (plain code.now) }
+    requires process { p < length procs.old }
+    requires shallow { (one : Seen) → slice_get procs.old p ≡ Some one → length one.process.levels < 32 }
+    requires room { vec_len links.old < vec_capacity links.old }
+    ensures processes { (one : Seen) (facts : Facts) → slice_get procs.old p ≡ Some one → want (plain code.now) one.process.state ≡ Enters facts → procs.new ≡ change_at p (changed (entered_process (plain code.now) facts alternate turn)) procs.old }
+    ensures links { (one : Seen) → slice_get procs.old p ≡ Some one → links.new.items ≡ links.old.items ++ record { turn = turn; process = p; alternate = 0; before = one.process.state.last_kept } ∷ [] }
+    ensures len { vec_len links.new ≡ vec_len links.old + 1 }
+    ensures room { vec_capacity links.old ≤ vec_capacity links.new }
+{
+    let before = procs[p as usize].last_kept();
+    procs[p as usize].enter(code, alternate, turn);
+    add(
+        links,
+        Link {
+            turn,
+            process: p,
+            alternate: 0,
+            before,
+        },
+    );
+}
+
+// Process p fails, since the conversation that it enters is broken for good.
+fn fail<L: Ledger>(procs: &mut [Proc<L>], p: u32)
+    requires { p < length procs.old }
+    ensures { (c : Plain) → procs.new ≡ change_at p (changed (fallen (kind_of c) Broken)) procs.old }
+{
+    procs[p as usize].fail(Cause::Broken);
 }

@@ -2,5 +2,18 @@
 #![tactic(auto)]
 
 pub mod came;
-pub mod links;
+pub mod cascade;
+pub mod channels;
+pub mod entry;
+pub mod innermost;
 pub mod laws;
+pub mod links;
+pub mod loading;
+pub mod machine;
+pub mod moves;
+pub mod parts;
+pub mod reading;
+pub mod step;
+pub mod telling;
+pub mod test_line;
+pub mod undone;

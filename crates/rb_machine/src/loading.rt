@@ -1,27 +1,28 @@
 //! Loading a program: its processes at their bodies, empty channels, conversations that nobody has entered, and room for links.
 
-ghost use Rattle.std.specs.Prelude.{◌≡◌, ℕ, ◌<◌, ◌≤◌, ◌-◌, ◌^◌, true, [], length, map, vec_len, vec_capacity, IfOk};
+ghost use Rattle.std.specs.Prelude.{◌≡◌, ◌<◌, ◌≤◌, ◌-◌, ◌^◌, nat_lt, true, length, map, vec_len, vec_capacity, IfOk};
+ghost use Rattle.std.specs.List.{All, list_all};
 ghost use Rattle.rb_base.specs.declared.limits.TheConstants.{MOST_TURNS};
 ghost use Rattle.rb_world.specs.Slots.{zero_slots};
-ghost use Rattle.rb_world.specs.World.{Process, settled};
-ghost use Rattle.rb_code.specs.Plain.{code as plain};
-ghost use Rattle.rb_code.specs.Turn.{Copy, Standing};
+ghost use Rattle.rb_code.specs.declared.code.ChannelCode.{ChannelCode as Channel};
+ghost use Rattle.rb_code.specs.Plain.{channel, code as plain};
 ghost use Rattle.rb_code.specs.WordRun.{opening_standings};
 ghost use Rattle.rb_conv.specs.Conversations.{memberships, opening};
 ghost use Rattle.rb_proc.specs.Executable.{IsExecutable};
-ghost use Rattle.rb_proc.specs.Process.{kind_of};
 ghost use Rattle.rb_machine.specs.AtWork.{HasFewAlternates};
 ghost use Rattle.rb_machine.specs.Known.{IsLoaded};
+ghost use Rattle.rb_machine.specs.Loading.{AllSettle, first_seen};
 ghost use Rattle.rb_machine.specs.Machine.{IsTied, opening_seen, seen};
 ghost use Rattle.rb_machine.specs.Telling.{running_of};
-ghost use Rattle.rb_machine.specs.Worlds.{NoneWaits, counts_of, processes_of};
+ghost use Rattle.rb_machine.specs.Worlds.{counts_of, processes_of};
 
 use crate::parts::Parts;
+use crate::telling::note_running;
 use rb_base::{Memory, Nested, Steps};
-use rb_code::{BlockCode, Code};
+use rb_code::{BlockCode, ChannelCode, Code};
 use rb_conv::Table;
 use rb_mail::Mail;
-use rb_proc::{Proc, Status};
+use rb_proc::Proc;
 use std::alloc::Global;
 use std::sync::ledger::Ledger;
 
@@ -32,7 +33,8 @@ pub struct Loaded<L: Ledger> {
     pub running: Vec<bool>,
 }
 
-/// Loads a program with room for the links of so many turns; `Memory` if it is wanting.
+/// Loads a program with room for the links of so many turns; `Memory` if it is wanting, or if 32 bits do not number the instructions and
+/// the alternates of the code.
 pub fn load_parts<L: Ledger>(
     alloc: Global,
     code: &Code,
@@ -49,7 +51,7 @@ pub fn load_parts<L: Ledger>(
         return Err(Memory);
     }
     let procs = load_processes(alloc, code, steps)?;
-    let mails = load_mails(alloc, code)?;
+    let mails = load_mails(alloc, &code.channels)?;
     let table = Table::new(alloc, nested)?;
     let links = Vec::with_capacity(alloc, turns as usize)?;
     let running = who_runs(alloc, &procs)?;
@@ -69,12 +71,15 @@ fn is_numbered(code: &Code) -> bool
     ensures instructions { result ≡ true → length (plain code.now).instrs < 2 ^ 32 }
     ensures alternates { result ≡ true → HasFewAlternates (plain code.now) }
 {
-    code.instrs.len() < u32::MAX as usize && code.blocks.iter().all(has_few_alternates)
+    code.instrs.len() < u32::MAX as usize && have_few_alternates(&code.blocks)
 }
 
-fn has_few_alternates(block: &BlockCode) -> bool
+fn have_few_alternates(blocks: &[BlockCode]) -> bool
+    ensures { result ≡ list_all (λ block. nat_lt (length block.alternates.items) (2 ^ 32 - 1)) blocks.now }
 {
-    block.alternates.len() < u32::MAX as usize
+    blocks
+        .iter()
+        .all(|block| block.alternates.len() < u32::MAX as usize)
 }
 
 // All processes at their bodies, once they have settled.
@@ -84,8 +89,9 @@ fn load_processes<L: Ledger>(
     steps: &mut Steps<L>,
 ) -> Result<Vec<Proc<L>>, Memory>
     requires code { IsExecutable (plain code.now) }
-    ensures processes { IfOk result (λ procs. processes_of procs.items ≡ map (λ (s : Standing). settled (kind_of (plain code.now)) s []) (opening_standings 0 (plain code.now).processes)) }
-    ensures waits { IfOk result (λ procs. NoneWaits procs.items) }
+    requires few { length (plain code.now).processes < 2 ^ 32 }
+    requires settle { AllSettle (plain code.now) }
+    ensures { IfOk result (λ procs. procs.items ≡ map (first_seen (plain code.now)) (opening_standings 0 (plain code.now).processes)) }
 {
     let mut procs = Vec::with_capacity(alloc, code.processes.len())?;
     for process in 0..code.processes.len() {
@@ -95,11 +101,12 @@ fn load_processes<L: Ledger>(
 }
 
 // All channels with 0 in their slots.
-fn load_mails(alloc: Global, code: &Code) -> Result<Vec<Mail>, Memory>
-    ensures { IfOk result (λ mails. mails.items ≡ zero_slots (plain code.now).channels) }
+fn load_mails(alloc: Global, channels: &[ChannelCode]) -> Result<Vec<Mail>, Memory>
+    requires { All (λ (one : Channel). 1 ≤ one.size) channels.now }
+    ensures { IfOk result (λ mails. mails.items ≡ zero_slots (map channel channels.now)) }
 {
-    let mut mails = Vec::with_capacity(alloc, code.channels.len())?;
-    for channel in &code.channels {
+    let mut mails = Vec::with_capacity(alloc, channels.len())?;
+    for channel in channels {
         mails.push(Mail::new(alloc, channel.size)?)?;
     }
     Ok(mails)
@@ -109,9 +116,7 @@ fn load_mails(alloc: Global, code: &Code) -> Result<Vec<Mail>, Memory>
 fn who_runs<L: Ledger>(alloc: Global, procs: &[Proc<L>]) -> Result<Vec<bool>, Memory>
     ensures { IfOk result (λ running. running.items ≡ running_of (processes_of procs.now)) }
 {
-    let mut running = Vec::with_capacity(alloc, procs.len())?;
-    for process in procs {
-        running.push(matches!(process.status(), Status::Running))?;
-    }
+    let mut running = vec![in alloc; false; procs.len()]?;
+    note_running(procs, &mut running);
     Ok(running)
 }

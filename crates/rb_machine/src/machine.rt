@@ -1,21 +1,27 @@
 //! The machine: a program's processes, channels and conversations, turn by turn.
 
-ghost use Rattle.std.specs.Prelude.{◌≡◌, ℕ, ◌+◌, ◌<◌, ◌≤◌, [], length, replicate, vec_len, vec_capacity, IfOk};
+ghost use Rattle.std.specs.Prelude.{◌≡◌, ◌+◌, ◌<◌, ◌≤◌, [], length, replicate, vec_len, vec_capacity, IfOk};
 ghost use Rattle.rb_base.specs.declared.limits.TheConstants.{MOST_TURNS};
 ghost use Rattle.rb_code.specs.Plain.{code as plain};
+ghost use Rattle.rb_code.specs.WellFormed.{IsSound};
 ghost use Rattle.rb_conv.specs.Conversations.{memberships, opening};
 ghost use Rattle.rb_trace.specs.Report.{told_of};
-ghost use Rattle.rb_world.specs.Turn.{told_at_opening};
+ghost use Rattle.rb_world.specs.Turn.{told_at_opening, turn};
+ghost use Rattle.rb_machine.specs.AtWork.{IsAtWork};
+ghost use Rattle.rb_machine.specs.Cascade.{SameGroups};
 ghost use Rattle.rb_machine.specs.Known.{IsLoaded};
 ghost use Rattle.rb_machine.specs.Machine.{HasTurned, opening_seen};
-ghost use Rattle.rb_machine.specs.Worlds.{counts_of};
+ghost use Rattle.rb_machine.specs.Moves.{AreAtWork, world};
+ghost use Rattle.rb_machine.specs.Telling.{running_of};
+ghost use Rattle.rb_machine.specs.Worlds.{counts_of, kind_with, lines_of, processes_of};
 
 use crate::loading::load_parts;
 use crate::moves::take_turn;
 use crate::parts::Parts;
+use crate::reading::{sent_on, state_at, taken_on, word_at};
 use crate::telling::{release_all, tell, tell_opening};
 use arrayvec::ArrayVec;
-use rb_base::{Memory, Nested, Report, Steps, TurnKind};
+use rb_base::{Final, Lines, Memory, Nested, Report, State, Steps, TurnKind};
 use rb_code::Code;
 use std::alloc::Global;
 use std::marker::Model;
@@ -45,7 +51,8 @@ impl<'a, L: Ledger> Model for Machine<'a, L> {
 }
 
 impl<'a, L: Ledger> Machine<'a, L> {
-    /// A program before its first turn, with room for so many turns; `Memory` if it is wanting. No other call takes memory.
+    /// A program before its first turn, with room for so many turns; `Memory` if it is wanting, or if the code has more instructions, or a
+    /// block more alternates, than 32 bits number. No other call takes memory.
     pub fn load(
         alloc: Global,
         code: &'a Code,
@@ -67,10 +74,11 @@ impl<'a, L: Ledger> Machine<'a, L> {
         })
     }
 
-    /// What is told before the first turn: who is done.
+    /// What is told before the first turn: who is done. Contracts learn here that the machine's code is sound, as it is of every machine.
     pub fn opening(&self) -> Report
         requires { self.now.taken ≡ 0 }
-        ensures { told_of result.kind result.events.items [] ≡ told_at_opening self.now.world }
+        ensures told { told_of result.kind result.events.items [] ≡ told_at_opening self.now.world }
+        ensures sound { IsSound self.now.code self.now.groups }
     {
         let mut events = ArrayVec::new();
         tell_opening(&self.parts.procs, &mut events);
@@ -87,19 +95,90 @@ impl<'a, L: Ledger> Machine<'a, L> {
         ensures { HasTurned self.old p self.new (told_of result.kind result.events.items self.new.waiting) }
     {
         self.taken += 1;
-        turn(self.code, &mut self.parts, &mut self.running, self.taken, p, steps)
+        turn(
+            self.code,
+            &mut self.parts,
+            &mut self.running,
+            self.taken,
+            p,
+            steps,
+        )
+    }
+
+    /// How many turns it has taken.
+    pub fn turns_taken(&self) -> u32
+        ensures { result ≡ self.now.taken }
+    {
+        self.taken
     }
 }
 
-// One turn of a machine's parts.
+// The released lines of each process, which wait until they are written.
+impl<'a, L: Ledger> Lines for Machine<'a, L> {
+    ghost use Rattle.std.specs.Prelude.{[]};
+    ghost use Rattle.rb_machine.specs.Machine.{Seen};
+
+    ghost waiting = { λ m. m.waiting };
+
+    ghost Rest = { Seen };
+
+    ghost rest = { λ m. record m { waiting = [] } };
+
+    fn released(&mut self, p: u32) -> Option<&[u8]> {
+        self.parts.released(p)
+    }
+}
+
+// How the processes and the channels stand, for the ending of a run.
+impl<'a, L: Ledger> Final for Machine<'a, L> {
+    ghost use Rattle.rb_machine.specs.Reading.{sent_of, states_of, taken_of, variables_of};
+
+    type Ledger = L;
+
+    ghost states = { λ m. states_of m.world.processes };
+
+    ghost words = { λ m. variables_of m.code m.world.processes };
+
+    ghost sent = { λ m. sent_of m.code m.world.processes };
+
+    ghost taken = { λ m. taken_of m.code m.world.processes };
+
+    fn state(&self, p: u32) -> State {
+        state_at(&self.parts.procs, p)
+    }
+
+    fn word(&self, p: u32, at: u32, steps: &mut Steps<L>) -> i64 {
+        word_at(self.code, &self.parts.procs, p, at, steps)
+    }
+
+    fn sent(&self, channel: u32, steps: &mut Steps<L>) -> i64 {
+        sent_on(self.code, &self.parts.procs, channel, steps)
+    }
+
+    fn taken(&self, channel: u32, steps: &mut Steps<L>) -> i64 {
+        taken_on(self.code, &self.parts.procs, channel, steps)
+    }
+}
+
+// Turn number `number` of process p.
 fn turn<L: Ledger>(
     code: &Code,
     parts: &mut Parts<L>,
-    running: &mut Vec<bool>,
+    running: &mut [bool],
     number: u32,
     p: u32,
     steps: &mut Steps<L>,
 ) -> Report
+    requires work { AreAtWork (plain code.now) number parts.old }
+    requires running { running.old ≡ running_of (processes_of parts.old.procs.items) }
+    requires room { vec_len parts.old.links < vec_capacity parts.old.links }
+    requires few { number ≤ MOST_TURNS }
+    ensures turned { (world parts.new, told_of result.kind result.events.items (lines_of parts.new.procs.items)) ≡ turn (kind_with (plain code.now) parts.old.table) number p (world parts.old) }
+    ensures groups { SameGroups parts.old.table parts.new.table }
+    ensures work { IsAtWork (plain code.now) (number + 1) parts.new.procs.items parts.new.table parts.new.mails.items parts.new.links.items }
+    ensures running { running.new ≡ running_of (processes_of parts.new.procs.items) }
+    ensures links { vec_len parts.new.links ≤ vec_len parts.old.links + 1 }
+    ensures room { vec_capacity parts.old.links ≤ vec_capacity parts.new.links }
 {
     let mut events = ArrayVec::new();
     let came = take_turn(code, parts, number, p, &mut events, steps);

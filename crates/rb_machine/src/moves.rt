@@ -1,23 +1,30 @@
 //! What a process does in its turn: it waits, steps, enters, or is rejected since a level has used up its turns.
 
-ghost use Rattle.std.specs.Prelude.{◌≡◌, ◌+◌, ◌<◌, ◌≤◌, [], length, slice_get, vec_len, vec_capacity, Some};
-ghost use Rattle.rb_world.specs.Turn.{acts, move};
+ghost use Rattle.std.specs.Prelude.{◌≡◌, ◌+◌, ◌-◌, ◌<◌, ◌≤◌, ◌^◌, [], length, position, slice_get, vec_len, vec_capacity, Some};
+ghost use Rattle.rb_base.specs.declared.limits.TheConstants.{MOST_TURNS};
+ghost use Rattle.rb_world.specs.Kind.{SendsOn, ReceivesOn, MayReceiveOn};
+ghost use Rattle.rb_world.specs.Standing.{Each};
+ghost use Rattle.rb_world.specs.Turn.{acts, bounded, is_over, move, runs, turn_used};
+ghost use Rattle.rb_world.specs.World.{Running, change_at};
 ghost use Rattle.rb_code.specs.Plain.{code as plain};
 ghost use Rattle.rb_code.specs.Turn.{want};
+ghost use Rattle.rb_proc.specs.Process.{Seen};
 ghost use Rattle.rb_machine.specs.AtWork.{MayAct};
 ghost use Rattle.rb_machine.specs.Moves.{AreAtWork, HasMoved, IsLeft, MovesAt, world};
-ghost use Rattle.rb_machine.specs.Worlds.{kind_with};
+ghost use Rattle.rb_machine.specs.Rejections.{changed};
+ghost use Rattle.rb_machine.specs.Turns.{runs_there};
+ghost use Rattle.rb_machine.specs.Worlds.{kind_with, processes_of};
 
 use crate::came::Came;
-use crate::cascade::reject;
 use crate::channels::{has_room, message_there};
 use crate::entry::enter;
 use crate::parts::Parts;
 use crate::step::take_step;
+use crate::undone::undo;
 use arrayvec::ArrayVec;
 use rb_base::{Cause, Event, Steps, TurnKind};
 use rb_code::Code;
-use rb_proc::Wanted;
+use rb_proc::{Proc, Status, Wanted};
 use std::sync::ledger::Ledger;
 
 /// What stands first in process p decides.
@@ -41,16 +48,93 @@ pub fn act<L: Ledger>(
 {
     match parts.procs[p as usize].want(code) {
         Wanted::Idle | Wanted::Line => Came::without_pass(TurnKind::Idle),
-        Wanted::Room(channel) if !has_room(code, &parts.procs, channel, steps) => Came::without_pass(TurnKind::Wait),
+        Wanted::Room(channel) => send(code, parts, turn, p, channel, events, steps),
         Wanted::Message(channel) => receive(code, parts, turn, p, channel, events, steps),
-        Wanted::Maybe(channel) => {
-            let there = message_there(code, &parts.procs, p, channel, steps);
-            take_step(code, parts, turn, p, there, events, steps)
-        }
+        Wanted::Maybe(channel) => look(code, parts, turn, p, channel, events, steps),
         Wanted::Entry(block) => enter(code, parts, turn, p, block, events, steps),
-        Wanted::Room(_) | Wanted::Start | Wanted::Step =>
-            take_step(code, parts, turn, p, false, events, steps),
+        Wanted::Start | Wanted::Step => { take_step(code, parts, turn, p, false, events, steps) }
     }
+}
+
+// Process p, at a send, waits for room.
+fn send<L: Ledger>(
+    code: &Code,
+    parts: &mut Parts<L>,
+    turn: u32,
+    p: u32,
+    channel: u32,
+    events: &mut ArrayVec<Event, 96>,
+    steps: &mut Steps<L>,
+) -> Came
+    requires work { AreAtWork (plain code.now) (turn + 1) parts.old }
+    requires process { p < length parts.old.procs.items }
+    requires acting { MayAct parts.old.procs.items p }
+    requires wants { (one : Seen) → slice_get parts.old.procs.items p ≡ Some one → want (plain code.now) one.process.state ≡ SendsOn channel }
+    requires room { vec_len parts.old.links < vec_capacity parts.old.links }
+    requires none { length events.old.items ≡ 0 }
+    ensures moved { MovesAt parts.old p (λ q w. acts (kind_with (plain code.now) parts.old.table) turn p q w (want (plain code.now) q.state)) (HasMoved parts.new events.new.items result) }
+    ensures left { IsLeft (plain code.now) parts.old parts.new events.new.items result }
+    ensures links { vec_len parts.new.links ≤ vec_len parts.old.links + 1 }
+    ensures room { vec_capacity parts.old.links ≤ vec_capacity parts.new.links }
+{
+    if has_room(code, &parts.procs, channel, steps) {
+        take_step(code, parts, turn, p, false, events, steps)
+    } else {
+        Came::without_pass(TurnKind::Wait)
+    }
+}
+
+// Process p, at a receipt, waits for a message.
+fn receive<L: Ledger>(
+    code: &Code,
+    parts: &mut Parts<L>,
+    turn: u32,
+    p: u32,
+    channel: u32,
+    events: &mut ArrayVec<Event, 96>,
+    steps: &mut Steps<L>,
+) -> Came
+    requires work { AreAtWork (plain code.now) (turn + 1) parts.old }
+    requires process { p < length parts.old.procs.items }
+    requires acting { MayAct parts.old.procs.items p }
+    requires wants { (one : Seen) → slice_get parts.old.procs.items p ≡ Some one → want (plain code.now) one.process.state ≡ ReceivesOn channel }
+    requires room { vec_len parts.old.links < vec_capacity parts.old.links }
+    requires none { length events.old.items ≡ 0 }
+    ensures moved { MovesAt parts.old p (λ q w. acts (kind_with (plain code.now) parts.old.table) turn p q w (want (plain code.now) q.state)) (HasMoved parts.new events.new.items result) }
+    ensures left { IsLeft (plain code.now) parts.old parts.new events.new.items result }
+    ensures links { vec_len parts.new.links ≤ vec_len parts.old.links + 1 }
+    ensures room { vec_capacity parts.old.links ≤ vec_capacity parts.new.links }
+{
+    if message_there(code, &parts.procs, p, channel, steps) {
+        take_step(code, parts, turn, p, true, events, steps)
+    } else {
+        Came::without_pass(TurnKind::Wait)
+    }
+}
+
+// Process p takes a message if one is there, and goes on without one if none is.
+fn look<L: Ledger>(
+    code: &Code,
+    parts: &mut Parts<L>,
+    turn: u32,
+    p: u32,
+    channel: u32,
+    events: &mut ArrayVec<Event, 96>,
+    steps: &mut Steps<L>,
+) -> Came
+    requires work { AreAtWork (plain code.now) (turn + 1) parts.old }
+    requires process { p < length parts.old.procs.items }
+    requires acting { MayAct parts.old.procs.items p }
+    requires wants { (one : Seen) → slice_get parts.old.procs.items p ≡ Some one → want (plain code.now) one.process.state ≡ MayReceiveOn channel }
+    requires room { vec_len parts.old.links < vec_capacity parts.old.links }
+    requires none { length events.old.items ≡ 0 }
+    ensures moved { MovesAt parts.old p (λ q w. acts (kind_with (plain code.now) parts.old.table) turn p q w (want (plain code.now) q.state)) (HasMoved parts.new events.new.items result) }
+    ensures left { IsLeft (plain code.now) parts.old parts.new events.new.items result }
+    ensures links { vec_len parts.new.links ≤ vec_len parts.old.links + 1 }
+    ensures room { vec_capacity parts.old.links ≤ vec_capacity parts.new.links }
+{
+    let there = message_there(code, &parts.procs, p, channel, steps);
+    take_step(code, parts, turn, p, there, events, steps)
 }
 
 /// Turn number `turn` of process p, before lines are released.
@@ -63,6 +147,7 @@ pub fn take_turn<L: Ledger>(
     steps: &mut Steps<L>,
 ) -> Came
     requires work { AreAtWork (plain code.now) turn parts.old }
+    requires turns { turn ≤ MOST_TURNS }
     requires room { vec_len parts.old.links < vec_capacity parts.old.links }
     requires none { length events.old.items ≡ 0 }
     ensures moved { HasMoved parts.new events.new.items result (move (kind_with (plain code.now) parts.old.table) turn p (world parts.old)) }
@@ -70,15 +155,81 @@ pub fn take_turn<L: Ledger>(
     ensures links { vec_len parts.new.links ≤ vec_len parts.old.links + 1 }
     ensures room { vec_capacity parts.old.links ≤ vec_capacity parts.new.links }
 {
-    if p as usize >= parts.procs.len() || !parts.procs[p as usize].is_running() {
-        return Came::without_pass(TurnKind::Idle);
+    if is_running(&parts.procs, p) {
+        run(code, parts, turn, p, events, steps)
+    } else {
+        Came::without_pass(TurnKind::Idle)
     }
-    match parts.procs[p as usize].count_turn() {
-        Some(level) => {
-            let Parts { procs, table, .. } = parts;
-            reject(procs, table, p, level + 1, Cause::Overrun, events, steps);
-            Came::without_pass(TurnKind::Undone)
-        }
+}
+
+// Whether process p is there, and runs.
+fn is_running<L: Ledger>(procs: &[Proc<L>], p: u32) -> bool
+    ensures { result ≡ runs_there (slice_get (processes_of procs.now) p) }
+{
+    match procs.get(p as usize) {
+        None => false,
+        Some(proc) => matches!(proc.status(), Status::Running),
+    }
+}
+
+// A turn of process p, which runs: each of its levels counts it.
+fn run<L: Ledger>(
+    code: &Code,
+    parts: &mut Parts<L>,
+    turn: u32,
+    p: u32,
+    events: &mut ArrayVec<Event, 96>,
+    steps: &mut Steps<L>,
+) -> Came
+    requires work { AreAtWork (plain code.now) turn parts.old }
+    requires turns { turn ≤ MOST_TURNS }
+    requires process { p < length parts.old.procs.items }
+    requires running { (one : Seen) → slice_get parts.old.procs.items p ≡ Some one → one.process.status ≡ Running }
+    requires room { vec_len parts.old.links < vec_capacity parts.old.links }
+    requires none { length events.old.items ≡ 0 }
+    ensures moved { MovesAt parts.old p (λ q w. runs (kind_with (plain code.now) parts.old.table) turn p (turn_used q) w) (HasMoved parts.new events.new.items result) }
+    ensures left { IsLeft (plain code.now) parts.old parts.new events.new.items result }
+    ensures links { vec_len parts.new.links ≤ vec_len parts.old.links + 1 }
+    ensures room { vec_capacity parts.old.links ≤ vec_capacity parts.new.links }
+{
+    let over = count(&mut parts.procs, p);
+    go_on(code, parts, turn, p, over, events, steps)
+}
+
+// The turn is counted at each level of process p; answers which is the outermost that is beyond its bound.
+fn count<L: Ledger>(procs: &mut [Proc<L>], p: u32) -> Option<u32>
+    requires process { p < length procs.old }
+    requires few { (one : Seen) → slice_get procs.old p ≡ Some one → Each (λ _ level. level.used < 2 ^ 32 - 1) one.process.levels }
+    ensures counted { procs.new ≡ change_at p (changed turn_used) procs.old }
+    ensures over { (one : Seen) → slice_get procs.new p ≡ Some one → result ≡ position is_over one.process.levels }
+{
+    procs[p as usize].count_turn()
+}
+
+// A turn of process p that its levels have counted: the outermost that is beyond its bound is rejected. With none, a process at a test line
+// waits, and any other acts.
+fn go_on<L: Ledger>(
+    code: &Code,
+    parts: &mut Parts<L>,
+    turn: u32,
+    p: u32,
+    over: Option<u32>,
+    events: &mut ArrayVec<Event, 96>,
+    steps: &mut Steps<L>,
+) -> Came
+    requires work { AreAtWork (plain code.now) (turn + 1) parts.old }
+    requires process { p < length parts.old.procs.items }
+    requires running { (one : Seen) → slice_get parts.old.procs.items p ≡ Some one → one.process.status ≡ Running }
+    requires over { (one : Seen) → slice_get parts.old.procs.items p ≡ Some one → over ≡ position is_over one.process.levels }
+    requires room { vec_len parts.old.links < vec_capacity parts.old.links }
+    requires none { length events.old.items ≡ 0 }
+    ensures moved { MovesAt parts.old p (λ q w. bounded (kind_with (plain code.now) parts.old.table) turn p q w (position is_over q.levels)) (HasMoved parts.new events.new.items result) }
+    ensures left { IsLeft (plain code.now) parts.old parts.new events.new.items result }
+    ensures links { vec_len parts.new.links ≤ vec_len parts.old.links + 1 }
+    ensures room { vec_capacity parts.old.links ≤ vec_capacity parts.new.links }
+{
+    match over {
+        Some(level) => undo(parts, p, level + 1, Cause::Overrun, events, steps),
         None if parts.procs[p as usize].at_line() => Came::without_pass(TurnKind::Wait),
         None => act(code, parts, turn, p, events, steps),
     }

@@ -1,6 +1,7 @@
 //! What is told at the end of a turn: errors, the pass of a test line, and who is done; and held lines are released.
 
-ghost use Rattle.std.specs.Prelude.{◌≡◌, ℕ, ◌+◌, ◌*◌, ◌<◌, ◌≤◌, ◌++◌, List, length, map};
+ghost use Rattle.std.specs.Prelude.{◌≡◌, ℕ, ◌+◌, ◌*◌, ◌<◌, ◌≤◌, ◌^◌, ◌++◌, List, [], length, map};
+ghost use Rattle.std.specs.Option.{option_to_list};
 ghost use Rattle.rb_world.specs.Kind.{Membership};
 ghost use Rattle.rb_world.specs.Turn.{finished_at, freed, lines_freed};
 ghost use Rattle.rb_world.specs.World.{Process};
@@ -8,14 +9,22 @@ ghost use Rattle.rb_code.specs.Plain.{Code as Plain};
 ghost use Rattle.rb_code.specs.Turn.{Copy, Standing};
 ghost use Rattle.rb_code.specs.WordKind.{word_kind};
 ghost use Rattle.rb_proc.specs.Process.{Seen};
+ghost use Rattle.rb_proc.specs.Statuses.{status_of};
 ghost use Rattle.rb_machine.specs.Moves.{passes_of};
-ghost use Rattle.rb_machine.specs.Telling.{ends_told, running_of};
+ghost use Rattle.rb_machine.specs.Telling.{ended_by, ended_if, ends_told, is_running, running_of};
 ghost use Rattle.rb_machine.specs.Worlds.{NoneWaits, lines_of, processes_of};
 
 use arrayvec::ArrayVec;
 use rb_base::{Event, Steps};
-use rb_proc::Proc;
+use rb_proc::{Proc, Status};
 use std::sync::ledger::Ledger;
+
+/// How a process can end, and is told to.
+#[derive(Clone, Copy)]
+pub(crate) enum Ending {
+    Failed,
+    Done,
+}
 
 /// Adds to the rejections of a turn who has failed in it, the pass of a test line, and who is done in it, by who ran before it; and notes
 /// who still runs.
@@ -31,6 +40,10 @@ pub fn tell<L: Ledger>(
     ensures told { (before : List (Process Standing Copy)) → running_of before ≡ running.old → events.new.items ≡ events.old.items ++ ends_told before (processes_of procs.now) pass }
     ensures running { running.new ≡ running_of (processes_of procs.now) }
 {
+    tell_ended(procs, running, Ending::Failed, events);
+    add(events, pass);
+    tell_ended(procs, running, Ending::Done, events);
+    note_running(procs, running);
 }
 
 /// Who is done before the first turn.
@@ -39,6 +52,71 @@ pub fn tell_opening<L: Ledger>(procs: &[Proc<L>], events: &mut ArrayVec<Event, 9
     requires none { length events.old.items ≡ 0 }
     ensures { events.new.items ≡ finished_at 0 (processes_of procs.now) }
 {
+    let running = [true; 64];
+    tell_ended(procs, &running[..procs.len()], Ending::Done, events);
+}
+
+// Adds who has ended so, of those that ran.
+fn tell_ended<L: Ledger>(
+    procs: &[Proc<L>],
+    running: &[bool],
+    ending: Ending,
+    events: &mut ArrayVec<Event, 96>,
+)
+    requires as_many { length running.now ≡ length procs.now }
+    requires numbered { length procs.now < 2 ^ 32 }
+    requires room { length events.old.items + length (ended_by ending 0 running.now (processes_of procs.now)) ≤ 96 }
+    ensures { events.new.items ≡ events.old.items ++ ended_by ending 0 running.now (processes_of procs.now) }
+{
+    for (p, proc) in procs.iter().enumerate() {
+        add(
+            events,
+            event_of(ending, p as u32, running[p], proc.status()),
+        );
+    }
+}
+
+// The event of a process that has ended so, if it ran.
+fn event_of(ending: Ending, process: u32, ran: bool, status: Status) -> Option<Event>
+    ensures { option_to_list result ≡ ended_if ending process ran (status_of status) }
+{
+    if !ran {
+        return None;
+    }
+    match (ending, status) {
+        (Ending::Failed, Status::Failed(cause)) => Some(Event::Error { process, cause }),
+        (Ending::Done, Status::Finished) => Some(Event::Done { process }),
+        _ => None,
+    }
+}
+
+// Adds an event, if there is one.
+fn add(events: &mut ArrayVec<Event, 96>, event: Option<Event>)
+    requires { length events.old.items + length (option_to_list event) ≤ 96 }
+    ensures { events.new.items ≡ events.old.items ++ option_to_list event }
+{
+    if let Some(event) = event {
+        events.push(event);
+    }
+}
+
+/// Notes who runs.
+pub(crate) fn note_running<L: Ledger>(procs: &[Proc<L>], running: &mut [bool])
+    requires { length running.old ≡ length procs.now }
+    ensures { running.new ≡ running_of (processes_of procs.now) }
+{
+    for (p, proc) in procs.iter().enumerate() {
+        running[p] = runs(proc.status());
+    }
+}
+
+fn runs(status: Status) -> bool
+    ensures { result ≡ is_running (status_of status) }
+{
+    match status {
+        Status::Running => true,
+        Status::Finished | Status::Failed(_) => false,
+    }
 }
 
 /// Releases the held lines of each process that has no level.
@@ -48,4 +126,7 @@ pub fn release_all<L: Ledger>(procs: &mut [Proc<L>], steps: &mut Steps<L>)
     ensures lines { (c : Plain) (groups : List Membership) → lines_of procs.new ≡ map (λ (q : Process Standing Copy). lines_freed (word_kind c groups) q.state q.levels) (processes_of procs.old) }
     ensures ticks { steps.new ≤ steps.old + 2 * length procs.old }
 {
+    for proc in procs.iter_mut() {
+        proc.release_if_free(steps);
+    }
 }

@@ -55,9 +55,11 @@ member_joins : (tree : Tree) (x : List ℕ) (members : List Identifier) → nat_
     → (p : ℕ) × (list_any (joins_in p x) (uses_of tree) ≡ true)
 member_joins tree x [] many e = absurd (cc)
 member_joins tree x (name ∷ names) many e =
-    let p = process_number tree name.text in
-    (p, is_kept (list_any (joins_in p x) (uses_of tree)) N6 name.place
-    (left_empty (where_broken (not (list_any (joins_in p x) (uses_of tree))) N6 name.place) (members_faults tree x (name ∷ []) names) e))
+    let p = process_number tree name.text in (
+      p,
+      is_kept (list_any (joins_in p x) (uses_of tree)) N6 name.place
+          (left_empty (where_broken (not (list_any (joins_in p x) (uses_of tree))) N6 name.place) (members_faults tree x (name ∷ []) names) e),
+    )
 
 -- one of several conversations has no fault
 one_kept : (tree : Tree) (conversations : List ConversationDeclaration) (c : ℕ) (one : ConversationDeclaration) → slice_get conversations c ≡ Some one

@@ -14,7 +14,7 @@ use Rattle.rb_code.specs.Turn.{Copy}
 use Rattle.rb_proc.specs.Contents.{Contents, IsMarkOf, PutBack, back_at}
 use Rattle.rb_proc.specs.declared.recoverable.LevelMark.{LevelMark}
 use Rattle.rb_proc.specs.declared.recoverable.OpenCall.{OpenCall as Held}
-use Rattle.rb_proc.specs.Inside.{Fronts, IsFront, IsTied, Rise, calls_at, calls_of, contents, level_of, levels_of, told}
+use Rattle.rb_proc.specs.Inside.{Fronts, IsFront, IsTied, Rise, calls_at, calls_of, contents, height_at, level_of, levels_of, told}
 use Rattle.rb_proc.proofs.Rising.{rise_first, rise_push}
 use Rattle.rb_proc.proofs.Fronts.{cut_length, cut_take, fronts_open, fronts_out}
 use Rattle.rb_proc.proofs.Levels.{levels_fewer, levels_take}
@@ -212,6 +212,9 @@ module _ (store : Store) (cache : RecoveryCache) (calls : List Held) (room : ℕ
       fits = fits;
       heights = subst (λ (cs : List (List ℤ)). Rise (map length cs) (length later.words)) (sym copies_are)
           (subst (λ (ws : List ℤ). Rise (map length (take (k + 1) copied_now)) (length ws)) (sym words_then) heights_then);
+      tall =
+          sym (take-map height_at (k + 1) marks) ∙ ap (take (k + 1)) tied.tall ∙ take-map length (k + 1) copied_now
+          ∙ ap (λ (cs : List (List ℤ)). map length cs) (sym copies_are);
       entries = subst (Rise (map calls_at (take (k + 1) marks))) (sym calls_kept) entries_then;
       some = subst (λ (ws : List ℤ). 0 < length ws) (sym words_then) front.0.some;
       held = ap (λ (ws : List ℤ). word_at ws held_place) words_then ∙ front.0.bytes;

@@ -13,7 +13,7 @@ use Rattle.rb_code.specs.Turn.{Copy}
 use Rattle.rb_proc.specs.Contents.{Contents, IsBelowLast, TellsHeld}
 use Rattle.rb_proc.specs.declared.recoverable.LevelMark.{LevelMark}
 use Rattle.rb_proc.specs.declared.recoverable.OpenCall.{OpenCall as Held}
-use Rattle.rb_proc.specs.Inside.{Fronts, IsTied, Rise, calls_at, contents, level_of, levels_of}
+use Rattle.rb_proc.specs.Inside.{Fronts, IsTied, Rise, calls_at, contents, height_at, level_of, levels_of}
 use Rattle.rb_proc.proofs.Backs.{pick}
 use Rattle.rb_proc.proofs.Fronts.{held_cons, held_written}
 use Rattle.rb_proc.proofs.Tied.{copies_long, marks_copied, marks_levels, marks_open, open_long, seen_store, tied_written}
@@ -40,6 +40,12 @@ calls_set [] k m h e = absurd (omega arith)
 calls_set (n ∷ marks) zero m h e = ap (λ (x : LevelMark). x.calls ∷ map calls_at marks) (sym e)
 calls_set (n ∷ marks) (suc k) m h e = ap (λ (ns : List ℕ). n.calls ∷ ns) (calls_set marks k m (omega arith) e)
 
+heights_set : (marks : List LevelMark) (k : ℕ) (m : LevelMark) → k < length marks → get_or marks k m ≡ m
+    → map height_at (slice_set marks k (next_of m)) ≡ map height_at marks
+heights_set [] k m h e = absurd (omega arith)
+heights_set (n ∷ marks) zero m h e = ap (λ (x : LevelMark). x.height ∷ map height_at marks) (sym e)
+heights_set (n ∷ marks) (suc k) m h e = ap (λ (ns : List ℕ). n.height ∷ ns) (heights_set marks k m (omega arith) e)
+
 module _ (store : Store) (cache : RecoveryCache) (calls : List Held) (room : ℕ) (marks : List LevelMark) (marks_room : ℕ) (lines : TwoLists)
     (tied : IsTied store cache calls room marks marks_room lines) where
   abbrev pub before : Contents
@@ -59,6 +65,7 @@ module _ (store : Store) (cache : RecoveryCache) (calls : List Held) (room : ℕ
       levels_are = length-set marks k (next_of m) ∙ tied.levels_are;
       fits = tied.fits;
       heights = tied.heights;
+      tall = heights_set marks k m within e ∙ tied.tall;
       entries = subst (λ (ns : List ℕ). Rise ns (length calls)) (sym (calls_set marks k m within e)) tied.entries;
       some = tied.some;
       held = tied.held;
@@ -92,6 +99,7 @@ module _ (store : Store) (cache : RecoveryCache) (calls : List Held) (room : ℕ
       levels_are = sym none ∙ open_long after;
       fits = fits;
       heights = subst (λ (cs : List (List ℤ)). Rise (map length cs) (length store.words)) (sym no_copies) tt;
+      tall = ap (λ (cs : List (List ℤ)). map length cs) (sym no_copies);
       entries = tt;
       some = tied.some;
       held = tied.held;

@@ -1,24 +1,26 @@
 -- What is looked up among open levels, by their marks.
 use Rattle.std.proofs.Common.{◌≡◌, ℕ, zero, suc, ◌+◌, ◌-◌, ◌<◌, ◌≤◌, ℤ, Bool, not, cond, pos, List, [], ◌∷◌, map, length, take, drop, refl, ap, sym, ◌∙◌, subst, arith}
-use Rattle.std.specs.Prelude.{get_or, nat_lt, position, slice_get, Option, Some, None}
+use Rattle.std.specs.Prelude.{get_or, nat_lt, position, slice_get, Some, None}
 use Rattle.std.specs.List.{position_or_len}
 use Rattle.std.proofs.lemmas.List.{get_or-drop, get_or-take, length-map, length-take}
-use Rattle.std.proofs.lemmas.Option.{none-some, same_Some, slice_get-get_or, slice_get_within}
+use Rattle.std.proofs.lemmas.Option.{none-some, same_Some, slice_get-get_or}
 use Rattle.rb_world.specs.Standing.{Each}
 use Rattle.rb_world.specs.Turn.{is_last_of, is_over, one_used}
 use Rattle.rb_world.specs.World.{Level, copy_of, is_of, last_of}
 use Rattle.rb_cell.specs.Store.{Store}
 use Rattle.rb_cache.specs.Copies.{RecoveryCache, copies, copy_at, open_levels}
 use Rattle.rb_hold.specs.Held.{TwoLists}
+use Rattle.rb_code.specs.Plain.{Code}
 use Rattle.rb_code.specs.Memory.{word_at}
 use Rattle.rb_code.specs.Turn.{Copy, prior_words}
+use Rattle.rb_code.specs.WordKind.{cursor_in}
 use Rattle.rb_proc.specs.Contents.{Contents}
-use Rattle.rb_proc.specs.Inside.{IsTied, Rise, calls_at, contents, level_of, levels_of}
+use Rattle.rb_proc.specs.Inside.{IsTied, Rise, calls_at, contents, height_at, level_of, levels_of}
 use Rattle.rb_proc.specs.Marks.{is_last_mark_in, is_mark_in, is_mark_over, mark_used}
-use Rattle.rb_proc.specs.Places.{most_places}
+use Rattle.rb_proc.specs.Views.{CursorThen}
 use Rattle.rb_proc.specs.declared.recoverable.LevelMark.{LevelMark}
 use Rattle.rb_proc.specs.declared.recoverable.OpenCall.{OpenCall as Held}
-use Rattle.rb_proc.proofs.Backs.{pick_map, rise_below}
+use Rattle.rb_proc.proofs.Backs.{pick_map}
 use Rattle.rb_proc.proofs.Levels.{levels_long, word_is}
 use Rattle.rb_proc.proofs.Tied.{marks_copied, marks_levels, marks_open}
 
@@ -29,6 +31,19 @@ word_there words m n at h =
     let within : at < n = omega (arith, length-take n (drop m words)) in
     slice_get-get_or (take n (drop m words)) at (pos 0) h
     ∙ ap (λ (w : ℤ). Some w) (get_or-take n (drop m words) at (pos 0) within ∙ get_or-drop m words at (pos 0) ∙ word_is words (m + at))
+
+-- there is no word beyond the last
+pub word_beyond : (words : List ℤ) (at : ℕ) → length words ≤ at → pos 0 ≡ word_at words at
+word_beyond [] at h = refl
+word_beyond (w ∷ words) zero h = absurd (omega arith)
+word_beyond (w ∷ words) (suc at) h = word_beyond words at (omega arith)
+
+-- a cursor in the copy of an open level
+pub cursor_there : (c : Code) (p channel n : ℕ) (levels : List (Level Copy)) (k : ℕ) → k < length levels
+    → n ≡ cursor_in c p (prior_words (copy_of (slice_get levels k))) channel → CursorThen c p channel (slice_get levels k) n
+cursor_there c p channel n [] k h e = absurd (omega arith)
+cursor_there c p channel n (level ∷ levels) zero h e = e
+cursor_there c p channel n (level ∷ levels) (suc k) h e = cursor_there c p channel n levels k (omega arith) e
 
 -- the last of a list, by its place
 pub last_there : {A : Type 0} (xs : List A) → slice_get xs (length xs - 1) ≡ last_of xs
@@ -77,6 +92,10 @@ calls_used : (marks : List LevelMark) → map calls_at (map mark_used marks) ≡
 calls_used [] = refl
 calls_used (m ∷ marks) = ap (λ (ns : List ℕ). m.calls ∷ ns) (calls_used marks)
 
+heights_used : (marks : List LevelMark) → map height_at (map mark_used marks) ≡ map height_at marks
+heights_used [] = refl
+heights_used (m ∷ marks) = ap (λ (ns : List ℕ). m.height ∷ ns) (heights_used marks)
+
 -- a mark has used as many turns as its level
 pub marks_few : (n : ℕ) (marks : List LevelMark) (copied : List (List ℤ)) (calls : List Held) → length marks ≡ length copied
     → Each (λ _ (level : Level Copy). level.used < n) (levels_of marks copied calls) → Each (λ _ (mark : LevelMark). mark.used < n) marks
@@ -124,6 +143,7 @@ module _ (store : Store) (cache : RecoveryCache) (calls : List Held) (room : ℕ
     levels_are = length-map marks mark_used ∙ tied.levels_are;
     fits = tied.fits;
     heights = tied.heights;
+    tall = heights_used marks ∙ tied.tall;
     entries = subst (λ (ns : List ℕ). Rise ns (length calls)) (sym (calls_used marks)) tied.entries;
     some = tied.some;
     held = tied.held;
@@ -140,16 +160,9 @@ module _ (store : Store) (cache : RecoveryCache) (calls : List Held) (room : ℕ
       (length-map marks mark_used ∙ copied_long))
 
   -- the copy of an open level
-  module _ (k at : ℕ) (there : at < length (prior_words (copy_of (slice_get before.levels k)))) where
-    level_open : k < length before.levels
-    level_open = by (slice_get before.levels k) refl there
-      where
-        by : (o : Option (Level Copy)) → slice_get before.levels k ≡ o → at < length (prior_words (copy_of o)) → k < length before.levels
-        by None e h = absurd (omega arith)
-        by (Some level) e h = slice_get_within before.levels k level e
-
+  module _ (k : ℕ) (open_now : k < length before.levels) where
     level_marked : k < length marks
-    level_marked = let open_now = level_open in omega (arith, marks_levels _ _ _ _ _ _ _ tied)
+    level_marked = omega (arith, marks_levels _ _ _ _ _ _ _ tied)
 
     pub level_there : k < length (open_levels cache)
     level_there = let marked = level_marked in omega (arith, marks_open _ _ _ _ _ _ _ tied)
@@ -157,15 +170,8 @@ module _ (store : Store) (cache : RecoveryCache) (calls : List Held) (room : ℕ
     pub copy_is : prior_words (copy_of (slice_get before.levels k)) ≡ copy_at store.words cache k
     copy_is = copies_there marks (copies store.words cache) calls k level_marked copied_long
 
-    pub place_there : at < length (copy_at store.words cache k)
-    place_there = subst (λ (ws : List ℤ). at < length ws) copy_is there
-
-    pub place_few : at < most_places
-    place_few =
+    pub height_is : (mark : LevelMark) → mark ≡ get_or marks k mark → mark.height ≡ length (copy_at store.words cache k)
+    height_is mark mark_is =
         let copied = copies store.words cache in
-        let marked = level_marked in
-        let low = rise_below (map length copied) k (length store.words) (omega (arith, copied_long, length-map copied length)) tied.heights in
-        let same = pick_map length copied k [] 0 (omega (arith, copied_long)) in
-        let few = tied.few_words in
-        let within = place_there in
-        omega arith
+        ap height_at mark_is ∙ sym (pick_map height_at marks k mark 0 level_marked) ∙ ap (λ (ns : List ℕ). get_or ns k 0) tied.tall
+        ∙ pick_map length copied k [] 0 (let marked = level_marked in omega (arith, copied_long))

@@ -76,6 +76,7 @@ module _ (store : Store) (cache : RecoveryCache) (calls : List Held) (call : Hel
         levels_are = cut.levels_are;
         fits = cut.fits;
         heights = cut.heights;
+        tall = cut.tall;
         entries = entries;
         some = cut.some;
         held = cut.held;

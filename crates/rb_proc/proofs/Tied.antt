@@ -20,7 +20,7 @@ use Rattle.rb_proc.specs.Contents.{Contents}
 use Rattle.rb_proc.specs.Places.{most_places}
 use Rattle.rb_proc.specs.declared.recoverable.LevelMark.{LevelMark}
 use Rattle.rb_proc.specs.declared.recoverable.OpenCall.{OpenCall as Held}
-use Rattle.rb_proc.specs.Inside.{Fronts, IsTied, Rise, call_of, calls_at, calls_of, contents, level_of, levels_of}
+use Rattle.rb_proc.specs.Inside.{Fronts, IsTied, Rise, call_of, calls_at, calls_of, contents, height_at, level_of, levels_of}
 use Rattle.rb_proc.proofs.Rising.{all_low, rise_above, rise_more, rise_push, rise_take}
 use Rattle.rb_proc.proofs.Fronts.{fronts_accept, fronts_open, held_cut, held_more, held_none, held_set}
 use Rattle.rb_proc.proofs.Levels.{last_is, last_or-low, levels_long, levels_more, levels_push, levels_take, without_last_is}
@@ -83,9 +83,9 @@ module _ (store : Store) (cache : RecoveryCache) (calls : List Held) (room : ℕ
   -- a level is opened
   module _ (after : RecoveryCache) (mark : LevelMark) (copies_are : copies store.words after ≡ copied ++ store.words ∷ [])
       (opened : open_levels after ≡ open_levels cache ++ entered (length store.words) ∷ []) (calls_are : mark.calls ≡ length calls) where
-    pub tied_open : (room_after : ℕ) → Fits store.words after → after.limits ≡ cache.limits → length marks < MOST_OPEN_LEVELS
-        → MOST_OPEN_LEVELS ≤ room_after → IsTied store after calls room (marks ++ mark ∷ []) room_after lines
-    tied_open room_after fits limits few much = record {
+    pub tied_open : (room_after : ℕ) → mark.height ≡ length store.words → Fits store.words after → after.limits ≡ cache.limits
+        → length marks < MOST_OPEN_LEVELS → MOST_OPEN_LEVELS ≤ room_after → IsTied store after calls room (marks ++ mark ∷ []) room_after lines
+    tied_open room_after height_is fits limits few much = record {
       limit_is = tied.limit_is;
       few_words = tied.few_words;
       levels_limit = ap (λ (l : Limits). l.levels) limits ∙ tied.levels_limit;
@@ -101,6 +101,10 @@ module _ (store : Store) (cache : RecoveryCache) (calls : List Held) (room : ℕ
       heights = subst (λ (cs : List (List ℤ)). Rise (map length cs) (length store.words)) (sym copies_are)
           (subst (λ ns. Rise ns (length store.words)) (sym (map-append length copied (store.words ∷ [])))
           (rise_push (map length copied) (length store.words) (length store.words) tied.heights (omega arith)));
+      tall =
+          map-append height_at marks (mark ∷ []) ∙ ap (λ (hs : List ℕ). hs ++ mark.height ∷ []) tied.tall
+          ∙ ap (λ h. map length copied ++ h ∷ []) height_is ∙ sym (map-append length copied (store.words ∷ []))
+          ∙ ap (λ (cs : List (List ℤ)). map length cs) (sym copies_are);
       entries = subst (λ ns. Rise ns (length calls)) (sym (map-append calls_at marks (mark ∷ [])))
           (rise_push (map calls_at marks) mark.calls (length calls) (subst (Rise (map calls_at marks)) (sym calls_are) tied.entries) (omega arith));
       some = tied.some;
@@ -150,6 +154,9 @@ module _ (store : Store) (cache : RecoveryCache) (calls : List Held) (room : ℕ
       heights = subst (λ (cs : List (List ℤ)). Rise (map length cs) (length store.words)) (sym (copies_are ∙ fewer))
           (subst (λ ns. Rise ns (length store.words)) (take-map length (length marks - 1) copied)
           (rise_take (length marks - 1) (map length copied) (length store.words) tied.heights));
+      tall =
+          sym (take-map height_at (length marks - 1) marks) ∙ ap (take (length marks - 1)) tied.tall
+          ∙ take-map length (length marks - 1) copied ∙ ap (λ (cs : List (List ℤ)). map length cs) (sym (copies_are ∙ fewer));
       entries = subst (λ ns. Rise ns (length calls)) (take-map calls_at (length marks - 1) marks)
           (rise_take (length marks - 1) (map calls_at marks) (length calls) tied.entries);
       some = tied.some;
@@ -192,6 +199,7 @@ module _ (store : Store) (cache : RecoveryCache) (calls : List Held) (room : ℕ
       fits = fits;
       heights = subst (λ (cs : List (List ℤ)). Rise (map length cs) (length later.words)) (sym copies_are)
           (subst (Rise (map length copied)) (sym long) tied.heights);
+      tall = tied.tall ∙ ap (λ (cs : List (List ℤ)). map length cs) (sym copies_are);
       entries = tied.entries;
       some = let some = tied.some in omega (arith, long);
       held = ap (λ ws. word_at ws held_place) words_are ∙ held;
@@ -229,6 +237,7 @@ module _ (store : Store) (cache : RecoveryCache) (calls : List Held) (room : ℕ
       fits = fits_are;
       heights = subst (λ (cs : List (List ℤ)). Rise (map length cs) (length later.words)) (sym copies_are)
           (rise_more (map length copied) (length store.words) (length later.words) (omega (arith, more_long)) tied.heights);
+      tall = tied.tall ∙ ap (λ (cs : List (List ℤ)). map length cs) (sym copies_are);
       entries = tied.entries;
       some = let some = tied.some in omega (arith, more_long);
       held = ap (λ (s : Store). word_at s.words held_place) stored ∙ held_more store.words more tied.some ∙ tied.held;
@@ -274,6 +283,7 @@ module _ (store : Store) (cache : RecoveryCache) (calls : List Held) (room : ℕ
       fits = kept.1;
       heights = subst (λ (cs : List (List ℤ)). Rise (map length cs) (length later.words)) (sym kept.0)
           (subst (Rise (map length copied)) (sym cut_long) (all_above h stay));
+      tall = tied.tall ∙ ap (λ (cs : List (List ℤ)). map length cs) (sym kept.0);
       entries = tied.entries;
       some = omega (arith, cut_long);
       held = ap (λ (s : Store). word_at s.words held_place) stored ∙ held_cut store.words h some ∙ tied.held;
@@ -310,6 +320,7 @@ module _ (store : Store) (cache : RecoveryCache) (calls : List Held) (room : ℕ
       levels_are = tied.levels_are;
       fits = tied.fits;
       heights = tied.heights;
+      tall = tied.tall;
       entries = rise_more (map calls_at marks) (length calls) (length (calls ++ call ∷ [])) (omega (arith, length-append calls (call ∷ []))) tied.entries;
       some = tied.some;
       held = tied.held;
@@ -344,6 +355,7 @@ module _ (n : ℕ) (some : 0 < n) (few : n ≤ most_places) where
     levels_are = refl;
     fits = tt;
     heights = tt;
+    tall = refl;
     entries = tt;
     some = omega (arith, length-replicate n (pos 0));
     held = held_none n some;

@@ -70,8 +70,12 @@ Fronts lines (words ∷ outer) = IsFront lines words × Fronts (cut_held (told w
 abbrev pub calls_at : LevelMark → ℕ
 calls_at mark = mark.calls
 
--- What ties the parts. The words are no fewer than at the entry of each level, and so are the calls; the held length is that of the held
--- lines, and in each copy that of the lines that were held then; and no call has the held length among its words.
+abbrev pub height_at : LevelMark → ℕ
+height_at mark = mark.height
+
+-- What ties the parts. The words are no fewer than at the entry of each level, whose mark tells how many there were, and so are the
+-- calls; the held length is that of the held lines, and in each copy that of the lines that were held then; and no call has the held
+-- length among its words.
 pub record IsTied (store : Store) (cache : RecoveryCache) (calls : List Held) (room : ℕ) (marks : List LevelMark) (marks_room : ℕ)
     (lines : TwoLists) : Type 0 where
   pub limit_is : store.limit ≡ most_places
@@ -85,6 +89,7 @@ pub record IsTied (store : Store) (cache : RecoveryCache) (calls : List Held) (r
   pub levels_are : length marks ≡ length cache.regions
   pub fits : Fits store.words cache
   pub heights : Rise (map length (copies store.words cache)) (length store.words)
+  pub tall : map height_at marks ≡ map length (copies store.words cache)
   pub entries : Rise (map calls_at marks) (length calls)
   pub some : 0 < length store.words
   pub held : word_at store.words held_place ≡ pos (held_bytes lines.held)

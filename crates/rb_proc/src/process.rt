@@ -7,13 +7,13 @@ ghost use Rattle.rb_world.specs.Kind.{Membership};
 ghost use Rattle.rb_world.specs.Reject.{fallen, put_back as put_back_at, raised};
 ghost use Rattle.rb_world.specs.Standing.{Each};
 ghost use Rattle.rb_world.specs.Turn.{freed, is_over, lines_freed, stands_at, stands_now, turn_used};
-ghost use Rattle.rb_world.specs.World.{Running, copy_of, is_of, settled, without_last};
+ghost use Rattle.rb_world.specs.World.{Running, is_of, settled, without_last};
 ghost use Rattle.rb_cache.specs.Copies.{accepted};
 ghost use Rattle.rb_code.specs.Plain.{Code as Plain, code as plain};
 ghost use Rattle.rb_code.specs.Stands.{Serves, SettlesSoundly, StandsSoundly};
-ghost use Rattle.rb_code.specs.Turn.{prior_words, want as wanted_in};
+ghost use Rattle.rb_code.specs.Turn.{want as wanted_in};
 ghost use Rattle.rb_trace.specs.Ended.{state_of};
-ghost use Rattle.rb_code.specs.Memory.{cursor_place, part_of};
+ghost use Rattle.rb_code.specs.Memory.{part_of};
 ghost use Rattle.rb_code.specs.WordKind.{cursor_in};
 ghost use Rattle.rb_code.specs.WordRun.{opening_standing, variable_words};
 ghost use Rattle.rb_proc.specs.Contents.{IsBelowLast};
@@ -22,6 +22,7 @@ ghost use Rattle.rb_proc.specs.Executable.{IsExecutable};
 ghost use Rattle.rb_proc.specs.Outcomes.{stop_at};
 ghost use Rattle.rb_proc.specs.Runs.{CursorsRise};
 ghost use Rattle.rb_proc.specs.Sees.{AreSized};
+ghost use Rattle.rb_proc.specs.Statuses.{status_of};
 ghost use Rattle.rb_proc.specs.Views.{CursorThen, IsViewOf};
 ghost use Rattle.rb_proc.specs.Process.{Seen, StepsTo, alternate_for, kind_of, message_for, step_of, wanted_of};
 
@@ -177,6 +178,7 @@ impl<L: Ledger> Proc<L> {
         requires cursors { CursorsRise (plain code.now) self.old.process.state.process self.old.process.state.words }
         ensures came { StepsTo (plain code.now) self.old.process mails.old (step_of (plain code.now) self.old.process mails.old there) result self.new.process mails.new }
         ensures sized { AreSized (plain code.now) mails.new }
+        ensures waiting { self.new.waiting ≡ self.old.waiting }
     {
         let wanted = want_at(code, self.at);
         let message = message_of(
@@ -325,12 +327,13 @@ impl<L: Ledger> Proc<L> {
         self.status = Status::Failed(cause);
     }
 
-    /// Its held lines are released if no level is open. Where none is held nothing is touched.
+    /// Its held lines are released if no level is open. Where one is, or no line is held, nothing is touched.
     pub fn release_if_free(&mut self, steps: &mut Steps<L>)
         requires none_waits { self.old.waiting ≡ [] }
         ensures freed { (c : Plain) → self.new ≡ record { process = freed (kind_of c) self.old.process; waiting = lines_freed (kind_of c) self.old.process.state self.old.process.levels } }
         ensures ticks { steps.new ≤ steps.old + 2 }
         ensures quiet { self.old.process.state.held ≡ [] → steps.new ≡ steps.old }
+        ensures within { 0 < length self.old.process.levels → steps.new ≡ steps.old }
     {
         self.memory.release_if_free(steps);
     }
@@ -348,6 +351,7 @@ impl<L: Ledger> Proc<L> {
         requires { self.now.process.state.process < length code.now.processes.items }
         ensures cursor { result ≡ cursor_in (plain code.now) self.now.process.state.process self.now.process.state.words channel }
         ensures ticks { steps.new ≤ steps.old + 1 }
+        ensures rise { steps.old ≤ steps.new }
     {
         cursor_of(code, self.process, channel, &self.memory, steps)
     }
@@ -356,7 +360,6 @@ impl<L: Ledger> Proc<L> {
     pub fn cursor_then(&self, code: &Code, channel: u32, level: u32, steps: &mut Steps<L>) -> u64
         requires process { self.now.process.state.process < length code.now.processes.items }
         requires level { level < length self.now.process.levels }
-        requires place { cursor_place (part_of (plain code.now) self.now.process.state.process) channel < length (prior_words (copy_of (slice_get self.now.process.levels level))) }
         ensures cursor { CursorThen (plain code.now) self.now.process.state.process channel (slice_get self.now.process.levels level) result }
         ensures ticks { steps.new ≤ steps.old + 1 }
     {
@@ -370,9 +373,17 @@ impl<L: Ledger> Proc<L> {
         requires at { at < length (variable_words (plain code.now) self.now.process.state) }
         ensures word { slice_get (variable_words (plain code.now) self.now.process.state) at ≡ Some result }
         ensures ticks { steps.new ≤ steps.old + 1 }
+        ensures rise { steps.old ≤ steps.new }
     {
         let first = first_variable(code, self.process);
         self.memory.load(first + at as usize, steps)
+    }
+
+    /// Whether it runs, is done, or has failed, and then with which cause.
+    pub fn status(&self) -> Status
+        ensures { status_of result ≡ self.now.process.status }
+    {
+        self.status
     }
 }
 

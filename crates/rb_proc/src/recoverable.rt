@@ -54,7 +54,7 @@ pub struct BlockFacts {
 }
 
 /// An open level: its block, the alternate that is tried, the turns that it used, and of its copy all but the words: the address, how many
-/// calls were open, and the last kept turn.
+/// calls were open, how many words there were, and the last kept turn.
 #[derive(Clone, Copy)]
 pub struct LevelMark {
     pub facts: BlockFacts,
@@ -62,6 +62,7 @@ pub struct LevelMark {
     pub used: u32,
     pub at: u32,
     pub calls: usize,
+    pub height: u32,
     pub last_kept: u32,
 }
 
@@ -124,6 +125,7 @@ impl<L: Ledger> Recoverable<L> {
             used: 0,
             at,
             calls: self.calls.len(),
+            height: self.cells.height(),
             last_kept,
         };
         put(&mut self.marks, mark);
@@ -143,6 +145,7 @@ impl<L: Ledger> Recoverable<L> {
         requires { at < length self.now.words }
         ensures word { result ≡ word_at self.now.words at }
         ensures ticks { steps.new ≤ steps.old + 1 }
+        ensures rise { steps.old ≤ steps.new }
     {
         self.cells.read(at as u32, steps)
     }
@@ -156,13 +159,17 @@ impl<L: Ledger> Recoverable<L> {
         self.cache.prior(&self.cells, at as u32, steps)
     }
 
-    /// The word at a place in the copy of an open level; levels count from 0, the outermost.
+    /// The word at a place in the copy of an open level, and 0 beyond its words; levels count from 0, the outermost.
     pub fn at_entry(&self, level: u32, at: usize, steps: &mut Steps<L>) -> i64
-        requires { at < length (prior_words (copy_of (slice_get self.now.levels level))) }
+        requires { level < length self.now.levels }
         ensures word { result ≡ word_at (prior_words (copy_of (slice_get self.now.levels level))) at }
         ensures ticks { steps.new ≤ steps.old + 1 }
     {
-        self.cache.at_entry(&self.cells, level, at as u32, steps)
+        if at < self.marks[level as usize].height as usize {
+            self.cache.at_entry(&self.cells, level, at as u32, steps)
+        } else {
+            0
+        }
     }
 
     /// Changes a word that is not the held length. No copy changes.
@@ -219,12 +226,13 @@ impl<L: Ledger> Recoverable<L> {
         self.hold.length() > 0
     }
 
-    /// Releases all held lines if no level is open. Where none is held nothing is touched.
+    /// Releases all held lines if no level is open. Where one is, or no line is held, nothing is touched.
     pub fn release_if_free(&mut self, steps: &mut Steps<L>)
         requires none_waits { self.old.waiting ≡ [] }
         ensures lines { self.new ≡ released_by self.old.levels self.old }
         ensures ticks { steps.new ≤ steps.old + 2 }
         ensures quiet { self.old.held ≡ [] → steps.new ≡ steps.old }
+        ensures within { 0 < length self.old.levels → steps.new ≡ steps.old }
     {
         if self.levels() == 0 && self.holds() {
             self.release(steps);

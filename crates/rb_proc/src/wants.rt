@@ -126,6 +126,7 @@ pub fn cursor_of<L: Ledger>(
     requires process { process < length code.now.processes.items }
     ensures cursor { result ≡ cursor_in (plain code.now) process memory.now.words channel }
     ensures ticks { steps.new ≤ steps.old + 1 }
+    ensures rise { steps.old ≤ steps.new }
 {
     let place = cursor_place(code, process, channel);
     if place < memory.height() as usize {

@@ -1,20 +1,9 @@
-pub mod Scopes
-pub mod RunnableFacts
-pub mod LineMade
-pub mod HeldLines
-pub mod HeldWritten
-pub mod Alternates
-pub mod Shapes
-pub mod InsideBlock
-pub mod Worlds
-pub mod Rejections
-pub mod Statements
-pub mod TrialTurns
-pub mod OneTurn
-pub mod Endings
-pub mod OneRun
+-- Lemmas of runs.
+-- Every process of a run has the words of its variables, and names that fit a code fit the ending of its runs.
+pub mod OwnWords
+pub mod EndingFits
+pub mod NamesFit
+-- What is written, turn by turn, and in whole.
 pub mod Completes
-pub mod Scalars
-pub mod EngineTurns
-pub mod EnginePhases
-pub mod WholeRun
+pub mod TurnsTaken
+pub mod RunWritten

@@ -1,8 +1,2 @@
-pub mod Runnable
-pub mod Ran
-pub mod Alone
-pub mod Line
-pub mod Held
-pub mod Trial
-pub mod Written
-pub mod Engine
+-- What is said of a run.
+pub mod Running

@@ -1,15 +1,6 @@
-// A run of a program over a schedule, from its tree to the bytes that it prints.
+//! A run: a loaded machine goes over a schedule, and its lines are written.
 #![tactic(auto)]
 
-mod ending;
-pub mod engine;
-mod held;
-mod line;
-mod perform;
-mod runnable;
-mod simple;
-mod told;
-mod trial;
+pub mod running;
 
-pub use engine::{Ended, run};
-pub use runnable::is_runnable;
+pub use running::run;

@@ -6,29 +6,39 @@ use Rattle.rb_code.specs.Memory.{word_at}
 use Rattle.rb_code.specs.Turn.{prior_words}
 use Rattle.rb_proc.specs.Contents.{Contents}
 use Rattle.rb_proc.proofs.Levels.{word_is}
-use Rattle.rb_proc.proofs.Looked.{copy_is, level_there, place_few, place_there}
+use Rattle.rb_proc.proofs.Looked.{copy_is, height_is, level_there, word_beyond}
+use Rattle.rb_proc.proofs.Tied.{marks_levels}
 use Rattle.rb_proc.proofs.recoverable.Recoverable.at_entry.Goals as goal
 
-pub overflow_cast-at : goal.overflow_cast-at
-overflow_cast-at g c =
-    let there = subst (λ (r : Contents). c.args.at < length (prior_words (copy_of (slice_get r.levels c.args.level)))) (sym c.self.view_is) c.requires in
-    let few = place_few _ _ _ _ _ _ _ c.self.invariant c.args.level c.args.at there in
+pub index-requires : goal.index-requires
+index-requires g c =
+    let levels = marks_levels _ _ _ _ _ _ _ c.self.invariant in
+    let same = ap (λ (r : Contents). length r.levels) c.self.view_is in
     omega arith
 
 pub at_entry-requires-clause-level : goal.at_entry-requires-clause-level
 at_entry-requires-clause-level g c =
-    level_there _ _ _ _ _ _ _ c.self.invariant c.args.level c.args.at
-    (subst (λ (r : Contents). c.args.at < length (prior_words (copy_of (slice_get r.levels c.args.level)))) (sym c.self.view_is) c.requires)
+    level_there _ _ _ _ _ _ _ c.self.invariant c.args.level
+    (subst (λ (r : Contents). c.args.level < length r.levels) (sym c.self.view_is) c.requires)
 
 pub at_entry-requires-clause-at : goal.at_entry-requires-clause-at
 at_entry-requires-clause-at g c =
-    place_there _ _ _ _ _ _ _ c.self.invariant c.args.level c.args.at
-    (subst (λ (r : Contents). c.args.at < length (prior_words (copy_of (slice_get r.levels c.args.level)))) (sym c.self.view_is) c.requires)
+    let open_now = subst (λ (r : Contents). c.args.level < length r.levels) (sym c.self.view_is) c.requires in
+    let tall = height_is _ _ _ _ _ _ _ c.self.invariant c.args.level open_now c.index.result.now c.index.ensures in
+    omega arith
 
-pub returns-clause-word : goal.returns-clause-word
-returns-clause-word g c =
-    let there = subst (λ (r : Contents). c.args.at < length (prior_words (copy_of (slice_get r.levels c.args.level)))) (sym c.self.view_is) c.requires in
+pub returns-then-at-index-clause-word : goal.returns-then-at-index-clause-word
+returns-then-at-index-clause-word g c =
+    let open_now = subst (λ (r : Contents). c.args.level < length r.levels) (sym c.self.view_is) c.requires in
     to_z-of_z w64 c.at_entry.result (search rules) ∙ c.at_entry.ensures.word
-    ∙ ap (λ (ws : List ℤ). get_or ws c.args.at (pos 0)) (sym (copy_is _ _ _ _ _ _ _ c.self.invariant c.args.level c.args.at there))
+    ∙ ap (λ (ws : List ℤ). get_or ws c.args.at (pos 0)) (sym (copy_is _ _ _ _ _ _ _ c.self.invariant c.args.level open_now))
     ∙ word_is _ c.args.at
+    ∙ ap (λ (r : Contents). word_at (prior_words (copy_of (slice_get r.levels c.args.level))) c.args.at) c.self.view_is
+
+pub returns-else-at-index-clause-word : goal.returns-else-at-index-clause-word
+returns-else-at-index-clause-word g c =
+    let open_now = subst (λ (r : Contents). c.args.level < length r.levels) (sym c.self.view_is) c.requires in
+    let tall = height_is _ _ _ _ _ _ _ c.self.invariant c.args.level open_now c.index.result.now c.index.ensures in
+    word_beyond _ c.args.at (omega arith)
+    ∙ ap (λ (ws : List ℤ). word_at ws c.args.at) (sym (copy_is _ _ _ _ _ _ _ c.self.invariant c.args.level open_now))
     ∙ ap (λ (r : Contents). word_at (prior_words (copy_of (slice_get r.levels c.args.level))) c.args.at) c.self.view_is

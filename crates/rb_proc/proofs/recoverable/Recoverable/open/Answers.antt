@@ -30,7 +30,7 @@ invariant_of-self g c =
     let same = ap (λ (r : Contents). length r.levels) c.self.view_is in
     subst (λ (ms : List LevelMark). IsTied c.self.inside.cells c.open.new.self c.self.inside.calls.items (vec_capacity c.self.inside.calls) ms (vec_capacity c.put.new.items) c.self.inside.hold)
     (sym c.put.ensures.items)
-    (tied_open _ _ _ _ _ _ _ t c.open.new.self _ c.open.ensures.copies c.open.ensures.levels (search rules) _ c.open.ensures.fits c.open.ensures.limits (omega arith) (omega arith))
+    (tied_open _ _ _ _ _ _ _ t c.open.new.self _ c.open.ensures.copies c.open.ensures.levels (search rules) _ (search rules) c.open.ensures.fits c.open.ensures.limits (omega arith) (omega arith))
 
 pub returns : goal.returns
 returns g c =

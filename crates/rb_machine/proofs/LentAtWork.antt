@@ -1,0 +1,57 @@
+-- A machine that has lent a line is at work as before, and it tells as many counts as the code has channels.
+use Rattle.std.proofs.Common.{◌≡◌, ◌≤◌, ◌+◌, ℕ, suc, Bool, List, [], ◌∷◌, length, vec_len, vec_capacity, refl, ap, sym, ◌∙◌, subst}
+use Rattle.rb_world.specs.Kind.{Ends}
+use Rattle.rb_world.specs.Slots.{Slots}
+use Rattle.rb_world.specs.World.{Process}
+use Rattle.rb_code.specs.Plain.{Code}
+use Rattle.rb_code.specs.Turn.{Copy, Standing}
+use Rattle.rb_code.specs.WordRun.{counts_sent, counts_taken}
+use Rattle.rb_conv.specs.Conversations.{Conversation, memberships, talks}
+use Rattle.rb_proc.specs.Process.{Seen}
+use Rattle.rb_machine.specs.AtWork.{IsAtWork}
+use Rattle.rb_machine.specs.Known.{IsKnown}
+use Rattle.rb_machine.specs.Machine.{IsTied}
+use Rattle.rb_machine.specs.Reading.{HasLent}
+use Rattle.rb_machine.specs.Telling.{running_of}
+use Rattle.rb_machine.specs.Worlds.{counts_of, memory_of, processes_of}
+use Rattle.rb_machine.specs.declared.links.Link.{Link}
+use Rattle.rb_machine.specs.declared.parts.Parts.{Parts}
+
+-- the lines that wait are no part of a world
+same_work : (c : Code) (t : ℕ) (procs later : List Seen) (table : List Conversation) (slots : Slots) (links : List Link)
+    → processes_of later ≡ processes_of procs → IsAtWork c t procs table slots links → IsAtWork c t later table slots links
+same_work c t procs later table slots links e work = record {
+  executable = work.executable;
+  few = work.few;
+  loaded = work.loaded;
+  known = subst (λ (processes : List (Process Standing Copy)). IsKnown c (memberships table) (counts_of table) work.loaded.sound.table t
+      (record { processes = processes; talks = talks table; memory = memory_of slots links })) (sym e) work.known;
+  sized = work.sized;
+  turns = work.turns;
+}
+
+pub tied_again : {L : Type 0} (c : Code) (old new : Parts L) (running : List Bool) (taken most p : ℕ)
+    → IsTied c old running (vec_len old.links) (vec_capacity old.links) taken most → HasLent p old new
+    → IsTied c new running (vec_len new.links) (vec_capacity new.links) taken most
+tied_again c old new running taken most p tied lent = record {
+  work = subst (λ table. IsAtWork c (taken + 1) new.procs.items table new.mails.items new.links.items) (sym lent.table)
+      (subst (λ mails. IsAtWork c (taken + 1) new.procs.items old.table mails.items new.links.items) (sym lent.mails)
+      (subst (λ links. IsAtWork c (taken + 1) new.procs.items old.table old.mails.items links.items) (sym lent.links)
+      (same_work c (taken + 1) old.procs.items new.procs.items old.table old.mails.items old.links.items lent.processes tied.work)));
+  running_is = tied.running_is ∙ ap running_of (sym lent.processes);
+  links_few = subst (λ links. vec_len links ≤ taken) (sym lent.links) tied.links_few;
+  links_room = subst (λ links. most ≤ vec_capacity links) (sym lent.links) tied.links_room;
+  taken_few = tied.taken_few;
+  most_few = tied.most_few;
+}
+
+-- each channel has its counts
+pub sent_each : (c : Code) (standings : List Standing) (channel : ℕ) (ends : List Ends)
+    → length (counts_sent c standings channel ends) ≡ length ends
+sent_each c standings channel [] = refl
+sent_each c standings channel (one ∷ others) = ap suc (sent_each c standings (channel + 1) others)
+
+pub taken_each : (c : Code) (standings : List Standing) (channel : ℕ) (ends : List Ends)
+    → length (counts_taken c standings channel ends) ≡ length ends
+taken_each c standings channel [] = refl
+taken_each c standings channel (one ∷ others) = ap suc (taken_each c standings (channel + 1) others)

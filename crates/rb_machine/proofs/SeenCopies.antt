@@ -1,0 +1,56 @@
+-- The copy that a receiver sees of a sender, as both lists of levels are walked from the outside in.
+use Rattle.std.proofs.Common.{◌≡◌, ℕ, zero, suc, ◌+◌, ◌≤◌, ◌<◌, true, false, cond, List, [], ◌∷◌, length, drop, slice_get, Option, Some, None, refl, ap, sym, subst, ◌∙◌, true≢false, add-one, arith}
+use Rattle.std.proofs.lemmas.List.{drop_all}
+use Rattle.rb_world.specs.Channels.{seen_copy}
+use Rattle.rb_world.specs.World.{Level, is_shared}
+use Rattle.rb_world.proofs.ListFacts.{none_some, some_same}
+use Rattle.rb_machine.specs.Channels.{IsCopyAt, conversation_in, outermost_copy}
+
+-- what is of no conversation is not shared
+shared_none : (o : Option ℕ) → is_shared o None ≡ true → ⊥
+shared_none None e = true≢false (sym e)
+shared_none (Some c) e = true≢false (sym e)
+
+-- a shared level is passed on both sides
+passed : {C : Type 0} (ls ms : List (Level C)) (k : ℕ) → is_shared (conversation_in (slice_get ls k)) (conversation_in (slice_get ms k)) ≡ true
+    → seen_copy (drop k ls) (drop k ms) ≡ seen_copy (drop (suc k) ls) (drop (suc k) ms)
+passed [] ms k e = absurd (true≢false (sym e))
+passed (l ∷ ls) [] zero e = absurd (shared_none l.facts.conversation e)
+passed (l ∷ ls) [] (suc k) e = absurd (shared_none (conversation_in (slice_get ls k)) e)
+passed (l ∷ ls) (m ∷ ms) zero e = ap (λ b. cond b (seen_copy ls ms) (Some l.copy)) e
+passed (l ∷ ls) (m ∷ ms) (suc k) e = passed ls ms k e
+
+pub shared_passes : {C : Type 0} (ls ms : List (Level C)) (k : ℕ) → is_shared (conversation_in (slice_get ls k)) (conversation_in (slice_get ms k)) ≡ true
+    → seen_copy ls ms ≡ seen_copy (drop k ls) (drop k ms) → seen_copy ls ms ≡ seen_copy (drop (k + 1) ls) (drop (k + 1) ms)
+shared_passes ls ms k e so_far =
+    subst (λ n. seen_copy ls ms ≡ seen_copy (drop n ls) (drop n ms)) (sym (add-one k)) (so_far ∙ passed ls ms k e)
+
+-- a level that is not shared is the sender's own
+own_at : {C : Type 0} (ls ms : List (Level C)) (k : ℕ) (level : Level C) → slice_get ls k ≡ Some level
+    → is_shared (conversation_in (slice_get ls k)) (conversation_in (slice_get ms k)) ≡ false → seen_copy (drop k ls) (drop k ms) ≡ Some level.copy
+own_at [] ms k level there e = absurd (none_some there)
+own_at (l ∷ ls) [] zero level there e = ap (λ (one : Level _). Some one.copy) (some_same there)
+own_at (l ∷ ls) [] (suc k) level there e =
+    subst (λ ms. seen_copy (drop k ls) ms ≡ Some level.copy) (drop_all k [] (omega arith)) (own_at ls [] k level there e)
+own_at (l ∷ ls) (m ∷ ms) zero level there e =
+    ap (λ b. cond b (seen_copy ls ms) (Some l.copy)) e ∙ ap (λ (one : Level _). Some one.copy) (some_same there)
+own_at (l ∷ ls) (m ∷ ms) (suc k) level there e = own_at ls ms k level there e
+
+pub own_is_seen : {C : Type 0} (ls ms : List (Level C)) (k : ℕ) (level : Level C) → slice_get ls k ≡ Some level
+    → is_shared (conversation_in (slice_get ls k)) (conversation_in (slice_get ms k)) ≡ false → seen_copy ls ms ≡ seen_copy (drop k ls) (drop k ms)
+    → IsCopyAt ls (Some k) (seen_copy ls ms)
+own_is_seen ls ms k level there e so_far = (level, there, so_far ∙ own_at ls ms k level there e)
+
+-- where all are passed the present is seen
+pub present_is_seen : {C : Type 0} (ls ms : List (Level C)) (k : ℕ) → length ls ≤ k → seen_copy ls ms ≡ seen_copy (drop k ls) (drop k ms)
+    → IsCopyAt ls None (seen_copy ls ms)
+present_is_seen ls ms k all so_far = so_far ∙ ap (λ l. seen_copy l (drop k ms)) (drop_all k ls all)
+
+-- the outermost level, and none without a level
+pub outermost_there : {C : Type 0} (ls : List (Level C)) → 0 < length ls → IsCopyAt ls (Some 0) (outermost_copy ls)
+outermost_there [] some = absurd (omega arith)
+outermost_there (l ∷ ls) some = (l, refl, refl)
+
+pub outermost_none : {C : Type 0} (ls : List (Level C)) → length ls ≤ 0 → IsCopyAt ls None (outermost_copy ls)
+outermost_none [] none = refl
+outermost_none (l ∷ ls) none = absurd (omega arith)

@@ -1,0 +1,10 @@
+-- The parts of a machine are tied again once a line was lent.
+use Rattle.rb_code.specs.Plain.{code as plain}
+use Rattle.rb_machine.proofs.LentAtWork.{tied_again}
+use Rattle.rb_machine.proofs.machine.MachineLines.released.Goals as goal
+
+pub invariant_of-self : goal.invariant_of-self
+invariant_of-self g c =
+    let inside = c.self.inside in
+    tied_again (plain inside.code.now) inside.parts c.released.follows.lender-at-none inside.running.items inside.taken inside.most c.args.p
+    c.self.invariant c.released.follows.holds-at-none

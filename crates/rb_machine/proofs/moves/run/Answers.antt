@@ -1,0 +1,59 @@
+-- The turn is counted, and then goes on in the world in which it was.
+use Rattle.std.proofs.Common.{ap, sym, ◌∙◌, subst, List, option_map, slice_get, position, arith}
+use Rattle.std.proofs.lemmas.List.{with_items_is}
+use Rattle.rb_world.specs.Turn.{bounded, is_over, turn_used}
+use Rattle.rb_world.specs.World.{change_at}
+use Rattle.rb_world.proofs.ListFacts.{slice_get-change_at, slice_get-there}
+use Rattle.rb_code.specs.Plain.{code as plain}
+use Rattle.rb_code.specs.WordRun.{WordWorld}
+use Rattle.rb_proc.specs.Process.{Seen}
+use Rattle.rb_machine.specs.Rejections.{changed}
+use Rattle.rb_machine.specs.Worlds.{NoneWaits, kind_with}
+use Rattle.rb_machine.proofs.Acting.{moved_as}
+use Rattle.rb_machine.proofs.CountedTurns.{counted_there, counted_work, counted_world, few_used}
+use Rattle.rb_machine.proofs.QuietProcesses.{waits_at}
+use Rattle.rb_machine.proofs.moves.run.Goals as goal
+
+pub count-over-requires-clause-few : goal.count-over-requires-clause-few
+count-over-requires-clause-few g c one there =
+    let parts = c.args.parts.now in
+    let here = ap (λ (xs : List Seen). slice_get xs c.args.p) (sym c.deref_mut.ensures.value) ∙ there in
+    few_used (plain c.args.code.now) c.args.turn parts.procs.items parts.table parts.mails.items parts.links.items c.requires.work.work c.args.p one here
+
+pub go_on-requires-clause-work : goal.go_on-requires-clause-work
+go_on-requires-clause-work g c =
+    let code = plain c.args.code.now in
+    let parts = c.args.parts.now in
+    let found = slice_get-there parts.procs.items c.args.p c.requires.process in
+    let kept = with_items_is parts.procs c.count-over.new.procs (omega (arith, c.count-over.auto.procs, c.deref_mut.ensures.len)) in
+    let counted = kept ∙ (c.count-over.ensures.counted ∙ ap (change_at c.args.p (changed turn_used)) c.deref_mut.ensures.value) in
+    record {
+      work = counted_work code c.args.turn parts.procs.items parts.table parts.mails.items parts.links.items c.requires.work.work c.args.p found.0 found.1
+          _ counted c.requires.turns;
+      waits = subst NoneWaits (sym counted) (waits_at c.args.p turn_used parts.procs.items c.requires.work.waits);
+    }
+
+pub go_on-requires-clause-running : goal.go_on-requires-clause-running
+go_on-requires-clause-running g c one there =
+    let code = plain c.args.code.now in
+    let parts = c.args.parts.now in
+    let found = slice_get-there parts.procs.items c.args.p c.requires.process in
+    let kept = with_items_is parts.procs c.count-over.new.procs (omega (arith, c.count-over.auto.procs, c.deref_mut.ensures.len)) in
+    let counted = c.count-over.ensures.counted ∙ ap (change_at c.args.p (changed turn_used)) c.deref_mut.ensures.value in
+    let is = counted_there code c.args.turn parts.procs.items parts.table parts.mails.items parts.links.items c.requires.work.work c.args.p found.0 found.1
+    c.count-over.new.procs counted one (ap (λ (xs : List Seen). slice_get xs c.args.p) (sym kept) ∙ there) in
+    ap (λ (x : Seen). x.process.status) (sym is) ∙ c.requires.running found.0 found.1
+
+pub returns-clause-moved : goal.returns-clause-moved
+returns-clause-moved g c one there =
+    let code = plain c.args.code.now in
+    let parts = c.args.parts.now in
+    let k = kind_with code parts.table in
+    let kept = with_items_is parts.procs c.count-over.new.procs (omega (arith, c.count-over.auto.procs, c.deref_mut.ensures.len)) in
+    let counted = kept ∙ (c.count-over.ensures.counted ∙ ap (change_at c.args.p (changed turn_used)) c.deref_mut.ensures.value) in
+    let q = turn_used one.process in
+    let w = counted_world code c.args.turn parts.procs.items parts.table parts.mails.items parts.links.items c.requires.work.work c.args.p one there _ counted in
+    moved_as (ap (λ (x : WordWorld). bounded k c.args.turn c.args.p q x (position is_over q.levels)) w)
+    (c.go_on.ensures.moved (changed turn_used one)
+    (ap (λ (xs : List Seen). slice_get xs c.args.p) counted
+    ∙ (slice_get-change_at c.args.p (changed turn_used) parts.procs.items ∙ ap (option_map (changed turn_used)) there)))

@@ -1,0 +1,20 @@
+use Rattle.std.proofs.Common.{arith}
+use Rattle.rb_machine.proofs.Released.{lines_of_freed, one_more_freed, others_left, processes_freed}
+use Rattle.rb_machine.proofs.telling.release_all.Goals as goal
+
+pub loop-proc-preserved : goal.loop-proc-preserved
+loop-proc-preserved g c = record {
+  freed = λ code. one_more_freed code c.args.procs.now c.loop-proc.procs c.loop-proc.proc-index c.proc-item.result c.release_if_free.new.self
+      c.loop-proc-test.true (c.loop-proc.invariant.freed code) c.proc-item.is (c.release_if_free.ensures.freed code);
+  left = others_left c.args.procs.now c.loop-proc.procs c.loop-proc.proc-index c.proc-item.result c.release_if_free.new.self
+      c.loop-proc-test.true c.loop-proc.auto.procs c.loop-proc.invariant.left;
+  ticks = omega (arith, c.loop-proc.invariant.ticks, c.release_if_free.ensures.ticks);
+}
+
+pub returns-clause-processes : goal.returns-clause-processes
+returns-clause-processes g c code groups =
+    processes_freed code groups c.args.procs.now c.loop-proc.procs c.loop-proc.proc-index c.loop-proc-test.false (c.loop-proc.invariant.freed code)
+
+pub returns-clause-lines : goal.returns-clause-lines
+returns-clause-lines g c code groups =
+    lines_of_freed code groups c.args.procs.now c.loop-proc.procs c.loop-proc.proc-index c.loop-proc-test.false (c.loop-proc.invariant.freed code)

@@ -1,0 +1,97 @@
+-- What a step of a process asks for and leaves, and an acceptance test that held.
+use Rattle.std.specs.Prelude.{◌≡◌, ℕ, ◌<◌, Bool, true, false, List, [], length, Option, Some, None}
+use Rattle.rb_base.specs.declared.event.Event.{Event}
+use Rattle.rb_base.specs.declared.event.TurnKind.TheVariants.{Took}
+use Rattle.rb_cache.specs.Copies.{accepted}
+use Rattle.rb_world.specs.Kind.{Membership}
+use Rattle.rb_world.specs.Slots.{Slots}
+use Rattle.rb_world.specs.Turn.{Moved, leaves, stands_now}
+use Rattle.rb_world.specs.World.{Level, Process, Running, change_at, settled, without_last}
+use Rattle.rb_code.specs.Plain.{Code}
+use Rattle.rb_code.specs.Stands.{Serves, SettlesSoundly, StandsSoundly}
+use Rattle.rb_code.specs.Turn.{Common, Copy, Standing, want}
+use Rattle.rb_conv.specs.Conversations.{Conversation}
+use Rattle.rb_proc.specs.Process.{Seen, StepsTo, alternate_for, kind_of, message_for, step_of}
+use Rattle.rb_proc.specs.Runs.{CursorsRise}
+use Rattle.rb_proc.specs.Views.{IsViewOf}
+use Rattle.rb_proc.specs.declared.answers.LevelView.{LevelView}
+use Rattle.rb_proc.specs.declared.answers.Outcome.{Outcome}
+use Rattle.rb_machine.specs.Moves.{passes_of}
+use Rattle.rb_machine.specs.Worlds.{world_of}
+
+-- these are the levels' innermost one, if there is one
+abbrev pub IsInnermost : Option (Level Copy) → Option LevelView → Type 0
+IsInnermost None None = Unit {0}
+IsInnermost None (Some view) = ⊥
+IsInnermost (Some level) None = ⊥
+IsInnermost (Some level) (Some view) = IsViewOf (Some level) view
+
+-- the alternate that a level tries, and 0 without a level
+abbrev pub tried_by : Option LevelView → ℕ
+tried_by None = 0
+tried_by (Some view) = view.alternate
+
+-- all that a step of a process asks for
+pub record MayStep (c : Code) (slots : Slots) (there : Bool) (one : Seen) : Type 0 where
+  pub running : one.process.status ≡ Running
+  pub away : one.process.at_line ≡ false
+  pub none_waits : one.waiting ≡ []
+  pub stands : (groups : List Membership) × StandsSoundly c groups one.process.state one.process.levels
+  pub serves : Serves (want c one.process.state) (alternate_for (want c one.process.state) one.process.levels)
+      (message_for c one.process.state slots there (want c one.process.state)) one.process.levels
+  pub cursors : CursorsRise c one.process.state.process one.process.state.words
+
+-- process number p has taken a step, and no other has changed
+pub record HasStepped (c : Code) (there : Bool) (p : ℕ) (one : Seen) (answer : Outcome) (slots slots' : Slots) (procs procs' : List Seen) : Type 0 where
+  pub later : Process Standing Copy
+  pub comes : StepsTo c one.process slots (step_of c one.process slots there) answer later slots'
+  pub processes : procs' ≡ change_at p (λ _. record { process = later; waiting = [] }) procs
+
+-- a process of which a turn was kept
+abbrev pub turn_kept : ℕ → Seen → Seen
+turn_kept turn one = record one { process = record one.process { state = record one.process.state { last_kept = turn } } }
+
+-- once the innermost level goes the process settles
+abbrev pub SettlesOnceAccepted : Code → Process Standing Copy → Type 0
+SettlesOnceAccepted c q =
+    (groups : List Membership) × SettlesSoundly c groups (record q.state { touched = accepted q.state.touched }) (without_last q.levels)
+
+-- who stands at a test line may leave it
+abbrev pub MayLeave : Code → ℕ → Seen → Type 0
+MayLeave c r one = one.process.at_line ≡ true → SettlesOnceAccepted c one.process
+
+-- the test of an innermost level held
+pub record HoldsTest (c : Code) (one : Seen) : Type 0 where
+  pub inside : 0 < length one.process.levels
+  pub settles : SettlesOnceAccepted c one.process
+
+-- the conversation of a level, if it has one
+abbrev pub conversation_in : Option (Level Copy) → Option ℕ
+conversation_in None = None
+conversation_in (Some level) = level.facts.conversation
+
+-- a conversation is one of so many, if there is one
+abbrev pub IsListed : ℕ → Option ℕ → Type 0
+IsListed n None = Unit {0}
+IsListed n (Some d) = d < n
+
+-- the process once its innermost level has gone
+abbrev pub level_gone : Code → Seen → Seen
+level_gone c one = record one {
+  process = settled (kind_of c) (record one.process.state { touched = accepted one.process.state.touched }) (without_last one.process.levels);
+}
+
+-- the process at the test line of its innermost level
+abbrev pub stood : Seen → Seen
+stood one = record one { process = stands_now one.process.state one.process.levels }
+
+-- a process that leaves the test line of a conversation, if it stands there
+abbrev pub line_left : Code → ℕ → Seen → Seen
+line_left c d one = record one { process = leaves (kind_of c) d one.process }
+
+-- The parts have come to the world of a turn that was taken, with its pass.
+pub record HasTaken (memory : Common) (procs : List Seen) (table : List Conversation) (pass : Option Event) (moved : Moved Standing Copy Common) : Type 0 where
+  pub world : world_of procs table memory ≡ moved.world
+  pub kind : moved.kind ≡ Took
+  pub rejections : moved.rejections ≡ []
+  pub passes : passes_of pass ≡ moved.passes

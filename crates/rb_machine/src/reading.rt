@@ -1,0 +1,99 @@
+//! What a machine is read by: how its processes stand, their variables, how many values were sent and taken on each channel, and the released
+//! lines that wait.
+
+ghost use Rattle.std.specs.Prelude.{◌≡◌, ℕ, ◌<◌, pos, length, slice_get, option_copied, option_map, Some};
+ghost use Rattle.std.specs.Borrow.{sem};
+ghost use Rattle.std.specs.Io.BufRead.{Rests};
+ghost use Rattle.rb_base.specs.Lines.{AtMostOneTick, belonging, next_line};
+ghost use Rattle.rb_code.specs.Plain.{code as plain};
+ghost use Rattle.rb_code.specs.WordKind.{cursor_in};
+ghost use Rattle.rb_proc.specs.Process.{Seen};
+ghost use Rattle.rb_machine.specs.Channels.{AreNumbered};
+ghost use Rattle.rb_machine.specs.Reading.{AreCounted, HasEnd, HasLent, sent_of, states_of, taken_of, variables_of};
+ghost use Rattle.rb_machine.specs.Worlds.{lines_of, processes_of};
+
+use crate::parts::Parts;
+use rb_base::{State, Steps};
+use rb_code::Code;
+use rb_proc::Proc;
+use std::sync::ledger::Ledger;
+
+/// How process p stands; a running one with its number of open levels.
+pub fn state_at<L: Ledger>(procs: &[Proc<L>], p: u32) -> State
+    requires { p < length procs.now }
+    ensures { slice_get (states_of (processes_of procs.now)) p ≡ Some result }
+{
+    procs[p as usize].state()
+}
+
+/// Word number `at` of the variables of process p.
+pub fn word_at<L: Ledger>(
+    code: &Code,
+    procs: &[Proc<L>],
+    p: u32,
+    at: u32,
+    steps: &mut Steps<L>,
+) -> i64
+    requires numbered { AreNumbered (plain code.now) procs.now }
+    requires at { at < length (belonging (variables_of (plain code.now) (processes_of procs.now)) p) }
+    ensures word { slice_get (belonging (variables_of (plain code.now) (processes_of procs.now)) p) at ≡ Some result }
+    ensures work { AtMostOneTick steps.old steps.new }
+{
+    procs[p as usize].word(code, at, steps)
+}
+
+/// How many values were sent on a channel.
+pub fn sent_on<L: Ledger>(code: &Code, procs: &[Proc<L>], channel: u32, steps: &mut Steps<L>) -> i64
+    requires counted { AreCounted (plain code.now) procs.now }
+    requires channel { channel < length (plain code.now).channels }
+    ensures sent { option_map pos (slice_get (sent_of (plain code.now) (processes_of procs.now)) channel) ≡ Some result }
+    ensures work { AtMostOneTick steps.old steps.new }
+{
+    let sender = code.channels[channel as usize].sender;
+    cursor_at(code, procs, sender, channel, steps)
+}
+
+/// How many values were taken from a channel.
+pub fn taken_on<L: Ledger>(
+    code: &Code,
+    procs: &[Proc<L>],
+    channel: u32,
+    steps: &mut Steps<L>,
+) -> i64
+    requires counted { AreCounted (plain code.now) procs.now }
+    requires channel { channel < length (plain code.now).channels }
+    ensures taken { option_map pos (slice_get (taken_of (plain code.now) (processes_of procs.now)) channel) ≡ Some result }
+    ensures work { AtMostOneTick steps.old steps.new }
+{
+    let receiver = code.channels[channel as usize].receiver;
+    cursor_at(code, procs, receiver, channel, steps)
+}
+
+// The cursor of a channel in process p, an end of it.
+fn cursor_at<L: Ledger>(
+    code: &Code,
+    procs: &[Proc<L>],
+    p: u32,
+    channel: u32,
+    steps: &mut Steps<L>,
+) -> i64
+    requires counted { AreCounted (plain code.now) procs.now }
+    requires end { HasEnd (plain code.now) procs.now channel p }
+    ensures cursor { (one : Seen) → slice_get procs.now p ≡ Some one → result ≡ pos (cursor_in (plain code.now) p one.process.state.words channel) }
+    ensures work { AtMostOneTick steps.old steps.new }
+{
+    procs[p as usize].cursor(code, channel, steps) as i64
+}
+
+impl<L: Ledger> Parts<L> {
+    ghost use Rattle.rb_machine.specs.contracts.parts.Parts.{the_row};
+
+    /// Lends the next released line of process p, which no longer waits then; `None` exactly where none of its lines waits.
+    pub fn released(&mut self, p: u32) -> Option<&[u8]>
+        requires { p < length self.old.procs.items }
+        ensures lent { option_copied result ≡ next_line (lines_of self.old.procs.items) p }
+        ensures* after { sem 𝓛 (Rests (the_row L.row L.Ledger) self.entry (λ new. HasLent p self.old new)) }
+    {
+        self.procs[p as usize].released()
+    }
+}

@@ -1,0 +1,47 @@
+//! Turns that end in rejections.
+
+ghost use Rattle.std.specs.Prelude.{◌≡◌, ◌<◌, ◌≤◌, length};
+ghost use Rattle.rb_world.specs.Reject.{reject};
+ghost use Rattle.rb_world.specs.Turn.{undone};
+ghost use Rattle.rb_code.specs.Plain.{Code as Plain};
+ghost use Rattle.rb_proc.specs.Sees.{AreSized};
+ghost use Rattle.rb_machine.specs.Cascade.{AreQuiet, MayRejectAt};
+ghost use Rattle.rb_machine.specs.Moves.{HasMoved, IsLeft, world};
+ghost use Rattle.rb_machine.specs.Worlds.{kind_with};
+
+use crate::came::Came;
+use crate::cascade::reject;
+use crate::parts::Parts;
+use arrayvec::ArrayVec;
+use rb_base::{Cause, Event, Steps, TurnKind};
+use std::sync::ledger::Ledger;
+
+/// Ends a turn by rejecting process p from the innermost of its first `left` levels on.
+pub fn undo<L: Ledger>(
+    parts: &mut Parts<L>,
+    p: u32,
+    left: u32,
+    cause: Cause,
+    events: &mut ArrayVec<Event, 96>,
+    steps: &mut Steps<L>,
+) -> Came
+    requires process { p < length parts.old.procs.items }
+    requires may { MayRejectAt parts.old.procs.items parts.old.table p left }
+    requires quiet { AreQuiet parts.old.procs.items }
+    requires few { left ≤ 32 }
+    requires none { length events.old.items ≡ 0 }
+    ensures moved { (c : Plain) → HasMoved parts.new events.new.items result (undone (reject (kind_with c parts.old.table) p left cause (world parts.old))) }
+    ensures left { (c : Plain) → AreSized c parts.old.mails.items → IsLeft c parts.old parts.new events.new.items result }
+    ensures links { parts.new.links ≡ parts.old.links }
+{
+    reject(
+        &mut parts.procs,
+        &mut parts.table,
+        p,
+        left,
+        cause,
+        events,
+        steps,
+    );
+    Came::without_pass(TurnKind::Undone)
+}

@@ -1,0 +1,10 @@
+use Rattle.std.proofs.Common.{◌≡◌, [], length}
+use Rattle.rb_proc.specs.Places.{most_places}
+use Rattle.rb_proc.proofs.tests.fill.Given as goal
+
+abbrev pub invariant-loop-level : goal.invariant-loop-level
+invariant-loop-level g l = record {
+  levels : length l.memory.levels ≡ l.level;
+  waiting : l.memory.waiting ≡ [];
+  words : length l.memory.words ≡ most_places;
+}

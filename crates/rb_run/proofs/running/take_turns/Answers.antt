@@ -1,0 +1,56 @@
+-- Each turn is written, and the rest stays to be written.
+use Rattle.std.proofs.Common.{length, sym, ap, ◌∙◌, arith}
+use Rattle.rb_trace.specs.Naming.{naming}
+use Rattle.rb_trace.specs.Report.{told_of}
+use Rattle.rb_machine.specs.Machine.{Seen}
+use Rattle.rb_run.proofs.TurnsTaken.{all_written, is_after, led_on, none_waits, processes_now, released_each, stopped_in, turns_left, written_on}
+use Rattle.rb_run.proofs.running.take_turns.Goals as goal
+
+pub write_report-requires : goal.write_report-requires
+write_report-requires g c = record {
+  fit = ap (λ (m : Seen). length m.waiting) c.turn-report.ensures.machine
+      ∙ released_each c.turns.machine c.in-Some.p ∙ sym c.turns.invariant.named;
+}
+
+pub turns-preserved : goal.turns-preserved
+turns-preserved g c =
+    let parts = c.in-Some.ensures.0 in
+    let m = c.turns.machine in
+    let turning = c.turn-report.new.self in
+    let now = c.write_report.new.lines in
+    let none = c.in_ok-write_report.ensures.none_waits in
+    let rest = c.write_report.ensures.rest in
+    let told = told_of c.turn-report.result.kind c.turn-report.result.events.items turning.waiting in
+    let turned = c.turn-report.ensures in
+    let waits = c.turns.invariant.waits in
+    let same = is_after m turning now c.in-Some.p told turned waits none rest in
+    record {
+      named = c.turns.invariant.named ∙ sym (processes_now m turning now c.in-Some.p told turned waits none rest);
+      waits = none_waits m turning now c.in-Some.p told turned waits none rest;
+      few = omega (arith, ap (λ (x : Seen). x.taken) same, ap (λ (x : Seen). x.most) same, ap length parts, c.turns.invariant.few);
+      led = led_on m turning now c.in-Some.p told turned waits none rest c.turns.schedule.left c.next.new.self.left parts ∙ c.turns.invariant.led;
+      text = written_on m turning now c.in-Some.p told turned waits none rest c.turns.schedule.left c.next.new.self.left parts
+          (naming c.args.names.now) c.turns_taken.result c.turns_taken.ensures
+          (turns_left (naming c.args.names.now) c.args.machine.now c.args.schedule.left)
+          (g.S.Sink.written c.args.out.now) (g.S.Sink.written c.turns.out) (g.S.Sink.written c.write_report.new.out)
+          (g.S.Sink.faults c.args.out.now) (g.S.Sink.faults c.turns.out) (g.S.Sink.faults c.write_report.new.out)
+          c.turns.invariant.text c.in_ok-write_report.ensures.text;
+    }
+
+pub returns-in_err-write_report-clause-text : goal.returns-in_err-write_report-clause-text
+returns-in_err-write_report-clause-text g c =
+    let turning = c.turn-report.new.self in
+    stopped_in c.turns.machine turning c.in-Some.p
+    (told_of c.turn-report.result.kind c.turn-report.result.events.items turning.waiting) c.turn-report.ensures
+    c.turns.schedule.left c.next.new.self.left c.in-Some.ensures.0 (naming c.args.names.now) c.turns_taken.result c.turns_taken.ensures
+    (turns_left (naming c.args.names.now) c.args.machine.now c.args.schedule.left)
+    (g.S.Sink.written c.args.out.now) (g.S.Sink.written c.turns.out) (g.S.Sink.written c.write_report.new.out)
+    (g.S.Sink.faults c.args.out.now) (g.S.Sink.faults c.turns.out) (g.S.Sink.faults c.write_report.new.out)
+    c.in_err-write_report.field-0.0 c.from_residual.result c.from_residual.ensures.0 c.turns.invariant.text c.in_err-write_report.ensures.text
+
+pub returns-clause-text : goal.returns-clause-text
+returns-clause-text g c =
+    all_written (naming c.args.names.now) c.turns.machine c.turns.schedule.left c.in_default.ensures.0
+    (turns_left (naming c.args.names.now) c.args.machine.now c.args.schedule.left)
+    (g.S.Sink.written c.args.out.now) (g.S.Sink.written c.turns.out) (g.S.Sink.faults c.args.out.now) (g.S.Sink.faults c.turns.out)
+    c.turns.invariant.text

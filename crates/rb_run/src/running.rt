@@ -1,0 +1,61 @@
+//! A run of a loaded machine over a schedule, from its turns to the bytes that it prints.
+
+ghost use Rattle.std.specs.Prelude.{◌≡◌, ℕ, ◌+◌, ◌<◌, ◌≤◌, ◌++◌, length, OnOk};
+ghost use Rattle.rb_code.specs.WordKind.{word_kind};
+ghost use Rattle.rb_code.specs.WordRun.{word_text};
+ghost use Rattle.rb_outside.specs.Puts.{Puts};
+ghost use Rattle.rb_trace.specs.Naming.{naming};
+ghost use Rattle.rb_world.specs.Text.{all_told};
+ghost use Rattle.rb_world.specs.Turn.{run as run_from};
+ghost use Rattle.rb_machine.specs.Machine.{opening_seen};
+ghost use Rattle.rb_run.specs.Running.{NoneWaits, NamesFit, ran};
+
+use rb_base::{Names, Steps};
+use rb_machine::Machine;
+use rb_outside::{Failed, Sink};
+use rb_sched::Schedule;
+use rb_trace::{write_end, write_report};
+use std::sync::ledger::Ledger;
+
+/// Runs a machine that was just loaded over a schedule that was just read, and writes the run's text. It takes no memory: it answers Ok
+/// with the whole text written, or Failed where a write failed, with a prefix written.
+pub fn run<S: Sink, L: Ledger>(
+    machine: &mut Machine<'_, L>,
+    names: &Names,
+    schedule: Schedule<'_>,
+    out: &mut S,
+    steps: &mut Steps<L>,
+) -> Result<(), Failed>
+    requires fresh { machine.old ≡ opening_seen machine.old.code machine.old.groups machine.old.most }
+    requires named { naming names.now ≡ machine.old.code.names }
+    requires fit { NamesFit machine.old.code names.now }
+    requires whole { schedule.left ≡ schedule.all }
+    requires turns { length schedule.left ≤ machine.old.most }
+    ensures { Puts (word_text machine.old.code machine.old.groups schedule.entry.all) (S.written out.old) (S.written out.new) (S.faults out.old) (S.faults out.new) result }
+{
+    let turns = schedule.turns();
+    write_report(out, 0, &machine.opening(), names, machine)?;
+    take_turns(machine, names, schedule, out, steps)?;
+    write_end(out, turns, names, machine, steps)
+}
+
+// Takes the turns of a schedule, and writes the lines of each.
+fn take_turns<S: Sink, L: Ledger>(
+    machine: &mut Machine<'_, L>,
+    names: &Names,
+    mut schedule: Schedule<'_>,
+    out: &mut S,
+    steps: &mut Steps<L>,
+) -> Result<(), Failed>
+    requires named { length names.now.processes.items ≡ length machine.old.world.processes }
+    requires waits { NoneWaits machine.old }
+    requires turns { machine.old.taken + length schedule.left ≤ machine.old.most }
+    ensures text { Puts (all_told (naming names.now) (machine.old.taken + 1) (run_from (word_kind machine.old.code machine.old.groups) (machine.old.taken + 1) schedule.entry.left machine.old.world).1) (S.written out.old) (S.written out.new) (S.faults out.old) (S.faults out.new) result }
+    ensures ran { OnOk result (machine.new ≡ ran machine.old schedule.entry.left) }
+{
+    'turns: while let Some(p) = schedule.next() {
+        let report = machine.turn(p, steps);
+        write_report(out, machine.turns_taken(), &report, names, machine)?;
+    }
+    Ok(())
+}
