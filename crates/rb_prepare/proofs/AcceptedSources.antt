@@ -1,17 +1,27 @@
 -- The laws of the code of accepted sources.
+use Rattle.std.specs.Prelude.{ℕ, List}
+use Rattle.rb_syntax.specs.Tree.{Tree}
+use Rattle.rb_scope.specs.InFrames.{Resolved}
+use Rattle.rb_scope.specs.declared.slot.Slot.{Slot}
 use Rattle.rb_scope.proofs.WithinLimits.{within_limits}
 use Rattle.rb_nest.proofs.Accepted.{accepted_are_nested}
+use Rattle.rb_judge.specs.Verdict.{IsAccepted}
 use Rattle.rb_judge.proofs.Alternates.{accepted_have_alternates}
 use Rattle.rb_judge.proofs.BlocksInOrder.{parsed_are_numbered}
 use Rattle.rb_judge.proofs.Spelling.{accepted_are_spelled}
+use Rattle.rb_code.specs.Plain.{Code}
+use Rattle.rb_code.specs.StandsFor.{StandsFor}
 use Rattle.rb_code.proofs.CodeTables.{code_has_table}
 use Rattle.rb_code.proofs.WholeRuns.CodeAgrees.{agrees_by_table}
-use Rattle.rb_prepare.specs.Laws.{AlwaysAgrees, IsSoundForGroups, OfEveryCode}
+use Rattle.rb_prepare.specs.Laws.{AlwaysAgrees, HasCountsOfNest, IsSoundForGroups, OfEveryCode}
+use Rattle.rb_prepare.proofs.AcceptedCode.{IsCodeOf}
+use Rattle.rb_prepare.proofs.CountedAlternates.{counts_known}
 use Rattle.rb_prepare.proofs.RoomFound.{accepted_find_room}
 use Rattle.rb_prepare.proofs.SoundCode.{code_is_sound}
 
-pub accepted_code_is_sound : OfEveryCode IsSoundForGroups
-accepted_code_is_sound source tree slots c accepted resolved stands = code_is_sound tree slots c record {
+accepted_code : (source : List ℕ) (tree : Tree) (slots : List Slot) (c : Code) → IsAccepted source tree → Resolved tree slots → StandsFor tree slots c
+    → IsCodeOf tree slots c
+accepted_code source tree slots c accepted resolved stands = record {
   resolved = resolved;
   scoped = accepted.scoped;
   nested = accepted.nested;
@@ -21,6 +31,14 @@ accepted_code_is_sound source tree slots c accepted resolved stands = code_is_so
   few = accepted_find_room source tree accepted;
   stands = stands;
 }
+
+pub accepted_code_is_sound : OfEveryCode IsSoundForGroups
+accepted_code_is_sound source tree slots c accepted resolved stands =
+    code_is_sound tree slots c (accepted_code source tree slots c accepted resolved stands)
+
+pub accepted_code_has_counts : OfEveryCode HasCountsOfNest
+accepted_code_has_counts source tree slots c accepted resolved stands nested nest b d block at is =
+    counts_known tree slots c (accepted_code source tree slots c accepted resolved stands) nested nest b d block at is
 
 pub accepted_code_agrees : OfEveryCode AlwaysAgrees
 accepted_code_agrees source tree slots c accepted resolved stands turns =

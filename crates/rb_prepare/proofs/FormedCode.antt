@@ -187,7 +187,7 @@ module _ (tree : Tree) (slots : List Slot) (c : Code) (code : IsCodeOf tree slot
         lies = right.1.2;
       }
 
-  block_formed : (b : ℕ) (block : Block) → slice_get c.blocks b ≡ Some block → IsBlock c groups block
+  pub block_formed : (b : ℕ) (block : Block) → slice_get c.blocks b ≡ Some block → IsBlock c groups block
   block_formed b block at =
       let h = block_here b (slice_get_within c.blocks b block at) in
       let lies = subst (BlockLies tree h.first h.last) (some_same (sym h.at ∙ at)) h.lies in
@@ -202,7 +202,7 @@ module _ (tree : Tree) (slots : List Slot) (c : Code) (code : IsCodeOf tree slot
             (each_below (length c.instrs) (Inside h.first h.last) (λ x k. let to = k.1 in omega arith) block.alternates lies.alternates);
       }
 
-  alternates_known : (b d : ℕ) (block : Block) → slice_get c.blocks b ≡ Some block → block.conversation ≡ Some d
+  pub alternates_known : (b d : ℕ) (block : Block) → slice_get c.blocks b ≡ Some block → block.conversation ≡ Some d
       → alternates_of tree d ≡ Some (length block.alternates)
   alternates_known b d block at is =
       let h = block_here b (slice_get_within c.blocks b block at) in

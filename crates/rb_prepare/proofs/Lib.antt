@@ -26,6 +26,7 @@ pub mod Counting
 pub mod AcceptedCode
 pub mod NamedCode
 pub mod FormedCode
+pub mod CountedAlternates
 pub mod JoinedOnce
 pub mod SoundCode
 -- The same of sources.

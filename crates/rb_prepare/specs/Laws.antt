@@ -1,11 +1,14 @@
 -- Laws of the code of accepted sources.
-use Rattle.std.specs.Prelude.{ℕ, List}
+use Rattle.std.specs.Prelude.{◌≡◌, ℕ, List, length, slice_get, Some}
+use Rattle.rb_base.specs.declared.names.Nested.{Nested}
 use Rattle.rb_syntax.specs.Tree.{Tree}
 use Rattle.rb_meaning.specs.Groups.{groups_of}
 use Rattle.rb_scope.specs.InFrames.{Resolved}
 use Rattle.rb_scope.specs.declared.slot.Slot.{Slot}
+use Rattle.rb_nest.specs.Groups.{alternates}
+use Rattle.rb_nest.specs.Nest.{IsNest}
 use Rattle.rb_judge.specs.Verdict.{IsAccepted}
-use Rattle.rb_code.specs.Plain.{Code}
+use Rattle.rb_code.specs.Plain.{Block, Code}
 use Rattle.rb_code.specs.Laws.{Agrees}
 use Rattle.rb_code.specs.StandsFor.{StandsFor}
 use Rattle.rb_code.specs.WellFormed.{IsSound}
@@ -22,3 +25,8 @@ IsSoundForGroups tree c = IsSound c (groups_of tree)
 -- it agrees with the tree's meaning, over every list of turns
 abbrev pub AlwaysAgrees : Tree → Code → Type 0
 AlwaysAgrees tree c = (turns : List ℕ) → Agrees tree c turns
+
+-- each of its recovery blocks has as many alternates as is counted for its conversation
+abbrev pub HasCountsOfNest : Tree → Code → Type 0
+HasCountsOfNest tree c = (nested : Nested) → IsNest tree nested → (b d : ℕ) (block : Block) → slice_get c.blocks b ≡ Some block
+    → block.conversation ≡ Some d → slice_get (alternates nested) d ≡ Some (length block.alternates)

@@ -2,7 +2,7 @@
 
 ghost use Rattle.rb_code.specs.RoomInTree.{FewOperands};
 ghost use Rattle.rb_judge.specs.Laws.{OfEveryAccepted};
-ghost use Rattle.rb_prepare.specs.Laws.{AlwaysAgrees, IsSoundForGroups, OfEveryCode};
+ghost use Rattle.rb_prepare.specs.Laws.{AlwaysAgrees, HasCountsOfNest, IsSoundForGroups, OfEveryCode};
 
 /// The expressions of an accepted source find room for their operands.
 pub fn accepted_find_room()
@@ -12,6 +12,11 @@ pub fn accepted_find_room()
 /// Whatever code stands for an accepted source is sound, with the conversations of the source.
 pub fn code_is_sound()
     ensures { OfEveryCode IsSoundForGroups }
+{}
+
+/// Each of its recovery blocks has as many alternates as the table of the source's conversations counts for it.
+pub fn code_has_counts()
+    ensures { OfEveryCode HasCountsOfNest }
 {}
 
 /// It agrees with the meaning of the source, over every list of turns.

@@ -1,4 +1,4 @@
--- Texts have a verdict: a source has one, a schedule is a list or a fault, and the rest is decided by its test.
+-- Texts have a verdict: a source has one, and a schedule is a list of turns or has a fault.
 use Rattle.std.proofs.Common.{◌≡◌, ◌⊎◌, ℕ, ◌≤◌, Bool, true, false, List, [], ◌∷◌, length, Result, Ok, Err, refl, inl, inr, arith}
 use Rattle.std.specs.Prelude.{nat_lt}
 use Rattle.std.proofs.lemmas.Bool.{ltb-true, ltb-false}
@@ -6,14 +6,12 @@ use Rattle.rb_base.specs.declared.fault.SourceFault.{SourceFault}
 use Rattle.rb_base.specs.declared.fault.TextFault.{TextFault}
 use Rattle.rb_base.specs.declared.limits.TheConstants.{MOST_BYTES}
 use Rattle.rb_meaning.specs.Meaning.{run_text}
-use Rattle.rb_run.specs.Ran.{names_of}
-use Rattle.rb_run.specs.Runnable.{is_runnable}
 use Rattle.rb_sched.specs.Schedule.{schedule_of}
 use Rattle.rb_syntax.specs.Tree.{Tree}
 use Rattle.rb_judge.specs.Verdict.{IsAccepted, IsRefusedFor}
 use Rattle.rb_top.specs.Words.{Run, Check, Compile}
-use Rattle.rb_top.specs.Judgement.{Judgement, ReadsOn, RefusedWith, Writes, too_long_line, source_line, schedule_line, accepted_line, unready, SourceRefused, long_source, bad_source, Accepted}
-use Rattle.rb_top.specs.Judgement.{ScheduleRefused, long_schedule, bad_schedule, at_first, source_refused, source_accepted, unready_tree, ready_tree, schedule_refused, runs, accepts, ListsCodeOf, lists}
+use Rattle.rb_top.specs.Judgement.{Judgement, ReadsOn, RefusedWith, Writes, too_long_line, source_line, schedule_line, accepted_line, names_of, SourceRefused, long_source, bad_source, Accepted}
+use Rattle.rb_top.specs.Judgement.{ScheduleRefused, long_schedule, bad_schedule, at_first, source_refused, source_accepted, reads_schedule, schedule_refused, runs, accepts, ListsCodeOf, lists}
 use Rattle.rb_top.specs.Judgement.{EndsWith, refused_here, written_here, later}
 use Rattle.rb_top.specs.Laws.{AreJudged}
 use Rattle.rb_judge.proofs.BlocksInOrder.{parsed_are_numbered}
@@ -59,54 +57,40 @@ module _ (source schedule : List ℕ) where
   )
 
   module _ (tree : Tree) (accepted : Accepted source tree) where
-    -- its tree is not run yet
-    not_yet : is_runnable tree ≡ false → Judged
-    not_yet unfit =
-        let line = source_line unready in (
-          RefusedWith line,
-          later [] source (schedule ∷ []) (RefusedWith line) at_first
-              (refused_here (source ∷ []) (schedule ∷ []) line (source_accepted source tree [] (RefusedWith line) accepted (unready_tree line unfit refl))),
-        )
-
     -- the schedule is refused
-    refused_then : is_runnable tree ≡ true → (line : List ℕ) → ScheduleRefused tree schedule line → Judged
-    refused_then fit line refused = (
+    refused_then : (line : List ℕ) → ScheduleRefused tree schedule line → Judged
+    refused_then line refused = (
       RefusedWith line,
       later [] source (schedule ∷ []) (RefusedWith line) at_first
-          (later (source ∷ []) schedule [] (RefusedWith line) (source_accepted source tree [] ReadsOn accepted (ready_tree fit))
+          (later (source ∷ []) schedule [] (RefusedWith line) (source_accepted source tree [] ReadsOn accepted reads_schedule)
           (refused_here (source ∷ schedule ∷ []) [] line
           (source_accepted source tree (schedule ∷ []) (RefusedWith line) accepted (schedule_refused schedule line refused)))),
     )
 
     -- the source runs over the schedule
-    ran : is_runnable tree ≡ true → (turns : List ℕ) → length schedule ≤ MOST_BYTES → schedule_of (names_of tree) schedule ≡ Ok turns → Judged
-    ran fit turns short e =
+    ran : (turns : List ℕ) → length schedule ≤ MOST_BYTES → schedule_of (names_of tree) schedule ≡ Ok turns → Judged
+    ran turns short e =
         let text = run_text tree turns in (
           Writes text,
           later [] source (schedule ∷ []) (Writes text) at_first
-              (later (source ∷ []) schedule [] (Writes text) (source_accepted source tree [] ReadsOn accepted (ready_tree fit))
+              (later (source ∷ []) schedule [] (Writes text) (source_accepted source tree [] ReadsOn accepted reads_schedule)
               (written_here (source ∷ schedule ∷ []) [] text
               (source_accepted source tree (schedule ∷ []) (Writes text) accepted (runs schedule text (record { turns = turns; short = short; listed = e; is = refl }))))),
         )
 
     -- the schedule is a list of turns, or has a first fault
-    listed : is_runnable tree ≡ true → (read : Result (List ℕ) TextFault) → length schedule ≤ MOST_BYTES → schedule_of (names_of tree) schedule ≡ read → Judged
-    listed fit (Ok turns) short e = ran fit turns short e
-    listed fit (Err fault) short e = refused_then fit (schedule_line fault) (bad_schedule fault short e refl)
+    listed : (read : Result (List ℕ) TextFault) → length schedule ≤ MOST_BYTES → schedule_of (names_of tree) schedule ≡ read → Judged
+    listed (Ok turns) short e = ran turns short e
+    listed (Err fault) short e = refused_then (schedule_line fault) (bad_schedule fault short e refl)
 
     -- the schedule is too long, or not
-    scheduled : is_runnable tree ≡ true → (long : Bool) → nat_lt MOST_BYTES (length schedule) ≡ long → Judged
-    scheduled fit true e = refused_then fit too_long_line (long_schedule (ltb-true MOST_BYTES (length schedule) e) refl)
-    scheduled fit false e = listed fit (schedule_of (names_of tree) schedule) (ltb-false MOST_BYTES (length schedule) e) refl
-
-    -- the tree is run, or not yet
-    ready : (runnable : Bool) → is_runnable tree ≡ runnable → Judged
-    ready true e = scheduled e (nat_lt MOST_BYTES (length schedule)) refl
-    ready false e = not_yet e
+    scheduled : (long : Bool) → nat_lt MOST_BYTES (length schedule) ≡ long → Judged
+    scheduled true e = refused_then too_long_line (long_schedule (ltb-true MOST_BYTES (length schedule) e) refl)
+    scheduled false e = listed (schedule_of (names_of tree) schedule) (ltb-false MOST_BYTES (length schedule) e) refl
 
   judged : Sourced source → Judged
   judged (inl (line, refused)) = refused_first line refused
-  judged (inr (tree, accepted)) = ready tree accepted (is_runnable tree) refl
+  judged (inr (tree, accepted)) = scheduled tree accepted (nat_lt MOST_BYTES (length schedule)) refl
 
 -- `run` reads two texts
 run_judged : (texts : List (List ℕ)) → length texts ≡ 2 → (v : Judgement) × EndsWith Run [] texts v

@@ -1,14 +1,13 @@
 -- Texts are judged in one way: a source has one verdict, a schedule is one list or one fault, and a run has one text.
-use Rattle.std.proofs.Common.{◌≡◌, ℕ, ◌<◌, ◌≤◌, true≢false, List, [], ◌∷◌, ◌++◌, length, Ok, refl, sym, ap, subst, ◌∙◌, arith}
+use Rattle.std.proofs.Common.{◌≡◌, ℕ, ◌<◌, ◌≤◌, List, [], ◌∷◌, ◌++◌, length, Ok, refl, sym, ap, subst, ◌∙◌, arith}
 use Rattle.rb_meaning.specs.Meaning.{run_text}
 use Rattle.rb_base.specs.declared.limits.TheConstants.{MOST_BYTES}
-use Rattle.rb_run.specs.Ran.{names_of}
 use Rattle.rb_sched.specs.Schedule.{schedule_of}
 use Rattle.rb_syntax.specs.Tree.{Tree}
 use Rattle.rb_top.specs.Words.{Command, Run, Check, Compile}
 use Rattle.rb_top.specs.Judgement.{Judgement, ReadsOn, RefusedWith, Writes, SourceRefused, long_source, bad_source, source_line, Accepted}
 use Rattle.rb_top.specs.Judgement.{ScheduleRefused, long_schedule, bad_schedule, schedule_line, ScheduleRuns, JudgesSource, at_first, source_refused, source_accepted}
-use Rattle.rb_top.specs.Judgement.{RunGoesOn, unready_tree, ready_tree, schedule_refused, runs, CheckGoesOn, accepts, CodeGoesOn, ListsCodeOf, lists, Judges, EndsWith, refused_here, written_here, later}
+use Rattle.rb_top.specs.Judgement.{RunGoesOn, names_of, reads_schedule, schedule_refused, runs, CheckGoesOn, accepts, CodeGoesOn, ListsCodeOf, lists, Judges, EndsWith, refused_here, written_here, later}
 use Rattle.rb_top.specs.Laws.{AreJudgedOnce}
 use Rattle.rb_judge.proofs.BlocksInOrder.{parsed_are_numbered}
 use Rattle.rb_judge.proofs.Verdicts.{have_one_verdict}
@@ -65,10 +64,7 @@ GoesOnOnce goes_on =
 
 -- `run` does
 runs_once : GoesOnOnce RunGoesOn
-runs_once source tree texts v w accepted (unready_tree line n a) (unready_tree other m b) = ap RefusedWith (a ∙ sym b)
-runs_once source tree texts v w accepted (unready_tree line n a) (ready_tree y) = absurd (true≢false (sym y ∙ n))
-runs_once source tree texts v w accepted (ready_tree y) (unready_tree line n a) = absurd (true≢false (sym y ∙ n))
-runs_once source tree texts v w accepted (ready_tree y) (ready_tree z) = refl
+runs_once source tree texts v w accepted reads_schedule reads_schedule = refl
 runs_once source tree texts v w accepted (schedule_refused schedule line r) (schedule_refused again other s) = ap RefusedWith (schedule_once tree schedule line other r s)
 runs_once source tree texts v w accepted (schedule_refused schedule line r) (runs again text s) = absurd (run_stands tree schedule text line s r)
 runs_once source tree texts v w accepted (runs schedule text r) (schedule_refused again line s) = absurd (run_stands tree schedule text line r s)

@@ -5,6 +5,7 @@ pub mod Sources
 pub mod Judged
 pub mod Complete
 pub mod AllJudged
-pub mod OneProcess
+pub mod Loaded
+pub mod Scheduled
 pub mod Behind
 pub mod CommandLine

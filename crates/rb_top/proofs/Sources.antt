@@ -1,22 +1,18 @@
 -- The source of a command, which several commands read and judge first, and the file after it.
-use Rattle.std.proofs.Common.{◌≡◌, ℕ, ◌<◌, ◌≤◌, true, List, [], ◌∷◌, length, Option, Result, Ok, Err, refl, inl, inr, arith}
+use Rattle.std.proofs.Common.{◌≡◌, ℕ, ◌<◌, ◌≤◌, List, [], ◌∷◌, length, Option, inl, inr, arith}
 use Rattle.rb_base.specs.declared.limits.TheConstants.{MOST_BYTES}
 use Rattle.rb_outside.specs.Outside.{File, Faults, Start}
 use Rattle.rb_syntax.specs.Tree.{Tree}
-use Rattle.rb_meaning.specs.Meaning.{run_text}
-use Rattle.rb_sched.specs.Schedule.{schedule_of}
-use Rattle.rb_run.specs.Ran.{Ran, names_of}
-use Rattle.rb_run.specs.Runnable.{is_runnable}
-use Rattle.rb_run.specs.declared.engine.Ended.{Ended}
-use Rattle.rb_run.specs.declared.engine.Ended.TheVariants as ends
+use Rattle.rb_prepare.specs.Prepared.{IsPrepared}
+use Rattle.rb_prepare.specs.declared.preparing.Prepared.{Prepared}
 use Rattle.rb_top.specs.Words.{Command, Wanted, Request, run_of, text_named}
 use Rattle.rb_top.specs.declared.status.Status.{Status}
 use Rattle.rb_top.specs.declared.status.Status.TheVariants.{Done, Refused, Usage, ReadFault, WriteFault, Memory}
 use Rattle.rb_top.specs.Judgement.{Judgement, ReadsOn, RefusedWith, Writes, long_source, bad_source, Accepted, long_schedule, bad_schedule}
-use Rattle.rb_top.specs.Judgement.{JudgesSource, at_first, source_refused, source_accepted, RunGoesOn, ready_tree, schedule_refused, runs, Judges}
+use Rattle.rb_top.specs.Judgement.{JudgesSource, at_first, source_refused, source_accepted, RunGoesOn, reads_schedule, schedule_refused, runs, Judges}
 use Rattle.rb_top.specs.Answers.{WithRequest}
 use Rattle.rb_top.specs.Read.{WasReadIn}
-use Rattle.rb_top.specs.Stages.{HasReadIn, HasSource, EndsForSource, StageEnds, status_of_run}
+use Rattle.rb_top.specs.Stages.{HasReadIn, HasSource, EndsForSchedule, EndsForSource, StageEnds}
 use Rattle.rb_top.proofs.Answering.{next_judged, nothing_read, reads_text}
 
 -- how a stage ends that judged so also tells of what follows from its judgement
@@ -59,16 +55,15 @@ module _ (goes_on : Tree → List (List ℕ) → Judgement → Type 0) where
       (λ long text longer j h. judges (text ∷ []) j (still_long bytes text long longer j h)) ends
 
 -- an accepted source was read
-pub source_read : (files : Option (List File)) (request : Request) (name : List ℕ) (rest : List Wanted) (old now : List Start) (bytes : List ℕ) (tree : Tree) →
-    HasReadIn files request [] (text_named name ∷ rest) old old → Judges request.command [] ReadsOn → WasReadIn files name MOST_BYTES bytes old now → Accepted bytes tree →
-    HasSource files request tree rest old now
-source_read files request name rest old now bytes tree since goes_on was accepted =
-    let short = accepted.short in
-    record {
-      source = bytes;
-      accepted = accepted;
-      read = reads_text files request [] (text_named name) rest old old now bytes since goes_on was short;
-    }
+pub source_read : (files : Option (List File)) (request : Request) (name : List ℕ) (rest : List Wanted) (old now : List Start) (bytes : List ℕ) (prepared : Prepared) →
+    HasReadIn files request [] (text_named name ∷ rest) old old → Judges request.command [] ReadsOn → WasReadIn files name MOST_BYTES bytes old now →
+    length bytes ≤ MOST_BYTES → IsPrepared bytes prepared → HasSource files request prepared rest old now
+source_read files request name rest old now bytes prepared since goes_on was short accepted = record {
+  source = bytes;
+  short = short;
+  accepted = accepted;
+  read = reads_text files request [] (text_named name) rest old old now bytes since goes_on was short;
+}
 
 -- ---- the schedule
 
@@ -78,23 +73,27 @@ long_schedules tree bytes text long longer j (schedule_refused schedule line (lo
 long_schedules tree bytes text long longer j (schedule_refused schedule line (bad_schedule fault short bad e)) = absurd (omega (arith, long, short))
 long_schedules tree bytes text long longer j (runs schedule written ran) = absurd (omega (arith, long, ran.short))
 
+-- a source that was read is accepted
+source_accepted_of : (files : Option (List File)) (request : Request) (prepared : Prepared) (rest : List Wanted) (old now : List Start)
+    (has : HasSource files request prepared rest old now) → Accepted has.source has.accepted.tree
+source_accepted_of files request prepared rest old now has = record { short = has.short; accepted = has.accepted.accepted }
+
+-- and its schedule is wanted
+pub schedule_wanted : (files : Option (List File)) (request : Request) (prepared : Prepared) (rest : List Wanted) (old now : List Start)
+    (has : HasSource files request prepared rest old now) → JudgesSource RunGoesOn (has.source ∷ []) ReadsOn
+schedule_wanted files request prepared rest old now has =
+    source_accepted has.source has.accepted.tree [] ReadsOn (source_accepted_of files request prepared rest old now has) reads_schedule
+
 -- each answer of a stage that judges the schedule by what was read of it
-pub schedule_judged : (files others : Option (List File)) (source schedule : List ℕ) (tree : Tree) (old mid now : List Start) (bytes : List ℕ) (r0 r1 f0 f1 : Faults) (w0 w1 : Option (List ℕ))
-    (status : Status) → HasSource files (run_of source schedule) tree (text_named schedule ∷ []) old mid → is_runnable tree ≡ true →
-    WasReadIn files schedule MOST_BYTES bytes mid now → r1.count ≡ r0.count → StageEnds (RunGoesOn tree (bytes ∷ [])) w0 w1 f0 f1 status →
+pub schedule_judged : (files others : Option (List File)) (source schedule : List ℕ) (prepared : Prepared) (old mid now : List Start) (bytes : List ℕ) (r0 r1 f0 f1 : Faults)
+    (w0 w1 : Option (List ℕ)) (status : Status) → HasSource files (run_of source schedule) prepared (text_named schedule ∷ []) old mid →
+    WasReadIn files schedule MOST_BYTES bytes mid now → r1.count ≡ r0.count → StageEnds (EndsForSchedule prepared bytes) w0 w1 f0 f1 status →
     WithRequest (run_of source schedule) (record { files = files; starts = old; read_faults = r0; written = w0; write_faults = f0 })
     (record { files = others; starts = now; read_faults = r1; written = w1; write_faults = f1 }) status
-schedule_judged files others source schedule tree old mid now bytes r0 r1 f0 f1 w0 w1 status has ready was well ends =
-    next_judged files others (run_of source schedule) (has.source ∷ []) (text_named schedule) [] old mid now bytes r0 r1 f0 f1 w0 w1 status (RunGoesOn tree (bytes ∷ []))
-    has.read (source_accepted has.source tree [] ReadsOn has.accepted (ready_tree ready)) was well
-    (λ short j h. source_accepted has.source tree (bytes ∷ []) j has.accepted h)
-    (λ long text longer j h. source_accepted has.source tree (text ∷ []) j has.accepted (long_schedules tree bytes text long longer j h)) ends
-
--- the source runs over its schedule
-pub run_ends : (tree : Tree) (schedule turns : List ℕ) (r : Result (Unit {0}) Ended) (w0 w1 : Option (List ℕ)) (f0 f1 : Faults) → length schedule ≤ MOST_BYTES →
-    schedule_of (names_of tree) schedule ≡ Ok turns → Ran (run_text tree turns) w0 w1 f0 f1 r → StageEnds (RunGoesOn tree (schedule ∷ [])) w0 w1 f0 f1 (status_of_run r)
-run_ends tree schedule turns (Ok done) w0 w1 f0 f1 short listed ran =
-    (run_text tree turns, runs schedule _ (record { turns = turns; short = short; listed = listed; is = refl }), ran.0, ran.1)
-run_ends tree schedule turns (Err ends.WriteFault) w0 w1 f0 f1 short listed ran =
-    (run_text tree turns, inl (runs schedule _ (record { turns = turns; short = short; listed = listed; is = refl })), ran.0, ran.1)
-run_ends tree schedule turns (Err ends.Memory) w0 w1 f0 f1 short listed ran = ran
+schedule_judged files others source schedule prepared old mid now bytes r0 r1 f0 f1 w0 w1 status has was well ends =
+    let tree = has.accepted.tree in
+    let accepted = source_accepted_of files (run_of source schedule) prepared (text_named schedule ∷ []) old mid has in
+    next_judged files others (run_of source schedule) (has.source ∷ []) (text_named schedule) [] old mid now bytes r0 r1 f0 f1 w0 w1 status (EndsForSchedule prepared bytes)
+    has.read (schedule_wanted files (run_of source schedule) prepared (text_named schedule ∷ []) old mid has) was well
+    (λ short j h. source_accepted has.source tree (bytes ∷ []) j accepted (h has.source has.accepted))
+    (λ long text longer j h. source_accepted has.source tree (text ∷ []) j accepted (long_schedules tree bytes text long longer j (h has.source has.accepted))) ends

@@ -1,8 +1,7 @@
 -- What a command makes of the texts that it has read: its one text, a refusal's line, or the wish for its next file.
-use Rattle.std.specs.Prelude.{◌≡◌, ℕ, ◌<◌, ◌≤◌, true, false, List, [], ◌∷◌, ◌++◌, length, codes, decimal, Ok, Err}
+use Rattle.std.specs.Prelude.{◌≡◌, ℕ, ◌<◌, ◌≤◌, List, [], ◌∷◌, ◌++◌, length, map, codes, decimal, Ok, Err}
 use Rattle.rb_base.specs.declared.fault.SourceFault.{SourceFault}
 use Rattle.rb_base.specs.declared.fault.TextFault.{TextFault}
-use Rattle.rb_base.specs.declared.fault.FaultName.TheVariants.{Y0}
 use Rattle.rb_base.specs.Words.{fault_word}
 use Rattle.rb_syntax.specs.Tree.{Tree}
 use Rattle.rb_meaning.specs.Meaning.{run_text}
@@ -15,8 +14,6 @@ use Rattle.rb_code.specs.Plain.{Code}
 use Rattle.rb_code.specs.Listing.{listing_text}
 use Rattle.rb_code.specs.StandsFor.{StandsFor}
 use Rattle.rb_sched.specs.Schedule.{schedule_of}
-use Rattle.rb_run.specs.Ran.{names_of}
-use Rattle.rb_run.specs.Runnable.{is_runnable}
 use Rattle.rb_top.specs.Words.{Command, Run, Check, Compile}
 
 -- the line for a text that is too long
@@ -40,10 +37,6 @@ usage_line = codes "usage: rbl run SOURCE SCHEDULE | check SOURCE | code SOURCE\
 abbrev pub accepted_line : List ℕ
 accepted_line = codes "accepted\n"
 
--- the fault of an accepted source whose tree is of a form that is not run yet
-abbrev pub unready : SourceFault
-unready = record { name = Y0; place = record { line = 1; column = 1 } }
-
 -- The verdict on a source alone: too long, or its first fault.
 pub data SourceRefused (source : List ℕ) (line : List ℕ) : Type 0 where
   long_source : MOST_BYTES < length source → line ≡ too_long_line → SourceRefused source line
@@ -53,6 +46,10 @@ pub data SourceRefused (source : List ℕ) (line : List ℕ) : Type 0 where
 pub record Accepted (source : List ℕ) (tree : Tree) : Type 0 where
   pub short : length source ≤ MOST_BYTES
   pub accepted : IsAccepted source tree
+
+-- the names that a schedule may give: those of the processes, in the order of declaration
+abbrev pub names_of : Tree → List (List ℕ)
+names_of tree = map (λ process. process.name.text) tree.processes
 
 -- The verdict on a schedule for an accepted source.
 pub data ScheduleRefused (tree : Tree) (text : List ℕ) (line : List ℕ) : Type 0 where
@@ -80,10 +77,9 @@ pub data JudgesSource (goes_on : Tree → List (List ℕ) → Judgement → Type
   source_accepted : (source : List ℕ) (tree : Tree) (more : List (List ℕ)) (judgement : Judgement) → Accepted source tree → goes_on tree more judgement →
       JudgesSource goes_on (source ∷ more) judgement
 
--- `run`, with an accepted source: it is refused where its tree is of a form that is not run yet; else the schedule is read
+-- `run`, with an accepted source: the schedule is read, and then it is refused, or the source runs over it
 pub data RunGoesOn (tree : Tree) : List (List ℕ) → Judgement → Type 0 where
-  unready_tree : (line : List ℕ) → is_runnable tree ≡ false → line ≡ source_line unready → RunGoesOn tree [] (RefusedWith line)
-  ready_tree : is_runnable tree ≡ true → RunGoesOn tree [] ReadsOn
+  reads_schedule : RunGoesOn tree [] ReadsOn
   schedule_refused : (schedule line : List ℕ) → ScheduleRefused tree schedule line → RunGoesOn tree (schedule ∷ []) (RefusedWith line)
   runs : (schedule text : List ℕ) → ScheduleRuns tree schedule text → RunGoesOn tree (schedule ∷ []) (Writes text)
 

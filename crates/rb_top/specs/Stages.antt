@@ -1,10 +1,10 @@
 -- How the top call stands after each of its stages.
-use Rattle.std.specs.Prelude.{◌≡◌, ◌⊎◌, ℕ, List, [], ◌∷◌, ◌++◌, Option, Some, None, Result, Ok, Err}
+use Rattle.std.specs.Prelude.{◌≡◌, ◌⊎◌, ◌≤◌, ℕ, List, [], ◌∷◌, ◌++◌, length, Option, Some, None}
+use Rattle.rb_base.specs.declared.limits.TheConstants.{MOST_BYTES}
 use Rattle.rb_outside.specs.Outside.{File, Faults, Start, WrotePart, failed_once, then_written}
-use Rattle.rb_syntax.specs.Tree.{Tree}
-use Rattle.rb_run.specs.declared.engine.Ended.{Ended}
-use Rattle.rb_run.specs.declared.engine.Ended.TheVariants as ends
-use Rattle.rb_top.specs.Judgement.{Judgement, ReadsOn, RefusedWith, Writes, Accepted, SourceRefused}
+use Rattle.rb_prepare.specs.Prepared.{IsPrepared}
+use Rattle.rb_prepare.specs.declared.preparing.Prepared.{Prepared}
+use Rattle.rb_top.specs.Judgement.{Judgement, ReadsOn, RefusedWith, RunGoesOn, Writes, SourceRefused}
 use Rattle.rb_top.specs.Words.{Wanted, Request}
 use Rattle.rb_top.specs.Answers.{HasRead}
 use Rattle.rb_top.specs.declared.read.Unread.{Unread}
@@ -23,10 +23,11 @@ abbrev pub HasReadIn : Option (List File) → Request → List (List ℕ) → Li
 HasReadIn None request texts rest old now = Unit {0}
 HasReadIn (Some files) request texts rest old now = HasReadSince files request texts rest old now
 
--- the command has read an accepted source with this tree, and these files are left
-pub record HasSource (files : Option (List File)) (request : Request) (tree : Tree) (rest : List Wanted) (old now : List Start) : Type 0 where
+-- the command has read an accepted source, of which this code was made, and these files are left
+pub record HasSource (files : Option (List File)) (request : Request) (prepared : Prepared) (rest : List Wanted) (old now : List Start) : Type 0 where
   pub source : List ℕ
-  pub accepted : Accepted source tree
+  pub short : length source ≤ MOST_BYTES
+  pub accepted : IsPrepared source prepared
   pub read : HasReadIn files request (source ∷ []) rest old now
 
 -- what a refused source comes to
@@ -34,6 +35,11 @@ abbrev pub EndsForSource : List ℕ → Judgement → Type 0
 EndsForSource source ReadsOn = ⊥
 EndsForSource source (RefusedWith line) = SourceRefused source line
 EndsForSource source (Writes text) = ⊥
+
+-- what a schedule comes to, for whatever source this code was made of
+abbrev pub EndsForSchedule : Prepared → List ℕ → Judgement → Type 0
+EndsForSchedule prepared schedule judgement =
+    (source : List ℕ) (accepted : IsPrepared source prepared) → RunGoesOn accepted.tree (schedule ∷ []) judgement
 
 -- How a stage ends that reads nothing more: it judged so, and wrote the text or the line of the refusal, or a write failed; or
 -- memory was wanting, before it wrote.
@@ -48,13 +54,7 @@ StageEnds judged old new before after WriteFault =
     (bytes : List ℕ) × (judged (Writes bytes) ⊎ judged (RefusedWith bytes)) × WrotePart old new bytes × (after ≡ failed_once before)
 StageEnds judged old new before after Memory = (new ≡ old) × (after ≡ before)
 
--- how the call ends after a run
-abbrev pub status_of_run : Result (Unit {0}) Ended → Status
-status_of_run (Ok done) = Done
-status_of_run (Err ends.WriteFault) = WriteFault
-status_of_run (Err ends.Memory) = Memory
-
--- and where a file was not read
+-- how the call ends where a file was not read
 abbrev pub status_of_unread : Unread → Status
 status_of_unread unread.Fault = ReadFault
 status_of_unread unread.Memory = Memory

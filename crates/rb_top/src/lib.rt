@@ -39,3 +39,5 @@ mod parse_rows;
 mod recovery_rows;
 #[cfg(test)]
 mod tests;
+#[cfg(test)]
+mod whole_rows;

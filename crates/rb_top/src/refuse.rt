@@ -1,10 +1,10 @@
 //! The lines of refusals, and those that a command answers with.
 ghost use Rattle.std.specs.Prelude.{◌≡◌, ◌++◌, codes};
 ghost use Rattle.rb_outside.specs.Puts.{Puts};
-ghost use Rattle.rb_top.specs.Judgement.{source_line, schedule_line, too_long_line, accepted_line, unready, usage_line};
+ghost use Rattle.rb_top.specs.Judgement.{source_line, schedule_line, too_long_line, accepted_line, usage_line};
 
 use itoa::Buffer;
-use rb_base::{FaultName, Place, SourceFault, TextFault};
+use rb_base::{SourceFault, TextFault};
 use rb_outside::{Failed, Sink};
 use rb_trace::line::{put, put_pieces};
 
@@ -32,15 +32,6 @@ fn put_place<'w, S: Sink>(
         out,
         &[b"refused ", name, b" at ", line, b":", column, b"\n"],
     )
-}
-
-/// Writes the line of a source that has a tree, of a form that is not run yet.
-pub fn refuse_unready<S: Sink>(out: &mut S) -> Result<(), Failed>
-    ensures { Puts (source_line unready) (S.written out.old) (S.written out.new) (S.faults out.old) (S.faults out.new) result }
-{
-    let name = FaultName::Y0;
-    let place = Place { line: 1, column: 1 };
-    refuse_source(out, SourceFault { name, place })
 }
 
 /// Writes the line of a schedule's fault.

@@ -1,5 +1,6 @@
 //! Tests of `run`: texts of runs, refusals, and what fails outside.
-use crate::recovery_rows::{FULL_SCHEDULE, FULL_WANT, ROWS, full_source, recovery_row};
+use crate::recovery_rows::{self, FULL_SCHEDULE, FULL_WANT, full_source, recovery_row};
+use crate::whole_rows::{self, whole_row};
 use crate::{Status, Words, command};
 use rb_outside::{MemoryShelf, MemorySink};
 use std::alloc::{AllocError, Global};
@@ -45,6 +46,16 @@ fn run_row(n: u8) -> Row {
             "program b; process p { var x; x := (5) + (2); print (x); } end.",
             "p 2",
             "2 out p 7\n2 done p\nend 2\np done\np.x = 7\n",
+        ),
+        6 => (
+            "edition 2; program a; process p { } end.",
+            "",
+            "0 done p\nend 0\np done\n",
+        ),
+        7 => (
+            "program a; process p { print 2 * 3; } end.",
+            "p 1",
+            "1 out p 6\n1 done p\nend 1\np done\n",
         ),
         _ => (
             "program m; process p { var y; y := 3 - 5 + 1; print \"y\", y, y + y, \"\"; } end.",
@@ -93,23 +104,11 @@ fn refused_row(n: u8) -> Row {
             "",
             "refused Y1 at 1:49\n",
         ),
-        // A source of the second edition, whose forms are not run yet.
-        11 => (
-            "edition 2; program a; process p { } end.",
-            "",
-            "refused Y0 at 1:1\n",
-        ),
-        // A member without a part comes before the form that is not run yet.
-        12 => (
+        // A member without a part.
+        _ => (
             "program a; conversation C (p, q); process p { } process q { } end.",
             "",
             "refused N6 at 1:28\n",
-        ),
-        // A program of the language that is not run yet.
-        _ => (
-            "program a; process p { print 2 * 3; } end.",
-            "",
-            "refused Y0 at 1:1\n",
         ),
     };
     Row {
@@ -214,7 +213,7 @@ fn ran_over(alloc: Global, source: &[u8], schedule: &[u8]) -> Result<(Status, Me
 
 #[test]
 fn runs(rt: HostRuntime) -> Result<(), Fail> {
-    for n in 0..7 {
+    for n in 0..9 {
         let row = run_row(n);
         let (status, sink) = ran(rt.alloc(), &row)?;
         assert_eq!(rt; status, Status::Done);
@@ -225,8 +224,19 @@ fn runs(rt: HostRuntime) -> Result<(), Fail> {
 
 #[test]
 fn recovers(rt: HostRuntime) -> Result<(), Fail> {
-    for n in 0..ROWS {
+    for n in 0..recovery_rows::ROWS {
         let row = recovery_row(n);
+        let (status, sink) = ran_over(rt.alloc(), row.source.as_bytes(), row.schedule.as_bytes())?;
+        assert_eq!(rt; status, Status::Done);
+        assert_eq!(rt; sink.bytes(), row.want.as_bytes());
+    }
+    Ok(())
+}
+
+#[test]
+fn runs_whole_programs(rt: HostRuntime) -> Result<(), Fail> {
+    for n in 0..whole_rows::ROWS {
+        let row = whole_row(n);
         let (status, sink) = ran_over(rt.alloc(), row.source.as_bytes(), row.schedule.as_bytes())?;
         assert_eq!(rt; status, Status::Done);
         assert_eq!(rt; sink.bytes(), row.want.as_bytes());
@@ -246,7 +256,7 @@ fn holds_no_more(rt: HostRuntime) -> Result<(), Fail> {
 
 #[test]
 fn refuses(rt: HostRuntime) -> Result<(), Fail> {
-    for n in 0..14 {
+    for n in 0..12 {
         let row = refused_row(n);
         let (status, sink) = ran(rt.alloc(), &row)?;
         assert_eq!(rt; status, Status::Refused);

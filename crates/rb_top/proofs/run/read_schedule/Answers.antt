@@ -1,25 +1,28 @@
 use Rattle.std.proofs.Common.{[], ◌∷◌, drop}
-use Rattle.rb_syntax.specs.Plain.{tree}
 use Rattle.rb_top.specs.Words.{run_of, text_named}
-use Rattle.rb_top.specs.Judgement.{ReadsOn, ready_tree, source_accepted}
 use Rattle.rb_top.proofs.Answering.{unread_ends}
-use Rattle.rb_top.proofs.Sources.{schedule_judged}
+use Rattle.rb_top.proofs.Sources.{schedule_judged, schedule_wanted}
 use Rattle.rb_top.proofs.run.read_schedule.Goals as goal
+
+pub run_schedule-requires : goal.run_schedule-requires
+run_schedule-requires g c = (c.requires.source, c.requires.accepted)
 
 pub returns-in-Ok-clause-answers : goal.returns-in-Ok-clause-answers
 returns-in-Ok-clause-answers g c =
     let mid = g.F.Shelf.starts c.args.shelf.now in
-    schedule_judged (g.F.Shelf.files c.args.shelf.now) (g.F.Shelf.files c.read_file.new.shelf) c.args.source.now c.args.schedule.now (tree c.args.judged.now.checked.program)
+    schedule_judged (g.F.Shelf.files c.args.shelf.now) (g.F.Shelf.files c.read_file.new.shelf) c.args.source.now c.args.schedule.now c.args.prepared.now
     (drop 1 mid) mid (g.F.Shelf.starts c.read_file.new.shelf) c.in-Ok.bytes.items (g.F.Shelf.faults c.args.shelf.now) (g.F.Shelf.faults c.read_file.new.shelf)
     (g.S.Sink.faults c.args.out.now) (g.S.Sink.faults c.run_schedule.new.out) (g.S.Sink.written c.args.out.now) (g.S.Sink.written c.run_schedule.new.out) c.run_schedule.result
-    c.requires.held c.requires.runnable c.in-Ok.ensures.ok c.in-Ok.ensures.quiet (rw c.as_slice.ensures.value at c.run_schedule.ensures)
+    c.requires c.in-Ok.ensures.ok c.in-Ok.ensures.quiet (rw c.as_slice.ensures.value at c.run_schedule.ensures)
 
 pub returns-in-Err-clause-answers : goal.returns-in-Err-clause-answers
 returns-in-Err-clause-answers g c =
+    let files = g.F.Shelf.files c.args.shelf.now in
     let mid = g.F.Shelf.starts c.args.shelf.now in
-    let has = c.requires.held in
+    let has = c.requires in
+    let request = run_of c.args.source.now c.args.schedule.now in
     rw c.status.ensures
-    (unread_ends (g.F.Shelf.files c.args.shelf.now) (g.F.Shelf.files c.read_file.new.shelf) (run_of c.args.source.now c.args.schedule.now) (has.source ∷ []) (text_named c.args.schedule.now) []
+    (unread_ends files (g.F.Shelf.files c.read_file.new.shelf) request (has.source ∷ []) (text_named c.args.schedule.now) []
     (drop 1 mid) mid (g.F.Shelf.starts c.read_file.new.shelf) c.in-Err.unread (g.F.Shelf.faults c.args.shelf.now) (g.F.Shelf.faults c.read_file.new.shelf)
     (g.S.Sink.faults c.args.out.now) (g.S.Sink.written c.args.out.now)
-    has.read (source_accepted has.source (tree c.args.judged.now.checked.program) [] ReadsOn has.accepted (ready_tree c.requires.runnable)) c.in-Err.ensures.err)
+    has.read (schedule_wanted files request c.args.prepared.now (text_named c.args.schedule.now ∷ []) (drop 1 mid) mid has) c.in-Err.ensures.err)
