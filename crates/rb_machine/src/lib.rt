@@ -17,3 +17,5 @@ pub mod step;
 pub mod telling;
 pub mod test_line;
 pub mod undone;
+
+pub use machine::Machine;
