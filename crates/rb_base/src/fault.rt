@@ -7,8 +7,7 @@ use crate::place::Place;
 
 /// The name of a fault. Its letter says of what: X of tokens, Y of the grammar, S of scopes and limits, N of
 /// nesting, T of a schedule, V of a record, B of a session that steps forth and back, H of a history of
-/// messages and recovery points, I of an image of compiled code. `Y0` is a text that this program accepts and
-/// does not run yet.
+/// messages and recovery points, I of an image of compiled code.
 #[derive(Clone, Copy, Debug, PartialEq, Eq)]
 pub enum FaultName {
     X1,
@@ -16,7 +15,6 @@ pub enum FaultName {
     X3,
     X4,
     X5,
-    Y0,
     Y1,
     Y2,
     S1,
@@ -74,7 +72,6 @@ impl FaultName {
             FaultName::X3 => b"X3",
             FaultName::X4 => b"X4",
             FaultName::X5 => b"X5",
-            FaultName::Y0 => b"Y0",
             FaultName::Y1 => b"Y1",
             FaultName::Y2 => b"Y2",
             FaultName::S1 => b"S1",
