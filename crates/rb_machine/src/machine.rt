@@ -88,11 +88,12 @@ impl<'a, L: Ledger> Machine<'a, L> {
         }
     }
 
-    /// One turn of process p, as the word machine takes it: the report is what it came to, and the lines that it released wait.
-    pub fn turn(&mut self, p: u32, steps: &mut Steps<L>) -> Report
+    /// One turn of process p, as the word machine takes it: the report becomes what it came to, whatever it held before, and the lines that
+    /// it released wait. One report serves all turns of a run, since a new one is large.
+    pub fn turn(&mut self, p: u32, report: &mut Report, steps: &mut Steps<L>)
         requires more { self.old.taken < self.old.most }
         requires waits { self.old.waiting ≡ replicate (length self.old.world.processes) [] }
-        ensures { HasTurned self.old p self.new (told_of result.kind result.events.items self.new.waiting) }
+        ensures { HasTurned self.old p self.new (told_of report.new.kind report.new.events.items self.new.waiting) }
     {
         self.taken += 1;
         turn(
@@ -101,8 +102,9 @@ impl<'a, L: Ledger> Machine<'a, L> {
             &mut self.running,
             self.taken,
             p,
+            report,
             steps,
-        )
+        );
     }
 
     /// How many turns it has taken.
@@ -160,32 +162,30 @@ impl<'a, L: Ledger> Final for Machine<'a, L> {
     }
 }
 
-// Turn number `number` of process p.
+// Turn number `number` of process p, into the report.
 fn turn<L: Ledger>(
     code: &Code,
     parts: &mut Parts<L>,
     running: &mut [bool],
     number: u32,
     p: u32,
+    report: &mut Report,
     steps: &mut Steps<L>,
-) -> Report
+)
     requires work { AreAtWork (plain code.now) number parts.old }
     requires running { running.old ≡ running_of (processes_of parts.old.procs.items) }
     requires room { vec_len parts.old.links < vec_capacity parts.old.links }
     requires few { number ≤ MOST_TURNS }
-    ensures turned { (world parts.new, told_of result.kind result.events.items (lines_of parts.new.procs.items)) ≡ turn (kind_with (plain code.now) parts.old.table) number p (world parts.old) }
+    ensures turned { (world parts.new, told_of report.new.kind report.new.events.items (lines_of parts.new.procs.items)) ≡ turn (kind_with (plain code.now) parts.old.table) number p (world parts.old) }
     ensures groups { SameGroups parts.old.table parts.new.table }
     ensures work { IsAtWork (plain code.now) (number + 1) parts.new.procs.items parts.new.table parts.new.mails.items parts.new.links.items }
     ensures running { running.new ≡ running_of (processes_of parts.new.procs.items) }
     ensures links { vec_len parts.new.links ≤ vec_len parts.old.links + 1 }
     ensures room { vec_capacity parts.old.links ≤ vec_capacity parts.new.links }
 {
-    let mut events = ArrayVec::new();
-    let came = take_turn(code, parts, number, p, &mut events, steps);
-    tell(&parts.procs, running, came.pass, &mut events);
+    report.events.clear();
+    let came = take_turn(code, parts, number, p, &mut report.events, steps);
+    tell(&parts.procs, running, came.pass, &mut report.events);
     release_all(&mut parts.procs, steps);
-    Report {
-        kind: came.kind,
-        events,
-    }
+    report.kind = came.kind;
 }

@@ -10,7 +10,7 @@ ghost use Rattle.rb_world.specs.Turn.{run as run_from};
 ghost use Rattle.rb_machine.specs.Machine.{opening_seen};
 ghost use Rattle.rb_run.specs.Running.{NoneWaits, NamesFit, ran};
 
-use rb_base::{Names, Steps};
+use rb_base::{Names, Report, Steps};
 use rb_machine::Machine;
 use rb_outside::{Failed, Sink};
 use rb_sched::Schedule;
@@ -34,16 +34,18 @@ pub fn run<S: Sink, L: Ledger>(
     ensures { Puts (word_text machine.old.code machine.old.groups schedule.entry.all) (S.written out.old) (S.written out.new) (S.faults out.old) (S.faults out.new) result }
 {
     let turns = schedule.turns();
-    write_report(out, 0, &machine.opening(), names, machine)?;
-    take_turns(machine, names, schedule, out, steps)?;
+    let mut report = machine.opening();
+    write_report(out, 0, &report, names, machine)?;
+    take_turns(machine, names, schedule, &mut report, out, steps)?;
     write_end(out, turns, names, machine, steps)
 }
 
-// Takes the turns of a schedule, and writes the lines of each.
+// Takes the turns of a schedule, each into the same report, and writes the lines of each.
 fn take_turns<S: Sink, L: Ledger>(
     machine: &mut Machine<'_, L>,
     names: &Names,
     mut schedule: Schedule<'_>,
+    report: &mut Report,
     out: &mut S,
     steps: &mut Steps<L>,
 ) -> Result<(), Failed>
@@ -54,8 +56,8 @@ fn take_turns<S: Sink, L: Ledger>(
     ensures ran { OnOk result (machine.new ≡ ran machine.old schedule.entry.left) }
 {
     'turns: while let Some(p) = schedule.next() {
-        let report = machine.turn(p, steps);
-        write_report(out, machine.turns_taken(), &report, names, machine)?;
+        machine.turn(p, report, steps);
+        write_report(out, machine.turns_taken(), report, names, machine)?;
     }
     Ok(())
 }

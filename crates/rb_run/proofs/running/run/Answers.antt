@@ -12,12 +12,12 @@ use Rattle.rb_run.proofs.running.run.Goals as goal
 pub returns-in_err-write_report : goal.returns-in_err-write_report
 returns-in_err-write_report g c =
     let old = c.args.machine.now in
-    let first = first_text old c.requires.fresh c.args.names.now c.requires.fit c.requires.named c.opening.result.kind
-    c.opening.result.events.items c.opening.ensures.told in
+    let first = first_text old c.requires.fresh c.args.names.now c.requires.fit c.requires.named c.opening-report.result.kind
+    c.opening-report.result.events.items c.opening-report.ensures.told in
     stopped_at_first old c.args.schedule.all (g.S.Sink.written c.args.out.now) (g.S.Sink.written c.write_report.new.out)
     (g.S.Sink.faults c.args.out.now) (g.S.Sink.faults c.write_report.new.out) c.in_err-write_report.field-0.0 c.from_residual.result
     c.from_residual.ensures.0
-    (told_text (naming c.args.names.now) 0 (told_of c.opening.result.kind c.opening.result.events.items old.waiting)) first
+    (told_text (naming c.args.names.now) 0 (told_of c.opening-report.result.kind c.opening-report.result.events.items old.waiting)) first
     c.in_err-write_report.ensures.text
 
 pub take_turns-requires-clause-named : goal.take_turns-requires-clause-named
@@ -34,15 +34,15 @@ pub returns-in_err-take_turns : goal.returns-in_err-take_turns
 returns-in_err-take_turns g c =
     let old = c.args.machine.now in
     let now = c.write_report.new.lines in
-    let first = first_text old c.requires.fresh c.args.names.now c.requires.fit c.requires.named c.opening.result.kind
-    c.opening.result.events.items c.opening.ensures.told in
+    let first = first_text old c.requires.fresh c.args.names.now c.requires.fit c.requires.named c.opening-report.result.kind
+    c.opening-report.result.events.items c.opening-report.ensures.told in
     let turns = turns_text old c.requires.fresh c.args.names.now c.requires.fit now c.in_ok-write_report.ensures.none_waits
     c.write_report.ensures.rest c.args.schedule.all c.args.schedule.left c.requires.whole c.requires.named in
     stopped_at_second old c.args.schedule.all (g.S.Sink.written c.args.out.now) (g.S.Sink.written c.write_report.new.out)
     (g.S.Sink.written c.take_turns.new.out) (g.S.Sink.faults c.args.out.now) (g.S.Sink.faults c.write_report.new.out)
     (g.S.Sink.faults c.take_turns.new.out) c.in_err-take_turns.field-0.0 c.from_residual-in_err-take_turns.result
     c.from_residual-in_err-take_turns.ensures.0
-    (told_text (naming c.args.names.now) 0 (told_of c.opening.result.kind c.opening.result.events.items old.waiting))
+    (told_text (naming c.args.names.now) 0 (told_of c.opening-report.result.kind c.opening-report.result.events.items old.waiting))
     (turns_left (naming c.args.names.now) now c.args.schedule.left) first turns c.in_ok-write_report.ensures.text
     c.in_err-take_turns.ensures.text
 
@@ -56,15 +56,15 @@ pub write_end-requires-clause-fit : goal.write_end-requires-clause-fit
 write_end-requires-clause-fit g c =
     end_fits c.args.machine.now c.requires.fresh c.args.names.now c.requires.fit c.write_report.new.lines
     c.in_ok-write_report.ensures.none_waits c.write_report.ensures.rest c.args.schedule.all c.args.schedule.left c.requires.whole
-    c.take_turns.new.machine c.in_ok-take_turns.ensures.ran c.opening.ensures.sound
+    c.take_turns.new.machine c.in_ok-take_turns.ensures.ran c.opening-report.ensures.sound
 
 pub returns : goal.returns
 returns g c =
     let old = c.args.machine.now in
     let now = c.write_report.new.lines in
     let later = c.take_turns.new.machine in
-    let first = first_text old c.requires.fresh c.args.names.now c.requires.fit c.requires.named c.opening.result.kind
-    c.opening.result.events.items c.opening.ensures.told in
+    let first = first_text old c.requires.fresh c.args.names.now c.requires.fit c.requires.named c.opening-report.result.kind
+    c.opening-report.result.events.items c.opening-report.ensures.told in
     let turns = turns_text old c.requires.fresh c.args.names.now c.requires.fit now c.in_ok-write_report.ensures.none_waits
     c.write_report.ensures.rest c.args.schedule.all c.args.schedule.left c.requires.whole c.requires.named in
     let ending = ending_text old c.requires.fresh c.args.names.now c.requires.fit now c.in_ok-write_report.ensures.none_waits
@@ -74,7 +74,7 @@ returns g c =
     (g.S.Sink.written c.take_turns.new.out) (g.S.Sink.written c.write_end.new.out) (g.S.Sink.faults c.args.out.now)
     (g.S.Sink.faults c.write_report.new.out) (g.S.Sink.faults c.take_turns.new.out) (g.S.Sink.faults c.write_end.new.out)
     c.write_end.result
-    (told_text (naming c.args.names.now) 0 (told_of c.opening.result.kind c.opening.result.events.items old.waiting))
+    (told_text (naming c.args.names.now) 0 (told_of c.opening-report.result.kind c.opening-report.result.events.items old.waiting))
     (turns_left (naming c.args.names.now) now c.args.schedule.left)
     (end_text (naming c.args.names.now) c.turns-turns.result (word_final later.code later.world)) first turns ending
     c.in_ok-write_report.ensures.text c.in_ok-take_turns.ensures.text

@@ -8,7 +8,7 @@ use Rattle.rb_run.proofs.running.take_turns.Goals as goal
 
 pub write_report-requires : goal.write_report-requires
 write_report-requires g c = record {
-  fit = ap (λ (m : Seen). length m.waiting) c.turn-report.ensures.machine
+  fit = ap (λ (m : Seen). length m.waiting) c.turn.ensures.machine
       ∙ released_each c.turns.machine c.in-Some.p ∙ sym c.turns.invariant.named;
 }
 
@@ -16,12 +16,12 @@ pub turns-preserved : goal.turns-preserved
 turns-preserved g c =
     let parts = c.in-Some.ensures.0 in
     let m = c.turns.machine in
-    let turning = c.turn-report.new.self in
+    let turning = c.turn.new.self in
     let now = c.write_report.new.lines in
     let none = c.in_ok-write_report.ensures.none_waits in
     let rest = c.write_report.ensures.rest in
-    let told = told_of c.turn-report.result.kind c.turn-report.result.events.items turning.waiting in
-    let turned = c.turn-report.ensures in
+    let told = told_of c.turn.new.report.kind c.turn.new.report.events.items turning.waiting in
+    let turned = c.turn.ensures in
     let waits = c.turns.invariant.waits in
     let same = is_after m turning now c.in-Some.p told turned waits none rest in
     record {
@@ -39,9 +39,9 @@ turns-preserved g c =
 
 pub returns-in_err-write_report-clause-text : goal.returns-in_err-write_report-clause-text
 returns-in_err-write_report-clause-text g c =
-    let turning = c.turn-report.new.self in
+    let turning = c.turn.new.self in
     stopped_in c.turns.machine turning c.in-Some.p
-    (told_of c.turn-report.result.kind c.turn-report.result.events.items turning.waiting) c.turn-report.ensures
+    (told_of c.turn.new.report.kind c.turn.new.report.events.items turning.waiting) c.turn.ensures
     c.turns.schedule.left c.next.new.self.left c.in-Some.ensures.0 (naming c.args.names.now) c.turns_taken.result c.turns_taken.ensures
     (turns_left (naming c.args.names.now) c.args.machine.now c.args.schedule.left)
     (g.S.Sink.written c.args.out.now) (g.S.Sink.written c.turns.out) (g.S.Sink.written c.write_report.new.out)
