@@ -6,7 +6,7 @@ use Rattle.rb_world.specs.Kind.{Membership}
 use Rattle.rb_world.specs.Turn.{Told, turn}
 use Rattle.rb_code.specs.Plain.{Code}
 use Rattle.rb_code.specs.WordKind.{word_kind}
-use Rattle.rb_code.specs.WordRun.{WordWorld, opening_of}
+use Rattle.rb_code.specs.WordRun.{WordWorld, opening_of, word_run}
 use Rattle.rb_conv.specs.Conversations.{memberships}
 use Rattle.rb_machine.specs.AtWork.{IsAtWork}
 use Rattle.rb_machine.specs.Moves.{world}
@@ -70,3 +70,8 @@ HasRun old [] all new = (new ≡ old) × (all ≡ [])
 HasRun old (p ∷ ps) all new =
     (next : Seen) × (one : Told) × (others : List Told) × HasTurned old p next one × (all ≡ one ∷ others)
     × HasRun (record next { waiting = replicate (length next.world.processes) [] }) ps others new
+
+-- Over every list of turns a loaded machine comes to the world of the word machine, and tells what that tells.
+abbrev pub MachineIsWordMachine : Type 0
+MachineIsWordMachine = (c : Code) (groups : List Membership) (most : ℕ) (new : Seen) (ps : List ℕ) (all : List Told)
+    → HasRun (opening_seen c groups most) ps all new → (new.world, all) ≡ word_run c groups ps

@@ -1,5 +1,6 @@
 //! The laws of the machine.
 
+ghost use Rattle.rb_machine.specs.Machine.{MachineIsWordMachine};
 ghost use Rattle.rb_machine.specs.Rising.{SoundSettlingKeeps, SoundStepsRaise};
 
 /// A step of a process that stands in the table of sound code raises the cursor of each of its channels by at most one, and where its
@@ -7,4 +8,10 @@ ghost use Rattle.rb_machine.specs.Rising.{SoundSettlingKeeps, SoundStepsRaise};
 pub fn cursors_rise_by_one()
     ensures steps { SoundStepsRaise }
     ensures settling { SoundSettlingKeeps }
+{}
+
+/// Over every list of turns a machine that was loaded comes to the world of the word machine, which copies a process whole at each entry,
+/// and tells what that tells.
+pub fn machine_is_word_machine()
+    ensures { MachineIsWordMachine }
 {}
