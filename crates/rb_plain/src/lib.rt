@@ -1,5 +1,5 @@
-//! Environments and values over a program's tree, with plain copies, and records of kept turns. The engine of the
-//! first path runs on the first two, and the plain run of a record will on all.
+//! Environments and values over a program's tree, with plain copies, and records of kept turns: what the plain run of a
+//! record will stand on.
 #![tactic(auto)]
 
 pub mod counter;
