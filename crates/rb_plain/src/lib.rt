@@ -6,10 +6,8 @@ pub mod counter;
 pub mod element;
 pub mod environment;
 pub mod laws;
-pub mod operator;
 pub mod record;
 mod record_line;
-pub mod span;
 #[cfg(test)]
 mod tests;
 pub mod value;

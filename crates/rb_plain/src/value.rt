@@ -8,10 +8,10 @@ ghost use Rattle.rb_plain.specs.Counters.{counted, body_values};
 use crate::counter::Counters;
 use crate::element::{element_at, number_at};
 use crate::environment::Environment;
-use crate::operator::{applied, decided, truth};
-use crate::span::{Numbers, span};
 use rb_base::Cause;
 use rb_syntax::{Expr, Link, Op, Quantified, Quantifier, Target};
+use rb_value::operator::{applied, decided, truth};
+use rb_value::span::{Numbers, span};
 
 /// The value of an expression, or the trap that its evaluation meets first.
 #[cycle(value)]

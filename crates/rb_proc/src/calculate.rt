@@ -12,9 +12,9 @@ use crate::counters::{Counters, Counting};
 use crate::next::Next;
 use crate::operands::Operands;
 use rb_base::Cause;
-use rb_plain::operator::{applied, truth};
-use rb_plain::span::span;
 use rb_syntax::Op;
+use rb_value::operator::{applied, truth};
+use rb_value::span::span;
 
 /// The result of an operator, or its trap.
 fn finish(value: Result<i64, Cause>, at: u32, operands: &mut Operands) -> Next
