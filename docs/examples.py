@@ -1,8 +1,11 @@
 #!/usr/bin/env python3
 """Runs the examples of the docs with the proved program, and compares what it writes with what the pages show, byte by byte.
 
-A block `rbl` is a source, a block `schedule` behind it its schedule, a block `output` what `run` writes of both, and a block `refused`
-the line with which `check` refuses the source. Status 1 only where the program stands built and an example differs.
+In the pages a block `rbl` is a source and a block `schedule` behind it its schedule. A block `output` is what `run` writes of both, a
+block `record` what `survive` writes of both, and a block `plain` what `plain` writes of the source and the last record; a block `given` is
+a record that somebody wrote. A block `refused` is the line with which `check` refuses the source. In README.md a command line of `./rbl`
+is run at the top of the repository: one that stands alone is followed by all that it writes, and the comment behind another one begins
+as its first line does, where it tells a verdict. Status 1 only where the program stands built and an example differs.
 """
 import os
 import re
@@ -13,17 +16,55 @@ import tempfile
 ROOT = os.path.dirname(os.path.dirname(os.path.abspath(__file__)))
 PROGRAM = os.path.join(ROOT, "crates/rbl/out/rbl")
 PAGES = ["docs/LANGUAGE.md", "docs/TUTORIAL.md"]
-BLOCK = re.compile(r"^```(rbl|schedule|output|refused)\n(.*?)^```", re.MULTILINE | re.DOTALL)
+BLOCK = re.compile(r"^```(rbl|schedule|output|record|given|plain|refused)\n(.*?)^```", re.MULTILINE | re.DOTALL)
+ALONE = re.compile(r"^```sh\n\./rbl ([^\n#]*)\n```\n\n```\n(.*?)^```", re.MULTILINE | re.DOTALL)
+BESIDE = re.compile(r"^\./rbl ([^\n#]*?) +# (accepted|refused \S+(?: at \S+)?)", re.MULTILINE)
+WORDS = {
+    "output": ["run", "source", "schedule"],
+    "record": ["survive", "source", "schedule"],
+    "plain": ["plain", "source", "record"],
+    "refused": ["check", "source"],
+}
 
 
-def written(command, source, schedule):
-    """What a command writes of these texts."""
+def written(words, folder):
+    """What the program writes for these words in a folder."""
+    return subprocess.run([PROGRAM, *words], cwd=folder, capture_output=True, text=True, timeout=60).stdout
+
+
+def of_texts(kind, texts):
+    """What the command that a block of this kind shows writes of these texts."""
     with tempfile.TemporaryDirectory() as folder:
-        for name, text in (("source", source), ("schedule", schedule)):
+        for name, text in texts.items():
             with open(os.path.join(folder, name), "w", encoding="utf-8") as file:
                 file.write(text)
-        words = ["run", "source", "schedule"] if command == "run" else ["check", "source"]
-        return subprocess.run([PROGRAM, *words], cwd=folder, capture_output=True, text=True, timeout=60).stdout
+        return written(WORDS[kind], folder)
+
+
+def examples_of_page(text):
+    """The examples of a page: where each stands, what it shows, and what the program writes."""
+    texts = {"source": "", "schedule": "", "record": ""}
+    for block in BLOCK.finditer(text):
+        kind, body = block.groups()
+        if kind == "rbl":
+            texts = {"source": body, "schedule": "", "record": ""}
+        elif kind == "schedule":
+            texts["schedule"] = body
+        elif kind == "given":
+            texts["record"] = body
+        else:
+            yield block.start(), body, of_texts(kind, texts)
+        if kind == "record":
+            texts["record"] = body
+
+
+def examples_of_readme(text):
+    """The same of the README, whose command lines are run as they stand."""
+    for one in ALONE.finditer(text):
+        yield one.start(), one.group(2), written(one.group(1).split(), ROOT)
+    for one in BESIDE.finditer(text):
+        first = written(one.group(1).split(), ROOT).split("\n")[0]
+        yield one.start(), one.group(2), first
 
 
 def main():
@@ -31,21 +72,16 @@ def main():
         print("examples: not run, for want of", PROGRAM)
         return 0
     alike, different = 0, 0
-    for page in PAGES:
+    for page in [*PAGES, "README.md"]:
         with open(os.path.join(ROOT, page), encoding="utf-8") as file:
             text = file.read()
-        source, schedule = "", ""
-        for block in BLOCK.finditer(text):
-            kind, body = block.groups()
-            if kind == "rbl":
-                source, schedule = body, ""
-            elif kind == "schedule":
-                schedule = body
-            elif written("run" if kind == "output" else "check", source, schedule) == body:
+        examples = examples_of_readme(text) if page == "README.md" else examples_of_page(text)
+        for start, shown, real in examples:
+            if shown == real:
                 alike += 1
             else:
                 different += 1
-                print(f"{page}:{text.count(chr(10), 0, block.start()) + 1}: the program writes something else")
+                print(f"{page}:{text.count(chr(10), 0, start) + 1}: the program writes something else")
     print(f"examples: {alike} as shown, {different} not")
     return 1 if different else 0
 
