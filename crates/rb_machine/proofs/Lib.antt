@@ -18,6 +18,9 @@ pub mod StepsRise
 pub mod RunsRise
 pub mod CountsBelow
 pub mod CountedKept
+-- What the links lead to.
+pub mod LinkedTurns
+pub mod Reached
 pub mod KnownTurns
 -- What a load asks of code, and what it makes of it.
 pub mod ExecutableCode
