@@ -21,6 +21,7 @@ pub mod CountedKept
 -- What the links lead to.
 pub mod LinkedTurns
 pub mod Reached
+pub mod ReachedLinks
 pub mod KnownTurns
 -- What a load asks of code, and what it makes of it.
 pub mod ExecutableCode
