@@ -7,3 +7,6 @@ pub mod NamesFit
 pub mod Completes
 pub mod TurnsTaken
 pub mod RunWritten
+-- Lines that are counted, and records that are written.
+pub mod Counted
+pub mod Recorded
