@@ -52,6 +52,7 @@ pub mod SomeCode
 pub mod WhoIsInside
 pub mod EndsTold
 pub mod Released
+pub mod Dropped
 pub mod Written
 pub mod ReadAt
 pub mod CountsRead

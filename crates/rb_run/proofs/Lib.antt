@@ -10,3 +10,5 @@ pub mod RunWritten
 -- Lines that are counted, and records that are written.
 pub mod Counted
 pub mod Recorded
+pub mod TurnsUnseen
+pub mod Survived
