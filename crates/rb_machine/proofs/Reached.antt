@@ -169,7 +169,7 @@ module _ (t : ℕ) where
           ∙ sym (reverse-append (kept_by link ∷ []) (reached links (next_wanted wanted link)))))
 
 -- the turn that is wanted first of each process is its own
-abbrev last_of_each : List Seen → List ℕ
+abbrev pub last_of_each : List Seen → List ℕ
 last_of_each procs = map (λ (one : Seen). one.process.state.last_kept) procs
 
 last_each : (P : ℕ → ℕ → Type 0) (procs : List Seen) → Each (λ p (q : Process Standing Copy). P p q.state.last_kept) (processes_of procs)
