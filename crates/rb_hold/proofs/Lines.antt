@@ -1,5 +1,5 @@
 -- Lines that are stored are the lines that are read back.
-use Rattle.std.proofs.Common.{◌≡◌, ◌≢◌, ℕ, zero, suc, ◌+◌, ◌-◌, ◌<◌, ◌≤◌, Bool, true, false, not, cond, List, [], ◌∷◌, ◌++◌, length, take, drop, nat_eq, nat_lt, slice_get, sum_by, Some, None, position, option_map, refl, sym, ap, ◌∙◌, subst, append_assoc, arith, length-append, length-drop, drop_of_length-le}
+use Rattle.std.proofs.Common.{◌≡◌, ◌≢◌, ℕ, zero, suc, ◌+◌, ◌-◌, ◌<◌, ◌≤◌, Bool, true, false, not, cond, List, [], ◌∷◌, ◌++◌, length, take, drop, nat_eq, nat_lt, slice_get, count_by, sum_by, Some, None, position, option_map, refl, sym, ap, ◌∙◌, subst, append_assoc, arith, length-append, length-drop, drop_of_length-le}
 use Rattle.std.specs.List.{AllByRecursion, position_or_len}
 use Rattle.std.proofs.lemmas.Bool.{ne_eqb, eqb-false, lt-ltb}
 use Rattle.std.proofs.lemmas.List.Sums.{sum_by-cons, sum_by-append}
@@ -242,3 +242,22 @@ passed_buffer bytes held waiting n room old first = record {
 
 pub passed_others : (bytes : List ℕ) (waiting n : ℕ) → First (drop waiting bytes) n → lines_in (drop (waiting + n + 1) bytes) ≡ drop 1 (lines_in (drop waiting bytes))
 passed_others bytes waiting n first = ap lines_in (passed bytes waiting n) ∙ first.others
+
+-- no line end stands in a line
+none_in_line : (line more : List ℕ) → IsLine line → count_by is_end (line ++ more) ≡ count_by is_end more
+none_in_line [] more h = refl
+none_in_line (byte ∷ line) more h =
+    let all = sum_by-cons (λ (b : ℕ). cond (is_end b) 1 0) byte (line ++ more) in
+    let none = ap {B = ℕ} (λ (b : Bool). cond b 1 0) (first_is_none byte line h) in
+    omega (arith, all, none, none_in_line line more (rest_is_line byte line h))
+
+-- so stored lines have a line end each
+ends_counted : (lines : List (List ℕ)) → AllByRecursion IsLine lines → count_by is_end (stored lines) ≡ length lines
+ends_counted [] h = refl
+ends_counted (line ∷ lines) h =
+    let first = ap (count_by is_end) (append_assoc line (10 ∷ []) (stored lines)) ∙ none_in_line line (10 ∷ stored lines) h.0 in
+    let more = sum_by-cons (λ (b : ℕ). cond (is_end b) 1 0) 10 (stored lines) in
+    omega (arith, first, more, ends_counted lines h.1)
+
+pub lines_counted : (bytes : List ℕ) → AreLines bytes → count_by is_end bytes ≡ length (lines_in bytes)
+lines_counted bytes h = ap (count_by is_end) (sym h) ∙ ends_counted (lines_in bytes) (are_lines bytes)

@@ -1,6 +1,6 @@
 //! Held and released lines of one process, in one buffer that is reserved at the start.
 
-ghost use Rattle.std.specs.Prelude.{◌≡◌, ℕ, ◌+◌, ◌∷◌, ◌++◌, [], cond, length, take, drop, slice_get, nat_lt, not, option_copied, option_map, position, ◌==◌, IfOk};
+ghost use Rattle.std.specs.Prelude.{◌≡◌, ℕ, ◌+◌, ◌≤◌, ◌∷◌, ◌++◌, [], cond, length, take, drop, slice_get, nat_lt, not, option_copied, option_map, count_by, position, ◌==◌, IfOk};
 ghost use Rattle.std.specs.Borrow.{sem};
 ghost use Rattle.std.specs.Io.BufRead.{Rests};
 ghost use Rattle.rb_base.specs.declared.limits.TheConstants.{MOST_HELD_BYTES};
@@ -107,6 +107,34 @@ impl Hold {
         self.waiting = end + 1;
         Some(&self.lines[start..end])
     }
+
+    /// Forgets the released lines that wait, and answers how many they were.
+    pub fn drop_released(&mut self) -> u32
+        ensures count { result ≡ length self.old.released }
+        ensures few { result ≤ MOST_HELD_BYTES }
+        ensures none { self.new ≡ record self.old { released = [] } }
+    {
+        let count = count_lines(&self.lines[self.waiting..]);
+        self.waiting = self.lines.len();
+        count
+    }
+}
+
+// How many lines stored bytes have.
+fn count_lines(bytes: &[u8]) -> u32
+    requires lines { AreLines bytes.now }
+    requires few { length bytes.now ≤ MOST_HELD_BYTES }
+    ensures count { result ≡ length (lines_in bytes.now) }
+    ensures few { result ≤ MOST_HELD_BYTES }
+{
+    count_ends(bytes) as u32
+}
+
+// How many bytes are LF.
+fn count_ends(bytes: &[u8]) -> usize
+    ensures { result ≡ count_by (λ byte. byte == 10) bytes.now }
+{
+    bytes.iter().filter(|byte| **byte == b'\n').count()
 }
 
 // The length of the first of stored lines, if there is one.

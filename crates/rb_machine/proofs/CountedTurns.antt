@@ -25,6 +25,7 @@ use Rattle.rb_machine.proofs.Alternates.TriedLevels.{used_tried}
 use Rattle.rb_machine.proofs.Changed.{change_there}
 use Rattle.rb_machine.proofs.CountsBelow.{used_below, weaker}
 use Rattle.rb_machine.proofs.KnownHere.{process_there}
+use Rattle.rb_machine.proofs.LinkedTurns.{later_linked, linked_used}
 use Rattle.rb_machine.proofs.Placed.Kept.{placed_keeps}
 use Rattle.rb_machine.proofs.SeenWorlds.{processes_at}
 
@@ -71,6 +72,7 @@ module _ (c : Code) (groups : List Membership) (counts : List ℕ) (loaded : IsL
     tried = one_counted (λ _ x. Each (λ _ level. IsTried level) x.levels) known.tried (used_tried q.levels (known.tried p q there));
     present = one_counted (λ _ x. TryPresent w.talks x.levels) known.present (used_present w.talks q.levels (known.present p q there));
     talked = known.talked;
+    linked = later_linked t (t + 1) _ (omega arith) (linked_used c groups t p w known.linked q there);
   }
 
 module _ (c : Code) (t : ℕ) (procs : List Seen) (table : List Conversation) (slots : Slots) (links : List Link)

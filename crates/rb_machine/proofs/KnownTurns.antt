@@ -10,6 +10,7 @@ use Rattle.rb_code.specs.WordRun.{WordWorld, opening_of}
 use Rattle.rb_machine.specs.Known.{IsKnown, IsLoaded, IsPlaced}
 use Rattle.rb_machine.proofs.Alternates.AlternatesOfCode.{known_fits, word_opening_fits, word_turn_fits}
 use Rattle.rb_machine.proofs.CountedKept.{counted_turn, opening_counted}
+use Rattle.rb_machine.proofs.LinkedTurns.{linked_turn, opening_linked}
 use Rattle.rb_machine.proofs.Placed.Kept.{placed_keeps, turn-placed}
 use Rattle.rb_machine.proofs.Placed.Opening.{opening-placed}
 use Rattle.rb_machine.proofs.Sizes.{opening-bare, opening-processes, opening-shallow, opening-talks, turn-bare, turn-processes, turn-shallow, turn-talks}
@@ -34,6 +35,7 @@ module _ (c : Code) (groups : List Membership) (counts : List ℕ) (loaded : IsL
         tried = fits.tried;
         present = fits.present;
         talked = fits.talked;
+        linked = opening_linked c groups;
       }
 
   pub known_turn : (t p : ℕ) (w : WordWorld) → IsKnown c groups counts loaded.sound.table t w
@@ -51,4 +53,5 @@ module _ (c : Code) (groups : List Membership) (counts : List ℕ) (loaded : IsL
         tried = fits.tried;
         present = fits.present;
         talked = fits.talked;
+        linked = linked_turn c groups t p w known.linked;
       }

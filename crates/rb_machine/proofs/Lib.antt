@@ -18,6 +18,10 @@ pub mod StepsRise
 pub mod RunsRise
 pub mod CountsBelow
 pub mod CountedKept
+-- What the links lead to.
+pub mod LinkedTurns
+pub mod Reached
+pub mod ReachedLinks
 pub mod KnownTurns
 -- What a load asks of code, and what it makes of it.
 pub mod ExecutableCode
@@ -48,6 +52,7 @@ pub mod SomeCode
 pub mod WhoIsInside
 pub mod EndsTold
 pub mod Released
+pub mod Dropped
 pub mod Written
 pub mod ReadAt
 pub mod CountsRead

@@ -1,5 +1,5 @@
 -- What is known of every world of a run of sound code: each process stands in the table, its levels are nested and are those of members,
--- and all numbers that a turn counts are small.
+-- all numbers that a turn counts are small, and links lead to kept turns of one process.
 use Rattle.std.specs.Prelude.{◌≡◌, ℕ, ◌<◌, ◌≤◌, nat_eq, true, ℤ, List, length, slice_get, Some}
 use Rattle.std.specs.List.{list_any}
 use Rattle.rb_meaning.specs.Environment.{natural}
@@ -17,6 +17,7 @@ use Rattle.rb_code.specs.StandsInRuns.{ProcessStands}
 use Rattle.rb_code.specs.Turn.{Copy, Standing, block_facts}
 use Rattle.rb_code.specs.WellFormed.{IsSound}
 use Rattle.rb_code.specs.WordRun.{WordWorld}
+use Rattle.rb_machine.specs.Linked.{AreLinked}
 
 -- Of each conversation it is known how many alternates its blocks have.
 abbrev pub HasCounts : Code → List ℕ → Type 0
@@ -82,3 +83,4 @@ pub record IsKnown (c : Code) (groups : List Membership) (counts : List ℕ) (ta
   pub tried : Each (λ _ q. Each (λ _ level. IsTried level) q.levels) w.processes
   pub present : Each (λ _ q. TryPresent w.talks q.levels) w.processes
   pub talked : Each (IsTalked counts) w.talks
+  pub linked : AreLinked t w

@@ -1,4 +1,5 @@
 -- What is said of the machine.
+pub mod Linked
 pub mod Known
 pub mod Worlds
 pub mod Cascade
@@ -14,3 +15,4 @@ pub mod Machine
 pub mod Entries
 pub mod Turns
 pub mod Rising
+pub mod Survivors

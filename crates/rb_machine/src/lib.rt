@@ -14,8 +14,10 @@ pub mod moves;
 pub mod parts;
 pub mod reading;
 pub mod step;
+pub mod survivors;
 pub mod telling;
 pub mod test_line;
 pub mod undone;
 
 pub use machine::Machine;
+pub use survivors::Kept;

@@ -1,7 +1,7 @@
 //! The machine: a program's processes, channels and conversations, turn by turn.
 
-ghost use Rattle.std.specs.Prelude.{◌≡◌, ◌+◌, ◌<◌, ◌≤◌, [], length, replicate, vec_len, vec_capacity, IfOk};
-ghost use Rattle.rb_base.specs.declared.limits.TheConstants.{MOST_TURNS};
+ghost use Rattle.std.specs.Prelude.{◌≡◌, ◌+◌, ◌*◌, ◌<◌, ◌≤◌, [], length, map, replicate, sum_by, vec_len, vec_capacity, IfOk};
+ghost use Rattle.rb_base.specs.declared.limits.TheConstants.{MOST_HELD_BYTES, MOST_TURNS};
 ghost use Rattle.rb_code.specs.Plain.{code as plain};
 ghost use Rattle.rb_code.specs.WellFormed.{IsSound};
 ghost use Rattle.rb_conv.specs.Conversations.{memberships, opening};
@@ -12,6 +12,7 @@ ghost use Rattle.rb_machine.specs.Cascade.{SameGroups};
 ghost use Rattle.rb_machine.specs.Known.{IsLoaded};
 ghost use Rattle.rb_machine.specs.Machine.{HasTurned, opening_seen};
 ghost use Rattle.rb_machine.specs.Moves.{AreAtWork, world};
+ghost use Rattle.rb_machine.specs.Survivors.{kept_of, word_survivors};
 ghost use Rattle.rb_machine.specs.Telling.{running_of};
 ghost use Rattle.rb_machine.specs.Worlds.{counts_of, kind_with, lines_of, processes_of};
 
@@ -19,7 +20,8 @@ use crate::loading::load_parts;
 use crate::moves::take_turn;
 use crate::parts::Parts;
 use crate::reading::{sent_on, state_at, taken_on, word_at};
-use crate::telling::{release_all, tell, tell_opening};
+use crate::survivors::{Kept, survivors};
+use crate::telling::{drop_all_released, release_all, tell, tell_opening};
 use arrayvec::ArrayVec;
 use rb_base::{Final, Lines, Memory, Nested, Report, State, Steps, TurnKind};
 use rb_code::Code;
@@ -28,7 +30,7 @@ use std::marker::Model;
 use std::sync::ledger::Ledger;
 
 /// A program under way. Contracts see the word machine's world, in which each open level has a whole copy of its process; the machine
-/// copies nothing. Only `load` takes memory.
+/// copies nothing. Only `load` and `survivors` take memory.
 #[derive(Drop)]
 pub struct Machine<'a, L: Ledger> {
     code: &'a Code,
@@ -52,7 +54,7 @@ impl<'a, L: Ledger> Model for Machine<'a, L> {
 
 impl<'a, L: Ledger> Machine<'a, L> {
     /// A program before its first turn, with room for so many turns; `Memory` if it is wanting, or if the code has more instructions, or a
-    /// block more alternates, than 32 bits number. No other call takes memory.
+    /// block more alternates, than 32 bits number. No call but `survivors` takes more.
     pub fn load(
         alloc: Global,
         code: &'a Code,
@@ -74,11 +76,13 @@ impl<'a, L: Ledger> Machine<'a, L> {
         })
     }
 
-    /// What is told before the first turn: who is done. Contracts learn here that the machine's code is sound, as it is of every machine.
+    /// What is told before the first turn: who is done. Contracts learn here that the machine's code is sound and its turns are few, as it
+    /// is of every machine.
     pub fn opening(&self) -> Report
         requires { self.now.taken ≡ 0 }
         ensures told { told_of result.kind result.events.items [] ≡ told_at_opening self.now.world }
         ensures sound { IsSound self.now.code self.now.groups }
+        ensures few { self.now.most ≤ MOST_TURNS }
     {
         let mut events = ArrayVec::new();
         tell_opening(&self.parts.procs, &mut events);
@@ -105,6 +109,22 @@ impl<'a, L: Ledger> Machine<'a, L> {
             report,
             steps,
         );
+    }
+
+    /// Forgets the released lines that wait, and answers how many they were.
+    pub fn drop_released(&mut self) -> u32
+        ensures count { result ≡ sum_by length self.old.waiting }
+        ensures few { result ≤ 64 * MOST_HELD_BYTES }
+        ensures machine { self.new ≡ record self.old { waiting = replicate (length self.old.waiting) [] } }
+    {
+        drop_all_released(&mut self.parts.procs)
+    }
+
+    /// The turns that survived so far, in the order of their numbers. It takes memory for their list, and for one number a process.
+    pub fn survivors(&self, alloc: Global) -> Result<Vec<Kept>, Memory>
+        ensures { IfOk result (λ kept. map kept_of kept.items ≡ word_survivors self.now.world) }
+    {
+        survivors(alloc, &self.parts)
     }
 
     /// How many turns it has taken.

@@ -1,7 +1,8 @@
 //! What is told at the end of a turn: errors, the pass of a test line, and who is done; and held lines are released.
 
-ghost use Rattle.std.specs.Prelude.{◌≡◌, ℕ, ◌+◌, ◌*◌, ◌<◌, ◌≤◌, ◌^◌, ◌++◌, List, [], length, map};
+ghost use Rattle.std.specs.Prelude.{◌≡◌, ℕ, ◌+◌, ◌*◌, ◌<◌, ◌≤◌, ◌^◌, ◌++◌, List, [], length, map, replicate, sum_by};
 ghost use Rattle.std.specs.Option.{option_to_list};
+ghost use Rattle.rb_base.specs.declared.limits.TheConstants.{MOST_HELD_BYTES};
 ghost use Rattle.rb_world.specs.Kind.{Membership};
 ghost use Rattle.rb_world.specs.Turn.{finished_at, freed, lines_freed};
 ghost use Rattle.rb_world.specs.World.{Process};
@@ -129,4 +130,19 @@ pub fn release_all<L: Ledger>(procs: &mut [Proc<L>], steps: &mut Steps<L>)
     for proc in procs.iter_mut() {
         proc.release_if_free(steps);
     }
+}
+
+/// Forgets the released lines of each process, and answers how many they were.
+pub fn drop_all_released<L: Ledger>(procs: &mut [Proc<L>]) -> u32
+    requires few { length procs.old ≤ 64 }
+    ensures count { result ≡ sum_by length (lines_of procs.old) }
+    ensures few { result ≤ 64 * MOST_HELD_BYTES }
+    ensures processes { processes_of procs.new ≡ processes_of procs.old }
+    ensures none { lines_of procs.new ≡ replicate (length procs.old) [] }
+{
+    let mut count = 0;
+    for proc in procs.iter_mut() {
+        count += proc.drop_released();
+    }
+    count
 }

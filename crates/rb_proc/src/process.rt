@@ -3,6 +3,7 @@
 ghost use Rattle.std.specs.Prelude.{◌≡◌, ℕ, ◌+◌, ◌-◌, ◌<◌, ◌≤◌, ◌^◌, false, List, [], ◌∷◌, ◌++◌, length, position, drop, slice_get, Some, IfOk, option_copied};
 ghost use Rattle.std.specs.Borrow.{sem};
 ghost use Rattle.std.specs.Io.BufRead.{Rests};
+ghost use Rattle.rb_base.specs.declared.limits.TheConstants.{MOST_HELD_BYTES};
 ghost use Rattle.rb_world.specs.Kind.{Membership};
 ghost use Rattle.rb_world.specs.Reject.{fallen, put_back as put_back_at, raised};
 ghost use Rattle.rb_world.specs.Standing.{Each};
@@ -344,6 +345,15 @@ impl<L: Ledger> Proc<L> {
         ensures* after { sem 𝓛 (Rests (the_row L.row L.Ledger) self.entry (λ new. new ≡ record self.old { waiting = drop 1 self.old.waiting })) }
     {
         self.memory.released()
+    }
+
+    /// Forgets the released lines that wait, and answers how many they were.
+    pub fn drop_released(&mut self) -> u32
+        ensures count { result ≡ length self.old.waiting }
+        ensures few { result ≤ MOST_HELD_BYTES }
+        ensures none { self.new ≡ record self.old { waiting = [] } }
+    {
+        self.memory.drop_released()
     }
 
     /// The cursor of a channel.

@@ -3,6 +3,7 @@
 ghost use Rattle.std.specs.Prelude.{◌≡◌, ℕ, ◌+◌, ◌-◌, ◌*◌, ◌<◌, ◌≤◌, ◌^◌, ℤ, pos, Bool, nat_le, nat_lt, not, cond, List, [], ◌∷◌, ◌++◌, length, map, position, take, drop, replicate, slice_get, slice_set, Some, IfOk, option_copied};
 ghost use Rattle.std.specs.Borrow.{sem};
 ghost use Rattle.std.specs.Io.BufRead.{Rests};
+ghost use Rattle.rb_base.specs.declared.limits.TheConstants.{MOST_HELD_BYTES};
 ghost use Rattle.rb_world.specs.Standing.{Each};
 ghost use Rattle.rb_world.specs.Turn.{is_last_of, is_over, one_used, tried_at};
 ghost use Rattle.rb_world.specs.Reject.{next_alternate};
@@ -245,6 +246,15 @@ impl<L: Ledger> Recoverable<L> {
         ensures* after { sem 𝓛 (Rests (the_row L.row L.Ledger) self.entry (λ new. new ≡ record self.old { waiting = drop 1 self.old.waiting })) }
     {
         self.hold.next_line()
+    }
+
+    /// Forgets the lines that wait, and answers how many they were.
+    pub fn drop_released(&mut self) -> u32
+        ensures count { result ≡ length self.old.waiting }
+        ensures few { result ≤ MOST_HELD_BYTES }
+        ensures none { self.new ≡ record self.old { waiting = [] } }
+    {
+        self.hold.drop_released()
     }
 
     /// An open level; levels count from 0, the outermost.

@@ -1,2 +1,4 @@
 -- What is said of a run.
 pub mod Running
+pub mod Counting
+pub mod Surviving

@@ -1,6 +1,11 @@
 //! A run: a loaded machine goes over a schedule, and its lines are written.
 #![tactic(auto)]
 
+pub mod counting;
+pub mod record;
 pub mod running;
+pub mod surviving;
 
+pub use counting::{Counts, count};
 pub use running::run;
+pub use surviving::{Ended, survive};

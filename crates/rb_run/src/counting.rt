@@ -1,0 +1,100 @@
+//! A run that prints nothing, and counts the lines that it would print.
+
+ghost use Rattle.std.specs.Prelude.{◌≡◌, ◌+◌, ◌-◌, ◌^◌, ◌≤◌, [], ◌∷◌, length};
+ghost use Rattle.rb_base.specs.declared.limits.TheConstants.{MOST_TURNS};
+ghost use Rattle.rb_code.specs.WordKind.{word_kind};
+ghost use Rattle.rb_code.specs.WordRun.{opening_of, word_run};
+ghost use Rattle.rb_world.specs.Turn.{run as run_from, told_at_opening};
+ghost use Rattle.rb_machine.specs.Machine.{opening_seen};
+ghost use Rattle.rb_run.specs.Counting.{AreBelow, IsMore, both_counted, counts, nothing_counted, told_counts};
+ghost use Rattle.rb_run.specs.Running.{NoneWaits, ran};
+
+use rb_base::{Event, Report, Steps};
+use rb_machine::Machine;
+use rb_sched::Schedule;
+use std::sync::ledger::Ledger;
+
+/// How many lines of each kind a run prints: released lines, rejections, passes of a test line, errors, and ends of processes.
+#[derive(Clone, Copy, Debug, PartialEq, Eq)]
+pub struct Counts {
+    pub out: u64,
+    pub reject: u64,
+    pub pass: u64,
+    pub error: u64,
+    pub done: u64,
+}
+
+/// Runs a machine that was just loaded over a schedule that was just read, and counts the lines of each kind that its run would print
+/// before its `end` line. It takes no memory.
+pub fn count<L: Ledger>(
+    machine: &mut Machine<'_, L>,
+    schedule: Schedule<'_>,
+    steps: &mut Steps<L>,
+) -> Counts
+    requires fresh { machine.old ≡ opening_seen machine.old.code machine.old.groups machine.old.most }
+    requires whole { schedule.left ≡ schedule.all }
+    requires turns { length schedule.left ≤ machine.old.most }
+    ensures counts { counts result ≡ told_counts (told_at_opening (opening_of machine.old.code machine.old.groups) ∷ (word_run machine.old.code machine.old.groups schedule.entry.all).1) }
+    ensures machine { machine.new ≡ ran machine.old schedule.entry.all }
+{
+    let mut report = machine.opening();
+    let mut counts = Counts::none();
+    counts.add(&report.events, 0);
+    count_turns(machine, schedule, &mut report, &mut counts, steps);
+    counts
+}
+
+// Takes the turns of a schedule, and adds up their lines.
+fn count_turns<L: Ledger>(
+    machine: &mut Machine<'_, L>,
+    mut schedule: Schedule<'_>,
+    report: &mut Report,
+    counts: &mut Counts,
+    steps: &mut Steps<L>,
+)
+    requires waits { NoneWaits machine.old }
+    requires turns { machine.old.taken + length schedule.left ≤ machine.old.most }
+    requires few { machine.old.most ≤ MOST_TURNS }
+    requires room { AreBelow (2 ^ 32) counts.old }
+    ensures counts { counts counts.new ≡ both_counted (counts counts.old) (told_counts (run_from (word_kind machine.old.code machine.old.groups) (machine.old.taken + 1) schedule.entry.left machine.old.world).1) }
+    ensures machine { machine.new ≡ ran machine.old schedule.entry.left }
+{
+    'turns: while let Some(p) = schedule.next() {
+        machine.turn(p, report, steps);
+        counts.add(&report.events, machine.drop_released());
+    }
+}
+
+impl Counts {
+    // Nothing was counted yet.
+    fn none() -> Self
+        ensures { counts result ≡ nothing_counted }
+    {
+        Counts { out: 0, reject: 0, pass: 0, error: 0, done: 0 }
+    }
+
+    // Adds the lines of one turn: its events, and so many released lines.
+    fn add(&mut self, events: &[Event], released: u32)
+        requires room { AreBelow (2 ^ 63) self.old }
+        requires few { length events.now ≤ 96 }
+        ensures { IsMore self.old released events.now self.new }
+    {
+        self.out += u64::from(released);
+        for event in events {
+            self.note(event);
+        }
+    }
+
+    // Adds the line of an event.
+    fn note(&mut self, event: &Event)
+        requires { AreBelow (2 ^ 64 - 1) self.old }
+        ensures { IsMore self.old 0 (event.now ∷ []) self.new }
+    {
+        match event {
+            Event::Reject { .. } | Event::RejectAll { .. } => self.reject += 1,
+            Event::Error { .. } => self.error += 1,
+            Event::Pass { .. } => self.pass += 1,
+            Event::Done { .. } => self.done += 1,
+        }
+    }
+}
