@@ -58,5 +58,8 @@ pub mod ReadAt
 pub mod CountsRead
 pub mod LinesLent
 pub mod CountedAtWork
-pub mod StaysAtWork
 pub mod LentAtWork
+-- A turn that touches no process but its own.
+pub mod Alone
+pub mod Finished
+pub mod ReadyFor

@@ -10,16 +10,10 @@ use Rattle.rb_world.specs.World.{Process}
 use Rattle.rb_code.specs.Plain.{Code}
 use Rattle.rb_code.specs.Turn.{Copy, Standing}
 use Rattle.rb_code.specs.WordKind.{word_kind}
-use Rattle.rb_proc.specs.Process.{Seen, kind_of}
+use Rattle.rb_proc.specs.Process.{Seen}
+use Rattle.rb_machine.specs.Telling.{freed_one}
 use Rattle.rb_machine.specs.Worlds.{lines_of, processes_of}
 use Rattle.rb_machine.proofs.Written.{all_written}
-
--- a process that has released its held lines, if it has no level
-abbrev pub freed_one : Code → Seen → Seen
-freed_one c one = record {
-  process = freed (kind_of c) one.process;
-  waiting = lines_freed (kind_of c) one.process.state one.process.levels;
-}
 
 -- one more of them
 pub one_more_freed : (c : Code) (old now : List Seen) (i : ℕ) (one after : Seen) → i < length old
@@ -42,11 +36,12 @@ others_left old now i one after h long same =
     ∙ tail_of _ _ _ _ (sym (drop-cons now i one k) ∙ same ∙ drop-cons old i one h)
     ∙ ap (λ (n : ℕ). drop n old) (sym (add-one i))
 
-module _ (c : Code) (groups : List Membership) (old now : List Seen) (i : ℕ) (all : length old ≤ i)
-    (freed_all : now ≡ map (freed_one c) (take i old) ++ drop i old) where
-  whole : now ≡ map (freed_one c) old
-  whole = all_written (freed_one c) old old now i all refl freed_all
+-- at last each of them
+pub all_released : (c : Code) (old now : List Seen) (i : ℕ) → length old ≤ i → now ≡ map (freed_one c) (take i old) ++ drop i old
+    → now ≡ map (freed_one c) old
+all_released c old now i all so_far = all_written (freed_one c) old old now i all refl so_far
 
+module _ (c : Code) (groups : List Membership) (old now : List Seen) (whole : now ≡ map (freed_one c) old) where
   pub processes_freed : processes_of now ≡ map (freed (word_kind c groups)) (processes_of old)
   processes_freed =
       ap (map (λ (one : Seen). one.process)) whole

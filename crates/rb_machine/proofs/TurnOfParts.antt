@@ -1,5 +1,5 @@
 -- A turn of the parts is one of the word machine, and leaves them at work.
-use Rattle.std.proofs.Common.{◌≡◌, ℕ, zero, suc, ◌+◌, ◌≤◌, Bool, List, [], ◌∷◌, ◌++◌, length, map, replicate, refl, ap, sym, ◌∙◌, subst, arith}
+use Rattle.std.proofs.Common.{◌≡◌, ℕ, zero, suc, ◌+◌, ◌≤◌, Bool, true, List, [], ◌∷◌, ◌++◌, length, map, replicate, refl, ap, sym, ◌∙◌, subst, arith}
 use Rattle.std.proofs.lemmas.List.{length-map}
 use Rattle.rb_base.specs.declared.edition.Edition.{Edition}
 use Rattle.rb_base.specs.declared.edition.Edition.TheVariants.{First, Second}
@@ -20,10 +20,11 @@ use Rattle.rb_trace.specs.Report.{told_of}
 use Rattle.rb_machine.specs.AtWork.{IsAtWork}
 use Rattle.rb_machine.specs.Known.{IsKnown, IsLoaded}
 use Rattle.rb_machine.specs.Moves.{HasMoved, IsLeft, passes_of, world}
-use Rattle.rb_machine.specs.Telling.{ends_told, is_running, running_of}
+use Rattle.rb_machine.specs.Telling.{AreFreed, SameBut, WasAlone, ends_told, is_alone, is_running, running_of}
 use Rattle.rb_machine.specs.Worlds.{NoneWaits, counts_of, kind_with, lines_of, memory_of, processes_of, world_of}
 use Rattle.rb_machine.specs.declared.came.Came.{Came}
 use Rattle.rb_machine.specs.declared.parts.Parts.{Parts}
+use Rattle.rb_machine.proofs.Alone.{moves_alone}
 use Rattle.rb_machine.proofs.KnownTurns.{known_turn}
 use Rattle.rb_machine.proofs.Sizes.{turn-processes}
 
@@ -91,6 +92,21 @@ module _ {L : Type 0} (c : Code) (t p : ℕ) (before after : Parts L) (events : 
               (events ++ ends_told (processes_of before.procs.items) (processes_of after.procs.items) came.pass) all,
         )) lines
         ∙ ap (finishes Words (world before)) moved_is))
+
+    -- a turn that took nothing back and passed no test line touched its own process alone
+    pub was_alone : (running : List Bool) → running ≡ running_of (processes_of before.procs.items) → AreFreed (processes_of before.procs.items)
+        → is_alone came.kind (passes_of came.pass) ≡ true → WasAlone p running (processes_of after.procs.items)
+    was_alone running ran freed alone =
+        let moves_so : is_alone moves_to.kind moves_to.passes ≡ true =
+        ap (λ (kind : TurnKind). is_alone kind moves_to.passes) (sym moved.kind)
+        ∙ (ap (λ (passes : List Event). is_alone came.kind passes) (sym moved.passes) ∙ alone) in
+        record {
+          before = processes_of before.procs.items;
+          ran = ran;
+          freed = freed;
+          same = subst (SameBut p (processes_of before.procs.items)) (sym (ap (λ (w : WordWorld). w.processes) moved.worlds))
+              (moves_alone Words t p (world before) moves_so);
+        }
 
     -- there are still as many processes as the code has
     pub as_many_after : IsAtWork c t before.procs.items before.table before.mails.items before.links.items

@@ -1,6 +1,6 @@
 -- The machine as contracts see it: its code and its conversations, the world of the word machine that it stands for, the released lines
 -- that wait, how many turns it has taken, and how many it may take.
-use Rattle.std.specs.Prelude.{◌≡◌, ◌≤◌, ◌+◌, ℕ, Bool, List, [], ◌∷◌, length, replicate}
+use Rattle.std.specs.Prelude.{◌≡◌, ◌<◌, ◌≤◌, ◌+◌, ℕ, Bool, false, List, [], ◌∷◌, length, replicate}
 use Rattle.rb_base.specs.declared.limits.TheConstants.{MOST_TURNS}
 use Rattle.rb_world.specs.Kind.{Membership}
 use Rattle.rb_world.specs.Turn.{Told, turn}
@@ -10,8 +10,8 @@ use Rattle.rb_code.specs.WordRun.{WordWorld, opening_of, word_run}
 use Rattle.rb_conv.specs.Conversations.{memberships}
 use Rattle.rb_machine.specs.AtWork.{IsAtWork}
 use Rattle.rb_machine.specs.Moves.{world}
-use Rattle.rb_machine.specs.Telling.{running_of}
-use Rattle.rb_machine.specs.Worlds.{lines_of, processes_of}
+use Rattle.rb_machine.specs.Telling.{AreFreed, running_of}
+use Rattle.rb_machine.specs.Worlds.{NoneWaits, lines_of, processes_of}
 use Rattle.rb_machine.specs.declared.parts.Parts.{Parts}
 
 pub record Seen : Type 0 where
@@ -32,11 +32,13 @@ seen c parts taken most = record {
   most = most;
 }
 
--- What ties the parts: they stand for a world of a run, before the next turn; it is known who runs; and there is room for the links of
--- all turns that may come.
-pub record IsTied {L : Type 0} (c : Code) (parts : Parts L) (running : List Bool) (links room taken most : ℕ) : Type 0 where
+-- What ties the parts: they stand for a world of a run, before the next turn; it is known who runs; since the first turn who has no level
+-- holds no line; it is known where no released line waits; and there is room for the links of all turns that may come.
+pub record IsTied {L : Type 0} (c : Code) (parts : Parts L) (running : List Bool) (links room taken most : ℕ) (released : Bool) : Type 0 where
   pub work : IsAtWork c (taken + 1) parts.procs.items parts.table parts.mails.items parts.links.items
   pub running_is : running ≡ running_of (processes_of parts.procs.items)
+  pub freed : 0 < taken → AreFreed (processes_of parts.procs.items)
+  pub none_waits : released ≡ false → NoneWaits parts.procs.items
   pub links_few : links ≤ taken
   pub links_room : most ≤ room
   pub taken_few : taken ≤ most

@@ -1,9 +1,15 @@
 -- What is told of a turn: who has failed in it and who is done, by who ran before it.
-use Rattle.std.specs.Prelude.{ℕ, ◌+◌, Bool, true, false, cond, List, [], ◌∷◌, ◌++◌, map, Option}
+use Rattle.std.specs.Prelude.{◌≡◌, ℕ, zero, suc, ◌+◌, Bool, true, false, cond, List, [], ◌∷◌, ◌++◌, map, Option}
+use Rattle.std.specs.List.{AllByRecursion}
 use Rattle.rb_base.specs.declared.event.Event.{Event}
-use Rattle.rb_world.specs.Turn.{compared, done_at, error_at}
-use Rattle.rb_world.specs.World.{Process, Status, Running, Finished, FailedWith}
+use Rattle.rb_base.specs.declared.event.TurnKind.{TurnKind}
+use Rattle.rb_base.specs.declared.event.TurnKind.TheVariants.{Idle, Wait, Took, Undone}
+use Rattle.rb_world.specs.Turn.{compared, done_at, error_at, freed, lines_freed}
+use Rattle.rb_world.specs.World.{Level, Process, Status, Running, Finished, FailedWith}
+use Rattle.rb_code.specs.Plain.{Code}
 use Rattle.rb_code.specs.Turn.{Copy, Standing}
+use Rattle.rb_code.specs.WordKind.{released}
+use Rattle.rb_proc.specs.Process.{Seen, kind_of}
 use Rattle.rb_machine.specs.Moves.{passes_of}
 use Rattle.rb_machine.specs.declared.telling.Ending.{Ending}
 use Rattle.rb_machine.specs.declared.telling.Ending.TheVariants as ending
@@ -36,3 +42,47 @@ abbrev pub ended_by : Ending → ℕ → List Bool → List (Process Standing Co
 ended_by one p [] after = []
 ended_by one p (ran ∷ others) [] = []
 ended_by one p (ran ∷ others) (q ∷ qs) = ended_if one p ran q.status ++ ended_by one (p + 1) others qs
+
+-- a turn that takes nothing back and passes no test line touches no process but its own
+abbrev pub takes_nothing_back : TurnKind → Bool
+takes_nothing_back Idle = true
+takes_nothing_back Wait = true
+takes_nothing_back Took = true
+takes_nothing_back Undone = false
+
+abbrev pub is_alone : TurnKind → List Event → Bool
+is_alone kind [] = takes_nothing_back kind
+is_alone kind (pass ∷ passes) = false
+
+-- lists that are alike but at one number
+abbrev pub SameBut : {A : Type 0} → ℕ → List A → List A → Type 0
+SameBut p [] [] = Unit {0}
+SameBut p [] (y ∷ ys) = ⊥
+SameBut p (x ∷ xs) [] = ⊥
+SameBut zero (x ∷ xs) (y ∷ ys) = xs ≡ ys
+SameBut (suc p) (x ∷ xs) (y ∷ ys) = (x ≡ y) × SameBut p xs ys
+
+-- who has no level holds no line
+abbrev pub HoldsNone : List (Level Copy) → Standing → Type 0
+HoldsNone [] s = (released s ≡ s) × (s.held ≡ [])
+HoldsNone (level ∷ levels) s = Unit {0}
+
+abbrev pub IsFreed : Process Standing Copy → Type 0
+IsFreed q = HoldsNone q.levels q.state
+
+abbrev pub AreFreed : List (Process Standing Copy) → Type 0
+AreFreed processes = AllByRecursion IsFreed processes
+
+-- Process number p alone was touched since it was noted who runs, and who had no level then held no line.
+pub record WasAlone (p : ℕ) (running : List Bool) (after : List (Process Standing Copy)) : Type 0 where
+  pub before : List (Process Standing Copy)
+  pub ran : running ≡ running_of before
+  pub freed : AreFreed before
+  pub same : SameBut p before after
+
+-- a process that has released its held lines, if it has no level
+abbrev pub freed_one : Code → Seen → Seen
+freed_one c one = record {
+  process = freed (kind_of c) one.process;
+  waiting = lines_freed (kind_of c) one.process.state one.process.levels;
+}

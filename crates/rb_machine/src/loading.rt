@@ -1,6 +1,6 @@
 //! Loading a program: its processes at their bodies, empty channels, conversations that nobody has entered, and room for links.
 
-ghost use Rattle.std.specs.Prelude.{◌≡◌, ◌<◌, ◌≤◌, ◌-◌, ◌^◌, nat_lt, true, length, map, vec_len, vec_capacity, IfOk};
+ghost use Rattle.std.specs.Prelude.{◌≡◌, ◌<◌, ◌≤◌, ◌-◌, ◌^◌, nat_lt, true, false, length, map, vec_len, vec_capacity, IfOk};
 ghost use Rattle.std.specs.List.{All, list_all};
 ghost use Rattle.rb_base.specs.declared.limits.TheConstants.{MOST_TURNS};
 ghost use Rattle.rb_world.specs.Slots.{zero_slots};
@@ -45,7 +45,7 @@ pub fn load_parts<L: Ledger>(
     requires loaded { IsLoaded (plain code.now) (memberships (opening nested.now)) (counts_of (opening nested.now)) }
     requires turns { turns ≤ MOST_TURNS }
     ensures seen { IfOk result (λ loaded. seen (plain code.now) loaded.parts 0 turns ≡ opening_seen (plain code.now) (memberships (opening nested.now)) turns) }
-    ensures tied { IfOk result (λ loaded. IsTied (plain code.now) loaded.parts loaded.running.items (vec_len loaded.parts.links) (vec_capacity loaded.parts.links) 0 turns) }
+    ensures tied { IfOk result (λ loaded. IsTied (plain code.now) loaded.parts loaded.running.items (vec_len loaded.parts.links) (vec_capacity loaded.parts.links) 0 turns false) }
 {
     if !is_numbered(code) {
         return Err(Memory);

@@ -1,6 +1,6 @@
 //! The machine: a program's processes, channels and conversations, turn by turn.
 
-ghost use Rattle.std.specs.Prelude.{◌≡◌, ◌+◌, ◌*◌, ◌<◌, ◌≤◌, [], length, map, replicate, sum_by, vec_len, vec_capacity, IfOk};
+ghost use Rattle.std.specs.Prelude.{◌≡◌, ◌+◌, ◌*◌, ◌<◌, ◌≤◌, true, false, [], length, map, replicate, sum_by, vec_len, vec_capacity, IfOk};
 ghost use Rattle.rb_base.specs.declared.limits.TheConstants.{MOST_HELD_BYTES, MOST_TURNS};
 ghost use Rattle.rb_code.specs.Plain.{code as plain};
 ghost use Rattle.rb_code.specs.WellFormed.{IsSound};
@@ -11,17 +11,18 @@ ghost use Rattle.rb_machine.specs.AtWork.{IsAtWork};
 ghost use Rattle.rb_machine.specs.Cascade.{SameGroups};
 ghost use Rattle.rb_machine.specs.Known.{IsLoaded};
 ghost use Rattle.rb_machine.specs.Machine.{HasTurned, opening_seen};
-ghost use Rattle.rb_machine.specs.Moves.{AreAtWork, world};
+ghost use Rattle.rb_machine.specs.Moves.{AreAtWork, passes_of, world};
 ghost use Rattle.rb_machine.specs.Survivors.{kept_of, word_survivors};
-ghost use Rattle.rb_machine.specs.Telling.{running_of};
-ghost use Rattle.rb_machine.specs.Worlds.{counts_of, kind_with, lines_of, processes_of};
+ghost use Rattle.rb_machine.specs.Telling.{AreFreed, is_alone, running_of};
+ghost use Rattle.rb_machine.specs.Worlds.{NoneWaits, counts_of, kind_with, lines_of, processes_of};
 
+use crate::came::Came;
 use crate::loading::load_parts;
 use crate::moves::take_turn;
 use crate::parts::Parts;
 use crate::reading::{sent_on, state_at, taken_on, word_at};
 use crate::survivors::{Kept, survivors};
-use crate::telling::{drop_all_released, release_all, tell, tell_opening};
+use crate::telling::{drop_all_released, finish, tell_opening};
 use arrayvec::ArrayVec;
 use rb_base::{Final, Lines, Memory, Nested, Report, State, Steps, TurnKind};
 use rb_code::Code;
@@ -38,6 +39,7 @@ pub struct Machine<'a, L: Ledger> {
     running: Vec<bool>,
     taken: u32,
     most: u32,
+    released: bool,
 }
 
 impl<'a, L: Ledger> Model for Machine<'a, L> {
@@ -49,7 +51,7 @@ impl<'a, L: Ledger> Model for Machine<'a, L> {
 
     ghost view = { λ m. seen (plain m.code.now) m.parts m.taken m.most };
 
-    ghost invariant = { λ m. IsTied (plain m.code.now) m.parts m.running.items (vec_len m.parts.links) (vec_capacity m.parts.links) m.taken m.most };
+    ghost invariant = { λ m. IsTied (plain m.code.now) m.parts m.running.items (vec_len m.parts.links) (vec_capacity m.parts.links) m.taken m.most m.released };
 }
 
 impl<'a, L: Ledger> Machine<'a, L> {
@@ -73,6 +75,7 @@ impl<'a, L: Ledger> Machine<'a, L> {
             running: loaded.running,
             taken: 0,
             most: turns,
+            released: false,
         })
     }
 
@@ -100,7 +103,7 @@ impl<'a, L: Ledger> Machine<'a, L> {
         ensures { HasTurned self.old p self.new (told_of report.new.kind report.new.events.items self.new.waiting) }
     {
         self.taken += 1;
-        turn(
+        self.released = turn(
             self.code,
             &mut self.parts,
             &mut self.running,
@@ -117,6 +120,7 @@ impl<'a, L: Ledger> Machine<'a, L> {
         ensures few { result ≤ 64 * MOST_HELD_BYTES }
         ensures machine { self.new ≡ record self.old { waiting = replicate (length self.old.waiting) [] } }
     {
+        self.released = false;
         drop_all_released(&mut self.parts.procs)
     }
 
@@ -125,6 +129,13 @@ impl<'a, L: Ledger> Machine<'a, L> {
         ensures { IfOk result (λ kept. map kept_of kept.items ≡ word_survivors self.now.world) }
     {
         survivors(alloc, &self.parts)
+    }
+
+    /// False where no released line waits.
+    pub fn has_released(&self) -> bool
+        ensures { result ≡ false → self.now.waiting ≡ replicate (length self.now.world.processes) [] }
+    {
+        self.released
     }
 
     /// How many turns it has taken.
@@ -182,7 +193,16 @@ impl<'a, L: Ledger> Final for Machine<'a, L> {
     }
 }
 
-// Turn number `number` of process p, into the report.
+// Whether a turn touched no process but its own, and is not the first.
+fn is_alone(number: u32, came: &Came) -> bool
+    ensures later { result ≡ true → 1 < number }
+    ensures alone { result ≡ true → is_alone came.now.kind (passes_of came.now.pass) ≡ true }
+{
+    number > 1 && came.is_alone()
+}
+
+// Turn number `number` of process p, into the report. False where no released line waits. Who held lines before the first turn is not
+// known, so all are looked at in it.
 fn turn<L: Ledger>(
     code: &Code,
     parts: &mut Parts<L>,
@@ -191,21 +211,32 @@ fn turn<L: Ledger>(
     p: u32,
     report: &mut Report,
     steps: &mut Steps<L>,
-)
+) -> bool
     requires work { AreAtWork (plain code.now) number parts.old }
     requires running { running.old ≡ running_of (processes_of parts.old.procs.items) }
     requires room { vec_len parts.old.links < vec_capacity parts.old.links }
     requires few { number ≤ MOST_TURNS }
+    requires freed { 1 < number → AreFreed (processes_of parts.old.procs.items) }
     ensures turned { (world parts.new, told_of report.new.kind report.new.events.items (lines_of parts.new.procs.items)) ≡ turn (kind_with (plain code.now) parts.old.table) number p (world parts.old) }
     ensures groups { SameGroups parts.old.table parts.new.table }
     ensures work { IsAtWork (plain code.now) (number + 1) parts.new.procs.items parts.new.table parts.new.mails.items parts.new.links.items }
     ensures running { running.new ≡ running_of (processes_of parts.new.procs.items) }
+    ensures freed { AreFreed (processes_of parts.new.procs.items) }
+    ensures none_waits { result ≡ false → NoneWaits parts.new.procs.items }
     ensures links { vec_len parts.new.links ≤ vec_len parts.old.links + 1 }
     ensures room { vec_capacity parts.old.links ≤ vec_capacity parts.new.links }
 {
     report.events.clear();
     let came = take_turn(code, parts, number, p, &mut report.events, steps);
-    tell(&parts.procs, running, came.pass, &mut report.events);
-    release_all(&mut parts.procs, steps);
     report.kind = came.kind;
+    let alone = is_alone(number, &came);
+    finish(
+        &mut parts.procs,
+        running,
+        p,
+        alone,
+        came.pass,
+        &mut report.events,
+        steps,
+    )
 }

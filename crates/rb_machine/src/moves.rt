@@ -7,10 +7,12 @@ ghost use Rattle.rb_world.specs.Standing.{Each};
 ghost use Rattle.rb_world.specs.Turn.{acts, bounded, is_over, move, runs, turn_used};
 ghost use Rattle.rb_world.specs.World.{Running, change_at};
 ghost use Rattle.rb_code.specs.Plain.{code as plain};
+ghost use Rattle.rb_code.specs.Sound.{IsReceiver};
 ghost use Rattle.rb_code.specs.Turn.{want};
 ghost use Rattle.rb_proc.specs.Process.{Seen};
 ghost use Rattle.rb_machine.specs.AtWork.{MayAct};
-ghost use Rattle.rb_machine.specs.Moves.{AreAtWork, HasMoved, IsLeft, MovesAt, world};
+ghost use Rattle.rb_machine.specs.Channels.{AreNumbered};
+ghost use Rattle.rb_machine.specs.Moves.{AreAtWork, HasMoved, IsLeft, IsReadyAt, MovesAt, ReceivesThere, WantsThere, world};
 ghost use Rattle.rb_machine.specs.Rejections.{changed};
 ghost use Rattle.rb_machine.specs.Turns.{runs_there};
 ghost use Rattle.rb_machine.specs.Worlds.{kind_with, processes_of};
@@ -26,6 +28,19 @@ use rb_base::{Cause, Event, Steps, TurnKind};
 use rb_code::Code;
 use rb_proc::{Proc, Status, Wanted};
 use std::sync::ledger::Ledger;
+
+/// What a process is ready for in its turn.
+#[derive(Clone, Copy)]
+pub(crate) enum ReadyFor {
+    /// For nothing: it is done.
+    Idle,
+    /// It waits for room or for a message.
+    Waits,
+    /// For the entry of a recovery block.
+    Enters(u32),
+    /// For a step; whether a message is there for it.
+    Steps(bool),
+}
 
 /// What stands first in process p decides.
 pub fn act<L: Ledger>(
@@ -46,95 +61,95 @@ pub fn act<L: Ledger>(
     ensures links { vec_len parts.new.links ≤ vec_len parts.old.links + 1 }
     ensures room { vec_capacity parts.old.links ≤ vec_capacity parts.new.links }
 {
-    match parts.procs[p as usize].want(code) {
-        Wanted::Idle | Wanted::Line => Came::without_pass(TurnKind::Idle),
-        Wanted::Room(channel) => send(code, parts, turn, p, channel, events, steps),
-        Wanted::Message(channel) => receive(code, parts, turn, p, channel, events, steps),
-        Wanted::Maybe(channel) => look(code, parts, turn, p, channel, events, steps),
-        Wanted::Entry(block) => enter(code, parts, turn, p, block, events, steps),
-        Wanted::Start | Wanted::Step => { take_step(code, parts, turn, p, false, events, steps) }
+    let wanted = parts.procs[p as usize].want(code);
+    match ready(code, &parts.procs, p, wanted, steps) {
+        ReadyFor::Idle => Came::without_pass(TurnKind::Idle),
+        ReadyFor::Waits => Came::without_pass(TurnKind::Wait),
+        ReadyFor::Enters(block) => enter(code, parts, turn, p, block, events, steps),
+        ReadyFor::Steps(there) => take_step(code, parts, turn, p, wanted, there, events, steps),
+    }
+}
+
+// What process p is ready for, by what it wants.
+fn ready<L: Ledger>(
+    code: &Code,
+    procs: &[Proc<L>],
+    p: u32,
+    wanted: Wanted,
+    steps: &mut Steps<L>,
+) -> ReadyFor
+    requires numbered { AreNumbered (plain code.now) procs.now }
+    requires process { p < length procs.now }
+    requires receiver { ReceivesThere (plain code.now) procs.now p }
+    requires wanted { WantsThere (plain code.now) procs.now p wanted }
+    ensures { IsReadyAt (plain code.now) procs.now p result }
+{
+    match wanted {
+        Wanted::Idle | Wanted::Line => ReadyFor::Idle,
+        Wanted::Room(channel) => send(code, procs, p, channel, steps),
+        Wanted::Message(channel) => receive(code, procs, p, channel, steps),
+        Wanted::Maybe(channel) => look(code, procs, p, channel, steps),
+        Wanted::Entry(block) => ReadyFor::Enters(block),
+        Wanted::Start | Wanted::Step => ReadyFor::Steps(false),
     }
 }
 
 // Process p, at a send, waits for room.
 fn send<L: Ledger>(
     code: &Code,
-    parts: &mut Parts<L>,
-    turn: u32,
+    procs: &[Proc<L>],
     p: u32,
     channel: u32,
-    events: &mut ArrayVec<Event, 96>,
     steps: &mut Steps<L>,
-) -> Came
-    requires work { AreAtWork (plain code.now) (turn + 1) parts.old }
-    requires process { p < length parts.old.procs.items }
-    requires acting { MayAct parts.old.procs.items p }
-    requires wants { (one : Seen) → slice_get parts.old.procs.items p ≡ Some one → want (plain code.now) one.process.state ≡ SendsOn channel }
-    requires room { vec_len parts.old.links < vec_capacity parts.old.links }
-    requires none { length events.old.items ≡ 0 }
-    ensures moved { MovesAt parts.old p (λ q w. acts (kind_with (plain code.now) parts.old.table) turn p q w (want (plain code.now) q.state)) (HasMoved parts.new events.new.items result) }
-    ensures left { IsLeft (plain code.now) parts.old parts.new events.new.items result }
-    ensures links { vec_len parts.new.links ≤ vec_len parts.old.links + 1 }
-    ensures room { vec_capacity parts.old.links ≤ vec_capacity parts.new.links }
+) -> ReadyFor
+    requires numbered { AreNumbered (plain code.now) procs.now }
+    requires process { p < length procs.now }
+    requires wants { (one : Seen) → slice_get procs.now p ≡ Some one → want (plain code.now) one.process.state ≡ SendsOn channel }
+    ensures { IsReadyAt (plain code.now) procs.now p result }
 {
-    if has_room(code, &parts.procs, channel, steps) {
-        take_step(code, parts, turn, p, false, events, steps)
+    if has_room(code, procs, channel, steps) {
+        ReadyFor::Steps(false)
     } else {
-        Came::without_pass(TurnKind::Wait)
+        ReadyFor::Waits
     }
 }
 
 // Process p, at a receipt, waits for a message.
 fn receive<L: Ledger>(
     code: &Code,
-    parts: &mut Parts<L>,
-    turn: u32,
+    procs: &[Proc<L>],
     p: u32,
     channel: u32,
-    events: &mut ArrayVec<Event, 96>,
     steps: &mut Steps<L>,
-) -> Came
-    requires work { AreAtWork (plain code.now) (turn + 1) parts.old }
-    requires process { p < length parts.old.procs.items }
-    requires acting { MayAct parts.old.procs.items p }
-    requires wants { (one : Seen) → slice_get parts.old.procs.items p ≡ Some one → want (plain code.now) one.process.state ≡ ReceivesOn channel }
-    requires room { vec_len parts.old.links < vec_capacity parts.old.links }
-    requires none { length events.old.items ≡ 0 }
-    ensures moved { MovesAt parts.old p (λ q w. acts (kind_with (plain code.now) parts.old.table) turn p q w (want (plain code.now) q.state)) (HasMoved parts.new events.new.items result) }
-    ensures left { IsLeft (plain code.now) parts.old parts.new events.new.items result }
-    ensures links { vec_len parts.new.links ≤ vec_len parts.old.links + 1 }
-    ensures room { vec_capacity parts.old.links ≤ vec_capacity parts.new.links }
+) -> ReadyFor
+    requires numbered { AreNumbered (plain code.now) procs.now }
+    requires process { p < length procs.now }
+    requires receiver { IsReceiver (slice_get (plain code.now).channels channel) p }
+    requires wants { (one : Seen) → slice_get procs.now p ≡ Some one → want (plain code.now) one.process.state ≡ ReceivesOn channel }
+    ensures { IsReadyAt (plain code.now) procs.now p result }
 {
-    if message_there(code, &parts.procs, p, channel, steps) {
-        take_step(code, parts, turn, p, true, events, steps)
+    if message_there(code, procs, p, channel, steps) {
+        ReadyFor::Steps(true)
     } else {
-        Came::without_pass(TurnKind::Wait)
+        ReadyFor::Waits
     }
 }
 
 // Process p takes a message if one is there, and goes on without one if none is.
 fn look<L: Ledger>(
     code: &Code,
-    parts: &mut Parts<L>,
-    turn: u32,
+    procs: &[Proc<L>],
     p: u32,
     channel: u32,
-    events: &mut ArrayVec<Event, 96>,
     steps: &mut Steps<L>,
-) -> Came
-    requires work { AreAtWork (plain code.now) (turn + 1) parts.old }
-    requires process { p < length parts.old.procs.items }
-    requires acting { MayAct parts.old.procs.items p }
-    requires wants { (one : Seen) → slice_get parts.old.procs.items p ≡ Some one → want (plain code.now) one.process.state ≡ MayReceiveOn channel }
-    requires room { vec_len parts.old.links < vec_capacity parts.old.links }
-    requires none { length events.old.items ≡ 0 }
-    ensures moved { MovesAt parts.old p (λ q w. acts (kind_with (plain code.now) parts.old.table) turn p q w (want (plain code.now) q.state)) (HasMoved parts.new events.new.items result) }
-    ensures left { IsLeft (plain code.now) parts.old parts.new events.new.items result }
-    ensures links { vec_len parts.new.links ≤ vec_len parts.old.links + 1 }
-    ensures room { vec_capacity parts.old.links ≤ vec_capacity parts.new.links }
+) -> ReadyFor
+    requires numbered { AreNumbered (plain code.now) procs.now }
+    requires process { p < length procs.now }
+    requires receiver { IsReceiver (slice_get (plain code.now).channels channel) p }
+    requires wants { (one : Seen) → slice_get procs.now p ≡ Some one → want (plain code.now) one.process.state ≡ MayReceiveOn channel }
+    ensures { IsReadyAt (plain code.now) procs.now p result }
 {
-    let there = message_there(code, &parts.procs, p, channel, steps);
-    take_step(code, parts, turn, p, there, events, steps)
+    ReadyFor::Steps(message_there(code, procs, p, channel, steps))
 }
 
 /// Turn number `turn` of process p, before lines are released.

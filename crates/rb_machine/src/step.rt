@@ -9,7 +9,7 @@ ghost use Rattle.rb_proc.specs.Executable.{IsExecutable};
 ghost use Rattle.rb_proc.specs.Process.{Seen, alternate_for, message_for};
 ghost use Rattle.rb_proc.specs.Sees.{AreSized};
 ghost use Rattle.rb_machine.specs.AtWork.{IsStep, MayAct};
-ghost use Rattle.rb_machine.specs.Moves.{AreAtWork, HasMoved, IsLeft, MovesAt};
+ghost use Rattle.rb_machine.specs.Moves.{AreAtWork, HasMoved, IsLeft, MovesAt, WantsThere};
 ghost use Rattle.rb_machine.specs.Stepping.{HasStepped, MayStep, turn_kept};
 ghost use Rattle.rb_machine.specs.Worlds.{kind_with};
 
@@ -23,7 +23,7 @@ use arrayvec::ArrayVec;
 use rb_base::{Event, Steps, TurnKind};
 use rb_code::Code;
 use rb_mail::Mail;
-use rb_proc::{Outcome, Proc};
+use rb_proc::{Outcome, Proc, Wanted};
 use std::sync::ledger::Ledger;
 
 // Process p takes a step, and the others stay as they are.
@@ -32,17 +32,19 @@ fn step_one<L: Ledger>(
     procs: &mut [Proc<L>],
     mails: &mut [Mail],
     p: u32,
+    wanted: Wanted,
     there: bool,
     steps: &mut Steps<L>,
 ) -> Outcome
     requires code { IsExecutable (plain code.now) }
     requires process { p < length procs.old }
     requires may { (one : Seen) → slice_get procs.old p ≡ Some one → MayStep (plain code.now) mails.old there one }
+    requires wanted { WantsThere (plain code.now) procs.old p wanted }
     requires sized { AreSized (plain code.now) mails.old }
     ensures stepped { (one : Seen) → slice_get procs.old p ≡ Some one → HasStepped (plain code.now) there p one result mails.old mails.new procs.old procs.new }
     ensures sized { AreSized (plain code.now) mails.new }
 {
-    procs[p as usize].step(code, mails, there, steps)
+    procs[p as usize].step_wanted(code, mails, wanted, there, steps)
 }
 
 // A turn of process p is kept: it is the last one of the process, and its link leads to the one before.
@@ -81,6 +83,7 @@ pub fn take_step<L: Ledger>(
     parts: &mut Parts<L>,
     turn: u32,
     p: u32,
+    wanted: Wanted,
     there: bool,
     events: &mut ArrayVec<Event, 96>,
     steps: &mut Steps<L>,
@@ -89,6 +92,7 @@ pub fn take_step<L: Ledger>(
     requires process { p < length parts.old.procs.items }
     requires acting { MayAct parts.old.procs.items p }
     requires step { (one : Seen) → slice_get parts.old.procs.items p ≡ Some one → IsStep there (want (plain code.now) one.process.state) }
+    requires wanted { WantsThere (plain code.now) parts.old.procs.items p wanted }
     requires room { vec_len parts.old.links < vec_capacity parts.old.links }
     requires none { length events.old.items ≡ 0 }
     ensures moved { MovesAt parts.old p (λ q w. stepping (kind_with (plain code.now) parts.old.table) turn p (alternate_for (want (plain code.now) q.state) q.levels) (message_for (plain code.now) q.state parts.old.mails.items there (want (plain code.now) q.state)) q w) (HasMoved parts.new events.new.items result) }
@@ -96,8 +100,16 @@ pub fn take_step<L: Ledger>(
     ensures links { vec_len parts.new.links ≤ vec_len parts.old.links + 1 }
     ensures room { vec_capacity parts.old.links ≤ vec_capacity parts.new.links }
 {
-    let alternate = started(code, &parts.procs[p as usize]);
-    match step_one(code, &mut parts.procs, &mut parts.mails, p, there, steps) {
+    let alternate = started(wanted, &parts.procs[p as usize]);
+    match step_one(
+        code,
+        &mut parts.procs,
+        &mut parts.mails,
+        p,
+        wanted,
+        there,
+        steps,
+    ) {
         Outcome::Trap(cause) => {
             let left = parts.procs[p as usize].levels();
             reject(

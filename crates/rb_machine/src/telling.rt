@@ -1,6 +1,6 @@
 //! What is told at the end of a turn: errors, the pass of a test line, and who is done; and held lines are released.
 
-ghost use Rattle.std.specs.Prelude.{◌≡◌, ℕ, ◌+◌, ◌*◌, ◌<◌, ◌≤◌, ◌^◌, ◌++◌, List, [], length, map, replicate, sum_by};
+ghost use Rattle.std.specs.Prelude.{◌≡◌, ℕ, ◌+◌, ◌*◌, ◌<◌, ◌≤◌, ◌^◌, ◌++◌, true, false, List, [], length, map, replicate, sum_by};
 ghost use Rattle.std.specs.Option.{option_to_list};
 ghost use Rattle.rb_base.specs.declared.limits.TheConstants.{MOST_HELD_BYTES};
 ghost use Rattle.rb_world.specs.Kind.{Membership};
@@ -12,7 +12,7 @@ ghost use Rattle.rb_code.specs.WordKind.{word_kind};
 ghost use Rattle.rb_proc.specs.Process.{Seen};
 ghost use Rattle.rb_proc.specs.Statuses.{status_of};
 ghost use Rattle.rb_machine.specs.Moves.{passes_of};
-ghost use Rattle.rb_machine.specs.Telling.{ended_by, ended_if, ends_told, is_running, running_of};
+ghost use Rattle.rb_machine.specs.Telling.{WasAlone, ended_by, ended_if, ends_told, freed_one, is_running, running_of};
 ghost use Rattle.rb_machine.specs.Worlds.{NoneWaits, lines_of, processes_of};
 
 use arrayvec::ArrayVec;
@@ -55,6 +55,89 @@ pub fn tell_opening<L: Ledger>(procs: &[Proc<L>], events: &mut ArrayVec<Event, 9
 {
     let running = [true; 64];
     tell_ended(procs, &running[..procs.len()], Ending::Done, events);
+}
+
+/// Ends a turn of process p: tells who has ended in it, notes who still runs, and releases held lines. Where the turn touched no other
+/// process it looks at p alone. False where no released line waits.
+pub fn finish<L: Ledger>(
+    procs: &mut [Proc<L>],
+    running: &mut [bool],
+    p: u32,
+    alone: bool,
+    pass: Option<Event>,
+    events: &mut ArrayVec<Event, 96>,
+    steps: &mut Steps<L>,
+) -> bool
+    requires as_many { length running.old ≡ length procs.old }
+    requires numbered { length procs.old < 2 ^ 32 }
+    requires room { length events.old.items + (length (passes_of pass) + length procs.old) ≤ 96 }
+    requires waits { NoneWaits procs.old }
+    requires alone { alone ≡ true → (passes_of pass ≡ []) × WasAlone p running.old (processes_of procs.old) }
+    ensures told { (before : List (Process Standing Copy)) → running_of before ≡ running.old → events.new.items ≡ events.old.items ++ ends_told before (processes_of procs.old) pass }
+    ensures running { running.new ≡ running_of (processes_of procs.old) }
+    ensures processes { (c : Plain) (groups : List Membership) → processes_of procs.new ≡ map (freed (word_kind c groups)) (processes_of procs.old) }
+    ensures lines { (c : Plain) (groups : List Membership) → lines_of procs.new ≡ map (λ (q : Process Standing Copy). lines_freed (word_kind c groups) q.state q.levels) (processes_of procs.old) }
+    ensures none_waits { result ≡ false → NoneWaits procs.new }
+{
+    if alone {
+        return finish_one(procs, running, p, events, steps);
+    }
+    tell(procs, running, pass, events);
+    release_all(procs, steps);
+    true
+}
+
+// The same of process p alone, if it is there.
+fn finish_one<L: Ledger>(
+    procs: &mut [Proc<L>],
+    running: &mut [bool],
+    p: u32,
+    events: &mut ArrayVec<Event, 96>,
+    steps: &mut Steps<L>,
+) -> bool
+    requires as_many { length running.old ≡ length procs.old }
+    requires room { length events.old.items + length procs.old ≤ 96 }
+    requires waits { NoneWaits procs.old }
+    requires alone { WasAlone p running.old (processes_of procs.old) }
+    ensures told { events.new.items ≡ events.old.items ++ (ended_by Ending.Failed 0 running.old (processes_of procs.old) ++ ended_by Ending.Done 0 running.old (processes_of procs.old)) }
+    ensures running { running.new ≡ running_of (processes_of procs.old) }
+    ensures freed { (c : Plain) → procs.new ≡ map (freed_one c) procs.old }
+    ensures none_waits { result ≡ false → NoneWaits procs.new }
+{
+    let place = p as usize;
+    if place >= procs.len() {
+        return false;
+    }
+    let status = procs[place].status();
+    add(events, ending_of(p, running[place], status));
+    running[place] = runs(status);
+    release_one(&mut procs[place], steps)
+}
+
+// The event of a process that has ended, if it ran.
+fn ending_of(process: u32, ran: bool, status: Status) -> Option<Event>
+    ensures event { option_to_list result ≡ ended_if Ending.Failed process ran (status_of status) ++ ended_if Ending.Done process ran (status_of status) }
+    ensures one { length (option_to_list result) ≤ 1 }
+{
+    if !ran {
+        return None;
+    }
+    match status {
+        Status::Running => None,
+        Status::Finished => Some(Event::Done { process }),
+        Status::Failed(cause) => Some(Event::Error { process, cause }),
+    }
+}
+
+// Releases the held lines of a process, if it has no level. False where no released line waits.
+fn release_one<L: Ledger>(proc: &mut Proc<L>, steps: &mut Steps<L>) -> bool
+    requires waits { proc.old.waiting ≡ [] }
+    ensures freed { (c : Plain) → proc.new ≡ freed_one c proc.old }
+    ensures none_waits { result ≡ false → proc.new.waiting ≡ [] }
+{
+    let releases = proc.may_release();
+    proc.release_if_free(steps);
+    releases
 }
 
 // Adds who has ended so, of those that ran.

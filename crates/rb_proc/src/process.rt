@@ -25,7 +25,7 @@ ghost use Rattle.rb_proc.specs.Runs.{CursorsRise};
 ghost use Rattle.rb_proc.specs.Sees.{AreSized};
 ghost use Rattle.rb_proc.specs.Statuses.{status_of};
 ghost use Rattle.rb_proc.specs.Views.{CursorThen, IsViewOf};
-ghost use Rattle.rb_proc.specs.Process.{Seen, StepsTo, alternate_for, kind_of, message_for, step_of, wanted_of};
+ghost use Rattle.rb_proc.specs.Process.{Seen, StepsTo, alternate_for, kind_of, message_for, step_of, wanted_by, wanted_of};
 
 use crate::answers::{LevelView, Outcome, Status, Wanted};
 use crate::bench::Bench;
@@ -182,6 +182,31 @@ impl<L: Ledger> Proc<L> {
         ensures waiting { self.new.waiting ≡ self.old.waiting }
     {
         let wanted = want_at(code, self.at);
+        self.step_wanted(code, mails, wanted, there, steps)
+    }
+
+    /// The same where it is known what the process wants.
+    pub fn step_wanted(
+        &mut self,
+        code: &Code,
+        mails: &mut [Mail],
+        wanted: Wanted,
+        there: bool,
+        steps: &mut Steps<L>,
+    ) -> Outcome
+        requires code { IsExecutable (plain code.now) }
+        requires running { self.old.process.status ≡ Running }
+        requires away { self.old.process.at_line ≡ false }
+        requires none_waits { self.old.waiting ≡ [] }
+        requires wanted { wanted ≡ wanted_by (wanted_in (plain code.now) self.old.process.state) }
+        requires stands { (groups : List Membership) × StandsSoundly (plain code.now) groups self.old.process.state self.old.process.levels }
+        requires serves { Serves (wanted_in (plain code.now) self.old.process.state) (alternate_for (wanted_in (plain code.now) self.old.process.state) self.old.process.levels) (message_for (plain code.now) self.old.process.state mails.old there (wanted_in (plain code.now) self.old.process.state)) self.old.process.levels }
+        requires sized { AreSized (plain code.now) mails.old }
+        requires cursors { CursorsRise (plain code.now) self.old.process.state.process self.old.process.state.words }
+        ensures came { StepsTo (plain code.now) self.old.process mails.old (step_of (plain code.now) self.old.process mails.old there) result self.new.process mails.new }
+        ensures sized { AreSized (plain code.now) mails.new }
+        ensures waiting { self.new.waiting ≡ self.old.waiting }
+    {
         let message = message_of(
             code,
             self.process,
@@ -337,6 +362,13 @@ impl<L: Ledger> Proc<L> {
         ensures within { 0 < length self.old.process.levels → steps.new ≡ steps.old }
     {
         self.memory.release_if_free(steps);
+    }
+
+    /// Whether a release would tell lines: some are held, and no level is open.
+    pub fn may_release(&self) -> bool
+        ensures { (c : Plain) → result ≡ false → lines_freed (kind_of c) self.now.process.state self.now.process.levels ≡ [] }
+    {
+        self.memory.may_release()
     }
 
     /// Lends the first released line that waits, which no longer does then; `None` exactly where none waits.

@@ -1,6 +1,6 @@
 //! What a process can recover: its words with the recovery cache, its open calls and its held lines.
 
-ghost use Rattle.std.specs.Prelude.{◌≡◌, ℕ, ◌+◌, ◌-◌, ◌*◌, ◌<◌, ◌≤◌, ◌^◌, ℤ, pos, Bool, nat_le, nat_lt, not, cond, List, [], ◌∷◌, ◌++◌, length, map, position, take, drop, replicate, slice_get, slice_set, Some, IfOk, option_copied};
+ghost use Rattle.std.specs.Prelude.{◌≡◌, ℕ, ◌+◌, ◌-◌, ◌*◌, ◌<◌, ◌≤◌, ◌^◌, ℤ, pos, Bool, MatchBool, nat_le, nat_lt, not, cond, List, [], ◌∷◌, ◌++◌, length, map, position, take, drop, replicate, slice_get, slice_set, Some, IfOk, option_copied};
 ghost use Rattle.std.specs.Borrow.{sem};
 ghost use Rattle.std.specs.Io.BufRead.{Rests};
 ghost use Rattle.rb_base.specs.declared.limits.TheConstants.{MOST_HELD_BYTES};
@@ -227,6 +227,13 @@ impl<L: Ledger> Recoverable<L> {
         self.hold.length() > 0
     }
 
+    /// Whether a release would tell lines: some are held, and no level is open.
+    pub fn may_release(&self) -> bool
+        ensures { MatchBool result ((length self.now.levels ≡ 0) × (0 < length self.now.held)) (released_by self.now.levels self.now ≡ record self.now { waiting = [] }) }
+    {
+        self.levels() == 0 && self.holds()
+    }
+
     /// Releases all held lines if no level is open. Where one is, or no line is held, nothing is touched.
     pub fn release_if_free(&mut self, steps: &mut Steps<L>)
         requires none_waits { self.old.waiting ≡ [] }
@@ -235,7 +242,7 @@ impl<L: Ledger> Recoverable<L> {
         ensures quiet { self.old.held ≡ [] → steps.new ≡ steps.old }
         ensures within { 0 < length self.old.levels → steps.new ≡ steps.old }
     {
-        if self.levels() == 0 && self.holds() {
+        if self.may_release() {
             self.release(steps);
         }
     }

@@ -1,5 +1,5 @@
 -- What was loaded is the machine before its first turn.
-use Rattle.std.proofs.Common.{List, map, ap, sym, ◌∙◌, subst, arith}
+use Rattle.std.proofs.Common.{List, length, map, ap, sym, ◌∙◌, subst, arith}
 use Rattle.std.specs.List.{All}
 use Rattle.rb_world.specs.Slots.{zero_slots}
 use Rattle.rb_code.specs.Plain.{channel, code as plain}
@@ -7,10 +7,12 @@ use Rattle.rb_code.specs.WellFormed.{JoinsTwo}
 use Rattle.rb_code.specs.declared.code.ChannelCode.{ChannelCode}
 use Rattle.rb_conv.specs.Conversations.{memberships, opening}
 use Rattle.rb_proc.specs.Process.{Seen}
+use Rattle.rb_machine.specs.Machine.{Seen as Machine}
 use Rattle.rb_machine.specs.Telling.{running_of}
 use Rattle.rb_machine.specs.Worlds.{processes_of}
 use Rattle.rb_machine.proofs.ExecutableCode.{is_executable}
 use Rattle.rb_machine.proofs.Opens.{channels_sized, opens_as, opens_at_work, settles}
+use Rattle.rb_machine.proofs.TurnOfParts.{none_wait}
 use Rattle.rb_machine.proofs.loading.load_parts.Goals as goal
 
 pub load_processes-requires-clause-code : goal.load_processes-requires-clause-code
@@ -44,6 +46,8 @@ returns-clause-tied g c = record {
       (c.in_ok-mails.ensures ∙ ap (λ (channels : List ChannelCode). zero_slots (map channel channels)) c.deref.ensures.value)
       c.in_ok-links.ensures.items;
   running_is = c.in_ok-running.ensures ∙ ap (λ (procs : List Seen). running_of (processes_of procs)) c.deref-2.ensures.value;
+  freed = λ some. absurd (omega (arith, some));
+  none_waits = λ _. none_wait _ (length (plain c.args.code.now).processes) (ap (λ (machine : Machine). machine.waiting) (returns-clause-seen g c));
   links_few = omega (arith, c.in_ok-links.ensures.len);
   links_room = omega (arith, c.in_ok-links.ensures.capacity);
   taken_few = omega arith;

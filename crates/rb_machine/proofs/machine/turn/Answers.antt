@@ -1,5 +1,5 @@
 -- What a turn of the parts told and left is what the turn of the word machine does.
-use Rattle.std.proofs.Common.{List, ◌++◌, length, map, ap, sym, ◌∙◌, arith}
+use Rattle.std.proofs.Common.{List, ◌++◌, length, map, ap, sym, ◌∙◌, subst, arith}
 use Rattle.std.proofs.lemmas.List.{with_items_is}
 use Rattle.rb_world.specs.Turn.{Told, freed, lines_freed}
 use Rattle.rb_world.specs.World.{Process}
@@ -9,28 +9,41 @@ use Rattle.rb_code.specs.Plain.{code as plain}
 use Rattle.rb_code.specs.WordRun.{WordWorld}
 use Rattle.rb_conv.specs.Conversations.{memberships}
 use Rattle.rb_proc.specs.Process.{Seen}
-use Rattle.rb_machine.specs.Telling.{ends_told, running_of}
-use Rattle.rb_machine.specs.Worlds.{lines_of, processes_of}
-use Rattle.rb_machine.proofs.TurnOfParts.{few_after, running_after, running_as_many, turns_to, works_on}
+use Rattle.rb_machine.specs.Moves.{passes_of}
+use Rattle.rb_machine.specs.Telling.{AreFreed, WasAlone, ends_told, running_of}
+use Rattle.rb_machine.specs.Worlds.{NoneWaits, lines_of, processes_of}
+use Rattle.rb_machine.proofs.Alone.{no_passes}
+use Rattle.rb_machine.proofs.Finished.{all_freed}
+use Rattle.rb_machine.proofs.TurnOfParts.{few_after, running_after, running_as_many, turns_to, was_alone, works_on}
 use Rattle.rb_machine.proofs.machine.turn.Goals as goal
 
-pub tell-requires-clause-as_many : goal.tell-requires-clause-as_many
-tell-requires-clause-as_many g c =
+pub finish-requires-clause-as_many : goal.finish-requires-clause-as_many
+finish-requires-clause-as_many g c =
     running_as_many (plain c.args.code.now) c.args.number c.args.p c.args.parts.now c.take_turn-came.new.parts c.take_turn-came.new.events.items
     c.take_turn-came.result c.take_turn-came.ensures.moved c.args.running.now c.requires.work.work c.requires.running
-    ∙ ap length (sym c.deref.ensures.value)
+    ∙ ap length (sym c.deref_mut.ensures.value)
 
-pub tell-requires-clause-numbered : goal.tell-requires-clause-numbered
-tell-requires-clause-numbered g c =
+pub finish-requires-clause-numbered : goal.finish-requires-clause-numbered
+finish-requires-clause-numbered g c =
     let few = few_after (plain c.args.code.now) c.args.number c.args.p c.args.parts.now c.take_turn-came.new.parts c.take_turn-came.new.events.items
     c.take_turn-came.result c.take_turn-came.ensures.moved c.requires.work.work in
-    omega (arith, few, ap length c.deref.ensures.value)
+    omega (arith, few, ap length c.deref_mut.ensures.value)
 
-pub tell-requires-clause-room : goal.tell-requires-clause-room
-tell-requires-clause-room g c =
+pub finish-requires-clause-room : goal.finish-requires-clause-room
+finish-requires-clause-room g c =
     let few = few_after (plain c.args.code.now) c.args.number c.args.p c.args.parts.now c.take_turn-came.new.parts c.take_turn-came.new.events.items
     c.take_turn-came.result c.take_turn-came.ensures.moved c.requires.work.work in
-    omega (arith, few, ap length c.deref.ensures.value, c.take_turn-came.ensures.left.few)
+    omega (arith, few, ap length c.deref_mut.ensures.value, c.take_turn-came.ensures.left.few)
+
+pub finish-requires-clause-alone : goal.finish-requires-clause-alone
+finish-requires-clause-alone g c e =
+    let came = c.take_turn-came.result in
+    let alone = c.is_alone-alone.ensures.alone e in (
+      no_passes came.kind (passes_of came.pass) alone,
+      subst (λ (procs : List Seen). WasAlone c.args.p c.args.running.now (processes_of procs)) (sym c.deref_mut.ensures.value)
+          (was_alone (plain c.args.code.now) c.args.number c.args.p c.args.parts.now c.take_turn-came.new.parts c.take_turn-came.new.events.items came
+          c.take_turn-came.ensures.moved c.args.running.now c.requires.running (c.requires.freed (c.is_alone-alone.ensures.later e)) alone),
+    )
 
 pub returns-clause-turned : goal.returns-clause-turned
 returns-clause-turned g c =
@@ -40,14 +53,14 @@ returns-clause-turned g c =
     let before = processes_of c.args.parts.now.procs.items in
     let events = c.take_turn-came.new.events.items in
     let freed_of = λ (q : Process Standing Copy). lines_freed (word_kind code groups) q.state q.levels in
-    let is = with_items_is after.procs c.release_all.new.procs (omega (arith, c.release_all.auto.procs, c.deref_mut.ensures.len)) in
+    let is = with_items_is after.procs c.finish.new.procs (omega (arith, c.finish.auto.procs, c.deref_mut.ensures.len)) in
     turns_to code c.args.number c.args.p c.args.parts.now after c.take_turn-came.new.events.items c.take_turn-came.result
-    c.take_turn-came.ensures.moved c.tell.new.events.items _
-    (c.tell.ensures.told before (sym c.requires.running)
-    ∙ ap (λ (procs : List Seen). events ++ ends_told before (processes_of procs) c.take_turn-came.result.pass) c.deref.ensures.value)
-    (ap processes_of is ∙ (c.release_all.ensures.processes code groups
+    c.take_turn-came.ensures.moved c.finish.new.events.items _
+    (c.finish.ensures.told before (sym c.requires.running)
+    ∙ ap (λ (procs : List Seen). events ++ ends_told before (processes_of procs) c.take_turn-came.result.pass) c.deref_mut.ensures.value)
+    (ap processes_of is ∙ (c.finish.ensures.processes code groups
     ∙ ap (λ (procs : List Seen). map (freed (word_kind code groups)) (processes_of procs)) c.deref_mut.ensures.value))
-    (ap lines_of is ∙ (c.release_all.ensures.lines code groups
+    (ap lines_of is ∙ (c.finish.ensures.lines code groups
     ∙ ap (λ (procs : List Seen). map freed_of (processes_of procs)) c.deref_mut.ensures.value))
 
 pub returns-clause-work : goal.returns-clause-work
@@ -61,8 +74,22 @@ returns-clause-running g c =
     let code = plain c.args.code.now in
     let after = c.take_turn-came.new.parts in
     let groups = memberships c.args.parts.now.table in
-    let is = with_items_is after.procs c.release_all.new.procs (omega (arith, c.release_all.auto.procs, c.deref_mut.ensures.len)) in
-    running_after code groups after.procs.items _ c.tell.new.running
-    (ap processes_of is ∙ (c.release_all.ensures.processes code groups
+    let is = with_items_is after.procs c.finish.new.procs (omega (arith, c.finish.auto.procs, c.deref_mut.ensures.len)) in
+    running_after code groups after.procs.items _ c.finish.new.running
+    (ap processes_of is ∙ (c.finish.ensures.processes code groups
     ∙ ap (λ (procs : List Seen). map (freed (word_kind code groups)) (processes_of procs)) c.deref_mut.ensures.value))
-    (c.tell.ensures.running ∙ ap (λ (procs : List Seen). running_of (processes_of procs)) c.deref.ensures.value)
+    (c.finish.ensures.running ∙ ap (λ (procs : List Seen). running_of (processes_of procs)) c.deref_mut.ensures.value)
+
+pub returns-clause-freed : goal.returns-clause-freed
+returns-clause-freed g c =
+    let code = plain c.args.code.now in
+    let after = c.take_turn-came.new.parts in
+    let groups = memberships c.args.parts.now.table in
+    let is = with_items_is after.procs c.finish.new.procs (omega (arith, c.finish.auto.procs, c.deref_mut.ensures.len)) in
+    subst AreFreed (sym (ap processes_of is ∙ c.finish.ensures.processes code groups)) (all_freed code groups _)
+
+pub returns-clause-none_waits : goal.returns-clause-none_waits
+returns-clause-none_waits g c e =
+    let after = c.take_turn-came.new.parts in
+    let is = with_items_is after.procs c.finish.new.procs (omega (arith, c.finish.auto.procs, c.deref_mut.ensures.len)) in
+    subst NoneWaits (sym is) (c.finish.ensures.none_waits e)

@@ -1,60 +1,70 @@
--- The answer tells what stands first, and that decides.
-use Rattle.std.proofs.Common.{◌≡◌, ap, sym, ◌∙◌, subst, refl}
-use Rattle.rb_world.specs.Kind.{Enters}
+-- What the process is ready for is what it does.
+use Rattle.std.proofs.Common.{◌≡◌, ◌+◌, List, ap, sym, ◌∙◌, subst, refl}
 use Rattle.rb_world.proofs.ListFacts.{some_same}
+use Rattle.rb_world.specs.Kind.{Enters}
 use Rattle.rb_code.specs.Plain.{code as plain}
 use Rattle.rb_code.specs.Turn.{want}
 use Rattle.rb_proc.specs.Process.{Seen}
-use Rattle.rb_machine.specs.Moves.{passes_of, world}
-use Rattle.rb_machine.specs.Worlds.{kind_with}
-use Rattle.rb_machine.proofs.Acting.{answered, done_idles, entry_enters, is_done, is_entry, is_maybe, is_message, is_room, moved_as, starts_or_acts, step_steps}
+use Rattle.rb_machine.specs.Channels.{AreNumbered}
+use Rattle.rb_machine.specs.Moves.{IsReadyAt, ReceivesThere, WantsThere, passes_of, world}
+use Rattle.rb_machine.specs.Worlds.{kind_with, memory_of}
+use Rattle.rb_machine.proofs.Acting.{entry_enters, moved_as}
 use Rattle.rb_machine.proofs.Changed.{no_elements}
 use Rattle.rb_machine.proofs.Entering.{wants_block}
+use Rattle.rb_machine.proofs.KnownNumbers.{numbered_at_work}
+use Rattle.rb_machine.proofs.ReadyFor.{receives_there, wants_read}
 use Rattle.rb_machine.proofs.moves.act.Goals as goal
 
-pub send-requires-clause-wants : goal.send-requires-clause-wants
-send-requires-clause-wants g c one there =
+pub ready-requires-clause-numbered : goal.ready-requires-clause-numbered
+ready-requires-clause-numbered g c =
     let code = plain c.args.code.now in
-    let e = answered code c.args.parts.now.procs.items c.args.p c.index.result.now one c.want.result c.requires.process c.index.ensures there
-    (c.requires.acting one there) c.want.ensures in
-    is_room (want code one.process.state) c.in-Room.channel (e ∙ c.in-Room.is)
+    let parts = c.args.parts.now in
+    subst (AreNumbered code) (sym c.deref.ensures.value)
+    (numbered_at_work code (c.args.turn + 1) parts.procs.items parts.table parts.mails.items parts.links.items c.requires.work.work)
 
-pub receive-requires-clause-wants : goal.receive-requires-clause-wants
-receive-requires-clause-wants g c one there =
+pub ready-requires-clause-receiver : goal.ready-requires-clause-receiver
+ready-requires-clause-receiver g c =
     let code = plain c.args.code.now in
-    let e = answered code c.args.parts.now.procs.items c.args.p c.index.result.now one c.want.result c.requires.process c.index.ensures there
-    (c.requires.acting one there) c.want.ensures in
-    is_message (want code one.process.state) c.in-Message.channel (e ∙ c.in-Message.is)
+    let parts = c.args.parts.now in
+    subst (λ (xs : List Seen). ReceivesThere code xs c.args.p) (sym c.deref.ensures.value)
+    (receives_there code (c.args.turn + 1) parts.procs.items parts.table parts.mails.items parts.links.items c.requires.work.work c.args.p
+    c.requires.acting)
 
-pub look-requires-clause-wants : goal.look-requires-clause-wants
-look-requires-clause-wants g c one there =
+pub ready-requires-clause-wanted : goal.ready-requires-clause-wanted
+ready-requires-clause-wanted g c =
     let code = plain c.args.code.now in
-    let e = answered code c.args.parts.now.procs.items c.args.p c.index.result.now one c.want.result c.requires.process c.index.ensures there
-    (c.requires.acting one there) c.want.ensures in
-    is_maybe (want code one.process.state) c.in-Maybe.channel (e ∙ c.in-Maybe.is)
+    subst (λ (xs : List Seen). WantsThere code xs c.args.p c.want-wanted.result) (sym c.deref.ensures.value)
+    (wants_read code c.args.parts.now.procs.items c.args.p c.index.result.now c.want-wanted.result c.requires.process c.index.ensures
+    c.requires.acting c.want-wanted.ensures)
 
 pub enter-requires-clause-wants : goal.enter-requires-clause-wants
 enter-requires-clause-wants g c one there =
     let code = plain c.args.code.now in
-    let e = answered code c.args.parts.now.procs.items c.args.p c.index.result.now one c.want.result c.requires.process c.index.ensures there
-    (c.requires.acting one there) c.want.ensures in
-    is_entry (want code one.process.state) c.in-Entry.block (e ∙ c.in-Entry.is)
+    let parts = c.args.parts.now in
+    let at = subst (λ (xs : List Seen). IsReadyAt code xs c.args.p c.ready.result) c.deref.ensures.value c.ready.ensures in
+    let fit = subst (IsReadyAt code parts.procs.items c.args.p) c.in-Enters.is at in
+    fit one parts.table (memory_of parts.mails.items parts.links.items) c.args.turn there
 
 pub take_step-requires-clause-step : goal.take_step-requires-clause-step
 take_step-requires-clause-step g c one there =
     let code = plain c.args.code.now in
-    let e = answered code c.args.parts.now.procs.items c.args.p c.index.result.now one c.want.result c.requires.process c.index.ensures there
-    (c.requires.acting one there) c.want.ensures in
-    starts_or_acts (want code one.process.state) c.want.result e c.in-Start.is
+    let parts = c.args.parts.now in
+    let at = subst (λ (xs : List Seen). IsReadyAt code xs c.args.p c.ready.result) c.deref.ensures.value c.ready.ensures in
+    let fit = subst (IsReadyAt code parts.procs.items c.args.p) c.in-Steps.is at in
+    (fit one parts.table (memory_of parts.mails.items parts.links.items) c.args.turn there).0
+
+pub take_step-requires-clause-wanted : goal.take_step-requires-clause-wanted
+take_step-requires-clause-wanted g c =
+    wants_read (plain c.args.code.now) c.args.parts.now.procs.items c.args.p c.index.result.now c.want-wanted.result c.requires.process c.index.ensures
+    c.requires.acting c.want-wanted.ensures
 
 pub returns-in-Idle-clause-moved : goal.returns-in-Idle-clause-moved
 returns-in-Idle-clause-moved g c one there =
     let code = plain c.args.code.now in
     let parts = c.args.parts.now in
-    let e = answered code parts.procs.items c.args.p c.index.result.now one c.want.result c.requires.process c.index.ensures there
-    (c.requires.acting one there) c.want.ensures in
-    moved_as (sym (done_idles code (kind_with code parts.table) c.args.turn c.args.p one.process (world parts) parts.mails.items
-    (is_done (want code one.process.state) c.want.result e c.in-Idle.is)))
+    let at = subst (λ (xs : List Seen). IsReadyAt code xs c.args.p c.ready.result) c.deref.ensures.value c.ready.ensures in
+    let fit = subst (IsReadyAt code parts.procs.items c.args.p) c.in-Idle.is at in
+    moved_as (sym (fit one parts.table (memory_of parts.mails.items parts.links.items) c.args.turn there))
     (record {
       worlds = refl;
       kind = c.without_pass.ensures.kind;
@@ -62,22 +72,37 @@ returns-in-Idle-clause-moved g c one there =
       passes = ap passes_of c.without_pass.ensures.pass;
     })
 
-pub returns-in-Entry-clause-moved : goal.returns-in-Entry-clause-moved
-returns-in-Entry-clause-moved g c one there =
+pub returns-in-Waits-clause-moved : goal.returns-in-Waits-clause-moved
+returns-in-Waits-clause-moved g c one there =
     let code = plain c.args.code.now in
     let parts = c.args.parts.now in
-    let e = answered code parts.procs.items c.args.p c.index.result.now one c.want.result c.requires.process c.index.ensures there
-    (c.requires.acting one there) c.want.ensures in
-    let wants = wants_block c.in-Entry.block (want code one.process.state) (is_entry (want code one.process.state) c.in-Entry.block (e ∙ c.in-Entry.is)) in
+    let at = subst (λ (xs : List Seen). IsReadyAt code xs c.args.p c.ready.result) c.deref.ensures.value c.ready.ensures in
+    let fit = subst (IsReadyAt code parts.procs.items c.args.p) c.in-Waits.is at in
+    moved_as (sym (fit one parts.table (memory_of parts.mails.items parts.links.items) c.args.turn there))
+    (record {
+      worlds = refl;
+      kind = c.without_pass-in-Waits.ensures.kind;
+      rejections = no_elements c.args.events.now.items c.requires.none;
+      passes = ap passes_of c.without_pass-in-Waits.ensures.pass;
+    })
+
+pub returns-in-Enters-clause-moved : goal.returns-in-Enters-clause-moved
+returns-in-Enters-clause-moved g c one there =
+    let code = plain c.args.code.now in
+    let parts = c.args.parts.now in
+    let at = subst (λ (xs : List Seen). IsReadyAt code xs c.args.p c.ready.result) c.deref.ensures.value c.ready.ensures in
+    let fit = subst (IsReadyAt code parts.procs.items c.args.p) c.in-Enters.is at in
+    let wants = wants_block c.in-Enters.block (want code one.process.state)
+    (fit one parts.table (memory_of parts.mails.items parts.links.items) c.args.turn there) in
     moved_as (sym (entry_enters code (kind_with code parts.table) c.args.turn c.args.p one.process (world parts) parts.mails.items wants.0 wants.1))
     (c.enter.ensures.moved wants.0 one there
     (λ other found. subst (λ (x : Seen). want code x.process.state ≡ Enters wants.0) (some_same (sym there ∙ found)) wants.1))
 
-pub returns-in-Start-clause-moved : goal.returns-in-Start-clause-moved
-returns-in-Start-clause-moved g c one there =
+pub returns-in-Steps-clause-moved : goal.returns-in-Steps-clause-moved
+returns-in-Steps-clause-moved g c one there =
     let code = plain c.args.code.now in
     let parts = c.args.parts.now in
-    let e = answered code parts.procs.items c.args.p c.index.result.now one c.want.result c.requires.process c.index.ensures there
-    (c.requires.acting one there) c.want.ensures in
-    moved_as (sym (step_steps code (kind_with code parts.table) c.args.turn c.args.p one.process (world parts) parts.mails.items c.want.result e c.in-Start.is))
+    let at = subst (λ (xs : List Seen). IsReadyAt code xs c.args.p c.ready.result) c.deref.ensures.value c.ready.ensures in
+    let fit = subst (IsReadyAt code parts.procs.items c.args.p) c.in-Steps.is at in
+    moved_as (sym (fit one parts.table (memory_of parts.mails.items parts.links.items) c.args.turn there).1)
     (c.take_step.ensures.moved one there)

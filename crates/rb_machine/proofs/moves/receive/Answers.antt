@@ -1,48 +1,15 @@
--- A receipt of a message that is there steps.
-use Rattle.std.proofs.Common.{◌≡◌, ◌+◌, ap, sym, ◌∙◌, subst, true, List}
-use Rattle.rb_world.specs.Channels.{message_there}
-use Rattle.rb_world.proofs.ListFacts.{slice_get-there}
+-- A receipt is ready where a message is there.
 use Rattle.rb_code.specs.Plain.{code as plain}
 use Rattle.rb_conv.specs.Conversations.{memberships, talks}
-use Rattle.rb_proc.specs.Process.{Seen}
-use Rattle.rb_machine.specs.Channels.{AreNumbered, message_given}
-use Rattle.rb_machine.specs.Moves.{world}
-use Rattle.rb_machine.specs.Worlds.{kind_with, memory_of, world_of}
-use Rattle.rb_machine.proofs.Acting.{moved_as, receipt_steps}
-use Rattle.rb_machine.proofs.KnownNumbers.{numbered_at_work}
-use Rattle.rb_machine.proofs.Receivers.{waits_as_receiver}
-use Rattle.rb_machine.proofs.RoomsAndMessages.{given_is_taken}
+use Rattle.rb_machine.proofs.ReadyFor.{receipt_ready, receipt_unready}
 use Rattle.rb_machine.proofs.moves.receive.Goals as goal
 
-pub message_there-requires-clause-numbered : goal.message_there-requires-clause-numbered
-message_there-requires-clause-numbered g c =
-    let code = plain c.args.code.now in
-    let parts = c.args.parts.now in
-    subst (AreNumbered code) (sym c.deref.ensures.value)
-    (numbered_at_work code (c.args.turn + 1) parts.procs.items parts.table parts.mails.items parts.links.items c.requires.work.work)
+pub returns-then-message_there : goal.returns-then-message_there
+returns-then-message_there g c =
+    receipt_ready (plain c.args.code.now) c.args.procs.now c.args.p c.requires.numbered c.args.channel c.message_there.result
+    (λ table memory. c.message_there.ensures.there (memberships table) (talks table) memory) c.requires.wants c.if-message_there.true
 
-pub message_there-requires-clause-receiver : goal.message_there-requires-clause-receiver
-message_there-requires-clause-receiver g c =
-    let code = plain c.args.code.now in
-    let parts = c.args.parts.now in
-    let procs = parts.procs.items in
-    let there = slice_get-there procs c.args.p c.requires.process in
-    waits_as_receiver code (c.args.turn + 1) procs parts.table parts.mails.items parts.links.items c.requires.work.work c.args.p there.0 there.1
-    (c.requires.acting there.0 there.1) c.args.channel (c.requires.wants there.0 there.1)
-
-pub returns-then-message_there-clause-moved : goal.returns-then-message_there-clause-moved
-returns-then-message_there-clause-moved g c one there =
-    let code = plain c.args.code.now in
-    let parts = c.args.parts.now in
-    let k = kind_with code parts.table in
-    let procs = parts.procs.items in
-    let slots = parts.mails.items in
-    let memory = memory_of slots parts.links.items in
-    let numbered = numbered_at_work code (c.args.turn + 1) procs parts.table slots parts.links.items c.requires.work.work in
-    let given = subst (λ (xs : List Seen). message_there k (world_of xs parts.table memory) c.args.channel
-    ≡ message_given code slots xs c.args.p c.args.channel c.message_there.result) c.deref.ensures.value
-    (c.message_there.ensures.there (memberships parts.table) (talks parts.table) memory) in
-    let is = given ∙ (ap (message_given code slots procs c.args.p c.args.channel) c.if-message_there.true
-    ∙ given_is_taken code procs numbered slots c.args.p c.args.channel one true there) in
-    moved_as (sym (receipt_steps code k c.args.turn c.args.p one.process (world parts) slots c.args.channel (c.requires.wants one there) is))
-    (c.take_step.ensures.moved one there)
+pub returns-else-message_there : goal.returns-else-message_there
+returns-else-message_there g c =
+    receipt_unready (plain c.args.code.now) c.args.procs.now c.args.p c.requires.numbered c.args.channel c.message_there.result
+    (λ table memory. c.message_there.ensures.there (memberships table) (talks table) memory) c.requires.wants c.if-message_there.false

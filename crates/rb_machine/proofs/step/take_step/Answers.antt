@@ -1,5 +1,5 @@
 -- What a step asks for, and where each of its outcomes leads.
-use Rattle.std.proofs.Common.{List, None, get_or, refl, ap, sym, ◌∙◌, subst, arith}
+use Rattle.std.proofs.Common.{List, None, get_or, slice_get, refl, ap, sym, ◌∙◌, subst, arith}
 use Rattle.std.proofs.lemmas.List.{with_items_is}
 use Rattle.std.specs.Vec.{with_items}
 use Rattle.rb_code.specs.Plain.{code as plain}
@@ -9,6 +9,7 @@ use Rattle.rb_proc.specs.declared.answers.Outcome.TheVariants as outcome
 use Rattle.rb_world.proofs.ListFacts.{slice_get-there}
 use Rattle.rb_machine.specs.Worlds.{NoneWaits, memory_of}
 use Rattle.rb_machine.proofs.Changed.{no_elements}
+use Rattle.rb_machine.proofs.InnermostLevel.{alternate_known}
 use Rattle.rb_machine.proofs.StepTaken.{AtStep}
 use Rattle.rb_machine.proofs.StepTaken as step
 use Rattle.rb_machine.proofs.TestLines.{same_table}
@@ -20,6 +21,10 @@ step_one-requires-clause-may g c =
     let at : AtStep (plain c.args.code.now) c.args.turn c.args.p c.args.there parts.procs.items parts.table parts.mails.items parts.links.items =
     record { work = c.requires.work.work; waits = c.requires.work.waits; acting = c.requires.acting; wants = c.requires.step } in
     step.may_from at c.deref_mut.result.now c.deref_mut-2.result.now c.deref_mut.ensures.value c.deref_mut-2.ensures.value
+
+pub step_one-requires-clause-wanted : goal.step_one-requires-clause-wanted
+step_one-requires-clause-wanted g c one there =
+    c.requires.wanted one (ap (λ (xs : List Seen). slice_get xs c.args.p) (sym c.deref_mut.ensures.value) ∙ there)
 
 pub reject-requires-clause-may : goal.reject-requires-clause-may
 reject-requires-clause-may g c =
@@ -179,7 +184,8 @@ returns-in-Went-clause-moved g c = λ one here.
     (step.went_comes at one here c.step_one.new.mails c.step_one.new.procs stepping c.deref_mut-in-Went.result.now c.keep_turn.new.procs
     c.keep_turn.new.links.items c.args.events.now.items c.index.result.now c.started-alternate.result
     (no_elements c.args.events.now.items c.requires.none) (c.deref_mut-in-Went.ensures.value ∙ items) c.keep_turn.ensures.processes c.index.ensures
-    c.started-alternate.ensures c.keep_turn.ensures.links) in
+    (alternate_known (plain c.args.code.now) parts.procs.items c.args.p c.index.result.now c.args.wanted c.started-alternate.result
+    c.requires.process c.index.ensures c.requires.wanted c.started-alternate.ensures) c.keep_turn.ensures.links) in
     record { worlds = comes.0; kind = comes.1; rejections = comes.2; passes = comes.3 }
 
 pub returns-in-Went-clause-left : goal.returns-in-Went-clause-left
@@ -218,5 +224,6 @@ returns-in-Accepts-clause-moved g c = λ one here.
     c.deref_mut-in-Accepts-2.result.now stepping (c.deref_mut-in-Accepts.ensures.value ∙ items) c.keep_turn-in-Accepts.ensures.processes
     (c.deref_mut-in-Accepts-2.ensures.value ∙ kept) c.accept-pass.new.procs c.accept-pass.new.table c.keep_turn-in-Accepts.new.links.items
     c.args.events.now.items c.accept-pass.result c.index.result.now c.started-alternate.result (no_elements c.args.events.now.items c.requires.none)
-    c.index.ensures c.started-alternate.ensures c.keep_turn-in-Accepts.ensures.links (λ y memory e. c.accept-pass.ensures.taken y memory e)) in
+    c.index.ensures (alternate_known (plain c.args.code.now) parts.procs.items c.args.p c.index.result.now c.args.wanted c.started-alternate.result
+    c.requires.process c.index.ensures c.requires.wanted c.started-alternate.ensures) c.keep_turn-in-Accepts.ensures.links (λ y memory e. c.accept-pass.ensures.taken y memory e)) in
     record { worlds = comes.0; kind = comes.1; rejections = comes.2; passes = comes.3 }

@@ -1,5 +1,5 @@
 use Rattle.std.proofs.Common.{arith}
-use Rattle.rb_machine.proofs.Released.{lines_of_freed, one_more_freed, others_left, processes_freed}
+use Rattle.rb_machine.proofs.Released.{all_released, lines_of_freed, one_more_freed, others_left, processes_freed}
 use Rattle.rb_machine.proofs.telling.release_all.Goals as goal
 
 pub loop-proc-preserved : goal.loop-proc-preserved
@@ -13,8 +13,10 @@ loop-proc-preserved g c = record {
 
 pub returns-clause-processes : goal.returns-clause-processes
 returns-clause-processes g c code groups =
-    processes_freed code groups c.args.procs.now c.loop-proc.procs c.loop-proc.proc-index c.loop-proc-test.false (c.loop-proc.invariant.freed code)
+    processes_freed code groups c.args.procs.now c.loop-proc.procs
+    (all_released code c.args.procs.now c.loop-proc.procs c.loop-proc.proc-index c.loop-proc-test.false (c.loop-proc.invariant.freed code))
 
 pub returns-clause-lines : goal.returns-clause-lines
 returns-clause-lines g c code groups =
-    lines_of_freed code groups c.args.procs.now c.loop-proc.procs c.loop-proc.proc-index c.loop-proc-test.false (c.loop-proc.invariant.freed code)
+    lines_of_freed code groups c.args.procs.now c.loop-proc.procs
+    (all_released code c.args.procs.now c.loop-proc.procs c.loop-proc.proc-index c.loop-proc-test.false (c.loop-proc.invariant.freed code))

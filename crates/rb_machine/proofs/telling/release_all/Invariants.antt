@@ -1,6 +1,6 @@
 use Rattle.std.proofs.Common.{◌≡◌, ◌+◌, ◌*◌, ◌≤◌, ◌++◌, map, drop, take}
 use Rattle.rb_code.specs.Plain.{Code}
-use Rattle.rb_machine.proofs.Released.{freed_one}
+use Rattle.rb_machine.specs.Telling.{freed_one}
 use Rattle.rb_machine.proofs.telling.release_all.Given as goal
 
 -- the processes behind the present one are as they were
