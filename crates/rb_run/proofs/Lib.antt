@@ -7,3 +7,4 @@ pub mod NamesFit
 pub mod Completes
 pub mod TurnsTaken
 pub mod RunWritten
+pub mod NoLines
