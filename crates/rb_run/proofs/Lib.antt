@@ -12,3 +12,4 @@ pub mod Counted
 pub mod Recorded
 pub mod TurnsUnseen
 pub mod Survived
+pub mod NoLines

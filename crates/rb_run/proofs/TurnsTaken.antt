@@ -30,6 +30,9 @@ pub released_each : (m : Seen) (p : ℕ) → length (turned m p).1.released ≡ 
 released_each m p =
     length-map _ _ ∙ (sym (length-map _ _) ∙ same_processes (word_kind m.code m.groups) (m.taken + 1) p m.world)
 
+pub turned_each : (m : Seen) (p : ℕ) → length (turned m p).0.processes ≡ length m.world.processes
+turned_each m p = same_processes (word_kind m.code m.groups) (m.taken + 1) p m.world
+
 -- lines alone are taken from a machine while they are written
 pub same_but_lines : (m n : Seen) → record n { waiting = [] } ≡ record m { waiting = [] } → n ≡ record m { waiting = n.waiting }
 same_but_lines m n e = ap (λ (x : Seen). record x { waiting = n.waiting }) e

@@ -1,6 +1,7 @@
 -- A machine that has run.
 use Rattle.std.specs.Prelude.{◌≡◌, ◌+◌, ℕ, List, [], length, replicate}
 use Rattle.std.specs.List.{AllByRecursion, AllZip}
+use Rattle.rb_base.specs.declared.event.Report.{Report}
 use Rattle.rb_base.specs.declared.names.Names.{Names}
 use Rattle.rb_base.specs.declared.names.ProcessNames.{ProcessNames}
 use Rattle.rb_trace.specs.Fitting.{LiesWithin}
@@ -28,3 +29,8 @@ VariablesLie names part = AllByRecursion (LiesWithin part.words) names.variables
 pub record NamesFit (c : Code) (names : Names) : Type 0 where
   pub processes : AllZip VariablesLie names.processes.items c.processes
   pub channels : length names.channels.items ≡ length c.channels
+
+-- a turn told no event, and no line that it released waits
+pub record HasNoLines (report : Report) (m : Seen) : Type 0 where
+  pub events : report.events.items ≡ []
+  pub waits : NoneWaits m

@@ -1,14 +1,15 @@
 //! A run of a loaded machine over a schedule, from its turns to the bytes that it prints.
 
-ghost use Rattle.std.specs.Prelude.{◌≡◌, ℕ, ◌+◌, ◌<◌, ◌≤◌, ◌++◌, length, OnOk};
+ghost use Rattle.std.specs.Prelude.{◌≡◌, ℕ, ◌+◌, ◌<◌, ◌≤◌, ◌++◌, false, [], length, replicate, OnOk};
 ghost use Rattle.rb_code.specs.WordKind.{word_kind};
 ghost use Rattle.rb_code.specs.WordRun.{word_text};
 ghost use Rattle.rb_outside.specs.Puts.{Puts};
 ghost use Rattle.rb_trace.specs.Naming.{naming};
-ghost use Rattle.rb_world.specs.Text.{all_told};
+ghost use Rattle.rb_trace.specs.Report.{told_of};
+ghost use Rattle.rb_world.specs.Text.{all_told, told_text};
 ghost use Rattle.rb_world.specs.Turn.{run as run_from};
 ghost use Rattle.rb_machine.specs.Machine.{opening_seen};
-ghost use Rattle.rb_run.specs.Running.{NoneWaits, NamesFit, ran};
+ghost use Rattle.rb_run.specs.Running.{HasNoLines, NoneWaits, NamesFit, ran};
 
 use rb_base::{Names, Report, Steps};
 use rb_machine::Machine;
@@ -57,7 +58,34 @@ fn take_turns<S: Sink, L: Ledger>(
 {
     'turns: while let Some(p) = schedule.next() {
         machine.turn(p, report, steps);
-        write_report(out, machine.turns_taken(), report, names, machine)?;
+        write_turn(out, report, names, machine)?;
     }
     Ok(())
+}
+
+// Writes the lines of the turn that was taken last. Most turns have none.
+fn write_turn<S: Sink, L: Ledger>(
+    out: &mut S,
+    report: &Report,
+    names: &Names,
+    machine: &mut Machine<'_, L>,
+) -> Result<(), Failed>
+    requires fit { length machine.old.waiting ≡ length names.now.processes.items }
+    requires processes { length machine.old.waiting ≡ length machine.old.world.processes }
+    ensures text { Puts (told_text (naming names.now) machine.old.taken (told_of report.now.kind report.now.events.items machine.old.waiting)) (S.written out.old) (S.written out.new) (S.faults out.old) (S.faults out.new) result }
+    ensures none_waits { OnOk result (machine.new.waiting ≡ replicate (length machine.old.waiting) []) }
+    ensures rest { record machine.new { waiting = [] } ≡ record machine.old { waiting = [] } }
+{
+    if has_lines(report, machine) {
+        write_report(out, machine.turns_taken(), report, names, machine)
+    } else {
+        Ok(())
+    }
+}
+
+// False where a turn has no lines to be written.
+fn has_lines<L: Ledger>(report: &Report, machine: &Machine<'_, L>) -> bool
+    ensures { result ≡ false → HasNoLines report.now machine.now }
+{
+    !report.events.is_empty() || machine.has_released()
 }

@@ -1,25 +1,28 @@
 -- Each turn is written, and the rest stays to be written.
-use Rattle.std.proofs.Common.{length, sym, ap, ◌∙◌, arith}
+use Rattle.std.proofs.Common.{length, refl, sym, ap, ◌∙◌, arith}
 use Rattle.rb_trace.specs.Naming.{naming}
 use Rattle.rb_trace.specs.Report.{told_of}
 use Rattle.rb_machine.specs.Machine.{Seen}
-use Rattle.rb_run.proofs.TurnsTaken.{all_written, is_after, led_on, none_waits, processes_now, released_each, stopped_in, turns_left, written_on}
+use Rattle.rb_run.proofs.TurnsTaken.{all_written, is_after, led_on, none_waits, processes_now, released_each, stopped_in, turned_each, turns_left, written_on}
 use Rattle.rb_run.proofs.running.take_turns.Goals as goal
 
-pub write_report-requires : goal.write_report-requires
-write_report-requires g c = record {
-  fit = ap (λ (m : Seen). length m.waiting) c.turn.ensures.machine
-      ∙ released_each c.turns.machine c.in-Some.p ∙ sym c.turns.invariant.named;
-}
+pub write_turn-requires-clause-fit : goal.write_turn-requires-clause-fit
+write_turn-requires-clause-fit g c =
+    ap (λ (m : Seen). length m.waiting) c.turn.ensures.machine ∙ released_each c.turns.machine c.in-Some.p ∙ sym c.turns.invariant.named
+
+pub write_turn-requires-clause-processes : goal.write_turn-requires-clause-processes
+write_turn-requires-clause-processes g c =
+    ap (λ (m : Seen). length m.waiting) c.turn.ensures.machine ∙ released_each c.turns.machine c.in-Some.p
+    ∙ sym (ap (λ (m : Seen). length m.world.processes) c.turn.ensures.machine ∙ turned_each c.turns.machine c.in-Some.p)
 
 pub turns-preserved : goal.turns-preserved
 turns-preserved g c =
     let parts = c.in-Some.ensures.0 in
     let m = c.turns.machine in
     let turning = c.turn.new.self in
-    let now = c.write_report.new.lines in
-    let none = c.in_ok-write_report.ensures.none_waits in
-    let rest = c.write_report.ensures.rest in
+    let now = c.write_turn.new.machine in
+    let none = c.in_ok-write_turn.ensures.none_waits in
+    let rest = c.write_turn.ensures.rest in
     let told = told_of c.turn.new.report.kind c.turn.new.report.events.items turning.waiting in
     let turned = c.turn.ensures in
     let waits = c.turns.invariant.waits in
@@ -30,23 +33,23 @@ turns-preserved g c =
       few = omega (arith, ap (λ (x : Seen). x.taken) same, ap (λ (x : Seen). x.most) same, ap length parts, c.turns.invariant.few);
       led = led_on m turning now c.in-Some.p told turned waits none rest c.turns.schedule.left c.next.new.self.left parts ∙ c.turns.invariant.led;
       text = written_on m turning now c.in-Some.p told turned waits none rest c.turns.schedule.left c.next.new.self.left parts
-          (naming c.args.names.now) c.turns_taken.result c.turns_taken.ensures
+          (naming c.args.names.now) turning.taken refl
           (turns_left (naming c.args.names.now) c.args.machine.now c.args.schedule.left)
-          (g.S.Sink.written c.args.out.now) (g.S.Sink.written c.turns.out) (g.S.Sink.written c.write_report.new.out)
-          (g.S.Sink.faults c.args.out.now) (g.S.Sink.faults c.turns.out) (g.S.Sink.faults c.write_report.new.out)
-          c.turns.invariant.text c.in_ok-write_report.ensures.text;
+          (g.S.Sink.written c.args.out.now) (g.S.Sink.written c.turns.out) (g.S.Sink.written c.write_turn.new.out)
+          (g.S.Sink.faults c.args.out.now) (g.S.Sink.faults c.turns.out) (g.S.Sink.faults c.write_turn.new.out)
+          c.turns.invariant.text c.in_ok-write_turn.ensures.text;
     }
 
-pub returns-in_err-write_report-clause-text : goal.returns-in_err-write_report-clause-text
-returns-in_err-write_report-clause-text g c =
+pub returns-in_err-write_turn-clause-text : goal.returns-in_err-write_turn-clause-text
+returns-in_err-write_turn-clause-text g c =
     let turning = c.turn.new.self in
     stopped_in c.turns.machine turning c.in-Some.p
     (told_of c.turn.new.report.kind c.turn.new.report.events.items turning.waiting) c.turn.ensures
-    c.turns.schedule.left c.next.new.self.left c.in-Some.ensures.0 (naming c.args.names.now) c.turns_taken.result c.turns_taken.ensures
+    c.turns.schedule.left c.next.new.self.left c.in-Some.ensures.0 (naming c.args.names.now) turning.taken refl
     (turns_left (naming c.args.names.now) c.args.machine.now c.args.schedule.left)
-    (g.S.Sink.written c.args.out.now) (g.S.Sink.written c.turns.out) (g.S.Sink.written c.write_report.new.out)
-    (g.S.Sink.faults c.args.out.now) (g.S.Sink.faults c.turns.out) (g.S.Sink.faults c.write_report.new.out)
-    c.in_err-write_report.field-0.0 c.from_residual.result c.from_residual.ensures.0 c.turns.invariant.text c.in_err-write_report.ensures.text
+    (g.S.Sink.written c.args.out.now) (g.S.Sink.written c.turns.out) (g.S.Sink.written c.write_turn.new.out)
+    (g.S.Sink.faults c.args.out.now) (g.S.Sink.faults c.turns.out) (g.S.Sink.faults c.write_turn.new.out)
+    c.in_err-write_turn.field-0.0 c.from_residual.result c.from_residual.ensures.0 c.turns.invariant.text c.in_err-write_turn.ensures.text
 
 pub returns-clause-text : goal.returns-clause-text
 returns-clause-text g c =
