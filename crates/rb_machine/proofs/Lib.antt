@@ -60,3 +60,10 @@ pub mod LinesLent
 pub mod CountedAtWork
 pub mod StaysAtWork
 pub mod LentAtWork
+-- The laws of turns: what is known of each world of a run orders it, and so its turns keep them.
+pub mod HeldWhileSettling
+pub mod BrokenTalks
+pub mod OrderedRuns
+pub mod RejectionsTold
+pub mod UndoneTurns
+pub mod MembersTogether
