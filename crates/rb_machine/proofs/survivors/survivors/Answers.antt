@@ -1,6 +1,5 @@
 -- The turns that were reached, from the oldest on, are the survivors.
 use Rattle.std.proofs.Common.{ℕ, List, map, reverse, refl, sym, ap, ◌∙◌}
-use Rattle.rb_proc.specs.Process.{Seen}
 use Rattle.rb_machine.specs.Moves.{world}
 use Rattle.rb_machine.specs.Survivors.{reached}
 use Rattle.rb_machine.specs.Worlds.{link_of}
