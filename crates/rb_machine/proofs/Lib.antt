@@ -63,3 +63,10 @@ pub mod LentAtWork
 pub mod Alone
 pub mod Finished
 pub mod ReadyFor
+-- The laws of turns: what is known of each world of a run orders it, and so its turns keep them.
+pub mod HeldWhileSettling
+pub mod BrokenTalks
+pub mod OrderedRuns
+pub mod RejectionsTold
+pub mod UndoneTurns
+pub mod MembersTogether

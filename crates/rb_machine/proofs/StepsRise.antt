@@ -20,7 +20,7 @@ use Rattle.rb_machine.proofs.Rising.{KnownIn, comes_known}
 use Rattle.rb_machine.proofs.WordsKept.{natural_risen}
 
 -- where a process settles, it stands with nothing else open
-settling_fits : (c : Code) (t : Table) (s : Standing) (levels : List (Level Copy)) (see : Sight) → see.process ≡ s.process
+pub settling_fits : (c : Code) (t : Table) (s : Standing) (levels : List (Level Copy)) (see : Sight) → see.process ≡ s.process
     → (h : Settles c t s levels) → Fits c t see (inside_out levels) s.at h.entry [] (memory_of s [])
 settling_fits c t s levels see same h = record {
   operands_fit = subst (λ os. OperandsFit os []) (sym h.operands_none) tt;

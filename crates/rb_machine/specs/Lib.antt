@@ -16,3 +16,4 @@ pub mod Entries
 pub mod Turns
 pub mod Rising
 pub mod Survivors
+pub mod TurnLaws

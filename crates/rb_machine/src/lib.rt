@@ -17,6 +17,7 @@ pub mod step;
 pub mod survivors;
 pub mod telling;
 pub mod test_line;
+pub mod turn_laws;
 pub mod undone;
 
 pub use machine::Machine;

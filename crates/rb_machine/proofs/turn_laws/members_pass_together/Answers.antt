@@ -1,0 +1,5 @@
+use Rattle.rb_machine.proofs.MembersTogether.{passed_together}
+use Rattle.rb_machine.proofs.turn_laws.members_pass_together.Goals as goal
+
+pub returns : goal.returns
+returns c = passed_together
