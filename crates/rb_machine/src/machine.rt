@@ -120,6 +120,9 @@ impl<'a, L: Ledger> Machine<'a, L> {
         ensures few { result ≤ 64 * MOST_HELD_BYTES }
         ensures machine { self.new ≡ record self.old { waiting = replicate (length self.old.waiting) [] } }
     {
+        if !self.released {
+            return 0;
+        }
         self.released = false;
         drop_all_released(&mut self.parts.procs)
     }

@@ -1,11 +1,34 @@
--- The parts are tied again once lines were forgotten.
-use Rattle.std.proofs.Common.{ap, false, refl, ◌∙◌, arith}
+-- Where it is known that no line waits, there is none to forget. The parts are tied again once lines were forgotten.
+use Rattle.std.proofs.Common.{◌≡◌, ◌*◌, ℕ, List, [], length, replicate, sum_by, ap, false, refl, sym, ◌∙◌, arith}
+use Rattle.std.proofs.lemmas.List.{length-replicate}
+use Rattle.std.proofs.lemmas.List.Folds.{sum_by-replicate}
 use Rattle.std.proofs.lemmas.List.{with_items_is}
 use Rattle.rb_code.specs.Plain.{code as plain}
 use Rattle.rb_machine.specs.Worlds.{lines_of, processes_of}
-use Rattle.rb_machine.proofs.LentAtWork.{tied_same}
+use Rattle.rb_machine.specs.Machine.{Seen}
+use Rattle.rb_machine.proofs.LentAtWork.{tied_same, waits_none}
 use Rattle.rb_machine.proofs.TurnOfParts.{none_wait}
 use Rattle.rb_machine.proofs.machine.Machine.drop_released.Goals as goal
+
+-- as many empty lists of lines have no line
+none_counted : (waiting : List (List (List ℕ))) (n : ℕ) → waiting ≡ replicate n [] → 0 ≡ sum_by (length {A = List ℕ}) waiting
+none_counted waiting n e = sym (ap (sum_by (length {A = List ℕ})) e ∙ (sum_by-replicate (length {A = List ℕ}) n [] ∙ omega arith))
+
+as_many : (waiting : List (List (List ℕ))) (n : ℕ) → waiting ≡ replicate n [] → waiting ≡ replicate (length waiting) []
+as_many waiting n e = e ∙ ap (λ m. replicate m []) (sym (ap length e ∙ length-replicate n []))
+
+pub returns-then-not-self-clause-count : goal.returns-then-not-self-clause-count
+returns-then-not-self-clause-count g c =
+    let procs = c.self.inside.parts.procs.items in
+    none_counted c.args.self.now.waiting (length procs)
+    (ap (λ (machine : Seen). machine.waiting) (sym c.self.view_is) ∙ waits_none procs (c.self.invariant.none_waits c.if-not-self.true))
+
+pub returns-then-not-self-clause-machine : goal.returns-then-not-self-clause-machine
+returns-then-not-self-clause-machine g c =
+    let procs = c.self.inside.parts.procs.items in
+    ap (λ (waiting : List (List (List ℕ))). record c.args.self.now { waiting = waiting })
+    (as_many c.args.self.now.waiting (length procs)
+    (ap (λ (machine : Seen). machine.waiting) (sym c.self.view_is) ∙ waits_none procs (c.self.invariant.none_waits c.if-not-self.true)))
 
 pub invariant_of-self : goal.invariant_of-self
 invariant_of-self g c =
