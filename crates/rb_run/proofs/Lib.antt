@@ -12,3 +12,5 @@ pub mod Counted
 pub mod Recorded
 pub mod TurnsUnseen
 pub mod Survived
+-- Cursors count what was sent and taken, in the present and in copies.
+pub mod ReceiptsStand
