@@ -13,3 +13,5 @@ pub mod Recorded
 pub mod TurnsUnseen
 pub mod Survived
 pub mod NoLines
+-- Cursors count what was sent and taken, in the present and in copies.
+pub mod ReceiptsStand

@@ -2,3 +2,4 @@
 pub mod Running
 pub mod Counting
 pub mod Surviving
+pub mod Laws

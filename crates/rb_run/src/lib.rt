@@ -2,6 +2,7 @@
 #![tactic(auto)]
 
 pub mod counting;
+pub mod laws;
 pub mod record;
 pub mod running;
 pub mod surviving;
