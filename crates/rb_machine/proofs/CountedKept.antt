@@ -1,6 +1,6 @@
 -- Before turn number t every level has used fewer than t turns and every cursor is below t: an invariant, under one of each process by which
 -- it has its number and stands in the table.
-use Rattle.std.proofs.Common.{◌≡◌, ℕ, zero, suc, ◌+◌, ℤ, Bool, true, false, cond, List, [], ◌∷◌, map, slice_get, Option, Some, refl, ap, sym, ◌∙◌, subst, arith}
+use Rattle.std.proofs.Common.{◌≡◌, ℕ, ◌+◌, ℤ, Bool, true, false, cond, List, [], map, Option, refl, ap, sym, ◌∙◌, subst, arith}
 use Rattle.rb_cache.specs.Copies.{accepted}
 use Rattle.rb_world.specs.Kind.{Kind, Membership, Went, Held}
 use Rattle.rb_world.specs.Reject.{fallen, fallen_inside, put_back, raised, where_inside}
@@ -10,7 +10,7 @@ use Rattle.rb_world.specs.World.{Level, Process, Status, Running, Finished, Fail
 use Rattle.rb_world.proofs.EachProcess.{KeepsEach, each_kept, settled_each}
 use Rattle.rb_world.proofs.Induction.{turn-keeps}
 use Rattle.rb_world.proofs.Invariant.{IsInvariantUnder, both_kept}
-use Rattle.rb_world.proofs.ListFacts.{Each-change_at, Each-map, first_holds, none_some, some_same}
+use Rattle.rb_world.proofs.ListFacts.{Each-change_at, Each-map, first_holds, none_some}
 use Rattle.rb_world.proofs.TurnFacts.{IsReady, StepsAt, ToSend, ToReceive, ToReceiveIfThere, ToStart, ToAct}
 use Rattle.rb_code.specs.Memory.{body_place, cursor_place, part_of}
 use Rattle.rb_code.specs.Plain.{Code, Part}
@@ -30,6 +30,7 @@ use Rattle.rb_meaning.specs.Environment.{natural}
 use Rattle.rb_machine.specs.Known.{CursorsBelow, IsBelow, IsCounted}
 use Rattle.rb_machine.specs.Rising.{RiseAfter}
 use Rattle.rb_machine.proofs.CountsBelow.{back_below, cursors_same, entered_below, fallen_below, fallen_inside_below, freed_below, inside_below, left_below, moved_below, raised_below, used_below, weaker}
+use Rattle.rb_machine.proofs.FirstProcesses.{opens_at}
 use Rattle.rb_machine.proofs.RunsRise.{run_step_rises}
 use Rattle.rb_machine.proofs.StepsRise.{settle_keeps}
 use Rattle.rb_machine.proofs.WordsKept.{word_zero}
@@ -232,14 +233,6 @@ module _ (c : Code) (groups : List Membership) (table : Table) (has : HasTable c
     pub counted_turn : KeepsEach Words P → (t p : ℕ) (w : WordWorld) → Each P w.processes → Each (IsCounted c t) w.processes
         → Each (IsCounted c (t + 1)) (turn Words t p w).0.processes
     counted_turn keeps t p w placed h = (turn-keeps (both_kept (each_kept keeps) counted_kept) t [] p w (placed, h)).1
-
-  -- a process before the first turn
-  opens_at : (p r : ℕ) (parts : List Part) (s : Standing) → slice_get (opening_standings p parts) r ≡ Some s
-      → (part : Part) × (slice_get parts r ≡ Some part) × (s ≡ opening_standing (p + r) part)
-  opens_at p r [] s e = absurd (none_some e)
-  opens_at p zero (part ∷ parts) s e = (part, refl, sym (some_same e) ∙ ap (λ n. opening_standing n part) (omega arith))
-  opens_at p (suc r) (part ∷ parts) s e =
-      let h = opens_at (p + 1) r parts s e in (h.0, h.1, h.2 ∙ ap (λ n. opening_standing n h.0) (omega arith))
 
   zero_below : (p : ℕ) (part : Part) → CursorsBelow c p 1 (opening_standing p part).words
   zero_below p part channel among =

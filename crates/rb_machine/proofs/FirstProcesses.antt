@@ -1,5 +1,5 @@
 -- The processes of a code before its first turn, one more by one.
-use Rattle.std.proofs.Common.{◌≡◌, ℕ, zero, suc, ◌+◌, ◌<◌, List, [], ◌∷◌, ◌++◌, length, map, take, slice_get, Some, ap, sym, ◌∙◌, arith}
+use Rattle.std.proofs.Common.{◌≡◌, ℕ, zero, suc, ◌+◌, ◌<◌, List, [], ◌∷◌, ◌++◌, length, map, take, slice_get, Some, refl, ap, sym, ◌∙◌, arith}
 use Rattle.std.specs.Option.{unwrap_or}
 use Rattle.std.proofs.lemmas.List.{map_push}
 use Rattle.rb_world.proofs.ListFacts.{none_some, slice_get-there, some_same}
@@ -9,6 +9,14 @@ use Rattle.rb_code.specs.Turn.{Standing}
 use Rattle.rb_code.specs.WordRun.{opening_standing, opening_standings}
 use Rattle.rb_proc.specs.Process.{Seen}
 use Rattle.rb_machine.specs.Loading.{first_seen}
+
+-- a process before the first turn has its number, and begins at its part
+pub opens_at : (p r : ℕ) (parts : List Part) (s : Standing) → slice_get (opening_standings p parts) r ≡ Some s
+    → (part : Part) × (slice_get parts r ≡ Some part) × (s ≡ opening_standing (p + r) part)
+opens_at p r [] s e = absurd (none_some e)
+opens_at p zero (part ∷ parts) s e = (part, refl, sym (some_same e) ∙ ap (λ n. opening_standing n part) (omega arith))
+opens_at p (suc r) (part ∷ parts) s e =
+    let h = opens_at (p + 1) r parts s e in (h.0, h.1, h.2 ∙ ap (λ n. opening_standing n h.0) (omega arith))
 
 -- the states of one process more
 one_more_opens : (p i : ℕ) (parts : List Part) (part : Part) → slice_get parts i ≡ Some part

@@ -1,13 +1,13 @@
 -- Every world of a run of sound code is ordered, as the laws of turns ask: levels are nested, and are those of members; an outermost
 -- conversation is entered with no level; a conversation that is broken lies in no other; and no line is left to release.
-use Rattle.std.proofs.Common.{◌≡◌, ℕ, zero, suc, ◌+◌, ℤ, pos, true, false, List, [], ◌∷◌, slice_get, slice_set, Option, Some, None, refl, sym, ap, ◌∙◌, subst, arith}
+use Rattle.std.proofs.Common.{◌≡◌, ℕ, ◌+◌, ℤ, pos, true, false, List, [], ◌∷◌, slice_get, slice_set, Option, Some, None, refl, sym, ap, ◌∙◌, subst, arith}
 use Rattle.rb_world.specs.Kind.{Enters, Facts, Kind, Membership}
 use Rattle.rb_world.specs.Reject.{parent_of}
 use Rattle.rb_world.specs.Standing.{Each, is_failed}
 use Rattle.rb_world.specs.Turn.{freed, move, run, state_freed, turn}
 use Rattle.rb_world.specs.World.{Level, Process, Status, Running, Finished, FailedWith, settled}
 use Rattle.rb_world.proofs.EachProcess.{settled_each}
-use Rattle.rb_world.proofs.ListFacts.{none_some, some_same}
+use Rattle.rb_world.proofs.ListFacts.{none_some}
 use Rattle.rb_world.proofs.Members.PassTogether.{map_found}
 use Rattle.rb_world.proofs.Members.Together.{IsOrdered}
 use Rattle.rb_code.specs.Plain.{Code, Part}
@@ -22,6 +22,7 @@ use Rattle.rb_code.specs.WordRun.{WordWorld, opening_of, opening_standing, openi
 use Rattle.rb_code.proofs.StandsAgain.{opening_settles}
 use Rattle.rb_machine.specs.Known.{IsKnown, IsLoaded, IsPlaced}
 use Rattle.rb_machine.proofs.BrokenTalks.{AllOuterIfBroken, opening_outer, turn_outer}
+use Rattle.rb_machine.proofs.FirstProcesses.{opens_at}
 use Rattle.rb_machine.proofs.HeldWhileSettling.{Holds, settling_holds}
 use Rattle.rb_machine.proofs.KnownTurns.{known_opening, known_turn}
 use Rattle.rb_machine.proofs.Placed.Behind.{IsBusy, behind, behind_may}
@@ -66,14 +67,6 @@ module _ (c : Code) (groups : List Membership) where
       ap (λ (words : List ℤ). record s { held = []; words = words }) (set_zero s.words h.1)
       ∙ ap (λ (lines : List (List ℕ)). record s { held = lines }) (sym h.0)
 
-  -- each process before the first turn
-  opens_at : (p r : ℕ) (parts : List Part) (s : Standing) → slice_get (opening_standings p parts) r ≡ Some s
-      → (part : Part) × (slice_get parts r ≡ Some part) × (s ≡ opening_standing (p + r) part)
-  opens_at p r [] s e = absurd (none_some e)
-  opens_at p zero (part ∷ parts) s e = (part, refl, sym (some_same e) ∙ ap (λ n. opening_standing n part) (omega arith))
-  opens_at p (suc r) (part ∷ parts) s e =
-      let h = opens_at (p + 1) r parts s e in (h.0, h.1, h.2 ∙ ap (λ n. opening_standing n h.0) (omega arith))
-
 module _ (c : Code) (groups : List Membership) (t : Table) (has : HasTable c groups t) (lists : ListsChannels c) where
   opening_holds : (r : ℕ) (part : Part) → slice_get c.processes r ≡ Some part
       → Holds [] (pos 0) (settle c None (opening_standing r part)).held (settle c None (opening_standing r part)).words
@@ -85,7 +78,7 @@ module _ (c : Code) (groups : List Membership) (t : Table) (has : HasTable c gro
   opening_quiet =
       settled_each (word_kind c groups) (IsQuiet c groups) (opening_standings 0 c.processes)
       (λ r s e.
-      let h = opens_at c groups 0 r c.processes s e in
+      let h = opens_at 0 r c.processes s e in
       let is : s ≡ opening_standing r h.0 = h.2 ∙ ap (λ n. opening_standing n h.0) (omega arith) in
       subst (λ (x : Standing). IsQuiet c groups r (settled (word_kind c groups) x [])) (sym is)
       (let q : Process Standing Copy = settled (word_kind c groups) (opening_standing r h.0) [] in

@@ -27,8 +27,8 @@ abbrev pub world_after : Code → List Membership → List ℕ → WordWorld
 world_after c groups turns = (word_run c groups turns).0
 
 -- process number r of a world
-abbrev pub IsThere : WordWorld → ℕ → Process Standing Copy → Type 0
-IsThere w r q = slice_get w.processes r ≡ Some q
+abbrev pub IsIn : WordWorld → ℕ → Process Standing Copy → Type 0
+IsIn w r q = slice_get w.processes r ≡ Some q
 
 -- the turn of process p that comes after these turns
 abbrev pub next_turn : Code → List Membership → List ℕ → ℕ → WordWorld × Told
@@ -43,16 +43,16 @@ IsOutside (Some d) q = is_inside d q ≡ false
 -- none, no other at all.
 abbrev pub KeepsRejectionsInside : Code → List Membership → Type 0
 KeepsRejectionsInside c groups = (turns : List ℕ) (p r : ℕ) (q : Process Standing Copy)
-    → (next_turn c groups turns p).1.kind ≡ Undone → IsThere (world_after c groups turns) r q → r ≢ p
+    → (next_turn c groups turns p).1.kind ≡ Undone → IsIn (world_after c groups turns) r q → r ≢ p
     → IsOutside (outermost_rejected (next_turn c groups turns p).1.events) q
-    → IsThere (next_turn c groups turns p).0 r q
+    → IsIn (next_turn c groups turns p).0 r q
 
 abbrev pub RejectionsStayInside : Type 0
 RejectionsStayInside = OfSoundCode KeepsRejectionsInside
 
 -- nobody is inside conversation d
 abbrev pub IsEmpty : ℕ → WordWorld → Type 0
-IsEmpty d w = (r : ℕ) (q : Process Standing Copy) → IsThere w r q → is_inside d q ≡ false
+IsEmpty d w = (r : ℕ) (q : Process Standing Copy) → IsIn w r q → is_inside d q ≡ false
 
 -- the same level, but for its turns used
 pub record IsSameLevel (level later : Level Copy) : Type 0 where
@@ -62,7 +62,7 @@ pub record IsSameLevel (level later : Level Copy) : Type 0 where
 
 -- a process's level number i, which is one of conversation d, with the process
 pub record HasLevel (w : WordWorld) (d r i : ℕ) (q : Process Standing Copy) (level : Level Copy) : Type 0 where
-  pub there : IsThere w r q
+  pub there : IsIn w r q
   pub level_there : slice_get q.levels i ≡ Some level
   pub of_it : level.facts.conversation ≡ Some d
 
@@ -82,7 +82,7 @@ pub record IsPutBack (level : Level Copy) (i : ℕ) (q' : Process Standing Copy)
 -- so is each that is inside conversation d, at its level of it
 abbrev pub ArePutBack : ℕ → WordWorld → WordWorld → Type 0
 ArePutBack d w later = (r i : ℕ) (q : Process Standing Copy) (level : Level Copy) → HasLevel w d r i q level
-    → (q' : Process Standing Copy) × IsThere later r q' × IsPutBack level i q'
+    → (q' : Process Standing Copy) × IsIn later r q' × IsPutBack level i q'
 
 -- every other member stands at the line of conversation d, and p, a member, is innermost in it
 pub record AllCome (groups : List Membership) (d p : ℕ) (w : WordWorld) : Type 0 where
