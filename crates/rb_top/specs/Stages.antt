@@ -2,9 +2,10 @@
 use Rattle.std.specs.Prelude.{◌≡◌, ◌⊎◌, ◌≤◌, ℕ, List, [], ◌∷◌, ◌++◌, length, Option, Some, None}
 use Rattle.rb_base.specs.declared.limits.TheConstants.{MOST_BYTES}
 use Rattle.rb_outside.specs.Outside.{File, Faults, Start, WrotePart, failed_once, then_written}
+use Rattle.rb_syntax.specs.Tree.{Tree}
 use Rattle.rb_prepare.specs.Prepared.{IsPrepared}
 use Rattle.rb_prepare.specs.declared.preparing.Prepared.{Prepared}
-use Rattle.rb_top.specs.Judgement.{Judgement, ReadsOn, RefusedWith, RunGoesOn, Writes, SourceRefused}
+use Rattle.rb_top.specs.Judgement.{Judgement, ReadsOn, OverSchedule, RefusedWith, Writes, SourceRefused}
 use Rattle.rb_top.specs.Words.{Wanted, Request}
 use Rattle.rb_top.specs.Answers.{HasRead}
 use Rattle.rb_top.specs.declared.read.Unread.{Unread}
@@ -36,10 +37,10 @@ EndsForSource source ReadsOn = ⊥
 EndsForSource source (RefusedWith line) = SourceRefused source line
 EndsForSource source (Writes text) = ⊥
 
--- what a schedule comes to, for whatever source this code was made of
-abbrev pub EndsForSchedule : Prepared → List ℕ → Judgement → Type 0
-EndsForSchedule prepared schedule judgement =
-    (source : List ℕ) (accepted : IsPrepared source prepared) → RunGoesOn accepted.tree (schedule ∷ []) judgement
+-- what a schedule comes to under a command with such a text, for whatever source this code was made of
+abbrev pub EndsForSchedule : (Tree → List ℕ → List ℕ) → Prepared → List ℕ → Judgement → Type 0
+EndsForSchedule text_of prepared schedule judgement =
+    (source : List ℕ) (accepted : IsPrepared source prepared) → OverSchedule text_of accepted.tree (schedule ∷ []) judgement
 
 -- How a stage ends that reads nothing more: it judged so, and wrote the text or the line of the refusal, or a write failed; or
 -- memory was wanting, before it wrote.
