@@ -6,6 +6,7 @@ pub mod Judged
 pub mod Complete
 pub mod AllJudged
 pub mod Loaded
+pub mod Digits
 pub mod Scheduled
 pub mod Behind
 pub mod CommandLine

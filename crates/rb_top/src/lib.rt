@@ -5,6 +5,7 @@ pub mod check;
 pub mod code;
 pub mod ending;
 pub mod laws;
+pub mod number;
 pub mod program;
 pub mod read;
 pub mod refuse;

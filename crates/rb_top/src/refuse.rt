@@ -61,7 +61,7 @@ pub fn put_usage<S: Sink>(out: &mut S) -> Result<(), Failed>
 {
     put(
         out,
-        b"usage: rbl run SOURCE SCHEDULE | check SOURCE | code SOURCE\n",
+        b"usage: rbl run SOURCE SCHEDULE | survive SOURCE SCHEDULE | plain SOURCE RECORD | check SOURCE | code SOURCE | trial NUMBER\n",
     )
 }
 
