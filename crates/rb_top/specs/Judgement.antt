@@ -90,7 +90,7 @@ summary_text n tree turns =
     ++ (line_of (codes "processes" ∷ decimal (processes_of n) ∷ [])
     ++ (line_of (codes "turns" ∷ decimal (length turns) ∷ [])
     ++ line_of (codes "out" ∷ decimal counts.out ∷ codes "reject" ∷ decimal counts.reject ∷ codes "pass" ∷ decimal counts.pass
-        ∷ codes "error" ∷ decimal counts.error ∷ codes "done" ∷ decimal counts.done ∷ [])))
+    ∷ codes "error" ∷ decimal counts.error ∷ codes "done" ∷ decimal counts.done ∷ [])))
 
 -- The verdict on a record for an accepted source: too long, its first fault, or the turn at which its plain run is stuck.
 pub data RecordRefused (tree : Tree) (text : List ℕ) (line : List ℕ) : Type 0 where
@@ -150,18 +150,22 @@ pub record ListsCodeOf (tree : Tree) (text : List ℕ) : Type 0 where
 pub data CodeGoesOn (tree : Tree) : List (List ℕ) → Judgement → Type 0 where
   lists : (text : List ℕ) → ListsCodeOf tree text → CodeGoesOn tree [] (Writes text)
 
--- What each command makes of the texts that it has read. A trial judges the two texts that are made for it as if they were read.
+-- The judgement with which whoever makes so of texts ends: these texts were read already, and these are those of the files after them.
+pub data EndsBy (judges : List (List ℕ) → Judgement → Type 0) : List (List ℕ) → List (List ℕ) → Judgement → Type 0 where
+  refused_here : (read rest : List (List ℕ)) (line : List ℕ) → judges read (RefusedWith line) → EndsBy judges read rest (RefusedWith line)
+  written_here : (read rest : List (List ℕ)) (text : List ℕ) → judges read (Writes text) → EndsBy judges read rest (Writes text)
+  later : (read : List (List ℕ)) (next : List ℕ) (rest : List (List ℕ)) (judgement : Judgement) → judges read ReadsOn →
+      EndsBy judges (read ++ next ∷ []) rest judgement → EndsBy judges read (next ∷ rest) judgement
+
+-- What each command makes of the texts that it has read. A trial reads none, and ends as if the two texts that are made for it were read.
 abbrev pub Judges : Command → List (List ℕ) → Judgement → Type 0
 Judges Run texts judgement = JudgesSource (OverSchedule run_text) texts judgement
 Judges Survive texts judgement = JudgesSource (OverSchedule survivors_text) texts judgement
 Judges Replay texts judgement = JudgesSource PlainGoesOn texts judgement
 Judges Check texts judgement = JudgesSource CheckGoesOn texts judgement
 Judges Compile texts judgement = JudgesSource CodeGoesOn texts judgement
-Judges (Trial n) texts judgement = (texts ≡ []) × JudgesSource (OverSchedule (summary_text n)) (source_of n ∷ made_schedule n ∷ []) judgement
+Judges (Trial n) texts judgement = (texts ≡ []) × EndsBy (JudgesSource (OverSchedule (summary_text n))) [] (source_of n ∷ made_schedule n ∷ []) judgement
 
--- The judgement with which a command ends: these texts were read already, and these are those of the files after them.
-pub data EndsWith (command : Command) : List (List ℕ) → List (List ℕ) → Judgement → Type 0 where
-  refused_here : (read rest : List (List ℕ)) (line : List ℕ) → Judges command read (RefusedWith line) → EndsWith command read rest (RefusedWith line)
-  written_here : (read rest : List (List ℕ)) (text : List ℕ) → Judges command read (Writes text) → EndsWith command read rest (Writes text)
-  later : (read : List (List ℕ)) (next : List ℕ) (rest : List (List ℕ)) (judgement : Judgement) → Judges command read ReadsOn →
-      EndsWith command (read ++ next ∷ []) rest judgement → EndsWith command read (next ∷ rest) judgement
+-- the judgement with which a command ends
+abbrev pub EndsWith : Command → List (List ℕ) → List (List ℕ) → Judgement → Type 0
+EndsWith command read rest judgement = EndsBy (Judges command) read rest judgement
