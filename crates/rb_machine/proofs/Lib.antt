@@ -21,6 +21,7 @@ pub mod CountedKept
 -- What the links lead to.
 pub mod LinkedTurns
 pub mod Reached
+pub mod ReachedLinks
 pub mod KnownTurns
 -- What a load asks of code, and what it makes of it.
 pub mod ExecutableCode
@@ -51,6 +52,7 @@ pub mod SomeCode
 pub mod WhoIsInside
 pub mod EndsTold
 pub mod Released
+pub mod Dropped
 pub mod Written
 pub mod ReadAt
 pub mod CountsRead

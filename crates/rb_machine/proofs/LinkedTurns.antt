@@ -9,7 +9,7 @@ use Rattle.rb_world.specs.Reject.{all_back, at_place, back_to, fallen, fallen_in
 use Rattle.rb_world.specs.Slots.{zero_slots}
 use Rattle.rb_world.specs.Standing.{Each}
 use Rattle.rb_world.specs.Turn.{freed, leaves, new_level, stands_at, stands_now, state_freed, turn, turn_used}
-use Rattle.rb_world.specs.World.{Level, Process, change_at, copy_of, goes_on, is_inside, is_of, last_of, settled, with_memory, with_process, without_last}
+use Rattle.rb_world.specs.World.{Level, Process, Talk, change_at, copy_of, goes_on, is_inside, is_of, last_of, settled, with_memory, with_process, without_last}
 use Rattle.rb_world.proofs.EachProcess.{settled_each}
 use Rattle.rb_world.proofs.Induction.{turn-keeps}
 use Rattle.rb_world.proofs.Invariant.{IsInvariant}
@@ -237,9 +237,9 @@ module _ (c : Code) (groups : List Membership) where
 
   -- one process is changed, or each, with the same links
   module _ (t : ℕ) (w : WordWorld) (h : AreLinked t w) where
-    with_processes : (processes : List (Process Standing Copy)) → Each (IsLinked w.memory.links t) processes
-        → AreLinked t (record w { processes = processes })
-    with_processes processes each = record { fall = h.fall; before = h.before; processes = each }
+    with_processes : (processes : List (Process Standing Copy)) (talks : List Talk) → Each (IsLinked w.memory.links t) processes
+        → AreLinked t (record { processes = processes; talks = talks; memory = w.memory })
+    with_processes processes talks each = record { fall = h.fall; before = h.before; processes = each }
 
     one_changed : (p : ℕ) (f : Process Standing Copy → Process Standing Copy)
         → ((q : Process Standing Copy) → slice_get w.processes p ≡ Some q → IsLinked w.memory.links t p q → IsLinked w.memory.links t p (f q))
@@ -255,7 +255,7 @@ module _ (c : Code) (groups : List Membership) where
   pub linked_used : (t p : ℕ) (w : WordWorld) → AreLinked t w → (q : Process Standing Copy) → slice_get w.processes p ≡ Some q
       → AreLinked t (with_process p (λ _. turn_used q) w)
   linked_used t p w h q there =
-      with_processes t w h _ (one_changed t w h p (λ _. turn_used q) (λ x e _. used_linked w.memory.links t p c groups q (h.processes p q there)))
+      with_processes t w h _ _ (one_changed t w h p (λ _. turn_used q) (λ x e _. used_linked w.memory.links t p c groups q (h.processes p q there)))
 
   -- all laws of the invariant
   pub linked_kept : IsInvariant TheWords (λ t _ w. AreLinked t w) (λ t _ _ _ w. AreLinked t w) (λ t _ w. AreLinked (t + 1) w)
@@ -279,33 +279,33 @@ module _ (c : Code) (groups : List Membership) where
     stands = λ t past p q w a v s l d h at e _ _ _. stood t p a w q v s h at e;
     leaves = λ t past p q w a v s l d h at e _ _ _.
         let stood_there = stood t p a w q v s h at e in
-        with_processes (t + 1) _ stood_there _
+        with_processes (t + 1) _ stood_there _ _
         (Each-map (IsLinked _ (t + 1)) (leaves TheWords d) _ stood_there.processes
         (λ r x _ one. leaves_linked _ (t + 1) r c groups d x (stands_at d x) one));
     falls = λ t past p q w left cause h r why.
         later_linked t (t + 1) _ (omega arith)
-        (with_processes t w h _ (one_changed t w h p (fallen TheWords cause) (λ x _ one. fallen_linked w.memory.links t p c groups cause x one)));
+        (with_processes t w h _ _ (one_changed t w h p (fallen TheWords cause) (λ x _ one. fallen_linked w.memory.links t p c groups cause x one)));
     tries_next = λ t past p q w j l h r x y.
-        let back = with_processes t w h _ (one_changed t w h p (put_back TheWords j) (λ z _ one. put_back_linked w.memory.links t p c groups j z one)) in
+        let back = with_processes t w h _ w.talks (one_changed t w h p (put_back TheWords j) (λ z _ one. put_back_linked w.memory.links t p c groups j z one)) in
         later_linked t (t + 1) _ (omega arith)
-        (with_processes t _ back _ (one_changed t _ back p (raised j) (λ z _ one. raised_linked w.memory.links t p c groups j z one)));
+        (with_processes t _ back _ _ (one_changed t _ back p (raised j) (λ z _ one. raised_linked w.memory.links t p c groups j z one)));
     is_spent = λ t past p q w j l h r x y.
-        with_processes t w h _ (one_changed t w h p (put_back TheWords j) (λ z _ one. put_back_linked w.memory.links t p c groups j z one));
+        with_processes t w h _ _ (one_changed t w h p (put_back TheWords j) (λ z _ one. put_back_linked w.memory.links t p c groups j z one));
     all_try_next = λ t past p q w j l d h r x y.
         later_linked t (t + 1) _ (omega arith)
-        (with_processes t w h _
+        (with_processes t w h _ _
         (Each-map (IsLinked w.memory.links t) (where_inside raised d) _ (all_put_back t w h d)
         (λ r z _ one. placed_linked w.memory.links t r c groups raised (position (is_of d) z.levels) z
         (λ i. raised_linked w.memory.links t r c groups i z) one)));
-    all_are_spent = λ t past p q w j l d parent h r x y z. with_processes t w h _ (all_put_back t w h d);
+    all_are_spent = λ t past p q w j l d parent h r x y z. with_processes t w h _ _ (all_put_back t w h d);
     breaks = λ t past p q w j l d h r x y z.
         later_linked t (t + 1) _ (omega arith)
-        (with_processes t w h _
+        (with_processes t w h _ _
         (Each-map (IsLinked w.memory.links t) (fallen_inside TheWords d) _ (all_put_back t w h d)
         (λ r u _ one. inside_linked w.memory.links t r c groups d u (is_inside d u) one)));
     is_gone = λ t past p q w j h r e. later_linked t (t + 1) w (omega arith) h;
     releases = λ t past w one h e.
-        with_processes (t + 1) w h _
+        with_processes (t + 1) w h _ _
         (Each-map (IsLinked w.memory.links (t + 1)) (freed TheWords) w.processes h.processes
         (λ r q _ own. freed_linked w.memory.links (t + 1) r c groups q own));
   }

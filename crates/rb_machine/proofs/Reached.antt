@@ -1,7 +1,7 @@
 -- The turns that one walk over the links reaches from the last kept turn of each process are the survivors, the newest first.
 use Rattle.std.proofs.Common.{◌≡◌, ◌≢◌, ◌≤◌, ◌<◌, ◌+◌, ℕ, zero, suc, Bool, true, false, cond, eq-eqb, List, [], ◌∷◌, ◌++◌, length, map, nat_eq, reverse, slice_get, slice_set, Some, None, refl, sym, ap, ◌∙◌, subst, arith}
 use Rattle.std.proofs.lemmas.Bool.{ne_eqb}
-use Rattle.std.proofs.lemmas.List.{length-map, length-set}
+use Rattle.std.proofs.lemmas.List.{length-map, length-set, reverse-append}
 use Rattle.std.proofs.lemmas.Simd.{map-map}
 use Rattle.rb_world.specs.Plain.{Kept, survivors_from, survivors_of}
 use Rattle.rb_world.specs.Standing.{Each}
@@ -16,23 +16,24 @@ use Rattle.rb_machine.specs.Linked.{AreLinked, Fall, IsLinked, IsOwn}
 use Rattle.rb_machine.specs.Survivors.{is_wanted, kept_by, next_wanted, reached, word_survivors}
 use Rattle.rb_machine.specs.Worlds.{processes_of}
 
+abbrev AllLower : ℕ → List Link → Type 0
+AllLower t links = (m i : ℕ) (one : ℕ × ℕ) → slice_get (kept_from links m) i ≡ Some one → one.0 < t
+
 -- the kept turns that links lead to are below what the links fall from
 kept_below : (t : ℕ) (links : List Link) (n : ℕ) → Fall t links → Each (λ i (one : ℕ × ℕ). one.0 < t) (kept_from links n)
-kept_below t [] n fall i one e = absurd (none_some e)
-kept_below t (link ∷ links) n fall = by (nat_eq link.turn n)
+kept_below t [] n fall = λ i one e. absurd (none_some e)
+kept_below t (link ∷ links) n fall =
+    by (λ m i one e. let below : one.0 < link.turn = kept_below link.turn links m fall.1 i one e in omega (arith, below, fall.0))
+    (nat_eq link.turn n)
   where
-    lower : (m : ℕ) → Each (λ i (one : ℕ × ℕ). one.0 < t) (kept_from links m)
-    lower m i one e =
-        let below : one.0 < link.turn = kept_below link.turn links m fall.1 i one e in
-        omega (arith, below, fall.0)
+    newest : AllLower t links → (i : ℕ) (one : ℕ × ℕ) → IsOldOrNew (kept_from links link.before) (link.turn, link.alternate) i one → one.0 < t
+    newest lower i one (IsOld e) = lower link.before i one e
+    newest lower i one (IsNew at same) = subst (λ (x : ℕ × ℕ). x.0 < t) same fall.0
 
-    newest : (i : ℕ) (one : ℕ × ℕ) → IsOldOrNew (kept_from links link.before) (link.turn, link.alternate) i one → one.0 < t
-    newest i one (IsOld e) = lower link.before i one e
-    newest i one (IsNew at same) = subst (λ (x : ℕ × ℕ). x.0 < t) same fall.0
-
-    by : (b : Bool) → Each (λ i (one : ℕ × ℕ). one.0 < t) (cond b (kept_from links link.before ++ (link.turn, link.alternate) ∷ []) (kept_from links n))
-    by true i one e = newest i one (get_more (kept_from links link.before) (link.turn, link.alternate) i one e)
-    by false i one e = lower n i one e
+    by : AllLower t links → (b : Bool)
+        → Each (λ i (one : ℕ × ℕ). one.0 < t) (cond b (kept_from links link.before ++ (link.turn, link.alternate) ∷ []) (kept_from links n))
+    by lower true i one e = newest lower i one (get_more (kept_from links link.before) (link.turn, link.alternate) i one e)
+    by lower false i one e = lower n i one e
 
 -- without links nothing survived
 none_reached : (p : ℕ) (wanted : List ℕ) → survivors_from p (map (kept_from []) wanted) ≡ []
@@ -129,25 +130,32 @@ module _ (t : ℕ) where
     wanted_there : is_wanted wanted link ≡ true → slice_get wanted link.process ≡ Some link.turn
     wanted_there e = of_number (slice_get wanted link.process) link.turn e
 
+  abbrev AllReach : List Link → Type 0
+  AllReach links = (wanted : List ℕ) → AllOwn links wanted → survivors_of (map (kept_from links) wanted) ≡ reverse (reached links wanted)
+
   -- So the walk finds the survivors.
   pub walk_reaches : (u : ℕ) (links : List Link) (wanted : List ℕ) → Fall u links → AllBefore links → AllOwn links wanted
       → survivors_of (map (kept_from links) wanted) ≡ reverse (reached links wanted)
   walk_reaches u [] wanted fall before own = none_reached 0 wanted
-  walk_reaches u (link ∷ links) wanted fall before own = by (is_wanted wanted link) refl
+  walk_reaches u (link ∷ links) wanted fall before own =
+      by (λ later its_own. walk_reaches link.turn links later fall.1 (older link links before) its_own) (is_wanted wanted link) refl
     where
       own_then : AllOwn links wanted
       own_then p n e = own_older link links t p n (own p n e)
 
-      by : (b : Bool) → is_wanted wanted link ≡ b
+      next_own : AllOwn links (next_wanted wanted link)
+      next_own =
+          Each-slice_set (IsOwn links t) wanted link.process link.before own_then
+          (own_older link links t link.process link.before (before zero link refl))
+
+      by : AllReach links → (b : Bool) → is_wanted wanted link ≡ b
           → survivors_of (map (kept_from (link ∷ links)) wanted)
           ≡ reverse (cond b (kept_by link ∷ reached links (next_wanted wanted link)) (reached links wanted))
-      by false e =
+      by reach false e =
           ap survivors_of (map_same (kept_from (link ∷ links)) (kept_from links) wanted (unwanted link links wanted own e))
-          ∙ walk_reaches link.turn links wanted fall.1 (older link links before) own_then
-      by true e =
+          ∙ reach wanted own_then
+      by reach true e =
           let there = wanted_there link links wanted own e in
-          let later : AllOwn links (next_wanted wanted link) =
-          Each-slice_set (IsOwn links t) wanted link.process link.before own_then (own_older link links t link.process link.before (before zero link refl)) in
           let lists : List (List (ℕ × ℕ)) = map (kept_from links) (next_wanted wanted link) in
           let within : suc link.process ≤ length lists =
           omega (arith, there_within wanted link.process link.turn there, length-map (next_wanted wanted link) (kept_from links), length-set wanted link.process link.before) in
@@ -157,8 +165,8 @@ module _ (t : ℕ) where
           ∙ (survivors_grow link.turn link.process link.alternate lists
           (each_mapped (λ list. Each (λ i (one : ℕ × ℕ). one.0 < link.turn) list) (kept_from links) (next_wanted wanted link)
           (λ n. kept_below link.turn links n fall.1)) within
-          ∙ ap (λ (list : List Kept). list ++ kept_by link ∷ [])
-          (walk_reaches link.turn links (next_wanted wanted link) fall.1 (older link links before) later))
+          ∙ (ap (λ (list : List Kept). list ++ kept_by link ∷ []) (reach (next_wanted wanted link) next_own)
+          ∙ sym (reverse-append (kept_by link ∷ []) (reached links (next_wanted wanted link)))))
 
 -- the turn that is wanted first of each process is its own
 abbrev last_of_each : List Seen → List ℕ

@@ -115,7 +115,7 @@ impl<'a, L: Ledger> Machine<'a, L> {
     pub fn drop_released(&mut self) -> u32
         ensures count { result ≡ sum_by length self.old.waiting }
         ensures few { result ≤ 64 * MOST_HELD_BYTES }
-        ensures machine { self.new ≡ record self.old { waiting = replicate (length self.old.world.processes) [] } }
+        ensures machine { self.new ≡ record self.old { waiting = replicate (length self.old.waiting) [] } }
     {
         drop_all_released(&mut self.parts.procs)
     }

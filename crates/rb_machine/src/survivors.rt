@@ -46,7 +46,7 @@ fn last_kept<L: Ledger>(alloc: Global, procs: &[Proc<L>]) -> Result<Vec<u32>, Me
 
 // The turns that links lead to from the wanted turn of each process, the newest first.
 fn reach(alloc: Global, links: &[Link], wanted: &mut [u32]) -> Result<Vec<Kept>, Memory>
-    ensures { IfOk result (λ kept. map kept_of kept.items ≡ reached (reverse (map link_of links.now)) wanted.old) }
+    ensures { IfOk result (λ kept. map kept_of kept.items ≡ reached (map link_of (reverse links.now)) wanted.old) }
 {
     let mut kept = Vec::new(alloc);
     for link in links.iter().rev() {
@@ -66,11 +66,10 @@ fn follow(wanted: &mut [u32], link: &Link) -> bool
     ensures wanted { result ≡ is_wanted wanted.old (link_of link.now) }
     ensures next { wanted.new ≡ cond result (next_wanted wanted.old (link_of link.now)) wanted.old }
 {
-    match wanted.get_mut(link.process as usize) {
-        Some(turn) if *turn == link.turn => {
-            *turn = link.before;
-            true
-        }
-        _ => false,
+    let process = link.process as usize;
+    if wanted.get(process) != Some(&link.turn) {
+        return false;
     }
+    wanted[process] = link.before;
+    true
 }

@@ -7,3 +7,8 @@ pub mod NamesFit
 pub mod Completes
 pub mod TurnsTaken
 pub mod RunWritten
+-- Lines that are counted, and records that are written.
+pub mod Counted
+pub mod Recorded
+pub mod TurnsUnseen
+pub mod Survived

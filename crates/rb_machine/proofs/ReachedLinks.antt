@@ -1,0 +1,46 @@
+-- One step of the walk over the links: a link is followed, or passed over.
+use Rattle.std.proofs.Common.{◌≡◌, ◌<◌, ◌+◌, ℕ, Bool, true, false, cond, List, [], ◌∷◌, ◌++◌, length, drop, get_or, map, sym, ap, ◌∙◌, append_assoc}
+use Rattle.std.proofs.lemmas.List.{drop_more, map-append}
+use Rattle.rb_world.specs.Plain.{Kept}
+use Rattle.rb_code.specs.Turn.{Link}
+use Rattle.rb_machine.specs.Survivors.{is_wanted, kept_by, kept_of, next_wanted, reached}
+use Rattle.rb_machine.specs.Worlds.{link_of}
+use Rattle.rb_machine.specs.declared.links.Link.{Link as Held}
+use Rattle.rb_machine.specs.declared.survivors.Kept.{Kept as HeldKept}
+
+-- what links lead to from a number on
+abbrev pub from : List Held → ℕ → List ℕ → List Kept
+from all i wanted = reached (map link_of (drop i all)) wanted
+
+module _ (all : List Held) (i : ℕ) (x : Held) (within : i < length all) (here : x ≡ get_or all i x) (wanted : List ℕ) where
+  abbrev goes : Bool → List Kept
+  goes b = cond b (kept_by (link_of x) ∷ from all (i + 1) (next_wanted wanted (link_of x))) (from all (i + 1) wanted)
+
+  met : (b : Bool) → is_wanted wanted (link_of x) ≡ b → from all i wanted ≡ goes b
+  met b is =
+      ap (λ (rest : List Held). reached (map link_of rest) wanted) (drop_more all i x within)
+      ∙ (ap (λ (one : Held). reached (map link_of (one ∷ drop (i + 1) all)) wanted) (sym here) ∙ ap goes is)
+
+  abbrev next_of : Bool → List ℕ
+  next_of b = cond b (next_wanted wanted (link_of x)) wanted
+
+  module _ (j : ℕ) (is_next : j ≡ i + 1) (items : List HeldKept) (whole : List Kept) (h : map kept_of items ++ from all i wanted ≡ whole)
+      (r : Bool) (answered : r ≡ is_wanted wanted (link_of x)) (later : List ℕ) (then : later ≡ next_of r) where
+    -- where a link is followed, its turn was reached
+    pub followed : r ≡ true → (more : List HeldKept) (one : HeldKept) → kept_of one ≡ kept_by (link_of x) → more ≡ items ++ one ∷ []
+        → map kept_of more ++ from all j later ≡ whole
+    followed so more one is_one is_more =
+        ap (λ (n : ℕ). map kept_of more ++ from all n later) is_next
+        ∙ (ap (λ (ws : List ℕ). map kept_of more ++ from all (i + 1) ws) (then ∙ ap next_of so)
+        ∙ (ap (λ (ks : List HeldKept). map kept_of ks ++ from all (i + 1) (next_of true)) is_more
+        ∙ (ap (λ (ks : List Kept). ks ++ from all (i + 1) (next_of true)) (map-append kept_of items (one ∷ []))
+        ∙ (append_assoc (map kept_of items) (kept_of one ∷ []) (from all (i + 1) (next_of true))
+        ∙ (ap (λ (k : Kept). map kept_of items ++ k ∷ from all (i + 1) (next_of true)) is_one
+        ∙ (ap (λ (ks : List Kept). map kept_of items ++ ks) (sym (met true (sym answered ∙ so))) ∙ h))))))
+
+    -- and where it is passed over, nothing was
+    pub passed_over : r ≡ false → map kept_of items ++ from all j later ≡ whole
+    passed_over so =
+        ap (λ (n : ℕ). map kept_of items ++ from all n later) is_next
+        ∙ (ap (λ (ws : List ℕ). map kept_of items ++ from all (i + 1) ws) (then ∙ ap next_of so)
+        ∙ (ap (λ (ks : List Kept). map kept_of items ++ ks) (sym (met false (sym answered ∙ so))) ∙ h))

@@ -1,0 +1,19 @@
+-- What was counted so far, and what the turns that are left come to, is what all of them come to.
+use Rattle.std.proofs.Common.{◌≡◌, ◌+◌, ◌≤◌, length}
+use Rattle.rb_run.specs.Counting.{both_counted, counts, told_counts}
+use Rattle.rb_run.specs.Running.{NoneWaits, ran}
+use Rattle.rb_run.proofs.TurnsUnseen.{HasRoom, told_left}
+use Rattle.rb_run.proofs.counting.count_turns.Given as goal
+
+abbrev pub invariant-turns : goal.invariant-turns
+invariant-turns g l = record {
+  waits : NoneWaits l.machine;
+  few : l.machine.taken + length l.schedule.left ≤ l.machine.most;
+  room : HasRoom (length l.schedule.left) l.counts;
+  led : ran l.machine l.schedule.left ≡ ran l.fn.machine l.fn.schedule.left;
+  counted : both_counted (counts l.counts) (told_counts (told_left l.machine l.schedule.left))
+      ≡ both_counted (counts l.fn.counts) (told_counts (told_left l.fn.machine l.fn.schedule.left));
+}
+
+abbrev pub decreases-turns : goal.decreases-turns
+decreases-turns g l = length l.schedule.left

@@ -1,0 +1,28 @@
+-- One turn more, whose lines are forgotten.
+use Rattle.std.proofs.Common.{length, ap, arith, ◌∙◌, sym}
+use Rattle.rb_trace.specs.Report.{told_of}
+use Rattle.rb_machine.specs.Machine.{Seen}
+use Rattle.rb_run.proofs.TurnsTaken.{is_after, led_on, none_waits, ran_all}
+use Rattle.rb_run.proofs.TurnsUnseen.{none_waiting, rest_same}
+use Rattle.rb_run.proofs.surviving.take_unseen.Goals as goal
+
+pub turns-preserved : goal.turns-preserved
+turns-preserved g c =
+    let parts = c.in-Some.ensures.0 in
+    let m = c.turns.machine in
+    let turning = c.turn.new.self in
+    let now = c.drop_released.new.self in
+    let told = told_of c.turn.new.report.kind c.turn.new.report.events.items turning.waiting in
+    let turned = c.turn.ensures in
+    let waits = c.turns.invariant.waits in
+    let none = none_waiting m turning now c.in-Some.p told turned waits c.drop_released.ensures.machine in
+    let rest = rest_same m turning now c.in-Some.p told turned waits c.drop_released.ensures.machine in
+    let same = is_after m turning now c.in-Some.p told turned waits none rest in
+    record {
+      waits = none_waits m turning now c.in-Some.p told turned waits none rest;
+      few = omega (arith, ap (λ (x : Seen). x.taken) same, ap (λ (x : Seen). x.most) same, ap length parts, c.turns.invariant.few);
+      led = led_on m turning now c.in-Some.p told turned waits none rest c.turns.schedule.left c.next.new.self.left parts ∙ c.turns.invariant.led;
+    }
+
+pub returns : goal.returns
+returns g c = sym (ran_all c.turns.machine c.turns.schedule.left c.in_default.ensures.0) ∙ c.turns.invariant.led
