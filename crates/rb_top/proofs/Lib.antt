@@ -8,5 +8,7 @@ pub mod AllJudged
 pub mod Loaded
 pub mod Digits
 pub mod Scheduled
+pub mod Trials
+pub mod Recorded
 pub mod Behind
 pub mod CommandLine

@@ -82,15 +82,24 @@ survivors_text tree turns = record_text (naming_of tree) (survivors (run_of tree
 abbrev pub run_counts : Tree → List ℕ → Counted
 run_counts tree turns = told_counts (told_at_opening (opening_world tree) ∷ (run_of tree turns).1)
 
--- the summary of trial n: how many processes it has, how many turns its schedule, and how many lines of each kind its run prints
-abbrev pub summary_text : ℕ → Tree → List ℕ → List ℕ
-summary_text n tree turns =
-    let counts = run_counts tree turns in
+-- the line of how many lines of each kind a run prints
+abbrev pub counts_line : Counted → List ℕ
+counts_line counts =
+    line_of (codes "out" ∷ decimal counts.out ∷ codes "reject" ∷ decimal counts.reject ∷ codes "pass" ∷ decimal counts.pass
+    ∷ codes "error" ∷ decimal counts.error ∷ codes "done" ∷ decimal counts.done ∷ [])
+
+-- The summary of trial n: its number, how many processes it has, how many turns its schedule has, and how many lines of each kind its run
+-- prints.
+abbrev pub summary_of : ℕ → ℕ → Counted → List ℕ
+summary_of n turns counts =
     line_of (codes "trial" ∷ decimal n ∷ [])
     ++ (line_of (codes "processes" ∷ decimal (processes_of n) ∷ [])
-    ++ (line_of (codes "turns" ∷ decimal (length turns) ∷ [])
-    ++ line_of (codes "out" ∷ decimal counts.out ∷ codes "reject" ∷ decimal counts.reject ∷ codes "pass" ∷ decimal counts.pass
-    ∷ codes "error" ∷ decimal counts.error ∷ codes "done" ∷ decimal counts.done ∷ [])))
+    ++ (line_of (codes "turns" ∷ decimal turns ∷ [])
+    ++ counts_line counts))
+
+-- the same for its source's tree and the turns of its schedule
+abbrev pub summary_text : ℕ → Tree → List ℕ → List ℕ
+summary_text n tree turns = summary_of n (length turns) (run_counts tree turns)
 
 -- The verdict on a record for an accepted source: too long, its first fault, or the turn at which its plain run is stuck.
 pub data RecordRefused (tree : Tree) (text : List ℕ) (line : List ℕ) : Type 0 where
