@@ -3,7 +3,6 @@ use Rattle.std.proofs.Common.{◌≡◌, ℕ, zero, suc, ◌+◌, ◌-◌, ◌<�
 use Rattle.std.proofs.lemmas.List.{length-map}
 use Rattle.rb_base.specs.declared.limits.TheConstants.{MOST_TURNS}
 use Rattle.rb_world.specs.Kind.{Membership}
-use Rattle.rb_world.specs.Nested.{IsLevelOf}
 use Rattle.rb_world.specs.Present.{IsPresent, TryPresent}
 use Rattle.rb_world.specs.Slots.{Slots}
 use Rattle.rb_world.specs.Standing.{Each, IsBareIfFailed, IsShallow}
@@ -12,7 +11,7 @@ use Rattle.rb_world.specs.World.{Level, Process, Talk, change_at, with_process}
 use Rattle.rb_world.proofs.ListFacts.{Each-change_at, length-change_at, slice_get-change_at, some_same}
 use Rattle.rb_world.proofs.Members.PassTogether.{map_found}
 use Rattle.rb_code.specs.Plain.{Code}
-use Rattle.rb_code.specs.Turn.{Common, Copy, Standing}
+use Rattle.rb_code.specs.Turn.{Copy, Standing}
 use Rattle.rb_code.specs.WordRun.{WordWorld}
 use Rattle.rb_conv.specs.Conversations.{Conversation, memberships, talks}
 use Rattle.rb_proc.specs.Process.{Seen}

@@ -1,5 +1,5 @@
 -- What is known of every world of a run of sound code: it holds at the opening, and each turn keeps it.
-use Rattle.std.proofs.Common.{◌≡◌, ℕ, ◌+◌, List, length, sym, ◌∙◌}
+use Rattle.std.proofs.Common.{ℕ, ◌+◌, List, ◌∙◌}
 use Rattle.rb_world.specs.Kind.{Kind, Membership}
 use Rattle.rb_world.specs.Turn.{turn}
 use Rattle.rb_world.proofs.EachProcess.{KeepsEach}

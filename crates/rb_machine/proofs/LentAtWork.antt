@@ -30,20 +30,27 @@ same_work c t procs later table slots links e work = record {
   turns = work.turns;
 }
 
-pub tied_again : {L : Type 0} (c : Code) (old new : Parts L) (running : List Bool) (taken most p : ℕ)
-    → IsTied c old running (vec_len old.links) (vec_capacity old.links) taken most → HasLent p old new
+-- so parts with the same processes, and with all else the same, are tied again
+pub tied_same : {L : Type 0} (c : Code) (old new : Parts L) (running : List Bool) (taken most : ℕ)
+    → IsTied c old running (vec_len old.links) (vec_capacity old.links) taken most
+    → processes_of new.procs.items ≡ processes_of old.procs.items → new.mails ≡ old.mails → new.table ≡ old.table → new.links ≡ old.links
     → IsTied c new running (vec_len new.links) (vec_capacity new.links) taken most
-tied_again c old new running taken most p tied lent = record {
-  work = subst (λ table. IsAtWork c (taken + 1) new.procs.items table new.mails.items new.links.items) (sym lent.table)
-      (subst (λ mails. IsAtWork c (taken + 1) new.procs.items old.table mails.items new.links.items) (sym lent.mails)
-      (subst (λ links. IsAtWork c (taken + 1) new.procs.items old.table old.mails.items links.items) (sym lent.links)
-      (same_work c (taken + 1) old.procs.items new.procs.items old.table old.mails.items old.links.items lent.processes tied.work)));
-  running_is = tied.running_is ∙ ap running_of (sym lent.processes);
-  links_few = subst (λ links. vec_len links ≤ taken) (sym lent.links) tied.links_few;
-  links_room = subst (λ links. most ≤ vec_capacity links) (sym lent.links) tied.links_room;
+tied_same c old new running taken most tied processes mails table links = record {
+  work = subst (λ table. IsAtWork c (taken + 1) new.procs.items table new.mails.items new.links.items) (sym table)
+      (subst (λ mails. IsAtWork c (taken + 1) new.procs.items old.table mails.items new.links.items) (sym mails)
+      (subst (λ links. IsAtWork c (taken + 1) new.procs.items old.table old.mails.items links.items) (sym links)
+      (same_work c (taken + 1) old.procs.items new.procs.items old.table old.mails.items old.links.items processes tied.work)));
+  running_is = tied.running_is ∙ ap running_of (sym processes);
+  links_few = subst (λ links. vec_len links ≤ taken) (sym links) tied.links_few;
+  links_room = subst (λ links. most ≤ vec_capacity links) (sym links) tied.links_room;
   taken_few = tied.taken_few;
   most_few = tied.most_few;
 }
+
+pub tied_again : {L : Type 0} (c : Code) (old new : Parts L) (running : List Bool) (taken most p : ℕ)
+    → IsTied c old running (vec_len old.links) (vec_capacity old.links) taken most → HasLent p old new
+    → IsTied c new running (vec_len new.links) (vec_capacity new.links) taken most
+tied_again c old new running taken most p tied lent = tied_same c old new running taken most tied lent.processes lent.mails lent.table lent.links
 
 -- each channel has its counts
 pub sent_each : (c : Code) (standings : List Standing) (channel : ℕ) (ends : List Ends)

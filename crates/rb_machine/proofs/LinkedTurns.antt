@@ -4,12 +4,11 @@ use Rattle.std.proofs.Common.{◌≡◌, ◌≤◌, ◌<◌, ◌+◌, ℕ, zero,
 use Rattle.rb_base.specs.declared.event.Cause.{Cause}
 use Rattle.rb_base.specs.declared.event.Cause.TheVariants.{Inner}
 use Rattle.rb_cache.specs.Copies.{accepted}
-use Rattle.rb_world.specs.Kind.{Facts, Kind, Membership, Went, Held}
-use Rattle.rb_world.specs.Reject.{all_back, at_place, back_to, fallen, fallen_inside, put_back, raised, where_inside}
-use Rattle.rb_world.specs.Slots.{zero_slots}
+use Rattle.rb_world.specs.Kind.{Kind, Membership, Went, Held}
+use Rattle.rb_world.specs.Reject.{at_place, back_to, fallen, fallen_inside, put_back, raised, where_inside}
 use Rattle.rb_world.specs.Standing.{Each}
 use Rattle.rb_world.specs.Turn.{freed, leaves, new_level, stands_at, stands_now, state_freed, turn, turn_used}
-use Rattle.rb_world.specs.World.{Level, Process, Talk, change_at, copy_of, goes_on, is_inside, is_of, last_of, settled, with_memory, with_process, without_last}
+use Rattle.rb_world.specs.World.{Level, Process, Talk, change_at, copy_of, is_inside, is_of, last_of, settled, with_memory, with_process, without_last}
 use Rattle.rb_world.proofs.EachProcess.{settled_each}
 use Rattle.rb_world.proofs.Induction.{turn-keeps}
 use Rattle.rb_world.proofs.Invariant.{IsInvariant}
@@ -19,7 +18,7 @@ use Rattle.rb_world.proofs.TurnFacts.{StepsAt}
 use Rattle.rb_code.specs.Plain.{Code, Part}
 use Rattle.rb_code.specs.Turn.{Common, Copy, Link, Standing, step}
 use Rattle.rb_code.specs.WordKind.{entered_at, word_kind}
-use Rattle.rb_code.specs.WordRun.{WordWorld, opening_of, opening_standing, opening_standings}
+use Rattle.rb_code.specs.WordRun.{WordWorld, opening_of, opening_standings}
 use Rattle.rb_code.proofs.WholeRuns.MachineSteps.{IsSameProcess, LeavesLinks, settle_same, step_leaves}
 use Rattle.rb_machine.specs.Linked.{AreLinked, Fall, IsLinked, IsOwn}
 
@@ -150,10 +149,10 @@ later_linked t u w le h = record {
   fall = fall_later t u w.memory.links le h.fall;
   before = λ i link e. own_later w.memory.links t u link.process link.before le (h.before i link e);
   processes = λ p q e. let one = h.processes p q e in record {
-      number = one.number;
-      last = own_later w.memory.links t u p q.state.last_kept le one.last;
-      copied = λ i level at. own_later w.memory.links t u p level.copy.last_kept le (one.copied i level at);
-    };
+    number = one.number;
+    last = own_later w.memory.links t u p q.state.last_kept le one.last;
+    copied = λ i level at. own_later w.memory.links t u p level.copy.last_kept le (one.copied i level at);
+  };
 }
 
 module _ (c : Code) (groups : List Membership) where
@@ -330,8 +329,7 @@ module _ (c : Code) (groups : List Membership) where
       → (s.process ≡ p + r) × (s.last_kept ≡ 0)
   opens_at p r [] s e = absurd (none_some e)
   opens_at p zero (part ∷ parts) s e =
-      let none : p ≡ p + 0 = omega arith in
-      (
+      let none : p ≡ p + 0 = omega arith in (
         sym (ap (λ (x : Standing). x.process) (some_same e)) ∙ none,
         sym (ap (λ (x : Standing). x.last_kept) (some_same e)),
       )

@@ -1,5 +1,5 @@
 -- The turns that one walk over the links reaches from the last kept turn of each process are the survivors, the newest first.
-use Rattle.std.proofs.Common.{◌≡◌, ◌≢◌, ◌≤◌, ◌<◌, ◌+◌, ℕ, zero, suc, Bool, true, false, cond, eq-eqb, List, [], ◌∷◌, ◌++◌, length, map, nat_eq, reverse, slice_get, slice_set, Some, None, refl, sym, ap, ◌∙◌, subst, arith}
+use Rattle.std.proofs.Common.{◌≡◌, ◌≢◌, ◌≤◌, ◌<◌, ◌+◌, ℕ, zero, suc, Bool, true, false, cond, eq-eqb, List, [], ◌∷◌, ◌++◌, length, map, nat_eq, reverse, slice_get, slice_set, Some, refl, sym, ap, ◌∙◌, subst, arith}
 use Rattle.std.proofs.lemmas.Bool.{ne_eqb}
 use Rattle.std.proofs.lemmas.List.{length-map, length-set, reverse-append}
 use Rattle.std.proofs.lemmas.Simd.{map-map}
@@ -12,7 +12,7 @@ use Rattle.rb_world.proofs.ListFacts.{none_some, some_same}
 use Rattle.rb_code.specs.Turn.{Copy, Link, Standing, kept_from}
 use Rattle.rb_code.specs.WordRun.{WordWorld}
 use Rattle.rb_proc.specs.Process.{Seen}
-use Rattle.rb_machine.specs.Linked.{AreLinked, Fall, IsLinked, IsOwn}
+use Rattle.rb_machine.specs.Linked.{AreLinked, Fall, IsOwn}
 use Rattle.rb_machine.specs.Survivors.{is_wanted, kept_by, next_wanted, reached, word_survivors}
 use Rattle.rb_machine.specs.Worlds.{processes_of}
 
@@ -169,7 +169,7 @@ module _ (t : ℕ) where
           ∙ sym (reverse-append (kept_by link ∷ []) (reached links (next_wanted wanted link)))))
 
 -- the turn that is wanted first of each process is its own
-abbrev last_of_each : List Seen → List ℕ
+abbrev pub last_of_each : List Seen → List ℕ
 last_of_each procs = map (λ (one : Seen). one.process.state.last_kept) procs
 
 last_each : (P : ℕ → ℕ → Type 0) (procs : List Seen) → Each (λ p (q : Process Standing Copy). P p q.state.last_kept) (processes_of procs)

@@ -1,6 +1,6 @@
 -- One step of the walk over the links: a link is followed, or passed over.
-use Rattle.std.proofs.Common.{◌≡◌, ◌<◌, ◌+◌, ℕ, Bool, true, false, cond, List, [], ◌∷◌, ◌++◌, length, drop, get_or, map, sym, ap, ◌∙◌, append_assoc}
-use Rattle.std.proofs.lemmas.List.{drop_more, map-append}
+use Rattle.std.proofs.Common.{◌≡◌, ◌<◌, ◌+◌, ℕ, Bool, true, false, cond, List, [], ◌∷◌, ◌++◌, length, drop, get_or, map, refl, reverse, sym, ap, ◌∙◌, append_assoc}
+use Rattle.std.proofs.lemmas.List.{drop_more, map-append, reverse-append}
 use Rattle.rb_world.specs.Plain.{Kept}
 use Rattle.rb_code.specs.Turn.{Link}
 use Rattle.rb_machine.specs.Survivors.{is_wanted, kept_by, kept_of, next_wanted, reached}
@@ -44,3 +44,18 @@ module _ (all : List Held) (i : ℕ) (x : Held) (within : i < length all) (here 
         ap (λ (n : ℕ). map kept_of items ++ from all n later) is_next
         ∙ (ap (λ (ws : List ℕ). map kept_of items ++ from all (i + 1) ws) (then ∙ ap next_of so)
         ∙ (ap (λ (ks : List Kept). map kept_of items ++ ks) (sym (met false (sym answered ∙ so))) ∙ h))
+
+map-reverse : {A B : Type 0} (f : A → B) (xs : List A) → map f (reverse xs) ≡ reverse (map f xs)
+map-reverse f [] = refl
+map-reverse {A} {B} f (x ∷ xs) =
+    ap (map f) (reverse-append (x ∷ []) xs)
+    ∙ (map-append f (reverse xs) (x ∷ [])
+    ∙ (ap (λ (ys : List B). ys ++ f x ∷ []) (map-reverse f xs) ∙ sym (reverse-append (f x ∷ []) (map f xs))))
+
+-- what was reached, from the oldest on
+pub in_order : (links : List Held) (wanted : List ℕ) (kept back : List HeldKept) → map kept_of kept ≡ reached (map link_of (reverse links)) wanted
+    → back ≡ reverse kept → map kept_of back ≡ reverse (reached (reverse (map link_of links)) wanted)
+in_order links wanted kept back is turned =
+    ap (map kept_of) turned
+    ∙ (map-reverse kept_of kept
+    ∙ (ap reverse is ∙ ap (λ (all : List Link). reverse (reached all wanted)) (map-reverse link_of links)))

@@ -1,5 +1,5 @@
 -- Turns of which nothing is written: their released lines are forgotten, and they are counted.
-use Rattle.std.proofs.Common.{◌≡◌, ◌<◌, ◌≤◌, ◌+◌, ◌*◌, ◌^◌, ℕ, List, [], ◌∷◌, length, count_by, replicate, sum_by, refl, sym, ap, ◌∙◌, subst, arith}
+use Rattle.std.proofs.Common.{◌≡◌, ◌<◌, ◌≤◌, ◌+◌, ◌*◌, ◌^◌, ℕ, suc, Bool, List, [], ◌∷◌, length, count_by, replicate, sum_by, refl, sym, ap, ◌∙◌, subst, arith}
 use Rattle.std.proofs.lemmas.List.Sums.{count_by-le-length, sum_by-cons}
 use Rattle.rb_base.specs.declared.event.Event.{Event}
 use Rattle.rb_base.specs.declared.event.TurnKind.{TurnKind}
@@ -10,6 +10,7 @@ use Rattle.rb_world.specs.Turn.{Told, run, told_at_opening}
 use Rattle.rb_code.specs.WordKind.{word_kind}
 use Rattle.rb_code.specs.WordRun.{opening_of, word_run}
 use Rattle.rb_machine.specs.Machine.{HasTurned, Seen, opening_seen, turned}
+use Rattle.rb_machine.proofs.Sizes.{opening-processes}
 use Rattle.rb_run.specs.Counting.{AreBelow, Counted, IsMore, both_counted, counts, events_told, is_error, is_pass, lines_told, nothing_counted, told_counts}
 use Rattle.rb_run.specs.Running.{NoneWaits, ran}
 use Rattle.rb_run.specs.declared.counting.Counts.{Counts}
@@ -67,15 +68,6 @@ room_first turns c few below = record {
   done = omega (arith, below.done);
 }
 
-pub room_now : (turns : ℕ) (c : Counts) → HasRoom turns c → AreBelow (2 ^ 63) c
-room_now turns c room = record {
-  out = omega (arith, room.out);
-  reject = omega (arith, room.reject);
-  pass = omega (arith, room.pass);
-  error = omega (arith, room.error);
-  done = omega (arith, room.done);
-}
-
 pub room_after : (left later : List ℕ) (p : ℕ) (old now : Counts) (n : ℕ) (events : List Event) → left ≡ p ∷ later → HasRoom (length left) old
     → IsMore old n events now → n ≤ 64 * 65536 → length events ≤ 96 → HasRoom (length later) now
 room_after left later p old now n events parts room more few short =
@@ -117,14 +109,14 @@ counted_all m left none c whole so_far =
     sym (counted_alone (counts c))
     ∙ (ap (λ (turns : List ℕ). both_counted (counts c) (told_counts (told_left m turns))) (sym none) ∙ so_far)
 
--- A machine that was just loaded, and all its turns.
+-- A machine that was just loaded, of which no line waits, and all its turns.
+pub none_waits_first : (old : Seen) → old ≡ opening_seen old.code old.groups old.most → NoneWaits old
+none_waits_first old fresh =
+    let each : length old.world.processes ≡ length old.code.processes =
+    ap (λ (m : Seen). length m.world.processes) fresh ∙ opening-processes old.code old.groups in
+    ap (λ (m : Seen). m.waiting) fresh ∙ ap (λ n. replicate n []) (sym each)
+
 module _ (old : Seen) (fresh : old ≡ opening_seen old.code old.groups old.most) (all left : List ℕ) (whole : left ≡ all) where
-  pub none_waits_first : length old.world.processes ≡ length old.code.processes → NoneWaits old
-  none_waits_first each = ap (λ (m : Seen). m.waiting) fresh ∙ ap (λ n. replicate n []) (sym each)
-
-  pub none_taken : old.taken ≡ 0
-  none_taken = ap (λ (m : Seen). m.taken) fresh
-
   pub world_then : (ran old left).world ≡ (word_run old.code old.groups all).0
   world_then =
       ap (λ (turns : List ℕ). (ran old turns).world) whole

@@ -38,10 +38,10 @@ pub fn count<L: Ledger>(
     ensures machine { machine.new ≡ ran machine.old schedule.entry.all }
 {
     let mut report = machine.opening();
-    let mut counts = Counts::none();
-    counts.add(&report.events, 0);
-    count_turns(machine, schedule, &mut report, &mut counts, steps);
-    counts
+    let mut tally = Counts::none();
+    tally.add(&report.events, 0);
+    count_turns(machine, schedule, &mut report, &mut tally, steps);
+    tally
 }
 
 // Takes the turns of a schedule, and adds up their lines.
@@ -49,19 +49,19 @@ fn count_turns<L: Ledger>(
     machine: &mut Machine<'_, L>,
     mut schedule: Schedule<'_>,
     report: &mut Report,
-    counts: &mut Counts,
+    tally: &mut Counts,
     steps: &mut Steps<L>,
 )
     requires waits { NoneWaits machine.old }
     requires turns { machine.old.taken + length schedule.left ≤ machine.old.most }
     requires few { machine.old.most ≤ MOST_TURNS }
-    requires room { AreBelow (2 ^ 32) counts.old }
-    ensures counts { counts counts.new ≡ both_counted (counts counts.old) (told_counts (run_from (word_kind machine.old.code machine.old.groups) (machine.old.taken + 1) schedule.entry.left machine.old.world).1) }
+    requires room { AreBelow (2 ^ 32) tally.old }
+    ensures counts { counts tally.new ≡ both_counted (counts tally.old) (told_counts (run_from (word_kind machine.old.code machine.old.groups) (machine.old.taken + 1) schedule.entry.left machine.old.world).1) }
     ensures machine { machine.new ≡ ran machine.old schedule.entry.left }
 {
     'turns: while let Some(p) = schedule.next() {
         machine.turn(p, report, steps);
-        counts.add(&report.events, machine.drop_released());
+        tally.add(&report.events, machine.drop_released());
     }
 }
 

@@ -1,5 +1,5 @@
 -- Each link is followed or passed over.
-use Rattle.std.proofs.Common.{length, reverse, refl, ap, ◌∙◌}
+use Rattle.std.proofs.Common.{length, reverse, refl}
 use Rattle.std.proofs.lemmas.Iterator.Adapters.{YieldsList-from_rev_slice}
 use Rattle.std.proofs.lemmas.Iterator.Consumers.{YieldsList-turn}
 use Rattle.std.proofs.lemmas.List.{length_push}

@@ -1,13 +1,21 @@
 -- One turn more, whose lines are counted and forgotten.
-use Rattle.std.proofs.Common.{length, ap, arith, refl, ◌∙◌, sym}
+use Rattle.std.proofs.Common.{List, length, ap, arith, refl, ◌∙◌, subst, sym}
+use Rattle.rb_base.specs.declared.event.Event.{Event}
 use Rattle.rb_trace.specs.Report.{told_of}
 use Rattle.rb_machine.specs.Machine.{Seen}
+use Rattle.rb_run.specs.Counting.{IsMore}
 use Rattle.rb_run.proofs.TurnsTaken.{is_after, led_on, none_waits, ran_all}
-use Rattle.rb_run.proofs.TurnsUnseen.{counted_all, counted_on, none_waiting, rest_same, room_after, room_first, room_now}
+use Rattle.rb_run.proofs.TurnsUnseen.{counted_all, counted_on, none_waiting, rest_same, room_after, room_first}
 use Rattle.rb_run.proofs.counting.count_turns.Goals as goal
 
 pub turns-init : goal.turns-init
-turns-init g c = ?
+turns-init g c = record {
+  waits = c.requires.waits;
+  few = c.requires.turns;
+  room = room_first (length c.args.schedule.left) c.args.tally.now (omega (arith, c.requires.turns, c.requires.few)) c.requires.room;
+  led = refl;
+  counted = refl;
+}
 
 pub turns-preserved : goal.turns-preserved
 turns-preserved g c =
@@ -24,14 +32,19 @@ turns-preserved g c =
     record {
       waits = none_waits m turning now c.in-Some.p told turned waits none rest;
       few = omega (arith, ap (λ (x : Seen). x.taken) same, ap (λ (x : Seen). x.most) same, ap length parts, c.turns.invariant.few);
-      room = ?;
+      room = room_after c.turns.schedule.left c.next.new.self.left c.in-Some.p c.turns.tally c.add.new.self c.drop_released.result c.deref.result.now
+          parts c.turns.invariant.room c.add.ensures c.drop_released.ensures.few (omega (arith, c.deref.ensures.1));
       led = led_on m turning now c.in-Some.p told turned waits none rest c.turns.schedule.left c.next.new.self.left parts ∙ c.turns.invariant.led;
-      counted = ?;
+      counted = counted_on m turning now c.in-Some.p told turned waits c.drop_released.ensures.machine c.turns.schedule.left
+          c.next.new.self.left parts c.turns.tally c.add.new.self c.drop_released.result
+          (subst (λ (events : List Event). IsMore c.turns.tally c.drop_released.result events c.add.new.self) c.deref.ensures.0 c.add.ensures)
+          c.drop_released.ensures.count
+          ∙ c.turns.invariant.counted;
     }
 
 pub returns-clause-counts : goal.returns-clause-counts
 returns-clause-counts g c =
-    counted_all c.turns.machine c.turns.schedule.left c.in_default.ensures.0 c.turns.counts _ c.turns.invariant.counted
+    counted_all c.turns.machine c.turns.schedule.left c.in_default.ensures.0 c.turns.tally _ c.turns.invariant.counted
 
 pub returns-clause-machine : goal.returns-clause-machine
 returns-clause-machine g c = sym (ran_all c.turns.machine c.turns.schedule.left c.in_default.ensures.0) ∙ c.turns.invariant.led

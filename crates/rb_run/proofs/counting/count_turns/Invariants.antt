@@ -9,10 +9,10 @@ abbrev pub invariant-turns : goal.invariant-turns
 invariant-turns g l = record {
   waits : NoneWaits l.machine;
   few : l.machine.taken + length l.schedule.left ≤ l.machine.most;
-  room : HasRoom (length l.schedule.left) l.counts;
+  room : HasRoom (length l.schedule.left) l.tally;
   led : ran l.machine l.schedule.left ≡ ran l.fn.machine l.fn.schedule.left;
-  counted : both_counted (counts l.counts) (told_counts (told_left l.machine l.schedule.left))
-      ≡ both_counted (counts l.fn.counts) (told_counts (told_left l.fn.machine l.fn.schedule.left));
+  counted : both_counted (counts l.tally) (told_counts (told_left l.machine l.schedule.left))
+      ≡ both_counted (counts l.fn.tally) (told_counts (told_left l.fn.machine l.fn.schedule.left));
 }
 
 abbrev pub decreases-turns : goal.decreases-turns
