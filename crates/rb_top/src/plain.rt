@@ -112,7 +112,8 @@ fn refused_record<S: Sink>(
     requires refused { IsRefusedFor (record_of (names_of (tree judged.now.checked.program)) bytes.now) refusal }
     ensures { WritingStageEnds (PlainGoesOn (tree judged.now.checked.program) (bytes.now ∷ [])) (S.written out.old) (S.written out.new) (S.faults out.old) (S.faults out.new) result }
 {
-    let _ = (judged, bytes);
+    let _ = judged;
+    let _ = bytes;
     match refusal {
         RecordRefusal::Fault(fault) => status_after(refuse_text(out, fault), Status::Refused),
         RecordRefusal::Memory => Status::Memory,

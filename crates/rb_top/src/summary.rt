@@ -23,8 +23,8 @@ pub fn put_summary<S: Sink>(
     ensures { Puts (summary_of number turns (counts counted)) (S.written out.old) (S.written out.new) (S.faults out.old) (S.faults out.new) result }
 {
     put_number(out, b"trial", number)?;
-    put_number(out, b"processes", process_count(number))?;
-    put_number(out, b"turns", u64::from(turns))?;
+    put_processes(out, number)?;
+    put_turns(out, turns)?;
     put_counts(out, counted)
 }
 
@@ -34,6 +34,20 @@ fn put_number<S: Sink>(out: &mut S, word: &[u8], number: u64) -> Result<(), Fail
 {
     let mut numbers = Buffer::new();
     put_word(out, word, numbers.format(number).as_bytes())
+}
+
+// The line of the processes.
+fn put_processes<S: Sink>(out: &mut S, number: u64) -> Result<(), Failed>
+    ensures { Puts (line_of (codes "processes" ∷ decimal (processes_of number) ∷ [])) (S.written out.old) (S.written out.new) (S.faults out.old) (S.faults out.new) result }
+{
+    put_number(out, b"processes", process_count(number))
+}
+
+// The line of the turns.
+fn put_turns<S: Sink>(out: &mut S, turns: u32) -> Result<(), Failed>
+    ensures { Puts (line_of (codes "turns" ∷ decimal turns ∷ [])) (S.written out.old) (S.written out.new) (S.faults out.old) (S.faults out.new) result }
+{
+    put_number(out, b"turns", u64::from(turns))
 }
 
 // The references of one list have one lifetime.
