@@ -7,4 +7,4 @@ mod source;
 mod tests;
 pub mod trial;
 
-pub use trial::make;
+pub use trial::{make, process_count};

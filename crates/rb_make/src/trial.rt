@@ -24,13 +24,20 @@ pub fn make(alloc: Global, number: u64) -> Result<(Vec<u8>, Vec<u8>), Memory>
     Ok((source, schedule))
 }
 
+/// How many processes the trial of this number has.
+pub fn process_count(number: u64) -> u64
+    ensures { result ≡ processes_of number }
+{
+    2 + number % 31
+}
+
 fn sizes_of(number: u64) -> Sizes
     ensures processes { result.processes ≡ processes_of number }
     ensures rounds { result.rounds ≡ rounds_of number }
     ensures added { result.added ≡ added_of number }
 {
     Sizes {
-        processes: 2 + number % 31,
+        processes: process_count(number),
         rounds: 1 + number / 31 % 50,
         added: number % 5,
     }

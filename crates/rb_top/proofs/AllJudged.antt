@@ -1,18 +1,23 @@
--- Texts have a verdict: a source has one, and a schedule is a list of turns or has a fault.
-use Rattle.std.proofs.Common.{◌≡◌, ◌⊎◌, ℕ, ◌≤◌, Bool, true, false, List, [], ◌∷◌, length, Result, Ok, Err, refl, inl, inr, arith}
+-- Texts have a verdict: a source has one, and a schedule or a record is a list of turns or has a fault.
+use Rattle.std.proofs.Common.{◌≡◌, ◌⊎◌, ℕ, ◌≤◌, Bool, true, false, List, [], ◌∷◌, ◌++◌, length, Result, Ok, Err, refl, inl, inr, arith}
 use Rattle.std.specs.Prelude.{nat_lt}
 use Rattle.std.proofs.lemmas.Bool.{ltb-true, ltb-false}
 use Rattle.rb_base.specs.declared.fault.SourceFault.{SourceFault}
 use Rattle.rb_base.specs.declared.fault.TextFault.{TextFault}
 use Rattle.rb_base.specs.declared.limits.TheConstants.{MOST_BYTES}
+use Rattle.rb_world.specs.Plain.{Kept}
 use Rattle.rb_meaning.specs.Meaning.{run_text}
+use Rattle.rb_meaning.specs.PlainRun.{plain_text}
 use Rattle.rb_sched.specs.Schedule.{schedule_of}
 use Rattle.rb_syntax.specs.Tree.{Tree}
 use Rattle.rb_judge.specs.Verdict.{IsAccepted, IsRefusedFor}
-use Rattle.rb_top.specs.Words.{Run, Check, Compile}
-use Rattle.rb_top.specs.Judgement.{Judgement, ReadsOn, RefusedWith, Writes, too_long_line, source_line, schedule_line, accepted_line, names_of, SourceRefused, long_source, bad_source, Accepted}
-use Rattle.rb_top.specs.Judgement.{ScheduleRefused, long_schedule, bad_schedule, at_first, source_refused, source_accepted, reads_schedule, schedule_refused, runs, accepts, ListsCodeOf, lists}
-use Rattle.rb_top.specs.Judgement.{EndsWith, refused_here, written_here, later}
+use Rattle.rb_plain.specs.Record.{record_of}
+use Rattle.rb_make.specs.Trial.{schedule_of as made_schedule, source_of}
+use Rattle.rb_top.specs.Words.{Run, Survive, Replay, Check, Compile, Trial}
+use Rattle.rb_top.specs.Judgement.{Judgement, ReadsOn, RefusedWith, Writes, too_long_line, source_line, text_line, stuck_line, accepted_line, names_of, SourceRefused, long_source, bad_source, Accepted}
+use Rattle.rb_top.specs.Judgement.{ScheduleRefused, long_schedule, bad_schedule, RecordRefused, long_record, bad_record, stuck_record, survivors_text, summary_text}
+use Rattle.rb_top.specs.Judgement.{JudgesSource, at_first, source_refused, source_accepted, OverSchedule, reads_schedule, schedule_refused, runs, PlainGoesOn, reads_record, record_refused, plays}
+use Rattle.rb_top.specs.Judgement.{accepts, ListsCodeOf, lists, EndsBy, EndsWith, refused_here, written_here, later}
 use Rattle.rb_top.specs.Laws.{AreJudged}
 use Rattle.rb_judge.proofs.BlocksInOrder.{parsed_are_numbered}
 use Rattle.rb_judge.proofs.OwnNumbers.{parsed_have_own_numbers}
@@ -43,61 +48,128 @@ by_length source false e = by_verdict source (ltb-false MOST_BYTES (length sourc
 sourced : (source : List ℕ) → Sourced source
 sourced source = by_length source (nat_lt MOST_BYTES (length source)) refl
 
--- ---- `run`
+-- ---- a source and a second text
 
-module _ (source schedule : List ℕ) where
+module _ (goes_on : Tree → List (List ℕ) → Judgement → Type 0) (source second : List ℕ) where
+  -- a command that looks at the source first ends with them
   abbrev Judged : Type 0
-  Judged = (judgement : Judgement) × EndsWith Run [] (source ∷ schedule ∷ []) judgement
+  Judged = (judgement : Judgement) × EndsBy (JudgesSource goes_on) [] (source ∷ second ∷ []) judgement
 
   -- the source is refused
   refused_first : (line : List ℕ) → SourceRefused source line → Judged
   refused_first line refused = (
     RefusedWith line,
-    later [] source (schedule ∷ []) (RefusedWith line) at_first (refused_here (source ∷ []) (schedule ∷ []) line (source_refused source line refused)),
+    later [] source (second ∷ []) (RefusedWith line) at_first (refused_here (source ∷ []) (second ∷ []) line (source_refused source line refused)),
   )
 
-  module _ (tree : Tree) (accepted : Accepted source tree) where
-    -- the schedule is refused
-    refused_then : (line : List ℕ) → ScheduleRefused tree schedule line → Judged
+  module _ (tree : Tree) (accepted : Accepted source tree) (reads : goes_on tree [] ReadsOn) where
+    -- the second text is refused
+    refused_then : (line : List ℕ) → goes_on tree (second ∷ []) (RefusedWith line) → Judged
     refused_then line refused = (
       RefusedWith line,
-      later [] source (schedule ∷ []) (RefusedWith line) at_first
-          (later (source ∷ []) schedule [] (RefusedWith line) (source_accepted source tree [] ReadsOn accepted reads_schedule)
-          (refused_here (source ∷ schedule ∷ []) [] line
-          (source_accepted source tree (schedule ∷ []) (RefusedWith line) accepted (schedule_refused schedule line refused)))),
+      later [] source (second ∷ []) (RefusedWith line) at_first
+          (later (source ∷ []) second [] (RefusedWith line) (source_accepted source tree [] ReadsOn accepted reads)
+          (refused_here (source ∷ second ∷ []) [] line (source_accepted source tree (second ∷ []) (RefusedWith line) accepted refused))),
     )
 
-    -- the source runs over the schedule
-    ran : (turns : List ℕ) → length schedule ≤ MOST_BYTES → schedule_of (names_of tree) schedule ≡ Ok turns → Judged
-    ran turns short e =
-        let text = run_text tree turns in (
-          Writes text,
-          later [] source (schedule ∷ []) (Writes text) at_first
-              (later (source ∷ []) schedule [] (Writes text) (source_accepted source tree [] ReadsOn accepted reads_schedule)
-              (written_here (source ∷ schedule ∷ []) [] text
-              (source_accepted source tree (schedule ∷ []) (Writes text) accepted (runs schedule text (record { turns = turns; short = short; listed = e; is = refl }))))),
-        )
+    -- the command has its text
+    written_then : (text : List ℕ) → goes_on tree (second ∷ []) (Writes text) → Judged
+    written_then text written = (
+      Writes text,
+      later [] source (second ∷ []) (Writes text) at_first
+          (later (source ∷ []) second [] (Writes text) (source_accepted source tree [] ReadsOn accepted reads)
+          (written_here (source ∷ second ∷ []) [] text (source_accepted source tree (second ∷ []) (Writes text) accepted written))),
+    )
 
-    -- the schedule is a list of turns, or has a first fault
-    listed : (read : Result (List ℕ) TextFault) → length schedule ≤ MOST_BYTES → schedule_of (names_of tree) schedule ≡ read → Judged
-    listed (Ok turns) short e = ran turns short e
-    listed (Err fault) short e = refused_then (schedule_line fault) (bad_schedule fault short e refl)
+-- ---- a schedule
 
-    -- the schedule is too long, or not
-    scheduled : (long : Bool) → nat_lt MOST_BYTES (length schedule) ≡ long → Judged
-    scheduled true e = refused_then too_long_line (long_schedule (ltb-true MOST_BYTES (length schedule) e) refl)
+module _ (text_of : Tree → List ℕ → List ℕ) (source schedule : List ℕ) where
+  abbrev Scheduled : Type 0
+  Scheduled = Judged (OverSchedule text_of) source schedule
+
+  module _ (tree : Tree) (accepted : Accepted source tree) where
+    refuses : (line : List ℕ) → ScheduleRefused tree schedule line → Scheduled
+    refuses line refused = refused_then (OverSchedule text_of) source schedule tree accepted reads_schedule line (schedule_refused schedule line refused)
+
+    -- it is a list of turns, or has a first fault
+    listed : (read : Result (List ℕ) TextFault) → length schedule ≤ MOST_BYTES → schedule_of (names_of tree) schedule ≡ read → Scheduled
+    listed (Ok turns) short e =
+        let text = text_of tree turns in
+        written_then (OverSchedule text_of) source schedule tree accepted reads_schedule text (runs schedule text (record { turns = turns; short = short; listed = e; is = refl }))
+    listed (Err fault) short e = refuses (text_line fault) (bad_schedule fault short e refl)
+
+    -- it is too long, or not
+    scheduled : (long : Bool) → nat_lt MOST_BYTES (length schedule) ≡ long → Scheduled
+    scheduled true e = refuses too_long_line (long_schedule (ltb-true MOST_BYTES (length schedule) e) refl)
     scheduled false e = listed (schedule_of (names_of tree) schedule) (ltb-false MOST_BYTES (length schedule) e) refl
 
-  judged : Sourced source → Judged
-  judged (inl (line, refused)) = refused_first line refused
-  judged (inr (tree, accepted)) = scheduled tree accepted (nat_lt MOST_BYTES (length schedule)) refl
+  over_schedule : Sourced source → Scheduled
+  over_schedule (inl (line, refused)) = refused_first (OverSchedule text_of) source schedule line refused
+  over_schedule (inr (tree, accepted)) = scheduled tree accepted (nat_lt MOST_BYTES (length schedule)) refl
 
--- `run` reads two texts
-run_judged : (texts : List (List ℕ)) → length texts ≡ 2 → (v : Judgement) × EndsWith Run [] texts v
-run_judged [] two = absurd (omega (arith, two))
-run_judged (source ∷ []) two = absurd (omega (arith, two))
-run_judged (source ∷ schedule ∷ []) two = judged source schedule (sourced source)
-run_judged (source ∷ schedule ∷ other ∷ more) two = absurd (omega (arith, two))
+-- ---- a record
+
+module _ (source kept : List ℕ) where
+  abbrev Recorded : Type 0
+  Recorded = Judged PlainGoesOn source kept
+
+  module _ (tree : Tree) (accepted : Accepted source tree) where
+    refuses_record : (line : List ℕ) → RecordRefused tree kept line → Recorded
+    refuses_record line refused = refused_then PlainGoesOn source kept tree accepted reads_record line (record_refused kept line refused)
+
+    module _ (short : length kept ≤ MOST_BYTES) where
+      -- its plain run has a text, or is stuck
+      played : (turns : List Kept) → record_of (names_of tree) kept ≡ Ok turns → (text : Result (List ℕ) ℕ) → plain_text tree turns ≡ text → Recorded
+      played turns e (Ok text) is =
+          written_then PlainGoesOn source kept tree accepted reads_record text (plays kept text (record { turns = turns; short = short; listed = e; is = is }))
+      played turns e (Err turn) is = refuses_record (stuck_line turn) (stuck_record turns turn short e is refl)
+
+      -- it is a list of kept turns, or has a first fault
+      kept_listed : (read : Result (List Kept) TextFault) → record_of (names_of tree) kept ≡ read → Recorded
+      kept_listed (Ok turns) e = played turns e (plain_text tree turns) refl
+      kept_listed (Err fault) e = refuses_record (text_line fault) (bad_record fault short e refl)
+
+    -- it is too long, or not
+    recorded : (long : Bool) → nat_lt MOST_BYTES (length kept) ≡ long → Recorded
+    recorded true e = refuses_record too_long_line (long_record (ltb-true MOST_BYTES (length kept) e) refl)
+    recorded false e = kept_listed (ltb-false MOST_BYTES (length kept) e) (record_of (names_of tree) kept) refl
+
+  over_record : Sourced source → Recorded
+  over_record (inl (line, refused)) = refused_first PlainGoesOn source kept line refused
+  over_record (inr (tree, accepted)) = recorded tree accepted (nat_lt MOST_BYTES (length kept)) refl
+
+-- ---- commands that read two texts
+
+module _ (goes_on : Tree → List (List ℕ) → Judgement → Type 0) (judged : (source second : List ℕ) → Sourced source → Judged goes_on source second) where
+  two_judged : (texts : List (List ℕ)) → length texts ≡ 2 → (v : Judgement) × EndsBy (JudgesSource goes_on) [] texts v
+  two_judged [] two = absurd (omega (arith, two))
+  two_judged (source ∷ []) two = absurd (omega (arith, two))
+  two_judged (source ∷ second ∷ []) two = judged source second (sourced source)
+  two_judged (source ∷ second ∷ other ∷ more) two = absurd (omega (arith, two))
+
+-- ---- `trial`
+
+-- whoever ends does not read on
+no_end_reads_on : (judges : List (List ℕ) → Judgement → Type 0) (read left : List (List ℕ)) (v : Judgement) → EndsBy judges read left v → v ≡ ReadsOn → ⊥
+no_end_reads_on judges read left v (refused_here a b line h) e = cc
+no_end_reads_on judges read left v (written_here a b text h) e = cc
+no_end_reads_on judges read left v (later a next rest j h ends) e = no_end_reads_on judges (read ++ next ∷ []) rest v ends e
+
+module _ (n : ℕ) where
+  -- what is made of the two texts that are made for trial n
+  abbrev judges_made : List (List ℕ) → Judgement → Type 0
+  judges_made = JudgesSource (OverSchedule (summary_text n))
+
+  -- how these end is how it ends
+  trial_ended : (v : Judgement) → EndsBy judges_made [] (source_of n ∷ made_schedule n ∷ []) v → EndsWith (Trial n) [] [] v
+  trial_ended ReadsOn ends = absurd (no_end_reads_on judges_made [] (source_of n ∷ made_schedule n ∷ []) ReadsOn ends refl)
+  trial_ended (RefusedWith line) ends = refused_here [] [] line (refl, ends)
+  trial_ended (Writes text) ends = written_here [] [] text (refl, ends)
+
+-- it reads none, and the two texts that are made for it are judged
+trial_judged : (n : ℕ) (texts : List (List ℕ)) → length texts ≡ 0 → (v : Judgement) × EndsWith (Trial n) [] texts v
+trial_judged n [] none = let made = over_schedule (summary_text n) (source_of n) (made_schedule n) (sourced (source_of n)) in (made.0, trial_ended n made.0 made.1)
+trial_judged n (text ∷ more) none = absurd (omega (arith, none))
 
 -- ---- `check`
 
@@ -148,6 +220,9 @@ code_judged (source ∷ []) one = listed_code source (sourced source)
 code_judged (source ∷ other ∷ more) one = absurd (omega (arith, one))
 
 pub are_judged : AreJudged
-are_judged Run texts two = run_judged texts two
+are_judged Run texts two = two_judged (OverSchedule run_text) (over_schedule run_text) texts two
+are_judged Survive texts two = two_judged (OverSchedule survivors_text) (over_schedule survivors_text) texts two
+are_judged Replay texts two = two_judged PlainGoesOn over_record texts two
 are_judged Check texts one = check_judged texts one
 are_judged Compile texts one = code_judged texts one
+are_judged (Trial n) texts none = trial_judged n texts none

@@ -3,22 +3,25 @@ use Rattle.std.proofs.Common.{◌≡◌, ◌⊎◌, ℕ, ◌+◌, ◌<◌, ◌�
 use Rattle.std.proofs.lemmas.List.{take_all}
 use Rattle.std.proofs.lemmas.Bool.{cases_lt}
 use Rattle.rb_outside.specs.declared.Failed.{Failed}
-use Rattle.rb_outside.specs.Outside.{File, Faults, Start, bytes_of, named, shut, told_starts, failed_once, was_missing}
+use Rattle.rb_outside.specs.Outside.{File, Faults, Start, WrotePart, bytes_of, named, shut, told_starts, failed_once, was_missing}
 use Rattle.rb_outside.specs.Puts.{Puts}
 use Rattle.rb_outside.proofs.Puts.{failed_after}
-use Rattle.rb_top.specs.Words.{Command, Run, Check, Compile, Wanted, Request}
+use Rattle.rb_run.specs.Surviving.{Survives}
+use Rattle.rb_run.specs.declared.surviving.Ended.{Ended as Survival}
+use Rattle.rb_run.specs.declared.surviving.Ended.TheVariants as survival
+use Rattle.rb_top.specs.Words.{Command, Run, Survive, Replay, Check, Compile, Trial, Wanted, Request}
 use Rattle.rb_top.specs.declared.read.Unread.{Unread}
 use Rattle.rb_top.specs.declared.read.Unread.TheVariants.{Fault}
 use Rattle.rb_top.specs.declared.read.Unread.TheVariants as unread
 use Rattle.rb_top.specs.declared.status.Status.{Status}
 use Rattle.rb_top.specs.declared.status.Status.TheVariants.{Done, Refused, Usage, ReadFault, WriteFault, Memory}
 use Rattle.rb_top.specs.Judgement.{Judgement, ReadsOn, RefusedWith, Writes, Judges}
-use Rattle.rb_top.specs.Answers.{Scene, WritesNothing, WritesByThen, piece_bytes, IsRead, nothing_yet, one_more, Ended, EndedIn, StoppedAt}
+use Rattle.rb_top.specs.Answers.{Scene, WritesNothing, WritesFront, WritesByThen, piece_bytes, IsRead, nothing_yet, one_more, Ended, EndedIn, StoppedAt}
 use Rattle.rb_top.specs.Answers.{StoppedByFault, told, untold, StoppedByFaultIn, StoppedByMissing, StoppedByMissingIn, RanOut, between, within}
 use Rattle.rb_top.specs.Answers.{RanOutIn, ReadFails, by_fault, by_missing, WithRequest, WhereRequested}
 use Rattle.rb_top.specs.Read.{WasRead, WasReadIn, StandsAt, StandsAtIn, StopsForFault, StopsForFaultIn, StopsForMemory, OnUnread}
 use Rattle.rb_top.specs.Read as stops
-use Rattle.rb_top.specs.Stages.{HasReadSince, HasReadIn, StageEnds, status_of_unread}
+use Rattle.rb_top.specs.Stages.{HasReadSince, HasReadIn, StageEnds, WritingStageEnds, status_of_survival, status_of_unread}
 
 -- ---- what was written
 
@@ -33,6 +36,13 @@ pub text_ends : (judged : Judgement → Type 0) (r : Result (Unit {0}) Failed) (
     Puts text w0 w1 f0 f1 r → MatchResult r (λ _. status ≡ Done) (λ _. status ≡ WriteFault) → judged (Writes text) → StageEnds judged w0 w1 f0 f1 status
 text_ends judged (Ok done) status text w0 w1 f0 f1 p e written = subst (StageEnds judged w0 w1 f0 f1) (sym e) (text, written, p.ok, p.quiet)
 text_ends judged (Err failed) status text w0 w1 f0 f1 p e written = subst (StageEnds judged w0 w1 f0 f1) (sym e) (text, inl written, p.err, p.failed)
+
+-- a stage that wrote the survivors of a run
+pub survival_ends : (judged : Judgement → Type 0) (r : Result (Unit {0}) Survival) (status : Status) (text : List ℕ) (w0 w1 : Option (List ℕ)) (f0 f1 : Faults) →
+    Survives text w0 w1 f0 f1 r → status ≡ status_of_survival r → judged (Writes text) → StageEnds judged w0 w1 f0 f1 status
+survival_ends judged (Ok done) status text w0 w1 f0 f1 p e written = subst (StageEnds judged w0 w1 f0 f1) (sym e) (text, written, p.ok, p.quiet)
+survival_ends judged (Err survival.WriteFault) status text w0 w1 f0 f1 p e written = subst (StageEnds judged w0 w1 f0 f1) (sym e) (text, inl written, p.err, p.failed)
+survival_ends judged (Err survival.Memory) status text w0 w1 f0 f1 p e written = subst (StageEnds judged w0 w1 f0 f1) (sym e) p
 
 -- ---- what was read of a file
 
@@ -171,10 +181,13 @@ ends_short None request texts rest old now since = tt
 ends_short (Some files) request texts rest old now since = between texts rest since.starts since.read since.started
 
 -- where nothing was written, no more was by then than each command may
-nothing_by_then : (command : Command) (old new : Scene) → WritesNothing old new → WritesByThen command old new
-nothing_by_then Run old new nothing = nothing
-nothing_by_then Check old new nothing = nothing
-nothing_by_then Compile old new nothing = nothing
+nothing_by_then : (request : Request) (command : Command) (old new : Scene) → WritesNothing old new → WritesByThen request command old new
+nothing_by_then request Run old new nothing = nothing
+nothing_by_then request Survive old new nothing = nothing
+nothing_by_then request Replay old new nothing = inl nothing
+nothing_by_then request Check old new nothing = nothing
+nothing_by_then request Compile old new nothing = nothing
+nothing_by_then request (Trial number) old new nothing = nothing
 
 module _ (files others : Option (List File)) (request : Request) (texts : List (List ℕ)) (rest : List Wanted) (old now : List Start) (r0 r1 f0 f1 : Faults) (w0 w1 : Option (List ℕ))
     (since : HasReadIn files request texts rest old now) (well : r1.count ≡ r0.count) (judged : Judgement → Type 0)
@@ -197,25 +210,72 @@ module _ (files others : Option (List File)) (request : Request) (texts : List (
   stage_ended WriteFault (bytes, inl judged, part, failed) = (bytes, inl (ended (Writes bytes) judged), well, record { written = part; failed = failed })
   stage_ended WriteFault (bytes, inr judged, part, failed) = (bytes, inr (ended (RefusedWith bytes) judged), well, record { written = part; failed = failed })
   stage_ended Memory (e, same) =
-      (ends_short files request texts rest old now since, well, nothing_by_then request.command before after (record { written = e; faults = same }))
+      (ends_short files request texts rest old now since, well, nothing_by_then request request.command before after (record { written = e; faults = same }))
 
--- The answer of a stage that judges the next file by what was read of it: all of it, or as much as shows that it is too long.
-pub next_judged : (files others : Option (List File)) (request : Request) (texts : List (List ℕ)) (next : Wanted) (rest : List Wanted) (old mid now : List Start) (bytes : List ℕ)
-    (r0 r1 f0 f1 : Faults) (w0 w1 : Option (List ℕ)) (status : Status) (judged : Judgement → Type 0) →
-    HasReadIn files request texts (next ∷ rest) old mid → Judges request.command texts ReadsOn → WasReadIn files next.name next.most bytes mid now → r1.count ≡ r0.count →
+  -- a front of the text was written by then
+  front_by_then : request.command ≡ Replay → (text : List ℕ) → judged (Writes text) → WrotePart w0 w1 text → f1.count ≡ f0.count → WritesByThen request request.command before after
+  front_by_then is_plain text judged part quiet =
+      let front : WritesFront request before after = record { text = text; ended = ended (Writes text) judged; front = part; well = quiet } in
+      subst (λ (command : Command). WritesByThen request command before after) (sym is_plain) (inr front)
+
+  -- each answer of one that takes memory while it writes
+  writing_stage_ended : request.command ≡ Replay → (status : Status) → WritingStageEnds judged w0 w1 f0 f1 status → WithRequest request before after status
+  writing_stage_ended is_plain Done h = stage_ended Done h
+  writing_stage_ended is_plain Refused h = stage_ended Refused h
+  writing_stage_ended is_plain Usage h = absurd h
+  writing_stage_ended is_plain ReadFault h = absurd h
+  writing_stage_ended is_plain WriteFault h = stage_ended WriteFault h
+  writing_stage_ended is_plain Memory (inl still) = stage_ended Memory still
+  writing_stage_ended is_plain Memory (inr (text, judged, part, quiet)) =
+      (ends_short files request texts rest old now since, well, front_by_then is_plain text judged part quiet)
+
+-- What was read of the next file, all of it or as much as shows that it is too long, is one of the texts, and what a stage judges of it is
+-- judged of that text.
+next_text : (files : Option (List File)) (request : Request) (texts : List (List ℕ)) (next : Wanted) (rest : List Wanted) (old mid now : List Start) (bytes : List ℕ)
+    (judged : Judgement → Type 0) (answer : Type 0) →
+    HasReadIn files request texts (next ∷ rest) old mid → Judges request.command texts ReadsOn → WasReadIn files next.name next.most bytes mid now →
     (length bytes ≤ next.most → (j : Judgement) → judged j → Judges request.command (texts ++ bytes ∷ []) j) →
     (next.most < length bytes → (text : List ℕ) → next.most < length text → (j : Judgement) → judged j → Judges request.command (texts ++ text ∷ []) j) →
-    StageEnds judged w0 w1 f0 f1 status →
-    WithRequest request (record { files = files; starts = old; read_faults = r0; written = w0; write_faults = f0 })
-    (record { files = others; starts = now; read_faults = r1; written = w1; write_faults = f1 }) status
-next_judged files others request texts next rest old mid now bytes r0 r1 f0 f1 w0 w1 status judged since goes_on was well short long ends = elim (cases_lt next.most (length bytes)) [
+    ((read : List (List ℕ)) → HasReadIn files request read rest old now → ((j : Judgement) → judged j → Judges request.command read j) → answer) → answer
+next_text files request texts next rest old mid now bytes judged answer since goes_on was short long ends = elim (cases_lt next.most (length bytes)) [
   | inl many ↦
       let read = reads_long files request texts next rest old mid now bytes since goes_on was many in
-      stage_ended files others request (texts ++ read.0 ∷ []) rest old now r0 r1 f0 f1 w0 w1 read.2 well judged (long many read.0 read.1) status ends
-  | inr few ↦
-      stage_ended files others request (texts ++ bytes ∷ []) rest old now r0 r1 f0 f1 w0 w1
-      (reads_text files request texts next rest old mid now bytes since goes_on was few) well judged (short few) status ends
+      ends (texts ++ read.0 ∷ []) read.2 (long many read.0 read.1)
+  | inr few ↦ ends (texts ++ bytes ∷ []) (reads_text files request texts next rest old mid now bytes since goes_on was few) (short few)
 ]
+
+module _ (files others : Option (List File)) (request : Request) (texts : List (List ℕ)) (next : Wanted) (rest : List Wanted) (old mid now : List Start) (bytes : List ℕ)
+    (r0 r1 f0 f1 : Faults) (w0 w1 : Option (List ℕ)) (status : Status) (judged : Judgement → Type 0)
+    (since : HasReadIn files request texts (next ∷ rest) old mid) (goes_on : Judges request.command texts ReadsOn)
+    (was : WasReadIn files next.name next.most bytes mid now) (well : r1.count ≡ r0.count)
+    (short : length bytes ≤ next.most → (j : Judgement) → judged j → Judges request.command (texts ++ bytes ∷ []) j)
+    (long : next.most < length bytes → (text : List ℕ) → next.most < length text → (j : Judgement) → judged j → Judges request.command (texts ++ text ∷ []) j) where
+  -- what a stage answers that judges the next file
+  abbrev pub NextAnswer : Type 0
+  NextAnswer =
+      WithRequest request (record { files = files; starts = old; read_faults = r0; written = w0; write_faults = f0 })
+      (record { files = others; starts = now; read_faults = r1; written = w1; write_faults = f1 }) status
+
+  -- The answer of a stage that judges it by what was read of it.
+  pub next_judged : StageEnds judged w0 w1 f0 f1 status → NextAnswer
+  next_judged ends =
+      next_text files request texts next rest old mid now bytes judged NextAnswer since goes_on was short long
+      (λ read has judges. stage_ended files others request read rest old now r0 r1 f0 f1 w0 w1 has well judged judges status ends)
+
+  -- and of one that takes memory while it writes
+  pub next_written : request.command ≡ Replay → WritingStageEnds judged w0 w1 f0 f1 status → NextAnswer
+  next_written is_plain ends =
+      next_text files request texts next rest old mid now bytes judged NextAnswer since goes_on was short long
+      (λ read has judges. writing_stage_ended files others request read rest old now r0 r1 f0 f1 w0 w1 has well judged judges is_plain status ends)
+
+-- The answer of a command that reads no file.
+pub no_file_judged : (files : Option (List File)) (command : Command) (starts : List Start) (r f0 f1 : Faults) (w0 w1 : Option (List ℕ)) (status : Status) →
+    StageEnds (Judges command []) w0 w1 f0 f1 status →
+    WithRequest (record { command = command; files = [] }) (record { files = files; starts = starts; read_faults = r; written = w0; write_faults = f0 })
+    (record { files = files; starts = starts; read_faults = r; written = w1; write_faults = f1 }) status
+no_file_judged files command starts r f0 f1 w0 w1 status ends =
+    let request : Request = record { command = command; files = [] } in
+    stage_ended files files request [] [] starts starts r r f0 f1 w0 w1 (nothing_read files request starts) refl (Judges command []) (λ j h. h) status ends
 
 -- the next file was not read
 pub unread_ends : (files others : Option (List File)) (request : Request) (texts : List (List ℕ)) (next : Wanted) (rest : List Wanted) (old mid now : List Start) (error : Unread)
@@ -228,7 +288,7 @@ unread_ends files others request texts next rest old mid now Fault r0 r1 f w sin
 unread_ends files others request texts next rest old mid now unread.Memory r0 r1 f w since goes_on stops = (
   read_runs_out files request texts next rest old mid now since goes_on stops.1,
   stops.0,
-  nothing_by_then request.command _ _ (record { written = refl; faults = refl }),
+  nothing_by_then request request.command _ _ (record { written = refl; faults = refl }),
 )
 
 -- memory was wanting before anything was done
@@ -237,7 +297,7 @@ memory_at_once None scene = (record { starts = refl; faults = refl }, record { w
 memory_at_once (Some request) scene = (
   ends_short scene.files request [] request.files scene.starts scene.starts (nothing_read scene.files request scene.starts),
   refl,
-  nothing_by_then request.command scene scene (record { written = refl; faults = refl }),
+  nothing_by_then request request.command scene scene (record { written = refl; faults = refl }),
 )
 
 -- ---- a later stage's answer is one of the whole
@@ -276,13 +336,18 @@ ran_out_of (Some files) request a b new same h = subst (λ (st : List Start). Ra
 missing_after : (r0 r1 r2 : Faults) → r1.count ≡ r0.count → r2 ≡ was_missing r1 → r2 ≡ was_missing r0
 missing_after r0 r1 r2 same was = was ∙ ap (λ n. record { count = n; failed_last = true }) same
 
--- what was written by then does not speak of starts
-still_by_then : (files : Option (List File)) (command : Command) (a b : List Start) (r0 r1 f0 : Faults) (w0 : Option (List ℕ)) (new : Scene) →
-    WritesByThen command (record { files = files; starts = a; read_faults = r1; written = w0; write_faults = f0 }) new →
-    WritesByThen command (record { files = files; starts = b; read_faults = r0; written = w0; write_faults = f0 }) new
-still_by_then files Run a b r0 r1 f0 w0 new nothing = record { written = nothing.written; faults = nothing.faults }
-still_by_then files Check a b r0 r1 f0 w0 new nothing = record { written = nothing.written; faults = nothing.faults }
-still_by_then files Compile a b r0 r1 f0 w0 new nothing = record { written = nothing.written; faults = nothing.faults }
+-- what was written by then is the same, whatever was read before
+still_by_then : (files : Option (List File)) (request : Request) (command : Command) (a b : List Start) (r0 r1 f0 : Faults) (w0 : Option (List ℕ)) (new : Scene) → AreStarts files a b →
+    WritesByThen request command (record { files = files; starts = a; read_faults = r1; written = w0; write_faults = f0 }) new →
+    WritesByThen request command (record { files = files; starts = b; read_faults = r0; written = w0; write_faults = f0 }) new
+still_by_then files request Run a b r0 r1 f0 w0 new same nothing = record { written = nothing.written; faults = nothing.faults }
+still_by_then files request Survive a b r0 r1 f0 w0 new same nothing = record { written = nothing.written; faults = nothing.faults }
+still_by_then files request Replay a b r0 r1 f0 w0 new same (inl nothing) = inl (record { written = nothing.written; faults = nothing.faults })
+still_by_then files request Replay a b r0 r1 f0 w0 new same (inr front) =
+    inr (record { text = front.text; ended = ended_of files request a b new.starts (Writes front.text) same front.ended; front = front.front; well = front.well })
+still_by_then files request Check a b r0 r1 f0 w0 new same nothing = record { written = nothing.written; faults = nothing.faults }
+still_by_then files request Compile a b r0 r1 f0 w0 new same nothing = record { written = nothing.written; faults = nothing.faults }
+still_by_then files request (Trial number) a b r0 r1 f0 w0 new same nothing = record { written = nothing.written; faults = nothing.faults }
 
 -- an answer of the later stages is one of the whole, in which nothing but reads without faults came before
 pub resumed : (files : Option (List File)) (request : Request) (a b : List Start) (r0 r1 f0 : Faults) (w0 : Option (List ℕ)) (new : Scene) (status : Status) →
@@ -307,4 +372,4 @@ resumed files request a b r0 r1 f0 w0 new WriteFault same count (bytes, inl ende
 resumed files request a b r0 r1 f0 w0 new WriteFault same count (bytes, inr ended, well, part) =
     (bytes, inr (ended_of files request a b new.starts (RefusedWith bytes) same ended), well ∙ count, record { written = part.written; failed = part.failed })
 resumed files request a b r0 r1 f0 w0 new Memory same count (out, well, by_then) =
-    (ran_out_of files request a b new.starts same out, well ∙ count, still_by_then files request.command a b r0 r1 f0 w0 new by_then)
+    (ran_out_of files request a b new.starts same out, well ∙ count, still_by_then files request request.command a b r0 r1 f0 w0 new same by_then)

@@ -4,9 +4,9 @@ use Rattle.std.proofs.lemmas.List.{length-take}
 use Rattle.std.proofs.Math.Seq.{take-append_seam, take-length}
 use Rattle.rb_outside.specs.Outside.{File, Faults, Start, WrotePart, failed_once, went_well, then_written}
 use Rattle.rb_outside.proofs.Puts.{failed_after}
-use Rattle.rb_top.specs.Words.{Command, Run, Check, Compile, Request}
+use Rattle.rb_top.specs.Words.{Command, Run, Survive, Replay, Check, Compile, Trial, Request}
 use Rattle.rb_top.specs.Judgement.{usage_line}
-use Rattle.rb_top.specs.Answers.{Scene, ReadFails, by_fault, by_missing, WritesByThen, WritesAll, WritesPart, WritesNothing, WithoutRequest, WithRequest, WhereRequested}
+use Rattle.rb_top.specs.Answers.{Scene, ReadFails, by_fault, by_missing, WritesByThen, WritesFront, WritesAll, WritesPart, WritesNothing, WithoutRequest, WithRequest, WhereRequested}
 use Rattle.rb_top.specs.Complete.{IsUnhindered, EndsAs, IsComplete}
 use Rattle.rb_top.specs.Ending.{IsUnwritten, SeenBehind, EndsWithNumber, Finishes, status_number}
 use Rattle.rb_top.proofs.Answering.{memory_at_once}
@@ -192,10 +192,23 @@ module _ (files0 : Option (List File)) (starts0 : List Start) (r0 : Faults) (w0 
   reads_behind request f (by_fault fault stopped) = by_fault fault stopped
   reads_behind request f (by_missing was stopped) = by_missing was stopped
 
-  writes_by_then : (command : Command) → WritesByThen command old mid → WritesByThen command old (at_sink mid.write_faults)
-  writes_by_then Run none = passed_none none
-  writes_by_then Check none = passed_none none
-  writes_by_then Compile none = passed_none none
+  -- a front of a text was written
+  passed_front : (request : Request) → WritesFront request old mid → WritesFront request old (at_sink mid.write_faults)
+  passed_front request front = record {
+    text = front.text;
+    ended = front.ended;
+    front = part_behind w0 told w2 rest2 front.text unwritten front.front after;
+    well = front.well;
+  }
+
+  writes_by_then : (request : Request) (command : Command) → WritesByThen request command old mid → WritesByThen request command old (at_sink mid.write_faults)
+  writes_by_then request Run none = passed_none none
+  writes_by_then request Survive none = passed_none none
+  writes_by_then request Replay (inl none) = inl (passed_none none)
+  writes_by_then request Replay (inr front) = inr (passed_front request front)
+  writes_by_then request Check none = passed_none none
+  writes_by_then request Compile none = passed_none none
+  writes_by_then request (Trial number) none = passed_none none
 
   behind_some : (request : Request) (s t : Status) → WithRequest request old mid s → Finishes s t told w1 w2 s1 s2 → Seen (Some request) old new t
   behind_some request Usage t h f = absurd h
@@ -219,7 +232,7 @@ module _ (files0 : Option (List File)) (starts0 : List Start) (r0 : Faults) (w0 
       (at_sink mid.write_faults, (bytes, ended, reads, failed_part bytes part), seen_still still)
   behind_some request Memory t (out, reads, none) (is, same, still) =
       subst (Seen (Some request) old new) (sym is)
-      (at_sink mid.write_faults, (out, reads, writes_by_then request.command none), seen_still still)
+      (at_sink mid.write_faults, (out, reads, writes_by_then request request.command none), seen_still still)
 
   behind : (request : Option Request) (s t : Status) → WhereRequested request old mid s → Finishes s t told w1 w2 s1 s2 → Seen request old new t
   behind None s t h f = behind_none s t h f

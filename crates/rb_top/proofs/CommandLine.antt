@@ -26,8 +26,8 @@ use Rattle.clap.specs.declared.builder.value_parser.Reading.TheVariants.{AsWritt
 use Rattle.clap.proofs.WalkLemmas.{first_value-rows, walk_stopped}
 use Rattle.clap.proofs.FaultLemmas.{stopped_fault}
 use Rattle.clap.proofs.OnLiterals.{clap_on_literals}
-use Rattle.rb_top.specs.Words.{Request, check_of, code_of, forms, is_plain_word, named_in, request_of, with_one}
-use Rattle.rb_top.specs.CommandLine.{command_with, program, request_given, required_word}
+use Rattle.rb_top.specs.Words.{Request, check_of, code_of, forms, is_plain_word, named_in, plain_of, request_of, run_of, survive_of, trial_number, trial_of, with_two}
+use Rattle.rb_top.specs.CommandLine.{command_with, program, request_given, required_word, trial_given, two_given}
 
 -- the program is one of which `clap` says all
 pub is_told : is_simple_and_free program ≡ true
@@ -224,78 +224,131 @@ some_fault f g k ks is some none = let both : [] ≡ k ∷ ks = sym none ∙ is 
 asks : (name : Text) (words : List Text) → list_all is_plain_word words ≡ true → request_of (name ∷ words) ≡ named_in forms name words
 asks name words plain = cond-true (list_all is_plain_word words) (named_in forms name words) None plain
 
--- `run` takes two words
-module _ (words : List Text) where
-  run-fault : fault_of program (codes "run" ∷ words) ≡ or_else (fault_at (codes "run") (codes "SOURCE" ∷ codes "SCHEDULE" ∷ []) words) []
-  run-fault = fault-name (codes "run") words (leaf (codes "run") (codes "SOURCE" ∷ codes "SCHEDULE" ∷ [])) refl refl refl
+-- a command that takes two words
+module _ (name i j : Text) (of : Text → Text → Request) (first : bytes_eq i i ≡ true) (second : bytes_eq j j ≡ true) (ahead : bytes_eq i j ≡ false) (behind : bytes_eq j i ≡ false)
+    (fault : (words : List Text) → fault_of program (name ∷ words) ≡ or_else (fault_at name (i ∷ j ∷ []) words) [])
+    (values : (words : List Text) → subcommand_of program (name ∷ words) ≡ Some (name, rows_after (leaf name (i ∷ j ∷ [])).rules [] words))
+    (gives : (given : Text → Option Text) → request_given name given ≡ two_given of (given i) (given j))
+    (form : (words : List Text) → named_in forms name words ≡ with_two of words) where
+  two_agrees : (words : List Text) → list_all is_plain_word words ≡ true → Agrees (name ∷ words)
+  two_agrees [] plain = refused (some_fault _ _ _ _ (fault []) (two-none name i j first second ahead behind)) (form [])
+  two_agrees (a ∷ []) plain =
+      let one = and_parts _ _ plain in
+      refused (some_fault _ _ _ _ (fault (a ∷ [])) (two-few name i j first second ahead behind a one.0)) (asks name (a ∷ []) plain ∙ form (a ∷ []))
+  two_agrees (a ∷ b ∷ []) plain =
+      let one = and_parts _ _ plain in
+      let other = and_parts _ _ one.1 in
+      let given : Text → Option Text = λ id. first_of id (rows_after (leaf name (i ∷ j ∷ [])).rules [] (a ∷ b ∷ [])) in
+      let read = two-values name i j first second ahead behind a b one.0 other.0 in
+      let found : found_in (subcommand_of program (name ∷ a ∷ b ∷ [])) ≡ Some (of a b) =
+      ap found_in (values (a ∷ b ∷ [])) ∙ gives given ∙ ap (λ x. two_given of x (given j)) read.0 ∙ ap (two_given of (Some a)) read.1 in
+      taken (no_fault _ _ (fault (a ∷ b ∷ [])) (two-takes name i j first second ahead behind a b one.0 other.0))
+      (found ∙ sym (asks name (a ∷ b ∷ []) plain ∙ form (a ∷ b ∷ [])))
+  two_agrees (a ∷ b ∷ c ∷ more) plain =
+      let one = and_parts _ _ plain in
+      let other = and_parts _ _ one.1 in
+      let third = and_parts _ _ other.1 in
+      refused (some_fault _ _ _ _ (fault (a ∷ b ∷ c ∷ more)) (two-many name i j first second ahead behind a b c more one.0 other.0 third.0))
+      (asks name (a ∷ b ∷ c ∷ more) plain ∙ form (a ∷ b ∷ c ∷ more))
 
-  run-values : subcommand_of program (codes "run" ∷ words) ≡ Some (codes "run", rows_after (leaf (codes "run") (codes "SOURCE" ∷ codes "SCHEDULE" ∷ [])).rules [] words)
-  run-values = subcommand-name (codes "run") words (leaf (codes "run") (codes "SOURCE" ∷ codes "SCHEDULE" ∷ [])) refl refl refl
-
+-- `run`, `survive` and `plain` take two
 run_agrees : (words : List Text) → list_all is_plain_word words ≡ true → Agrees (codes "run" ∷ words)
-run_agrees [] plain = refused (some_fault _ _ _ _ (run-fault []) (two-none (codes "run") _ _ refl refl refl refl)) refl
-run_agrees (a ∷ []) plain =
-    let first = and_parts _ _ plain in
-    refused (some_fault _ _ _ _ (run-fault (a ∷ [])) (two-few (codes "run") _ _ refl refl refl refl a first.0)) (asks (codes "run") (a ∷ []) plain)
-run_agrees (a ∷ b ∷ []) plain =
-    let first = and_parts _ _ plain in
-    let second = and_parts _ _ first.1 in
-    let values = two-values (codes "run") (codes "SOURCE") (codes "SCHEDULE") refl refl refl refl a b first.0 second.0 in
-    taken (no_fault _ _ (run-fault (a ∷ b ∷ [])) (two-takes (codes "run") _ _ refl refl refl refl a b first.0 second.0))
-    (rw (run-values (a ∷ b ∷ []), values.0, values.1) (sym (asks (codes "run") (a ∷ b ∷ []) plain)))
-run_agrees (a ∷ b ∷ c ∷ more) plain =
-    let first = and_parts _ _ plain in
-    let second = and_parts _ _ first.1 in
-    let third = and_parts _ _ second.1 in
-    refused (some_fault _ _ _ _ (run-fault (a ∷ b ∷ c ∷ more)) (two-many (codes "run") _ _ refl refl refl refl a b c more first.0 second.0 third.0))
-    (asks (codes "run") (a ∷ b ∷ c ∷ more) plain)
+run_agrees =
+    two_agrees (codes "run") (codes "SOURCE") (codes "SCHEDULE") run_of refl refl refl refl
+    (λ words. fault-name (codes "run") words (leaf (codes "run") (codes "SOURCE" ∷ codes "SCHEDULE" ∷ [])) refl refl refl)
+    (λ words. subcommand-name (codes "run") words (leaf (codes "run") (codes "SOURCE" ∷ codes "SCHEDULE" ∷ [])) refl refl refl) (λ given. refl) (λ words. refl)
 
--- a command that takes one word, the name of a source
-module _ (name : Text) (of : Text → Request)
-    (fault : (words : List Text) → fault_of program (name ∷ words) ≡ or_else (fault_at name (codes "SOURCE" ∷ []) words) [])
-    (values : (words : List Text) → subcommand_of program (name ∷ words) ≡ Some (name, rows_after (leaf name (codes "SOURCE" ∷ [])).rules [] words))
-    (gives : (given : Text → Option Text) → request_given name given ≡ option_map of (given (codes "SOURCE")))
-    (form : (words : List Text) → named_in forms name words ≡ with_one of words) where
+survive_agrees : (words : List Text) → list_all is_plain_word words ≡ true → Agrees (codes "survive" ∷ words)
+survive_agrees =
+    two_agrees (codes "survive") (codes "SOURCE") (codes "SCHEDULE") survive_of refl refl refl refl
+    (λ words. fault-name (codes "survive") words (leaf (codes "survive") (codes "SOURCE" ∷ codes "SCHEDULE" ∷ [])) refl refl refl)
+    (λ words. subcommand-name (codes "survive") words (leaf (codes "survive") (codes "SOURCE" ∷ codes "SCHEDULE" ∷ [])) refl refl refl) (λ given. refl) (λ words. refl)
+
+plain_agrees : (words : List Text) → list_all is_plain_word words ≡ true → Agrees (codes "plain" ∷ words)
+plain_agrees =
+    two_agrees (codes "plain") (codes "SOURCE") (codes "RECORD") plain_of refl refl refl refl
+    (λ words. fault-name (codes "plain") words (leaf (codes "plain") (codes "SOURCE" ∷ codes "RECORD" ∷ [])) refl refl refl)
+    (λ words. subcommand-name (codes "plain") words (leaf (codes "plain") (codes "SOURCE" ∷ codes "RECORD" ∷ [])) refl refl refl) (λ given. refl) (λ words. refl)
+
+-- a command that takes one word, of which it makes something to ask for, or nothing
+module _ (name i : Text) (of : Text → Option Request) (same : bytes_eq i i ≡ true)
+    (fault : (words : List Text) → fault_of program (name ∷ words) ≡ or_else (fault_at name (i ∷ []) words) [])
+    (values : (words : List Text) → subcommand_of program (name ∷ words) ≡ Some (name, rows_after (leaf name (i ∷ [])).rules [] words))
+    (gives : (given : Text → Option Text) (a : Text) → given i ≡ Some a → request_given name given ≡ of a)
+    (without : named_in forms name [] ≡ None) (form : (a : Text) → named_in forms name (a ∷ []) ≡ of a)
+    (beyond : (a b : Text) (more : List Text) → named_in forms name (a ∷ b ∷ more) ≡ None) where
   one_agrees : (words : List Text) → list_all is_plain_word words ≡ true → Agrees (name ∷ words)
-  one_agrees [] plain = refused (some_fault _ _ _ _ (fault []) (one-few name _ refl)) (form [])
+  one_agrees [] plain = refused (some_fault _ _ _ _ (fault []) (one-few name i same)) without
   one_agrees (a ∷ []) plain =
       let first = and_parts _ _ plain in
-      let found : found_in (subcommand_of program (name ∷ a ∷ [])) ≡ Some (of a) =
-      ap found_in (values (a ∷ [])) ∙ gives (λ id. first_of id (rows_after (leaf name (codes "SOURCE" ∷ [])).rules [] (a ∷ [])))
-      ∙ ap (option_map of) (one-value name (codes "SOURCE") refl a first.0) in
-      taken (no_fault _ _ (fault (a ∷ [])) (one-takes name _ refl a first.0)) (found ∙ sym (asks name (a ∷ []) plain ∙ form (a ∷ [])))
+      let found : found_in (subcommand_of program (name ∷ a ∷ [])) ≡ of a =
+      ap found_in (values (a ∷ [])) ∙ gives (λ id. first_of id (rows_after (leaf name (i ∷ [])).rules [] (a ∷ []))) a (one-value name i same a first.0) in
+      taken (no_fault _ _ (fault (a ∷ [])) (one-takes name i same a first.0)) (found ∙ sym (asks name (a ∷ []) plain ∙ form a))
   one_agrees (a ∷ b ∷ more) plain =
       let first = and_parts _ _ plain in
       let second = and_parts _ _ first.1 in
-      refused (some_fault _ _ _ _ (fault (a ∷ b ∷ more)) (one-many name _ refl a b more first.0 second.0)) (asks name (a ∷ b ∷ more) plain ∙ form (a ∷ b ∷ more))
+      refused (some_fault _ _ _ _ (fault (a ∷ b ∷ more)) (one-many name i same a b more first.0 second.0)) (asks name (a ∷ b ∷ more) plain ∙ beyond a b more)
 
--- `check` and `code` take one
+-- `check`, `code` and `trial` take one
 check_agrees : (words : List Text) → list_all is_plain_word words ≡ true → Agrees (codes "check" ∷ words)
 check_agrees =
-    one_agrees (codes "check") check_of (λ words. fault-name (codes "check") words (leaf (codes "check") (codes "SOURCE" ∷ [])) refl refl refl)
-    (λ words. subcommand-name (codes "check") words (leaf (codes "check") (codes "SOURCE" ∷ [])) refl refl refl) (λ given. refl) (λ words. refl)
+    one_agrees (codes "check") (codes "SOURCE") (λ a. Some (check_of a)) refl
+    (λ words. fault-name (codes "check") words (leaf (codes "check") (codes "SOURCE" ∷ [])) refl refl refl)
+    (λ words. subcommand-name (codes "check") words (leaf (codes "check") (codes "SOURCE" ∷ [])) refl refl refl)
+    (λ given a e. ap (option_map check_of) e) refl (λ a. refl) (λ a b more. refl)
 
 code_agrees : (words : List Text) → list_all is_plain_word words ≡ true → Agrees (codes "code" ∷ words)
 code_agrees =
-    one_agrees (codes "code") code_of (λ words. fault-name (codes "code") words (leaf (codes "code") (codes "SOURCE" ∷ [])) refl refl refl)
-    (λ words. subcommand-name (codes "code") words (leaf (codes "code") (codes "SOURCE" ∷ [])) refl refl refl) (λ given. refl) (λ words. refl)
+    one_agrees (codes "code") (codes "SOURCE") (λ a. Some (code_of a)) refl
+    (λ words. fault-name (codes "code") words (leaf (codes "code") (codes "SOURCE" ∷ [])) refl refl refl)
+    (λ words. subcommand-name (codes "code") words (leaf (codes "code") (codes "SOURCE" ∷ [])) refl refl refl)
+    (λ given a e. ap (option_map code_of) e) refl (λ a. refl) (λ a b more. refl)
 
--- the first word is a command's name, or none
-named : (is_run is_check is_code : Bool) (name : Text) (words : List Text) → list_all is_plain_word (name ∷ words) ≡ true →
-    bytes_eq (codes "run") name ≡ is_run → bytes_eq (codes "check") name ≡ is_check → bytes_eq (codes "code") name ≡ is_code → Agrees (name ∷ words)
-named true is_check is_code name words plain e f h = subst (λ n. Agrees (n ∷ words)) ((bytes_eq-Decides _ _).0 e) (run_agrees words (and_parts _ _ plain).1)
-named false true is_code name words plain e f h = subst (λ n. Agrees (n ∷ words)) ((bytes_eq-Decides _ _).0 f) (check_agrees words (and_parts _ _ plain).1)
-named false false true name words plain e f h = subst (λ n. Agrees (n ∷ words)) ((bytes_eq-Decides _ _).0 h) (code_agrees words (and_parts _ _ plain).1)
-named false false false name words plain e f h =
-    let parts = and_parts (is_plain_word name) _ plain in
-    let no_name : subcommand_met names idle name ≡ None = rw (e, f, h) refl in
-    refused (λ none. let both : [] ≡ UnknownArgument ∷ InvalidSubcommand ∷ [] = sym none ∙ other_word name words parts.0 no_name in cc)
-    (asks name words parts.1 ∙ rw (e, f, h) refl)
+trial_agrees : (words : List Text) → list_all is_plain_word words ≡ true → Agrees (codes "trial" ∷ words)
+trial_agrees =
+    one_agrees (codes "trial") (codes "NUMBER") (λ a. option_map trial_of (trial_number a)) refl
+    (λ words. fault-name (codes "trial") words (leaf (codes "trial") (codes "NUMBER" ∷ [])) refl refl refl)
+    (λ words. subcommand-name (codes "trial") words (leaf (codes "trial") (codes "NUMBER" ∷ [])) refl refl refl)
+    (λ given a e. ap trial_given e) refl (λ a. refl) (λ a b more. refl)
+
+-- which command's name a word is
+pub record AreNamed (name : Text) (is_run is_survive is_plain is_check is_code is_trial : Bool) : Type 0 where
+  pub run : bytes_eq (codes "run") name ≡ is_run
+  pub survive : bytes_eq (codes "survive") name ≡ is_survive
+  pub plain : bytes_eq (codes "plain") name ≡ is_plain
+  pub check : bytes_eq (codes "check") name ≡ is_check
+  pub code : bytes_eq (codes "code") name ≡ is_code
+  pub trial : bytes_eq (codes "trial") name ≡ is_trial
+
+module _ (name : Text) (words : List Text) (plain : list_all is_plain_word (name ∷ words) ≡ true) where
+  -- a name of which this is known
+  of_named : (known : Text) → (list_all is_plain_word words ≡ true → Agrees (known ∷ words)) → bytes_eq known name ≡ true → Agrees (name ∷ words)
+  of_named known agrees e = subst (λ n. Agrees (n ∷ words)) ((bytes_eq-Decides _ _).0 e) (agrees (and_parts _ _ plain).1)
+
+  -- a name of no command
+  unnamed : AreNamed name false false false false false false → Agrees (name ∷ words)
+  unnamed are =
+      let parts = and_parts (is_plain_word name) _ plain in
+      let no_name : subcommand_met names idle name ≡ None = rw (are.run, are.survive, are.plain, are.check, are.code, are.trial) refl in
+      refused (λ none. let both : [] ≡ UnknownArgument ∷ InvalidSubcommand ∷ [] = sym none ∙ other_word name words parts.0 no_name in cc)
+      (asks name words parts.1 ∙ rw (are.run, are.survive, are.plain, are.check, are.code, are.trial) refl)
+
+  -- the first word is a command's name, or none
+  named : (is_run is_survive is_plain is_check is_code is_trial : Bool) → AreNamed name is_run is_survive is_plain is_check is_code is_trial → Agrees (name ∷ words)
+  named true b c d e f are = of_named (codes "run") (run_agrees words) are.run
+  named false true c d e f are = of_named (codes "survive") (survive_agrees words) are.survive
+  named false false true d e f are = of_named (codes "plain") (plain_agrees words) are.plain
+  named false false false true e f are = of_named (codes "check") (check_agrees words) are.check
+  named false false false false true f are = of_named (codes "code") (code_agrees words) are.code
+  named false false false false false true are = of_named (codes "trial") (trial_agrees words) are.trial
+  named false false false false false false are = unnamed are
 
 pub agrees : (words : List Text) → list_all is_plain_word words ≡ true → Agrees words
 agrees [] plain = refused (λ none. let both : [] ≡ MissingSubcommand ∷ [] = sym none ∙ no_words in cc) refl
 agrees (name ∷ words) plain =
-    named (bytes_eq (codes "run") name) (bytes_eq (codes "check") name) (bytes_eq (codes "code") name) name words plain refl refl refl
+    named name words plain (bytes_eq (codes "run") name) (bytes_eq (codes "survive") name) (bytes_eq (codes "plain") name) (bytes_eq (codes "check") name)
+    (bytes_eq (codes "code") name) (bytes_eq (codes "trial") name)
+    (record { run = refl; survive = refl; plain = refl; check = refl; code = refl; trial = refl })
 
 -- a word that is not plain names no command
 not_named : (name : Text) (words : List Text) → is_plain_word name ≡ false → named_in forms name words ≡ None

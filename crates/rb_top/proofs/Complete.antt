@@ -6,7 +6,7 @@ use Rattle.rb_outside.specs.Outside as outside
 use Rattle.rb_top.specs.Words.{Request}
 use Rattle.rb_top.specs.Judgement.{RefusedWith, Writes, EndsWith, refused_here, written_here}
 use Rattle.rb_top.specs.Answers.{Scene, Ended, EndedIn, StoppedByMissing, StoppedByMissingIn, WithRequest, by_fault, by_missing}
-use Rattle.rb_top.specs.Complete.{AreStored, IsUnhindered, EndsAsJudged}
+use Rattle.rb_top.specs.Complete.{AreStored, IsComplete, IsUnhindered, EndsAsJudged}
 use Rattle.rb_top.specs.declared.status.Status.{Status}
 use Rattle.rb_top.specs.declared.status.Status.TheVariants.{Done, Refused, Usage, ReadFault, WriteFault, Memory}
 use Rattle.rb_top.proofs.Chains.{left_of, next_stored, ends_from}
@@ -69,3 +69,8 @@ completed request old new ReadFault (by_missing was stopped, nothing) files befo
     absurd (none_missing request files old.starts new.starts texts free.stored (subst (λ told. StoppedByMissingIn told request old.starts new.starts) free.files_told stopped))
 completed request old new WriteFault (bytes, ended, well, part) files before texts free = absurd (free.no_write_fault (rose old.write_faults new.write_faults part.failed))
 completed request old new Memory h files before texts free = inl refl
+
+-- memory was wanting before anything was done
+pub complete_at_once : (request : Option Request) (old new : Scene) → IsComplete request old new Memory
+complete_at_once None old new = tt
+complete_at_once (Some request) old new = λ files before texts free. inl refl

@@ -1,13 +1,19 @@
--- Texts are judged in one way: a source has one verdict, a schedule is one list or one fault, and a run has one text.
-use Rattle.std.proofs.Common.{◌≡◌, ℕ, ◌<◌, ◌≤◌, List, [], ◌∷◌, ◌++◌, length, Ok, refl, sym, ap, subst, ◌∙◌, arith}
+-- Texts are judged in one way: a source has one verdict, a schedule or a record is one list or has one fault, and what a command makes
+-- of them is one text.
+use Rattle.std.proofs.Common.{◌≡◌, ℕ, ◌<◌, ◌≤◌, List, [], ◌∷◌, ◌++◌, length, Ok, Err, refl, sym, ap, subst, ◌∙◌, arith}
 use Rattle.rb_meaning.specs.Meaning.{run_text}
+use Rattle.rb_meaning.specs.PlainRun.{plain_text}
+use Rattle.rb_make.specs.Trial.{schedule_of as made_schedule, source_of}
+use Rattle.rb_plain.specs.Record.{record_of}
+use Rattle.rb_world.specs.Plain.{Kept}
 use Rattle.rb_base.specs.declared.limits.TheConstants.{MOST_BYTES}
 use Rattle.rb_sched.specs.Schedule.{schedule_of}
 use Rattle.rb_syntax.specs.Tree.{Tree}
-use Rattle.rb_top.specs.Words.{Command, Run, Check, Compile}
-use Rattle.rb_top.specs.Judgement.{Judgement, ReadsOn, RefusedWith, Writes, SourceRefused, long_source, bad_source, source_line, Accepted}
-use Rattle.rb_top.specs.Judgement.{ScheduleRefused, long_schedule, bad_schedule, schedule_line, ScheduleRuns, JudgesSource, at_first, source_refused, source_accepted}
-use Rattle.rb_top.specs.Judgement.{RunGoesOn, names_of, reads_schedule, schedule_refused, runs, CheckGoesOn, accepts, CodeGoesOn, ListsCodeOf, lists, Judges, EndsWith, refused_here, written_here, later}
+use Rattle.rb_top.specs.Words.{Command, Run, Survive, Replay, Check, Compile, Trial}
+use Rattle.rb_top.specs.Judgement.{Judgement, ReadsOn, RefusedWith, Writes, SourceRefused, long_source, bad_source, source_line, text_line, stuck_line, Accepted}
+use Rattle.rb_top.specs.Judgement.{ScheduleRefused, long_schedule, bad_schedule, ScheduleRuns, RecordRefused, long_record, bad_record, stuck_record, RecordPlays}
+use Rattle.rb_top.specs.Judgement.{JudgesSource, at_first, source_refused, source_accepted, OverSchedule, names_of, reads_schedule, schedule_refused, runs, survivors_text, summary_text}
+use Rattle.rb_top.specs.Judgement.{PlainGoesOn, reads_record, record_refused, plays, CheckGoesOn, accepts, CodeGoesOn, ListsCodeOf, lists, Judges, EndsBy, refused_here, written_here, later}
 use Rattle.rb_top.specs.Laws.{AreJudgedOnce}
 use Rattle.rb_judge.proofs.BlocksInOrder.{parsed_are_numbered}
 use Rattle.rb_judge.proofs.Verdicts.{have_one_verdict}
@@ -40,41 +46,93 @@ schedule_once tree text line other (long_schedule long a) (long_schedule again b
 schedule_once tree text line other (long_schedule long a) (bad_schedule fault short bad b) = not_both_lengths text long short
 schedule_once tree text line other (bad_schedule fault short bad a) (long_schedule long b) = not_both_lengths text long short
 schedule_once tree text line other (bad_schedule fault short bad a) (bad_schedule second again worse b) =
-    let same : fault ≡ second = cc (bad, worse) in a ∙ ap schedule_line same ∙ sym b
+    let same : fault ≡ second = cc (bad, worse) in a ∙ ap text_line same ∙ sym b
 
 -- a schedule that lists turns is not refused
 listed_stands : (tree : Tree) (text line : List ℕ) (turns : List ℕ) → length text ≤ MOST_BYTES → schedule_of (names_of tree) text ≡ Ok turns → ScheduleRefused tree text line → ⊥
 listed_stands tree text line turns short listed (long_schedule long e) = not_both_lengths text long short
 listed_stands tree text line turns short listed (bad_schedule fault again bad e) = cc (listed, bad)
 
--- one text of a run
-run_once : (tree : Tree) (schedule text other : List ℕ) → ScheduleRuns tree schedule text → ScheduleRuns tree schedule other → text ≡ other
-run_once tree schedule text other r s =
-    let turned : r.turns ≡ s.turns = cc (r.listed, s.listed) in
-    r.is ∙ ap (run_text tree) turned ∙ sym s.is
-
--- a run is no refusal
-run_stands : (tree : Tree) (schedule text line : List ℕ) → ScheduleRuns tree schedule text → ScheduleRefused tree schedule line → ⊥
-run_stands tree schedule text line r refused = listed_stands tree schedule line r.turns r.short r.listed refused
-
 -- a command goes on in one way from an accepted source
 abbrev GoesOnOnce : (Tree → List (List ℕ) → Judgement → Type 0) → Type 0
 GoesOnOnce goes_on =
     (source : List ℕ) (tree : Tree) (texts : List (List ℕ)) (v w : Judgement) → Accepted source tree → goes_on tree texts v → goes_on tree texts w → v ≡ w
 
--- `run` does
-runs_once : GoesOnOnce RunGoesOn
-runs_once source tree texts v w accepted reads_schedule reads_schedule = refl
-runs_once source tree texts v w accepted (schedule_refused schedule line r) (schedule_refused again other s) = ap RefusedWith (schedule_once tree schedule line other r s)
-runs_once source tree texts v w accepted (schedule_refused schedule line r) (runs again text s) = absurd (run_stands tree schedule text line s r)
-runs_once source tree texts v w accepted (runs schedule text r) (schedule_refused again line s) = absurd (run_stands tree schedule text line r s)
-runs_once source tree texts v w accepted (runs schedule text r) (runs again other s) = ap Writes (run_once tree schedule text other r s)
+-- ---- over a schedule
 
--- and so does `check`
+module _ (text_of : Tree → List ℕ → List ℕ) where
+  -- one text
+  run_once : (tree : Tree) (schedule text other : List ℕ) → ScheduleRuns text_of tree schedule text → ScheduleRuns text_of tree schedule other → text ≡ other
+  run_once tree schedule text other r s =
+      let turned : r.turns ≡ s.turns = cc (r.listed, s.listed) in
+      r.is ∙ ap (text_of tree) turned ∙ sym s.is
+
+  -- a text is no refusal
+  run_stands : (tree : Tree) (schedule text line : List ℕ) → ScheduleRuns text_of tree schedule text → ScheduleRefused tree schedule line → ⊥
+  run_stands tree schedule text line r refused = listed_stands tree schedule line r.turns r.short r.listed refused
+
+  -- so `run`, `survive` and `trial` go on in one way
+  runs_once : GoesOnOnce (OverSchedule text_of)
+  runs_once source tree texts v w accepted reads_schedule reads_schedule = refl
+  runs_once source tree texts v w accepted (schedule_refused schedule line r) (schedule_refused again other s) = ap RefusedWith (schedule_once tree schedule line other r s)
+  runs_once source tree texts v w accepted (schedule_refused schedule line r) (runs again text s) = absurd (run_stands tree schedule text line s r)
+  runs_once source tree texts v w accepted (runs schedule text r) (schedule_refused again line s) = absurd (run_stands tree schedule text line r s)
+  runs_once source tree texts v w accepted (runs schedule text r) (runs again other s) = ap Writes (run_once tree schedule text other r s)
+
+-- ---- over a record
+
+-- one line for a record
+record_once : (tree : Tree) (text line other : List ℕ) → RecordRefused tree text line → RecordRefused tree text other → line ≡ other
+record_once tree text line other (long_record long a) (long_record again b) = a ∙ sym b
+record_once tree text line other (long_record long a) (bad_record fault short bad b) = not_both_lengths text long short
+record_once tree text line other (long_record long a) (stuck_record turns turn short listed stuck b) = not_both_lengths text long short
+record_once tree text line other (bad_record fault short bad a) (long_record long b) = not_both_lengths text long short
+record_once tree text line other (bad_record fault short bad a) (bad_record second again worse b) =
+    let same : fault ≡ second = cc (bad, worse) in a ∙ ap text_line same ∙ sym b
+record_once tree text line other (bad_record fault short bad a) (stuck_record turns turn again listed stuck b) = absurd (cc (bad, listed))
+record_once tree text line other (stuck_record turns turn short listed stuck a) (long_record long b) = not_both_lengths text long short
+record_once tree text line other (stuck_record turns turn short listed stuck a) (bad_record fault again bad b) = absurd (cc (bad, listed))
+record_once tree text line other (stuck_record turns turn short listed stuck a) (stuck_record others second again told worse b) =
+    let same : turns ≡ others = cc (listed, told) in
+    let at : turn ≡ second = cc (stuck, worse, same) in
+    a ∙ ap stuck_line at ∙ sym b
+
+-- one text of its plain run
+plays_once : (tree : Tree) (kept text other : List ℕ) → RecordPlays tree kept text → RecordPlays tree kept other → text ≡ other
+plays_once tree kept text other r s =
+    let same : r.turns ≡ s.turns = cc (r.listed, s.listed) in
+    let played : Ok text ≡ plain_text tree s.turns = sym r.is ∙ ap (plain_text tree) same in
+    cc (played, s.is)
+
+-- a plain run that has a text is not stuck
+not_stuck : (tree : Tree) (turns others : List Kept) (kept text : List ℕ) (turn : ℕ) → record_of (names_of tree) kept ≡ Ok turns → plain_text tree turns ≡ Ok text →
+    record_of (names_of tree) kept ≡ Ok others → plain_text tree others ≡ Err turn → ⊥
+not_stuck tree turns others kept text turn listed played told stuck =
+    let same : turns ≡ others = cc (listed, told) in
+    let both : Ok text ≡ Err turn = sym played ∙ ap (plain_text tree) same ∙ stuck in
+    cc
+
+-- a text is no refusal
+plays_stand : (tree : Tree) (kept text line : List ℕ) → RecordPlays tree kept text → RecordRefused tree kept line → ⊥
+plays_stand tree kept text line r (long_record long e) = not_both_lengths kept long r.short
+plays_stand tree kept text line r (bad_record fault short bad e) = let listed = r.listed in cc (listed, bad)
+plays_stand tree kept text line r (stuck_record turns turn short listed stuck e) = not_stuck tree r.turns turns kept text turn r.listed r.is listed stuck
+
+-- so `plain` goes on in one way
+plain_once : GoesOnOnce PlainGoesOn
+plain_once source tree texts v w accepted reads_record reads_record = refl
+plain_once source tree texts v w accepted (record_refused kept line r) (record_refused again other s) = ap RefusedWith (record_once tree kept line other r s)
+plain_once source tree texts v w accepted (record_refused kept line r) (plays again text s) = absurd (plays_stand tree kept text line s r)
+plain_once source tree texts v w accepted (plays kept text r) (record_refused again line s) = absurd (plays_stand tree kept text line r s)
+plain_once source tree texts v w accepted (plays kept text r) (plays again other s) = ap Writes (plays_once tree kept text other r s)
+
+-- ---- over a source alone
+
+-- `check` goes on in one way
 checks_once : GoesOnOnce CheckGoesOn
 checks_once source tree texts v w accepted (accepts text a) (accepts other b) = ap Writes (a ∙ sym b)
 
--- and `code`: one code stands for a tree
+-- and so does `code`: one code stands for a tree
 code_once : (source text other : List ℕ) (tree : Tree) → Accepted source tree → ListsCodeOf tree text → ListsCodeOf tree other → text ≡ other
 code_once source text other tree accepted a b =
     a.is
@@ -95,33 +153,35 @@ module _ (goes_on : Tree → List (List ℕ) → Judgement → Type 0) (once : G
   source_judged_once texts v w (source_accepted source tree more j a on) (source_accepted again other others k b off) =
       once again other more j k b (subst (λ t. goes_on t more j) (accepted_once source tree other a b) on) off
 
--- each command makes one thing of what it has read
-judges_once : (command : Command) (texts : List (List ℕ)) (v w : Judgement) → Judges command texts v → Judges command texts w → v ≡ w
-judges_once Run texts v w r s = source_judged_once RunGoesOn runs_once texts v w r s
-judges_once Check texts v w r s = source_judged_once CheckGoesOn checks_once texts v w r s
-judges_once Compile texts v w r s = source_judged_once CodeGoesOn codes_once texts v w r s
-
 refused_goes_on : (line : List ℕ) → RefusedWith line ≡ ReadsOn → ⊥
 refused_goes_on line e = cc
 
 written_goes_on : (text : List ℕ) → Writes text ≡ ReadsOn → ⊥
 written_goes_on text e = cc
 
-ends_once : (command : Command) (read left : List (List ℕ)) (v w : Judgement) → EndsWith command read left v → EndsWith command read left w → v ≡ w
-ends_once command read left v w (refused_here a b line r) (refused_here c d other s) = judges_once command read (RefusedWith line) (RefusedWith other) r s
-ends_once command read left v w (refused_here a b line r) (written_here c d text s) = judges_once command read (RefusedWith line) (Writes text) r s
-ends_once command read left v w (refused_here a b line r) (later c next rest j goes ends) =
-    absurd (refused_goes_on line (judges_once command read (RefusedWith line) ReadsOn r goes))
-ends_once command read left v w (written_here a b text r) (refused_here c d line s) = judges_once command read (Writes text) (RefusedWith line) r s
-ends_once command read left v w (written_here a b text r) (written_here c d other s) = judges_once command read (Writes text) (Writes other) r s
-ends_once command read left v w (written_here a b text r) (later c next rest j goes ends) =
-    absurd (written_goes_on text (judges_once command read (Writes text) ReadsOn r goes))
-ends_once command read left v w (later a next rest i goes ends) (refused_here c d line s) =
-    absurd (refused_goes_on line (judges_once command read (RefusedWith line) ReadsOn s goes))
-ends_once command read left v w (later a next rest i goes ends) (written_here c d text s) =
-    absurd (written_goes_on text (judges_once command read (Writes text) ReadsOn s goes))
-ends_once command read left v w (later a next rest i goes ends) (later c again others j on more) =
-    ends_once command (read ++ next ∷ []) rest v w ends more
+-- whoever makes one thing of what is read ends in one way
+module _ (judges : List (List ℕ) → Judgement → Type 0) (once : (texts : List (List ℕ)) (v w : Judgement) → judges texts v → judges texts w → v ≡ w) where
+  ends_once : (read left : List (List ℕ)) (v w : Judgement) → EndsBy judges read left v → EndsBy judges read left w → v ≡ w
+  ends_once read left v w (refused_here a b line r) (refused_here c d other s) = once read (RefusedWith line) (RefusedWith other) r s
+  ends_once read left v w (refused_here a b line r) (written_here c d text s) = once read (RefusedWith line) (Writes text) r s
+  ends_once read left v w (refused_here a b line r) (later c next rest j goes ends) = absurd (refused_goes_on line (once read (RefusedWith line) ReadsOn r goes))
+  ends_once read left v w (written_here a b text r) (refused_here c d line s) = once read (Writes text) (RefusedWith line) r s
+  ends_once read left v w (written_here a b text r) (written_here c d other s) = once read (Writes text) (Writes other) r s
+  ends_once read left v w (written_here a b text r) (later c next rest j goes ends) = absurd (written_goes_on text (once read (Writes text) ReadsOn r goes))
+  ends_once read left v w (later a next rest i goes ends) (refused_here c d line s) = absurd (refused_goes_on line (once read (RefusedWith line) ReadsOn s goes))
+  ends_once read left v w (later a next rest i goes ends) (written_here c d text s) = absurd (written_goes_on text (once read (Writes text) ReadsOn s goes))
+  ends_once read left v w (later a next rest i goes ends) (later c again others j on more) = ends_once (read ++ next ∷ []) rest v w ends more
+
+-- each command makes one thing of what it has read
+judges_once : (command : Command) (texts : List (List ℕ)) (v w : Judgement) → Judges command texts v → Judges command texts w → v ≡ w
+judges_once Run texts v w r s = source_judged_once (OverSchedule run_text) (runs_once run_text) texts v w r s
+judges_once Survive texts v w r s = source_judged_once (OverSchedule survivors_text) (runs_once survivors_text) texts v w r s
+judges_once Replay texts v w r s = source_judged_once PlainGoesOn plain_once texts v w r s
+judges_once Check texts v w r s = source_judged_once CheckGoesOn checks_once texts v w r s
+judges_once Compile texts v w r s = source_judged_once CodeGoesOn codes_once texts v w r s
+judges_once (Trial n) texts v w r s =
+    ends_once (JudgesSource (OverSchedule (summary_text n))) (source_judged_once (OverSchedule (summary_text n)) (runs_once (summary_text n))) []
+    (source_of n ∷ made_schedule n ∷ []) v w r.1 s.1
 
 pub are_judged_once : AreJudgedOnce
-are_judged_once command texts v w a b = ends_once command [] texts v w a b
+are_judged_once command texts v w a b = ends_once (Judges command) (judges_once command) [] texts v w a b

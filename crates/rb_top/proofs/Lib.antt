@@ -6,6 +6,9 @@ pub mod Judged
 pub mod Complete
 pub mod AllJudged
 pub mod Loaded
+pub mod Digits
 pub mod Scheduled
+pub mod Trials
+pub mod Recorded
 pub mod Behind
 pub mod CommandLine

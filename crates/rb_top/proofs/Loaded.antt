@@ -1,17 +1,23 @@
--- What an accepted source gives to the machine: its conversations, each with its count of alternates, and a run whose text is that of the
--- source's tree.
-use Rattle.std.proofs.Common.{◌≡◌, ℕ, List, [], ◌∷◌, map, refl, sym, ap, subst, ◌∙◌}
+-- What an accepted source gives to the machine: its conversations, each with its count of alternates, and a run whose text, survivors and
+-- counts are those of the source's tree.
+use Rattle.std.proofs.Common.{◌≡◌, ℕ, zero, suc, ◌+◌, List, [], ◌∷◌, ◌++◌, length, map, slice_get, Some, refl, sym, ap, ap₂, subst, ◌∙◌}
 use Rattle.std.proofs.lemmas.List.{length-map, map-id}
 use Rattle.std.proofs.lemmas.Simd.{map-map}
 use Rattle.rb_base.specs.declared.names.Group.{Group}
 use Rattle.rb_base.specs.declared.names.Nested.{Nested}
+use Rattle.rb_base.specs.declared.event.Event.{Event}
+use Rattle.rb_base.specs.declared.event.TurnKind.TheVariants.{Took}
 use Rattle.rb_world.specs.Kind.{Membership}
+use Rattle.rb_world.specs.World.{Process, Running}
+use Rattle.rb_world.specs.Turn.{Told, done_at, finished_at, told_at_opening}
+use Rattle.rb_world.specs.Text.{Naming, record_text}
 use Rattle.rb_meaning.specs.Groups.{groups_of}
-use Rattle.rb_meaning.specs.Meaning.{run_text}
+use Rattle.rb_meaning.specs.Meaning.{naming_of, opening_world, run_text}
 use Rattle.rb_nest.specs.Groups.{alternates, membership as membership_told}
 use Rattle.rb_code.specs.Plain.{code}
 use Rattle.rb_code.specs.WellFormed.{IsSound}
-use Rattle.rb_code.specs.WordRun.{word_text}
+use Rattle.rb_code.specs.Laws.{Agrees}
+use Rattle.rb_code.specs.WordRun.{opening_of, word_run, word_text}
 use Rattle.rb_conv.specs.Conversations.{Conversation, membership, memberships, opened, opening, outsider}
 use Rattle.rb_conv.specs.declared.member.Member.{Member}
 use Rattle.rb_prepare.specs.Prepared.{IsPrepared}
@@ -20,7 +26,14 @@ use Rattle.rb_prepare.proofs.AcceptedSources.{accepted_code_agrees, accepted_cod
 use Rattle.rb_run.specs.Running.{NamesFit}
 use Rattle.rb_run.proofs.NamesFit.{names_fit}
 use Rattle.rb_machine.specs.Known.{HasCounts, IsLoaded}
+use Rattle.rb_machine.specs.Survivors.{word_survivors}
 use Rattle.rb_machine.specs.Worlds.{counts_of}
+use Rattle.rb_run.specs.Counting.{told_counts}
+use Rattle.rb_run.proofs.Survived.{erased_over}
+use Rattle.rb_top.specs.Judgement.{run_counts, survivors_text}
+use Rattle.rb_top.specs.Products.{text_for, word_counts, word_text_for}
+use Rattle.rb_top.specs.declared.over.Product.{Product}
+use Rattle.rb_top.specs.declared.over.Product.TheVariants.{Text, Survivors}
 
 -- at the opening a conversation has the members and the parent that it was given
 opened_group : (group : Group) → membership (opened group) ≡ membership_told group
@@ -37,6 +50,15 @@ opened_groups (group ∷ groups) =
 -- and as many alternates
 opened_counts : (nested : Nested) → counts_of (opening nested) ≡ alternates nested
 opened_counts nested = map-map (λ (one : Conversation). one.alternates) opened nested.conversations.items
+
+-- processes of the same statuses are told alike before the first turn
+same_finished : {S C T D : Type 0} (p : ℕ) (qs : List (Process S C)) (rs : List (Process T D)) → length rs ≡ length qs
+    → ((i : ℕ) (q : Process S C) (r : Process T D) → slice_get qs i ≡ Some q → slice_get rs i ≡ Some r → r.status ≡ q.status) → finished_at p rs ≡ finished_at p qs
+same_finished p [] [] as_many same = refl
+same_finished p [] (r ∷ rs) as_many same = absurd (cc)
+same_finished p (q ∷ qs) [] as_many same = absurd (cc)
+same_finished p (q ∷ qs) (r ∷ rs) as_many same =
+    ap₂ ◌++◌ (ap (done_at p Running) (same zero q r refl refl)) (same_finished (p + 1) qs rs (cc) (λ i. same (suc i)))
 
 module _ (source : List ℕ) (prepared : Prepared) (accepted : IsPrepared source prepared) where
   groups_are : memberships (opening prepared.nested) ≡ groups_of accepted.tree
@@ -60,3 +82,33 @@ module _ (source : List ℕ) (prepared : Prepared) (accepted : IsPrepared source
   runs_as_meant turns =
       ap (λ (groups : List Membership). word_text (code prepared.code) groups turns) groups_are
       ∙ (accepted_code_agrees source accepted.tree accepted.slots (code prepared.code) accepted.accepted accepted.is_code.frames accepted.is_code.stands turns).text
+
+  -- its survivors are those of the tree
+  survivors_as_meant : (turns : List ℕ) → word_text_for Survivors (code prepared.code) (memberships (opening prepared.nested)) turns ≡ survivors_text accepted.tree turns
+  survivors_as_meant turns =
+      let c = code prepared.code in
+      let groups = memberships (opening prepared.nested) in
+      ap (λ (names : Naming). record_text names (word_survivors (word_run c groups turns).0)) accepted.is_code.stands.names_are
+      ∙ ap (record_text (naming_of accepted.tree))
+      (erased_over c groups turns source accepted.tree accepted.slots accepted.accepted accepted.is_code.frames accepted.is_code.stands groups_are).0
+
+  -- so is the text of each command over a schedule
+  pub texts_as_meant : (product : Product) (turns : List ℕ)
+      → word_text_for product (code prepared.code) (memberships (opening prepared.nested)) turns ≡ text_for product accepted.tree turns
+  texts_as_meant Text turns = runs_as_meant turns
+  texts_as_meant Survivors turns = survivors_as_meant turns
+
+  -- and it prints as many lines of each kind
+  pub counts_as_meant : (turns : List ℕ) → word_counts (code prepared.code) (memberships (opening prepared.nested)) turns ≡ run_counts accepted.tree turns
+  counts_as_meant turns =
+      let c = code prepared.code in
+      let tree = accepted.tree in
+      let agrees : (turns : List ℕ) → Agrees tree c turns =
+      accepted_code_agrees source tree accepted.slots c accepted.accepted accepted.is_code.frames accepted.is_code.stands in
+      let first : told_at_opening (opening_of c (groups_of tree)) ≡ told_at_opening (opening_world tree) =
+      ap (λ (events : List Event). record { kind = Took; events = events; released = [] })
+      (same_finished 0 (opening_world tree).processes (opening_of c (groups_of tree)).processes (agrees []).as_many
+      (λ p q r at_tree at_code. ((agrees []).processes p q r at_tree at_code).status)) in
+      ap (λ (groups : List Membership). word_counts c groups turns) groups_are
+      ∙ ap (λ (one : Told). told_counts (one ∷ (word_run c (groups_of tree) turns).1)) first
+      ∙ ap (λ (all : List Told). told_counts (told_at_opening (opening_world tree) ∷ all)) (agrees turns).told

@@ -1,7 +1,7 @@
 -- What the top call answers when, what it has written by then, and which files it has started, and how far it has read them.
 use Rattle.std.specs.Prelude.{◌≡◌, ◌⊎◌, ℕ, ◌+◌, ◌<◌, ◌≤◌, true, List, [], ◌∷◌, ◌++◌, length, Option, Some, None}
 use Rattle.rb_outside.specs.Outside.{File, Start, Faults, WrotePart, bytes_of, named, shut, told_starts, failed_once, was_missing, then_written}
-use Rattle.rb_top.specs.Words.{Command, Run, Check, Compile, Wanted, Request}
+use Rattle.rb_top.specs.Words.{Command, Run, Survive, Replay, Check, Compile, Trial, Wanted, Request}
 use Rattle.rb_top.specs.Judgement.{Judgement, ReadsOn, RefusedWith, Writes, Judges, usage_line}
 use Rattle.rb_top.specs.declared.status.Status.{Status}
 use Rattle.rb_top.specs.declared.status.Status.TheVariants.{Done, Refused, Usage, ReadFault, WriteFault, Memory}
@@ -127,11 +127,21 @@ pub data ReadFails (request : Request) (old new : Scene) : Type 0 where
   by_fault : new.read_faults ≡ failed_once old.read_faults → StoppedByFaultIn old.files request old.starts new.starts → ReadFails request old new
   by_missing : new.read_faults ≡ was_missing old.read_faults → StoppedByMissingIn old.files request old.starts new.starts → ReadFails request old new
 
--- a command that writes before it knows that its memory lasts may have written a prefix of its text by then; these do not
-abbrev pub WritesByThen : Command → Scene → Scene → Type 0
-WritesByThen Run old new = WritesNothing old new
-WritesByThen Check old new = WritesNothing old new
-WritesByThen Compile old new = WritesNothing old new
+-- a prefix of what the command would have written was written, and no write failed
+pub record WritesFront (request : Request) (old new : Scene) : Type 0 where
+  pub text : List ℕ
+  pub ended : EndedIn old.files request old.starts new.starts (Writes text)
+  pub front : WrotePart old.written new.written text
+  pub well : WritesWell old new
+
+-- `plain` takes memory while it writes, so it may have written a prefix of its text by then; no other command has
+abbrev pub WritesByThen : Request → Command → Scene → Scene → Type 0
+WritesByThen request Replay old new = WritesNothing old new ⊎ WritesFront request old new
+WritesByThen request Run old new = WritesNothing old new
+WritesByThen request Survive old new = WritesNothing old new
+WritesByThen request Check old new = WritesNothing old new
+WritesByThen request Compile old new = WritesNothing old new
+WritesByThen request (Trial number) old new = WritesNothing old new
 
 -- each answer, where the words ask for nothing
 abbrev pub WithoutRequest : Scene → Scene → Status → Type 0
@@ -153,7 +163,7 @@ WithRequest request old new ReadFault = ReadFails request old new × WritesNothi
 WithRequest request old new WriteFault =
     (bytes : List ℕ) × (EndedIn old.files request old.starts new.starts (Writes bytes) ⊎ EndedIn old.files request old.starts new.starts (RefusedWith bytes))
     × ReadsWell old new × WritesPart bytes old new
-WithRequest request old new Memory = RanOutIn old.files request old.starts new.starts × ReadsWell old new × WritesByThen request.command old new
+WithRequest request old new Memory = RanOutIn old.files request old.starts new.starts × ReadsWell old new × WritesByThen request request.command old new
 
 -- each answer, whether the words ask for something or not
 abbrev pub WhereRequested : Option Request → Scene → Scene → Status → Type 0

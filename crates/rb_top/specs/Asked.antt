@@ -1,10 +1,13 @@
 -- The request that the code gives, as contracts speak of it.
-use Rattle.rb_top.specs.Words.{Request, run_of, check_of, code_of}
+use Rattle.rb_top.specs.Words.{Request, run_of, survive_of, plain_of, check_of, code_of, trial_of}
 use Rattle.rb_top.specs.declared.request.Request.{Request as Given}
 use Rattle.rb_top.specs.declared.request.Request.TheVariants as given
 
 -- a request's command and its files
 abbrev pub asked : Given → Request
 asked (given.Run source schedule) = run_of source.now schedule.now
+asked (given.Survive source schedule) = survive_of source.now schedule.now
+asked (given.Plain source kept) = plain_of source.now kept.now
 asked (given.Check source) = check_of source.now
 asked (given.Code source) = code_of source.now
+asked (given.Trial number) = trial_of number

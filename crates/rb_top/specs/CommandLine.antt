@@ -2,7 +2,7 @@
 use Rattle.std.specs.Prelude.{ℕ, nat_eq, true, false, cond, List, [], ◌∷◌, map, codes, Option, None, option_and_then, option_map}
 use Rattle.std.specs.Cmp.Lexicographic.{pointwise}
 use Rattle.clap.specs.Words.{App, Rule, Shape, new_app, new_rule}
-use Rattle.rb_top.specs.Words.{Request, run_of, check_of, code_of}
+use Rattle.rb_top.specs.Words.{Request, run_of, survive_of, plain_of, check_of, code_of, trial_number, trial_of}
 
 -- an argument that has to be given, by its place
 abbrev pub required_word : List ℕ → Rule
@@ -28,20 +28,30 @@ program_alone = record {
 abbrev pub commands : List Shape
 commands =
     command_with (codes "run") (codes "SOURCE" ∷ codes "SCHEDULE" ∷ [])
+    ∷ command_with (codes "survive") (codes "SOURCE" ∷ codes "SCHEDULE" ∷ [])
+    ∷ command_with (codes "plain") (codes "SOURCE" ∷ codes "RECORD" ∷ [])
     ∷ command_with (codes "check") (codes "SOURCE" ∷ [])
-    ∷ command_with (codes "code") (codes "SOURCE" ∷ []) ∷ []
+    ∷ command_with (codes "code") (codes "SOURCE" ∷ [])
+    ∷ command_with (codes "trial") (codes "NUMBER" ∷ []) ∷ []
 
 -- the program with its commands
 abbrev pub program : App
 program = record { top = record program_alone.top { is_leaf = false }; subs = commands }
 
--- the run of two files that are given
-abbrev pub run_given : Option (List ℕ) → Option (List ℕ) → Option Request
-run_given source schedule = option_and_then (λ a. option_map (run_of a) schedule) source
+-- what two files that are given ask for
+abbrev pub two_given : (List ℕ → List ℕ → Request) → Option (List ℕ) → Option (List ℕ) → Option Request
+two_given of a b = option_and_then (λ x. option_map (of x) b) a
+
+-- the trial of a number that is given
+abbrev pub trial_given : Option (List ℕ) → Option Request
+trial_given word = option_and_then (λ digits. option_map trial_of (trial_number digits)) word
 
 -- what the command of this name asks for, with the words that it was given
 abbrev pub request_given : List ℕ → (List ℕ → Option (List ℕ)) → Option Request
 request_given name given =
-    cond (pointwise nat_eq name (codes "run")) (run_given (given (codes "SOURCE")) (given (codes "SCHEDULE")))
+    cond (pointwise nat_eq name (codes "run")) (two_given run_of (given (codes "SOURCE")) (given (codes "SCHEDULE")))
+    (cond (pointwise nat_eq name (codes "survive")) (two_given survive_of (given (codes "SOURCE")) (given (codes "SCHEDULE")))
+    (cond (pointwise nat_eq name (codes "plain")) (two_given plain_of (given (codes "SOURCE")) (given (codes "RECORD")))
     (cond (pointwise nat_eq name (codes "check")) (option_map check_of (given (codes "SOURCE")))
-    (cond (pointwise nat_eq name (codes "code")) (option_map code_of (given (codes "SOURCE"))) None))
+    (cond (pointwise nat_eq name (codes "code")) (option_map code_of (given (codes "SOURCE")))
+    (cond (pointwise nat_eq name (codes "trial")) (trial_given (given (codes "NUMBER"))) None)))))

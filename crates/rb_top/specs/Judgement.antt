@@ -4,7 +4,11 @@ use Rattle.rb_base.specs.declared.fault.SourceFault.{SourceFault}
 use Rattle.rb_base.specs.declared.fault.TextFault.{TextFault}
 use Rattle.rb_base.specs.Words.{fault_word}
 use Rattle.rb_syntax.specs.Tree.{Tree}
-use Rattle.rb_meaning.specs.Meaning.{run_text}
+use Rattle.rb_world.specs.Plain.{Kept}
+use Rattle.rb_world.specs.Text.{line_of, record_text}
+use Rattle.rb_world.specs.Turn.{told_at_opening}
+use Rattle.rb_meaning.specs.Meaning.{naming_of, opening_world, run_of, run_text, survivors}
+use Rattle.rb_meaning.specs.PlainRun.{plain_text}
 use Rattle.rb_base.specs.declared.limits.TheConstants.{MOST_BYTES}
 use Rattle.rb_judge.specs.Verdict.{IsAccepted, IsRefusedFor}
 use Rattle.rb_scope.specs.InFrames.{Resolved}
@@ -14,7 +18,10 @@ use Rattle.rb_code.specs.Plain.{Code}
 use Rattle.rb_code.specs.Listing.{listing_text}
 use Rattle.rb_code.specs.StandsFor.{StandsFor}
 use Rattle.rb_sched.specs.Schedule.{schedule_of}
-use Rattle.rb_top.specs.Words.{Command, Run, Check, Compile}
+use Rattle.rb_plain.specs.Record.{record_of}
+use Rattle.rb_make.specs.Trial.{processes_of, schedule_of as made_schedule, source_of}
+use Rattle.rb_run.specs.Counting.{Counted, told_counts}
+use Rattle.rb_top.specs.Words.{Command, Run, Survive, Replay, Check, Compile, Trial}
 
 -- the line for a text that is too long
 abbrev pub too_long_line : List ℕ
@@ -25,13 +32,17 @@ abbrev pub source_line : SourceFault → List ℕ
 source_line fault =
     codes "refused " ++ (fault_word fault.name ++ (codes " at " ++ (decimal fault.place.line ++ (codes ":" ++ (decimal fault.place.column ++ codes "\n")))))
 
--- the line for a fault of the schedule: its name and the number of the line that has it
-abbrev pub schedule_line : TextFault → List ℕ
-schedule_line fault = codes "refused " ++ (fault_word fault.name ++ (codes " at " ++ (decimal fault.at ++ codes "\n")))
+-- the line for a fault of a schedule or a record: its name and the number of the line that has it
+abbrev pub text_line : TextFault → List ℕ
+text_line fault = codes "refused " ++ (fault_word fault.name ++ (codes " at " ++ (decimal fault.at ++ codes "\n")))
+
+-- the line for a record whose plain run is stuck: the turn at which it is
+abbrev pub stuck_line : ℕ → List ℕ
+stuck_line turn = codes "refused V4 at " ++ (decimal turn ++ codes "\n")
 
 -- the line for words that give no command
 abbrev pub usage_line : List ℕ
-usage_line = codes "usage: rbl run SOURCE SCHEDULE | check SOURCE | code SOURCE\n"
+usage_line = codes "usage: rbl run SOURCE SCHEDULE | survive SOURCE SCHEDULE | plain SOURCE RECORD | check SOURCE | code SOURCE | trial NUMBER\n"
 
 -- the line for a source that is accepted
 abbrev pub accepted_line : List ℕ
@@ -54,14 +65,55 @@ names_of tree = map (λ process. process.name.text) tree.processes
 -- The verdict on a schedule for an accepted source.
 pub data ScheduleRefused (tree : Tree) (text : List ℕ) (line : List ℕ) : Type 0 where
   long_schedule : MOST_BYTES < length text → line ≡ too_long_line → ScheduleRefused tree text line
-  bad_schedule : (fault : TextFault) → length text ≤ MOST_BYTES → schedule_of (names_of tree) text ≡ Err fault → line ≡ schedule_line fault → ScheduleRefused tree text line
+  bad_schedule : (fault : TextFault) → length text ≤ MOST_BYTES → schedule_of (names_of tree) text ≡ Err fault → line ≡ text_line fault → ScheduleRefused tree text line
 
--- The schedule of an accepted source is accepted, and the run of the source's tree over its turns has this text.
-pub record ScheduleRuns (tree : Tree) (schedule text : List ℕ) : Type 0 where
+-- The schedule of an accepted source is accepted, and this is the text of the source's tree over its turns.
+pub record ScheduleRuns (text_of : Tree → List ℕ → List ℕ) (tree : Tree) (schedule text : List ℕ) : Type 0 where
   pub turns : List ℕ
   pub short : length schedule ≤ MOST_BYTES
   pub listed : schedule_of (names_of tree) schedule ≡ Ok turns
-  pub is : text ≡ run_text tree turns
+  pub is : text ≡ text_of tree turns
+
+-- the survivors of a run, as a record
+abbrev pub survivors_text : Tree → List ℕ → List ℕ
+survivors_text tree turns = record_text (naming_of tree) (survivors (run_of tree turns).0)
+
+-- how many lines of each kind a run prints before its ending
+abbrev pub run_counts : Tree → List ℕ → Counted
+run_counts tree turns = told_counts (told_at_opening (opening_world tree) ∷ (run_of tree turns).1)
+
+-- the line of how many lines of each kind a run prints
+abbrev pub counts_line : Counted → List ℕ
+counts_line counts =
+    line_of (codes "out" ∷ decimal counts.out ∷ codes "reject" ∷ decimal counts.reject ∷ codes "pass" ∷ decimal counts.pass
+    ∷ codes "error" ∷ decimal counts.error ∷ codes "done" ∷ decimal counts.done ∷ [])
+
+-- The summary of trial n: its number, how many processes it has, how many turns its schedule has, and how many lines of each kind its run
+-- prints.
+abbrev pub summary_of : ℕ → ℕ → Counted → List ℕ
+summary_of n turns counts =
+    line_of (codes "trial" ∷ decimal n ∷ [])
+    ++ (line_of (codes "processes" ∷ decimal (processes_of n) ∷ [])
+    ++ (line_of (codes "turns" ∷ decimal turns ∷ [])
+    ++ counts_line counts))
+
+-- the same for its source's tree and the turns of its schedule
+abbrev pub summary_text : ℕ → Tree → List ℕ → List ℕ
+summary_text n tree turns = summary_of n (length turns) (run_counts tree turns)
+
+-- The verdict on a record for an accepted source: too long, its first fault, or the turn at which its plain run is stuck.
+pub data RecordRefused (tree : Tree) (text : List ℕ) (line : List ℕ) : Type 0 where
+  long_record : MOST_BYTES < length text → line ≡ too_long_line → RecordRefused tree text line
+  bad_record : (fault : TextFault) → length text ≤ MOST_BYTES → record_of (names_of tree) text ≡ Err fault → line ≡ text_line fault → RecordRefused tree text line
+  stuck_record : (turns : List Kept) (turn : ℕ) → length text ≤ MOST_BYTES → record_of (names_of tree) text ≡ Ok turns → plain_text tree turns ≡ Err turn →
+      line ≡ stuck_line turn → RecordRefused tree text line
+
+-- The record of an accepted source is one, and the plain run of the source's tree over its turns has this text.
+pub record RecordPlays (tree : Tree) (kept text : List ℕ) : Type 0 where
+  pub turns : List Kept
+  pub short : length kept ≤ MOST_BYTES
+  pub listed : record_of (names_of tree) kept ≡ Ok turns
+  pub is : plain_text tree turns ≡ Ok text
 
 -- what a command makes of what it has read: it reads its next file, or it ends, refused with a line, or with its text
 pub data Judgement : Type 0 where
@@ -77,11 +129,18 @@ pub data JudgesSource (goes_on : Tree → List (List ℕ) → Judgement → Type
   source_accepted : (source : List ℕ) (tree : Tree) (more : List (List ℕ)) (judgement : Judgement) → Accepted source tree → goes_on tree more judgement →
       JudgesSource goes_on (source ∷ more) judgement
 
--- `run`, with an accepted source: the schedule is read, and then it is refused, or the source runs over it
-pub data RunGoesOn (tree : Tree) : List (List ℕ) → Judgement → Type 0 where
-  reads_schedule : RunGoesOn tree [] ReadsOn
-  schedule_refused : (schedule line : List ℕ) → ScheduleRefused tree schedule line → RunGoesOn tree (schedule ∷ []) (RefusedWith line)
-  runs : (schedule text : List ℕ) → ScheduleRuns tree schedule text → RunGoesOn tree (schedule ∷ []) (Writes text)
+-- A command over a schedule, with an accepted source: the schedule is read, and then it is refused, or the command has its text of the
+-- source and the turns.
+pub data OverSchedule (text_of : Tree → List ℕ → List ℕ) (tree : Tree) : List (List ℕ) → Judgement → Type 0 where
+  reads_schedule : OverSchedule text_of tree [] ReadsOn
+  schedule_refused : (schedule line : List ℕ) → ScheduleRefused tree schedule line → OverSchedule text_of tree (schedule ∷ []) (RefusedWith line)
+  runs : (schedule text : List ℕ) → ScheduleRuns text_of tree schedule text → OverSchedule text_of tree (schedule ∷ []) (Writes text)
+
+-- `plain`, with an accepted source: the record is read, and then it is refused, or its plain run has a text
+pub data PlainGoesOn (tree : Tree) : List (List ℕ) → Judgement → Type 0 where
+  reads_record : PlainGoesOn tree [] ReadsOn
+  record_refused : (kept line : List ℕ) → RecordRefused tree kept line → PlainGoesOn tree (kept ∷ []) (RefusedWith line)
+  plays : (kept text : List ℕ) → RecordPlays tree kept text → PlainGoesOn tree (kept ∷ []) (Writes text)
 
 -- `check`, with an accepted source: it says so
 pub data CheckGoesOn (tree : Tree) : List (List ℕ) → Judgement → Type 0 where
@@ -100,15 +159,22 @@ pub record ListsCodeOf (tree : Tree) (text : List ℕ) : Type 0 where
 pub data CodeGoesOn (tree : Tree) : List (List ℕ) → Judgement → Type 0 where
   lists : (text : List ℕ) → ListsCodeOf tree text → CodeGoesOn tree [] (Writes text)
 
--- what each command makes of the texts that it has read
+-- The judgement with which whoever makes so of texts ends: these texts were read already, and these are those of the files after them.
+pub data EndsBy (judges : List (List ℕ) → Judgement → Type 0) : List (List ℕ) → List (List ℕ) → Judgement → Type 0 where
+  refused_here : (read rest : List (List ℕ)) (line : List ℕ) → judges read (RefusedWith line) → EndsBy judges read rest (RefusedWith line)
+  written_here : (read rest : List (List ℕ)) (text : List ℕ) → judges read (Writes text) → EndsBy judges read rest (Writes text)
+  later : (read : List (List ℕ)) (next : List ℕ) (rest : List (List ℕ)) (judgement : Judgement) → judges read ReadsOn →
+      EndsBy judges (read ++ next ∷ []) rest judgement → EndsBy judges read (next ∷ rest) judgement
+
+-- What each command makes of the texts that it has read. A trial reads none, and ends as if the two texts that are made for it were read.
 abbrev pub Judges : Command → List (List ℕ) → Judgement → Type 0
-Judges Run texts judgement = JudgesSource RunGoesOn texts judgement
+Judges Run texts judgement = JudgesSource (OverSchedule run_text) texts judgement
+Judges Survive texts judgement = JudgesSource (OverSchedule survivors_text) texts judgement
+Judges Replay texts judgement = JudgesSource PlainGoesOn texts judgement
 Judges Check texts judgement = JudgesSource CheckGoesOn texts judgement
 Judges Compile texts judgement = JudgesSource CodeGoesOn texts judgement
+Judges (Trial n) texts judgement = (texts ≡ []) × EndsBy (JudgesSource (OverSchedule (summary_text n))) [] (source_of n ∷ made_schedule n ∷ []) judgement
 
--- The judgement with which a command ends: these texts were read already, and these are those of the files after them.
-pub data EndsWith (command : Command) : List (List ℕ) → List (List ℕ) → Judgement → Type 0 where
-  refused_here : (read rest : List (List ℕ)) (line : List ℕ) → Judges command read (RefusedWith line) → EndsWith command read rest (RefusedWith line)
-  written_here : (read rest : List (List ℕ)) (text : List ℕ) → Judges command read (Writes text) → EndsWith command read rest (Writes text)
-  later : (read : List (List ℕ)) (next : List ℕ) (rest : List (List ℕ)) (judgement : Judgement) → Judges command read ReadsOn →
-      EndsWith command (read ++ next ∷ []) rest judgement → EndsWith command read (next ∷ rest) judgement
+-- the judgement with which a command ends
+abbrev pub EndsWith : Command → List (List ℕ) → List (List ℕ) → Judgement → Type 0
+EndsWith command read rest judgement = EndsBy (Judges command) read rest judgement

@@ -5,6 +5,7 @@ pub mod Judgement
 pub mod Answers
 pub mod Read
 pub mod Stages
+pub mod Products
 pub mod Complete
 pub mod Laws
 pub mod Ending

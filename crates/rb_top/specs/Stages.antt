@@ -1,12 +1,15 @@
 -- How the top call stands after each of its stages.
-use Rattle.std.specs.Prelude.{◌≡◌, ◌⊎◌, ◌≤◌, ℕ, List, [], ◌∷◌, ◌++◌, length, Option, Some, None}
+use Rattle.std.specs.Prelude.{◌≡◌, ◌⊎◌, ◌≤◌, ℕ, List, [], ◌∷◌, ◌++◌, length, Option, Some, None, Result, Ok, Err}
 use Rattle.rb_base.specs.declared.limits.TheConstants.{MOST_BYTES}
 use Rattle.rb_outside.specs.Outside.{File, Faults, Start, WrotePart, failed_once, then_written}
+use Rattle.rb_syntax.specs.Tree.{Tree}
 use Rattle.rb_prepare.specs.Prepared.{IsPrepared}
 use Rattle.rb_prepare.specs.declared.preparing.Prepared.{Prepared}
-use Rattle.rb_top.specs.Judgement.{Judgement, ReadsOn, RefusedWith, RunGoesOn, Writes, SourceRefused}
+use Rattle.rb_top.specs.Judgement.{Judgement, ReadsOn, OverSchedule, RefusedWith, Writes, SourceRefused}
 use Rattle.rb_top.specs.Words.{Wanted, Request}
 use Rattle.rb_top.specs.Answers.{HasRead}
+use Rattle.rb_run.specs.declared.surviving.Ended.{Ended}
+use Rattle.rb_run.specs.declared.surviving.Ended.TheVariants as ended
 use Rattle.rb_top.specs.declared.read.Unread.{Unread}
 use Rattle.rb_top.specs.declared.read.Unread.TheVariants as unread
 use Rattle.rb_top.specs.declared.status.Status.{Status}
@@ -23,11 +26,11 @@ abbrev pub HasReadIn : Option (List File) → Request → List (List ℕ) → Li
 HasReadIn None request texts rest old now = Unit {0}
 HasReadIn (Some files) request texts rest old now = HasReadSince files request texts rest old now
 
--- the command has read an accepted source, of which this code was made, and these files are left
-pub record HasSource (files : Option (List File)) (request : Request) (prepared : Prepared) (rest : List Wanted) (old now : List Start) : Type 0 where
+-- The command has read a source of at most as many bytes as a text may have, and of it this was found; these files are left.
+pub record HasSource (files : Option (List File)) (request : Request) (found : List ℕ → Type 0) (rest : List Wanted) (old now : List Start) : Type 0 where
   pub source : List ℕ
   pub short : length source ≤ MOST_BYTES
-  pub accepted : IsPrepared source prepared
+  pub accepted : found source
   pub read : HasReadIn files request (source ∷ []) rest old now
 
 -- what a refused source comes to
@@ -36,10 +39,10 @@ EndsForSource source ReadsOn = ⊥
 EndsForSource source (RefusedWith line) = SourceRefused source line
 EndsForSource source (Writes text) = ⊥
 
--- what a schedule comes to, for whatever source this code was made of
-abbrev pub EndsForSchedule : Prepared → List ℕ → Judgement → Type 0
-EndsForSchedule prepared schedule judgement =
-    (source : List ℕ) (accepted : IsPrepared source prepared) → RunGoesOn accepted.tree (schedule ∷ []) judgement
+-- what a schedule comes to under a command with such a text, for whatever source this code was made of
+abbrev pub EndsForSchedule : (Tree → List ℕ → List ℕ) → Prepared → List ℕ → Judgement → Type 0
+EndsForSchedule text_of prepared schedule judgement =
+    (source : List ℕ) (accepted : IsPrepared source prepared) → OverSchedule text_of accepted.tree (schedule ∷ []) judgement
 
 -- How a stage ends that reads nothing more: it judged so, and wrote the text or the line of the refusal, or a write failed; or
 -- memory was wanting, before it wrote.
@@ -54,7 +57,23 @@ StageEnds judged old new before after WriteFault =
     (bytes : List ℕ) × (judged (Writes bytes) ⊎ judged (RefusedWith bytes)) × WrotePart old new bytes × (after ≡ failed_once before)
 StageEnds judged old new before after Memory = (new ≡ old) × (after ≡ before)
 
+-- The same of a stage that takes memory while it writes: where memory was wanting, nothing was written, or a front of its text.
+abbrev pub WritingStageEnds : (Judgement → Type 0) → Option (List ℕ) → Option (List ℕ) → Faults → Faults → Status → Type 0
+WritingStageEnds judged old new before after Done = StageEnds judged old new before after Done
+WritingStageEnds judged old new before after Refused = StageEnds judged old new before after Refused
+WritingStageEnds judged old new before after Usage = ⊥
+WritingStageEnds judged old new before after ReadFault = ⊥
+WritingStageEnds judged old new before after WriteFault = StageEnds judged old new before after WriteFault
+WritingStageEnds judged old new before after Memory =
+    ((new ≡ old) × (after ≡ before)) ⊎ ((text : List ℕ) × judged (Writes text) × WrotePart old new text × (after.count ≡ before.count))
+
 -- how the call ends where a file was not read
 abbrev pub status_of_unread : Unread → Status
 status_of_unread unread.Fault = ReadFault
 status_of_unread unread.Memory = Memory
+
+-- how it ends after the survivors of a run
+abbrev pub status_of_survival : Result (Unit {0}) Ended → Status
+status_of_survival (Ok done) = Done
+status_of_survival (Err ended.WriteFault) = WriteFault
+status_of_survival (Err ended.Memory) = Memory

@@ -1,14 +1,18 @@
 -- The words of a command line, and what they ask for. All of it is this project's own.
-use Rattle.std.specs.Prelude.{ℕ, nat_eq, Bool, false, not, cond, List, [], ◌∷◌, codes, Option, Some, None}
+use Rattle.std.specs.Prelude.{ℕ, ◌^◌, nat_eq, nat_le, nat_lt, Bool, false, not, ◌&&◌, cond, List, [], ◌∷◌, length, codes, Option, Some, None, option_map}
 use Rattle.std.specs.List.{list_all}
 use Rattle.std.specs.Cmp.Lexicographic.{pointwise}
+use Rattle.rb_base.specs.Bytes.{digits_value, is_number}
 use Rattle.rb_base.specs.declared.limits.TheConstants.{MOST_BYTES}
 
 -- a command, with what its words give it beside files
 pub data Command : Type 0 where
   Run : Command
+  Survive : Command
+  Replay : Command
   Check : Command
   Compile : Command
+  Trial : (number : ℕ) → Command
 
 -- a file that a command reads: its name, and how many bytes it may have at most
 pub record Wanted : Type 0 where
@@ -23,8 +27,11 @@ pub record Request : Type 0 where
 -- how many files a command reads
 abbrev pub files_of : Command → ℕ
 files_of Run = 2
+files_of Survive = 2
+files_of Replay = 2
 files_of Check = 1
 files_of Compile = 1
+files_of (Trial number) = 0
 
 -- a word that may follow a command's name: not empty, and without `-` at its front
 abbrev pub is_plain_word : List ℕ → Bool
@@ -39,6 +46,14 @@ text_named name = record { name = name; most = MOST_BYTES }
 abbrev pub run_of : List ℕ → List ℕ → Request
 run_of source schedule = record { command = Run; files = text_named source ∷ text_named schedule ∷ [] }
 
+-- the survivors of that run
+abbrev pub survive_of : List ℕ → List ℕ → Request
+survive_of source schedule = record { command = Survive; files = text_named source ∷ text_named schedule ∷ [] }
+
+-- the plain run of the source under one name, of the record under another
+abbrev pub plain_of : List ℕ → List ℕ → Request
+plain_of source kept = record { command = Replay; files = text_named source ∷ text_named kept ∷ [] }
+
 -- a check of the source under a name
 abbrev pub check_of : List ℕ → Request
 check_of source = record { command = Check; files = text_named source ∷ [] }
@@ -47,18 +62,37 @@ check_of source = record { command = Check; files = text_named source ∷ [] }
 abbrev pub code_of : List ℕ → Request
 code_of source = record { command = Compile; files = text_named source ∷ [] }
 
--- what `run` and these words ask for: they are two names
-abbrev pub run_with : List (List ℕ) → Option Request
-run_with [] = None
-run_with (a ∷ []) = None
-run_with (a ∷ b ∷ []) = Some (run_of a b)
-run_with (a ∷ b ∷ c ∷ more) = None
+-- the trial of this number, which reads no file
+abbrev pub trial_of : ℕ → Request
+trial_of number = record { command = Trial number; files = [] }
+
+-- at most so many digits give the number of a trial
+abbrev pub most_digits : ℕ
+most_digits = 20
+
+-- the number of a trial by its digits, if it has 64 bits
+abbrev pub trial_number : List ℕ → Option ℕ
+trial_number word =
+    cond (is_number word && (nat_le (length word) most_digits && nat_lt (digits_value 0 word) (2 ^ 64))) (Some (digits_value 0 word)) None
+
+-- what a command asks for that takes two names
+abbrev pub with_two : (List ℕ → List ℕ → Request) → List (List ℕ) → Option Request
+with_two of [] = None
+with_two of (a ∷ []) = None
+with_two of (a ∷ b ∷ []) = Some (of a b)
+with_two of (a ∷ b ∷ c ∷ more) = None
 
 -- what a command asks for that takes one name
 abbrev pub with_one : (List ℕ → Request) → List (List ℕ) → Option Request
 with_one of [] = None
 with_one of (a ∷ []) = Some (of a)
 with_one of (a ∷ b ∷ more) = None
+
+-- what `trial` asks for with its one word
+abbrev pub trial_with : List (List ℕ) → Option Request
+trial_with [] = None
+trial_with (a ∷ []) = option_map trial_of (trial_number a)
+trial_with (a ∷ b ∷ more) = None
 
 -- the name of a command, and what it asks for with the words that follow
 pub record Form : Type 0 where
@@ -68,9 +102,12 @@ pub record Form : Type 0 where
 -- the commands
 abbrev pub forms : List Form
 forms =
-    record { name = codes "run"; with = run_with }
+    record { name = codes "run"; with = with_two run_of }
+    ∷ record { name = codes "survive"; with = with_two survive_of }
+    ∷ record { name = codes "plain"; with = with_two plain_of }
     ∷ record { name = codes "check"; with = with_one check_of }
-    ∷ record { name = codes "code"; with = with_one code_of } ∷ []
+    ∷ record { name = codes "code"; with = with_one code_of }
+    ∷ record { name = codes "trial"; with = trial_with } ∷ []
 
 -- what the first of these commands that has this name asks for with these words
 abbrev pub named_in : List Form → List ℕ → List (List ℕ) → Option Request

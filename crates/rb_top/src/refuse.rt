@@ -1,7 +1,7 @@
 //! The lines of refusals, and those that a command answers with.
 ghost use Rattle.std.specs.Prelude.{◌≡◌, ◌++◌, codes};
 ghost use Rattle.rb_outside.specs.Puts.{Puts};
-ghost use Rattle.rb_top.specs.Judgement.{source_line, schedule_line, too_long_line, accepted_line, usage_line};
+ghost use Rattle.rb_top.specs.Judgement.{source_line, text_line, stuck_line, too_long_line, accepted_line, usage_line};
 
 use itoa::Buffer;
 use rb_base::{SourceFault, TextFault};
@@ -34,9 +34,9 @@ fn put_place<'w, S: Sink>(
     )
 }
 
-/// Writes the line of a schedule's fault.
-pub fn refuse_schedule<S: Sink>(out: &mut S, fault: TextFault) -> Result<(), Failed>
-    ensures { Puts (schedule_line fault) (S.written out.old) (S.written out.new) (S.faults out.old) (S.faults out.new) result }
+/// Writes the line of the fault of a schedule or a record.
+pub fn refuse_text<S: Sink>(out: &mut S, fault: TextFault) -> Result<(), Failed>
+    ensures { Puts (text_line fault) (S.written out.old) (S.written out.new) (S.faults out.old) (S.faults out.new) result }
 {
     let mut lines = Buffer::new();
     put_at(out, fault.name.word(), lines.format(fault.at).as_bytes())
@@ -46,6 +46,20 @@ fn put_at<'w, S: Sink>(out: &mut S, name: &'w [u8], line: &'w [u8]) -> Result<()
     ensures { Puts (codes "refused " ++ (name.now ++ (codes " at " ++ (line.now ++ codes "\n")))) (S.written out.old) (S.written out.new) (S.faults out.old) (S.faults out.new) result }
 {
     put_pieces(out, &[b"refused ", name, b" at ", line, b"\n"])
+}
+
+/// Writes the line of a record whose plain run is stuck at this turn.
+pub fn refuse_stuck<S: Sink>(out: &mut S, turn: u32) -> Result<(), Failed>
+    ensures { Puts (stuck_line turn) (S.written out.old) (S.written out.new) (S.faults out.old) (S.faults out.new) result }
+{
+    let mut turns = Buffer::new();
+    put_stuck(out, turns.format(turn).as_bytes())
+}
+
+fn put_stuck<S: Sink>(out: &mut S, turn: &[u8]) -> Result<(), Failed>
+    ensures { Puts (codes "refused V4 at " ++ (turn.now ++ codes "\n")) (S.written out.old) (S.written out.new) (S.faults out.old) (S.faults out.new) result }
+{
+    put_pieces(out, &[b"refused V4 at ", turn, b"\n"])
 }
 
 /// Writes the line of a file that is too long.
@@ -61,7 +75,7 @@ pub fn put_usage<S: Sink>(out: &mut S) -> Result<(), Failed>
 {
     put(
         out,
-        b"usage: rbl run SOURCE SCHEDULE | check SOURCE | code SOURCE\n",
+        b"usage: rbl run SOURCE SCHEDULE | survive SOURCE SCHEDULE | plain SOURCE RECORD | check SOURCE | code SOURCE | trial NUMBER\n",
     )
 }
 

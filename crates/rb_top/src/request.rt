@@ -1,12 +1,13 @@
 //! What the words of the command line ask for. They are read with `clap`.
-ghost use Rattle.std.specs.Prelude.{◌≡◌, IfOk, None, [], false, map, option_and_then, option_map, string_bytes};
+ghost use Rattle.std.specs.Prelude.{◌≡◌, IfOk, None, [], false, map, take, option_and_then, option_map, string_bytes};
 ghost use Rattle.std.specs.List.{list_all};
 ghost use Rattle.clap.specs.Words.{app_of, first_of, first_value, found_of, subcommand_rows_of};
 ghost use Rattle.clap.specs.declared.builder.command.Command.TheViews.{out-Command as fields_of};
 ghost use Rattle.rb_top.specs.Words.{request_of, is_plain_word};
 ghost use Rattle.rb_top.specs.Asked.{asked};
-ghost use Rattle.rb_top.specs.CommandLine.{program, program_alone, command_with, request_given};
+ghost use Rattle.rb_top.specs.CommandLine.{commands, program, program_alone, command_with, request_given};
 
+use crate::number::trial_number;
 use crate::words::Words;
 use clap::error::ErrorKind;
 use clap::{Arg, ArgMatches, Command};
@@ -18,10 +19,16 @@ use std::alloc::{AllocError, Global};
 pub enum Request<'a> {
     /// The run of a source over a schedule.
     Run { source: &'a str, schedule: &'a str },
+    /// The survivors of that run, as a record.
+    Survive { source: &'a str, schedule: &'a str },
+    /// The plain run of a source over a record.
+    Plain { source: &'a str, kept: &'a str },
     /// The check of a source.
     Check { source: &'a str },
     /// The code of a source.
     Code { source: &'a str },
+    /// The trial of a number.
+    Trial { number: u64 },
 }
 
 /// What the words ask for, if they give a command. `Memory` may come for any words.
@@ -73,10 +80,28 @@ fn is_plain(word: &str) -> bool
 fn command_line<'a>(alloc: Global) -> Result<Command<'a>, AllocError>
     ensures { IfOk result (λ line. app_of line ≡ program) }
 {
-    program_alone(alloc)
-        .subcommand(command_with(alloc, "run", &["SOURCE", "SCHEDULE"])?)?
-        .subcommand(command_with(alloc, "check", &["SOURCE"])?)?
-        .subcommand(command_with(alloc, "code", &["SOURCE"])?)
+    let line = two_files(alloc, program_alone(alloc))?;
+    one_word(alloc, line)
+}
+
+// The commands that take one word, behind those over two files.
+fn one_word<'a>(alloc: Global, line: Command<'a>) -> Result<Command<'a>, AllocError>
+    requires { app_of line ≡ record program { subs = take 3 commands } }
+    ensures { IfOk result (λ line. app_of line ≡ program) }
+{
+    line.subcommand(command_with(alloc, "check", &["SOURCE"])?)?
+        .subcommand(command_with(alloc, "code", &["SOURCE"])?)?
+        .subcommand(command_with(alloc, "trial", &["NUMBER"])?)
+}
+
+// The program with the commands over two files.
+fn two_files<'a>(alloc: Global, line: Command<'a>) -> Result<Command<'a>, AllocError>
+    requires { app_of line ≡ program_alone }
+    ensures { IfOk result (λ line. app_of line ≡ record program { subs = take 3 commands }) }
+{
+    line.subcommand(command_with(alloc, "run", &["SOURCE", "SCHEDULE"])?)?
+        .subcommand(command_with(alloc, "survive", &["SOURCE", "SCHEDULE"])?)?
+        .subcommand(command_with(alloc, "plain", &["SOURCE", "RECORD"])?)
 }
 
 // The program, of which one command has to be named; `help` is none.
@@ -122,12 +147,24 @@ fn request_given<'a>(name: &str, given: &ArgMatches<'a>) -> Option<Request<'a>>
             .get_str("SOURCE")
             .zip(given.get_str("SCHEDULE"))
             .map(|(source, schedule)| Request::Run { source, schedule }),
+        "survive" => given
+            .get_str("SOURCE")
+            .zip(given.get_str("SCHEDULE"))
+            .map(|(source, schedule)| Request::Survive { source, schedule }),
+        "plain" => given
+            .get_str("SOURCE")
+            .zip(given.get_str("RECORD"))
+            .map(|(source, kept)| Request::Plain { source, kept }),
         "check" => given
             .get_str("SOURCE")
             .map(|source| Request::Check { source }),
         "code" => given
             .get_str("SOURCE")
             .map(|source| Request::Code { source }),
+        "trial" => given
+            .get_str("NUMBER")
+            .and_then(|digits| trial_number(digits.as_bytes()))
+            .map(|number| Request::Trial { number }),
         _ => None,
     }
 }

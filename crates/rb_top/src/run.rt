@@ -1,111 +1,25 @@
-//! The command `run`.
-ghost use Rattle.std.specs.Prelude.{◌≡◌, ◌≤◌, ◌<◌, ℕ, List, [], ◌∷◌, drop, length};
-ghost use Rattle.rb_base.specs.declared.limits.TheConstants.{MOST_BYTES, MOST_TURNS};
+//! The last stage of `run`: a source runs over the turns of a schedule.
+ghost use Rattle.std.specs.Prelude.{◌≡◌, ◌≤◌, ◌<◌, ℕ, List, length};
+ghost use Rattle.rb_base.specs.declared.limits.TheConstants.{MOST_TURNS};
 ghost use Rattle.rb_code.specs.Plain.{code as plain};
 ghost use Rattle.rb_code.specs.WordRun.{word_text};
 ghost use Rattle.rb_conv.specs.Conversations.{memberships, opening};
 ghost use Rattle.rb_prepare.specs.Prepared.{IsPrepared};
-ghost use Rattle.rb_top.specs.Words.{run_of, text_named};
-ghost use Rattle.rb_top.specs.Answers.{Scene, WithRequest};
 ghost use Rattle.rb_top.specs.Judgement.{Writes};
-ghost use Rattle.rb_top.specs.Read.{WasReadIn};
-ghost use Rattle.rb_top.specs.Stages.{EndsForSchedule, HasSource, StageEnds};
+ghost use Rattle.rb_top.specs.Stages.{StageEnds};
 
-use crate::read::read_file;
-use crate::refuse::{refuse_long, refuse_schedule};
-use crate::source::prepared_source;
 use crate::status::{Status, status_after};
-use rb_base::{MOST_BYTES, Steps};
+use rb_base::Steps;
 use rb_machine::Machine;
-use rb_outside::{Shelf, Sink};
+use rb_outside::Sink;
 use rb_prepare::Prepared;
 use rb_run::run;
 use rb_sched::Schedule;
 use std::alloc::Global;
-use std::marker::Brand;
 use std::sync::ledger::{Blank, Ledger};
 
-/// Reads and judges a source, then a schedule for it, and runs the one over the other.
-pub fn run_files<F: Shelf, S: Sink>(
-    alloc: Global,
-    source: &str,
-    schedule: &str,
-    shelf: &mut F,
-    out: &mut S,
-) -> Status
-    ensures files { F.files shelf.new ≡ F.files shelf.old }
-    ensures answers { WithRequest (run_of source.now schedule.now)
-        (record { files = F.files shelf.old; starts = F.starts shelf.old; read_faults = F.faults shelf.old; written = S.written out.old; write_faults = S.faults out.old })
-        (record { files = F.files shelf.new; starts = F.starts shelf.new; read_faults = F.faults shelf.new; written = S.written out.new; write_faults = S.faults out.new })
-        result }
-{
-    match read_file(alloc, shelf, source, MOST_BYTES) {
-        Ok(bytes) => run_source(alloc, source, bytes.as_slice(), schedule, shelf, out),
-        Err(unread) => unread.status(),
-    }
-}
-
-// The source was read: its start is the newest, after those before the call.
-fn run_source<F: Shelf, S: Sink>(
-    alloc: Global,
-    source: &str,
-    bytes: &[u8],
-    schedule: &str,
-    shelf: &mut F,
-    out: &mut S,
-) -> Status
-    requires { WasReadIn (F.files shelf.old) source.now MOST_BYTES bytes.now (drop 1 (F.starts shelf.old)) (F.starts shelf.old) }
-    ensures files { F.files shelf.new ≡ F.files shelf.old }
-    ensures answers { WithRequest (run_of source.now schedule.now)
-        (record { files = F.files shelf.old; starts = drop 1 (F.starts shelf.old); read_faults = F.faults shelf.old; written = S.written out.old; write_faults = S.faults out.old })
-        (record { files = F.files shelf.new; starts = F.starts shelf.new; read_faults = F.faults shelf.new; written = S.written out.new; write_faults = S.faults out.new })
-        result }
-{
-    match prepared_source(alloc, bytes, out) {
-        Ok(prepared) => read_schedule(alloc, source, &prepared, schedule, shelf, out),
-        Err(status) => status,
-    }
-}
-
-// The source was accepted. Its name is seen by the contract alone.
-fn read_schedule<F: Shelf, S: Sink>(
-    alloc: Global,
-    source: &str,
-    prepared: &Prepared,
-    schedule: &str,
-    shelf: &mut F,
-    out: &mut S,
-) -> Status
-    requires { HasSource (F.files shelf.old) (run_of source.now schedule.now) prepared.now (text_named schedule.now ∷ []) (drop 1 (F.starts shelf.old)) (F.starts shelf.old) }
-    ensures files { F.files shelf.new ≡ F.files shelf.old }
-    ensures answers { WithRequest (run_of source.now schedule.now)
-        (record { files = F.files shelf.old; starts = drop 1 (F.starts shelf.old); read_faults = F.faults shelf.old; written = S.written out.old; write_faults = S.faults out.old })
-        (record { files = F.files shelf.new; starts = F.starts shelf.new; read_faults = F.faults shelf.new; written = S.written out.new; write_faults = S.faults out.new })
-        result }
-{
-    let _ = source;
-    match read_file(alloc, shelf, schedule, MOST_BYTES) {
-        Ok(bytes) => run_schedule(alloc, prepared, bytes.as_slice(), out),
-        Err(unread) => unread.status(),
-    }
-}
-
-// The schedule was read.
-fn run_schedule<S: Sink>(alloc: Global, prepared: &Prepared, bytes: &[u8], out: &mut S) -> Status
-    requires { (source : List ℕ) × IsPrepared source prepared.now }
-    ensures { StageEnds (EndsForSchedule prepared.now bytes.now) (S.written out.old) (S.written out.new) (S.faults out.old) (S.faults out.new) result }
-{
-    if bytes.len() > MOST_BYTES {
-        return status_after(refuse_long(out), Status::Refused);
-    }
-    match Schedule::read(bytes, &prepared.code.names) {
-        Ok(schedule) => run_turns::<S, Brand>(alloc, prepared, schedule, out, Blank::new(1)),
-        Err(fault) => status_after(refuse_schedule(out, fault), Status::Refused),
-    }
-}
-
-// The schedule is a list of turns. The ledger counts steps, which contracts alone see.
-fn run_turns<S: Sink, L: Ledger>(
+/// Runs the code of an accepted source over turns, and writes the text of the run. The ledger counts steps, which contracts alone see.
+pub fn run_turns<S: Sink, L: Ledger>(
     alloc: Global,
     prepared: &Prepared,
     schedule: Schedule<'_>,

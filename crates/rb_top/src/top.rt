@@ -7,18 +7,22 @@ ghost use Rattle.rb_top.specs.Answers.{Scene, WithRequest, WhereRequested};
 
 use crate::check::check_file;
 use crate::code::code_file;
+use crate::over::{Product, over_files};
+use crate::plain::plain_files;
 use crate::refuse::put_usage;
 use crate::request::{Request, requested};
-use crate::run::run_files;
 use crate::status::{Status, status_after};
+use crate::trial::try_number;
 use crate::words::Words;
 use rb_outside::{Shelf, Sink};
 use std::alloc::Global;
 
-/// Carries out the command that the words give. `run SOURCE SCHEDULE` writes the text of the run of a source over a
-/// schedule, or the line of the first fault of either; the source is read and judged before the schedule is started.
-/// `check SOURCE` says that a source is accepted, and `code SOURCE` lists its code, or they write the line of its first fault. Memory may be wanting at any time
-/// before the first byte is written.
+/// Carries out the command that the words give. `run SOURCE SCHEDULE` writes the text of the run of a source over a schedule, `survive
+/// SOURCE SCHEDULE` the turns that survive it as a record, and `plain SOURCE RECORD` the text of the plain run of a record; or they write
+/// the line of the first fault of either, or of the turn at which the plain run is stuck. The source is read and judged before the other
+/// file is started. `check SOURCE` says that a source is accepted, and `code SOURCE` lists its code, or they write the line of its first
+/// fault. `trial NUMBER` reads no file: it makes a source and a schedule, and writes how many lines of each kind the run of the one over
+/// the other would print. Memory may be wanting at any time before the first byte is written, and for `plain` after it.
 ///
 /// `answers` says of each answer when it comes, which files were started by then, how far each was read, and what was
 /// written; after a read or a write that failed there was no other. By `complete` a call whose files stand on the shelf,
@@ -62,8 +66,15 @@ fn answer<F: Shelf, S: Sink>(
         result }
 {
     match request {
-        Request::Run { source, schedule } => run_files(alloc, source, schedule, shelf, out),
+        Request::Run { source, schedule } => {
+            over_files(alloc, Product::Text, source, schedule, shelf, out)
+        }
+        Request::Survive { source, schedule } => {
+            over_files(alloc, Product::Survivors, source, schedule, shelf, out)
+        }
+        Request::Plain { source, kept } => plain_files(alloc, source, kept, shelf, out),
         Request::Check { source } => check_file(alloc, source, shelf, out),
         Request::Code { source } => code_file(alloc, source, shelf, out),
+        Request::Trial { number } => try_number(alloc, number, out),
     }
 }

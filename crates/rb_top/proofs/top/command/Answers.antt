@@ -4,11 +4,14 @@ use Rattle.rb_top.specs.Complete.{IsComplete}
 use Rattle.rb_top.specs.Words.{Request, request_of}
 use Rattle.rb_top.specs.Asked.{asked}
 use Rattle.rb_top.proofs.Answering.{memory_at_once}
-use Rattle.rb_top.proofs.Complete.{completed}
+use Rattle.rb_top.proofs.Complete.{complete_at_once, completed}
 use Rattle.rb_top.proofs.top.command.Goals as goal
 
 pub returns-in_default-clause-answers : goal.returns-in_default-clause-answers
 returns-in_default-clause-answers g c = memory_at_once (request_of c.args.words.now) _
+
+pub returns-in_default-clause-complete : goal.returns-in_default-clause-complete
+returns-in_default-clause-complete g c = complete_at_once (request_of c.args.words.now) _ _
 
 pub returns-in-Some-clause-complete : goal.returns-in-Some-clause-complete
 returns-in-Some-clause-complete g c =

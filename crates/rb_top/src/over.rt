@@ -1,0 +1,145 @@
+//! The commands `run` and `survive`, which read a source and a schedule for it.
+ghost use Rattle.std.specs.Prelude.{◌≡◌, ◌≤◌, ℕ, List, [], ◌∷◌, drop, length};
+ghost use Rattle.rb_base.specs.declared.limits.TheConstants.{MOST_BYTES, MOST_TURNS};
+ghost use Rattle.rb_code.specs.Plain.{code as plain};
+ghost use Rattle.rb_conv.specs.Conversations.{memberships, opening};
+ghost use Rattle.rb_prepare.specs.Prepared.{IsPrepared};
+ghost use Rattle.rb_top.specs.Words.{text_named};
+ghost use Rattle.rb_top.specs.Products.{request_for, text_for, word_text_for};
+ghost use Rattle.rb_top.specs.Answers.{Scene, WithRequest};
+ghost use Rattle.rb_top.specs.Judgement.{Writes};
+ghost use Rattle.rb_top.specs.Read.{WasReadIn};
+ghost use Rattle.rb_top.specs.Stages.{EndsForSchedule, HasSource, StageEnds};
+
+use crate::read::read_file;
+use crate::refuse::{refuse_long, refuse_text};
+use crate::run::run_turns;
+use crate::source::prepared_source;
+use crate::status::{Status, status_after};
+use crate::survive::survive_turns;
+use rb_base::MOST_BYTES;
+use rb_outside::{Shelf, Sink};
+use rb_prepare::Prepared;
+use rb_sched::Schedule;
+use std::alloc::Global;
+use std::marker::Brand;
+use std::sync::ledger::Blank;
+
+/// What a command makes of a source and a schedule for it.
+#[derive(Clone, Copy, Debug, PartialEq, Eq)]
+pub enum Product {
+    /// The text of the run, for `run`.
+    Text,
+    /// The survivors of the run as a record, for `survive`.
+    Survivors,
+}
+
+/// Reads and judges a source, then a schedule for it, and writes what is made of the one over the other.
+pub fn over_files<F: Shelf, S: Sink>(
+    alloc: Global,
+    product: Product,
+    source: &str,
+    schedule: &str,
+    shelf: &mut F,
+    out: &mut S,
+) -> Status
+    ensures files { F.files shelf.new ≡ F.files shelf.old }
+    ensures answers { WithRequest (request_for product source.now schedule.now)
+        (record { files = F.files shelf.old; starts = F.starts shelf.old; read_faults = F.faults shelf.old; written = S.written out.old; write_faults = S.faults out.old })
+        (record { files = F.files shelf.new; starts = F.starts shelf.new; read_faults = F.faults shelf.new; written = S.written out.new; write_faults = S.faults out.new })
+        result }
+{
+    match read_file(alloc, shelf, source, MOST_BYTES) {
+        Ok(bytes) => over_source(alloc, product, source, bytes.as_slice(), schedule, shelf, out),
+        Err(unread) => unread.status(),
+    }
+}
+
+// The source was read: its start is the newest, after those before the call.
+fn over_source<F: Shelf, S: Sink>(
+    alloc: Global,
+    product: Product,
+    source: &str,
+    bytes: &[u8],
+    schedule: &str,
+    shelf: &mut F,
+    out: &mut S,
+) -> Status
+    requires { WasReadIn (F.files shelf.old) source.now MOST_BYTES bytes.now (drop 1 (F.starts shelf.old)) (F.starts shelf.old) }
+    ensures files { F.files shelf.new ≡ F.files shelf.old }
+    ensures answers { WithRequest (request_for product source.now schedule.now)
+        (record { files = F.files shelf.old; starts = drop 1 (F.starts shelf.old); read_faults = F.faults shelf.old; written = S.written out.old; write_faults = S.faults out.old })
+        (record { files = F.files shelf.new; starts = F.starts shelf.new; read_faults = F.faults shelf.new; written = S.written out.new; write_faults = S.faults out.new })
+        result }
+{
+    match prepared_source(alloc, bytes, out) {
+        Ok(prepared) => read_schedule(alloc, product, source, &prepared, schedule, shelf, out),
+        Err(status) => status,
+    }
+}
+
+// The source was accepted. Its name is seen by the contract alone.
+fn read_schedule<F: Shelf, S: Sink>(
+    alloc: Global,
+    product: Product,
+    source: &str,
+    prepared: &Prepared,
+    schedule: &str,
+    shelf: &mut F,
+    out: &mut S,
+) -> Status
+    requires { HasSource (F.files shelf.old) (request_for product source.now schedule.now) (λ bytes. IsPrepared bytes prepared.now) (text_named schedule.now ∷ []) (drop 1 (F.starts shelf.old)) (F.starts shelf.old) }
+    ensures files { F.files shelf.new ≡ F.files shelf.old }
+    ensures answers { WithRequest (request_for product source.now schedule.now)
+        (record { files = F.files shelf.old; starts = drop 1 (F.starts shelf.old); read_faults = F.faults shelf.old; written = S.written out.old; write_faults = S.faults out.old })
+        (record { files = F.files shelf.new; starts = F.starts shelf.new; read_faults = F.faults shelf.new; written = S.written out.new; write_faults = S.faults out.new })
+        result }
+{
+    let _ = source;
+    match read_file(alloc, shelf, schedule, MOST_BYTES) {
+        Ok(bytes) => over_schedule(alloc, product, prepared, bytes.as_slice(), out),
+        Err(unread) => unread.status(),
+    }
+}
+
+// The schedule was read.
+fn over_schedule<S: Sink>(
+    alloc: Global,
+    product: Product,
+    prepared: &Prepared,
+    bytes: &[u8],
+    out: &mut S,
+) -> Status
+    requires { (source : List ℕ) × IsPrepared source prepared.now }
+    ensures { StageEnds (EndsForSchedule (text_for product) prepared.now bytes.now) (S.written out.old) (S.written out.new) (S.faults out.old) (S.faults out.new) result }
+{
+    if bytes.len() > MOST_BYTES {
+        return status_after(refuse_long(out), Status::Refused);
+    }
+    match Schedule::read(bytes, &prepared.code.names) {
+        Ok(schedule) => over_turns(alloc, product, prepared, schedule, out),
+        Err(fault) => status_after(refuse_text(out, fault), Status::Refused),
+    }
+}
+
+// The schedule is a list of turns.
+fn over_turns<S: Sink>(
+    alloc: Global,
+    product: Product,
+    prepared: &Prepared,
+    schedule: Schedule<'_>,
+    out: &mut S,
+) -> Status
+    requires prepared { (source : List ℕ) × IsPrepared source prepared.now }
+    requires whole { schedule.left ≡ schedule.all }
+    requires turns { length schedule.left ≤ MOST_TURNS }
+    ensures { StageEnds (λ judgement. judgement ≡ Writes (word_text_for product (plain prepared.now.code) (memberships (opening prepared.now.nested)) schedule.entry.all))
+        (S.written out.old) (S.written out.new) (S.faults out.old) (S.faults out.new) result }
+{
+    match product {
+        Product::Text => run_turns::<S, Brand>(alloc, prepared, schedule, out, Blank::new(1)),
+        Product::Survivors => {
+            survive_turns::<S, Brand>(alloc, prepared, schedule, out, Blank::new(1))
+        }
+    }
+}
