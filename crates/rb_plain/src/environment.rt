@@ -1,20 +1,183 @@
-//! The variables of a process with their numbers, by name, and plain copies of them.
+//! The variables of a process with their numbers, by name, in the frames of its open calls.
 
-ghost use Rattle.std.specs.Prelude.{◌≡◌, length, map, slice_get, slice_set, position, [], ◌∷◌, IfOk, option_map};
-ghost use Rattle.rb_meaning.specs.Environment.{same_name, size_of, zeros, frame_of, found_in, stored_in, values_of, store};
-ghost use Rattle.rb_syntax.specs.Plain.{declaration};
-ghost use Rattle.rb_plain.specs.Slots.{stored, frame, changed, entry, sizes};
+ghost use Rattle.std.specs.Prelude.{◌≡◌, ◌-◌, ◌++◌, length, map, reverse, slice_get, sum_by, position, nat_le, nat_lt, cond, pos, [], ◌∷◌, IfOk, OnOk, Some, None, option_map};
+ghost use Rattle.std.specs.List.{flat_map, list_any};
+ghost use Rattle.std.specs.Option.{unwrap_or};
+ghost use Rattle.rb_syntax.specs.Plain.{declaration, identifier};
+ghost use Rattle.rb_meaning.specs.Environment.{same_name, size_of, zeros, frame_of, frame_words, frames_words, has, found_in, found_among, running_frames, in_running, stored_in, stored_among, values_of, store, words, global_words, push_frame, pop_frame, push_call, pop_call};
+ghost use Rattle.rb_meaning.specs.Step.{bound_to, open_calls};
+ghost use Rattle.rb_plain.specs.Slots.{stored, frame, frames_of, calls_of, changed, left_of};
 
 use rb_base::Memory;
-use rb_syntax::{Number, Var};
+use rb_syntax::{Name, Number, Var};
 use std::alloc::Global;
 use std::marker::Model;
 
 /// A variable: its name, and its numbers; a scalar has one.
 #[derive(Drop)]
-struct Slot<'a> {
+pub(crate) struct Slot<'a> {
     name: &'a [u8],
     values: Vec<i64>,
+}
+
+/// A call under way, or the main body: its frames, the innermost last.
+#[derive(Drop)]
+pub(crate) struct Call<'a> {
+    frames: Vec<Vec<Slot<'a>>>,
+}
+
+/// The variables of a process: those that it declares, and the frames of its calls, the running call last.
+#[derive(Drop)]
+pub struct Environment<'a> {
+    globals: Vec<Slot<'a>>,
+    calls: Vec<Call<'a>>,
+}
+
+impl<'a> Model for Environment<'a> {
+    ghost use Rattle.rb_meaning.specs.Environment.{Environment as Variables};
+
+    ghost Value = { Variables };
+
+    ghost use Rattle.rb_plain.specs.Slots.{frame, calls_of};
+
+    ghost view = { λ e. record { globals = frame e.globals.items; calls = calls_of e.calls.items } };
+}
+
+impl<'a> Environment<'a> {
+    /// The variables that a process declares, with zeros, in its main body.
+    pub fn new(alloc: Global, variables: &[Var<'a>]) -> Result<Self, Memory>
+        ensures { IfOk result (λ environment. environment ≡ record { globals = frame_of (map declaration variables.now); calls = [] ∷ [] }) }
+    {
+        let globals = frame(alloc, variables)?;
+        let mut calls = Vec::new(alloc);
+        calls.push(Call {
+            frames: Vec::new(alloc),
+        })?;
+        Ok(Environment { globals, calls })
+    }
+
+    /// The numbers under a name; none under an unknown one.
+    pub fn values(&self, name: &[u8]) -> &[i64]
+        ensures { result.now ≡ values_of self.now name.now }
+    {
+        let frames = running(&self.calls);
+        match find_among(frames, name) {
+            Some(values) => values,
+            None => find(&self.globals, name).unwrap_or(&[]),
+        }
+    }
+
+    /// Replaces a number of the variable with this name, if it is there.
+    pub fn set(&mut self, name: &[u8], index: usize, value: i64)
+        ensures { self.new ≡ store self.old name.now index value }
+    {
+        if !set_running(&mut self.calls, name, index, value) {
+            set(&mut self.globals, name, index, value);
+        }
+    }
+
+    /// A block begins: its variables, with zeros, are the innermost frame of the running call.
+    pub fn push_frame(&mut self, alloc: Global, variables: &[Var<'a>]) -> Result<(), Memory>
+        ensures { OnOk result (self.new ≡ push_frame (frame_of (map declaration variables.now)) self.old) }
+    {
+        if let Some(call) = self.calls.last_mut() {
+            call.frames.push(frame(alloc, variables)?)?;
+        }
+        Ok(())
+    }
+
+    /// A block ends, and its frame goes.
+    pub fn pop_frame(&mut self)
+        ensures { self.new ≡ pop_frame self.old }
+    {
+        if let Some(call) = self.calls.last_mut() {
+            call.frames.pop();
+        }
+    }
+
+    /// A call begins: its parameters with these values, and the variables of its block with zeros. A parameter left over is 0.
+    pub fn push_call(
+        &mut self,
+        alloc: Global,
+        parameters: &[Name<'a>],
+        values: &[i64],
+        variables: &[Var<'a>],
+    ) -> Result<(), Memory>
+        ensures { OnOk result (self.new ≡ push_call (bound_to (map identifier parameters.now) values.now ++ frame_of (map declaration variables.now)) self.old) }
+    {
+        let slots = call_frame(alloc, parameters, values, variables)?;
+        let mut frames = Vec::new(alloc);
+        frames.push(slots)?;
+        self.calls.push(Call { frames })?;
+        Ok(())
+    }
+
+    /// The running call ends, and the one that called it goes on.
+    pub fn pop_call(&mut self)
+        ensures { self.new ≡ pop_call self.old }
+    {
+        self.calls.pop();
+    }
+
+    /// How many calls are open, without the main body.
+    pub fn open_calls(&self) -> usize
+        ensures { result ≡ open_calls self.now }
+    {
+        self.calls.len().saturating_sub(1)
+    }
+
+    /// How many more words there may be, where there may be so many in all; none where there are more already.
+    pub fn room(&self, most: usize) -> Option<usize>
+        ensures { result ≡ cond (nat_le (words self.now) most) (Some (most - words self.now)) None }
+    {
+        room_of_calls(&self.calls, room_of_frame(&self.globals, most)?)
+    }
+
+    /// Whether a block of these variables would bring the words above so many.
+    pub fn overflows(&self, variables: &[Var<'a>], most: usize) -> bool
+        ensures { result ≡ nat_lt most (words (push_frame (frame_of (map declaration variables.now)) self.now)) }
+    {
+        match self.room(most) {
+            None => true,
+            Some(left) => !self.calls.is_empty() && !are_within(variables, left),
+        }
+    }
+
+    /// Whether a call with so many parameters and these variables would bring the words above so many.
+    pub fn call_overflows(
+        &self,
+        parameters: &[Name<'a>],
+        values: &[i64],
+        variables: &[Var<'a>],
+        most: usize,
+    ) -> bool
+        ensures { result ≡ nat_lt most (words (push_call (bound_to (map identifier parameters.now) values.now ++ frame_of (map declaration variables.now)) self.now)) }
+    {
+        let _ = values;
+        match self.room(most) {
+            Some(left) if parameters.len() <= left => !are_within(
+                variables,
+                left - parameters.len(),
+            ),
+            _ => true,
+        }
+    }
+
+    /// A copy of all variables.
+    pub fn copied(&self, alloc: Global) -> Result<Self, Memory>
+        ensures { IfOk result (λ copy. copy ≡ self.now) }
+    {
+        let globals = copied_frame(alloc, &self.globals)?;
+        let calls = copied_calls(alloc, &self.calls)?;
+        Ok(Environment { globals, calls })
+    }
+
+    /// Word number `at` of the process's own variables, in order; 0 beyond them.
+    pub fn word(&self, at: usize) -> i64
+        ensures { result ≡ unwrap_or (slice_get (global_words self.now) at) (pos 0) }
+    {
+        word_of(&self.globals, at)
+    }
 }
 
 /// How many numbers a variable of this size has.
@@ -52,13 +215,15 @@ impl<'a> Slot<'a> {
         }
     }
 
-    /// Takes the name and the numbers of another variable, which has as many.
-    fn copy_from(&mut self, other: &Slot<'a>)
-        requires { length self.old.values.items ≡ length other.now.values.items }
-        ensures { stored self.new ≡ stored other.now }
+    /// The same variable in memory of its own.
+    fn copied(&self, alloc: Global) -> Result<Self, Memory>
+        ensures { IfOk result (λ slot. stored slot ≡ stored self.now) }
     {
-        self.name = other.name;
-        self.values.copy_from_slice(other.values.as_slice());
+        let values = Vec::from_slice(alloc, self.values.as_slice())?;
+        Ok(Slot {
+            name: self.name,
+            values,
+        })
     }
 }
 
@@ -71,6 +236,52 @@ fn frame<'a>(alloc: Global, variables: &[Var<'a>]) -> Result<Vec<Slot<'a>>, Memo
         slots.push(Slot::new(alloc, variable)?)?;
     }
     Ok(slots)
+}
+
+/// The frame of a call: its parameters with these values, and then the variables of its block, with zeros.
+fn call_frame<'a>(
+    alloc: Global,
+    parameters: &[Name<'a>],
+    values: &[i64],
+    variables: &[Var<'a>],
+) -> Result<Vec<Slot<'a>>, Memory>
+    ensures { IfOk result (λ slots. frame slots.items ≡ bound_to (map identifier parameters.now) values.now ++ frame_of (map declaration variables.now)) }
+{
+    let mut slots = Vec::with_capacity(alloc, parameters.len())?;
+    for (place, parameter) in parameters.iter().enumerate() {
+        let value = values.get(place).copied().unwrap_or(0);
+        let values = Vec::from_elem(alloc, value, 1)?;
+        slots.push(Slot {
+            name: parameter.text,
+            values,
+        })?;
+    }
+    for variable in variables {
+        slots.push(Slot::new(alloc, variable)?)?;
+    }
+    Ok(slots)
+}
+
+/// The frames of the running call, the innermost last.
+fn running<'s, 'a>(calls: &'s [Call<'a>]) -> &'s [Vec<Slot<'a>>]
+    ensures { reverse (map (λ slots. frame slots.items) result.now) ≡ running_frames (calls_of calls.now) }
+{
+    match calls.last() {
+        Some(call) => call.frames.as_slice(),
+        None => &[],
+    }
+}
+
+/// The numbers under this name in the innermost frame that has it, if one does.
+fn find_among<'s>(frames: &'s [Vec<Slot<'_>>], name: &[u8]) -> Option<&'s [i64]>
+    ensures { option_map (λ values. values.now) result ≡ found_among name.now (reverse (map (λ slots. frame slots.items) frames.now)) }
+{
+    for slots in frames.iter().rev() {
+        if let Some(values) = find(slots, name) {
+            return Some(values);
+        }
+    }
+    None
 }
 
 /// The numbers under this name: those of the first variable that has it.
@@ -102,126 +313,120 @@ fn set(slots: &mut [Slot<'_>], name: &[u8], index: usize, value: i64)
     }
 }
 
-/// Takes the variables of another frame, each of which has as many numbers.
-fn copy_frame<'a>(slots: &mut [Slot<'a>], others: &[Slot<'a>])
-    requires { sizes (frame slots.old) ≡ sizes (frame others.now) }
-    ensures { frame slots.new ≡ frame others.now }
+/// Replaces a number in the innermost frame of the running call that has the variable, and tells whether one has it.
+fn set_running(calls: &mut [Call<'_>], name: &[u8], index: usize, value: i64) -> bool
+    ensures found { result ≡ list_any (has name.now) (running_frames (calls_of calls.old)) }
+    ensures after { calls_of calls.new ≡ cond result (in_running (stored_among name.now index value) (calls_of calls.old)) (calls_of calls.old) }
 {
-    let mut place = 0;
-    'places: while place < slots.len() {
-        slots[place].copy_from(&others[place]);
-        place += 1;
+    match calls.last_mut() {
+        Some(call) => set_among(&mut call.frames, name, index, value),
+        None => false,
     }
 }
 
-/// The variables of a process.
-#[derive(Drop)]
-pub struct Environment<'a> {
-    globals: Vec<Slot<'a>>,
-}
-
-impl<'a> Model for Environment<'a> {
-    ghost use Rattle.std.specs.Prelude.{[], ◌∷◌};
-    ghost use Rattle.rb_meaning.specs.Environment.{Environment as Variables};
-
-    ghost Value = { Variables };
-
-    ghost use Rattle.rb_plain.specs.Slots.{frame};
-
-    ghost view = { λ e. record { globals = frame e.globals.items; calls = [] ∷ [] } };
-}
-
-impl<'a> Environment<'a> {
-    /// The variables that a process declares, with zeros.
-    pub fn new(alloc: Global, variables: &[Var<'a>]) -> Result<Self, Memory>
-        ensures { IfOk result (λ environment. environment ≡ record { globals = frame_of (map declaration variables.now); calls = [] ∷ [] }) }
-    {
-        let globals = frame(alloc, variables)?;
-        Ok(Environment { globals })
-    }
-
-    /// The numbers under a name; none under an unknown one.
-    pub fn values(&self, name: &[u8]) -> &[i64]
-        ensures { result.now ≡ values_of self.now name.now }
-    {
-        find(&self.globals, name).unwrap_or(&[])
-    }
-
-    /// Replaces a number of the variable with this name, if it is there.
-    pub fn set(&mut self, name: &[u8], index: usize, value: i64)
-        ensures { self.new ≡ store self.old name.now index value }
-    {
-        set(&mut self.globals, name, index, value);
-    }
-
-    /// Takes the variables of another environment, each of which has as many numbers. No memory is taken.
-    pub fn copy_from(&mut self, other: &Environment<'a>)
-        requires { sizes self.old.globals ≡ sizes other.now.globals }
-        ensures { self.new ≡ other.now }
-    {
-        copy_frame(&mut self.globals, &other.globals);
-    }
-
-    /// The variables of the process in order: the name and the numbers of one.
-    pub fn variable(&self, place: usize) -> Option<(&[u8], &[i64])>
-        ensures { option_map entry result ≡ slice_get self.now.globals place }
-    {
-        let slot = self.globals.get(place)?;
-        Some((slot.name, slot.values.as_slice()))
-    }
-}
-
-#[cfg(test)]
-mod tests {
-    use super::*;
-    use rb_base::Place;
-    use rb_syntax::Name;
-    use std::test::Fail;
-
-    const PLACE: Place = Place { line: 1, column: 1 };
-
-    fn variable(text: &[u8], size: Option<i64>) -> Var<'_> {
-        let size = size.map(|value| Number {
-            value,
-            place: PLACE,
-        });
-        Var {
-            name: Name {
-                text,
-                place: PLACE,
-                id: 0,
-            },
-            size,
+/// The same among these frames.
+fn set_among(frames: &mut [Vec<Slot<'_>>], name: &[u8], index: usize, value: i64) -> bool
+    ensures found { result ≡ list_any (has name.now) (reverse (map (λ slots. frame slots.items) frames.old)) }
+    ensures after { reverse (map (λ slots. frame slots.items) frames.new) ≡ stored_among name.now index value (reverse (map (λ slots. frame slots.items) frames.old)) }
+{
+    let mut left = frames.len();
+    while left > 0 {
+        left -= 1;
+        if place_of(&frames[left], name).is_some() {
+            set(&mut frames[left], name, index, value);
+            return true;
         }
     }
+    false
+}
 
-    #[test]
-    fn copies(rt: HostRuntime) -> Result<(), Fail> {
-        let variables = [variable(b"x", None), variable(b"row", Some(3))];
-        let mut environment = Environment::new(rt.alloc(), &variables)?;
-        let mut copy = Environment::new(rt.alloc(), &variables)?;
-        environment.set(b"row", 2, 4);
-        copy.copy_from(&environment);
-        environment.set(b"row", 2, 5);
-        assert_eq!(rt; copy.values(b"x"), [0].as_slice());
-        assert_eq!(rt; copy.values(b"row"), [0, 0, 4].as_slice());
-        Ok(())
+/// How many words are left of so many behind a frame; none where it has more.
+fn room_of_frame(slots: &[Slot<'_>], most: usize) -> Option<usize>
+    ensures { result ≡ left_of most (frame_words (frame slots.now)) }
+{
+    let mut left = most;
+    for slot in slots {
+        left = left.checked_sub(slot.values.len())?;
     }
+    Some(left)
+}
 
-    #[test]
-    fn keeps_numbers(rt: HostRuntime) -> Result<(), Fail> {
-        let variables = [variable(b"x", None), variable(b"row", Some(3))];
-        let mut environment = Environment::new(rt.alloc(), &variables)?;
-        environment.set(b"row", 1, -7);
-        environment.set(b"row", 3, 9);
-        environment.set(b"y", 0, 9);
-        assert_eq!(rt; environment.values(b"x"), [0].as_slice());
-        assert_eq!(rt; environment.values(b"row"), [0, -7, 0].as_slice());
-        assert_eq!(rt; environment.values(b"y"), [].as_slice());
-        let last = environment.variable(1).ok_or("no variable")?;
-        assert_eq!(rt; last.0, b"row".as_slice());
-        assert_eq!(rt; last.1, [0, -7, 0].as_slice());
-        assert!(rt; environment.variable(2).is_none());
-        Ok(())
+/// The same behind the frames of a call.
+fn room_of_frames(frames: &[Vec<Slot<'_>>], most: usize) -> Option<usize>
+    ensures { result ≡ left_of most (frames_words (reverse (map (λ slots. frame slots.items) frames.now))) }
+{
+    let mut left = most;
+    for slots in frames {
+        left = room_of_frame(slots, left)?;
     }
+    Some(left)
+}
+
+/// The same behind all calls.
+fn room_of_calls(calls: &[Call<'_>], most: usize) -> Option<usize>
+    ensures { result ≡ left_of most (sum_by frames_words (calls_of calls.now)) }
+{
+    let mut left = most;
+    for call in calls {
+        left = room_of_frames(&call.frames, left)?;
+    }
+    Some(left)
+}
+
+/// Whether these declarations have no more words than so many.
+fn are_within(variables: &[Var<'_>], most: usize) -> bool
+    ensures { result ≡ nat_le (frame_words (frame_of (map declaration variables.now))) most }
+{
+    let mut left = most;
+    for variable in variables {
+        match left.checked_sub(size_of(variable.size)) {
+            Some(less) => left = less,
+            None => return false,
+        }
+    }
+    true
+}
+
+fn copied_frame<'a>(alloc: Global, slots: &[Slot<'a>]) -> Result<Vec<Slot<'a>>, Memory>
+    ensures { IfOk result (λ copies. frame copies.items ≡ frame slots.now) }
+{
+    let mut copies = Vec::with_capacity(alloc, slots.len())?;
+    for slot in slots {
+        copies.push(slot.copied(alloc)?)?;
+    }
+    Ok(copies)
+}
+
+fn copied_call<'a>(alloc: Global, call: &Call<'a>) -> Result<Call<'a>, Memory>
+    ensures { IfOk result (λ copy. frames_of copy ≡ frames_of call.now) }
+{
+    let mut frames = Vec::with_capacity(alloc, call.frames.len())?;
+    for slots in &call.frames {
+        frames.push(copied_frame(alloc, slots)?)?;
+    }
+    Ok(Call { frames })
+}
+
+fn copied_calls<'a>(alloc: Global, calls: &[Call<'a>]) -> Result<Vec<Call<'a>>, Memory>
+    ensures { IfOk result (λ copies. calls_of copies.items ≡ calls_of calls.now) }
+{
+    let mut copies = Vec::with_capacity(alloc, calls.len())?;
+    for call in calls {
+        copies.push(copied_call(alloc, call)?)?;
+    }
+    Ok(copies)
+}
+
+/// Word number `at` of a frame; 0 beyond it.
+fn word_of(slots: &[Slot<'_>], at: usize) -> i64
+    ensures { result ≡ unwrap_or (slice_get (flat_map (λ stored. stored.values) (frame slots.now)) at) (pos 0) }
+{
+    let mut left = at;
+    for slot in slots {
+        match slot.values.get(left) {
+            Some(value) => return *value,
+            None => left -= slot.values.len(),
+        }
+    }
+    0
 }

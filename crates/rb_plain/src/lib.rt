@@ -1,13 +1,18 @@
-//! Environments and values over a program's tree, with plain copies, and records of kept turns: what the plain run of a
-//! record will stand on.
+//! Plain runs: what survived a run, run alone over the tree, with nothing ever rejected; and the records that list it.
 #![tactic(auto)]
 
+mod blocks;
 pub mod counter;
 pub mod element;
 pub mod environment;
+pub mod halt;
+pub mod held;
+pub(crate) mod items;
 pub mod laws;
 pub mod record;
 mod record_line;
+pub mod state;
+mod steps;
 #[cfg(test)]
 mod tests;
 pub mod value;
