@@ -6,3 +6,5 @@ pub mod Items
 pub mod Comes
 pub mod Holding
 pub mod States
+pub mod Worlds
+pub mod Members

@@ -2,6 +2,7 @@
 #![tactic(auto)]
 
 mod blocks;
+mod channels;
 pub mod counter;
 pub mod element;
 pub mod environment;
@@ -9,10 +10,14 @@ pub mod halt;
 pub mod held;
 pub(crate) mod items;
 pub mod laws;
+mod numbers;
+mod performing;
+mod process;
 pub mod record;
 mod record_line;
 pub mod state;
 mod steps;
 #[cfg(test)]
 mod tests;
+mod turn;
 pub mod value;
