@@ -9,6 +9,7 @@ pub mod halt;
 pub mod held;
 pub(crate) mod items;
 pub mod laws;
+mod numbers;
 pub mod record;
 mod record_line;
 pub mod state;
