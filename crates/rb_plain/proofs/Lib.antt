@@ -2,3 +2,4 @@ pub mod Places
 pub mod Spans
 pub mod Records
 pub mod FirstPlaces
+pub mod Lookups
