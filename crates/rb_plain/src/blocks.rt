@@ -3,7 +3,8 @@
 ghost use Rattle.std.specs.Prelude.{◌≡◌, [], ◌∷◌, map, option_map, Some};
 ghost use Rattle.rb_syntax.specs.Plain.{body, command, expression, identifier, otherwise, procedure_declaration, recovery_block, tree};
 ghost use Rattle.rb_syntax.specs.Tree.{Loop};
-ghost use Rattle.rb_meaning.specs.Environment.{rest_of};
+ghost use Rattle.std.specs.List.{find};
+ghost use Rattle.rb_meaning.specs.Environment.{rest_of, same_name};
 ghost use Rattle.rb_meaning.specs.State.{Perform, StartOf, TestOf};
 ghost use Rattle.rb_meaning.specs.Step.{alternate_number, alternates_in, calls_with, chooses, former, invokes, present_value, pushes, pushes_else, repeats, starts_body, test_in, values_in};
 ghost use Rattle.rb_meaning.specs.Value.{and_then, value};
@@ -216,8 +217,17 @@ fn procedure_named<'t, 'a>(
     ensures { option_map (λ procedure. procedure_declaration procedure.now) result ≡ procedure_named (tree program.now) process name.now }
 {
     let process = program.processes.get(process)?;
-    process
-        .procedures
+    procedure_among(&process.procedures, name)
+}
+
+// The first of these procedures with this name.
+fn procedure_among<'t, 'a>(
+    procedures: &'t [Procedure<'a>],
+    name: &[u8],
+) -> Option<&'t Procedure<'a>>
+    ensures { option_map (λ procedure. procedure.now) result ≡ find (λ procedure. same_name procedure.name.text.now name.now) procedures.now }
+{
+    procedures
         .iter()
         .find(|procedure| procedure.name.text == name)
 }

@@ -266,20 +266,19 @@ fn call_frame<'a>(
 fn running<'s, 'a>(calls: &'s [Call<'a>]) -> &'s [Vec<Slot<'a>>]
     ensures { reverse (map (λ slots. frame slots.items) result.now) ≡ running_frames (calls_of calls.now) }
 {
-    match calls.last() {
-        Some(call) => call.frames.as_slice(),
-        None => &[],
-    }
+    let [.., call] = calls else { return &[] };
+    call.frames.as_slice()
 }
 
 /// The numbers under this name in the innermost frame that has it, if one does.
-fn find_among<'s>(frames: &'s [Vec<Slot<'_>>], name: &[u8]) -> Option<&'s [i64]>
-    ensures { option_map (λ values. values.now) result ≡ found_among name.now (reverse (map (λ slots. frame slots.items) frames.now)) }
+fn find_among<'s>(mut frames: &'s [Vec<Slot<'_>>], name: &[u8]) -> Option<&'s [i64]>
+    ensures { option_map (λ values. values.now) result ≡ found_among name.now (reverse (map (λ slots. frame slots.items) frames.entry.now)) }
 {
-    for slots in frames.iter().rev() {
+    while let [outer @ .., slots] = frames {
         if let Some(values) = find(slots, name) {
             return Some(values);
         }
+        frames = outer;
     }
     None
 }
