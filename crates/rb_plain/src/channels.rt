@@ -4,15 +4,16 @@ ghost use Rattle.std.specs.Prelude.{◌≡◌, ◌+◌, map, nat_lt, option_map,
 ghost use Rattle.std.specs.Option.{unwrap_or};
 ghost use Rattle.rb_syntax.specs.Tree.{Tree};
 ghost use Rattle.rb_syntax.specs.Plain.{tree};
-ghost use Rattle.rb_world.specs.Channels.{has_room, message_there, room_from, seen_copy, seen_count};
+ghost use Rattle.rb_world.specs.Channels.{first_message, has_room, message_there, room_from, seen_copy, seen_count};
 ghost use Rattle.rb_world.specs.World.{is_shared};
 ghost use Rattle.rb_meaning.specs.Environment.{natural};
+ghost use Rattle.rb_meaning.specs.Meaning.{taken_on};
 ghost use Rattle.rb_plain.specs.Worlds.{level_of, unkept_kind, world_of};
 ghost use Rattle.rb_plain.specs.States.{state_of};
 
 use crate::numbers::process_number;
 use crate::process::{Level, Process};
-use rb_syntax::Program;
+use rb_syntax::{Number, Program};
 
 /// Whether a send on this channel has room.
 pub(crate) fn has_room<'a>(
@@ -30,19 +31,19 @@ pub(crate) fn has_room<'a>(
     match (sender, receiver) {
         (Some(sender), Some(receiver)) => {
             let from = room_from(receiver, channel);
-            has_room_behind(sender.state.sent_on(channel), from, declared.size.value)
+            has_room_behind(sender.state.sent_on(channel), from, declared.size)
         }
         _ => false,
     }
 }
 
 // So many were sent, and fewer than `size` of them come after this number; a size below 0 counts as 0.
-fn has_room_behind(sent: usize, from: usize, size: i64) -> bool
-    ensures { result ≡ nat_lt sent (natural size + from) }
+fn has_room_behind(sent: usize, from: usize, size: Number) -> bool
+    ensures { result ≡ nat_lt sent (natural size.value + from) }
 {
     match sent.checked_sub(from) {
         None => true,
-        Some(behind) => size > 0 && (behind as u64) < (size as u64),
+        Some(behind) => size.value > 0 && (behind as u64) < (size.value as u64),
     }
 }
 
@@ -72,8 +73,22 @@ pub(crate) fn message_there<'a>(
     ensures { result ≡ message_there (unkept_kind (tree program.now)) (world_of (tree program.now) processes.now) channel }
 {
     let declared = program.channels.get(channel)?;
-    let sender = processes.get(process_number(program, declared.sender.text))?;
-    let receiver = processes.get(process_number(program, declared.receiver.text))?;
+    let sender = processes.get(process_number(program, declared.sender.text));
+    let receiver = processes.get(process_number(program, declared.receiver.text));
+    match (sender, receiver) {
+        (Some(sender), Some(receiver)) => first_message(sender, receiver, channel),
+        _ => None,
+    }
+}
+
+// The first message between these two that is seen and was not taken.
+fn first_message<'t, 'a>(
+    sender: &Process<'t, 'a>,
+    receiver: &Process<'t, 'a>,
+    channel: usize,
+) -> Option<i64>
+    ensures { (tree : Tree) → result ≡ first_message (unkept_kind tree) tt channel (state_of sender.now.state) (seen_copy (map level_of sender.now.levels.items) (map level_of receiver.now.levels.items)) (taken_on (state_of receiver.now.state) channel) }
+{
     let taken = receiver.state.taken_on(channel);
     if taken < seen(sender, receiver, channel) {
         Some(sender.state.message(channel, taken))
