@@ -63,6 +63,15 @@ impl<'t, 'a> Level<'t, 'a> {
     }
 }
 
+impl<'t, 'a> Level<'t, 'a> {
+    // Whether its recovery block has this alternate, counted from 1.
+    fn has_alternate(&self, alternate: u32) -> bool
+        ensures { result ≡ nat_lt 0 alternate && nat_le alternate (level_of self.now).facts.alternates }
+    {
+        0 < alternate && alternate as usize <= self.block.alternates.len()
+    }
+}
+
 impl<'t, 'a> Process<'t, 'a> {
     /// Goes on from its state: ends of blocks and calls that stand first are taken away, and it is done if nothing is left.
     pub(crate) fn settle(&mut self, program: &Program<'a>)
@@ -74,11 +83,18 @@ impl<'t, 'a> Process<'t, 'a> {
         self.is_done = is_nothing(self.state.first());
     }
 
+    /// Its innermost level, if one is open.
+    pub(crate) fn innermost(&self) -> Option<&Level<'t, 'a>>
+        ensures { option_map (λ level. level_of level.now) result ≡ last_of (map level_of self.now.levels.items) }
+    {
+        self.levels.last()
+    }
+
     /// The variables at the innermost recovery point, if a level is open.
     pub(crate) fn prior(&self) -> Option<&Environment<'a>>
         ensures { option_map (λ e. e.now) result ≡ environment_at (copy_of (last_of (map level_of self.now.levels.items))) }
     {
-        match self.levels.last() {
+        match self.innermost() {
             Some(level) => Some(&level.environment),
             None => None,
         }
@@ -88,8 +104,8 @@ impl<'t, 'a> Process<'t, 'a> {
     pub(crate) fn has_alternate(&self, alternate: u32) -> bool
         ensures { result ≡ nat_lt 0 alternate && nat_le alternate (alternates_of (last_of (map level_of self.now.levels.items))) }
     {
-        match self.levels.last() {
-            Some(level) => 0 < alternate && alternate as usize <= level.block.alternates.len(),
+        match self.innermost() {
+            Some(level) => level.has_alternate(alternate),
             None => false,
         }
     }
@@ -98,7 +114,7 @@ impl<'t, 'a> Process<'t, 'a> {
     pub(crate) fn stands_at(&self, conversation: usize) -> bool
         ensures { result ≡ stands_at conversation (process_of self.now) }
     {
-        match self.levels.last() {
+        match self.innermost() {
             Some(level) => self.at_line && level.conversation == Some(conversation),
             None => false,
         }
