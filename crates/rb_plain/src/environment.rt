@@ -333,11 +333,14 @@ fn set_among(frames: &mut [Vec<Slot<'_>>], name: &[u8], index: usize, value: i64
     ensures found { result ≡ list_any (has name.now) (reverse (map (λ slots. frame slots.items) frames.old)) }
     ensures after { reverse (map (λ slots. frame slots.items) frames.new) ≡ stored_among name.now index value (reverse (map (λ slots. frame slots.items) frames.old)) }
 {
-    let [outer @ .., slots] = frames else { return false };
-    if set(slots, name, index, value) {
-        return true;
+    let mut left = frames.len();
+    while left > 0 {
+        left -= 1;
+        if set(&mut frames[left], name, index, value) {
+            return true;
+        }
     }
-    set_among(outer, name, index, value)
+    false
 }
 
 /// How many words are left of so many behind a frame; none where it has more.
