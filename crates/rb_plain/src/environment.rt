@@ -4,7 +4,7 @@ ghost use Rattle.std.specs.Prelude.{◌≡◌, ◌-◌, ◌++◌, length, map, r
 ghost use Rattle.std.specs.List.{flat_map, list_any};
 ghost use Rattle.std.specs.Option.{unwrap_or};
 ghost use Rattle.rb_syntax.specs.Plain.{declaration, identifier};
-ghost use Rattle.rb_meaning.specs.Environment.{same_name, size_of, zeros, frame_of, frame_words, frames_words, has, found_in, found_among, running_frames, in_running, stored_in, stored_among, values_of, store, words, global_words, push_frame, pop_frame, push_call, pop_call};
+ghost use Rattle.rb_meaning.specs.Environment.{same_name, size_of, zeros, frame_of, frame_words, frames_words, has, found_in, found_among, running_frames, in_running, stored_in, stored_among, values_of, store, words, global_words, push_frame, pop_frame, push_call, pop_call, rest_of};
 ghost use Rattle.rb_meaning.specs.Step.{bound_to, open_calls};
 ghost use Rattle.rb_plain.specs.Slots.{stored, frame, frames_of, calls_of, changed, left_of};
 
@@ -80,19 +80,16 @@ impl<'a> Environment<'a> {
     pub fn push_frame(&mut self, alloc: Global, variables: &[Var<'a>]) -> Result<(), Memory>
         ensures { OnOk result (self.new ≡ push_frame (frame_of (map declaration variables.now)) self.old) }
     {
-        if let Some(call) = self.calls.last_mut() {
-            call.frames.push(frame(alloc, variables)?)?;
-        }
-        Ok(())
+        let Some(call) = self.calls.last_mut() else { return Ok(()) };
+        call.push(frame(alloc, variables)?)
     }
 
     /// A block ends, and its frame goes.
     pub fn pop_frame(&mut self)
         ensures { self.new ≡ pop_frame self.old }
     {
-        if let Some(call) = self.calls.last_mut() {
-            call.frames.pop();
-        }
+        let Some(call) = self.calls.last_mut() else { return };
+        call.pop();
     }
 
     /// A call begins: its parameters with these values, and the variables of its block with zeros. A parameter left over is 0.
@@ -227,6 +224,23 @@ impl<'a> Slot<'a> {
     }
 }
 
+impl<'a> Call<'a> {
+    /// A frame is the innermost.
+    fn push(&mut self, slots: Vec<Slot<'a>>) -> Result<(), Memory>
+        ensures { OnOk result (frames_of self.new ≡ frame slots.entry.items ∷ frames_of self.old) }
+    {
+        self.frames.push(slots)?;
+        Ok(())
+    }
+
+    /// The innermost frame goes, if there is one.
+    fn pop(&mut self)
+        ensures { frames_of self.new ≡ rest_of (frames_of self.old) }
+    {
+        self.frames.pop();
+    }
+}
+
 /// The frame of these declarations, with zeros.
 fn frame<'a>(alloc: Global, variables: &[Var<'a>]) -> Result<Vec<Slot<'a>>, Memory>
     ensures { IfOk result (λ slots. frame slots.items ≡ frame_of (map declaration variables.now)) }
@@ -318,9 +332,9 @@ fn set(slots: &mut [Slot<'_>], name: &[u8], index: usize, value: i64) -> bool
 }
 
 /// Replaces a number in the innermost frame of the running call that has the variable, and tells whether one has it.
-fn set_running(calls: &mut [Call<'_>], name: &[u8], index: usize, value: i64) -> bool
-    ensures found { result ≡ list_any (has name.now) (running_frames (calls_of calls.old)) }
-    ensures after { calls_of calls.new ≡ cond result (in_running (stored_among name.now index value) (calls_of calls.old)) (calls_of calls.old) }
+fn set_running(calls: &mut Vec<Call<'_>>, name: &[u8], index: usize, value: i64) -> bool
+    ensures found { result ≡ list_any (has name.now) (running_frames (calls_of calls.old.items)) }
+    ensures after { calls_of calls.new.items ≡ cond result (in_running (stored_among name.now index value) (calls_of calls.old.items)) (calls_of calls.old.items) }
 {
     match calls.last_mut() {
         Some(call) => set_among(&mut call.frames, name, index, value),
@@ -333,11 +347,14 @@ fn set_among(frames: &mut [Vec<Slot<'_>>], name: &[u8], index: usize, value: i64
     ensures found { result ≡ list_any (has name.now) (reverse (map (λ slots. frame slots.items) frames.old)) }
     ensures after { reverse (map (λ slots. frame slots.items) frames.new) ≡ stored_among name.now index value (reverse (map (λ slots. frame slots.items) frames.old)) }
 {
-    let [outer @ .., slots] = frames else { return false };
-    if set(slots, name, index, value) {
-        return true;
+    let mut left = frames.len();
+    while left > 0 {
+        left -= 1;
+        if set(&mut frames[left], name, index, value) {
+            return true;
+        }
     }
-    set_among(outer, name, index, value)
+    false
 }
 
 /// How many words are left of so many behind a frame; none where it has more.
