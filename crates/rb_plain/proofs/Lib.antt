@@ -1,3 +1,5 @@
 pub mod Places
 pub mod Spans
 pub mod Records
+pub mod Changes
+pub mod Lines
