@@ -1,3 +1,5 @@
+pub mod Calls
+pub mod Frames
 pub mod Places
 pub mod Spans
 pub mod Records

@@ -266,20 +266,19 @@ fn call_frame<'a>(
 fn running<'s, 'a>(calls: &'s [Call<'a>]) -> &'s [Vec<Slot<'a>>]
     ensures { reverse (map (λ slots. frame slots.items) result.now) ≡ running_frames (calls_of calls.now) }
 {
-    match calls.last() {
-        Some(call) => call.frames.as_slice(),
-        None => &[],
-    }
+    let [.., call] = calls else { return &[] };
+    call.frames.as_slice()
 }
 
 /// The numbers under this name in the innermost frame that has it, if one does.
-fn find_among<'s>(frames: &'s [Vec<Slot<'_>>], name: &[u8]) -> Option<&'s [i64]>
-    ensures { option_map (λ values. values.now) result ≡ found_among name.now (reverse (map (λ slots. frame slots.items) frames.now)) }
+fn find_among<'s>(mut frames: &'s [Vec<Slot<'_>>], name: &[u8]) -> Option<&'s [i64]>
+    ensures { option_map (λ values. values.now) result ≡ found_among name.now (reverse (map (λ slots. frame slots.items) frames.entry.now)) }
 {
-    for slots in frames.iter().rev() {
+    while let [outer @ .., slots] = frames {
         if let Some(values) = find(slots, name) {
             return Some(values);
         }
+        frames = outer;
     }
     None
 }
@@ -304,19 +303,24 @@ fn place_of(slots: &[Slot<'_>], name: &[u8]) -> Option<usize>
     slots.iter().position(|slot| slot.name == name)
 }
 
-/// Replaces a number of the first variable with this name, if it is there.
-fn set(slots: &mut [Slot<'_>], name: &[u8], index: usize, value: i64)
-    ensures { frame slots.new ≡ stored_in name.now index value (frame slots.old) }
+/// Replaces a number of the first variable with this name, if it is there, and tells whether it is.
+fn set(slots: &mut [Slot<'_>], name: &[u8], index: usize, value: i64) -> bool
+    ensures found { result ≡ has name.now (frame slots.old) }
+    ensures after { frame slots.new ≡ stored_in name.now index value (frame slots.old) }
 {
-    if let Some(place) = place_of(slots, name) {
-        slots[place].set(index, value);
+    match place_of(slots, name) {
+        Some(place) => {
+            slots[place].set(index, value);
+            true
+        }
+        None => false,
     }
 }
 
 /// Replaces a number in the innermost frame of the running call that has the variable, and tells whether one has it.
-fn set_running(calls: &mut [Call<'_>], name: &[u8], index: usize, value: i64) -> bool
-    ensures found { result ≡ list_any (has name.now) (running_frames (calls_of calls.old)) }
-    ensures after { calls_of calls.new ≡ cond result (in_running (stored_among name.now index value) (calls_of calls.old)) (calls_of calls.old) }
+fn set_running(calls: &mut Vec<Call<'_>>, name: &[u8], index: usize, value: i64) -> bool
+    ensures found { result ≡ list_any (has name.now) (running_frames (calls_of calls.old.items)) }
+    ensures after { calls_of calls.new.items ≡ cond result (in_running (stored_among name.now index value) (calls_of calls.old.items)) (calls_of calls.old.items) }
 {
     match calls.last_mut() {
         Some(call) => set_among(&mut call.frames, name, index, value),
@@ -324,7 +328,7 @@ fn set_running(calls: &mut [Call<'_>], name: &[u8], index: usize, value: i64) ->
     }
 }
 
-/// The same among these frames.
+/// The same among these frames, the innermost last.
 fn set_among(frames: &mut [Vec<Slot<'_>>], name: &[u8], index: usize, value: i64) -> bool
     ensures found { result ≡ list_any (has name.now) (reverse (map (λ slots. frame slots.items) frames.old)) }
     ensures after { reverse (map (λ slots. frame slots.items) frames.new) ≡ stored_among name.now index value (reverse (map (λ slots. frame slots.items) frames.old)) }
@@ -332,8 +336,7 @@ fn set_among(frames: &mut [Vec<Slot<'_>>], name: &[u8], index: usize, value: i64
     let mut left = frames.len();
     while left > 0 {
         left -= 1;
-        if place_of(&frames[left], name).is_some() {
-            set(&mut frames[left], name, index, value);
+        if set(&mut frames[left], name, index, value) {
             return true;
         }
     }
