@@ -7,3 +7,5 @@ pub mod FirstPlaces
 pub mod Lookups
 pub mod LentEnds
 pub mod InnermostLevels
+pub mod Changes
+pub mod Lines
