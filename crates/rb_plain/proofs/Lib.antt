@@ -1,3 +1,4 @@
+pub mod Frames
 pub mod Places
 pub mod Spans
 pub mod Records

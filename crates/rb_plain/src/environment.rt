@@ -303,12 +303,17 @@ fn place_of(slots: &[Slot<'_>], name: &[u8]) -> Option<usize>
     slots.iter().position(|slot| slot.name == name)
 }
 
-/// Replaces a number of the first variable with this name, if it is there.
-fn set(slots: &mut [Slot<'_>], name: &[u8], index: usize, value: i64)
-    ensures { frame slots.new ≡ stored_in name.now index value (frame slots.old) }
+/// Replaces a number of the first variable with this name, if it is there, and tells whether it is.
+fn set(slots: &mut [Slot<'_>], name: &[u8], index: usize, value: i64) -> bool
+    ensures found { result ≡ has name.now (frame slots.old) }
+    ensures after { frame slots.new ≡ stored_in name.now index value (frame slots.old) }
 {
-    if let Some(place) = place_of(slots, name) {
-        slots[place].set(index, value);
+    match place_of(slots, name) {
+        Some(place) => {
+            slots[place].set(index, value);
+            true
+        }
+        None => false,
     }
 }
 
@@ -323,7 +328,7 @@ fn set_running(calls: &mut [Call<'_>], name: &[u8], index: usize, value: i64) ->
     }
 }
 
-/// The same among these frames.
+/// The same among these frames, the innermost last.
 fn set_among(frames: &mut [Vec<Slot<'_>>], name: &[u8], index: usize, value: i64) -> bool
     ensures found { result ≡ list_any (has name.now) (reverse (map (λ slots. frame slots.items) frames.old)) }
     ensures after { reverse (map (λ slots. frame slots.items) frames.new) ≡ stored_among name.now index value (reverse (map (λ slots. frame slots.items) frames.old)) }
@@ -331,8 +336,7 @@ fn set_among(frames: &mut [Vec<Slot<'_>>], name: &[u8], index: usize, value: i64
     let mut left = frames.len();
     while left > 0 {
         left -= 1;
-        if place_of(&frames[left], name).is_some() {
-            set(&mut frames[left], name, index, value);
+        if set(&mut frames[left], name, index, value) {
             return true;
         }
     }
