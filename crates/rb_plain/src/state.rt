@@ -1,7 +1,7 @@
 //! The state of a process in a plain run, over the tree: what is left of its text, its variables, what it sent and took, and the
 //! lines that it holds.
 
-ghost use Rattle.std.specs.Prelude.{◌≡◌, ◌∷◌, [], ◌<◌, length, map, replicate, slice_get, IfOk, OnOk};
+ghost use Rattle.std.specs.Prelude.{◌≡◌, ◌∷◌, [], ◌<◌, length, map, replicate, reverse, slice_get, IfOk, OnOk};
 ghost use Rattle.std.specs.Option.{unwrap_or};
 ghost use Rattle.rb_syntax.specs.Plain.{commands_of, declaration, recovery_block};
 ghost use Rattle.rb_meaning.specs.Environment.{rest_of, frame_of};
@@ -10,14 +10,14 @@ ghost use Rattle.rb_meaning.specs.Step.{enter};
 ghost use Rattle.rb_meaning.specs.Meaning.{message_number, opening_state, sent_on, taken_on};
 ghost use Rattle.rb_syntax.specs.Tree.{Recovering};
 ghost use Rattle.rb_syntax.specs.Plain.{process_declaration, tree};
-ghost use Rattle.rb_plain.specs.Items.{IsFirst, StandsFirst};
+ghost use Rattle.rb_plain.specs.Items.{items_of, IsFirst, StandsFirst};
 ghost use Rattle.rb_plain.specs.States.{state_of};
 
 use crate::environment::Environment;
 use crate::held::Held;
 use crate::items::{First, Item, first_of, put_first, skip};
 use rb_base::Memory;
-use rb_syntax::{Process as Declaration, Program, Recovery};
+use rb_syntax::{Process as Declaration, Program, Recovery, Statement};
 use std::alloc::Global;
 
 /// The state of a process, as contracts see it over the tree; its kept turns are not noted.
@@ -41,14 +41,10 @@ impl<'t, 'a> State<'t, 'a> {
     ) -> Result<Self, Memory>
         ensures { IfOk result (λ state. state_of state ≡ opening_state (tree program.now) number (process_declaration process.now)) }
     {
-        let mut items = Vec::new(alloc);
-        items.push(Item::Statements(process.body.as_slice()))?;
+        let items = whole_text(alloc, &process.body)?;
         let environment = Environment::new(alloc, &process.vars)?;
         let channels = program.channels.len();
-        let mut sent = Vec::with_capacity(alloc, channels)?;
-        for _ in 0..channels {
-            sent.push(Vec::new(alloc))?;
-        }
+        let sent = nothing_sent(alloc, channels)?;
         let taken = Vec::from_elem(alloc, 0, channels)?;
         Ok(State {
             number,
@@ -87,7 +83,19 @@ impl<'t, 'a> State<'t, 'a> {
     pub(crate) fn settle(&mut self)
         ensures { state_of self.new ≡ settle (state_of self.old) }
     {
-        loop_ends(self);
+        'ends: loop {
+            match self.first() {
+                First::BlockEnd => {
+                    self.skip();
+                    self.environment.pop_frame();
+                }
+                First::CallEnd => {
+                    self.skip();
+                    self.environment.pop_call();
+                }
+                _ => return,
+            }
+        }
     }
 
     /// How many values were sent on a channel.
@@ -125,21 +133,25 @@ impl<'t, 'a> State<'t, 'a> {
     }
 }
 
-// Takes away the ends that stand first.
-fn loop_ends(state: &mut State<'_, '_>)
-    ensures { state_of state.new ≡ settle (state_of state.old) }
+// All statements of a process are left.
+fn whole_text<'t, 'a>(
+    alloc: Global,
+    statements: &'t [Statement<'a>],
+) -> Result<Vec<Item<'t, 'a>>, Memory>
+    ensures { IfOk result (λ items. items_of (reverse items.items) ≡ performed (commands_of statements.now) []) }
 {
-    'ends: loop {
-        match state.first() {
-            First::BlockEnd => {
-                state.skip();
-                state.environment.pop_frame();
-            }
-            First::CallEnd => {
-                state.skip();
-                state.environment.pop_call();
-            }
-            _ => return,
-        }
+    let mut items = Vec::new(alloc);
+    items.push(Item::Statements(statements))?;
+    Ok(items)
+}
+
+// Nothing was sent on any of so many channels.
+fn nothing_sent(alloc: Global, channels: usize) -> Result<Vec<Vec<i64>>, Memory>
+    ensures { IfOk result (λ sent. map (λ values. values.items) sent.items ≡ replicate channels []) }
+{
+    let mut sent = Vec::with_capacity(alloc, channels)?;
+    for _ in 0..channels {
+        sent.push(Vec::new(alloc))?;
     }
+    Ok(sent)
 }

@@ -22,9 +22,10 @@ use std::alloc::Global;
 pub(crate) fn present(environment: &Environment<'_>, asked: &Expr<'_>) -> Result<i64, Halt>
     ensures { Gives (λ v. v) (present_value environment.now (expression asked.now)) result }
 {
-    let none = Counters::None;
+    // It is lent twice, each time for a life of its own.
     let now = &*environment;
-    match value_of(now, now, &none, asked) {
+    let before = &*environment;
+    match value_of(now, before, &Counters::None, asked) {
         Ok(value) => Ok(value),
         Err(_) => Err(Halt::Stuck),
     }
