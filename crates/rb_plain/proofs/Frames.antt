@@ -17,7 +17,7 @@ pub reverse-push : {A : Type 0} (xs : List A) (x : A) → reverse (xs ++ x ∷ [
 reverse-push xs x = reverse-append xs (x ∷ [])
 
 -- the first elements, and one more
-reverse-more : {A : Type 0} (xs : List A) (k : ℕ) (d : A) → k < length xs → reverse (take (k + 1) xs) ≡ get_or xs k d ∷ reverse (take k xs)
+pub reverse-more : {A : Type 0} (xs : List A) (k : ℕ) (d : A) → k < length xs → reverse (take (k + 1) xs) ≡ get_or xs k d ∷ reverse (take k xs)
 reverse-more xs k d h = ap reverse (take_more xs k d h) ∙ reverse-push (take k xs) (get_or xs k d)
 
 -- one element less in front
@@ -25,7 +25,7 @@ reverse-drop : {A : Type 0} (xs : List A) (k : ℕ) (d : A) → k < length xs �
 reverse-drop xs k d h = ap reverse (drop_more xs k d h) ∙ reverse-cons (get_or xs k d) (drop (k + 1) xs)
 
 -- a list that is changed at one number
-reverse-set : {A : Type 0} (xs : List A) (k : ℕ) (x : A) → k < length xs → reverse (set xs k x) ≡ reverse (drop (k + 1) xs) ++ x ∷ reverse (take k xs)
+pub reverse-set : {A : Type 0} (xs : List A) (k : ℕ) (x : A) → k < length xs → reverse (set xs k x) ≡ reverse (drop (k + 1) xs) ++ x ∷ reverse (take k xs)
 reverse-set xs k x h =
     ap reverse (set_split xs k x h)
     ∙ reverse-append (take k xs) (x ∷ drop (suc k) xs)

@@ -318,9 +318,9 @@ fn set(slots: &mut [Slot<'_>], name: &[u8], index: usize, value: i64) -> bool
 }
 
 /// Replaces a number in the innermost frame of the running call that has the variable, and tells whether one has it.
-fn set_running(calls: &mut [Call<'_>], name: &[u8], index: usize, value: i64) -> bool
-    ensures found { result ≡ list_any (has name.now) (running_frames (calls_of calls.old)) }
-    ensures after { calls_of calls.new ≡ cond result (in_running (stored_among name.now index value) (calls_of calls.old)) (calls_of calls.old) }
+fn set_running(calls: &mut Vec<Call<'_>>, name: &[u8], index: usize, value: i64) -> bool
+    ensures found { result ≡ list_any (has name.now) (running_frames (calls_of calls.old.items)) }
+    ensures after { calls_of calls.new.items ≡ cond result (in_running (stored_among name.now index value) (calls_of calls.old.items)) (calls_of calls.old.items) }
 {
     match calls.last_mut() {
         Some(call) => set_among(&mut call.frames, name, index, value),
