@@ -6,3 +6,5 @@ pub mod Records
 pub mod FirstPlaces
 pub mod Lookups
 pub mod Judged
+pub mod Changes
+pub mod Lines
