@@ -8,3 +8,4 @@ pub mod Lookups
 pub mod Judged
 pub mod Changes
 pub mod Lines
+pub mod Traps
