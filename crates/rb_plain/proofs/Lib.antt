@@ -9,3 +9,4 @@ pub mod Judged
 pub mod Changes
 pub mod Lines
 pub mod Traps
+pub mod Starting
