@@ -4,7 +4,7 @@ ghost use Rattle.std.specs.Prelude.{◌≡◌, ◌-◌, ◌++◌, length, map, r
 ghost use Rattle.std.specs.List.{flat_map, list_any};
 ghost use Rattle.std.specs.Option.{unwrap_or};
 ghost use Rattle.rb_syntax.specs.Plain.{declaration, identifier};
-ghost use Rattle.rb_meaning.specs.Environment.{same_name, size_of, zeros, frame_of, frame_words, frames_words, has, found_in, found_among, running_frames, in_running, stored_in, stored_among, values_of, store, words, global_words, push_frame, pop_frame, push_call, pop_call};
+ghost use Rattle.rb_meaning.specs.Environment.{same_name, size_of, zeros, frame_of, frame_words, frames_words, has, found_in, found_among, running_frames, in_running, stored_in, stored_among, values_of, store, words, global_words, push_frame, pop_frame, push_call, pop_call, rest_of};
 ghost use Rattle.rb_meaning.specs.Step.{bound_to, open_calls};
 ghost use Rattle.rb_plain.specs.Slots.{stored, frame, frames_of, calls_of, changed, left_of};
 
@@ -80,19 +80,16 @@ impl<'a> Environment<'a> {
     pub fn push_frame(&mut self, alloc: Global, variables: &[Var<'a>]) -> Result<(), Memory>
         ensures { OnOk result (self.new ≡ push_frame (frame_of (map declaration variables.now)) self.old) }
     {
-        if let Some(call) = self.calls.last_mut() {
-            call.frames.push(frame(alloc, variables)?)?;
-        }
-        Ok(())
+        let Some(call) = self.calls.last_mut() else { return Ok(()) };
+        call.push(frame(alloc, variables)?)
     }
 
     /// A block ends, and its frame goes.
     pub fn pop_frame(&mut self)
         ensures { self.new ≡ pop_frame self.old }
     {
-        if let Some(call) = self.calls.last_mut() {
-            call.frames.pop();
-        }
+        let Some(call) = self.calls.last_mut() else { return };
+        call.pop();
     }
 
     /// A call begins: its parameters with these values, and the variables of its block with zeros. A parameter left over is 0.
@@ -224,6 +221,23 @@ impl<'a> Slot<'a> {
             name: self.name,
             values,
         })
+    }
+}
+
+impl<'a> Call<'a> {
+    /// A frame is the innermost.
+    fn push(&mut self, slots: Vec<Slot<'a>>) -> Result<(), Memory>
+        ensures { OnOk result (frames_of self.new ≡ frame slots.entry.items ∷ frames_of self.old) }
+    {
+        self.frames.push(slots)?;
+        Ok(())
+    }
+
+    /// The innermost frame goes, if there is one.
+    fn pop(&mut self)
+        ensures { frames_of self.new ≡ rest_of (frames_of self.old) }
+    {
+        self.frames.pop();
     }
 }
 
