@@ -1,5 +1,5 @@
 -- The line of a `print`, item by item.
-use Rattle.std.proofs.Common.{◌≡◌, ◌+◌, ◌<◌, ℕ, Bool, true, false, cond, List, [], ◌∷◌, ◌++◌, length, map, get_or, drop, Result, Ok, Err, Vec, refl, ap, sym, ◌∙◌}
+use Rattle.std.proofs.Common.{◌≡◌, ◌+◌, ◌<◌, ℕ, Bool, true, false, cond, List, [], ◌∷◌, ◌++◌, length, map, get_or, drop, Result, Ok, Err, Vec, ap, sym, ◌∙◌}
 use Rattle.std.specs.declared.alloc.Global.{Global}
 use Rattle.std.proofs.lemmas.List.{drop_more}
 use Rattle.rb_base.specs.declared.event.Cause.{Cause}
@@ -27,7 +27,7 @@ at_item : (env : Environment) (items : List Item) (i : ℕ) (item : Item) (first
 at_item env items i item first line outcome so_far h is e =
     so_far.goes_on
     ∙ ap (λ left. and_then (line_from env first (map print_item left)) (λ rest. Ok (line ++ rest)))
-        (drop_more items i item h ∙ ap (λ one. one ∷ drop (i + 1) items) (sym is))
+    (drop_more items i item h ∙ ap (λ one. one ∷ drop (i + 1) items) (sym is))
     ∙ ap (λ o. and_then (and_then o (λ text. and_then (line_from env false (map print_item (drop (i + 1) items))) (λ rest. Ok (after_blank text first ++ rest)))) (λ rest. Ok (line ++ rest))) e
 
 -- a trap at an item is that of the line

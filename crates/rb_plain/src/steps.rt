@@ -4,7 +4,6 @@ ghost use Rattle.std.specs.Prelude.{◌≡◌, ◌+◌, ◌++◌, [], ◌∷◌,
 ghost use Rattle.rb_syntax.specs.Plain.{expression, print_item, printed as plain_printed, reference};
 ghost use Rattle.rb_world.specs.World.{change_at};
 ghost use Rattle.rb_meaning.specs.Step.{after_blank, assigned, line_from, place_in, present_value, printed, prints, sends, takes};
-ghost use Rattle.rb_meaning.specs.Value.{value};
 ghost use Rattle.rb_plain.specs.States.{state_of};
 ghost use Rattle.rb_plain.specs.Comes.{AddsAs, AddsTo, Comes, Gives};
 
