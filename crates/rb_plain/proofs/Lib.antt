@@ -7,5 +7,8 @@ pub mod FirstPlaces
 pub mod Lookups
 pub mod LentEnds
 pub mod InnermostLevels
+pub mod Judged
 pub mod Changes
 pub mod Lines
+pub mod Traps
+pub mod Starting

@@ -9,11 +9,11 @@ use Rattle.rb_syntax.specs.declared.program.Procedure.{Procedure}
 use Rattle.rb_syntax.specs.declared.program.Process.{Process}
 use Rattle.rb_syntax.specs.declared.program.Program.{Program}
 use Rattle.rb_syntax.specs.Tree.{Alternates, NoAlternate, Alternate}
-use Rattle.rb_syntax.specs.Plain.{alternates_of, body, procedure_declaration, process_declaration, recovery_block, tree}
+use Rattle.rb_syntax.specs.Plain.{alternates_of, body, expression, procedure_declaration, process_declaration, recovery_block, tree}
 use Rattle.rb_syntax.proofs.Bridge.{recovery_out}
 use Rattle.rb_meaning.specs.Environment.{same_name}
 use Rattle.rb_meaning.specs.Groups.{procedure_among, procedure_named, procedures_of}
-use Rattle.rb_meaning.specs.Step.{alternate_number, alternates_in}
+use Rattle.rb_meaning.specs.Step.{alternate_number, alternates_in, test_in}
 
 -- the element that a look-up in a slice lends
 pub looked_up : {A : Type 0} (xs : List A) (k : ℕ) (r : Option (Bor A)) → MatchOption r (length xs ≤ k) (λ x. (k < length xs) × HoldsAt (λ y. x.now ≡ y) xs k) → option_map (λ x. x.now) r ≡ slice_get xs k
@@ -69,3 +69,7 @@ procedure_there program k x xs process procedures r processes there own found =
     ∙ ap (λ ps. procedure_among x (map procedure_declaration ps)) own
     ∙ ap (λ one. procedure_among x (procedures_of one)) (sym (slice_get-map process_declaration xs k ∙ ap (option_map process_declaration) there))
     ∙ ap (λ ys. procedure_among x (procedures_of (slice_get (map process_declaration ys) k))) processes
+
+-- the acceptance test of a recovery block
+pub test_of : (block : Recovery) → expression (out-Recovery block).test ≡ test_in (recovery_block block)
+test_of block = ap test_in (sym (recovery_out block))

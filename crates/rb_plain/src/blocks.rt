@@ -20,7 +20,7 @@ use crate::items::{Item, put_first};
 use crate::state::State;
 use crate::steps::present;
 use crate::value::value_of;
-use rb_base::{Edition, MOST_OPEN_CALLS};
+use rb_base::{Cause, Edition, MOST_OPEN_CALLS};
 use rb_syntax::{Block, Expr, Name, Procedure, Program, Recovery};
 use std::alloc::Global;
 
@@ -171,26 +171,27 @@ impl<'t, 'a> State<'t, 'a> {
     ) -> Result<(), Halt>
         ensures { Judges (value (state_of self.now).environment (former (state_of self.now).environment (option_map (λ e. e.now) prior.entry)) [] (test_in (recovery_block block.now))) result }
     {
-        let value = match prior {
-            None => present(&self.environment, &block.test)?,
-            Some(prior) => tested(&self.environment, prior, &block.test)?,
-        };
-        if value == 0 { Err(Halt::Stuck) } else { Ok(()) }
+        match tested(&self.environment, prior, &block.test) {
+            Err(_) => Err(Halt::Stuck),
+            Ok(value) => if value == 0 {
+                Err(Halt::Stuck)
+            } else {
+                Ok(())
+            },
+        }
     }
 }
 
-// The value of an acceptance test.
-fn tested(
-    environment: &Environment<'_>,
-    prior: &Environment<'_>,
-    test: &Expr<'_>,
-) -> Result<i64, Halt>
-    ensures { Gives (λ v. v) (value environment.now prior.now [] (expression test.now)) result }
+// The value of an acceptance test, given the variables at the innermost recovery point, if there is one.
+fn tested<'a>(
+    environment: &Environment<'a>,
+    prior: Option<&Environment<'a>>,
+    test: &Expr<'a>,
+) -> Result<i64, Cause>
+    ensures { result ≡ value environment.now (former environment.now (option_map (λ e. e.now) prior.entry)) [] (expression test.now) }
 {
-    match value_of(environment, prior, &Counters::None, test) {
-        Ok(value) => Ok(value),
-        Err(_) => Err(Halt::Stuck),
-    }
+    let prior = prior.unwrap_or(environment);
+    value_of(environment, prior, &Counters::None, test)
 }
 
 // The values of a call's arguments, from left to right.
