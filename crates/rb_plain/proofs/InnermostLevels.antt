@@ -1,5 +1,6 @@
 -- The innermost level, and what is known of a level's recovery block.
-use Rattle.std.proofs.Common.{◌≡◌, ◌+◌, ◌-◌, ◌<◌, ◌&&◌, nat_le, nat_lt, ℕ, true, zero, suc, List, [], ◌∷◌, length, map, Option, Some, None, option_map, Bor, vec_len, refl, sym, ap, ◌∙◌, arith}
+use Rattle.std.proofs.Common.{◌≡◌, ◌+◌, ◌-◌, ◌<◌, ◌&&◌, nat_le, nat_lt, ℕ, true, zero, suc, List, [], ◌∷◌, length, map, take, Option, Some, None, option_map, Bor, vec_len, refl, sym, ap, ◌∙◌, arith}
+use Rattle.std.proofs.Math.Seq.{take-nil}
 use Rattle.std.specs.Option.{option_copied}
 use Rattle.std.specs.List.{slice_get}
 use Rattle.std.proofs.lemmas.Bool.Decides.{nat_tests}
@@ -8,7 +9,7 @@ use Rattle.rb_syntax.specs.declared.statement.Recovery.{Recovery, out-Recovery}
 use Rattle.rb_syntax.specs.Tree.{RecoveryBlock, Recovers}
 use Rattle.rb_syntax.specs.Plain.{alternates_of, recovery_block}
 use Rattle.rb_syntax.proofs.Bridge.{recovery_out}
-use Rattle.rb_world.specs.World.{Level as Open, last_of}
+use Rattle.rb_world.specs.World.{Level as Open, last_of, without_last}
 use Rattle.rb_meaning.specs.Groups.{count_alternates}
 use Rattle.rb_meaning.specs.PlainRun.{EntryPoint}
 use Rattle.rb_plain.specs.declared.process.Level.{Level}
@@ -35,6 +36,20 @@ viewed (Some level) = refl
 pub innermost_is : (levels lent : List Level) (r : Option (Bor Level)) → lent ≡ levels → option_copied r ≡ slice_get lent (length lent - 1) → option_map (λ level. level_of level.now) r ≡ last_of (map level_of levels)
 innermost_is levels lent r same found =
     viewed r ∙ ap (option_map level_of) found ∙ ap (λ xs. option_map level_of (slice_get xs (length xs - 1))) same ∙ last_is levels
+
+-- all levels but the last
+without_at : (levels : List Level) (k : ℕ) → suc k ≡ length levels → map level_of (take k levels) ≡ without_last (map level_of levels)
+without_at [] k e = absurd (omega arith)
+without_at (level ∷ []) zero e = refl
+without_at (level ∷ []) (suc k) e = absurd (omega arith)
+without_at (level ∷ other ∷ levels) zero e = absurd (omega arith)
+without_at (level ∷ other ∷ levels) (suc k) e =
+    ap (λ outer. level_of level ∷ outer) (without_at (other ∷ levels) k (omega arith))
+
+-- the levels that `pop` leaves
+pub popped_is : (levels left : List Level) (n : ℕ) → length levels ≡ n → left ≡ take (n - 1) levels → map level_of left ≡ without_last (map level_of levels)
+popped_is [] left n long e = ap (map level_of) (e ∙ take-nil (n - 1))
+popped_is (level ∷ levels) left n long e = ap (map level_of) e ∙ without_at (level ∷ levels) (n - 1) (omega arith)
 
 -- a level's conversation is that which it was given
 pub facts_conversation : (conversation : Option ℕ) (block : RecoveryBlock) → (facts_with conversation block).conversation ≡ conversation

@@ -1,7 +1,7 @@
 //! The processes of a plain run, with their open levels. Of a level only what later turns ask for is kept: the lengths of the sent
 //! lists, the numbers taken, and the variables at its entry. Nothing is ever put back.
 
-ghost use Rattle.std.specs.Prelude.{◌≡◌, ◌&&◌, map, nat_le, nat_lt, option_map, IfOk};
+ghost use Rattle.std.specs.Prelude.{◌≡◌, ◌&&◌, length, map, nat_le, nat_lt, option_map, IfOk};
 ghost use Rattle.rb_syntax.specs.Plain.{recovery_block, tree};
 ghost use Rattle.rb_world.specs.World.{copy_of, last_of, settled, without_last};
 ghost use Rattle.rb_world.specs.Turn.{freed, lines_freed, stands_at};
@@ -47,10 +47,7 @@ impl<'t, 'a> Level<'t, 'a> {
     ) -> Result<Self, Memory>
         ensures { IfOk result (λ level. level_of level ≡ record { facts = facts_with conversation (recovery_block block.now); alternate = 0; used = 0; copy = entry_point (state_of state.now) }) }
     {
-        let mut sent = Vec::with_capacity(alloc, state.sent.len())?;
-        for values in &state.sent {
-            sent.push(values.len())?;
-        }
+        let sent = lengths_of(alloc, state.sent.as_slice())?;
         let taken = Vec::from_slice(alloc, state.taken.as_slice())?;
         let environment = state.environment.copied(alloc)?;
         Ok(Level {
@@ -158,4 +155,15 @@ fn is_nothing(first: First<'_, '_>) -> bool
         First::Nothing => true,
         _ => false,
     }
+}
+
+// How many values each of these lists has.
+fn lengths_of(alloc: Global, lists: &[Vec<i64>]) -> Result<Vec<usize>, Memory>
+    ensures { IfOk result (λ lengths. lengths.items ≡ map length (map (λ values. values.items) lists.now)) }
+{
+    let mut lengths = Vec::with_capacity(alloc, lists.len())?;
+    for values in lists {
+        lengths.push(values.len())?;
+    }
+    Ok(lengths)
 }
