@@ -1,5 +1,5 @@
 pub mod Calls
-pub mod Frames
+pub mod Innermost
 pub mod Places
 pub mod Spans
 pub mod Records

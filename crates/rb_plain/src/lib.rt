@@ -5,12 +5,14 @@ mod blocks;
 pub mod counter;
 pub mod element;
 pub mod environment;
+mod frames;
 pub mod halt;
 pub mod held;
 pub(crate) mod items;
 pub mod laws;
 pub mod record;
 mod record_line;
+mod room;
 pub mod state;
 mod steps;
 #[cfg(test)]
