@@ -4,3 +4,4 @@ pub mod Innermost
 pub mod Places
 pub mod Spans
 pub mod Records
+pub mod Words
