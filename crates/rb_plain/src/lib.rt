@@ -6,6 +6,7 @@ mod channels;
 pub mod counter;
 pub mod element;
 pub mod environment;
+mod frames;
 pub mod halt;
 pub mod held;
 pub(crate) mod items;
@@ -15,6 +16,7 @@ mod performing;
 mod process;
 pub mod record;
 mod record_line;
+mod room;
 pub mod state;
 mod steps;
 #[cfg(test)]
