@@ -10,3 +10,4 @@ pub mod Changes
 pub mod Lines
 pub mod Traps
 pub mod Starting
+pub mod Skipped

@@ -1,5 +1,5 @@
 -- What is looked up in a vector of the tree, as the definitions over the plain tree look it up.
-use Rattle.std.proofs.Common.{◌≡◌, ◌+◌, ◌-◌, ◌<◌, ◌≤◌, ℕ, zero, suc, Bool, true, false, cond, List, [], ◌∷◌, length, map, Option, Some, None, option_map, Bor, refl, sym, ap, ◌∙◌, arith}
+use Rattle.std.proofs.Common.{◌≡◌, ◌-◌, ◌<◌, ◌≤◌, ℕ, zero, suc, Bool, true, false, cond, List, [], ◌∷◌, length, map, Option, Some, None, option_map, Bor, refl, sym, ap, ◌∙◌, arith}
 use Rattle.std.specs.Option.{MatchOption}
 use Rattle.std.specs.List.{HoldsAt, slice_get, find}
 use Rattle.std.proofs.lemmas.Option.{slice_get-map, slice_get_past, slice_get_read}

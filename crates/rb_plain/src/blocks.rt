@@ -1,11 +1,11 @@
 //! The steps that open blocks and calls, and the acceptance test.
 
-ghost use Rattle.std.specs.Prelude.{◌≡◌, [], ◌∷◌, map, option_map, Some};
-ghost use Rattle.rb_syntax.specs.Plain.{body, command, expression, identifier, otherwise, procedure_declaration, recovery_block, tree};
+ghost use Rattle.std.specs.Prelude.{◌≡◌, [], map, option_map, Some};
+ghost use Rattle.rb_syntax.specs.Plain.{body, expression, identifier, otherwise, procedure_declaration, recovery_block, tree};
 ghost use Rattle.rb_syntax.specs.Tree.{Loop};
 ghost use Rattle.std.specs.List.{find};
 ghost use Rattle.rb_meaning.specs.Environment.{rest_of, same_name};
-ghost use Rattle.rb_meaning.specs.State.{Perform, StartOf, TestOf};
+ghost use Rattle.rb_meaning.specs.State.{Perform, StartOf};
 ghost use Rattle.rb_meaning.specs.Step.{alternate_number, alternates_in, calls_with, chooses, former, invokes, present_value, pushes, pushes_else, repeats, starts_body, test_in, values_in};
 ghost use Rattle.rb_meaning.specs.Value.{and_then, value};
 ghost use Rattle.rb_plain.specs.Comes.{Comes, Gives, Judges};
@@ -173,11 +173,7 @@ impl<'t, 'a> State<'t, 'a> {
     {
         match tested(&self.environment, prior, &block.test) {
             Err(_) => Err(Halt::Stuck),
-            Ok(value) => if value == 0 {
-                Err(Halt::Stuck)
-            } else {
-                Ok(())
-            },
+            Ok(value) => if value == 0 { Err(Halt::Stuck) } else { Ok(()) },
         }
     }
 }

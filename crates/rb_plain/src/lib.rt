@@ -10,6 +10,7 @@ pub mod held;
 pub(crate) mod items;
 pub mod laws;
 mod numbers;
+mod performing;
 pub mod record;
 mod record_line;
 pub mod state;
