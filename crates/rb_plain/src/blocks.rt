@@ -70,7 +70,8 @@ impl<'t, 'a> State<'t, 'a> {
         block: &'t Block<'a>,
         other: &'t Option<Block<'a>>,
     ) -> Result<(), Halt>
-        ensures { Comes (and_then (present_value (state_of self.old).environment (expression test.now)) (chooses edition (body block.now) (otherwise other.now) (state_of self.old).items (state_of self.old))) (state_of self.new) result }
+        ensures { Comes (and_then (present_value (state_of self.old).environment (expression test.now))
+            (chooses edition (body block.now) (otherwise other.now) (state_of self.old).items (state_of self.old))) (state_of self.new) result }
     {
         if present(&self.environment, test)? == 0 {
             self.push_else(alloc, edition, other)
@@ -88,7 +89,8 @@ impl<'t, 'a> State<'t, 'a> {
         block: &'t Block<'a>,
     ) -> Result<(), Halt>
         requires { StandsFirst (Perform (Loop (expression test.now) (body block.now))) (state_of self.old).items }
-        ensures { Comes (and_then (present_value (state_of self.old).environment (expression test.now)) (repeats edition (expression test.now) (body block.now) (rest_of (state_of self.old).items) (state_of self.old))) (state_of self.new) result }
+        ensures { Comes (and_then (present_value (state_of self.old).environment (expression test.now))
+            (repeats edition (expression test.now) (body block.now) (rest_of (state_of self.old).items) (state_of self.old))) (state_of self.new) result }
     {
         if present(&self.environment, test)? == 0 {
             self.skip();
@@ -152,7 +154,8 @@ impl<'t, 'a> State<'t, 'a> {
         alternate: u32,
     ) -> Result<(), Halt>
         requires { StandsFirst (StartOf (recovery_block block.now)) (state_of self.old).items }
-        ensures { Comes (starts_body edition (recovery_block block.now) (rest_of (state_of self.old).items) (state_of self.old) (alternate_number alternate (alternates_in (recovery_block block.now)))) (state_of self.new) result }
+        ensures { Comes (starts_body edition (recovery_block block.now) (rest_of (state_of self.old).items) (state_of self.old)
+            (alternate_number alternate (alternates_in (recovery_block block.now)))) (state_of self.new) result }
     {
         let Some(body) = alternate_of(block, alternate) else {
             return Err(Halt::Stuck);

@@ -71,7 +71,8 @@ impl<'t, 'a> State<'t, 'a> {
         to: &Target<'a>,
         other: &'t Option<Block<'a>>,
     ) -> Result<(), Halt>
-        ensures { Comes (receives (tree program.now) (channel_number (tree program.now) channel.now.text.now) (reference to.now) (otherwise other.now) (state_of self.old).items (state_of self.old) message) (state_of self.new) result }
+        ensures { Comes (receives (tree program.now) (channel_number (tree program.now) channel.now.text.now) (reference to.now) (otherwise other.now)
+            (state_of self.old).items (state_of self.old) message) (state_of self.new) result }
     {
         match message {
             Some(value) => self.take(channel_number(program, channel.text), to, value),

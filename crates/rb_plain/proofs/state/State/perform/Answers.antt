@@ -63,7 +63,8 @@ pub returns-in-Call : goal.returns-in-Call
 returns-in-Call c =
     let is : command c.args.statement.now ≡ Invocation (identifier c.in-Call.procedure) (map expression c.in-Call.arguments.items) = grind (arith, trees) in
     let skipped = state_of c.skip-in-Call.new.self in
-    let Came : List Expr → Type 0 = λ arguments. Comes (invokes (tree c.args.program.now) (identifier c.in-Call.procedure) (map expression arguments) skipped.items skipped) (state_of c.invoke.new.self) c.invoke.result in
+    let Came : List Expr → Type 0 = λ arguments. Comes (invokes (tree c.args.program.now) (identifier c.in-Call.procedure) (map expression arguments) skipped.items skipped)
+    (state_of c.invoke.new.self) c.invoke.result in
     comes_first (tree c.args.program.now) c.args.message (state_of c.args.self.now) (state_of c.skip-in-Call.new.self) (state_of c.invoke.new.self)
     (command c.args.statement.now) _ c.invoke.result c.skip-in-Call.ensures is (subst Came c.deref-in-Call.ensures.value c.invoke.ensures)
 
