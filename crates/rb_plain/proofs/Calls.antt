@@ -4,10 +4,10 @@ use Rattle.std.specs.List.{list_any}
 use Rattle.std.specs.Vec.{with_items}
 use Rattle.std.proofs.lemmas.List.{drop_all, take_all, map-set, get_or-map, length-map, with_items_is}
 use Rattle.rb_meaning.specs.Environment.{Frame, has, stored_in, stored_among, in_running, running_frames}
-use Rattle.rb_plain.specs.declared.environment.Slot.{Slot}
-use Rattle.rb_plain.specs.declared.environment.Call.{Call}
+use Rattle.rb_plain.specs.declared.frames.Slot.{Slot}
+use Rattle.rb_plain.specs.declared.frames.Call.{Call}
 use Rattle.rb_plain.specs.Slots.{frames_of, calls_of}
-use Rattle.rb_plain.proofs.Frames.{frame_in, reverse-more, reverse-set}
+use Rattle.rb_plain.proofs.Innermost.{frame_in, reverse-more, reverse-set}
 
 -- the last comes first
 reverse-last : {A : Type 0} (xs : List A) (n : ℕ) (d : A) → n + 1 ≡ length xs → reverse xs ≡ get_or xs n d ∷ reverse (take n xs)

@@ -1,5 +1,6 @@
+pub mod Binding
 pub mod Calls
-pub mod Frames
+pub mod Innermost
 pub mod Places
 pub mod Spans
 pub mod Records

@@ -8,23 +8,12 @@ ghost use Rattle.rb_meaning.specs.Environment.{same_name, size_of, zeros, frame_
 ghost use Rattle.rb_meaning.specs.Step.{bound_to, open_calls};
 ghost use Rattle.rb_plain.specs.Slots.{stored, frame, frames_of, calls_of, changed, left_of};
 
+use crate::frames::{Call, Slot, call_frame, copied_calls, copied_frame, frame};
+use crate::room::{are_within, room_of_calls, room_of_frame};
 use rb_base::Memory;
-use rb_syntax::{Name, Number, Var};
+use rb_syntax::{Name, Var};
 use std::alloc::Global;
 use std::marker::Model;
-
-/// A variable: its name, and its numbers; a scalar has one.
-#[derive(Drop)]
-pub(crate) struct Slot<'a> {
-    name: &'a [u8],
-    values: Vec<i64>,
-}
-
-/// A call under way, or the main body: its frames, the innermost last.
-#[derive(Drop)]
-pub(crate) struct Call<'a> {
-    frames: Vec<Vec<Slot<'a>>>,
-}
 
 /// The variables of a process: those that it declares, and the frames of its calls, the running call last.
 #[derive(Drop)]
@@ -80,7 +69,9 @@ impl<'a> Environment<'a> {
     pub fn push_frame(&mut self, alloc: Global, variables: &[Var<'a>]) -> Result<(), Memory>
         ensures { OnOk result (self.new ≡ push_frame (frame_of (map declaration variables.now)) self.old) }
     {
-        let Some(call) = self.calls.last_mut() else { return Ok(()) };
+        let Some(call) = self.calls.last_mut() else {
+            return Ok(())
+        };
         call.push(frame(alloc, variables)?)
     }
 
@@ -88,7 +79,9 @@ impl<'a> Environment<'a> {
     pub fn pop_frame(&mut self)
         ensures { self.new ≡ pop_frame self.old }
     {
-        let Some(call) = self.calls.last_mut() else { return };
+        let Some(call) = self.calls.last_mut() else {
+            return
+        };
         call.pop();
     }
 
@@ -177,105 +170,6 @@ impl<'a> Environment<'a> {
     }
 }
 
-/// How many numbers a variable of this size has.
-fn size_of(size: Option<Number>) -> usize
-    ensures { result ≡ size_of size }
-{
-    match size {
-        None => 1,
-        Some(number) => if number.value < 0 {
-            0
-        } else {
-            number.value as usize
-        },
-    }
-}
-
-impl<'a> Slot<'a> {
-    /// A declared variable, with zeros.
-    fn new(alloc: Global, variable: &Var<'a>) -> Result<Self, Memory>
-        ensures { IfOk result (λ slot. stored slot ≡ zeros (declaration variable.now)) }
-    {
-        let values = Vec::from_elem(alloc, 0, size_of(variable.size))?;
-        Ok(Slot {
-            name: variable.name.text,
-            values,
-        })
-    }
-
-    /// Replaces a number, if it is there.
-    fn set(&mut self, index: usize, value: i64)
-        ensures { stored self.new ≡ changed (stored self.old) index value }
-    {
-        if index < self.values.len() {
-            self.values[index] = value;
-        }
-    }
-
-    /// The same variable in memory of its own.
-    fn copied(&self, alloc: Global) -> Result<Self, Memory>
-        ensures { IfOk result (λ slot. stored slot ≡ stored self.now) }
-    {
-        let values = Vec::from_slice(alloc, self.values.as_slice())?;
-        Ok(Slot {
-            name: self.name,
-            values,
-        })
-    }
-}
-
-impl<'a> Call<'a> {
-    /// A frame is the innermost.
-    fn push(&mut self, slots: Vec<Slot<'a>>) -> Result<(), Memory>
-        ensures { OnOk result (frames_of self.new ≡ frame slots.entry.items ∷ frames_of self.old) }
-    {
-        self.frames.push(slots)?;
-        Ok(())
-    }
-
-    /// The innermost frame goes, if there is one.
-    fn pop(&mut self)
-        ensures { frames_of self.new ≡ rest_of (frames_of self.old) }
-    {
-        self.frames.pop();
-    }
-}
-
-/// The frame of these declarations, with zeros.
-fn frame<'a>(alloc: Global, variables: &[Var<'a>]) -> Result<Vec<Slot<'a>>, Memory>
-    ensures { IfOk result (λ slots. frame slots.items ≡ frame_of (map declaration variables.now)) }
-{
-    let mut slots = Vec::with_capacity(alloc, variables.len())?;
-    for variable in variables {
-        slots.push(Slot::new(alloc, variable)?)?;
-    }
-    Ok(slots)
-}
-
-/// The frame of a call: its parameters with these values, and then the variables of its block, with zeros.
-fn call_frame<'a>(
-    alloc: Global,
-    parameters: &[Name<'a>],
-    values: &[i64],
-    variables: &[Var<'a>],
-) -> Result<Vec<Slot<'a>>, Memory>
-    ensures { IfOk result (λ slots. frame slots.items ≡ bound_to (map identifier parameters.now) values.now ++ frame_of (map declaration variables.now)) }
-{
-    let mut slots = Vec::with_capacity(alloc, parameters.len())?;
-    for (place, parameter) in parameters.iter().enumerate() {
-        let value = values.get(place).copied().unwrap_or(0);
-        let values = Vec::from_elem(alloc, value, 1)?;
-        slots.push(Slot {
-            name: parameter.text,
-            values,
-        })?;
-    }
-    for variable in variables {
-        slots.push(Slot::new(alloc, variable)?)?;
-    }
-    Ok(slots)
-}
-
 /// The frames of the running call, the innermost last.
 fn running<'s, 'a>(calls: &'s [Call<'a>]) -> &'s [Vec<Slot<'a>>]
     ensures { reverse (map (λ slots. frame slots.items) result.now) ≡ running_frames (calls_of calls.now) }
@@ -355,83 +249,6 @@ fn set_among(frames: &mut [Vec<Slot<'_>>], name: &[u8], index: usize, value: i64
         }
     }
     false
-}
-
-/// How many words are left of so many behind a frame; none where it has more.
-fn room_of_frame(slots: &[Slot<'_>], most: usize) -> Option<usize>
-    ensures { result ≡ left_of most (frame_words (frame slots.now)) }
-{
-    let mut left = most;
-    for slot in slots {
-        left = left.checked_sub(slot.values.len())?;
-    }
-    Some(left)
-}
-
-/// The same behind the frames of a call.
-fn room_of_frames(frames: &[Vec<Slot<'_>>], most: usize) -> Option<usize>
-    ensures { result ≡ left_of most (frames_words (reverse (map (λ slots. frame slots.items) frames.now))) }
-{
-    let mut left = most;
-    for slots in frames {
-        left = room_of_frame(slots, left)?;
-    }
-    Some(left)
-}
-
-/// The same behind all calls.
-fn room_of_calls(calls: &[Call<'_>], most: usize) -> Option<usize>
-    ensures { result ≡ left_of most (sum_by frames_words (calls_of calls.now)) }
-{
-    let mut left = most;
-    for call in calls {
-        left = room_of_frames(&call.frames, left)?;
-    }
-    Some(left)
-}
-
-/// Whether these declarations have no more words than so many.
-fn are_within(variables: &[Var<'_>], most: usize) -> bool
-    ensures { result ≡ nat_le (frame_words (frame_of (map declaration variables.now))) most }
-{
-    let mut left = most;
-    for variable in variables {
-        match left.checked_sub(size_of(variable.size)) {
-            Some(less) => left = less,
-            None => return false,
-        }
-    }
-    true
-}
-
-fn copied_frame<'a>(alloc: Global, slots: &[Slot<'a>]) -> Result<Vec<Slot<'a>>, Memory>
-    ensures { IfOk result (λ copies. frame copies.items ≡ frame slots.now) }
-{
-    let mut copies = Vec::with_capacity(alloc, slots.len())?;
-    for slot in slots {
-        copies.push(slot.copied(alloc)?)?;
-    }
-    Ok(copies)
-}
-
-fn copied_call<'a>(alloc: Global, call: &Call<'a>) -> Result<Call<'a>, Memory>
-    ensures { IfOk result (λ copy. frames_of copy ≡ frames_of call.now) }
-{
-    let mut frames = Vec::with_capacity(alloc, call.frames.len())?;
-    for slots in &call.frames {
-        frames.push(copied_frame(alloc, slots)?)?;
-    }
-    Ok(Call { frames })
-}
-
-fn copied_calls<'a>(alloc: Global, calls: &[Call<'a>]) -> Result<Vec<Call<'a>>, Memory>
-    ensures { IfOk result (λ copies. calls_of copies.items ≡ calls_of calls.now) }
-{
-    let mut copies = Vec::with_capacity(alloc, calls.len())?;
-    for call in calls {
-        copies.push(copied_call(alloc, call)?)?;
-    }
-    Ok(copies)
 }
 
 /// Word number `at` of a frame; 0 beyond it.

@@ -5,6 +5,7 @@ mod blocks;
 pub mod counter;
 pub mod element;
 pub mod environment;
+mod frames;
 pub mod halt;
 pub mod held;
 pub(crate) mod items;
@@ -13,6 +14,7 @@ mod numbers;
 mod performing;
 pub mod record;
 mod record_line;
+mod room;
 pub mod state;
 mod steps;
 #[cfg(test)]

@@ -1,6 +1,6 @@
 use Rattle.std.proofs.Common.{◌≡◌, map}
 use Rattle.rb_plain.specs.Slots.{frame}
-use Rattle.rb_plain.proofs.Frames.{IsFurtherOut}
+use Rattle.rb_plain.proofs.Innermost.{IsFurtherOut}
 use Rattle.rb_plain.proofs.environment.set_among.Given as goal
 
 abbrev pub invariant-loop-left : goal.invariant-loop-left

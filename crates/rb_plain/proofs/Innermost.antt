@@ -4,7 +4,7 @@ use Rattle.std.specs.List.{list_any}
 use Rattle.std.proofs.lemmas.List.{append-nil, append_assoc, reverse-append, take_all, drop_all, take_more, drop_more, set_split, map-set, set-get_or, get_or-map, length-map, with_items_is}
 use Rattle.std.specs.Vec.{with_items}
 use Rattle.rb_meaning.specs.Environment.{Frame, has, stored_in, stored_among}
-use Rattle.rb_plain.specs.declared.environment.Slot.{Slot}
+use Rattle.rb_plain.specs.declared.frames.Slot.{Slot}
 use Rattle.rb_plain.specs.Slots.{frame}
 use Rattle.rb_plain.proofs.Places.{stored_in-absent}
 
