@@ -1,8 +1,7 @@
 -- What an acceptance test says, by the value that was found.
-use Rattle.std.proofs.Common.{◌≡◌, ℤ, true, false, Ok, Err, sym, ◌∙◌, ap, subst, w64, of_z, FitsSigned}
+use Rattle.std.proofs.Common.{◌≡◌, ℤ, true, false, Ok, Err, subst, w64, of_z, FitsSigned}
 use Rattle.rb_base.specs.declared.event.Cause.{Cause}
 use Rattle.rb_meaning.specs.Value.{Outcome, is_zero}
-use Rattle.rb_plain.specs.Comes.{Judges}
 use Rattle.rb_plain.proofs.Spans.{is_zero_bits, not_zero_bits}
 
 -- the value is not 0

@@ -14,3 +14,4 @@ pub mod Lines
 pub mod Traps
 pub mod Starting
 pub mod Words
+pub mod Skipped

@@ -19,12 +19,15 @@ abbrev pub IsTrap : {A : Type 0} → Result A Cause → Type 0
 IsTrap outcome = (cause : Cause) × (outcome ≡ Err cause)
 
 -- too many words are the trap `stack`
-words_overflow : (edition : Edition) (env : Environment) (s : State) (most : ℕ) → most ≡ most_words edition → true ≡ nat_lt most (words env) → IsTrap (within_words edition env s)
+words_overflow : (edition : Edition) (env : Environment) (s : State) (most : ℕ)
+    → most ≡ most_words edition → true ≡ nat_lt most (words env) → IsTrap (within_words edition env s)
 words_overflow edition env s most limit over =
     (Stack, ap (λ above. cond above (Err Stack) (Ok (with_environment env s))) (ap (λ n. nat_lt n (words env)) (sym limit) ∙ sym over))
 
 -- a block whose variables would be too many words
-pub block_overflows : (edition : Edition) (block : Block) (rest : List Item) (s : State) (most : ℕ) (vars : List Var) → most ≡ most_words edition → vars ≡ block.vars.items → true ≡ nat_lt most (words (push_frame (frame_of (map declaration vars)) s.environment)) → IsTrap (pushes edition (body block) rest s)
+pub block_overflows : (edition : Edition) (block : Block) (rest : List Item) (s : State) (most : ℕ) (vars : List Var)
+    → most ≡ most_words edition → vars ≡ block.vars.items
+    → true ≡ nat_lt most (words (push_frame (frame_of (map declaration vars)) s.environment)) → IsTrap (pushes edition (body block) rest s)
 block_overflows edition block rest s most vars limit own over =
     let pushed : List Var → Environment = λ those. push_frame (frame_of (map declaration those)) s.environment in
     words_overflow edition (pushed block.vars.items) (continue_with (performed (commands_of block.body.items) (EndBlock ∷ rest)) s) most limit
@@ -43,7 +46,8 @@ abbrev call_pushed : List Name → List ℤ → List Var → Environment → Env
 call_pushed names values vars env = push_call (bound_to (map identifier names) values ++ frame_of (map declaration vars)) env
 
 -- a call where the most calls are open already
-pub call_full : (edition : Edition) (procedure : Procedure) (rest : List Item) (s : State) (values : List ℤ) → most_calls ≤ open_calls s.environment → IsTrap (calls_with edition (Some (procedure_declaration procedure)) rest s values)
+pub call_full : (edition : Edition) (procedure : Procedure) (rest : List Item) (s : State) (values : List ℤ)
+    → most_calls ≤ open_calls s.environment → IsTrap (calls_with edition (Some (procedure_declaration procedure)) rest s values)
 call_full edition procedure rest s values full =
     let there : Result State Cause = within_words edition (call_pushed procedure.params.items values procedure.block.vars.items s.environment) (called procedure rest s) in
     (Calls, ap (λ b. cond b (Err Calls) there) (is_within most_calls (open_calls s.environment) full))
@@ -54,7 +58,9 @@ either_trap true cause rest t = (cause, refl)
 either_trap false cause rest t = t
 
 -- a call whose parameters and variables would be too many words
-pub call_overflows : (edition : Edition) (procedure : Procedure) (rest : List Item) (s : State) (values : List ℤ) (most : ℕ) (names : List Name) (vars : List Var) → most ≡ most_words edition → names ≡ procedure.params.items → vars ≡ procedure.block.vars.items → true ≡ nat_lt most (words (call_pushed names values vars s.environment)) → IsTrap (calls_with edition (Some (procedure_declaration procedure)) rest s values)
+pub call_overflows : (edition : Edition) (procedure : Procedure) (rest : List Item) (s : State) (values : List ℤ) (most : ℕ) (names : List Name) (vars : List Var)
+    → most ≡ most_words edition → names ≡ procedure.params.items → vars ≡ procedure.block.vars.items
+    → true ≡ nat_lt most (words (call_pushed names values vars s.environment)) → IsTrap (calls_with edition (Some (procedure_declaration procedure)) rest s values)
 call_overflows edition procedure rest s values most names vars limit own declared over =
     let pushed : List Name → List Var → Environment = λ those these. call_pushed those values these s.environment in
     let there : Result State Cause = within_words edition (pushed procedure.params.items procedure.block.vars.items) (called procedure rest s) in

@@ -1,11 +1,11 @@
 //! The steps that open blocks and calls, and the acceptance test.
 
-ghost use Rattle.std.specs.Prelude.{◌≡◌, [], ◌∷◌, map, option_map, Some};
-ghost use Rattle.rb_syntax.specs.Plain.{body, command, expression, identifier, otherwise, procedure_declaration, recovery_block, tree};
+ghost use Rattle.std.specs.Prelude.{◌≡◌, [], map, option_map, Some};
+ghost use Rattle.rb_syntax.specs.Plain.{body, expression, identifier, otherwise, procedure_declaration, recovery_block, tree};
 ghost use Rattle.rb_syntax.specs.Tree.{Loop};
 ghost use Rattle.std.specs.List.{find};
 ghost use Rattle.rb_meaning.specs.Environment.{rest_of, same_name};
-ghost use Rattle.rb_meaning.specs.State.{Perform, StartOf, TestOf};
+ghost use Rattle.rb_meaning.specs.State.{Perform, StartOf};
 ghost use Rattle.rb_meaning.specs.Step.{alternate_number, alternates_in, calls_with, chooses, former, invokes, present_value, pushes, pushes_else, repeats, starts_body, test_in, values_in};
 ghost use Rattle.rb_meaning.specs.Value.{and_then, value};
 ghost use Rattle.rb_plain.specs.Comes.{Comes, Gives, Judges};
@@ -70,7 +70,8 @@ impl<'t, 'a> State<'t, 'a> {
         block: &'t Block<'a>,
         other: &'t Option<Block<'a>>,
     ) -> Result<(), Halt>
-        ensures { Comes (and_then (present_value (state_of self.old).environment (expression test.now)) (chooses edition (body block.now) (otherwise other.now) (state_of self.old).items (state_of self.old))) (state_of self.new) result }
+        ensures { Comes (and_then (present_value (state_of self.old).environment (expression test.now))
+            (chooses edition (body block.now) (otherwise other.now) (state_of self.old).items (state_of self.old))) (state_of self.new) result }
     {
         if present(&self.environment, test)? == 0 {
             self.push_else(alloc, edition, other)
@@ -88,7 +89,8 @@ impl<'t, 'a> State<'t, 'a> {
         block: &'t Block<'a>,
     ) -> Result<(), Halt>
         requires { StandsFirst (Perform (Loop (expression test.now) (body block.now))) (state_of self.old).items }
-        ensures { Comes (and_then (present_value (state_of self.old).environment (expression test.now)) (repeats edition (expression test.now) (body block.now) (rest_of (state_of self.old).items) (state_of self.old))) (state_of self.new) result }
+        ensures { Comes (and_then (present_value (state_of self.old).environment (expression test.now))
+            (repeats edition (expression test.now) (body block.now) (rest_of (state_of self.old).items) (state_of self.old))) (state_of self.new) result }
     {
         if present(&self.environment, test)? == 0 {
             self.skip();
@@ -152,7 +154,8 @@ impl<'t, 'a> State<'t, 'a> {
         alternate: u32,
     ) -> Result<(), Halt>
         requires { StandsFirst (StartOf (recovery_block block.now)) (state_of self.old).items }
-        ensures { Comes (starts_body edition (recovery_block block.now) (rest_of (state_of self.old).items) (state_of self.old) (alternate_number alternate (alternates_in (recovery_block block.now)))) (state_of self.new) result }
+        ensures { Comes (starts_body edition (recovery_block block.now) (rest_of (state_of self.old).items) (state_of self.old)
+            (alternate_number alternate (alternates_in (recovery_block block.now)))) (state_of self.new) result }
     {
         let Some(body) = alternate_of(block, alternate) else {
             return Err(Halt::Stuck);
@@ -173,11 +176,7 @@ impl<'t, 'a> State<'t, 'a> {
     {
         match tested(&self.environment, prior, &block.test) {
             Err(_) => Err(Halt::Stuck),
-            Ok(value) => if value == 0 {
-                Err(Halt::Stuck)
-            } else {
-                Ok(())
-            },
+            Ok(value) => if value == 0 { Err(Halt::Stuck) } else { Ok(()) },
         }
     }
 }

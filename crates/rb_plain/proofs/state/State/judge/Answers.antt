@@ -1,4 +1,4 @@
-use Rattle.std.proofs.Common.{Option, option_map, sym, ap, ◌∙◌, [], rules}
+use Rattle.std.proofs.Common.{option_map, sym, ap, ◌∙◌, [], rules}
 use Rattle.rb_syntax.specs.Tree.{Expression}
 use Rattle.rb_meaning.specs.Step.{former}
 use Rattle.rb_meaning.specs.Value.{Outcome, value}
