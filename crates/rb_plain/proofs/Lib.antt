@@ -15,3 +15,5 @@ pub mod Traps
 pub mod Starting
 pub mod Words
 pub mod Skipped
+pub mod BlockFacts
+pub mod TestLines

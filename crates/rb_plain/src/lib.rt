@@ -11,6 +11,7 @@ pub mod halt;
 pub mod held;
 pub(crate) mod items;
 pub mod laws;
+mod moves;
 mod numbers;
 mod performing;
 mod process;
@@ -19,7 +20,9 @@ mod record_line;
 mod room;
 pub mod state;
 mod steps;
+mod test_line;
 #[cfg(test)]
 mod tests;
 mod turn;
 pub mod value;
+mod want;
