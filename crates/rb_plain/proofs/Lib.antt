@@ -17,3 +17,5 @@ pub mod Words
 pub mod Skipped
 pub mod BlockFacts
 pub mod TestLines
+pub mod MovedProcesses
+pub mod AcceptedTests
