@@ -9,7 +9,7 @@ ghost use Rattle.rb_meaning.specs.Step.{bound_to, open_calls};
 ghost use Rattle.rb_plain.specs.Slots.{stored, frame, frames_of, calls_of, changed, left_of};
 
 use crate::frames::{Call, Slot, call_frame, copied_calls, copied_frame, frame};
-use crate::room::{room_of_calls, room_of_declared, room_of_frame};
+use crate::room::{room_of_call, room_of_calls, room_of_declared, room_of_frame};
 use rb_base::Memory;
 use rb_syntax::{Name, Var};
 use std::alloc::Global;
@@ -134,6 +134,7 @@ impl<'a> Environment<'a> {
     }
 
     /// Whether a call with so many parameters and these variables would bring the words above so many.
+    #[tactic(auto, using(crate::proofs::Words::call_words))]
     pub fn call_overflows(
         &self,
         parameters: &[Name<'a>],
@@ -144,9 +145,9 @@ impl<'a> Environment<'a> {
         ensures { result ≡ nat_lt most (words (push_call (bound_to (map identifier parameters.now) values.now ++ frame_of (map declaration variables.now)) self.now)) }
     {
         let _ = values;
-        match self.room(most).and_then(|left| left.checked_sub(parameters.len())) {
+        match self.room(most) {
             None => true,
-            Some(left) => room_of_declared(variables, left).is_none(),
+            Some(left) => room_of_call(parameters, variables, left).is_none(),
         }
     }
 
@@ -254,10 +255,10 @@ fn word_of(slots: &[Slot<'_>], at: usize) -> i64
 {
     let mut left = at;
     for slot in slots {
-        match slot.values.get(left) {
-            Some(value) => return *value,
-            None => left -= slot.values.len(),
+        if let Some(value) = slot.values.get(left) {
+            return *value;
         }
+        left -= slot.values.len();
     }
     0
 }

@@ -123,7 +123,11 @@ pub(crate) fn frame<'a>(alloc: Global, variables: &[Var<'a>]) -> Result<Vec<Slot
 }
 
 /// The parameters of a call with these values; one left over is 0.
-fn bound<'a>(alloc: Global, parameters: &[Name<'a>], values: &[i64]) -> Result<Vec<Slot<'a>>, Memory>
+fn bound<'a>(
+    alloc: Global,
+    parameters: &[Name<'a>],
+    values: &[i64],
+) -> Result<Vec<Slot<'a>>, Memory>
     ensures { IfOk result (λ slots. frame slots.items ≡ bound_to (map identifier parameters.now) values.now) }
 {
     let mut slots = Vec::with_capacity(alloc, parameters.len())?;
