@@ -1,7 +1,8 @@
 -- What is left of so many words, behind one part of an environment after the other.
 use Rattle.std.proofs.Common.{◌≡◌, ◌+◌, ◌-◌, ◌<◌, ◌≤◌, ℕ, ℤ, pos, Bool, true, false, List, [], ◌∷◌, ◌++◌, drop, get_or, length, map, reverse, sum_by, cond, nat_le, Some, None, refl, sym, ap, ◌∙◌, arith}
+use Rattle.std.specs.List.{flat_map}
 use Rattle.std.proofs.lemmas.Bool.Decides.{nat_tests}
-use Rattle.std.proofs.lemmas.List.{drop_all, get_or-map, get_or_default, length-map, length-replicate}
+use Rattle.std.proofs.lemmas.List.{drop_all, drop_more, get_or_append_left, get_or-append_right, get_or-map, get_or_default, length-map, length-replicate}
 use Rattle.std.proofs.lemmas.List.Sums.{sum_by-drop_more, sum_by-cons}
 use Rattle.std.proofs.lemmas.List.Sorted.{sum_by-IsPermutation, IsPermutation-reverse}
 use Rattle.rb_syntax.specs.declared.statement.Var.{Var}
@@ -10,7 +11,8 @@ use Rattle.rb_syntax.specs.Tree.{Identifier}
 use Rattle.rb_syntax.specs.Plain.{declaration, identifier}
 use Rattle.rb_meaning.specs.Environment.{Stored, Frame, Environment, size_of, zeros, frame_words, frames_words, words, push_call}
 use Rattle.rb_meaning.specs.Step.{bound_to}
-use Rattle.rb_plain.specs.Slots.{left_of}
+use Rattle.rb_plain.specs.declared.frames.Slot.{Slot}
+use Rattle.rb_plain.specs.Slots.{stored, frame, left_of}
 
 -- words that are there are taken away
 left_more : (left w rest : ℕ) → w ≤ left → left_of (left - w) rest ≡ left_of left (w + rest)
@@ -109,3 +111,30 @@ pushed_words f env =
 pub call_words : (ps : List Name) (vs : List ℤ) (f : Frame) (env : Environment)
     → words (push_call (bound_to (map identifier ps) vs ++ f) env) ≡ words env + (length ps + frame_words f)
 call_words ps vs f env = pushed_words (bound_to (map identifier ps) vs ++ f) env ∙ ap (λ n. words env + n) (bound_words ps vs f)
+
+-- the numbers of the variables that are left are those of the next one and those of the others
+next_numbers : (slots : List Slot) (k : ℕ) (slot : Slot) → k < length slots → slot ≡ get_or slots k slot
+    → flat_map (λ stored. stored.values) (drop k (frame slots)) ≡ slot.values.items ++ flat_map (λ stored. stored.values) (drop (k + 1) (frame slots))
+next_numbers slots k slot here is =
+    ap (flat_map (λ (s : Stored). s.values))
+    (drop_more (frame slots) k (stored slot) (omega (arith, length-map slots stored)) ∙ ap (λ s. s ∷ drop (k + 1) (frame slots)) (sym (item_at stored slots k slot here is)))
+
+-- a number of the next variable
+pub number_here : (slots : List Slot) (k i : ℕ) (slot : Slot) (v : ℤ) → k < length slots → slot ≡ get_or slots k slot → i < length slot.values.items
+    → v ≡ get_or slot.values.items i (pos 0) → v ≡ get_or (flat_map (λ stored. stored.values) (drop k (frame slots))) i (pos 0)
+number_here slots k i slot v here is within e =
+    e
+    ∙ sym (get_or_append_left slot.values.items (flat_map (λ (s : Stored). s.values) (drop (k + 1) (frame slots))) (pos 0) i within)
+    ∙ ap (λ ns. get_or ns i (pos 0)) (sym (next_numbers slots k slot here is))
+
+-- a number of the others
+pub number_later : (slots : List Slot) (k i w : ℕ) (slot : Slot) → k < length slots → slot ≡ get_or slots k slot → length slot.values.items ≡ w → w ≤ i
+    → get_or (flat_map (λ stored. stored.values) (drop (k + 1) (frame slots))) (i - w) (pos 0) ≡ get_or (flat_map (λ stored. stored.values) (drop k (frame slots))) i (pos 0)
+number_later slots k i w slot here is many beyond =
+    sym (get_or-append_right slot.values.items (flat_map (λ (s : Stored). s.values) (drop (k + 1) (frame slots))) w i (pos 0) many beyond)
+    ∙ ap (λ ns. get_or ns i (pos 0)) (sym (next_numbers slots k slot here is))
+
+-- no variable is left
+pub number_beyond : (slots : List Slot) (k i : ℕ) → length slots ≤ k → pos 0 ≡ get_or (flat_map (λ stored. stored.values) (drop k (frame slots))) i (pos 0)
+number_beyond slots k i h =
+    ap (λ (fs : Frame). get_or (flat_map (λ (s : Stored). s.values) fs) i (pos 0)) (sym (drop_all k (frame slots) (omega (arith, length-map slots stored))))
