@@ -13,7 +13,7 @@ returns-in-Some c =
     let found = c.in-Some.ensures.lookup.3 in
     let within : c.loop-slot.left < length slot.values.items = omega (arith, found.0, ap length c.deref.ensures.value) in
     let value : c.in-Some.value.now ≡ get_or slot.values.items c.loop-slot.left (pos 0) =
-        found.1 (pos 0) ∙ ap (λ ns. get_or ns c.loop-slot.left (pos 0)) c.deref.ensures.value in
+    found.1 (pos 0) ∙ ap (λ ns. get_or ns c.loop-slot.left (pos 0)) c.deref.ensures.value in
     to_z-of_z w64 c.in-Some.value.now (search rules)
     ∙ number_here c.args.slots.now c.loop-slot.slot-index c.loop-slot.left slot c.in-Some.value.now c.loop-slot-test.true c.slot-item.is within value
     ∙ c.loop-slot.invariant
