@@ -8,7 +8,7 @@ ghost use Rattle.rb_plain.specs.Slots.{stored, frame, frames_of, calls_of, chang
 
 use crate::element::number_at;
 use rb_base::Memory;
-use rb_syntax::{Name, Number, Var};
+use rb_syntax::{Name, Var};
 use std::alloc::Global;
 
 /// A variable: its name, and its numbers; a scalar has one.
@@ -24,11 +24,11 @@ pub(crate) struct Call<'a> {
     pub(crate) frames: Vec<Vec<Slot<'a>>>,
 }
 
-/// How many numbers a variable of this size has.
-pub(crate) fn size_of(size: Option<Number>) -> usize
-    ensures { result ≡ size_of size }
+/// How many numbers a variable has.
+pub(crate) fn size_of(variable: &Var<'_>) -> usize
+    ensures { result ≡ size_of variable.now.size }
 {
-    match size {
+    match variable.size {
         None => 1,
         Some(number) => if number.value < 0 {
             0
@@ -43,7 +43,7 @@ impl<'a> Slot<'a> {
     pub(crate) fn new(alloc: Global, variable: &Var<'a>) -> Result<Self, Memory>
         ensures { IfOk result (λ slot. stored slot ≡ zeros (declaration variable.now)) }
     {
-        let values = Vec::from_elem(alloc, 0, size_of(variable.size))?;
+        let values = Vec::from_elem(alloc, 0, size_of(variable))?;
         Ok(Slot {
             name: variable.name.text,
             values,
@@ -83,7 +83,7 @@ impl<'a> Slot<'a> {
 }
 
 impl<'a> Call<'a> {
-    /// A frame is the innermost.
+    /// Puts a frame in as the innermost.
     pub(crate) fn push(&mut self, slots: Vec<Slot<'a>>) -> Result<(), Memory>
         ensures { OnOk result (frames_of self.new ≡ frame slots.entry.items ∷ frames_of self.old) }
     {
@@ -91,7 +91,7 @@ impl<'a> Call<'a> {
         Ok(())
     }
 
-    /// The innermost frame goes, if there is one.
+    /// Takes the innermost frame out, if there is one.
     pub(crate) fn pop(&mut self)
         ensures { frames_of self.new ≡ rest_of (frames_of self.old) }
     {
@@ -99,7 +99,7 @@ impl<'a> Call<'a> {
     }
 }
 
-/// The variables of these declarations stand behind those of a frame, with zeros.
+/// Puts the variables of these declarations behind those of a frame, with zeros.
 fn push_zeros<'a>(
     slots: &mut Vec<Slot<'a>>,
     alloc: Global,
@@ -123,7 +123,11 @@ pub(crate) fn frame<'a>(alloc: Global, variables: &[Var<'a>]) -> Result<Vec<Slot
 }
 
 /// The parameters of a call with these values; one left over is 0.
-fn bound<'a>(alloc: Global, parameters: &[Name<'a>], values: &[i64]) -> Result<Vec<Slot<'a>>, Memory>
+fn bound<'a>(
+    alloc: Global,
+    parameters: &[Name<'a>],
+    values: &[i64],
+) -> Result<Vec<Slot<'a>>, Memory>
     ensures { IfOk result (λ slots. frame slots.items ≡ bound_to (map identifier parameters.now) values.now) }
 {
     let mut slots = Vec::with_capacity(alloc, parameters.len())?;
