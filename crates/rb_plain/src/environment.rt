@@ -9,7 +9,7 @@ ghost use Rattle.rb_meaning.specs.Step.{bound_to, open_calls};
 ghost use Rattle.rb_plain.specs.Slots.{stored, frame, frames_of, calls_of, changed, left_of};
 
 use crate::frames::{Call, Slot, call_frame, copied_calls, copied_frame, frame};
-use crate::room::{are_within, room_of_calls, room_of_frame};
+use crate::room::{room_of_calls, room_of_declared, room_of_frame};
 use rb_base::Memory;
 use rb_syntax::{Name, Var};
 use std::alloc::Global;
@@ -129,7 +129,7 @@ impl<'a> Environment<'a> {
     {
         match self.room(most) {
             None => true,
-            Some(left) => !self.calls.is_empty() && !are_within(variables, left),
+            Some(left) => !self.calls.is_empty() && room_of_declared(variables, left).is_none(),
         }
     }
 
@@ -144,12 +144,9 @@ impl<'a> Environment<'a> {
         ensures { result ≡ nat_lt most (words (push_call (bound_to (map identifier parameters.now) values.now ++ frame_of (map declaration variables.now)) self.now)) }
     {
         let _ = values;
-        match self.room(most) {
-            Some(left) if parameters.len() <= left => !are_within(
-                variables,
-                left - parameters.len(),
-            ),
-            _ => true,
+        match self.room(most).and_then(|left| left.checked_sub(parameters.len())) {
+            None => true,
+            Some(left) => room_of_declared(variables, left).is_none(),
         }
     }
 

@@ -8,7 +8,7 @@ ghost use Rattle.rb_plain.specs.Slots.{stored, frame, frames_of, calls_of, chang
 
 use crate::element::number_at;
 use rb_base::Memory;
-use rb_syntax::{Name, Number, Var};
+use rb_syntax::{Name, Var};
 use std::alloc::Global;
 
 /// A variable: its name, and its numbers; a scalar has one.
@@ -24,11 +24,11 @@ pub(crate) struct Call<'a> {
     pub(crate) frames: Vec<Vec<Slot<'a>>>,
 }
 
-/// How many numbers a variable of this size has.
-pub(crate) fn size_of(size: Option<Number>) -> usize
-    ensures { result ≡ size_of size }
+/// How many numbers a variable has.
+pub(crate) fn size_of(variable: &Var<'_>) -> usize
+    ensures { result ≡ size_of variable.now.size }
 {
-    match size {
+    match variable.size {
         None => 1,
         Some(number) => if number.value < 0 {
             0
@@ -43,7 +43,7 @@ impl<'a> Slot<'a> {
     pub(crate) fn new(alloc: Global, variable: &Var<'a>) -> Result<Self, Memory>
         ensures { IfOk result (λ slot. stored slot ≡ zeros (declaration variable.now)) }
     {
-        let values = Vec::from_elem(alloc, 0, size_of(variable.size))?;
+        let values = Vec::from_elem(alloc, 0, size_of(variable))?;
         Ok(Slot {
             name: variable.name.text,
             values,

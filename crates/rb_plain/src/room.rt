@@ -1,6 +1,6 @@
 //! How many words are left behind the frames of an environment.
 
-ghost use Rattle.std.specs.Prelude.{◌≡◌, map, reverse, sum_by, nat_le};
+ghost use Rattle.std.specs.Prelude.{◌≡◌, map, reverse, sum_by};
 ghost use Rattle.rb_syntax.specs.Plain.{declaration};
 ghost use Rattle.rb_meaning.specs.Environment.{frame_of, frame_words, frames_words};
 ghost use Rattle.rb_plain.specs.Slots.{frame, calls_of, left_of};
@@ -41,16 +41,13 @@ pub(crate) fn room_of_calls(calls: &[Call<'_>], most: usize) -> Option<usize>
     Some(left)
 }
 
-/// Whether these declarations have no more words than so many.
-pub(crate) fn are_within(variables: &[Var<'_>], most: usize) -> bool
-    ensures { result ≡ nat_le (frame_words (frame_of (map declaration variables.now))) most }
+/// The same behind the variables of these declarations.
+pub(crate) fn room_of_declared(variables: &[Var<'_>], most: usize) -> Option<usize>
+    ensures { result ≡ left_of most (frame_words (frame_of (map declaration variables.now))) }
 {
     let mut left = most;
     for variable in variables {
-        match left.checked_sub(size_of(variable.size)) {
-            Some(less) => left = less,
-            None => return false,
-        }
+        left = left.checked_sub(size_of(variable))?;
     }
-    true
+    Some(left)
 }
