@@ -1,13 +1,18 @@
 -- What is left of so many words, behind one part of an environment after the other.
-use Rattle.std.proofs.Common.{◌≡◌, ◌+◌, ◌-◌, ◌<◌, ◌≤◌, ℕ, pos, Bool, true, false, List, [], drop, get_or, length, map, reverse, sum_by, cond, nat_le, Some, None, refl, sym, ap, ◌∙◌, arith}
+use Rattle.std.proofs.Common.{◌≡◌, ◌+◌, ◌-◌, ◌<◌, ◌≤◌, ℕ, ℤ, pos, Bool, true, false, List, [], ◌∷◌, ◌++◌, drop, get_or, length, map, reverse, sum_by, cond, nat_le, Some, None, refl, sym, ap, ◌∙◌, arith}
+use Rattle.std.specs.List.{flat_map}
 use Rattle.std.proofs.lemmas.Bool.Decides.{nat_tests}
-use Rattle.std.proofs.lemmas.List.{drop_all, get_or-map, get_or_default, length-map, length-replicate}
-use Rattle.std.proofs.lemmas.List.Sums.{sum_by-drop_more}
+use Rattle.std.proofs.lemmas.List.{drop_all, drop_more, get_or_append_left, get_or-append_right, get_or-map, get_or_default, length-map, length-replicate}
+use Rattle.std.proofs.lemmas.List.Sums.{sum_by-drop_more, sum_by-cons}
 use Rattle.std.proofs.lemmas.List.Sorted.{sum_by-IsPermutation, IsPermutation-reverse}
 use Rattle.rb_syntax.specs.declared.statement.Var.{Var}
-use Rattle.rb_syntax.specs.Plain.{declaration}
-use Rattle.rb_meaning.specs.Environment.{size_of, zeros}
-use Rattle.rb_plain.specs.Slots.{left_of}
+use Rattle.rb_syntax.specs.declared.expression.Name.{Name}
+use Rattle.rb_syntax.specs.Tree.{Identifier}
+use Rattle.rb_syntax.specs.Plain.{declaration, identifier}
+use Rattle.rb_meaning.specs.Environment.{Stored, Frame, Environment, size_of, zeros, frame_words, frames_words, words, push_call}
+use Rattle.rb_meaning.specs.Step.{bound_to}
+use Rattle.rb_plain.specs.declared.frames.Slot.{Slot}
+use Rattle.rb_plain.specs.Slots.{stored, frame, left_of}
 
 -- words that are there are taken away
 left_more : (left w rest : ℕ) → w ≤ left → left_of (left - w) rest ≡ left_of left (w + rest)
@@ -75,3 +80,61 @@ declared_at vs k d here = item_at declaration vs k (get_or vs k d) here (get_or_
 -- and has as many words as its size
 pub declared_words : (variable : Var) (n : ℕ) → n ≡ size_of variable.size → n ≡ length (zeros (declaration variable)).values
 declared_words variable n e = e ∙ sym (length-replicate (size_of variable.size) (pos 0))
+
+-- one variable more in front of a frame
+frame_words-cons : (s : Stored) (f : Frame) → frame_words (s ∷ f) ≡ length s.values + frame_words f
+frame_words-cons s f = sum_by-cons (λ (one : Stored). length one.values) s f
+
+-- a parameter has one word
+bound_words-each : (xs : List Identifier) (vs : List ℤ) (f : Frame) → frame_words (bound_to xs vs ++ f) ≡ length xs + frame_words f
+bound_words-each [] vs f = grind arith
+bound_words-each (x ∷ xs) [] f =
+    frame_words-cons (record { name = x.text; values = pos 0 ∷ [] }) (bound_to xs [] ++ f)
+    ∙ ap (λ n. 1 + n) (bound_words-each xs [] f)
+    ∙ grind arith
+bound_words-each (x ∷ xs) (v ∷ vs) f =
+    frame_words-cons (record { name = x.text; values = v ∷ [] }) (bound_to xs vs ++ f)
+    ∙ ap (λ n. 1 + n) (bound_words-each xs vs f)
+    ∙ grind arith
+
+-- the words of the frame of a call, whatever the values
+bound_words : (ps : List Name) (vs : List ℤ) (f : Frame) → frame_words (bound_to (map identifier ps) vs ++ f) ≡ length ps + frame_words f
+bound_words ps vs f = bound_words-each (map identifier ps) vs f ∙ ap (λ n. n + frame_words f) (length-map ps identifier)
+
+-- a call adds the words of its frame
+pushed_words : (f : Frame) (env : Environment) → words (push_call f env) ≡ words env + frame_words f
+pushed_words f env =
+    let call : sum_by frames_words ((f ∷ []) ∷ env.calls) ≡ frames_words (f ∷ []) + sum_by frames_words env.calls = sum_by-cons frames_words (f ∷ []) env.calls in
+    omega (arith, call)
+
+-- a call adds a word for each parameter, and the words of its block
+pub call_words : (ps : List Name) (vs : List ℤ) (f : Frame) (env : Environment)
+    → words (push_call (bound_to (map identifier ps) vs ++ f) env) ≡ words env + (length ps + frame_words f)
+call_words ps vs f env = pushed_words (bound_to (map identifier ps) vs ++ f) env ∙ ap (λ n. words env + n) (bound_words ps vs f)
+
+-- the numbers of the variables that are left are those of the next one and those of the others
+next_numbers : (slots : List Slot) (k : ℕ) (slot : Slot) → k < length slots → slot ≡ get_or slots k slot
+    → flat_map (λ stored. stored.values) (drop k (frame slots)) ≡ slot.values.items ++ flat_map (λ stored. stored.values) (drop (k + 1) (frame slots))
+next_numbers slots k slot here is =
+    ap (flat_map (λ (s : Stored). s.values))
+    (drop_more (frame slots) k (stored slot) (omega (arith, length-map slots stored)) ∙ ap (λ s. s ∷ drop (k + 1) (frame slots)) (sym (item_at stored slots k slot here is)))
+
+-- a number of the next variable
+pub number_here : (slots : List Slot) (k i : ℕ) (slot : Slot) (v : ℤ) → k < length slots → slot ≡ get_or slots k slot → i < length slot.values.items
+    → v ≡ get_or slot.values.items i (pos 0) → v ≡ get_or (flat_map (λ stored. stored.values) (drop k (frame slots))) i (pos 0)
+number_here slots k i slot v here is within e =
+    e
+    ∙ sym (get_or_append_left slot.values.items (flat_map (λ (s : Stored). s.values) (drop (k + 1) (frame slots))) (pos 0) i within)
+    ∙ ap (λ ns. get_or ns i (pos 0)) (sym (next_numbers slots k slot here is))
+
+-- a number of the others
+pub number_later : (slots : List Slot) (k i w : ℕ) (slot : Slot) → k < length slots → slot ≡ get_or slots k slot → length slot.values.items ≡ w → w ≤ i
+    → get_or (flat_map (λ stored. stored.values) (drop (k + 1) (frame slots))) (i - w) (pos 0) ≡ get_or (flat_map (λ stored. stored.values) (drop k (frame slots))) i (pos 0)
+number_later slots k i w slot here is many beyond =
+    sym (get_or-append_right slot.values.items (flat_map (λ (s : Stored). s.values) (drop (k + 1) (frame slots))) w i (pos 0) many beyond)
+    ∙ ap (λ ns. get_or ns i (pos 0)) (sym (next_numbers slots k slot here is))
+
+-- no variable is left
+pub number_beyond : (slots : List Slot) (k i : ℕ) → length slots ≤ k → pos 0 ≡ get_or (flat_map (λ stored. stored.values) (drop k (frame slots))) i (pos 0)
+number_beyond slots k i h =
+    ap (λ (fs : Frame). get_or (flat_map (λ (s : Stored). s.values) fs) i (pos 0)) (sym (drop_all k (frame slots) (omega (arith, length-map slots stored))))

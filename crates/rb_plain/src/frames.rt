@@ -83,7 +83,7 @@ impl<'a> Slot<'a> {
 }
 
 impl<'a> Call<'a> {
-    /// A frame is the innermost.
+    /// Puts a frame in as the innermost.
     pub(crate) fn push(&mut self, slots: Vec<Slot<'a>>) -> Result<(), Memory>
         ensures { OnOk result (frames_of self.new ≡ frame slots.entry.items ∷ frames_of self.old) }
     {
@@ -91,7 +91,7 @@ impl<'a> Call<'a> {
         Ok(())
     }
 
-    /// The innermost frame goes, if there is one.
+    /// Takes the innermost frame out, if there is one.
     pub(crate) fn pop(&mut self)
         ensures { frames_of self.new ≡ rest_of (frames_of self.old) }
     {
@@ -99,7 +99,7 @@ impl<'a> Call<'a> {
     }
 }
 
-/// The variables of these declarations stand behind those of a frame, with zeros.
+/// Puts the variables of these declarations behind those of a frame, with zeros.
 fn push_zeros<'a>(
     slots: &mut Vec<Slot<'a>>,
     alloc: Global,
@@ -123,7 +123,11 @@ pub(crate) fn frame<'a>(alloc: Global, variables: &[Var<'a>]) -> Result<Vec<Slot
 }
 
 /// The parameters of a call with these values; one left over is 0.
-fn bound<'a>(alloc: Global, parameters: &[Name<'a>], values: &[i64]) -> Result<Vec<Slot<'a>>, Memory>
+fn bound<'a>(
+    alloc: Global,
+    parameters: &[Name<'a>],
+    values: &[i64],
+) -> Result<Vec<Slot<'a>>, Memory>
     ensures { IfOk result (λ slots. frame slots.items ≡ bound_to (map identifier parameters.now) values.now) }
 {
     let mut slots = Vec::with_capacity(alloc, parameters.len())?;
