@@ -1,9 +1,9 @@
 -- What the place of a variable says of its frame.
-use Rattle.std.proofs.Common.{◌≡◌, ◌+◌, ◌≤◌, ℕ, ℤ, suc, Bool, true, false, not, cond, List, [], ◌∷◌, length, get_or, slice_set, nat_lt, Some, None, refl, sym, ap, subst, arith}
+use Rattle.std.proofs.Common.{◌≡◌, ◌+◌, ◌<◌, ◌≤◌, ℕ, ℤ, suc, Bool, true, false, not, ◌||◌, cond, List, [], ◌∷◌, length, get_or, slice_set, nat_lt, Some, None, refl, sym, ap, subst, true≢false, arith}
 use Rattle.std.specs.List.{position, position_or_len}
 use Rattle.std.proofs.lemmas.Bool.Decides.{nat_tests}
-use Rattle.rb_meaning.specs.Environment.{Frame, same_name, stored_in}
-use Rattle.rb_plain.specs.declared.environment.Slot.{Slot}
+use Rattle.rb_meaning.specs.Environment.{Stored, Frame, same_name, has, stored_in}
+use Rattle.rb_plain.specs.declared.frames.Slot.{Slot}
 use Rattle.rb_plain.specs.Slots.{stored, frame, changed}
 
 -- whether a variable in memory has this name
@@ -37,22 +37,51 @@ pub frame-set : (x : List ℕ) (i : ℕ) (v : ℤ) (slots : List Slot) (k : ℕ)
 frame-set x i v slots k d new e h =
     set-first x i v slots k d new (picked _ (position_or_len (is_named x) slots) k e) h
 
--- one step of the next lemma: no variable has the name, so the first has not
-unset-step : (i : ℕ) (v : ℤ) (slot : Slot) (slots : List Slot) (m : ℕ) (rest : Frame) (b : Bool) → 1 + length slots ≤ cond (not b) (1 + m) 0 → (length slots ≤ m → frame slots ≡ rest) → frame (slot ∷ slots) ≡ cond b (changed (stored slot) i v ∷ frame slots) (stored slot ∷ rest)
-unset-step i v slot slots m rest true e f = absurd (omega arith)
-unset-step i v slot slots m rest false e f = ap (λ r. stored slot ∷ r) (f (omega arith))
-
--- the same, by the number of variables that do not have it
-unset-first : (x : List ℕ) (i : ℕ) (v : ℤ) (slots : List Slot) → length slots ≤ position_or_len (is_named x) slots → frame slots ≡ stored_in x i v (frame slots)
-unset-first x i v [] e = refl
-unset-first x i v (slot ∷ slots) e =
-    unset-step i v slot slots (position_or_len (is_named x) slots) (stored_in x i v (frame slots)) (is_named x slot) (omega arith)
-    (unset-first x i v slots)
+-- a choice that gave a number was before the end
+before : (n m k : ℕ) → cond (nat_lt n m) (Some n) None ≡ Some k → n < m
+before n m k e = grind (arith, nat_tests)
 
 -- a choice that gave nothing was at the end
 passed : (n m : ℕ) → cond (nat_lt n m) (Some n) None ≡ None → m ≤ n
 passed n m e = grind (arith, nat_tests)
 
--- where no variable has the name, nothing is written
-pub frame-unset : (x : List ℕ) (i : ℕ) (v : ℤ) (slots : List Slot) → position (is_named x) slots ≡ None → frame slots ≡ stored_in x i v (frame slots)
-frame-unset x i v slots e = unset-first x i v slots (passed _ _ e)
+-- one step of the next lemma: the first variable has the name, or a later one
+there-step : (b c : Bool) (n m : ℕ) → cond (not b) (1 + m) 0 < 1 + n → (m < n → c ≡ true) → (b || c) ≡ true
+there-step true c n m h f = refl
+there-step false c n m h f = f (omega arith)
+
+-- the same, by the number of variables before it
+there-first : (x : List ℕ) (slots : List Slot) → position_or_len (is_named x) slots < length slots → has x (frame slots) ≡ true
+there-first x [] h = absurd (omega arith)
+there-first x (slot ∷ slots) h =
+    there-step (is_named x slot) (has x (frame slots)) (length slots) (position_or_len (is_named x) slots) (omega arith) (there-first x slots)
+
+-- where a variable in memory has the name, the frame has it
+pub frame-there : (x : List ℕ) (slots : List Slot) (k : ℕ) → position (is_named x) slots ≡ Some k → has x (frame slots) ≡ true
+frame-there x slots k e = there-first x slots (before _ _ k e)
+
+-- one step of the next lemma: no variable has the name, so the first has not
+absent-step : (b c : Bool) (n m : ℕ) → 1 + n ≤ cond (not b) (1 + m) 0 → (n ≤ m → c ≡ false) → (b || c) ≡ false
+absent-step true c n m h f = absurd (omega arith)
+absent-step false c n m h f = f (omega arith)
+
+-- the same, by the number of variables that do not have it
+absent-first : (x : List ℕ) (slots : List Slot) → length slots ≤ position_or_len (is_named x) slots → has x (frame slots) ≡ false
+absent-first x [] h = refl
+absent-first x (slot ∷ slots) h =
+    absent-step (is_named x slot) (has x (frame slots)) (length slots) (position_or_len (is_named x) slots) (omega arith) (absent-first x slots)
+
+-- where no variable in memory has the name, the frame has it not
+pub frame-absent : (x : List ℕ) (slots : List Slot) → position (is_named x) slots ≡ None → has x (frame slots) ≡ false
+frame-absent x slots e = absent-first x slots (passed _ _ e)
+
+-- one step of the next lemma
+kept-step : (b c : Bool) (s t : Stored) (f g : Frame) → (b || c) ≡ false → (c ≡ false → g ≡ f) → cond b (t ∷ f) (s ∷ g) ≡ s ∷ f
+kept-step true c s t f g e h = absurd (true≢false e)
+kept-step false c s t f g e h = ap (λ (r : Frame). s ∷ r) (h e)
+
+-- a frame that has no variable of this name stays as it is
+pub stored_in-absent : (x : List ℕ) (i : ℕ) (v : ℤ) (f : Frame) → has x f ≡ false → stored_in x i v f ≡ f
+stored_in-absent x i v [] e = refl
+stored_in-absent x i v (s ∷ f) e =
+    kept-step (same_name s.name x) (has x f) s (changed s i v) f (stored_in x i v f) e (stored_in-absent x i v f)

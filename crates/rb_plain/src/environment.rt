@@ -1,76 +1,191 @@
-//! The variables of a process with their numbers, by name, and plain copies of them.
+//! The variables of a process with their numbers, by name, in the frames of its open calls.
 
-ghost use Rattle.std.specs.Prelude.{◌≡◌, length, map, slice_get, slice_set, position, [], ◌∷◌, IfOk, option_map};
-ghost use Rattle.rb_meaning.specs.Environment.{same_name, size_of, zeros, frame_of, found_in, stored_in, values_of, store};
-ghost use Rattle.rb_syntax.specs.Plain.{declaration};
-ghost use Rattle.rb_plain.specs.Slots.{stored, frame, changed, entry, sizes};
+ghost use Rattle.std.specs.Prelude.{◌≡◌, ◌-◌, ◌++◌, map, reverse, slice_get, position, nat_le, nat_lt, cond, pos, [], ◌∷◌, IfOk, OnOk, Some, None, option_map};
+ghost use Rattle.std.specs.List.{flat_map, list_any};
+ghost use Rattle.std.specs.Option.{unwrap_or};
+ghost use Rattle.rb_syntax.specs.Plain.{declaration, identifier};
+ghost use Rattle.rb_meaning.specs.Environment.{same_name, frame_of, has, found_in, found_among, running_frames, in_running, stored_in, stored_among, values_of, store, words, global_words, push_frame, pop_frame, push_call, pop_call};
+ghost use Rattle.rb_meaning.specs.Step.{bound_to, open_calls};
+ghost use Rattle.rb_plain.specs.Slots.{frame, calls_of};
 
+use crate::frames::{Call, Slot, call_frame, copied_calls, copied_frame, frame};
+use crate::room::{room_of_call, room_of_calls, room_of_declared, room_of_frame};
 use rb_base::Memory;
-use rb_syntax::{Number, Var};
+use rb_syntax::{Name, Var};
 use std::alloc::Global;
 use std::marker::Model;
 
-/// A variable: its name, and its numbers; a scalar has one.
+/// The variables of a process: those that it declares, and the frames of its calls, the running call last.
 #[derive(Drop)]
-struct Slot<'a> {
-    name: &'a [u8],
-    values: Vec<i64>,
+pub struct Environment<'a> {
+    globals: Vec<Slot<'a>>,
+    calls: Vec<Call<'a>>,
 }
 
-/// How many numbers a variable of this size has.
-fn size_of(size: Option<Number>) -> usize
-    ensures { result ≡ size_of size }
-{
-    match size {
-        None => 1,
-        Some(number) => if number.value < 0 {
-            0
-        } else {
-            number.value as usize
-        },
-    }
+impl<'a> Model for Environment<'a> {
+    ghost use Rattle.rb_meaning.specs.Environment.{Environment as Variables};
+
+    ghost Value = { Variables };
+
+    ghost use Rattle.rb_plain.specs.Slots.{frame, calls_of};
+
+    ghost view = { λ e. record { globals = frame e.globals.items; calls = calls_of e.calls.items } };
 }
 
-impl<'a> Slot<'a> {
-    /// A declared variable, with zeros.
-    fn new(alloc: Global, variable: &Var<'a>) -> Result<Self, Memory>
-        ensures { IfOk result (λ slot. stored slot ≡ zeros (declaration variable.now)) }
+impl<'a> Environment<'a> {
+    /// The variables that a process declares, with zeros, in its main body.
+    pub fn new(alloc: Global, variables: &[Var<'a>]) -> Result<Self, Memory>
+        ensures { IfOk result (λ environment. environment ≡ record { globals = frame_of (map declaration variables.now); calls = [] ∷ [] }) }
     {
-        let values = Vec::from_elem(alloc, 0, size_of(variable.size))?;
-        Ok(Slot {
-            name: variable.name.text,
-            values,
-        })
+        let globals = frame(alloc, variables)?;
+        let mut calls = Vec::new(alloc);
+        calls.push(Call {
+            frames: Vec::new(alloc),
+        })?;
+        Ok(Environment { globals, calls })
     }
 
-    /// Replaces a number, if it is there.
-    fn set(&mut self, index: usize, value: i64)
-        ensures { stored self.new ≡ changed (stored self.old) index value }
+    /// The numbers under a name; none under an unknown one.
+    pub fn values(&self, name: &[u8]) -> &[i64]
+        ensures { result.now ≡ values_of self.now name.now }
     {
-        if index < self.values.len() {
-            self.values[index] = value;
+        let frames = running(&self.calls);
+        match find_among(frames, name) {
+            Some(values) => values,
+            None => find(&self.globals, name).unwrap_or(&[]),
         }
     }
 
-    /// Takes the name and the numbers of another variable, which has as many.
-    fn copy_from(&mut self, other: &Slot<'a>)
-        requires { length self.old.values.items ≡ length other.now.values.items }
-        ensures { stored self.new ≡ stored other.now }
+    /// Replaces a number of the variable with this name, if it is there.
+    pub fn set(&mut self, name: &[u8], index: usize, value: i64)
+        ensures { self.new ≡ store self.old name.now index value }
     {
-        self.name = other.name;
-        self.values.copy_from_slice(other.values.as_slice());
+        if !set_running(&mut self.calls, name, index, value) {
+            set(&mut self.globals, name, index, value);
+        }
+    }
+
+    /// A block begins: its variables, with zeros, are the innermost frame of the running call.
+    pub fn push_frame(&mut self, alloc: Global, variables: &[Var<'a>]) -> Result<(), Memory>
+        ensures { OnOk result (self.new ≡ push_frame (frame_of (map declaration variables.now)) self.old) }
+    {
+        let Some(call) = self.calls.last_mut() else {
+            return Ok(())
+        };
+        call.push(frame(alloc, variables)?)
+    }
+
+    /// A block ends, and its frame goes.
+    pub fn pop_frame(&mut self)
+        ensures { self.new ≡ pop_frame self.old }
+    {
+        let Some(call) = self.calls.last_mut() else {
+            return
+        };
+        call.pop();
+    }
+
+    /// A call begins: its parameters with these values, and the variables of its block with zeros. A parameter left over is 0.
+    pub fn push_call(
+        &mut self,
+        alloc: Global,
+        parameters: &[Name<'a>],
+        values: &[i64],
+        variables: &[Var<'a>],
+    ) -> Result<(), Memory>
+        ensures { OnOk result (self.new ≡ push_call (bound_to (map identifier parameters.now) values.now ++ frame_of (map declaration variables.now)) self.old) }
+    {
+        let slots = call_frame(alloc, parameters, values, variables)?;
+        let mut frames = Vec::new(alloc);
+        frames.push(slots)?;
+        self.calls.push(Call { frames })?;
+        Ok(())
+    }
+
+    /// The running call ends, and the one that called it goes on.
+    pub fn pop_call(&mut self)
+        ensures { self.new ≡ pop_call self.old }
+    {
+        self.calls.pop();
+    }
+
+    /// How many calls are open, without the main body.
+    pub fn open_calls(&self) -> usize
+        ensures { result ≡ open_calls self.now }
+    {
+        self.calls.len().saturating_sub(1)
+    }
+
+    /// How many more words there may be, where there may be so many in all; none where there are more already.
+    pub fn room(&self, most: usize) -> Option<usize>
+        ensures { result ≡ cond (nat_le (words self.now) most) (Some (most - words self.now)) None }
+    {
+        room_of_calls(&self.calls, room_of_frame(&self.globals, most)?)
+    }
+
+    /// Whether a block of these variables would bring the words above so many.
+    pub fn overflows(&self, variables: &[Var<'a>], most: usize) -> bool
+        ensures { result ≡ nat_lt most (words (push_frame (frame_of (map declaration variables.now)) self.now)) }
+    {
+        match self.room(most) {
+            None => true,
+            Some(left) => !self.calls.is_empty() && room_of_declared(variables, left).is_none(),
+        }
+    }
+
+    /// Whether a call with so many parameters and these variables would bring the words above so many.
+    #[tactic(auto, using(crate::proofs::Words::call_words))]
+    pub fn call_overflows(
+        &self,
+        parameters: &[Name<'a>],
+        values: &[i64],
+        variables: &[Var<'a>],
+        most: usize,
+    ) -> bool
+        ensures { result ≡ nat_lt most (words (push_call (bound_to (map identifier parameters.now) values.now ++ frame_of (map declaration variables.now)) self.now)) }
+    {
+        match self.room(most) {
+            None => true,
+            Some(left) => room_of_call(parameters, variables, left).is_none(),
+        }
+    }
+
+    /// A copy of all variables.
+    pub fn copied(&self, alloc: Global) -> Result<Self, Memory>
+        ensures { IfOk result (λ copy. copy ≡ self.now) }
+    {
+        let globals = copied_frame(alloc, &self.globals)?;
+        let calls = copied_calls(alloc, &self.calls)?;
+        Ok(Environment { globals, calls })
+    }
+
+    /// Word number `at` of the process's own variables, in order; 0 beyond them.
+    pub fn word(&self, at: usize) -> i64
+        ensures { result ≡ unwrap_or (slice_get (global_words self.now) at) (pos 0) }
+    {
+        word_of(&self.globals, at)
     }
 }
 
-/// The frame of these declarations, with zeros.
-fn frame<'a>(alloc: Global, variables: &[Var<'a>]) -> Result<Vec<Slot<'a>>, Memory>
-    ensures { IfOk result (λ slots. frame slots.items ≡ frame_of (map declaration variables.now)) }
+/// The frames of the running call, the innermost last.
+fn running<'s, 'a>(calls: &'s [Call<'a>]) -> &'s [Vec<Slot<'a>>]
+    ensures { reverse (map (λ slots. frame slots.items) result.now) ≡ running_frames (calls_of calls.now) }
 {
-    let mut slots = Vec::with_capacity(alloc, variables.len())?;
-    for variable in variables {
-        slots.push(Slot::new(alloc, variable)?)?;
+    let [.., call] = calls else { return &[] };
+    call.frames.as_slice()
+}
+
+/// The numbers under this name in the innermost frame that has it, if one does.
+fn find_among<'s>(mut frames: &'s [Vec<Slot<'_>>], name: &[u8]) -> Option<&'s [i64]>
+    ensures { option_map (λ values. values.now) result ≡ found_among name.now (reverse (map (λ slots. frame slots.items) frames.entry.now)) }
+{
+    while let [outer @ .., slots] = frames {
+        if let Some(values) = find(slots, name) {
+            return Some(values);
+        }
+        frames = outer;
     }
-    Ok(slots)
+    None
 }
 
 /// The numbers under this name: those of the first variable that has it.
@@ -93,135 +208,146 @@ fn place_of(slots: &[Slot<'_>], name: &[u8]) -> Option<usize>
     slots.iter().position(|slot| slot.name == name)
 }
 
-/// Replaces a number of the first variable with this name, if it is there.
-fn set(slots: &mut [Slot<'_>], name: &[u8], index: usize, value: i64)
-    ensures { frame slots.new ≡ stored_in name.now index value (frame slots.old) }
+/// Replaces a number of the first variable with this name, if it is there, and tells whether it is.
+fn set(slots: &mut [Slot<'_>], name: &[u8], index: usize, value: i64) -> bool
+    ensures found { result ≡ has name.now (frame slots.old) }
+    ensures after { frame slots.new ≡ stored_in name.now index value (frame slots.old) }
 {
-    if let Some(place) = place_of(slots, name) {
-        slots[place].set(index, value);
+    match place_of(slots, name) {
+        Some(place) => {
+            slots[place].set(index, value);
+            true
+        }
+        None => false,
     }
 }
 
-/// Takes the variables of another frame, each of which has as many numbers.
-fn copy_frame<'a>(slots: &mut [Slot<'a>], others: &[Slot<'a>])
-    requires { sizes (frame slots.old) ≡ sizes (frame others.now) }
-    ensures { frame slots.new ≡ frame others.now }
+/// Replaces a number in the innermost frame of the running call that has the variable, and tells whether one has it.
+fn set_running(calls: &mut Vec<Call<'_>>, name: &[u8], index: usize, value: i64) -> bool
+    ensures found { result ≡ list_any (has name.now) (running_frames (calls_of calls.old.items)) }
+    ensures after { calls_of calls.new.items ≡ cond result (in_running (stored_among name.now index value) (calls_of calls.old.items)) (calls_of calls.old.items) }
 {
-    let mut place = 0;
-    'places: while place < slots.len() {
-        slots[place].copy_from(&others[place]);
-        place += 1;
+    match calls.last_mut() {
+        Some(call) => set_among(&mut call.frames, name, index, value),
+        None => false,
     }
 }
 
-/// The variables of a process.
-#[derive(Drop)]
-pub struct Environment<'a> {
-    globals: Vec<Slot<'a>>,
+/// The same among these frames, the innermost last.
+fn set_among(frames: &mut [Vec<Slot<'_>>], name: &[u8], index: usize, value: i64) -> bool
+    ensures found { result ≡ list_any (has name.now) (reverse (map (λ slots. frame slots.items) frames.old)) }
+    ensures after { reverse (map (λ slots. frame slots.items) frames.new) ≡ stored_among name.now index value (reverse (map (λ slots. frame slots.items) frames.old)) }
+{
+    let mut left = frames.len();
+    while left > 0 {
+        left -= 1;
+        if set(&mut frames[left], name, index, value) {
+            return true;
+        }
+    }
+    false
 }
 
-impl<'a> Model for Environment<'a> {
-    ghost use Rattle.std.specs.Prelude.{[], ◌∷◌};
-    ghost use Rattle.rb_meaning.specs.Environment.{Environment as Variables};
-
-    ghost Value = { Variables };
-
-    ghost use Rattle.rb_plain.specs.Slots.{frame};
-
-    ghost view = { λ e. record { globals = frame e.globals.items; calls = [] ∷ [] } };
-}
-
-impl<'a> Environment<'a> {
-    /// The variables that a process declares, with zeros.
-    pub fn new(alloc: Global, variables: &[Var<'a>]) -> Result<Self, Memory>
-        ensures { IfOk result (λ environment. environment ≡ record { globals = frame_of (map declaration variables.now); calls = [] ∷ [] }) }
-    {
-        let globals = frame(alloc, variables)?;
-        Ok(Environment { globals })
+/// Word number `at` of a frame; 0 beyond it.
+fn word_of(slots: &[Slot<'_>], at: usize) -> i64
+    ensures { result ≡ unwrap_or (slice_get (flat_map (λ stored. stored.values) (frame slots.now)) at) (pos 0) }
+{
+    let mut left = at;
+    for slot in slots {
+        if let Some(value) = slot.values.get(left) {
+            return *value;
+        }
+        left -= slot.values.len();
     }
-
-    /// The numbers under a name; none under an unknown one.
-    pub fn values(&self, name: &[u8]) -> &[i64]
-        ensures { result.now ≡ values_of self.now name.now }
-    {
-        find(&self.globals, name).unwrap_or(&[])
-    }
-
-    /// Replaces a number of the variable with this name, if it is there.
-    pub fn set(&mut self, name: &[u8], index: usize, value: i64)
-        ensures { self.new ≡ store self.old name.now index value }
-    {
-        set(&mut self.globals, name, index, value);
-    }
-
-    /// Takes the variables of another environment, each of which has as many numbers. No memory is taken.
-    pub fn copy_from(&mut self, other: &Environment<'a>)
-        requires { sizes self.old.globals ≡ sizes other.now.globals }
-        ensures { self.new ≡ other.now }
-    {
-        copy_frame(&mut self.globals, &other.globals);
-    }
-
-    /// The variables of the process in order: the name and the numbers of one.
-    pub fn variable(&self, place: usize) -> Option<(&[u8], &[i64])>
-        ensures { option_map entry result ≡ slice_get self.now.globals place }
-    {
-        let slot = self.globals.get(place)?;
-        Some((slot.name, slot.values.as_slice()))
-    }
+    0
 }
 
 #[cfg(test)]
 mod tests {
     use super::*;
     use rb_base::Place;
-    use rb_syntax::Name;
+    use rb_syntax::Number;
     use std::test::Fail;
 
     const PLACE: Place = Place { line: 1, column: 1 };
 
-    fn variable(text: &[u8], size: Option<i64>) -> Var<'_> {
-        let size = size.map(|value| Number {
-            value,
+    fn name(text: &[u8]) -> Name<'_> {
+        Name {
+            text,
             place: PLACE,
-        });
+            id: 0,
+        }
+    }
+
+    fn scalar(text: &[u8]) -> Var<'_> {
         Var {
-            name: Name {
-                text,
+            name: name(text),
+            size: None,
+        }
+    }
+
+    fn array(text: &[u8], value: i64) -> Var<'_> {
+        Var {
+            name: name(text),
+            size: Some(Number {
+                value,
                 place: PLACE,
-                id: 0,
-            },
-            size,
+            }),
         }
     }
 
     #[test]
-    fn copies(rt: HostRuntime) -> Result<(), Fail> {
-        let variables = [variable(b"x", None), variable(b"row", Some(3))];
-        let mut environment = Environment::new(rt.alloc(), &variables)?;
-        let mut copy = Environment::new(rt.alloc(), &variables)?;
-        environment.set(b"row", 2, 4);
-        copy.copy_from(&environment);
-        environment.set(b"row", 2, 5);
-        assert_eq!(rt; copy.values(b"x"), [0].as_slice());
-        assert_eq!(rt; copy.values(b"row"), [0, 0, 4].as_slice());
+    fn names_from_the_inside_out(rt: HostRuntime) -> Result<(), Fail> {
+        let alloc = rt.alloc();
+        let mut environment = Environment::new(alloc, &[scalar(b"x"), array(b"row", 2)])?;
+        environment.push_call(alloc, &[name(b"x")], &[7], &[])?;
+        environment.push_frame(alloc, &[scalar(b"x")])?;
+        environment.set(b"x", 0, 9);
+        environment.set(b"row", 1, -5);
+        environment.set(b"row", 2, 1);
+        assert_eq!(rt; environment.values(b"x"), [9].as_slice());
+        environment.pop_frame();
+        assert_eq!(rt; environment.values(b"x"), [7].as_slice());
+        environment.pop_call();
+        assert_eq!(rt; environment.values(b"x"), [0].as_slice());
+        assert_eq!(rt; environment.values(b"row"), [0, -5].as_slice());
+        assert_eq!(rt; environment.values(b"y"), [].as_slice());
+        assert_eq!(rt; (environment.word(2), environment.word(3)), (-5, 0));
         Ok(())
     }
 
     #[test]
-    fn keeps_numbers(rt: HostRuntime) -> Result<(), Fail> {
-        let variables = [variable(b"x", None), variable(b"row", Some(3))];
-        let mut environment = Environment::new(rt.alloc(), &variables)?;
-        environment.set(b"row", 1, -7);
-        environment.set(b"row", 3, 9);
-        environment.set(b"y", 0, 9);
-        assert_eq!(rt; environment.values(b"x"), [0].as_slice());
-        assert_eq!(rt; environment.values(b"row"), [0, -7, 0].as_slice());
-        assert_eq!(rt; environment.values(b"y"), [].as_slice());
-        let last = environment.variable(1).ok_or("no variable")?;
-        assert_eq!(rt; last.0, b"row".as_slice());
-        assert_eq!(rt; last.1, [0, -7, 0].as_slice());
-        assert!(rt; environment.variable(2).is_none());
+    fn words_are_counted(rt: HostRuntime) -> Result<(), Fail> {
+        let alloc = rt.alloc();
+        let mut environment = Environment::new(alloc, &[scalar(b"x"), array(b"row", 2)])?;
+        environment.push_call(alloc, &[name(b"p"), name(b"q")], &[7], &[scalar(b"y")])?;
+        assert_eq!(rt; environment.open_calls(), 1);
+        assert_eq!(rt; environment.room(7), Some(1));
+        assert_eq!(rt; environment.room(5), None);
+        let block = [array(b"z", 2)];
+        for (most, want) in [(7, true), (8, false)] {
+            assert_eq!(rt; environment.overflows(&block, most), want);
+        }
+        for (most, want) in [(8, true), (9, false)] {
+            assert_eq!(rt;
+                environment.call_overflows(&[name(b"p")], &[], &block, most),
+                want
+            );
+        }
+        Ok(())
+    }
+
+    #[test]
+    fn a_copy_stands_alone(rt: HostRuntime) -> Result<(), Fail> {
+        let alloc = rt.alloc();
+        let mut environment = Environment::new(alloc, &[scalar(b"x")])?;
+        environment.push_frame(alloc, &[array(b"row", 2)])?;
+        environment.set(b"row", 1, 4);
+        let copy = environment.copied(alloc)?;
+        environment.set(b"row", 1, 5);
+        environment.set(b"x", 0, 6);
+        assert_eq!(rt; copy.values(b"x"), [0].as_slice());
+        assert_eq!(rt; copy.values(b"row"), [0, 4].as_slice());
         Ok(())
     }
 }

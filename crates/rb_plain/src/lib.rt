@@ -1,13 +1,28 @@
-//! Environments and values over a program's tree, with plain copies, and records of kept turns: what the plain run of a
-//! record will stand on.
+//! Plain runs: what survived a run, run alone over the tree, with nothing ever rejected; and the records that list it.
 #![tactic(auto)]
 
+mod blocks;
+mod channels;
 pub mod counter;
 pub mod element;
 pub mod environment;
+mod frames;
+pub mod halt;
+pub mod held;
+pub(crate) mod items;
 pub mod laws;
+mod moves;
+mod numbers;
+mod performing;
+mod process;
 pub mod record;
 mod record_line;
+mod room;
+pub mod state;
+mod steps;
+mod test_line;
 #[cfg(test)]
 mod tests;
+mod turn;
 pub mod value;
+mod want;

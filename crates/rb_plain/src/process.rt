@@ -1,0 +1,169 @@
+//! The processes of a plain run, with their open levels. Of a level only what later turns ask for is kept: the lengths of the sent
+//! lists, the numbers taken, and the variables at its entry. Nothing is ever put back.
+
+ghost use Rattle.std.specs.Prelude.{◌≡◌, ◌&&◌, length, map, nat_le, nat_lt, option_map, IfOk};
+ghost use Rattle.rb_syntax.specs.Plain.{recovery_block, tree};
+ghost use Rattle.rb_world.specs.World.{copy_of, last_of, settled, without_last};
+ghost use Rattle.rb_world.specs.Turn.{freed, lines_freed, stands_at};
+ghost use Rattle.rb_world.specs.Plain.{alternates_of};
+ghost use Rattle.rb_meaning.specs.PlainRun.{entry_point, environment_at};
+ghost use Rattle.rb_plain.specs.States.{state_of};
+ghost use Rattle.rb_plain.specs.Worlds.{facts_with, is_nothing_left, level_of, process_of, unkept_kind};
+
+use crate::environment::Environment;
+use crate::items::First;
+use crate::state::State;
+use rb_base::Memory;
+use rb_syntax::{Program, Recovery};
+use std::alloc::Global;
+
+/// An open level: its recovery block, the number of its conversation if it has one, and what stood at its entry.
+#[derive(Drop)]
+pub(crate) struct Level<'t, 'a> {
+    pub(crate) block: &'t Recovery<'a>,
+    pub(crate) conversation: Option<usize>,
+    pub(crate) sent: Vec<usize>,
+    pub(crate) taken: Vec<usize>,
+    pub(crate) environment: Environment<'a>,
+}
+
+/// A process: its state, its open levels from the outside in, whether it stands at the test line of the innermost, and whether it is
+/// done.
+#[derive(Drop)]
+pub(crate) struct Process<'t, 'a> {
+    pub(crate) state: State<'t, 'a>,
+    pub(crate) levels: Vec<Level<'t, 'a>>,
+    pub(crate) at_line: bool,
+    pub(crate) is_done: bool,
+}
+
+impl<'t, 'a> Level<'t, 'a> {
+    /// A level that is opened in this state.
+    pub(crate) fn new(
+        alloc: Global,
+        block: &'t Recovery<'a>,
+        conversation: Option<usize>,
+        state: &State<'t, 'a>,
+    ) -> Result<Self, Memory>
+        ensures { IfOk result (λ level. level_of level ≡ record { facts = facts_with conversation (recovery_block block.now); alternate = 0; used = 0; copy = entry_point (state_of state.now) }) }
+    {
+        let sent = lengths_of(alloc, state.sent.as_slice())?;
+        let taken = Vec::from_slice(alloc, state.taken.as_slice())?;
+        let environment = state.environment.copied(alloc)?;
+        Ok(Level {
+            block,
+            conversation,
+            sent,
+            taken,
+            environment,
+        })
+    }
+}
+
+impl<'t, 'a> Level<'t, 'a> {
+    // Whether its recovery block has this alternate, counted from 1.
+    fn has_alternate(&self, alternate: u32) -> bool
+        ensures { result ≡ nat_lt 0 alternate && nat_le alternate (level_of self.now).facts.alternates }
+    {
+        0 < alternate && alternate as usize <= self.block.alternates.len()
+    }
+}
+
+impl<'t, 'a> Process<'t, 'a> {
+    /// Goes on from its state: ends of blocks and calls that stand first are taken away, and it is done if nothing is left.
+    pub(crate) fn settle(&mut self, program: &Program<'a>)
+        ensures { process_of self.new ≡ settled (unkept_kind (tree program.now)) (state_of self.old.state) (map level_of self.old.levels.items) }
+    {
+        let _ = program;
+        self.state.settle();
+        self.at_line = false;
+        self.is_done = is_nothing(self.state.first());
+    }
+
+    /// Its innermost level, if one is open.
+    pub(crate) fn innermost(&self) -> Option<&Level<'t, 'a>>
+        ensures { option_map (λ level. level_of level.now) result ≡ last_of (map level_of self.now.levels.items) }
+    {
+        self.levels.last()
+    }
+
+    /// The variables at the innermost recovery point, if a level is open.
+    pub(crate) fn prior(&self) -> Option<&Environment<'a>>
+        ensures { option_map (λ e. e.now) result ≡ environment_at (copy_of (last_of (map level_of self.now.levels.items))) }
+    {
+        match self.innermost() {
+            Some(level) => Some(&level.environment),
+            None => None,
+        }
+    }
+
+    /// Whether the innermost recovery block has this alternate, counted from 1.
+    pub(crate) fn has_alternate(&self, alternate: u32) -> bool
+        ensures { result ≡ nat_lt 0 alternate && nat_le alternate (alternates_of (last_of (map level_of self.now.levels.items))) }
+    {
+        match self.innermost() {
+            Some(level) => level.has_alternate(alternate),
+            None => false,
+        }
+    }
+
+    /// Whether it stands at the test line of this conversation.
+    pub(crate) fn stands_at(&self, conversation: usize) -> bool
+        ensures { result ≡ stands_at conversation (process_of self.now) }
+    {
+        match self.innermost() {
+            Some(level) => self.at_line && level.conversation == Some(conversation),
+            None => false,
+        }
+    }
+
+    /// Its innermost level goes, and it goes on.
+    pub(crate) fn leave(&mut self, program: &Program<'a>)
+        ensures { process_of self.new ≡ settled (unkept_kind (tree program.now)) (state_of self.old.state) (without_last (map level_of self.old.levels.items)) }
+    {
+        self.levels.pop();
+        self.settle(program);
+    }
+
+    /// Holds no line any more, unless a level is open.
+    pub(crate) fn free(&mut self, program: &Program<'a>)
+        ensures { process_of self.new ≡ freed (unkept_kind (tree program.now)) (process_of self.old) }
+    {
+        let _ = program;
+        if self.levels.is_empty() {
+            self.state.release();
+        }
+    }
+
+    /// The lines that it prints at the end of a turn: all that it holds, if no level is open.
+    pub(crate) fn freed_lines(&self, program: &Program<'a>) -> &[Vec<u8>]
+        ensures { map (λ line. line.items) result.now ≡ lines_freed (unkept_kind (tree program.now)) (state_of self.now.state) (map level_of self.now.levels.items) }
+    {
+        let _ = program;
+        if self.levels.is_empty() {
+            self.state.held.lines()
+        } else {
+            &[]
+        }
+    }
+}
+
+fn is_nothing(first: First<'_, '_>) -> bool
+    ensures { result ≡ is_nothing_left first.entry }
+{
+    match first {
+        First::Nothing => true,
+        _ => false,
+    }
+}
+
+// How many values each of these lists has.
+fn lengths_of(alloc: Global, lists: &[Vec<i64>]) -> Result<Vec<usize>, Memory>
+    ensures { IfOk result (λ lengths. lengths.items ≡ map length (map (λ values. values.items) lists.now)) }
+{
+    let mut lengths = Vec::with_capacity(alloc, lists.len())?;
+    for values in lists {
+        lengths.push(values.len())?;
+    }
+    Ok(lengths)
+}
