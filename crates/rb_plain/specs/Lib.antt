@@ -8,3 +8,4 @@ pub mod Holding
 pub mod States
 pub mod Worlds
 pub mod Members
+pub mod Played

@@ -1,6 +1,7 @@
 //! Plain runs: what survived a run, run alone over the tree, with nothing ever rejected; and the records that list it.
 #![tactic(auto)]
 
+pub mod answer;
 mod blocks;
 mod channels;
 pub mod counter;
