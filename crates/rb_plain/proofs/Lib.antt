@@ -4,3 +4,4 @@ pub mod Records
 pub mod FirstPlaces
 pub mod Lookups
 pub mod Unkept
+pub mod OwnWords

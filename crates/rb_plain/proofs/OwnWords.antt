@@ -1,5 +1,5 @@
 -- Over every plain run each process has as many words of its own as it declares; so the variables that are printed lie within them.
-use Rattle.std.proofs.Common.{◌≡◌, ◌+◌, ◌≤◌, ℕ, ℤ, pos, zero, suc, Bool, true, false, cond, List, [], ◌∷◌, ◌++◌, length, map, option_map, slice_get, slice_set, Option, Some, None, Result, Ok, Err, refl, sym, ap, ap₂, ◌∙◌, arith, length-append}
+use Rattle.std.proofs.Common.{◌≡◌, ◌+◌, ◌≤◌, ℕ, ℤ, pos, zero, suc, Bool, true, false, cond, List, [], ◌∷◌, ◌++◌, length, map, option_map, slice_get, slice_set, Option, Some, None, Result, Ok, Err, refl, sym, ap, ap₂, ◌∙◌, arith, length-append, subst}
 use Rattle.std.specs.List.{AllByRecursion, AllZip, flat_map, list_any}
 use Rattle.std.proofs.lemmas.List.{length-map, length-replicate, length-set}
 use Rattle.std.proofs.lemmas.List.Concat.{length-flat_map}
@@ -7,21 +7,22 @@ use Rattle.std.proofs.lemmas.List.Sums.{sum_by-cons}
 use Rattle.rb_base.specs.declared.event.Cause.{Cause}
 use Rattle.rb_base.specs.declared.event.Cause.TheVariants.{Test}
 use Rattle.rb_base.specs.declared.edition.Edition.{Edition}
+use Rattle.rb_base.specs.declared.names.Names.{Names}
 use Rattle.rb_base.specs.declared.names.ProcessNames.{ProcessNames}
 use Rattle.rb_base.specs.declared.names.Variable.{Variable}
 use Rattle.rb_syntax.specs.Tree.{Declaration, Expression, Reference, PrintItem, Command, Assignment, Printing, Sending, Receiving, Conditional, Loop, Invocation, Failure, Recovering, Body, Scope, Otherwise, NoElse, Else, RecoveryBlock, ProcessDeclaration, ProcedureDeclaration, Tree}
 use Rattle.rb_syntax.specs.declared.expression.Number.{Number}
 use Rattle.rb_trace.specs.Fitting.{LiesWithin}
-use Rattle.rb_trace.specs.Naming.{process_naming, variable_naming}
+use Rattle.rb_trace.specs.Naming.{naming, process_naming, variable_naming}
 use Rattle.rb_world.specs.Kind.{Went, Held}
-use Rattle.rb_world.specs.World.{Level, Process, change_at, with_each, without_last}
-use Rattle.rb_world.specs.Turn.{Told, all_leave, freed, leaves, opened, stands_at, moved_to}
-use Rattle.rb_world.specs.Text.{ProcessNaming, VariableNaming, size_of as size_named}
-use Rattle.rb_world.specs.Plain.{Kept, Ended, plain_run}
-use Rattle.rb_world.proofs.ListFacts.{heads_same, tails_same, some_same}
+use Rattle.rb_world.specs.World.{Level, Process, World, change_at, copy_of, last_of, settled, with_each, without_last}
+use Rattle.rb_world.specs.Turn.{Told, all_leave, freed, leaves, moved_to, opened, stands_at, stands_now, state_freed}
+use Rattle.rb_world.specs.Text.{Naming, ProcessNaming, VariableNaming, size_of as size_named}
+use Rattle.rb_world.specs.Plain.{Kept, PlainEnd, Ended, StuckAt, plain_run}
+use Rattle.rb_world.proofs.ListFacts.{heads_same, none_some, some_same, tails_same}
 use Rattle.rb_world.proofs.PlainInduction.{IsPlainInvariant, Plainly, plain_run-keeps}
 use Rattle.rb_world.proofs.TurnFacts.{come_to_stand, left_alone}
-use Rattle.rb_meaning.specs.Environment.{Environment, Frame, Stored, frame_of, frame_words, global_words, push_call, push_frame, same_name, size_of, store, stored_in, zeros}
+use Rattle.rb_meaning.specs.Environment.{Environment, Frame, Stored, frame_of, frame_words, global_words, has, in_running, push_call, push_frame, running_frames, same_name, size_of, stored_among, stored_in, zeros}
 use Rattle.rb_meaning.specs.Value.{Outcome, is_zero, value}
 use Rattle.rb_meaning.specs.State.{Item, Perform, StartOf, TestOf, EndBlock, EndCall, State, performed, continue_with, with_environment, with_held, settle, settle_items}
 use Rattle.rb_meaning.specs.Step.{Nothing, Result_of_step, alternate_number, alternates_in, assigned, bound_to, calls_with, commands_of, enter, former, judged, line_from, performs, place_in, present_value, prints, pushes, pushes_else, put_at, receives, starts_body, step, step_items, takes, test_in, values_in, variables_of, within_words}
@@ -30,7 +31,7 @@ use Rattle.rb_meaning.specs.Meaning.{naming_of, opening_state, opening_states, p
 use Rattle.rb_meaning.specs.PlainRun.{EntryPoint, PlainWorld, environment_at}
 use Rattle.rb_meaning.proofs.StepsKeepRules.{EndsIn, StepsTo, either_ends, judged_either, step_ends, then_ends}
 use Rattle.rb_plain.specs.Worlds.{unkept_kind}
-use Rattle.rb_plain.specs.Played.{ProcessesLie, VariablesLie, own_words, played, unkept_opening}
+use Rattle.rb_plain.specs.Played.{ProcessesLie, VariablesLie, own_words, played, unkept_opening, world_in}
 
 -- how many words a frame has, and the process's own of a state
 abbrev frame_length : Frame → ℕ
@@ -64,7 +65,10 @@ either_long true env a b e f = e
 either_long false env a b e f = f
 
 put_long : (env : Environment) (v : ℤ) (place : List ℕ × ℕ) → length (global_words (put_at env v place)) ≡ length (global_words env)
-put_long env v (x, i) = either_long _ env _ _ refl (stored_long x i v env.globals)
+put_long env v (x, i) =
+    either_long (list_any (has x) (running_frames env.calls)) env
+    (record { globals = env.globals; calls = in_running (stored_among x i v) env.calls })
+    (record { globals = stored_in x i v env.globals; calls = env.calls }) refl (stored_long x i v env.globals)
 
 -- nor does a step
 assigned_long : (s : State) (to : Reference) (e : Expression) → EndsIn (AsLong s) (assigned s to e)
@@ -224,11 +228,23 @@ opening_lengths tree p (process ∷ processes) =
     ap₂ ◌∷◌ (settled_long (opening_state tree p process) ∙ length-flat_map (λ stored. stored.values) (frame_of process.variables))
     (opening_lengths tree (p + 1) processes)
 
+-- the world in which a plain run ends, with its lines
+pub ended_in : {S C M : Type 0} (end : PlainEnd S C M) (v : World S C M) → world_in end ≡ Some v → (lines : List (ℕ × Told)) × (end ≡ Ended v lines)
+ended_in (Ended w lines) v e = (lines, ap (λ x. Ended x lines) (some_same e))
+ended_in (StuckAt t) v e = absurd (none_some e)
+
+lengths_same : (qs : List (Process State EntryPoint))
+    → map length (map (λ s. global_words s.environment) (map (λ q. q.state) qs)) ≡ map (λ q. own_length q.state) qs
+lengths_same [] = refl
+lengths_same (q ∷ qs) = ap (λ ns. own_length q.state ∷ ns) (lengths_same qs)
+
 -- where a plain run ends, each process has as many words as it declares
-pub ends_long : (tree : Tree) (turns : List Kept) (v : PlainWorld) → world_in (played tree turns (unkept_opening tree)) ≡ Some v
-    → lengths_of v ≡ map declared_words tree.processes
+ends_long : (tree : Tree) (turns : List Kept) (v : PlainWorld) → world_in (played tree turns (unkept_opening tree)) ≡ Some v
+    → map length (own_words v) ≡ map declared_words tree.processes
 ends_long tree turns v e =
-    ?
+    let ended = ended_in (played tree turns (unkept_opening tree)) v e in
+    lengths_same v.processes
+    ∙ plain_run-keeps (stay_long tree (map declared_words tree.processes)) [] turns (unkept_opening tree) v ended.0 (opening_lengths tree 0 tree.processes) ended.1
 
 -- a variable is named with as many numbers as it has
 named_size : (size : Option Number) → size_named (option_map (λ (n : Number). size_of (Some n)) size) ≡ size_of size
@@ -266,3 +282,9 @@ processes_lie (process ∷ processes) (one ∷ names) (ws ∷ words) e f =
       variables_lie 0 process.variables one.variables.items (length ws) own (omega (arith, long)),
       processes_lie processes names words (tails_same e) (tails_same f),
     )
+
+-- so it is where a plain run ends
+pub ends_lying : (tree : Tree) (names : Names) (turns : List Kept) (v : PlainWorld) → naming names ≡ naming_of tree
+    → world_in (played tree turns (unkept_opening tree)) ≡ Some v → ProcessesLie names.processes.items (own_words v)
+ends_lying tree names turns v named e =
+    processes_lie tree.processes names.processes.items (own_words v) (ap (λ (n : Naming). n.processes) named) (ends_long tree turns v e)
