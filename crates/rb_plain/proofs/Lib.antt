@@ -5,3 +5,6 @@ pub mod FirstPlaces
 pub mod Lookups
 pub mod Unkept
 pub mod OwnWords
+pub mod Writing
+pub mod Playing
+pub mod Opening

@@ -13,6 +13,8 @@ pub(crate) mod items;
 pub mod laws;
 mod numbers;
 mod performing;
+pub mod plain_run;
+mod playing;
 mod process;
 pub mod record;
 mod record_line;
@@ -22,3 +24,7 @@ mod steps;
 mod tests;
 mod turn;
 pub mod value;
+mod values;
+
+pub use answer::PlainAnswer;
+pub use plain_run::plain;
