@@ -6,5 +6,6 @@ pub mod Lookups
 pub mod Unkept
 pub mod OwnWords
 pub mod Writing
-pub mod Playing
+pub mod TurnsLeft
 pub mod Opening
+pub mod Releasing

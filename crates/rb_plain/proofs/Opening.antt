@@ -1,5 +1,5 @@
 -- The processes before the first turn, one after another.
-use Rattle.std.proofs.Common.{◌≡◌, ◌<◌, ◌≤◌, ◌+◌, ℕ, List, [], ◌∷◌, ◌++◌, length, map, drop, get_or, refl, sym, ap, ◌∙◌, append_assoc, append-nil, arith, drop_of_length-le}
+use Rattle.std.proofs.Common.{◌≡◌, ◌<◌, ◌≤◌, ◌+◌, ℕ, List, [], ◌∷◌, ◌++◌, suc, length, map, drop, get_or, refl, sym, ap, ◌∙◌, append_assoc, append-nil, arith, drop_of_length-le}
 use Rattle.std.proofs.lemmas.List.{length-map, map-append}
 use Rattle.rb_base.specs.declared.names.Names.{Names}
 use Rattle.rb_syntax.specs.Plain.{process_declaration}
