@@ -1,6 +1,6 @@
 -- What is left of a plain run, turn by turn.
-use Rattle.std.proofs.Common.{◌≡◌, ◌<◌, ◌+◌, ℕ, List, [], ◌∷◌, ◌++◌, length, map, drop, get_or, option_map, slice_get, Option, Some, None, refl, sym, ap, ◌∙◌, subst}
-use Rattle.rb_trace.proofs.Ended.{from_item}
+use Rattle.std.proofs.Common.{◌≡◌, ◌<◌, ◌+◌, ℕ, List, [], ◌∷◌, ◌++◌, length, map, drop, get_or, option_map, slice_get, Option, Some, None, Result, Ok, Err, refl, sym, ap, ◌∙◌, subst, add-one, drop-cons}
+use Rattle.std.specs.Result.{IsErrAnd}
 use Rattle.rb_world.specs.World.{World, with_each}
 use Rattle.rb_world.specs.Turn.{Moved, Told, finishes, freed, freed_lines, told}
 use Rattle.rb_world.specs.Text.{Naming, out_lines, outs_text}
@@ -13,7 +13,9 @@ use Rattle.rb_meaning.specs.PlainRun.{EntryPoint, PlainWorld}
 use Rattle.rb_plain.specs.declared.record.Kept.{Kept as KeptTurn}
 use Rattle.rb_plain.specs.Recorded.{plain_turn}
 use Rattle.rb_plain.specs.Worlds.{moved_world, unkept_kind}
-use Rattle.rb_plain.specs.Played.{outs_in, played, stuck_in, world_in}
+use Rattle.rb_plain.specs.Played.{Rehearses, TakesTurn, outs_in, played, stuck_in, world_in}
+use Rattle.rb_plain.specs.declared.answer.PlainAnswer.{PlainAnswer}
+use Rattle.rb_plain.specs.declared.answer.PlainAnswer.TheVariants.{Stuck, WriteFault, Memory}
 
 -- what is told of a turn changes neither whether the others are stuck, nor the world at the end
 stuck_told : {S C M : Type 0} (t : ℕ) (one : Told) (end : PlainEnd S C M) → stuck_in (plain_told t one end) ≡ stuck_in end
@@ -55,32 +57,55 @@ moved_not : (tree : Tree) (t : ℕ) (rest : List Kept) (w : PlainWorld) (moved :
 moved_not tree t rest w None e = refl
 moved_not tree t rest w (Some moved) e = absurd (none_some (sym e))
 
--- the next of the turns that are left is this one
-next_turn : (turns : List KeptTurn) (i : ℕ) (kept : KeptTurn) → i < length turns → kept ≡ get_or turns i kept
-    → map plain_turn (drop i turns) ≡ plain_turn kept ∷ map plain_turn (drop (i + 1) turns)
-next_turn turns i kept within is = ap (map plain_turn) (from_item turns i kept within is)
+-- the next of the turns that are left
+next_turn : (turns : List KeptTurn) (i : ℕ) (d : KeptTurn) → i < length turns
+    → map plain_turn (drop i turns) ≡ plain_turn (get_or turns i d) ∷ map plain_turn (drop (i + 1) turns)
+next_turn turns i d within =
+    ap (map plain_turn) (drop-cons turns i d within) ∙ ap (λ (n : ℕ). plain_turn (get_or turns i d) ∷ map plain_turn (drop n turns)) (sym (add-one i))
 
-module _ (tree : Tree) (turns : List KeptTurn) (i : ℕ) (kept : KeptTurn) (within : i < length turns) (is : kept ≡ get_or turns i kept) (w : PlainWorld) where
+module _ (tree : Tree) (turns : List KeptTurn) (i : ℕ) (d : KeptTurn) (within : i < length turns) (w : PlainWorld) where
+  abbrev kept : KeptTurn
+  kept = get_or turns i d
+
   -- what is left
   abbrev left : PlainEnd State EntryPoint Nothing
   left = played tree (map plain_turn (drop i turns)) w
 
   same_left : left ≡ played tree (plain_turn kept ∷ map plain_turn (drop (i + 1) turns)) w
-  same_left = ap (λ ts. played tree ts w) (next_turn turns i kept within is)
+  same_left = ap (λ ts. played tree ts w) (next_turn turns i d within)
 
   -- the turn was taken
-  pub turn_taken : (v u : PlainWorld) → moved_world tree (plain_turn kept) w ≡ Some v → u ≡ with_each (freed (unkept_kind tree)) v
-      → GoesOn tree kept.turn v (played tree (map plain_turn (drop i turns)) w) (played tree (map plain_turn (drop (i + 1) turns)) u)
+  pub turn_taken : (v u : PlainWorld) → moved_world tree (plain_turn (get_or turns i d)) w ≡ Some v → u ≡ with_each (freed (unkept_kind tree)) v
+      → GoesOn tree (get_or turns i d).turn v (played tree (map plain_turn (drop i turns)) w) (played tree (map plain_turn (drop (i + 1) turns)) u)
   turn_taken v u e f =
       let on = moved_on tree kept.turn (map plain_turn (drop (i + 1) turns)) w v u
       (plain_moves (unkept_kind tree) (plain_turn kept) w (slice_get w.processes kept.process)) e f in
       record { one = on.one; is = same_left ∙ on.is; lines = on.lines }
 
   -- it is stuck
-  pub turn_stuck : moved_world tree (plain_turn kept) w ≡ None → stuck_in (played tree (map plain_turn (drop i turns)) w) ≡ Some kept.turn
+  turn_stuck : moved_world tree (plain_turn kept) w ≡ None → stuck_in left ≡ Some kept.turn
   turn_stuck e =
       ap stuck_in (same_left ∙ moved_not tree kept.turn (map plain_turn (drop (i + 1) turns)) w
       (plain_moves (unkept_kind tree) (plain_turn kept) w (slice_get w.processes kept.process)) e)
+
+  -- what is answered where the turn was not taken
+  pub turn_answered : (stuck : Option ℕ) (new : PlainWorld) (answer : PlainAnswer) → stuck ≡ stuck_in (played tree (map plain_turn (drop i turns)) w)
+      → TakesTurn (get_or turns i d).turn (moved_world tree (plain_turn (get_or turns i d)) w) new (Err answer) → Rehearses stuck (Err answer)
+  turn_answered stuck new (Stuck t) e h = e ∙ turn_stuck h.0 ∙ ap Some (sym h.1)
+  turn_answered stuck new WriteFault e h = absurd h
+  turn_answered stuck new Memory e h = tt
+
+  -- where no turn is stuck, memory was wanting
+  pub turn_wanting : (new : PlainWorld) (answer : PlainAnswer) → stuck_in (played tree (map plain_turn (drop i turns)) w) ≡ None
+      → TakesTurn (get_or turns i d).turn (moved_world tree (plain_turn (get_or turns i d)) w) new (Err answer) → answer ≡ Memory
+  turn_wanting new (Stuck t) e h = absurd (none_some (sym e ∙ turn_stuck h.0))
+  turn_wanting new WriteFault e h = absurd h
+  turn_wanting new Memory e h = refl
+
+-- what is answered for an answer of a part
+pub rehearsed : (stuck : Option ℕ) (answer : PlainAnswer) (r : Result (Unit {0}) PlainAnswer) → IsErrAnd r (λ x. x ≡ answer) → Rehearses stuck (Err answer) → Rehearses stuck r
+rehearsed stuck answer (Ok done) h p = absurd h
+rehearsed stuck answer (Err x) h p = subst (λ y. Rehearses stuck (Err y)) (sym h) p
 
 module _ {tree : Tree} {t : ℕ} {v : PlainWorld} {all others : PlainEnd State EntryPoint Nothing} (on : GoesOn tree t v all others) where
   pub still_stuck : stuck_in all ≡ stuck_in others

@@ -1,5 +1,6 @@
 -- A text of a plain run that is written part by part, where a write may fail or memory be wanting.
 use Rattle.std.proofs.Common.{◌≡◌, ◌≤◌, ℕ, List, [], ◌++◌, length, take, Option, Result, Ok, Err, IsErr, refl, sym, ap, ◌∙◌, subst, append_assoc, arith}
+use Rattle.std.specs.Result.{IsErrAnd}
 use Rattle.rb_outside.specs.declared.Failed.{Failed}
 use Rattle.rb_outside.specs.Outside.{Faults, WrotePart, then_written}
 use Rattle.rb_outside.specs.Puts.{Puts}
@@ -24,10 +25,17 @@ pub writes_well : (a : List ℕ) (w0 w1 : Option (List ℕ)) (f0 f1 : Faults) (d
     → Puts {T = Unit {0}} {E = Failed} a w0 w1 f0 f1 (Ok done) → Writes a w0 w1 f0 f1 r
 writes_well a w0 w1 f0 f1 done r e p = subst (Writes a w0 w1 f0 f1) (sym e) (puts_well a w0 w1 f0 f1 done p)
 
-pub writes_failed : (a : List ℕ) (w0 w1 : Option (List ℕ)) (f0 f1 : Faults) (failed : Failed) (answer : PlainAnswer) → answer ≡ WriteFault
-    → Puts {T = Unit {0}} {E = Failed} a w0 w1 f0 f1 (Err failed) → Writes a w0 w1 f0 f1 (Err answer)
-writes_failed a w0 w1 f0 f1 failed answer e p =
-    subst (λ x. Writes a w0 w1 f0 f1 (Err x)) (sym e) (record { ok = tt; quiet = tt; err = p.err; failed = p.failed })
+pub writes_failed : (a : List ℕ) (w0 w1 : Option (List ℕ)) (f0 f1 : Faults) (failed : Failed) (r : Result (Unit {0}) PlainAnswer) → IsErrAnd r (λ x. x ≡ WriteFault)
+    → Puts {T = Unit {0}} {E = Failed} a w0 w1 f0 f1 (Err failed) → Writes a w0 w1 f0 f1 r
+writes_failed a w0 w1 f0 f1 failed (Ok done) h p = absurd h
+writes_failed a w0 w1 f0 f1 failed (Err answer) h p =
+    subst (λ x. Writes a w0 w1 f0 f1 (Err x)) (sym h) (record { ok = tt; quiet = tt; err = p.err; failed = p.failed })
+
+-- what is answered for an answer of a part
+pub writes_answered : (a : List ℕ) (w0 w1 : Option (List ℕ)) (f0 f1 : Faults) (answer : PlainAnswer) (r : Result (Unit {0}) PlainAnswer) → IsErrAnd r (λ x. x ≡ answer)
+    → Writes a w0 w1 f0 f1 (Err answer) → Writes a w0 w1 f0 f1 r
+writes_answered a w0 w1 f0 f1 answer (Ok done) h p = absurd h
+writes_answered a w0 w1 f0 f1 answer (Err x) h p = subst (λ y. Writes a w0 w1 f0 f1 (Err y)) (sym h) p
 
 -- memory was wanting before anything was written
 pub writes_nothing : (a : List ℕ) (w : Option (List ℕ)) (f : Faults) (answer : PlainAnswer) → answer ≡ Memory → Writes a w w f f (Err answer)

@@ -71,9 +71,23 @@ pub(crate) fn rehearse(
     ensures { Rehearses (stuck_in (played (tree program.now) (map plain_turn turns.now) (unkept_opening (tree program.now)))) result }
 {
     let mut processes = opening(alloc, program)?;
+    take_all(alloc, program, nested, turns, &mut processes)
+}
+
+// Takes these turns one after another.
+fn take_all<'t, 'a>(
+    alloc: Global,
+    program: &'t Program<'a>,
+    nested: &Nested,
+    turns: &[Kept],
+    processes: &mut [Process<'t, 'a>],
+) -> Result<(), PlainAnswer>
+    requires { HasMembers (tree program.now) nested.now }
+    ensures { Rehearses (stuck_in (played (tree program.now) (map plain_turn turns.now) (world_of (tree program.now) processes.old))) result }
+{
     for kept in turns {
-        take(alloc, program, nested, &mut processes, *kept)?;
-        free_all(program, &mut processes);
+        take(alloc, program, nested, processes, *kept)?;
+        free_all(program, processes);
     }
     Ok(())
 }
