@@ -1,3 +1,6 @@
+pub mod Binding
+pub mod Calls
+pub mod Innermost
 pub mod Places
 pub mod Spans
 pub mod Records
@@ -9,3 +12,4 @@ pub mod Writing
 pub mod TurnsLeft
 pub mod Opening
 pub mod Releasing
+pub mod Words

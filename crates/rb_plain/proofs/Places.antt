@@ -3,7 +3,7 @@ use Rattle.std.proofs.Common.{◌≡◌, ◌+◌, ◌<◌, ◌≤◌, ℕ, ℤ, 
 use Rattle.std.specs.List.{position, position_or_len}
 use Rattle.std.proofs.lemmas.Bool.Decides.{nat_tests}
 use Rattle.rb_meaning.specs.Environment.{Stored, Frame, same_name, has, stored_in}
-use Rattle.rb_plain.specs.declared.environment.Slot.{Slot}
+use Rattle.rb_plain.specs.declared.frames.Slot.{Slot}
 use Rattle.rb_plain.specs.Slots.{stored, frame, changed}
 
 -- whether a variable in memory has this name

@@ -1,8 +1,8 @@
 -- What the frames of an environment in memory stand for.
 use Rattle.std.specs.Prelude.{ℕ, ℤ, ◌-◌, nat_le, cond, List, map, reverse, slice_set, Option, Some, None}
 use Rattle.rb_meaning.specs.Environment.{Stored, Frame}
-use Rattle.rb_plain.specs.declared.environment.Slot.{Slot}
-use Rattle.rb_plain.specs.declared.environment.Call.{Call}
+use Rattle.rb_plain.specs.declared.frames.Slot.{Slot}
+use Rattle.rb_plain.specs.declared.frames.Call.{Call}
 
 -- a variable in memory
 abbrev pub stored : Slot → Stored

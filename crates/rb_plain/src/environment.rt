@@ -4,27 +4,16 @@ ghost use Rattle.std.specs.Prelude.{◌≡◌, ◌-◌, ◌++◌, length, map, r
 ghost use Rattle.std.specs.List.{flat_map, list_any};
 ghost use Rattle.std.specs.Option.{unwrap_or};
 ghost use Rattle.rb_syntax.specs.Plain.{declaration, identifier};
-ghost use Rattle.rb_meaning.specs.Environment.{same_name, size_of, zeros, frame_of, frame_words, frames_words, has, found_in, found_among, running_frames, in_running, stored_in, stored_among, values_of, store, words, global_words, push_frame, pop_frame, push_call, pop_call};
+ghost use Rattle.rb_meaning.specs.Environment.{same_name, size_of, zeros, frame_of, frame_words, frames_words, has, found_in, found_among, running_frames, in_running, stored_in, stored_among, values_of, store, words, global_words, push_frame, pop_frame, push_call, pop_call, rest_of};
 ghost use Rattle.rb_meaning.specs.Step.{bound_to, open_calls};
 ghost use Rattle.rb_plain.specs.Slots.{stored, frame, frames_of, calls_of, changed, left_of};
 
+use crate::frames::{Call, Slot, call_frame, copied_calls, copied_frame, frame};
+use crate::room::{room_of_call, room_of_calls, room_of_declared, room_of_frame};
 use rb_base::Memory;
-use rb_syntax::{Name, Number, Var};
+use rb_syntax::{Name, Var};
 use std::alloc::Global;
 use std::marker::Model;
-
-/// A variable: its name, and its numbers; a scalar has one.
-#[derive(Drop)]
-pub(crate) struct Slot<'a> {
-    name: &'a [u8],
-    values: Vec<i64>,
-}
-
-/// A call under way, or the main body: its frames, the innermost last.
-#[derive(Drop)]
-pub(crate) struct Call<'a> {
-    frames: Vec<Vec<Slot<'a>>>,
-}
 
 /// The variables of a process: those that it declares, and the frames of its calls, the running call last.
 #[derive(Drop)]
@@ -80,19 +69,20 @@ impl<'a> Environment<'a> {
     pub fn push_frame(&mut self, alloc: Global, variables: &[Var<'a>]) -> Result<(), Memory>
         ensures { OnOk result (self.new ≡ push_frame (frame_of (map declaration variables.now)) self.old) }
     {
-        if let Some(call) = self.calls.last_mut() {
-            call.frames.push(frame(alloc, variables)?)?;
-        }
-        Ok(())
+        let Some(call) = self.calls.last_mut() else {
+            return Ok(())
+        };
+        call.push(frame(alloc, variables)?)
     }
 
     /// A block ends, and its frame goes.
     pub fn pop_frame(&mut self)
         ensures { self.new ≡ pop_frame self.old }
     {
-        if let Some(call) = self.calls.last_mut() {
-            call.frames.pop();
-        }
+        let Some(call) = self.calls.last_mut() else {
+            return
+        };
+        call.pop();
     }
 
     /// A call begins: its parameters with these values, and the variables of its block with zeros. A parameter left over is 0.
@@ -139,11 +129,12 @@ impl<'a> Environment<'a> {
     {
         match self.room(most) {
             None => true,
-            Some(left) => !self.calls.is_empty() && !are_within(variables, left),
+            Some(left) => !self.calls.is_empty() && room_of_declared(variables, left).is_none(),
         }
     }
 
     /// Whether a call with so many parameters and these variables would bring the words above so many.
+    #[tactic(auto, using(crate::proofs::Words::call_words))]
     pub fn call_overflows(
         &self,
         parameters: &[Name<'a>],
@@ -153,13 +144,9 @@ impl<'a> Environment<'a> {
     ) -> bool
         ensures { result ≡ nat_lt most (words (push_call (bound_to (map identifier parameters.now) values.now ++ frame_of (map declaration variables.now)) self.now)) }
     {
-        let _ = values;
         match self.room(most) {
-            Some(left) if parameters.len() <= left => !are_within(
-                variables,
-                left - parameters.len(),
-            ),
-            _ => true,
+            None => true,
+            Some(left) => room_of_call(parameters, variables, left).is_none(),
         }
     }
 
@@ -178,88 +165,6 @@ impl<'a> Environment<'a> {
     {
         word_of(&self.globals, at)
     }
-}
-
-/// How many numbers a variable of this size has.
-fn size_of(size: Option<Number>) -> usize
-    ensures { result ≡ size_of size }
-{
-    match size {
-        None => 1,
-        Some(number) => if number.value < 0 {
-            0
-        } else {
-            number.value as usize
-        },
-    }
-}
-
-impl<'a> Slot<'a> {
-    /// A declared variable, with zeros.
-    fn new(alloc: Global, variable: &Var<'a>) -> Result<Self, Memory>
-        ensures { IfOk result (λ slot. stored slot ≡ zeros (declaration variable.now)) }
-    {
-        let values = Vec::from_elem(alloc, 0, size_of(variable.size))?;
-        Ok(Slot {
-            name: variable.name.text,
-            values,
-        })
-    }
-
-    /// Replaces a number, if it is there.
-    fn set(&mut self, index: usize, value: i64)
-        ensures { stored self.new ≡ changed (stored self.old) index value }
-    {
-        if index < self.values.len() {
-            self.values[index] = value;
-        }
-    }
-
-    /// The same variable in memory of its own.
-    fn copied(&self, alloc: Global) -> Result<Self, Memory>
-        ensures { IfOk result (λ slot. stored slot ≡ stored self.now) }
-    {
-        let values = Vec::from_slice(alloc, self.values.as_slice())?;
-        Ok(Slot {
-            name: self.name,
-            values,
-        })
-    }
-}
-
-/// The frame of these declarations, with zeros.
-fn frame<'a>(alloc: Global, variables: &[Var<'a>]) -> Result<Vec<Slot<'a>>, Memory>
-    ensures { IfOk result (λ slots. frame slots.items ≡ frame_of (map declaration variables.now)) }
-{
-    let mut slots = Vec::with_capacity(alloc, variables.len())?;
-    for variable in variables {
-        slots.push(Slot::new(alloc, variable)?)?;
-    }
-    Ok(slots)
-}
-
-/// The frame of a call: its parameters with these values, and then the variables of its block, with zeros.
-fn call_frame<'a>(
-    alloc: Global,
-    parameters: &[Name<'a>],
-    values: &[i64],
-    variables: &[Var<'a>],
-) -> Result<Vec<Slot<'a>>, Memory>
-    ensures { IfOk result (λ slots. frame slots.items ≡ bound_to (map identifier parameters.now) values.now ++ frame_of (map declaration variables.now)) }
-{
-    let mut slots = Vec::with_capacity(alloc, parameters.len())?;
-    for (place, parameter) in parameters.iter().enumerate() {
-        let value = values.get(place).copied().unwrap_or(0);
-        let values = Vec::from_elem(alloc, value, 1)?;
-        slots.push(Slot {
-            name: parameter.text,
-            values,
-        })?;
-    }
-    for variable in variables {
-        slots.push(Slot::new(alloc, variable)?)?;
-    }
-    Ok(slots)
 }
 
 /// The frames of the running call, the innermost last.
@@ -318,9 +223,9 @@ fn set(slots: &mut [Slot<'_>], name: &[u8], index: usize, value: i64) -> bool
 }
 
 /// Replaces a number in the innermost frame of the running call that has the variable, and tells whether one has it.
-fn set_running(calls: &mut [Call<'_>], name: &[u8], index: usize, value: i64) -> bool
-    ensures found { result ≡ list_any (has name.now) (running_frames (calls_of calls.old)) }
-    ensures after { calls_of calls.new ≡ cond result (in_running (stored_among name.now index value) (calls_of calls.old)) (calls_of calls.old) }
+fn set_running(calls: &mut Vec<Call<'_>>, name: &[u8], index: usize, value: i64) -> bool
+    ensures found { result ≡ list_any (has name.now) (running_frames (calls_of calls.old.items)) }
+    ensures after { calls_of calls.new.items ≡ cond result (in_running (stored_among name.now index value) (calls_of calls.old.items)) (calls_of calls.old.items) }
 {
     match calls.last_mut() {
         Some(call) => set_among(&mut call.frames, name, index, value),
@@ -333,88 +238,14 @@ fn set_among(frames: &mut [Vec<Slot<'_>>], name: &[u8], index: usize, value: i64
     ensures found { result ≡ list_any (has name.now) (reverse (map (λ slots. frame slots.items) frames.old)) }
     ensures after { reverse (map (λ slots. frame slots.items) frames.new) ≡ stored_among name.now index value (reverse (map (λ slots. frame slots.items) frames.old)) }
 {
-    let [outer @ .., slots] = frames else { return false };
-    if set(slots, name, index, value) {
-        return true;
-    }
-    set_among(outer, name, index, value)
-}
-
-/// How many words are left of so many behind a frame; none where it has more.
-fn room_of_frame(slots: &[Slot<'_>], most: usize) -> Option<usize>
-    ensures { result ≡ left_of most (frame_words (frame slots.now)) }
-{
-    let mut left = most;
-    for slot in slots {
-        left = left.checked_sub(slot.values.len())?;
-    }
-    Some(left)
-}
-
-/// The same behind the frames of a call.
-fn room_of_frames(frames: &[Vec<Slot<'_>>], most: usize) -> Option<usize>
-    ensures { result ≡ left_of most (frames_words (reverse (map (λ slots. frame slots.items) frames.now))) }
-{
-    let mut left = most;
-    for slots in frames {
-        left = room_of_frame(slots, left)?;
-    }
-    Some(left)
-}
-
-/// The same behind all calls.
-fn room_of_calls(calls: &[Call<'_>], most: usize) -> Option<usize>
-    ensures { result ≡ left_of most (sum_by frames_words (calls_of calls.now)) }
-{
-    let mut left = most;
-    for call in calls {
-        left = room_of_frames(&call.frames, left)?;
-    }
-    Some(left)
-}
-
-/// Whether these declarations have no more words than so many.
-fn are_within(variables: &[Var<'_>], most: usize) -> bool
-    ensures { result ≡ nat_le (frame_words (frame_of (map declaration variables.now))) most }
-{
-    let mut left = most;
-    for variable in variables {
-        match left.checked_sub(size_of(variable.size)) {
-            Some(less) => left = less,
-            None => return false,
+    let mut left = frames.len();
+    while left > 0 {
+        left -= 1;
+        if set(&mut frames[left], name, index, value) {
+            return true;
         }
     }
-    true
-}
-
-fn copied_frame<'a>(alloc: Global, slots: &[Slot<'a>]) -> Result<Vec<Slot<'a>>, Memory>
-    ensures { IfOk result (λ copies. frame copies.items ≡ frame slots.now) }
-{
-    let mut copies = Vec::with_capacity(alloc, slots.len())?;
-    for slot in slots {
-        copies.push(slot.copied(alloc)?)?;
-    }
-    Ok(copies)
-}
-
-fn copied_call<'a>(alloc: Global, call: &Call<'a>) -> Result<Call<'a>, Memory>
-    ensures { IfOk result (λ copy. frames_of copy ≡ frames_of call.now) }
-{
-    let mut frames = Vec::with_capacity(alloc, call.frames.len())?;
-    for slots in &call.frames {
-        frames.push(copied_frame(alloc, slots)?)?;
-    }
-    Ok(Call { frames })
-}
-
-fn copied_calls<'a>(alloc: Global, calls: &[Call<'a>]) -> Result<Vec<Call<'a>>, Memory>
-    ensures { IfOk result (λ copies. calls_of copies.items ≡ calls_of calls.now) }
-{
-    let mut copies = Vec::with_capacity(alloc, calls.len())?;
-    for call in calls {
-        copies.push(copied_call(alloc, call)?)?;
-    }
-    Ok(copies)
+    false
 }
 
 /// Word number `at` of a frame; 0 beyond it.
@@ -423,10 +254,100 @@ fn word_of(slots: &[Slot<'_>], at: usize) -> i64
 {
     let mut left = at;
     for slot in slots {
-        match slot.values.get(left) {
-            Some(value) => return *value,
-            None => left -= slot.values.len(),
+        if let Some(value) = slot.values.get(left) {
+            return *value;
         }
+        left -= slot.values.len();
     }
     0
+}
+
+#[cfg(test)]
+mod tests {
+    use super::*;
+    use rb_base::Place;
+    use rb_syntax::Number;
+    use std::test::Fail;
+
+    const PLACE: Place = Place { line: 1, column: 1 };
+
+    fn name(text: &[u8]) -> Name<'_> {
+        Name {
+            text,
+            place: PLACE,
+            id: 0,
+        }
+    }
+
+    fn scalar(text: &[u8]) -> Var<'_> {
+        Var {
+            name: name(text),
+            size: None,
+        }
+    }
+
+    fn array(text: &[u8], value: i64) -> Var<'_> {
+        Var {
+            name: name(text),
+            size: Some(Number {
+                value,
+                place: PLACE,
+            }),
+        }
+    }
+
+    #[test]
+    fn names_from_the_inside_out(rt: HostRuntime) -> Result<(), Fail> {
+        let alloc = rt.alloc();
+        let mut environment = Environment::new(alloc, &[scalar(b"x"), array(b"row", 2)])?;
+        environment.push_call(alloc, &[name(b"x")], &[7], &[])?;
+        environment.push_frame(alloc, &[scalar(b"x")])?;
+        environment.set(b"x", 0, 9);
+        environment.set(b"row", 1, -5);
+        environment.set(b"row", 2, 1);
+        assert_eq!(rt; environment.values(b"x"), [9].as_slice());
+        environment.pop_frame();
+        assert_eq!(rt; environment.values(b"x"), [7].as_slice());
+        environment.pop_call();
+        assert_eq!(rt; environment.values(b"x"), [0].as_slice());
+        assert_eq!(rt; environment.values(b"row"), [0, -5].as_slice());
+        assert_eq!(rt; environment.values(b"y"), [].as_slice());
+        assert_eq!(rt; (environment.word(2), environment.word(3)), (-5, 0));
+        Ok(())
+    }
+
+    #[test]
+    fn words_are_counted(rt: HostRuntime) -> Result<(), Fail> {
+        let alloc = rt.alloc();
+        let mut environment = Environment::new(alloc, &[scalar(b"x"), array(b"row", 2)])?;
+        environment.push_call(alloc, &[name(b"p"), name(b"q")], &[7], &[scalar(b"y")])?;
+        assert_eq!(rt; environment.open_calls(), 1);
+        assert_eq!(rt; environment.room(7), Some(1));
+        assert_eq!(rt; environment.room(5), None);
+        let block = [array(b"z", 2)];
+        for (most, want) in [(7, true), (8, false)] {
+            assert_eq!(rt; environment.overflows(&block, most), want);
+        }
+        for (most, want) in [(8, true), (9, false)] {
+            assert_eq!(rt;
+                environment.call_overflows(&[name(b"p")], &[], &block, most),
+                want
+            );
+        }
+        Ok(())
+    }
+
+    #[test]
+    fn a_copy_stands_alone(rt: HostRuntime) -> Result<(), Fail> {
+        let alloc = rt.alloc();
+        let mut environment = Environment::new(alloc, &[scalar(b"x")])?;
+        environment.push_frame(alloc, &[array(b"row", 2)])?;
+        environment.set(b"row", 1, 4);
+        let copy = environment.copied(alloc)?;
+        environment.set(b"row", 1, 5);
+        environment.set(b"x", 0, 6);
+        assert_eq!(rt; copy.values(b"x"), [0].as_slice());
+        assert_eq!(rt; copy.values(b"row"), [0, 4].as_slice());
+        Ok(())
+    }
 }

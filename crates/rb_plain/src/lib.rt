@@ -7,6 +7,7 @@ mod channels;
 pub mod counter;
 pub mod element;
 pub mod environment;
+mod frames;
 pub mod halt;
 pub mod held;
 pub(crate) mod items;
@@ -18,6 +19,7 @@ mod playing;
 mod process;
 pub mod record;
 mod record_line;
+mod room;
 pub mod state;
 mod steps;
 #[cfg(test)]
