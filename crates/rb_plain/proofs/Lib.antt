@@ -13,3 +13,5 @@ pub mod TurnsLeft
 pub mod Opening
 pub mod Releasing
 pub mod Words
+pub mod Changes
+pub mod Lines

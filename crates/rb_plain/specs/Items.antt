@@ -1,5 +1,5 @@
 -- What is left of a process's text, as memory keeps it: statements that stand one after another are one slice of the tree.
-use Rattle.std.specs.Prelude.{◌≡◌, ℕ, List, [], ◌∷◌}
+use Rattle.std.specs.Prelude.{◌≡◌, List, [], ◌∷◌}
 use Rattle.rb_syntax.specs.Plain.{command, commands_of, recovery_block}
 use Rattle.rb_meaning.specs.Environment.{rest_of}
 use Rattle.rb_meaning.specs.State.{Item as Left, Perform, StartOf, TestOf, EndBlock as BlockEnds, EndCall as CallEnds, performed}

@@ -1,9 +1,7 @@
 //! What is left of a process's text: slices of the tree, with the ends of blocks and calls between them. The next entry stands last.
 
 ghost use Rattle.std.specs.Prelude.{◌≡◌, ◌∷◌, reverse, OnOk};
-ghost use Rattle.rb_syntax.specs.Plain.{body, commands_of, recovery_block};
 ghost use Rattle.rb_meaning.specs.Environment.{rest_of};
-ghost use Rattle.rb_meaning.specs.State.{StartOf, TestOf, EndBlock as BlockEnds, EndCall as CallEnds, performed};
 ghost use Rattle.rb_plain.specs.Items.{items_of, IsFirst};
 
 use rb_base::Memory;

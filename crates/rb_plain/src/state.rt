@@ -1,15 +1,13 @@
 //! The state of a process in a plain run, over the tree: what is left of its text, its variables, what it sent and took, and the
 //! lines that it holds.
 
-ghost use Rattle.std.specs.Prelude.{◌≡◌, ◌∷◌, [], ◌<◌, length, map, replicate, reverse, slice_get, IfOk, OnOk};
-ghost use Rattle.std.specs.Option.{unwrap_or};
-ghost use Rattle.rb_syntax.specs.Plain.{commands_of, declaration, recovery_block};
-ghost use Rattle.rb_meaning.specs.Environment.{rest_of, frame_of};
+ghost use Rattle.std.specs.Prelude.{◌≡◌, [], length, map, replicate, reverse, IfOk, OnOk};
+ghost use Rattle.rb_syntax.specs.Plain.{commands_of, process_declaration, recovery_block, tree};
+ghost use Rattle.rb_meaning.specs.Environment.{rest_of};
 ghost use Rattle.rb_meaning.specs.State.{Perform, continue_with, performed, settle, with_held};
 ghost use Rattle.rb_meaning.specs.Step.{enter};
 ghost use Rattle.rb_meaning.specs.Meaning.{message_number, opening_state, sent_on, taken_on};
 ghost use Rattle.rb_syntax.specs.Tree.{Recovering};
-ghost use Rattle.rb_syntax.specs.Plain.{process_declaration, tree};
 ghost use Rattle.rb_plain.specs.Items.{items_of, IsFirst, StandsFirst};
 ghost use Rattle.rb_plain.specs.States.{state_of};
 

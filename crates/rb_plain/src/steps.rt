@@ -1,10 +1,9 @@
 //! The steps of statements that open no block.
 
-ghost use Rattle.std.specs.Prelude.{◌≡◌, [], map, true};
+ghost use Rattle.std.specs.Prelude.{◌≡◌, ◌+◌, ◌++◌, [], ◌∷◌, map, true, OnOk};
 ghost use Rattle.rb_syntax.specs.Plain.{expression, print_item, printed as plain_printed, reference};
-ghost use Rattle.rb_meaning.specs.Environment.{Environment as Variables};
+ghost use Rattle.rb_world.specs.World.{change_at};
 ghost use Rattle.rb_meaning.specs.Step.{after_blank, assigned, line_from, place_in, present_value, printed, prints, sends, takes};
-ghost use Rattle.rb_meaning.specs.Value.{value};
 ghost use Rattle.rb_plain.specs.States.{state_of};
 ghost use Rattle.rb_plain.specs.Comes.{AddsAs, AddsTo, Comes, Gives};
 
@@ -15,6 +14,7 @@ use crate::halt::Halt;
 use crate::state::State;
 use crate::value::value_of;
 use itoa::Buffer;
+use rb_base::Memory;
 use rb_syntax::{Expr, Item, ItemKind, Target};
 use std::alloc::Global;
 
@@ -63,10 +63,8 @@ impl<'t, 'a> State<'t, 'a> {
         ensures { Comes (sends (state_of self.old) channel (expression value.now)) (state_of self.new) result }
     {
         let value = present(&self.environment, value)?;
-        match self.sent.get_mut(channel) {
-            Some(values) => values.push(value).map_err(|_| Halt::Memory),
-            None => Ok(()),
-        }
+        add_sent(&mut self.sent, channel, value)?;
+        Ok(())
     }
 
     /// A receipt of this message. A number taken that a word can't hold is want of memory.
@@ -75,9 +73,7 @@ impl<'t, 'a> State<'t, 'a> {
     {
         let place = place_in(&self.environment, to)?;
         self.environment.set(to.name.text, place, message);
-        if let Some(taken) = self.taken.get_mut(channel) {
-            *taken = taken.checked_add(1).ok_or(Halt::Memory)?;
-        }
+        add_taken(&mut self.taken, channel)?;
         Ok(())
     }
 
@@ -88,6 +84,28 @@ impl<'t, 'a> State<'t, 'a> {
         let line = line_of(alloc, &self.environment, items)?;
         self.held.add(line)
     }
+}
+
+// A value joins those that were sent on a channel.
+#[tactic(auto, using(crate::proofs::Changes::changes))]
+fn add_sent(sent: &mut [Vec<i64>], channel: usize, value: i64) -> Result<(), Memory>
+    ensures { OnOk result (map (λ values. values.items) sent.new ≡ change_at channel (λ values. values ++ value ∷ []) (map (λ values. values.items) sent.old)) }
+{
+    if channel < sent.len() {
+        sent[channel].push(value)?;
+    }
+    Ok(())
+}
+
+// One value more was taken from a channel.
+#[tactic(auto, using(crate::proofs::Changes::changes))]
+fn add_taken(taken: &mut [usize], channel: usize) -> Result<(), Memory>
+    ensures { OnOk result (taken.new ≡ change_at channel (λ n. n + 1) taken.old) }
+{
+    if channel < taken.len() {
+        taken[channel] = taken[channel].checked_add(1).ok_or(Memory)?;
+    }
+    Ok(())
 }
 
 // The line of these items, evaluated from left to right.
