@@ -15,3 +15,7 @@ pub mod Releasing
 pub mod Words
 pub mod Changes
 pub mod Lines
+pub mod Judged
+pub mod Traps
+pub mod Starting
+pub mod Skipped

@@ -1,5 +1,5 @@
 -- What is looked up in a vector of the tree, as the definitions over the plain tree look it up.
-use Rattle.std.proofs.Common.{◌≡◌, ◌+◌, ◌-◌, ◌<◌, ◌≤◌, ℕ, zero, suc, Bool, true, false, cond, List, [], ◌∷◌, length, map, Option, Some, None, option_map, Bor, refl, sym, ap, ◌∙◌, arith}
+use Rattle.std.proofs.Common.{◌≡◌, ◌-◌, ◌<◌, ◌≤◌, ℕ, zero, suc, Bool, true, false, cond, List, [], ◌∷◌, length, map, Option, Some, None, option_map, Bor, refl, sym, ap, ◌∙◌, arith}
 use Rattle.std.specs.Option.{MatchOption}
 use Rattle.std.specs.List.{HoldsAt, slice_get, find}
 use Rattle.std.proofs.lemmas.Option.{slice_get-map, slice_get_past, slice_get_read}
@@ -9,14 +9,15 @@ use Rattle.rb_syntax.specs.declared.program.Procedure.{Procedure}
 use Rattle.rb_syntax.specs.declared.program.Process.{Process}
 use Rattle.rb_syntax.specs.declared.program.Program.{Program}
 use Rattle.rb_syntax.specs.Tree.{Alternates, NoAlternate, Alternate}
-use Rattle.rb_syntax.specs.Plain.{alternates_of, body, procedure_declaration, process_declaration, recovery_block, tree}
+use Rattle.rb_syntax.specs.Plain.{alternates_of, body, expression, procedure_declaration, process_declaration, recovery_block, tree}
 use Rattle.rb_syntax.proofs.Bridge.{recovery_out}
 use Rattle.rb_meaning.specs.Environment.{same_name}
 use Rattle.rb_meaning.specs.Groups.{procedure_among, procedure_named, procedures_of}
-use Rattle.rb_meaning.specs.Step.{alternate_number, alternates_in}
+use Rattle.rb_meaning.specs.Step.{alternate_number, alternates_in, test_in}
 
 -- the element that a look-up in a slice lends
-looked_up : {A : Type 0} (xs : List A) (k : ℕ) (r : Option (Bor A)) → MatchOption r (length xs ≤ k) (λ x. (k < length xs) × HoldsAt (λ y. x.now ≡ y) xs k) → option_map (λ x. x.now) r ≡ slice_get xs k
+looked_up : {A : Type 0} (xs : List A) (k : ℕ) (r : Option (Bor A)) → MatchOption r (length xs ≤ k) (λ x. (k < length xs) × HoldsAt (λ y. x.now ≡ y) xs k)
+    → option_map (λ x. x.now) r ≡ slice_get xs k
 looked_up xs k None e = sym (slice_get_past xs k e)
 looked_up xs k (Some x) e = sym (slice_get_read xs (length xs) k x.now refl e.0 (e.1 x.now))
 
@@ -42,7 +43,9 @@ alternate_before b zero below = none_first (alternates_in (recovery_block b))
 alternate_before b (suc n) below = absurd (below (omega arith))
 
 -- the block that is lent is the alternate of the number
-pub alternate_found : (b : Recovery) (n k : ℕ) (xs : List Block) (r : Option (Bor Block)) → 1 ≤ n → k ≡ n - 1 → xs ≡ (out-Recovery b).alternates.items → MatchOption r (length xs ≤ k) (λ x. (k < length xs) × HoldsAt (λ y. x.now ≡ y) xs k) → option_map (λ block. body block.now) r ≡ alternate_number n (alternates_in (recovery_block b))
+pub alternate_found : (b : Recovery) (n k : ℕ) (xs : List Block) (r : Option (Bor Block)) → 1 ≤ n
+    → k ≡ n - 1 → xs ≡ (out-Recovery b).alternates.items → MatchOption r (length xs ≤ k) (λ x. (k < length xs) × HoldsAt (λ y. x.now ≡ y) xs k)
+    → option_map (λ block. body block.now) r ≡ alternate_number n (alternates_in (recovery_block b))
 alternate_found b n k xs r some place blocks there =
     let number : n ≡ suc k = omega (arith, some, place) in
     sym (viewed (λ x. x.now) body r) ∙ ap (option_map body) (looked_up xs k r there) ∙ at_place k xs
@@ -51,21 +54,30 @@ alternate_found b n k xs r some place blocks there =
     ∙ ap (λ block. alternate_number n (alternates_in block)) (sym (recovery_out b))
 
 -- a choice of what is found, and its view
-chosen : {A B : Type 0} (f : A → B) (here : Bool) (a : A) (rest : Option A) (other : Option B) → option_map f rest ≡ other → option_map f (cond here (Some a) rest) ≡ cond here (Some (f a)) other
+chosen : {A B : Type 0} (f : A → B) (here : Bool) (a : A) (rest : Option A) (other : Option B)
+    → option_map f rest ≡ other → option_map f (cond here (Some a) rest) ≡ cond here (Some (f a)) other
 chosen f true a rest other e = refl
 chosen f false a rest other e = e
 
 -- the first procedure of a name, before and after the map to the plain tree
-procedure_found : (x : List ℕ) (procedures : List Procedure) → option_map procedure_declaration (find (λ one. same_name one.name.text.now x) procedures) ≡ procedure_among x (map procedure_declaration procedures)
+procedure_found : (x : List ℕ) (procedures : List Procedure)
+    → option_map procedure_declaration (find (λ one. same_name one.name.text.now x) procedures) ≡ procedure_among x (map procedure_declaration procedures)
 procedure_found x [] = refl
 procedure_found x (procedure ∷ procedures) =
     chosen procedure_declaration (same_name procedure.name.text.now x) procedure
     (find (λ one. same_name one.name.text.now x) procedures) (procedure_among x (map procedure_declaration procedures)) (procedure_found x procedures)
 
 -- the procedure that is lent, of a process that is there
-pub procedure_there : (program : Program) (k : ℕ) (x : List ℕ) (xs : List Process) (process : Process) (procedures : List Procedure) (r : Option (Bor Procedure)) → xs ≡ program.processes.items → slice_get xs k ≡ Some process → procedures ≡ process.procedures.items → option_map (λ procedure. procedure.now) r ≡ find (λ one. same_name one.name.text.now x) procedures → option_map (λ procedure. procedure_declaration procedure.now) r ≡ procedure_named (tree program) k x
+pub procedure_there : (program : Program) (k : ℕ) (x : List ℕ) (xs : List Process) (process : Process) (procedures : List Procedure) (r : Option (Bor Procedure))
+    → xs ≡ program.processes.items → slice_get xs k ≡ Some process → procedures ≡ process.procedures.items
+    → option_map (λ procedure. procedure.now) r ≡ find (λ one. same_name one.name.text.now x) procedures
+    → option_map (λ procedure. procedure_declaration procedure.now) r ≡ procedure_named (tree program) k x
 procedure_there program k x xs process procedures r processes there own found =
     sym (viewed (λ procedure. procedure.now) procedure_declaration r) ∙ ap (option_map procedure_declaration) found ∙ procedure_found x procedures
     ∙ ap (λ ps. procedure_among x (map procedure_declaration ps)) own
     ∙ ap (λ one. procedure_among x (procedures_of one)) (sym (slice_get-map process_declaration xs k ∙ ap (option_map process_declaration) there))
     ∙ ap (λ ys. procedure_among x (procedures_of (slice_get (map process_declaration ys) k))) processes
+
+-- the acceptance test of a recovery block
+pub test_of : (block : Recovery) → expression (out-Recovery block).test ≡ test_in (recovery_block block)
+test_of block = ap test_in (sym (recovery_out block))

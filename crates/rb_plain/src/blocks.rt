@@ -1,11 +1,11 @@
 //! The steps that open blocks and calls, and the acceptance test.
 
-ghost use Rattle.std.specs.Prelude.{◌≡◌, [], ◌∷◌, map, option_map, Some};
-ghost use Rattle.rb_syntax.specs.Plain.{body, command, expression, identifier, otherwise, procedure_declaration, recovery_block, tree};
+ghost use Rattle.std.specs.Prelude.{◌≡◌, [], map, option_map, Some};
+ghost use Rattle.rb_syntax.specs.Plain.{body, expression, identifier, otherwise, procedure_declaration, recovery_block, tree};
 ghost use Rattle.rb_syntax.specs.Tree.{Loop};
 ghost use Rattle.std.specs.List.{find};
 ghost use Rattle.rb_meaning.specs.Environment.{rest_of, same_name};
-ghost use Rattle.rb_meaning.specs.State.{Perform, StartOf, TestOf};
+ghost use Rattle.rb_meaning.specs.State.{Perform, StartOf};
 ghost use Rattle.rb_meaning.specs.Step.{alternate_number, alternates_in, calls_with, chooses, former, invokes, present_value, pushes, pushes_else, repeats, starts_body, test_in, values_in};
 ghost use Rattle.rb_meaning.specs.Value.{and_then, value};
 ghost use Rattle.rb_plain.specs.Comes.{Comes, Gives, Judges};
@@ -20,7 +20,7 @@ use crate::items::{Item, put_first};
 use crate::state::State;
 use crate::steps::present;
 use crate::value::value_of;
-use rb_base::{Edition, MOST_OPEN_CALLS};
+use rb_base::{Cause, Edition, MOST_OPEN_CALLS};
 use rb_syntax::{Block, Expr, Name, Procedure, Program, Recovery};
 use std::alloc::Global;
 
@@ -70,7 +70,8 @@ impl<'t, 'a> State<'t, 'a> {
         block: &'t Block<'a>,
         other: &'t Option<Block<'a>>,
     ) -> Result<(), Halt>
-        ensures { Comes (and_then (present_value (state_of self.old).environment (expression test.now)) (chooses edition (body block.now) (otherwise other.now) (state_of self.old).items (state_of self.old))) (state_of self.new) result }
+        ensures { Comes (and_then (present_value (state_of self.old).environment (expression test.now))
+            (chooses edition (body block.now) (otherwise other.now) (state_of self.old).items (state_of self.old))) (state_of self.new) result }
     {
         if present(&self.environment, test)? == 0 {
             self.push_else(alloc, edition, other)
@@ -88,7 +89,8 @@ impl<'t, 'a> State<'t, 'a> {
         block: &'t Block<'a>,
     ) -> Result<(), Halt>
         requires { StandsFirst (Perform (Loop (expression test.now) (body block.now))) (state_of self.old).items }
-        ensures { Comes (and_then (present_value (state_of self.old).environment (expression test.now)) (repeats edition (expression test.now) (body block.now) (rest_of (state_of self.old).items) (state_of self.old))) (state_of self.new) result }
+        ensures { Comes (and_then (present_value (state_of self.old).environment (expression test.now))
+            (repeats edition (expression test.now) (body block.now) (rest_of (state_of self.old).items) (state_of self.old))) (state_of self.new) result }
     {
         if present(&self.environment, test)? == 0 {
             self.skip();
@@ -152,7 +154,8 @@ impl<'t, 'a> State<'t, 'a> {
         alternate: u32,
     ) -> Result<(), Halt>
         requires { StandsFirst (StartOf (recovery_block block.now)) (state_of self.old).items }
-        ensures { Comes (starts_body edition (recovery_block block.now) (rest_of (state_of self.old).items) (state_of self.old) (alternate_number alternate (alternates_in (recovery_block block.now)))) (state_of self.new) result }
+        ensures { Comes (starts_body edition (recovery_block block.now) (rest_of (state_of self.old).items) (state_of self.old)
+            (alternate_number alternate (alternates_in (recovery_block block.now)))) (state_of self.new) result }
     {
         let Some(body) = alternate_of(block, alternate) else {
             return Err(Halt::Stuck);
@@ -171,26 +174,23 @@ impl<'t, 'a> State<'t, 'a> {
     ) -> Result<(), Halt>
         ensures { Judges (value (state_of self.now).environment (former (state_of self.now).environment (option_map (λ e. e.now) prior.entry)) [] (test_in (recovery_block block.now))) result }
     {
-        let value = match prior {
-            None => present(&self.environment, &block.test)?,
-            Some(prior) => tested(&self.environment, prior, &block.test)?,
-        };
-        if value == 0 { Err(Halt::Stuck) } else { Ok(()) }
+        match tested(&self.environment, prior, &block.test) {
+            Err(_) => Err(Halt::Stuck),
+            Ok(value) => if value == 0 { Err(Halt::Stuck) } else { Ok(()) },
+        }
     }
 }
 
-// The value of an acceptance test.
-fn tested(
-    environment: &Environment<'_>,
-    prior: &Environment<'_>,
-    test: &Expr<'_>,
-) -> Result<i64, Halt>
-    ensures { Gives (λ v. v) (value environment.now prior.now [] (expression test.now)) result }
+// The value of an acceptance test, given the variables at the innermost recovery point, if there is one.
+fn tested<'a>(
+    environment: &Environment<'a>,
+    prior: Option<&Environment<'a>>,
+    test: &Expr<'a>,
+) -> Result<i64, Cause>
+    ensures { result ≡ value environment.now (former environment.now (option_map (λ e. e.now) prior.entry)) [] (expression test.now) }
 {
-    match value_of(environment, prior, &Counters::None, test) {
-        Ok(value) => Ok(value),
-        Err(_) => Err(Halt::Stuck),
-    }
+    let prior = prior.unwrap_or(environment);
+    value_of(environment, prior, &Counters::None, test)
 }
 
 // The values of a call's arguments, from left to right.
