@@ -13,9 +13,13 @@ pub mod TurnsLeft
 pub mod Opening
 pub mod Releasing
 pub mod Words
+pub mod LentEnds
+pub mod InnermostLevels
+pub mod Judged
 pub mod Changes
 pub mod Lines
 pub mod Judged
 pub mod Traps
 pub mod Starting
+pub mod Words
 pub mod Skipped

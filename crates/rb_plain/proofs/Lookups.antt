@@ -16,7 +16,7 @@ use Rattle.rb_meaning.specs.Groups.{procedure_among, procedure_named, procedures
 use Rattle.rb_meaning.specs.Step.{alternate_number, alternates_in, test_in}
 
 -- the element that a look-up in a slice lends
-looked_up : {A : Type 0} (xs : List A) (k : ℕ) (r : Option (Bor A)) → MatchOption r (length xs ≤ k) (λ x. (k < length xs) × HoldsAt (λ y. x.now ≡ y) xs k)
+pub looked_up : {A : Type 0} (xs : List A) (k : ℕ) (r : Option (Bor A)) → MatchOption r (length xs ≤ k) (λ x. (k < length xs) × HoldsAt (λ y. x.now ≡ y) xs k)
     → option_map (λ x. x.now) r ≡ slice_get xs k
 looked_up xs k None e = sym (slice_get_past xs k e)
 looked_up xs k (Some x) e = sym (slice_get_read xs (length xs) k x.now refl e.0 (e.1 x.now))

@@ -1,17 +1,19 @@
 //! What a receiver of a plain run can see, and how much room a sender has.
 
-ghost use Rattle.std.specs.Prelude.{◌≡◌, ◌+◌, map, nat_lt, option_map};
+ghost use Rattle.std.specs.Prelude.{◌≡◌, ◌+◌, map, nat_lt, option_map, slice_get};
+ghost use Rattle.std.specs.Option.{unwrap_or};
 ghost use Rattle.rb_syntax.specs.Tree.{Tree};
 ghost use Rattle.rb_syntax.specs.Plain.{tree};
-ghost use Rattle.rb_world.specs.Channels.{has_room, message_there, room_from, seen_copy, seen_count};
+ghost use Rattle.rb_world.specs.Channels.{first_message, has_room, message_there, room_from, seen_copy, seen_count};
 ghost use Rattle.rb_world.specs.World.{is_shared};
 ghost use Rattle.rb_meaning.specs.Environment.{natural};
+ghost use Rattle.rb_meaning.specs.Meaning.{taken_on};
 ghost use Rattle.rb_plain.specs.Worlds.{level_of, unkept_kind, world_of};
 ghost use Rattle.rb_plain.specs.States.{state_of};
 
 use crate::numbers::process_number;
 use crate::process::{Level, Process};
-use rb_syntax::Program;
+use rb_syntax::{Number, Program};
 
 /// Whether a send on this channel has room.
 pub(crate) fn has_room<'a>(
@@ -29,19 +31,19 @@ pub(crate) fn has_room<'a>(
     match (sender, receiver) {
         (Some(sender), Some(receiver)) => {
             let from = room_from(receiver, channel);
-            has_room_behind(sender.state.sent_on(channel), from, declared.size.value)
+            has_room_behind(sender.state.sent_on(channel), from, declared.size)
         }
         _ => false,
     }
 }
 
 // So many were sent, and fewer than `size` of them come after this number; a size below 0 counts as 0.
-fn has_room_behind(sent: usize, from: usize, size: i64) -> bool
-    ensures { result ≡ nat_lt sent (natural size + from) }
+fn has_room_behind(sent: usize, from: usize, size: Number) -> bool
+    ensures { result ≡ nat_lt sent (natural size.value + from) }
 {
     match sent.checked_sub(from) {
         None => true,
-        Some(behind) => size > 0 && (behind as u64) < (size as u64),
+        Some(behind) => size.value > 0 && (behind as u64) < (size.value as u64),
     }
 }
 
@@ -50,9 +52,16 @@ fn room_from(receiver: &Process<'_, '_>, channel: usize) -> usize
     ensures { (tree : Tree) → result ≡ room_from (unkept_kind tree) (state_of receiver.now.state) (map level_of receiver.now.levels.items) channel }
 {
     match receiver.levels.first() {
-        Some(level) => level.taken.get(channel).copied().unwrap_or(0),
+        Some(level) => count_at(&level.taken, channel),
         None => receiver.state.taken_on(channel),
     }
+}
+
+// One of the counts that stood at a level's entry.
+fn count_at(counts: &[usize], channel: usize) -> usize
+    ensures { result ≡ unwrap_or (slice_get counts.now channel) 0 }
+{
+    counts.get(channel).copied().unwrap_or(0)
 }
 
 /// The first message that the receiver of this channel can see and did not take, if there is one.
@@ -64,8 +73,22 @@ pub(crate) fn message_there<'a>(
     ensures { result ≡ message_there (unkept_kind (tree program.now)) (world_of (tree program.now) processes.now) channel }
 {
     let declared = program.channels.get(channel)?;
-    let sender = processes.get(process_number(program, declared.sender.text))?;
-    let receiver = processes.get(process_number(program, declared.receiver.text))?;
+    let sender = processes.get(process_number(program, declared.sender.text));
+    let receiver = processes.get(process_number(program, declared.receiver.text));
+    match (sender, receiver) {
+        (Some(sender), Some(receiver)) => first_message(sender, receiver, channel),
+        _ => None,
+    }
+}
+
+// The first message between these two that is seen and was not taken.
+fn first_message<'t, 'a>(
+    sender: &Process<'t, 'a>,
+    receiver: &Process<'t, 'a>,
+    channel: usize,
+) -> Option<i64>
+    ensures { (tree : Tree) → result ≡ first_message (unkept_kind tree) tt channel (state_of sender.now.state) (seen_copy (map level_of sender.now.levels.items) (map level_of receiver.now.levels.items)) (taken_on (state_of receiver.now.state) channel) }
+{
     let taken = receiver.state.taken_on(channel);
     if taken < seen(sender, receiver, channel) {
         Some(sender.state.message(channel, taken))
@@ -75,11 +98,15 @@ pub(crate) fn message_there<'a>(
 }
 
 // How many values of the sender's the receiver can see: those at the entry of the sender's first level that the two do not share, or all.
-fn seen(sender: &Process<'_, '_>, receiver: &Process<'_, '_>, channel: usize) -> usize
+fn seen<'t, 'a>(
+    sender: &Process<'t, 'a>,
+    receiver: &Process<'t, 'a>,
+    channel: usize,
+) -> usize
     ensures { (tree : Tree) → result ≡ seen_count (unkept_kind tree) (state_of sender.now.state) (seen_copy (map level_of sender.now.levels.items) (map level_of receiver.now.levels.items)) channel }
 {
     match first_own(&sender.levels, &receiver.levels) {
-        Some(level) => level.sent.get(channel).copied().unwrap_or(0),
+        Some(level) => count_at(&level.sent, channel),
         None => sender.state.sent_on(channel),
     }
 }
@@ -87,14 +114,17 @@ fn seen(sender: &Process<'_, '_>, receiver: &Process<'_, '_>, channel: usize) ->
 // The first level that is not shared with these others: levels are shared as far as they are, from the outside in, of the same
 // conversations.
 fn first_own<'l, 't, 'a>(
-    levels: &'l [Level<'t, 'a>],
-    others: &[Level<'t, 'a>],
+    mut levels: &'l [Level<'t, 'a>],
+    mut others: &'l [Level<'t, 'a>],
 ) -> Option<&'l Level<'t, 'a>>
-    ensures { option_map (λ level. (level_of level.now).copy) result ≡ seen_copy (map level_of levels.now) (map level_of others.now) }
+    ensures { option_map (λ level. (level_of level.now).copy) result ≡ seen_copy (map level_of levels.entry.now) (map level_of others.entry.now) }
 {
-    for (place, level) in levels.iter().enumerate() {
-        match others.get(place) {
-            Some(other) if is_shared(level, other) => {}
+    while let [level, inner @ ..] = levels {
+        match others {
+            [other, behind @ ..] if is_shared(level, other) => {
+                levels = inner;
+                others = behind;
+            }
             _ => return Some(level),
         }
     }

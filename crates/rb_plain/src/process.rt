@@ -1,7 +1,7 @@
 //! The processes of a plain run, with their open levels. Of a level only what later turns ask for is kept: the lengths of the sent
 //! lists, the numbers taken, and the variables at its entry. Nothing is ever put back.
 
-ghost use Rattle.std.specs.Prelude.{◌≡◌, ◌&&◌, map, nat_le, nat_lt, option_map, IfOk};
+ghost use Rattle.std.specs.Prelude.{◌≡◌, ◌&&◌, length, map, nat_le, nat_lt, option_map, IfOk};
 ghost use Rattle.rb_syntax.specs.Plain.{recovery_block, tree};
 ghost use Rattle.rb_world.specs.World.{copy_of, last_of, settled, without_last};
 ghost use Rattle.rb_world.specs.Turn.{freed, lines_freed, stands_at};
@@ -47,10 +47,7 @@ impl<'t, 'a> Level<'t, 'a> {
     ) -> Result<Self, Memory>
         ensures { IfOk result (λ level. level_of level ≡ record { facts = facts_with conversation (recovery_block block.now); alternate = 0; used = 0; copy = entry_point (state_of state.now) }) }
     {
-        let mut sent = Vec::with_capacity(alloc, state.sent.len())?;
-        for values in &state.sent {
-            sent.push(values.len())?;
-        }
+        let sent = lengths_of(alloc, state.sent.as_slice())?;
         let taken = Vec::from_slice(alloc, state.taken.as_slice())?;
         let environment = state.environment.copied(alloc)?;
         Ok(Level {
@@ -60,6 +57,15 @@ impl<'t, 'a> Level<'t, 'a> {
             taken,
             environment,
         })
+    }
+}
+
+impl<'t, 'a> Level<'t, 'a> {
+    // Whether its recovery block has this alternate, counted from 1.
+    fn has_alternate(&self, alternate: u32) -> bool
+        ensures { result ≡ nat_lt 0 alternate && nat_le alternate (level_of self.now).facts.alternates }
+    {
+        0 < alternate && alternate as usize <= self.block.alternates.len()
     }
 }
 
@@ -74,11 +80,18 @@ impl<'t, 'a> Process<'t, 'a> {
         self.is_done = is_nothing(self.state.first());
     }
 
+    /// Its innermost level, if one is open.
+    pub(crate) fn innermost(&self) -> Option<&Level<'t, 'a>>
+        ensures { option_map (λ level. level_of level.now) result ≡ last_of (map level_of self.now.levels.items) }
+    {
+        self.levels.last()
+    }
+
     /// The variables at the innermost recovery point, if a level is open.
     pub(crate) fn prior(&self) -> Option<&Environment<'a>>
         ensures { option_map (λ e. e.now) result ≡ environment_at (copy_of (last_of (map level_of self.now.levels.items))) }
     {
-        match self.levels.last() {
+        match self.innermost() {
             Some(level) => Some(&level.environment),
             None => None,
         }
@@ -88,8 +101,8 @@ impl<'t, 'a> Process<'t, 'a> {
     pub(crate) fn has_alternate(&self, alternate: u32) -> bool
         ensures { result ≡ nat_lt 0 alternate && nat_le alternate (alternates_of (last_of (map level_of self.now.levels.items))) }
     {
-        match self.levels.last() {
-            Some(level) => 0 < alternate && alternate as usize <= level.block.alternates.len(),
+        match self.innermost() {
+            Some(level) => level.has_alternate(alternate),
             None => false,
         }
     }
@@ -98,7 +111,7 @@ impl<'t, 'a> Process<'t, 'a> {
     pub(crate) fn stands_at(&self, conversation: usize) -> bool
         ensures { result ≡ stands_at conversation (process_of self.now) }
     {
-        match self.levels.last() {
+        match self.innermost() {
             Some(level) => self.at_line && level.conversation == Some(conversation),
             None => false,
         }
@@ -142,4 +155,15 @@ fn is_nothing(first: First<'_, '_>) -> bool
         First::Nothing => true,
         _ => false,
     }
+}
+
+// How many values each of these lists has.
+fn lengths_of(alloc: Global, lists: &[Vec<i64>]) -> Result<Vec<usize>, Memory>
+    ensures { IfOk result (λ lengths. lengths.items ≡ map length (map (λ values. values.items) lists.now)) }
+{
+    let mut lengths = Vec::with_capacity(alloc, lists.len())?;
+    for values in lists {
+        lengths.push(values.len())?;
+    }
+    Ok(lengths)
 }
