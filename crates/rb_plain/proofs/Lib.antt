@@ -18,8 +18,6 @@ pub mod InnermostLevels
 pub mod Judged
 pub mod Changes
 pub mod Lines
-pub mod Judged
 pub mod Traps
 pub mod Starting
-pub mod Words
 pub mod Skipped
