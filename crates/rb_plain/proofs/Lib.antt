@@ -21,3 +21,4 @@ pub mod Lines
 pub mod Traps
 pub mod Starting
 pub mod Skipped
+pub mod Endings
