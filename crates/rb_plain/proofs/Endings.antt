@@ -22,7 +22,7 @@ use Rattle.rb_meaning.specs.Meaning.{by_state, count_sent, count_taken, sent_on,
 use Rattle.rb_meaning.specs.State.{State}
 use Rattle.rb_meaning.specs.PlainRun.{EntryPoint}
 use Rattle.rb_plain.specs.declared.process.Process.{Process}
-use Rattle.rb_plain.specs.Played.{ProcessesLie, VariablesLie, words_of_all}
+use Rattle.rb_plain.specs.Played.{ProcessesLie, VariablesLie, own_words, words_of_all}
 use Rattle.rb_plain.specs.States.{state_of}
 use Rattle.rb_plain.proofs.LentEnds.{LooksUp, process_at, seen_as}
 use Rattle.rb_plain.specs.Worlds.{process_of, world_of}
@@ -70,7 +70,7 @@ lies_at words (first ∷ variables) zero one h within is = subst (LiesWithin (le
 lies_at words (first ∷ variables) (suc i) one h within is = lies_at words variables i one h.1 (omega (arith, within)) is
 
 -- as many processes have words as have names, and the variables of each lie within its words
-pub lie_length : (names : List ProcessNames) (words : List (List ℤ)) → ProcessesLie names words → length words ≡ length names
+lie_length : (names : List ProcessNames) (words : List (List ℤ)) → ProcessesLie names words → length words ≡ length names
 lie_length [] [] h = refl
 lie_length [] (ws ∷ words) h = absurd h
 lie_length (one ∷ names) [] h = absurd h
@@ -83,16 +83,17 @@ lie_at (first ∷ names) [] i one own h within is at = absurd h
 lie_at (first ∷ names) (ws ∷ words) zero one own h within is at = subst₂ VariablesLie (sym is) (sym at) h.0
 lie_at (first ∷ names) (ws ∷ words) (suc i) one own h within is at = lie_at names words i one own h.1 (omega (arith, within)) is at
 
+-- the process of a name is there
+pub is_there : (names : List ProcessNames) (processes : List Process) (i : ℕ) → ProcessesLie names (words_of_all processes) → i < length names → i < length processes
+is_there names processes i lie within =
+    omega (arith, within, lie_length names (words_of_all processes) lie, length-map processes (λ (p : Process). global_words p.state.environment))
+
 module _ (names : List ProcessNames) (processes : List Process) (i : ℕ) (one : ProcessNames) (process : Process) (lie : ProcessesLie names (words_of_all processes))
     (within : i < length names) (is : one ≡ get_or names i one) (at : process ≡ get_or processes i process) where
-  -- the process is there
-  pub is_there : i < length processes
-  is_there = omega (arith, within, lie_length names (words_of_all processes) lie, length-map processes (λ (p : Process). global_words p.state.environment))
-
   own_words_at : global_words process.state.environment ≡ get_or (words_of_all processes) i (global_words process.state.environment)
   own_words_at =
       ap (λ (p : Process). global_words p.state.environment) at
-      ∙ sym (get_or-map (λ (p : Process). global_words p.state.environment) processes i process (global_words process.state.environment) is_there)
+      ∙ sym (get_or-map (λ (p : Process). global_words p.state.environment) processes i process (global_words process.state.environment) (is_there names processes i lie within))
 
   -- its variables lie within its words
   pub own_lie : VariablesLie one (global_words process.state.environment)
@@ -105,7 +106,12 @@ module _ (names : List ProcessNames) (processes : List Process) (i : ℕ) (one :
   next_values =
       ap₂ (λ (ns : List ProcessNames) (wss : List (List ℤ)). value_lines (map process_naming ns) wss) (from_item names i one within is)
       (from_item (words_of_all processes) i (global_words process.state.environment)
-      (omega (arith, is_there, length-map processes (λ (p : Process). global_words p.state.environment))) own_words_at)
+      (omega (arith, is_there names processes i lie within, length-map processes (λ (p : Process). global_words p.state.environment))) own_words_at)
+
+-- the words of the processes of a world are those in memory
+pub words_same : (tree : Tree) (processes : List Process) → own_words (world_of tree processes) ≡ words_of_all processes
+words_same tree [] = refl
+words_same tree (process ∷ processes) = ap (λ (words : List (List ℤ)). global_words process.state.environment ∷ words) (words_same tree processes)
 
 -- the next of the channels that are left
 pub next_channel : (program : Program) (states : List State) (names : List (List ℕ)) (i : ℕ) (name : List ℕ) (channel : Channel)

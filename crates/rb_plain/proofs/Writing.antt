@@ -25,11 +25,15 @@ pub writes_well : (a : List ℕ) (w0 w1 : Option (List ℕ)) (f0 f1 : Faults) (d
     → Puts {T = Unit {0}} {E = Failed} a w0 w1 f0 f1 (Ok done) → Writes a w0 w1 f0 f1 r
 writes_well a w0 w1 f0 f1 done r e p = subst (Writes a w0 w1 f0 f1) (sym e) (puts_well a w0 w1 f0 f1 done p)
 
+pub puts_failed : (a : List ℕ) (w0 w1 : Option (List ℕ)) (f0 f1 : Faults) (failed : Failed) → Puts {T = Unit {0}} {E = Failed} a w0 w1 f0 f1 (Err failed)
+    → Puts {T = Unit {0}} {E = PlainAnswer} a w0 w1 f0 f1 (Err WriteFault)
+puts_failed a w0 w1 f0 f1 failed p = record { ok = tt; quiet = tt; err = p.err; failed = p.failed }
+
 pub writes_failed : (a : List ℕ) (w0 w1 : Option (List ℕ)) (f0 f1 : Faults) (failed : Failed) (r : Result (Unit {0}) PlainAnswer) → IsErrAnd r (λ x. x ≡ WriteFault)
     → Puts {T = Unit {0}} {E = Failed} a w0 w1 f0 f1 (Err failed) → Writes a w0 w1 f0 f1 r
 writes_failed a w0 w1 f0 f1 failed (Ok done) h p = absurd h
 writes_failed a w0 w1 f0 f1 failed (Err answer) h p =
-    subst (λ x. Writes a w0 w1 f0 f1 (Err x)) (sym h) (record { ok = tt; quiet = tt; err = p.err; failed = p.failed })
+    subst (λ x. Writes a w0 w1 f0 f1 (Err x)) (sym h) (puts_failed a w0 w1 f0 f1 failed p)
 
 -- what is answered for an answer of a part
 pub writes_answered : (a : List ℕ) (w0 w1 : Option (List ℕ)) (f0 f1 : Faults) (answer : PlainAnswer) (r : Result (Unit {0}) PlainAnswer) → IsErrAnd r (λ x. x ≡ answer)
