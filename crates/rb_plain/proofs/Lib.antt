@@ -6,6 +6,13 @@ pub mod Spans
 pub mod Records
 pub mod FirstPlaces
 pub mod Lookups
+pub mod Unkept
+pub mod OwnWords
+pub mod Writing
+pub mod TurnsLeft
+pub mod Opening
+pub mod Releasing
+pub mod Words
 pub mod LentEnds
 pub mod InnermostLevels
 pub mod Judged
@@ -13,9 +20,9 @@ pub mod Changes
 pub mod Lines
 pub mod Traps
 pub mod Starting
-pub mod Words
 pub mod Skipped
 pub mod BlockFacts
 pub mod TestLines
 pub mod MovedProcesses
 pub mod AcceptedTests
+pub mod Endings

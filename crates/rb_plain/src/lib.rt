@@ -1,6 +1,7 @@
 //! Plain runs: what survived a run, run alone over the tree, with nothing ever rejected; and the records that list it.
 #![tactic(auto)]
 
+pub mod answer;
 mod blocks;
 mod channels;
 pub mod counter;
@@ -14,6 +15,8 @@ pub mod laws;
 mod moves;
 mod numbers;
 mod performing;
+pub mod plain_run;
+mod playing;
 mod process;
 pub mod record;
 mod record_line;
@@ -26,3 +29,7 @@ mod tests;
 mod turn;
 pub mod value;
 mod want;
+mod values;
+
+pub use answer::PlainAnswer;
+pub use plain_run::plain;
