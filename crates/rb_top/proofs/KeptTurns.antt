@@ -1,20 +1,20 @@
 -- The kept turns of every world of a run are turns of the run, and none of them started an alternate of a greater number than its own: in
 -- a turn each level goes on by one alternate at most.
-use Rattle.std.proofs.Common.{◌≡◌, ◌≤◌, ◌<◌, ◌+◌, ℕ, zero, suc, ℤ, Bool, true, false, cond, List, [], ◌∷◌, ◌++◌, length, map, position, slice_get, take, Option, Some, None, refl, sym, ap, subst, arith}
+use Rattle.std.proofs.Common.{◌≡◌, ◌≤◌, ◌<◌, ◌+◌, ℕ, zero, suc, ℤ, Bool, true, false, cond, List, [], ◌∷◌, ◌++◌, length, position, slice_get, Option, Some, None, refl, sym, subst, arith}
 use Rattle.rb_base.specs.declared.event.Cause.{Cause}
 use Rattle.rb_base.specs.declared.event.Cause.TheVariants.{Inner}
 use Rattle.rb_syntax.specs.Tree.{Tree}
 use Rattle.rb_world.specs.Kind.{Facts, Kind, Membership, Want, NothingLeft, SendsOn, ReceivesOn, MayReceiveOn, Enters, Starts, Acts, Went, Held}
-use Rattle.rb_world.specs.Reject.{all_back, at_place, back_to, broken_talk, fallen, fallen_inside, first_again, is_below, next_alternate, next_talk, put_back, raised, reset_below, reset_from, where_inside}
+use Rattle.rb_world.specs.Reject.{all_back, at_place, back_to, broken_talk, fallen, fallen_inside, first_again, is_below, next_alternate, next_talk, put_back, raised, reset_from, where_inside}
 use Rattle.rb_world.specs.Standing.{Each}
 use Rattle.rb_world.specs.Turn.{all_leave, freed, leaves, moved_to, new_level, one_used, opened, opening_talks, stands_at, stands_now, state_freed, tried_at, turn_used}
-use Rattle.rb_world.specs.World.{Level, Process, Talk, World, change_at, copy_of, goes_on, is_inside, is_of, last_of, settled, with_memory, with_process, without_last}
+use Rattle.rb_world.specs.World.{Level, Process, Talk, change_at, copy_of, goes_on, is_inside, is_of, last_of, settled, with_memory, with_process, without_last}
 use Rattle.rb_world.proofs.EachProcess.{settled_each}
 use Rattle.rb_world.proofs.Induction.{run-keeps}
 use Rattle.rb_world.proofs.Invariant.{IsInvariant}
 use Rattle.rb_world.proofs.LevelFacts.{IsOldOrNew, IsOld, IsNew, get_more, get_take, get_without_last}
 use Rattle.rb_world.proofs.ListFacts.{Each-change_at, Each-map, none_some, some_same}
-use Rattle.rb_world.proofs.TurnFacts.{EntersAt, IsEntry, Alone, Joining, StepsAt, all_broken, all_next, all_spent, alternate_for, come_to_stand}
+use Rattle.rb_world.proofs.TurnFacts.{IsEntry, Alone, Joining, StepsAt, all_broken, all_next, all_spent, alternate_for, come_to_stand}
 use Rattle.rb_meaning.specs.Environment.{Environment}
 use Rattle.rb_meaning.specs.Meaning.{TreeWorld, environment_of, opening_states, opening_world, run_of, tree_kind}
 use Rattle.rb_meaning.specs.State.{State, with_kept}
