@@ -37,6 +37,19 @@ fn lends_what_was_released(rt: HostRuntime) -> Result<(), Fail> {
     Ok(())
 }
 
+#[test]
+fn forgets_what_was_released(rt: HostRuntime) -> Result<(), Fail> {
+    let mut hold = Hold::new(rt.alloc())?;
+    assert!(rt; hold.add(b"one"));
+    assert!(rt; hold.add(b""));
+    hold.release();
+    assert_eq!(rt; hold.drop_released(), 2);
+    assert!(rt; next_is(&mut hold, None));
+    assert!(rt; hold.add(b"three"));
+    assert_eq!(rt; hold.length(), 6);
+    Ok(())
+}
+
 // One line fills all of the room, with its line end.
 #[test]
 fn holds_no_more_than_its_room(rt: HostRuntime) -> Result<(), Fail> {

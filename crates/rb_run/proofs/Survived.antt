@@ -1,5 +1,5 @@
 -- The survivors of a run as the calls of this crate have them, and that they are the meaning's.
-use Rattle.std.proofs.Common.{◌≡◌, ℕ, zero, suc, List, [], ◌∷◌, length, map, slice_get, Option, Result, Ok, Err, Some, refl, sym, ap, ◌∙◌, subst}
+use Rattle.std.proofs.Common.{◌≡◌, ℕ, zero, suc, List, [], ◌∷◌, length, map, slice_get, Option, Ok, Err, Some, refl, sym, ap, ◌∙◌}
 use Rattle.std.proofs.lemmas.Simd.{map-map}
 use Rattle.rb_outside.specs.Outside.{Faults}
 use Rattle.rb_outside.specs.Puts.{Puts}
@@ -9,34 +9,24 @@ use Rattle.rb_world.specs.Kind.{Membership}
 use Rattle.rb_world.specs.Plain.{survivors_of}
 use Rattle.rb_world.specs.World.{Process}
 use Rattle.rb_meaning.specs.Groups.{groups_of}
-use Rattle.rb_meaning.specs.Laws.{IsAlwaysErased, IsErased}
+use Rattle.rb_meaning.specs.Laws.{IsAlwaysErased}
 use Rattle.rb_meaning.specs.Meaning.{run_of, survivors}
 use Rattle.rb_meaning.specs.State.{State}
 use Rattle.rb_meaning.proofs.TreeErasure.{erasure}
-use Rattle.rb_scope.specs.InFrames.{Resolved}
-use Rattle.rb_scope.specs.declared.slot.Slot.{Slot}
-use Rattle.rb_judge.specs.Verdict.{IsAccepted}
 use Rattle.rb_judge.proofs.Accepted.{of_accepted}
 use Rattle.rb_code.specs.Laws.{Agrees}
 use Rattle.rb_code.specs.Plain.{Code}
-use Rattle.rb_code.specs.StandsFor.{StandsFor}
 use Rattle.rb_code.specs.Turn.{Copy, Standing, kept_from}
 use Rattle.rb_code.specs.WordRun.{word_run}
 use Rattle.rb_prepare.proofs.AcceptedSources.{accepted_code_agrees}
 use Rattle.rb_machine.specs.Survivors.{word_survivors}
 use Rattle.rb_run.specs.Surviving.{IsErasedOver, Survives}
-use Rattle.rb_run.specs.declared.surviving.Ended.{Ended}
 use Rattle.rb_run.specs.declared.surviving.Ended.TheVariants.{WriteFault}
 
--- another name for the text
-pub survives_same : (a b : List ℕ) (w0 w1 : Option (List ℕ)) (f0 f1 : Faults) (r : Result (Unit {0}) Ended) → a ≡ b → Survives a w0 w1 f0 f1 r
-    → Survives b w0 w1 f0 f1 r
-survives_same a b w0 w1 f0 f1 r e h = subst (λ (text : List ℕ). Survives text w0 w1 f0 f1 r) e h
-
 -- a text that was written, or not to its end
-pub survives_written : (text : List ℕ) (w0 w1 : Option (List ℕ)) (f0 f1 : Faults) → Puts {T = Unit {0}} {E = Failed} text w0 w1 f0 f1 (Ok tt)
+pub survives_written : (text : List ℕ) (w0 w1 : Option (List ℕ)) (f0 f1 : Faults) (done : Unit {0}) → Puts {T = Unit {0}} {E = Failed} text w0 w1 f0 f1 (Ok done)
     → Survives text w0 w1 f0 f1 (Ok tt)
-survives_written text w0 w1 f0 f1 p = record { ok = p.ok; quiet = p.quiet; err = p.err; failed = p.failed }
+survives_written text w0 w1 f0 f1 done p = record { ok = p.ok; quiet = p.quiet; err = p.err; failed = p.failed }
 
 pub survives_stopped : (text : List ℕ) (w0 w1 : Option (List ℕ)) (f0 f1 : Faults) (e : Failed) → Puts {T = Unit {0}} {E = Failed} text w0 w1 f0 f1 (Err e)
     → Survives text w0 w1 f0 f1 (Err WriteFault)
@@ -67,6 +57,6 @@ same_survivors tree c turns agrees =
 pub erased_over : (c : Code) (groups : List Membership) (turns : List ℕ) → IsErasedOver c groups turns
 erased_over c groups turns source tree slots accepted resolved stands same = (
   ap (λ (all : List Membership). word_survivors (word_run c all turns).0) same
-  ∙ same_survivors tree c turns (accepted_code_agrees source tree slots c accepted resolved stands turns),
+      ∙ same_survivors tree c turns (accepted_code_agrees source tree slots c accepted resolved stands turns),
   of_accepted IsAlwaysErased erasure source tree accepted turns,
 )

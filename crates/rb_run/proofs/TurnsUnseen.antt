@@ -1,18 +1,15 @@
 -- Turns of which nothing is written: their released lines are forgotten, and they are counted.
-use Rattle.std.proofs.Common.{◌≡◌, ◌<◌, ◌≤◌, ◌+◌, ◌*◌, ◌^◌, ℕ, suc, Bool, List, [], ◌∷◌, length, count_by, replicate, sum_by, refl, sym, ap, ◌∙◌, subst, arith}
+use Rattle.std.proofs.Common.{◌≡◌, ◌<◌, ◌≤◌, ◌+◌, ◌*◌, ◌^◌, ℕ, suc, Bool, List, [], ◌∷◌, length, count_by, replicate, sum_by, sym, ap, ◌∙◌, arith}
 use Rattle.std.proofs.lemmas.List.Sums.{count_by-le-length, sum_by-cons}
 use Rattle.rb_base.specs.declared.event.Event.{Event}
-use Rattle.rb_base.specs.declared.event.TurnKind.{TurnKind}
-use Rattle.rb_trace.specs.Report.{told_of}
 use Rattle.rb_meaning.specs.Laws.{is_rejection}
 use Rattle.rb_world.specs.Text.{is_done}
-use Rattle.rb_world.specs.Turn.{Told, run, told_at_opening}
+use Rattle.rb_world.specs.Turn.{Told, run}
 use Rattle.rb_code.specs.WordKind.{word_kind}
-use Rattle.rb_code.specs.WordRun.{opening_of, word_run}
-use Rattle.rb_machine.specs.Machine.{HasTurned, Seen, opening_seen, turned}
+use Rattle.rb_machine.specs.Machine.{HasTurned, Seen, opening_seen}
 use Rattle.rb_machine.proofs.Sizes.{opening-processes}
-use Rattle.rb_run.specs.Counting.{AreBelow, Counted, IsMore, both_counted, counts, events_told, is_error, is_pass, lines_told, nothing_counted, told_counts}
-use Rattle.rb_run.specs.Running.{NoneWaits, ran}
+use Rattle.rb_run.specs.Counting.{AreBelow, Counted, IsMore, both_counted, counts, events_told, is_error, is_pass, lines_told, told_counts}
+use Rattle.rb_run.specs.Running.{NoneWaits}
 use Rattle.rb_run.specs.declared.counting.Counts.{Counts}
 use Rattle.rb_run.proofs.TurnsTaken.{after_turn, is_after}
 
@@ -109,57 +106,9 @@ counted_all m left none c whole so_far =
     sym (counted_alone (counts c))
     ∙ (ap (λ (turns : List ℕ). both_counted (counts c) (told_counts (told_left m turns))) (sym none) ∙ so_far)
 
--- A machine that was just loaded, of which no line waits, and all its turns.
+-- no line of a machine waits that was just loaded
 pub none_waits_first : (old : Seen) → old ≡ opening_seen old.code old.groups old.most → NoneWaits old
 none_waits_first old fresh =
     let each : length old.world.processes ≡ length old.code.processes =
     ap (λ (m : Seen). length m.world.processes) fresh ∙ opening-processes old.code old.groups in
     ap (λ (m : Seen). m.waiting) fresh ∙ ap (λ n. replicate n []) (sym each)
-
-module _ (old : Seen) (fresh : old ≡ opening_seen old.code old.groups old.most) (all left : List ℕ) (whole : left ≡ all) where
-  pub world_then : (ran old left).world ≡ (word_run old.code old.groups all).0
-  world_then =
-      ap (λ (turns : List ℕ). (ran old turns).world) whole
-      ∙ ap (λ (m : Seen). (run (word_kind m.code m.groups) (m.taken + 1) all m.world).0) fresh
-
-  told_then : told_left old left ≡ (word_run old.code old.groups all).1
-  told_then = ap (told_left old) whole ∙ ap (λ (m : Seen). told_left m all) fresh
-
-  -- the opening, and the turns, are counted from nothing
-  pub counted_whole : (none first last : Counts) (kind : TurnKind) (events : List Event) → counts none ≡ nothing_counted → IsMore none 0 events first
-      → told_of kind events [] ≡ told_at_opening old.world
-      → counts last ≡ both_counted (counts first) (told_counts (told_left old left))
-      → counts last ≡ told_counts (told_at_opening (opening_of old.code old.groups) ∷ (word_run old.code old.groups all).1)
-  counted_whole none first last kind events nothing more told counted =
-      let opening : told_of kind events [] ≡ told_at_opening (opening_of old.code old.groups) =
-      told ∙ ap (λ (m : Seen). told_at_opening m.world) fresh in
-      counted
-      ∙ (counted_with none first 0 (told_of kind events []) (told_left old left) more refl
-      ∙ (ap (λ (c : Counted). both_counted c (told_counts (told_of kind events [] ∷ told_left old left))) nothing
-      ∙ (counted_from (told_counts (told_of kind events [] ∷ told_left old left))
-      ∙ (ap (λ (one : Told). told_counts (one ∷ told_left old left)) opening
-      ∙ ap (λ (rest : List Told). told_counts (told_at_opening (opening_of old.code old.groups) ∷ rest)) told_then))))
-    where
-      counted_from : (c : Counted) → both_counted nothing_counted c ≡ c
-      counted_from c = same_counted (both_counted nothing_counted c) c (omega arith) (omega arith) (omega arith) (omega arith) (omega arith)
-
--- counts of nothing are small
-pub nothing_below : (c : Counts) → counts c ≡ nothing_counted → AreBelow (2 ^ 63) c
-nothing_below c e = record {
-  out = omega (arith, ap (λ (x : Counted). x.out) e);
-  reject = omega (arith, ap (λ (x : Counted). x.reject) e);
-  pass = omega (arith, ap (λ (x : Counted). x.pass) e);
-  error = omega (arith, ap (λ (x : Counted). x.error) e);
-  done = omega (arith, ap (λ (x : Counted). x.done) e);
-}
-
--- and so are those of an opening
-pub opening_below : (none first : Counts) (events : List Event) → counts none ≡ nothing_counted → IsMore none 0 events first → length events ≤ 96
-    → AreBelow (2 ^ 32) first
-opening_below none first events e more short = record {
-  out = omega (arith, more.out, ap (λ (x : Counted). x.out) e);
-  reject = omega (arith, more.reject, ap (λ (x : Counted). x.reject) e, count_by-le-length is_rejection events);
-  pass = omega (arith, more.pass, ap (λ (x : Counted). x.pass) e, count_by-le-length is_pass events);
-  error = omega (arith, more.error, ap (λ (x : Counted). x.error) e, count_by-le-length is_error events);
-  done = omega (arith, more.done, ap (λ (x : Counted). x.done) e, count_by-le-length is_done events);
-}

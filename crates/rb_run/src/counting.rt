@@ -70,7 +70,13 @@ impl Counts {
     fn none() -> Self
         ensures { counts result ≡ nothing_counted }
     {
-        Counts { out: 0, reject: 0, pass: 0, error: 0, done: 0 }
+        Counts {
+            out: 0,
+            reject: 0,
+            pass: 0,
+            error: 0,
+            done: 0,
+        }
     }
 
     // Adds the lines of one turn: its events, and so many released lines.

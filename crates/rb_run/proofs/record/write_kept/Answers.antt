@@ -1,5 +1,5 @@
 -- The line of a start has its alternate, and any other has none.
-use Rattle.std.proofs.Common.{ℕ, Bool, List, [], ◌∷◌, cond, nat_eq, decimal, sym, subst, rules}
+use Rattle.std.proofs.Common.{Bool, [], ◌∷◌, cond, decimal, sym, subst, rules}
 use Rattle.std.proofs.lemmas.Bool.{ne_eqb}
 use Rattle.rb_outside.specs.declared.Failed.{Failed}
 use Rattle.rb_outside.specs.Puts.{Puts}

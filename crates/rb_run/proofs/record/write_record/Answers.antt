@@ -15,11 +15,10 @@ loop-turn-preserved g c =
 
 pub returns-in_err-write_kept : goal.returns-in_err-write_kept
 returns-in_err-write_kept g c =
-    let line = line_of_kept (naming c.args.names.now) in
-    let next = puts_next line c.args.kept.now c.loop-turn.turn-index _ c.loop-turn-test.true _ _ _ _ _ _ _ _ c.loop-turn.invariant
-    c.in_err-write_kept.ensures in
     puts_same _ _ _ _ _ _ _ (lines_of_kept (naming c.args.names.now) c.args.kept.now)
-    (puts_part line c.args.kept.now _ _ _ _ _ _ c.from_residual.result c.from_residual.ensures.0 next)
+    (puts_part (line_of_kept (naming c.args.names.now)) c.args.kept.now _ _ _ _ _ _ c.from_residual.result c.from_residual.ensures.0
+    (puts_next (line_of_kept (naming c.args.names.now)) c.args.kept.now c.loop-turn.turn-index _ c.loop-turn-test.true _ _ _ _ _ _ _ _
+    c.loop-turn.invariant c.in_err-write_kept.ensures))
 
 pub returns : goal.returns
 returns g c =

@@ -1,0 +1,13 @@
+-- The survivors of all turns, which are those of the meaning.
+use Rattle.rb_run.proofs.Survived.{erased_over}
+use Rattle.rb_run.proofs.TurnsUnseen.{none_waits_first}
+use Rattle.rb_run.proofs.surviving.survive.Goals as goal
+
+pub take_unseen-requires-clause-waits : goal.take_unseen-requires-clause-waits
+take_unseen-requires-clause-waits g c = none_waits_first c.args.machine.now c.requires.fresh
+
+pub returns-in-Ok-clause-erased : goal.returns-in-Ok-clause-erased
+returns-in-Ok-clause-erased g c = erased_over c.args.machine.now.code c.args.machine.now.groups c.args.schedule.all
+
+pub returns-in-Err-clause-erased : goal.returns-in-Err-clause-erased
+returns-in-Err-clause-erased g c = erased_over c.args.machine.now.code c.args.machine.now.groups c.args.schedule.all
