@@ -15,10 +15,11 @@ use Rattle.rb_plain.specs.Record.{record_of}
 use Rattle.rb_make.specs.Trial.{schedule_of as made_schedule, source_of}
 use Rattle.rb_top.specs.Words.{Run, Survive, Replay, Check, Compile, Trial}
 use Rattle.rb_top.specs.Judgement.{Judgement, ReadsOn, RefusedWith, Writes, too_long_line, source_line, text_line, stuck_line, accepted_line, names_of, SourceRefused, long_source, bad_source, Accepted}
-use Rattle.rb_top.specs.Judgement.{ScheduleRefused, long_schedule, bad_schedule, RecordRefused, long_record, bad_record, stuck_record, survivors_text, summary_text}
+use Rattle.rb_top.specs.Judgement.{ScheduleRefused, long_schedule, bad_schedule, ScheduleRuns, RecordRefused, RecordPlays, long_record, bad_record, stuck_record, survivors_text, summary_text}
 use Rattle.rb_top.specs.Judgement.{JudgesSource, at_first, source_refused, source_accepted, OverSchedule, reads_schedule, schedule_refused, runs, PlainGoesOn, reads_record, record_refused, plays}
 use Rattle.rb_top.specs.Judgement.{accepts, ListsCodeOf, lists, EndsBy, EndsWith, refused_here, written_here, later}
 use Rattle.rb_top.specs.Laws.{AreJudged}
+use Rattle.rb_top.proofs.BothTexts.{BothEnd, first_refused, second_refused, second_writes}
 use Rattle.rb_judge.proofs.BlocksInOrder.{parsed_are_numbered}
 use Rattle.rb_judge.proofs.OwnNumbers.{parsed_have_own_numbers}
 use Rattle.rb_judge.proofs.Verdicts.{have_verdicts}
@@ -48,38 +49,9 @@ by_length source false e = by_verdict source (ltb-false MOST_BYTES (length sourc
 sourced : (source : List ℕ) → Sourced source
 sourced source = by_length source (nat_lt MOST_BYTES (length source)) refl
 
--- ---- a source and a second text
-
-module _ (goes_on : Tree → List (List ℕ) → Judgement → Type 0) (source second : List ℕ) where
-  -- a command that looks at the source first ends with them
-  abbrev Judged : Type 0
-  Judged = (judgement : Judgement) × EndsBy (JudgesSource goes_on) [] (source ∷ second ∷ []) judgement
-
-  -- the source is refused
-  refused_first : (line : List ℕ) → SourceRefused source line → Judged
-  refused_first line refused = (
-    RefusedWith line,
-    later [] source (second ∷ []) (RefusedWith line) at_first (refused_here (source ∷ []) (second ∷ []) line (source_refused source line refused)),
-  )
-
-  module _ (tree : Tree) (accepted : Accepted source tree) (reads : goes_on tree [] ReadsOn) where
-    -- the second text is refused
-    refused_then : (line : List ℕ) → goes_on tree (second ∷ []) (RefusedWith line) → Judged
-    refused_then line refused = (
-      RefusedWith line,
-      later [] source (second ∷ []) (RefusedWith line) at_first
-          (later (source ∷ []) second [] (RefusedWith line) (source_accepted source tree [] ReadsOn accepted reads)
-          (refused_here (source ∷ second ∷ []) [] line (source_accepted source tree (second ∷ []) (RefusedWith line) accepted refused))),
-    )
-
-    -- the command has its text
-    written_then : (text : List ℕ) → goes_on tree (second ∷ []) (Writes text) → Judged
-    written_then text written = (
-      Writes text,
-      later [] source (second ∷ []) (Writes text) at_first
-          (later (source ∷ []) second [] (Writes text) (source_accepted source tree [] ReadsOn accepted reads)
-          (written_here (source ∷ second ∷ []) [] text (source_accepted source tree (second ∷ []) (Writes text) accepted written))),
-    )
+-- a command that looks at a source first ends with it and a second text
+abbrev Judged : (Tree → List (List ℕ) → Judgement → Type 0) → List ℕ → List ℕ → Type 0
+Judged goes_on source second = (judgement : Judgement) × BothEnd goes_on source second judgement
 
 -- ---- a schedule
 
@@ -89,13 +61,14 @@ module _ (text_of : Tree → List ℕ → List ℕ) (source schedule : List ℕ)
 
   module _ (tree : Tree) (accepted : Accepted source tree) where
     refuses : (line : List ℕ) → ScheduleRefused tree schedule line → Scheduled
-    refuses line refused = refused_then (OverSchedule text_of) source schedule tree accepted reads_schedule line (schedule_refused schedule line refused)
+    refuses line refused = (RefusedWith line, second_refused (OverSchedule text_of) source schedule tree accepted reads_schedule line (schedule_refused schedule line refused))
 
     -- it is a list of turns, or has a first fault
     listed : (read : Result (List ℕ) TextFault) → length schedule ≤ MOST_BYTES → schedule_of (names_of tree) schedule ≡ read → Scheduled
     listed (Ok turns) short e =
         let text = text_of tree turns in
-        written_then (OverSchedule text_of) source schedule tree accepted reads_schedule text (runs schedule text (record { turns = turns; short = short; listed = e; is = refl }))
+        let ran : ScheduleRuns text_of tree schedule text = record { turns = turns; short = short; listed = e; is = refl } in
+        (Writes text, second_writes (OverSchedule text_of) source schedule tree accepted reads_schedule text (runs schedule text ran))
     listed (Err fault) short e = refuses (text_line fault) (bad_schedule fault short e refl)
 
     -- it is too long, or not
@@ -104,7 +77,7 @@ module _ (text_of : Tree → List ℕ → List ℕ) (source schedule : List ℕ)
     scheduled false e = listed (schedule_of (names_of tree) schedule) (ltb-false MOST_BYTES (length schedule) e) refl
 
   over_schedule : Sourced source → Scheduled
-  over_schedule (inl (line, refused)) = refused_first (OverSchedule text_of) source schedule line refused
+  over_schedule (inl (line, refused)) = (RefusedWith line, first_refused (OverSchedule text_of) source schedule line refused)
   over_schedule (inr (tree, accepted)) = scheduled tree accepted (nat_lt MOST_BYTES (length schedule)) refl
 
 -- ---- a record
@@ -115,13 +88,14 @@ module _ (source kept : List ℕ) where
 
   module _ (tree : Tree) (accepted : Accepted source tree) where
     refuses_record : (line : List ℕ) → RecordRefused tree kept line → Recorded
-    refuses_record line refused = refused_then PlainGoesOn source kept tree accepted reads_record line (record_refused kept line refused)
+    refuses_record line refused = (RefusedWith line, second_refused PlainGoesOn source kept tree accepted reads_record line (record_refused kept line refused))
 
     module _ (short : length kept ≤ MOST_BYTES) where
       -- its plain run has a text, or is stuck
       played : (turns : List Kept) → record_of (names_of tree) kept ≡ Ok turns → (text : Result (List ℕ) ℕ) → plain_text tree turns ≡ text → Recorded
       played turns e (Ok text) is =
-          written_then PlainGoesOn source kept tree accepted reads_record text (plays kept text (record { turns = turns; short = short; listed = e; is = is }))
+          let ran : RecordPlays tree kept text = record { turns = turns; short = short; listed = e; is = is } in
+          (Writes text, second_writes PlainGoesOn source kept tree accepted reads_record text (plays kept text ran))
       played turns e (Err turn) is = refuses_record (stuck_line turn) (stuck_record turns turn short e is refl)
 
       -- it is a list of kept turns, or has a first fault
@@ -135,7 +109,7 @@ module _ (source kept : List ℕ) where
     recorded false e = kept_listed (ltb-false MOST_BYTES (length kept) e) (record_of (names_of tree) kept) refl
 
   over_record : Sourced source → Recorded
-  over_record (inl (line, refused)) = refused_first PlainGoesOn source kept line refused
+  over_record (inl (line, refused)) = (RefusedWith line, first_refused PlainGoesOn source kept line refused)
   over_record (inr (tree, accepted)) = recorded tree accepted (nat_lt MOST_BYTES (length kept)) refl
 
 -- ---- commands that read two texts

@@ -3,6 +3,11 @@ pub mod Chains
 pub mod Answering
 pub mod Sources
 pub mod Judged
+pub mod BothTexts
+pub mod KeptTurns
+pub mod RecordsReadBack
+pub mod SurvivorsKept
+pub mod SurvivorsReplay
 pub mod Complete
 pub mod AllJudged
 pub mod Loaded

@@ -7,10 +7,10 @@ use Rattle.rb_prepare.specs.Prepared.{IsPrepared}
 use Rattle.rb_prepare.specs.declared.preparing.Prepared.{Prepared}
 use Rattle.rb_syntax.specs.Tree.{Tree}
 use Rattle.rb_top.specs.Words.{Trial}
-use Rattle.rb_top.specs.Judgement.{Judgement, ReadsOn, RefusedWith, Writes, Accepted, Judges, JudgesSource, at_first, source_refused, source_accepted}
-use Rattle.rb_top.specs.Judgement.{OverSchedule, reads_schedule, schedule_refused, runs, EndsBy, refused_here, written_here, later, summary_text}
+use Rattle.rb_top.specs.Judgement.{Judgement, ReadsOn, RefusedWith, Writes, Accepted, Judges, OverSchedule, reads_schedule, schedule_refused, runs, summary_text}
 use Rattle.rb_top.specs.Stages.{EndsForSchedule, EndsForSource, StageEnds}
 use Rattle.rb_top.specs.declared.status.Status.{Status}
+use Rattle.rb_top.proofs.BothTexts.{BothEnd, first_refused, second_refused, second_writes}
 use Rattle.rb_top.proofs.Sources.{stage_as}
 
 -- with its schedule, a command reads no more
@@ -21,31 +21,17 @@ none_reads_on text_of tree texts j schedule (schedule_refused again line r) one 
 none_reads_on text_of tree texts j schedule (runs again text r) one e = cc
 
 module _ (text_of : Tree → List ℕ → List ℕ) (source schedule : List ℕ) where
-  abbrev BothEnd : Judgement → Type 0
-  BothEnd judgement = EndsBy (JudgesSource (OverSchedule text_of)) [] (source ∷ schedule ∷ []) judgement
-
   -- a refused source ends both
-  ends_for_source : (j : Judgement) → EndsForSource source j → BothEnd j
+  ends_for_source : (j : Judgement) → EndsForSource source j → BothEnd (OverSchedule text_of) source schedule j
   ends_for_source ReadsOn h = absurd h
-  ends_for_source (RefusedWith line) refused =
-      later [] source (schedule ∷ []) (RefusedWith line) at_first (refused_here (source ∷ []) (schedule ∷ []) line (source_refused source line refused))
+  ends_for_source (RefusedWith line) refused = first_refused (OverSchedule text_of) source schedule line refused
   ends_for_source (Writes text) h = absurd h
 
-  module _ (tree : Tree) (accepted : Accepted source tree) where
-    -- what the schedule of an accepted one comes to is a judgement of both
-    judged_both : (j : Judgement) → OverSchedule text_of tree (schedule ∷ []) j → JudgesSource (OverSchedule text_of) (source ∷ schedule ∷ []) j
-    judged_both j h = source_accepted source tree (schedule ∷ []) j accepted h
-
-    -- both were read once this was wanted
-    goes_further : (j : Judgement) → EndsBy (JudgesSource (OverSchedule text_of)) (source ∷ schedule ∷ []) [] j → BothEnd j
-    goes_further j ends =
-        later [] source (schedule ∷ []) j at_first (later (source ∷ []) schedule [] j (source_accepted source tree [] ReadsOn accepted reads_schedule) ends)
-
-    -- so both end with it
-    ends_for_schedule : (j : Judgement) → OverSchedule text_of tree (schedule ∷ []) j → BothEnd j
-    ends_for_schedule ReadsOn h = absurd (none_reads_on text_of tree (schedule ∷ []) ReadsOn schedule h refl refl)
-    ends_for_schedule (RefusedWith line) h = goes_further (RefusedWith line) (refused_here (source ∷ schedule ∷ []) [] line (judged_both (RefusedWith line) h))
-    ends_for_schedule (Writes text) h = goes_further (Writes text) (written_here (source ∷ schedule ∷ []) [] text (judged_both (Writes text) h))
+  -- and so does what the schedule of an accepted one comes to
+  ends_for_schedule : (tree : Tree) → Accepted source tree → (j : Judgement) → OverSchedule text_of tree (schedule ∷ []) j → BothEnd (OverSchedule text_of) source schedule j
+  ends_for_schedule tree accepted ReadsOn h = absurd (none_reads_on text_of tree (schedule ∷ []) ReadsOn schedule h refl refl)
+  ends_for_schedule tree accepted (RefusedWith line) h = second_refused (OverSchedule text_of) source schedule tree accepted reads_schedule line h
+  ends_for_schedule tree accepted (Writes text) h = second_writes (OverSchedule text_of) source schedule tree accepted reads_schedule text h
 
 module _ (n : ℕ) (source : List ℕ) (made : source ≡ source_of n) (w0 w1 : Option (List ℕ)) (f0 f1 : Faults) (status : Status) where
   -- the source that is made for it is refused

@@ -1,7 +1,13 @@
 -- Laws of judgements.
-use Rattle.std.specs.Prelude.{◌≡◌, ℕ, List, [], length}
-use Rattle.rb_top.specs.Words.{Command, files_of}
-use Rattle.rb_top.specs.Judgement.{Judgement, EndsWith}
+use Rattle.std.specs.Prelude.{◌≡◌, ◌≤◌, ℕ, List, [], ◌∷◌, ◌++◌, length, Ok}
+use Rattle.rb_base.specs.declared.limits.TheConstants.{MOST_BYTES}
+use Rattle.rb_syntax.specs.Tree.{Tree}
+use Rattle.rb_world.specs.Erased.{numbered}
+use Rattle.rb_world.specs.Text.{outs_text, values_text}
+use Rattle.rb_meaning.specs.Meaning.{final_of, naming_of, run_of, run_text}
+use Rattle.rb_sched.specs.Schedule.{schedule_of}
+use Rattle.rb_top.specs.Words.{Command, Run, Survive, Replay, files_of}
+use Rattle.rb_top.specs.Judgement.{Judgement, Writes, Accepted, EndsWith, names_of}
 
 -- a command ends in one way at most with the texts of its files
 abbrev pub AreJudgedOnce : Type 0
@@ -10,3 +16,22 @@ AreJudgedOnce = (command : Command) (texts : List (List ℕ)) (v w : Judgement) 
 -- a command ends in some way with the texts of its files
 abbrev pub AreJudged : Type 0
 AreJudged = (command : Command) (texts : List (List ℕ)) → length texts ≡ files_of command → (v : Judgement) × EndsWith command [] texts v
+
+-- the `out` lines of a run, in their order, and the values in which it ends
+abbrev pub replayed_text : Tree → List ℕ → List ℕ
+replayed_text tree turns = outs_text (naming_of tree) (numbered 1 (run_of tree turns).1) ++ values_text (naming_of tree) (final_of tree (run_of tree turns).0)
+
+-- A source is accepted with a tree, and its schedule lists turns; `run` writes the text of their run, and `plain` of this record has the
+-- run's `out` lines and its values.
+pub record Replays (source schedule kept : List ℕ) : Type 0 where
+  pub tree : Tree
+  pub turns : List ℕ
+  pub accepted : Accepted source tree
+  pub listed : schedule_of (names_of tree) schedule ≡ Ok turns
+  pub replayed : EndsWith Replay [] (source ∷ kept ∷ []) (Writes (replayed_text tree turns))
+  pub ran : EndsWith Run [] (source ∷ schedule ∷ []) (Writes (run_text tree turns))
+
+-- What `survive` wrote, if it is not too long to be read, `plain` replays.
+abbrev pub SurvivorsReplay : Type 0
+SurvivorsReplay =
+    (source schedule kept : List ℕ) → EndsWith Survive [] (source ∷ schedule ∷ []) (Writes kept) → length kept ≤ MOST_BYTES → Replays source schedule kept

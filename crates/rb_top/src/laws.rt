@@ -1,12 +1,17 @@
 //! Laws of judgements.
-ghost use Rattle.rb_top.specs.Laws.{AreJudged, AreJudgedOnce};
+ghost use Rattle.rb_top.specs.Laws.{AreJudged, AreJudgedOnce, SurvivorsReplay};
 
-/// Two texts are judged in one way at most: refused with one line, or run with one text.
+/// The texts of a command's files are judged in one way at most: it is refused with one line, or writes one text.
 pub fn are_judged_once()
     ensures { AreJudgedOnce }
 {}
 
-/// Two texts are judged: refused, or run.
+/// They are judged: the command is refused, or writes a text.
 pub fn are_judged()
     ensures { AreJudged }
+{}
+
+/// What `plain` writes of what `survive` wrote has the `out` lines of `run`, in their order, and its values.
+pub fn survivors_replay()
+    ensures { SurvivorsReplay }
 {}

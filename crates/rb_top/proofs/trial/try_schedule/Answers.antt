@@ -1,4 +1,4 @@
-use Rattle.std.proofs.Common.{◌≡◌, length, ap, ◌∙◌}
+use Rattle.std.proofs.Common.{◌≡◌, length, ap}
 use Rattle.rb_code.specs.Plain.{code}
 use Rattle.rb_conv.specs.Conversations.{memberships, opening}
 use Rattle.rb_top.specs.Judgement.{Writes, summary_of, summary_text, text_line}
