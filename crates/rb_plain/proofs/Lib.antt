@@ -19,3 +19,4 @@ pub mod BlockFacts
 pub mod TestLines
 pub mod MovedProcesses
 pub mod AcceptedTests
+pub mod ActedWorlds
