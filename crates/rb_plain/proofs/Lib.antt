@@ -26,3 +26,4 @@ pub mod TestLines
 pub mod MovedProcesses
 pub mod AcceptedTests
 pub mod Endings
+pub mod ActedWorlds
