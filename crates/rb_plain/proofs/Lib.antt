@@ -22,3 +22,4 @@ pub mod Traps
 pub mod Starting
 pub mod Skipped
 pub mod Endings
+pub mod WholeText
