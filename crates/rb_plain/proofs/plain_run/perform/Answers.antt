@@ -23,9 +23,12 @@ returns-in_err-opened g c =
     let ends = some_world end c.requires.goes in
     let outs = outs_in (naming names) end in
     let values = values_text (naming names) (final_of program ends.0) in
-    let is = text_is program names turns ends.0 c.requires.named ends.1 in
-    (outs ++ values, is, writes_answered (outs ++ values) _ _ _ _ Memory c.from_residual.result c.from_residual.ensures.1
-      (writes_nothing (outs ++ values) (g.S.Sink.written c.args.out.now) (g.S.Sink.faults c.args.out.now) Memory refl))
+    let is = text_is program names turns ends.0 c.requires.named ends.1 in (
+      outs ++ values,
+      is,
+      writes_answered (outs ++ values) _ _ _ _ Memory c.from_residual.result c.from_residual.ensures.1
+          (writes_nothing (outs ++ values) (g.S.Sink.written c.args.out.now) (g.S.Sink.faults c.args.out.now) Memory refl),
+    )
 
 pub play-requires-clause-few : goal.play-requires-clause-few
 play-requires-clause-few g c =
@@ -48,9 +51,12 @@ returns-in_err-play g c =
     let is = text_is program names turns ends.0 c.requires.named ends.1 in
     let printed : outs_in (naming names) (played program turns (world_of program c.as_mut_slice-processes.result.now)) ≡ outs =
     ap (λ (w : PlainWorld). outs_in (naming names) (played program turns w)) same in
-    let answer = c.in_err-play.field-0.0 in
-    (outs ++ values, is, writes_answered (outs ++ values) _ _ _ _ answer c.from_residual-in_err-play.result c.from_residual-in_err-play.ensures.1
-      (writes_stopped outs values _ _ _ _ answer (writes_same _ outs _ _ _ _ (Err answer) printed c.in_err-play.ensures.text)))
+    let answer = c.in_err-play.field-0.0 in (
+      outs ++ values,
+      is,
+      writes_answered (outs ++ values) _ _ _ _ answer c.from_residual-in_err-play.result c.from_residual-in_err-play.ensures.1
+          (writes_stopped outs values _ _ _ _ answer (writes_same _ outs _ _ _ _ (Err answer) printed c.in_err-play.ensures.text)),
+    )
 
 pub write_values-requires-clause-lie : goal.write_values-requires-clause-lie
 write_values-requires-clause-lie g c =
@@ -77,7 +83,9 @@ returns g c =
     let outs = outs_in (naming names) end in
     let values = values_text (naming names) (final_of program v) in
     let printed : outs_in (naming names) (played program turns (world_of program c.as_mut_slice-processes.result.now)) ≡ outs =
-    ap (λ (w : PlainWorld). outs_in (naming names) (played program turns w)) same in
-    (outs ++ values, text_is program names turns v c.requires.named ends,
+    ap (λ (w : PlainWorld). outs_in (naming names) (played program turns w)) same in (
+      outs ++ values,
+      text_is program names turns v c.requires.named ends,
       writes_both outs values _ (g.S.Sink.written c.play.new.out) _ _ (g.S.Sink.faults c.play.new.out) _ c.write_values.result
-      (writes_same _ outs _ _ _ _ (Ok tt) printed c.in_ok-play.ensures.text) c.write_values.ensures)
+          (writes_same _ outs _ _ _ _ (Ok tt) printed c.in_ok-play.ensures.text) c.write_values.ensures,
+    )

@@ -1,4 +1,4 @@
-use Rattle.std.proofs.Common.{Option, ℕ, List, map, ap, subst}
+use Rattle.std.proofs.Common.{List, map, subst}
 use Rattle.rb_world.specs.Plain.{Kept}
 use Rattle.rb_syntax.specs.Plain.{tree}
 use Rattle.rb_meaning.specs.PlainRun.{plain_text}
