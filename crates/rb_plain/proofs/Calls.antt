@@ -1,5 +1,5 @@
 -- Calls in memory: the running call is the last, and definitions have it first.
-use Rattle.std.proofs.Common.{◌≡◌, ◌+◌, ◌-◌, ◌<◌, ℕ, ℤ, Bool, true, false, cond, ◌||◌, List, [], ◌∷◌, ◌++◌, map, reverse, length, get_or, set, take, drop, refl, sym, ap, ◌∙◌, arith, true≢false, Vec, Global}
+use Rattle.std.proofs.Common.{◌≡◌, ◌+◌, ℕ, ℤ, Bool, true, false, cond, ◌||◌, List, [], ◌∷◌, ◌++◌, map, reverse, length, get_or, set, take, refl, sym, ap, ◌∙◌, arith, true≢false, Vec, Global}
 use Rattle.std.specs.List.{list_any}
 use Rattle.std.specs.Vec.{with_items}
 use Rattle.std.proofs.lemmas.List.{drop_all, take_all, map-set, get_or-map, length-map, with_items_is}

@@ -1,5 +1,5 @@
 -- Frames in memory: each list has its innermost frame last, and definitions have it first.
-use Rattle.std.proofs.Common.{◌≡◌, ◌+◌, ◌-◌, ◌<◌, ◌≤◌, ℕ, ℤ, zero, suc, Bool, true, false, cond, ◌||◌, List, [], ◌∷◌, ◌++◌, map, reverse, length, get_or, set, take, drop, refl, sym, ap, ◌∙◌, subst, arith, add-one, Vec, Global}
+use Rattle.std.proofs.Common.{◌≡◌, ◌+◌, ◌-◌, ◌<◌, ◌≤◌, ℕ, ℤ, suc, true, false, cond, ◌||◌, List, [], ◌∷◌, ◌++◌, map, reverse, length, get_or, set, take, drop, sym, ap, ◌∙◌, subst, arith, add-one, Vec, Global}
 use Rattle.std.specs.List.{list_any}
 use Rattle.std.proofs.lemmas.List.{append-nil, append_assoc, reverse-append, take_all, drop_all, take_more, drop_more, set_split, map-set, set-get_or, get_or-map, length-map, with_items_is}
 use Rattle.std.specs.Vec.{with_items}

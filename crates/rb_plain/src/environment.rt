@@ -1,12 +1,12 @@
 //! The variables of a process with their numbers, by name, in the frames of its open calls.
 
-ghost use Rattle.std.specs.Prelude.{◌≡◌, ◌-◌, ◌++◌, length, map, reverse, slice_get, sum_by, position, nat_le, nat_lt, cond, pos, [], ◌∷◌, IfOk, OnOk, Some, None, option_map};
+ghost use Rattle.std.specs.Prelude.{◌≡◌, ◌-◌, ◌++◌, map, reverse, slice_get, position, nat_le, nat_lt, cond, pos, [], ◌∷◌, IfOk, OnOk, Some, None, option_map};
 ghost use Rattle.std.specs.List.{flat_map, list_any};
 ghost use Rattle.std.specs.Option.{unwrap_or};
 ghost use Rattle.rb_syntax.specs.Plain.{declaration, identifier};
-ghost use Rattle.rb_meaning.specs.Environment.{same_name, size_of, zeros, frame_of, frame_words, frames_words, has, found_in, found_among, running_frames, in_running, stored_in, stored_among, values_of, store, words, global_words, push_frame, pop_frame, push_call, pop_call, rest_of};
+ghost use Rattle.rb_meaning.specs.Environment.{same_name, frame_of, has, found_in, found_among, running_frames, in_running, stored_in, stored_among, values_of, store, words, global_words, push_frame, pop_frame, push_call, pop_call};
 ghost use Rattle.rb_meaning.specs.Step.{bound_to, open_calls};
-ghost use Rattle.rb_plain.specs.Slots.{stored, frame, frames_of, calls_of, changed, left_of};
+ghost use Rattle.rb_plain.specs.Slots.{frame, calls_of};
 
 use crate::frames::{Call, Slot, call_frame, copied_calls, copied_frame, frame};
 use crate::room::{room_of_call, room_of_calls, room_of_declared, room_of_frame};

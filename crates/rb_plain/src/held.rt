@@ -1,6 +1,6 @@
 //! The lines that a process holds in a plain run.
 
-ghost use Rattle.std.specs.Prelude.{◌≡◌, ◌++◌, [], ◌∷◌, length, map};
+ghost use Rattle.std.specs.Prelude.{◌≡◌, [], length, map};
 ghost use Rattle.rb_plain.specs.Holding.{Adds};
 
 use crate::halt::Halt;

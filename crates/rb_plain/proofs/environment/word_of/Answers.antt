@@ -1,4 +1,4 @@
-use Rattle.std.proofs.Common.{◌≡◌, ◌<◌, ◌≤◌, get_or, length, pos, sym, ap, ◌∙◌, w64, rules, arith}
+use Rattle.std.proofs.Common.{◌≡◌, ◌<◌, get_or, length, pos, sym, ap, ◌∙◌, w64, rules, arith}
 use Rattle.std.specs.List.{flat_map}
 use Rattle.std.proofs.lemmas.Int.{to_z-of_z}
 use Rattle.std.proofs.lemmas.Option.{unwrap_or-slice_get}

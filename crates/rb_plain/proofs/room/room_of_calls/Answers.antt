@@ -1,4 +1,4 @@
-use Rattle.std.proofs.Common.{◌≡◌, map, reverse, sym, ap, ◌∙◌, refl, arith}
+use Rattle.std.proofs.Common.{map, reverse, sym, ap, ◌∙◌, refl, arith}
 use Rattle.std.proofs.lemmas.List.{length-map}
 use Rattle.rb_meaning.specs.Environment.{frames_words}
 use Rattle.rb_plain.specs.Slots.{frames_of, left_of}

@@ -1,8 +1,7 @@
-use Rattle.std.proofs.Common.{◌≡◌, ◌<◌, get_or, length, map, sym, ap, ◌∙◌, arith}
+use Rattle.std.proofs.Common.{◌<◌, get_or, length, map, ◌∙◌, arith}
 use Rattle.std.proofs.lemmas.List.{length-map}
 use Rattle.rb_syntax.specs.Plain.{declaration}
 use Rattle.rb_meaning.specs.Environment.{Stored, zeros}
-use Rattle.rb_plain.specs.Slots.{left_of}
 use Rattle.rb_plain.proofs.Words.{part_more, part_none, declared_at, declared_words}
 use Rattle.rb_plain.proofs.room.room_of_declared.Goals as goal
 

@@ -1,6 +1,6 @@
-use Rattle.std.proofs.Common.{◌≡◌, ◌-◌, length, sym, ap, ◌∙◌, arith}
-use Rattle.rb_meaning.specs.Environment.{Stored, frame_words}
-use Rattle.rb_plain.specs.Slots.{stored, frame, left_of}
+use Rattle.std.proofs.Common.{◌≡◌, length, ◌∙◌, arith}
+use Rattle.rb_meaning.specs.Environment.{Stored}
+use Rattle.rb_plain.specs.Slots.{stored}
 use Rattle.rb_plain.proofs.Words.{part_more, part_none}
 use Rattle.rb_plain.proofs.room.room_of_frame.Goals as goal
 

@@ -1,5 +1,5 @@
 use Rattle.std.proofs.Common.{◌≡◌, ◌+◌, ◌-◌, get_or, length, vec_len, refl, ap, ◌∙◌, arith}
-use Rattle.rb_meaning.specs.Environment.{Environment, pop_frame, rest_of}
+use Rattle.rb_meaning.specs.Environment.{pop_frame, rest_of}
 use Rattle.rb_plain.specs.Slots.{frame, frames_of}
 use Rattle.rb_plain.proofs.Calls.{running_changed}
 use Rattle.rb_plain.proofs.environment.Environment.pop_frame.Goals as goal

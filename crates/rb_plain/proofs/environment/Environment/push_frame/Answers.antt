@@ -1,4 +1,4 @@
-use Rattle.std.proofs.Common.{◌≡◌, ◌+◌, ◌-◌, ◌∷◌, get_or, length, map, vec_len, refl, ap, ◌∙◌, arith, List}
+use Rattle.std.proofs.Common.{◌≡◌, ◌+◌, ◌-◌, ◌∷◌, length, map, vec_len, refl, ap, ◌∙◌, arith, List}
 use Rattle.std.proofs.lemmas.Result.{on_ok_weaker}
 use Rattle.rb_syntax.specs.Plain.{declaration}
 use Rattle.rb_meaning.specs.Environment.{Frame, frame_of, push_frame}
