@@ -23,3 +23,7 @@ pub mod Starting
 pub mod Skipped
 pub mod Endings
 pub mod WholeText
+pub mod BlockFacts
+pub mod TestLines
+pub mod MovedProcesses
+pub mod AcceptedTests

@@ -9,3 +9,4 @@ pub mod States
 pub mod Worlds
 pub mod Members
 pub mod Played
+pub mod Moves

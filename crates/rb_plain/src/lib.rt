@@ -12,6 +12,7 @@ pub mod halt;
 pub mod held;
 pub(crate) mod items;
 pub mod laws;
+mod moves;
 mod numbers;
 mod performing;
 pub mod plain_run;
@@ -22,6 +23,7 @@ mod record_line;
 mod room;
 pub mod state;
 mod steps;
+mod test_line;
 #[cfg(test)]
 mod tests;
 mod turn;
@@ -30,3 +32,4 @@ mod values;
 
 pub use answer::PlainAnswer;
 pub use plain_run::plain;
+mod want;

@@ -1,21 +1,24 @@
 //! One kept turn of a plain run: what stands first decides, as in a run; where a run would idle, wait or trap, the plain run is stuck.
 
-ghost use Rattle.std.specs.Prelude.{◌≡◌, ◌∷◌, ◌++◌, [], map, slice_get, slice_set, Some, None};
-ghost use Rattle.rb_syntax.specs.Plain.{tree};
-ghost use Rattle.rb_world.specs.Turn.{all_leave, all_stand};
-ghost use Rattle.rb_meaning.specs.Step.{wants_first};
+ghost use Rattle.std.specs.Prelude.{◌≡◌, ◌<◌, length, slice_get, Some};
+ghost use Rattle.rb_syntax.specs.Plain.{command, recovery_block, tree};
+ghost use Rattle.rb_meaning.specs.State.{Perform, TestOf};
+ghost use Rattle.rb_plain.specs.Items.{IsFirst, StandsFirst};
 ghost use Rattle.rb_plain.specs.Members.{HasMembers};
+ghost use Rattle.rb_plain.specs.Moves.{acted_world, may_give, IsFirstReady, IsReady};
 ghost use Rattle.rb_plain.specs.Recorded.{plain_turn};
 ghost use Rattle.rb_plain.specs.States.{state_of};
-ghost use Rattle.rb_plain.specs.Worlds.{level_of, moved_world, process_of, unkept_kind, world_of, MovesTo};
+ghost use Rattle.rb_plain.specs.Worlds.{moved_world, process_of, world_of, MovesTo};
+ghost use Rattle.rb_plain.specs.declared.process.Process.{Process as Here};
 
 use crate::channels::{has_room, message_there};
 use crate::halt::Halt;
 use crate::items::First;
-use crate::numbers::{channel_number, conversation_number};
-use crate::process::{Level, Process};
+use crate::process::Process;
 use crate::record::Kept;
-use rb_base::{MOST_OPEN_LEVELS, Nested};
+use crate::test_line::accept;
+use crate::want::{Want, want_of};
+use rb_base::Nested;
 use rb_syntax::{Program, Recovery, Statement};
 use std::alloc::Global;
 
@@ -30,18 +33,21 @@ pub(crate) fn take_turn<'t, 'a>(
     requires { HasMembers (tree program.now) nested.now }
     ensures { MovesTo (moved_world (tree program.now) (plain_turn kept) (world_of (tree program.now) processes.old)) (world_of (tree program.now) processes.new) result }
 {
-    let p = kept.process as usize;
-    match processes.get(p) {
-        Some(process) if !process.is_done && !process.at_line => act(
-            alloc,
-            program,
-            nested,
-            processes,
-            kept,
-            process.state.first(),
-        ),
-        _ => Err(Halt::Stuck),
+    match first_ready(processes, kept.process as usize) {
+        Some(first) => act(alloc, program, nested, processes, kept, first),
+        None => Err(Halt::Stuck),
     }
+}
+
+// What stands first in process p, if it is there and runs, away from every test line.
+fn first_ready<'t, 'a>(processes: &[Process<'t, 'a>], p: usize) -> Option<First<'t, 'a>>
+    ensures { IsFirstReady (slice_get processes.now p) result }
+{
+    let process = processes.get(p)?;
+    if process.is_done || process.at_line {
+        return None;
+    }
+    Some(process.state.first())
 }
 
 // A running process, away from every test line, of which this stands first.
@@ -53,169 +59,96 @@ fn act<'t, 'a>(
     kept: Kept,
     first: First<'t, 'a>,
 ) -> Result<(), Halt>
-    requires { HasMembers (tree program.now) nested.now }
+    requires members { HasMembers (tree program.now) nested.now }
+    requires process { kept.process < length processes.old }
+    requires first { (one : Here) → slice_get processes.old kept.process ≡ Some one → IsReady one × IsFirst (state_of one.state).items first }
+    ensures { (one : Here) → slice_get processes.old kept.process ≡ Some one →
+        MovesTo (acted_world (tree program.now) (plain_turn kept) (process_of one) (world_of (tree program.now) processes.old)) (world_of (tree program.now) processes.new) result }
 {
+    if !may_give(first, kept.alternate) {
+        return Err(Halt::Stuck);
+    }
+    let p = kept.process as usize;
     match first {
         First::Nothing => Err(Halt::Stuck),
-        First::Start(block) => start(alloc, program, processes, kept, block),
-        _ if kept.alternate != 0 => Err(Halt::Stuck),
-        First::Statement(statement) => perform(
-            alloc,
-            program,
-            processes,
-            kept.process as usize,
-            statement,
-        ),
-        First::Test(block) => judge(program, nested, processes, kept.process as usize, block),
+        First::Start(block) => processes[p].start(alloc, program, block, kept),
+        First::Statement(statement) => perform(alloc, program, processes, kept, statement),
+        First::Test(block) => judge(program, nested, processes, kept, block),
         // Nothing that is settled stands so; a step takes such an end away, and nothing else.
         First::BlockEnd | First::CallEnd => {
-            processes[kept.process as usize].settle(program);
+            processes[p].settle(program);
             Ok(())
         }
     }
 }
 
-// The start of the alternate that the record gives, if the innermost recovery block has it.
-fn start<'t, 'a>(
-    alloc: Global,
-    program: &'t Program<'a>,
-    processes: &mut [Process<'t, 'a>],
-    kept: Kept,
-    block: &'t Recovery<'a>,
-) -> Result<(), Halt> {
-    let process = &mut processes[kept.process as usize];
-    if !process.has_alternate(kept.alternate) {
-        return Err(Halt::Stuck);
+// Whether the record may give this alternate, or none, where this stands first: an alternate is given for a start alone.
+fn may_give(first: First<'_, '_>, alternate: u32) -> bool
+    ensures { result ≡ may_give first.entry alternate }
+{
+    match first {
+        First::Start(_) => true,
+        _ => alternate == 0,
     }
-    process
-        .state
-        .start(alloc, program.edition, block, kept.alternate)?;
-    process.settle(program);
-    Ok(())
 }
 
-// A statement, with the room or the message that it asks for.
+// A statement, with the room or the message that it asks for; stuck where a run would wait.
 fn perform<'t, 'a>(
     alloc: Global,
     program: &'t Program<'a>,
     processes: &mut [Process<'t, 'a>],
-    p: usize,
+    kept: Kept,
     statement: &'t Statement<'a>,
-) -> Result<(), Halt> {
-    if let Statement::Recover(block) = statement {
-        return open(alloc, program, &mut processes[p], block);
-    }
-    let message = asked(program, processes, statement)?;
-    let process = &mut processes[p];
-    process.state.perform(alloc, program, message, statement)?;
-    process.settle(program);
-    Ok(())
-}
-
-// The message that a statement takes, if it takes one; stuck where a run would wait for room or for a message.
-fn asked<'a>(
-    program: &Program<'a>,
-    processes: &[Process<'_, 'a>],
-    statement: &Statement<'a>,
-) -> Result<Option<i64>, Halt> {
-    match statement {
-        Statement::Send(channel, _) => {
-            let channel = channel_number(program, channel.text);
+) -> Result<(), Halt>
+    requires alternate { kept.alternate ≡ 0 }
+    requires process { kept.process < length processes.old }
+    requires first { (one : Here) → slice_get processes.old kept.process ≡ Some one → IsReady one × StandsFirst (Perform (command statement.now)) (state_of one.state).items }
+    ensures { (one : Here) → slice_get processes.old kept.process ≡ Some one →
+        MovesTo (acted_world (tree program.now) (plain_turn kept) (process_of one) (world_of (tree program.now) processes.old)) (world_of (tree program.now) processes.new) result }
+{
+    let p = kept.process as usize;
+    match want_of(program, statement) {
+        Want::Level(block) => processes[p].enter(alloc, program, block),
+        Want::Nothing => processes[p].perform(alloc, program, None, statement),
+        Want::Room(channel) => {
             if has_room(program, processes, channel) {
-                Ok(None)
+                processes[p].perform(alloc, program, None, statement)
             } else {
                 Err(Halt::Stuck)
             }
         }
-        Statement::Receive(channel, _, other) => {
-            let channel = channel_number(program, channel.text);
-            match (message_there(program, processes, channel), other) {
-                (None, None) => Err(Halt::Stuck),
-                (message, _) => Ok(message),
-            }
+        Want::Message(channel) => match message_there(program, processes, channel) {
+            Some(message) => processes[p].perform(alloc, program, Some(message), statement),
+            None => Err(Halt::Stuck),
+        },
+        Want::MessageOrElse(channel) => {
+            let message = message_there(program, processes, channel);
+            processes[p].perform(alloc, program, message, statement)
         }
-        _ => Ok(None),
     }
-}
-
-// The entry of a recovery block: a level is opened.
-fn open<'t, 'a>(
-    alloc: Global,
-    program: &Program<'a>,
-    process: &mut Process<'t, 'a>,
-    block: &'t Recovery<'a>,
-) -> Result<(), Halt> {
-    if process.levels.len() >= MOST_OPEN_LEVELS as usize {
-        return Err(Halt::Stuck);
-    }
-    let conversation = match &block.conversation {
-        Some(name) => Some(conversation_number(program, name.text)),
-        None => None,
-    };
-    process.state.enter(block)?;
-    let level = Level::new(alloc, block, conversation, &process.state)?;
-    process.levels.push(level)?;
-    Ok(())
 }
 
 // The acceptance test of the innermost level. Without a level the turn changes nothing.
-fn judge<'t, 'a>(
-    program: &Program<'a>,
-    nested: &Nested,
-    processes: &mut [Process<'t, 'a>],
-    p: usize,
-    block: &Recovery<'a>,
-) -> Result<(), Halt>
-    requires { HasMembers (tree program.now) nested.now }
-{
-    let process = &mut processes[p];
-    process.state.judge(block, process.prior())?;
-    let Some(level) = process.levels.last() else {
-        return Ok(());
-    };
-    let conversation = level.conversation;
-    process.state.skip();
-    match conversation {
-        None => process.leave(program),
-        Some(conversation) => {
-            process.at_line = true;
-            pass_if_all_stand(program, nested, processes, conversation);
-        }
-    }
-    Ok(())
-}
-
-// All members leave a conversation once all of them stand at its test line.
-fn pass_if_all_stand<'a>(
+fn judge<'a>(
     program: &Program<'a>,
     nested: &Nested,
     processes: &mut [Process<'_, 'a>],
-    conversation: usize,
-)
-    requires { HasMembers (tree program.now) nested.now }
+    kept: Kept,
+    block: &Recovery<'a>,
+) -> Result<(), Halt>
+    requires members { HasMembers (tree program.now) nested.now }
+    requires alternate { kept.alternate ≡ 0 }
+    requires process { kept.process < length processes.old }
+    requires first { (one : Here) → slice_get processes.old kept.process ≡ Some one → IsReady one × StandsFirst (TestOf (recovery_block block.now)) (state_of one.state).items }
+    ensures { (one : Here) → slice_get processes.old kept.process ≡ Some one →
+        MovesTo (acted_world (tree program.now) (plain_turn kept) (process_of one) (world_of (tree program.now) processes.old)) (world_of (tree program.now) processes.new) result }
 {
-    if !do_all_stand(nested, processes, conversation) {
-        return;
-    }
-    let mut p = 0;
-    while p < processes.len() {
-        if processes[p].stands_at(conversation) {
-            processes[p].leave(program);
+    let p = kept.process as usize;
+    match processes[p].judge(block) {
+        Ok(()) => {
+            accept(program, nested, processes, p);
+            Ok(())
         }
-        p += 1;
+        Err(halt) => Err(halt),
     }
-}
-
-// Whether every member of a conversation stands at its test line.
-fn do_all_stand(nested: &Nested, processes: &[Process<'_, '_>], conversation: usize) -> bool {
-    let Some(group) = nested.conversations.get(conversation) else {
-        return true;
-    };
-    for member in &group.members {
-        match processes.get(*member as usize) {
-            Some(process) if process.stands_at(conversation) => {}
-            _ => return false,
-        }
-    }
-    true
 }

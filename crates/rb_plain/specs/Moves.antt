@@ -1,0 +1,99 @@
+-- What a kept turn makes of its process, and with it of the world.
+use Rattle.std.specs.Prelude.{◌≡◌, ◌⊎◌, ℕ, ℤ, nat_eq, nat_lt, Bool, true, false, List, [], ◌∷◌, ◌++◌, length, Option, Some, None, option_map, Result, Ok, Err}
+use Rattle.rb_base.specs.declared.event.Cause.{Cause}
+use Rattle.rb_syntax.specs.Tree.{Tree, Command, Recovering, RecoveryBlock}
+use Rattle.rb_syntax.specs.Plain.{recovery_block}
+use Rattle.rb_world.specs.Kind.{SendsOn, ReceivesOn, MayReceiveOn, Acts}
+use Rattle.rb_world.specs.World.{Level as Open, Process as Seen, goes_on, settled, with_process}
+use Rattle.rb_world.specs.Turn.{most_levels, new_level}
+use Rattle.rb_world.specs.Plain.{Kept, has_alternate, plain_acts, when}
+use Rattle.rb_meaning.specs.Environment.{rest_of}
+use Rattle.rb_meaning.specs.State.{State, continue_with}
+use Rattle.rb_meaning.specs.Step.{alternate_number, alternates_in, enter, performs, starts_body, wants, wants_first}
+use Rattle.rb_meaning.specs.Groups.{facts_of}
+use Rattle.rb_meaning.specs.PlainRun.{EntryPoint, PlainWorld}
+use Rattle.rb_plain.specs.declared.halt.Halt.{Halt}
+use Rattle.rb_plain.specs.declared.halt.Halt.TheVariants.{Stuck, Memory}
+use Rattle.rb_plain.specs.declared.items.First.{First}
+use Rattle.rb_plain.specs.declared.items.First.TheVariants as first
+use Rattle.rb_plain.specs.declared.process.Process.{Process}
+use Rattle.rb_plain.specs.declared.want.Want.{Want}
+use Rattle.rb_plain.specs.declared.want.Want.TheVariants as asks
+use Rattle.rb_plain.specs.Items.{IsFirst}
+use Rattle.rb_plain.specs.States.{state_of}
+use Rattle.rb_plain.specs.Worlds.{unkept_kind}
+
+-- a process of a plain run, as its world has it
+abbrev pub PlainProcess : Type 0
+PlainProcess = Seen State EntryPoint
+
+-- what came of a process: it is this one, or the turn is stuck; want of memory says nothing
+abbrev pub Becomes : {A : Type 0} → Option PlainProcess → PlainProcess → Result A Halt → Type 0
+Becomes moved new (Ok _) = moved ≡ Some new
+Becomes moved new (Err Stuck) = moved ≡ None
+Becomes moved new (Err Memory) = Unit {0}
+
+-- a process goes on from what a step came to; a trap leaves the turn stuck
+abbrev pub gone_on : Tree → List (Open EntryPoint) → Result State Cause → Option PlainProcess
+gone_on tree levels (Ok s) = Some (settled (unkept_kind tree) s levels)
+gone_on tree levels (Err cause) = None
+
+-- the process after a statement that stands first, with the message that it takes
+abbrev pub performed_by : Tree → Option ℤ → Command → PlainProcess → Option PlainProcess
+performed_by tree message command q =
+    gone_on tree q.levels (performs tree message q.state (rest_of q.state.items) command)
+
+-- the process after the start of the alternate that the record gives, if its block has it
+abbrev pub started_by : Tree → Kept → RecoveryBlock → PlainProcess → Option PlainProcess
+started_by tree kept block q =
+    when (has_alternate kept q)
+    (gone_on tree q.levels
+    (starts_body tree.edition block (rest_of q.state.items) q.state (alternate_number kept.alternate (alternates_in block))))
+
+-- the process once a level is opened, where fewer than the most are open
+abbrev pub entered_by : Tree → RecoveryBlock → PlainProcess → Option PlainProcess
+entered_by tree block q =
+    when (nat_lt (length q.levels) most_levels)
+    (Some (goes_on (unkept_kind tree) (enter q.state) (q.levels ++ new_level (unkept_kind tree) (facts_of tree block) 0 (enter q.state) ∷ [])))
+
+-- the state once what stands first is done
+abbrev pub skipped : State → State
+skipped s = continue_with (rest_of s.items) s
+
+-- the world in which a process has become this one
+abbrev pub with_moved : ℕ → PlainWorld → Option PlainProcess → Option PlainWorld
+with_moved p w moved = option_map (λ q. with_process p (λ _. q) w) moved
+
+-- the world after a running process acted, if the turn is not stuck
+abbrev pub acted_world : Tree → Kept → PlainProcess → PlainWorld → Option PlainWorld
+acted_world tree kept q w =
+    option_map (λ moved. moved.world) (plain_acts (unkept_kind tree) kept q w (wants_first tree q.state.items))
+
+-- a process that runs, away from every test line
+pub record IsReady (process : Process) : Type 0 where
+  pub runs : process.is_done ≡ false
+  pub away : process.at_line ≡ false
+
+-- an alternate is given for a start alone
+abbrev pub may_give : First → ℕ → Bool
+may_give (first.Start block) alternate = true
+may_give first.Nothing alternate = nat_eq alternate 0
+may_give (first.Statement statement) alternate = nat_eq alternate 0
+may_give (first.Test block) alternate = nat_eq alternate 0
+may_give first.BlockEnd alternate = nat_eq alternate 0
+may_give first.CallEnd alternate = nat_eq alternate 0
+
+-- this is what a statement asks of the turn
+abbrev pub IsWanted : Tree → Command → Want → Type 0
+IsWanted tree command (asks.Room channel) = wants tree command ≡ SendsOn channel
+IsWanted tree command (asks.Message channel) = wants tree command ≡ ReceivesOn channel
+IsWanted tree command (asks.MessageOrElse channel) = wants tree command ≡ MayReceiveOn channel
+IsWanted tree command (asks.Level block) = command ≡ Recovering (recovery_block block.now)
+IsWanted tree command asks.Nothing = wants tree command ≡ Acts
+
+-- a process that may not exist runs, away from every test line, and this stands first in it; or it does not
+abbrev pub IsFirstReady : Option Process → Option First → Type 0
+IsFirstReady None None = Unit {0}
+IsFirstReady None (Some first) = ⊥
+IsFirstReady (Some one) None = (one.is_done ≡ true) ⊎ (one.at_line ≡ true)
+IsFirstReady (Some one) (Some first) = IsReady one × IsFirst (state_of one.state).items first
