@@ -1,6 +1,6 @@
 -- The values in which a plain run ends, one after another.
-use Rattle.std.proofs.Common.{◌≡◌, ◌<◌, ◌≤◌, ◌+◌, ℕ, ℤ, pos, zero, suc, List, [], ◌∷◌, ◌++◌, length, map, drop, take, get_or, slice_get, option_map, Option, Some, None, Bor, refl, sym, ap, ap₂, ◌∙◌, subst, arith, add-one, length-drop, subst₂}
-use Rattle.std.specs.List.{AllByRecursion, AllZip, flat_map}
+use Rattle.std.proofs.Common.{◌≡◌, ◌<◌, ◌≤◌, ◌+◌, ℕ, ℤ, pos, zero, suc, List, [], ◌∷◌, ◌++◌, length, map, drop, take, get_or, slice_get, option_map, Option, Some, None, Bor, refl, sym, ap, ap₂, ◌∙◌, subst, arith, length-drop, subst₂}
+use Rattle.std.specs.List.{AllByRecursion, flat_map}
 use Rattle.std.specs.Option.{unwrap_or}
 use Rattle.std.proofs.lemmas.List.{get_or-drop, get_or-map, length-map, take_more}
 use Rattle.std.proofs.lemmas.Option.{slice_get-map, unwrap_or-slice_get}
@@ -15,7 +15,7 @@ use Rattle.rb_trace.specs.Fitting.{LiesWithin}
 use Rattle.rb_trace.specs.Naming.{process_naming, variable_naming}
 use Rattle.rb_world.specs.Kind.{Ends}
 use Rattle.rb_world.specs.World.{Process as Seen}
-use Rattle.rb_world.specs.Text.{VariableNaming, channel_lines, size_of, value_lines, variable_line, variable_lines}
+use Rattle.rb_world.specs.Text.{channel_lines, size_of, value_lines, variable_line, variable_lines}
 use Rattle.rb_meaning.specs.Environment.{global_words}
 use Rattle.rb_meaning.specs.Groups.{channels_of, ends_of}
 use Rattle.rb_meaning.specs.Meaning.{by_state, count_sent, count_taken, sent_on, states_of, taken_on}

@@ -21,6 +21,8 @@ pub mod Lines
 pub mod Traps
 pub mod Starting
 pub mod Skipped
+pub mod Endings
+pub mod WholeText
 pub mod BlockFacts
 pub mod TestLines
 pub mod MovedProcesses

@@ -58,5 +58,13 @@ opened_named tree names made named is =
     ap (λ (w : PlainWorld). length w.processes) is in
     let names_same : length (map process_naming names.processes.items) ≡ length (map process_named tree.processes) =
     ap (λ (n : Naming). length n.processes) named in
-    omega (arith, all, names_same, length-map made process_of, length-map (opening_states tree 0 tree.processes) (λ s. settled (unkept_kind tree) s []),
-    length_states tree 0 tree.processes, length-map names.processes.items process_naming, length-map tree.processes process_named)
+    omega (
+      arith,
+      all,
+      names_same,
+      length-map made process_of,
+      length-map (opening_states tree 0 tree.processes) (λ s. settled (unkept_kind tree) s []),
+      length_states tree 0 tree.processes,
+      length-map names.processes.items process_naming,
+      length-map tree.processes process_named,
+    )

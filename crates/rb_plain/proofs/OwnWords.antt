@@ -1,10 +1,9 @@
 -- Over every plain run each process has as many words of its own as it declares; so the variables that are printed lie within them.
-use Rattle.std.proofs.Common.{◌≡◌, ◌+◌, ◌≤◌, ℕ, ℤ, pos, zero, suc, Bool, true, false, cond, List, [], ◌∷◌, ◌++◌, length, map, option_map, slice_get, slice_set, Option, Some, None, Result, Ok, Err, refl, sym, ap, ap₂, ◌∙◌, arith, length-append, subst}
-use Rattle.std.specs.List.{AllByRecursion, AllZip, flat_map, list_any}
-use Rattle.std.proofs.lemmas.List.{length-map, length-replicate, length-set}
+use Rattle.std.proofs.Common.{◌≡◌, ◌+◌, ◌≤◌, ℕ, ℤ, pos, zero, suc, Bool, true, false, cond, List, [], ◌∷◌, ◌++◌, length, map, option_map, slice_get, slice_set, Option, Some, None, Ok, Err, refl, sym, ap, ap₂, ◌∙◌, arith, length-append, subst}
+use Rattle.std.specs.List.{AllByRecursion, flat_map, list_any}
+use Rattle.std.proofs.lemmas.List.{length-replicate, length-set}
 use Rattle.std.proofs.lemmas.List.Concat.{length-flat_map}
 use Rattle.std.proofs.lemmas.List.Sums.{sum_by-cons}
-use Rattle.rb_base.specs.declared.event.Cause.{Cause}
 use Rattle.rb_base.specs.declared.event.Cause.TheVariants.{Test}
 use Rattle.rb_base.specs.declared.edition.Edition.{Edition}
 use Rattle.rb_base.specs.declared.names.Names.{Names}
@@ -15,23 +14,22 @@ use Rattle.rb_syntax.specs.declared.expression.Number.{Number}
 use Rattle.rb_trace.specs.Fitting.{LiesWithin}
 use Rattle.rb_trace.specs.Naming.{naming, process_naming, variable_naming}
 use Rattle.rb_world.specs.Kind.{Went, Held}
-use Rattle.rb_world.specs.World.{Level, Process, World, change_at, copy_of, last_of, settled, with_each, without_last}
-use Rattle.rb_world.specs.Turn.{Told, all_leave, freed, leaves, moved_to, opened, stands_at, stands_now, state_freed}
+use Rattle.rb_world.specs.World.{Level, Process, World, change_at, copy_of, last_of, settled, without_last}
+use Rattle.rb_world.specs.Turn.{Told, freed, leaves, stands_at, stands_now, state_freed}
 use Rattle.rb_world.specs.Text.{Naming, ProcessNaming, VariableNaming, size_of as size_named}
-use Rattle.rb_world.specs.Plain.{Kept, PlainEnd, Ended, StuckAt, plain_run}
+use Rattle.rb_world.specs.Plain.{Kept, PlainEnd, Ended, StuckAt}
 use Rattle.rb_world.proofs.ListFacts.{heads_same, none_some, some_same, tails_same}
 use Rattle.rb_world.proofs.PlainInduction.{IsPlainInvariant, Plainly, plain_run-keeps}
-use Rattle.rb_world.proofs.TurnFacts.{come_to_stand, left_alone}
 use Rattle.rb_meaning.specs.Environment.{Environment, Frame, Stored, frame_of, frame_words, global_words, has, in_running, push_call, push_frame, running_frames, same_name, size_of, stored_among, stored_in, zeros}
 use Rattle.rb_meaning.specs.Value.{Outcome, is_zero, value}
 use Rattle.rb_meaning.specs.State.{Item, Perform, StartOf, TestOf, EndBlock, EndCall, State, performed, continue_with, with_environment, with_held, settle, settle_items}
-use Rattle.rb_meaning.specs.Step.{Nothing, Result_of_step, alternate_number, alternates_in, assigned, bound_to, calls_with, commands_of, enter, former, judged, line_from, performs, place_in, present_value, prints, pushes, pushes_else, put_at, receives, starts_body, step, step_items, takes, test_in, values_in, variables_of, within_words}
+use Rattle.rb_meaning.specs.Step.{Nothing, alternate_number, alternates_in, assigned, bound_to, calls_with, commands_of, former, judged, line_from, performs, place_in, present_value, prints, pushes, pushes_else, put_at, receives, starts_body, step, step_items, takes, test_in, values_in, variables_of, within_words}
 use Rattle.rb_meaning.specs.Groups.{channel_number, procedure_named}
 use Rattle.rb_meaning.specs.Meaning.{naming_of, opening_state, opening_states, process_named, variables_named}
 use Rattle.rb_meaning.specs.PlainRun.{EntryPoint, PlainWorld, environment_at}
 use Rattle.rb_meaning.proofs.StepsKeepRules.{EndsIn, StepsTo, either_ends, judged_either, step_ends, then_ends}
 use Rattle.rb_plain.specs.Worlds.{unkept_kind}
-use Rattle.rb_plain.specs.Played.{ProcessesLie, VariablesLie, own_words, played, unkept_opening, world_in}
+use Rattle.rb_plain.specs.Played.{ProcessesLie, own_words, played, unkept_opening, world_in}
 
 -- how many words a frame has, and the process's own of a state
 abbrev frame_length : Frame → ℕ

@@ -1,9 +1,9 @@
 -- What is left of a plain run, turn by turn.
-use Rattle.std.proofs.Common.{◌≡◌, ◌<◌, ◌+◌, ℕ, List, [], ◌∷◌, ◌++◌, length, map, drop, get_or, option_map, slice_get, Option, Some, None, Result, Ok, Err, refl, sym, ap, ◌∙◌, subst, add-one, drop-cons}
+use Rattle.std.proofs.Common.{◌≡◌, ◌<◌, ◌+◌, ℕ, List, ◌∷◌, ◌++◌, length, map, drop, get_or, option_map, slice_get, Option, Some, None, Result, Ok, Err, refl, sym, ap, ◌∙◌, subst, add-one, drop-cons}
 use Rattle.std.specs.Result.{IsErrAnd}
-use Rattle.rb_world.specs.World.{World, with_each}
-use Rattle.rb_world.specs.Turn.{Moved, Told, finishes, freed, freed_lines, told}
-use Rattle.rb_world.specs.Text.{Naming, out_lines, outs_text}
+use Rattle.rb_world.specs.World.{with_each}
+use Rattle.rb_world.specs.Turn.{Moved, Told, freed, freed_lines, told}
+use Rattle.rb_world.specs.Text.{Naming, out_lines}
 use Rattle.rb_world.specs.Plain.{Kept, PlainEnd, Ended, StuckAt, plain_moves, plain_on, plain_run, plain_told, plain_turned}
 use Rattle.rb_world.proofs.ListFacts.{none_some, some_same}
 use Rattle.rb_meaning.specs.State.{State}

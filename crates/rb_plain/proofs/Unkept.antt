@@ -6,8 +6,8 @@ use Rattle.rb_base.specs.declared.event.Cause.{Cause}
 use Rattle.rb_base.specs.declared.event.Cause.TheVariants.{Test}
 use Rattle.rb_base.specs.declared.edition.Edition.{Edition}
 use Rattle.rb_syntax.specs.Tree.{Expression, Reference, PrintItem, Command, Assignment, Printing, Sending, Receiving, Conditional, Loop, Invocation, Failure, Recovering, Body, Scope, Otherwise, NoElse, Else, RecoveryBlock, ProcessDeclaration, ProcedureDeclaration, Tree}
-use Rattle.rb_world.specs.Kind.{Ends, Stepped, Trapped, Went, Held}
-use Rattle.rb_world.specs.World.{Process, World}
+use Rattle.rb_world.specs.Kind.{Ends, Trapped, Held}
+use Rattle.rb_world.specs.World.{Process}
 use Rattle.rb_world.specs.Turn.{opening}
 use Rattle.rb_world.specs.Text.{Naming, channel_lines, outs_text, value_lines, values_text}
 use Rattle.rb_world.specs.Plain.{Kept, PlainEnd, Ended, StuckAt, plain_run}
@@ -15,11 +15,11 @@ use Rattle.rb_world.proofs.Image.{IsPlainImage, end_image, stepped_image, world_
 use Rattle.rb_world.proofs.ImageRuns.{opening-image, plain_run-image}
 use Rattle.rb_meaning.specs.Environment.{Environment, frame_of, global_words, push_call, push_frame}
 use Rattle.rb_meaning.specs.Value.{Outcome, and_then, is_zero, value}
-use Rattle.rb_meaning.specs.State.{Item, Perform, StartOf, TestOf, EndBlock, EndCall, State, performed, continue_with, with_environment, with_held, with_kept, settle_items}
-use Rattle.rb_meaning.specs.Step.{Nothing, Result_of_step, assigned, bound_to, calls_with, chooses, commands_of, former, goes, held_with, invokes, judged, line_from, performs, place_in, present_value, prints, pushes, pushes_else, receives, repeats, sends, starts_body, step, step_items, takes, test_in, alternate_number, alternates_in, values_in, variables_of, within_words}
+use Rattle.rb_meaning.specs.State.{Item, Perform, StartOf, TestOf, EndBlock, EndCall, State, performed, continue_with, with_environment, with_held, with_kept}
+use Rattle.rb_meaning.specs.Step.{Nothing, Result_of_step, assigned, bound_to, calls_with, chooses, commands_of, former, goes, held_with, judged, line_from, performs, place_in, present_value, prints, pushes, pushes_else, receives, repeats, sends, starts_body, step, step_items, takes, test_in, alternate_number, alternates_in, values_in, variables_of, within_words}
 use Rattle.rb_meaning.specs.Groups.{channel_number, channels_of, procedure_named}
 use Rattle.rb_meaning.specs.Meaning.{by_state, count_sent, count_taken, final_of, naming_of, opening_state, opening_states, sent_on, states_of, taken_on}
-use Rattle.rb_meaning.specs.PlainRun.{EntryPoint, PlainWorld, environment_at, plain_kind, plain_of, plain_opening, plain_text, plain_text_at}
+use Rattle.rb_meaning.specs.PlainRun.{EntryPoint, PlainWorld, environment_at, plain_kind, plain_of, plain_opening, plain_text_at}
 use Rattle.rb_plain.specs.Worlds.{unkept_kind}
 use Rattle.rb_plain.specs.Played.{UnnotedTurnsTellSame, played, unkept_opening}
 

@@ -1,10 +1,10 @@
 -- A text of a plain run that is written part by part, where a write may fail or memory be wanting.
-use Rattle.std.proofs.Common.{◌≡◌, ◌≤◌, ℕ, List, [], ◌++◌, length, take, Option, Result, Ok, Err, IsErr, refl, sym, ap, ◌∙◌, subst, append_assoc, arith}
+use Rattle.std.proofs.Common.{◌≡◌, ℕ, List, [], ◌++◌, Option, Result, Ok, Err, refl, sym, ap, ◌∙◌, subst, arith}
 use Rattle.std.specs.Result.{IsErrAnd}
 use Rattle.rb_outside.specs.declared.Failed.{Failed}
-use Rattle.rb_outside.specs.Outside.{Faults, WrotePart, then_written}
+use Rattle.rb_outside.specs.Outside.{Faults}
 use Rattle.rb_outside.specs.Puts.{Puts}
-use Rattle.rb_outside.proofs.Puts.{puts_both, puts_same, puts_stopped}
+use Rattle.rb_outside.proofs.Puts.{puts_both, puts_stopped}
 use Rattle.rb_outside.proofs.Written.{WrotePart-within, WrotePart-after, then_written-nil}
 use Rattle.rb_trace.proofs.Written.{Written, written_all, written_more}
 use Rattle.rb_plain.specs.Played.{Writes}

@@ -1,7 +1,6 @@
 //! Why a plain run wrote no whole text.
 
 use rb_outside::Failed;
-use std::alloc::{AllocError, AllocFailed};
 
 /// Why a plain run wrote no whole text.
 #[derive(Clone, Copy, Debug, PartialEq, Eq)]
@@ -21,28 +20,6 @@ impl From<rb_base::Memory> for PlainAnswer {
     ghost from_gives = { λ _ answer. answer ≡ Memory };
 
     fn from(_memory: rb_base::Memory) -> Self {
-        PlainAnswer::Memory
-    }
-}
-
-impl From<AllocError> for PlainAnswer {
-    ghost use Rattle.std.specs.Prelude.{◌≡◌};
-    ghost use Rattle.rb_plain.specs.declared.answer.PlainAnswer.TheVariants.{Memory};
-
-    ghost from_gives = { λ _ answer. answer ≡ Memory };
-
-    fn from(_error: AllocError) -> Self {
-        PlainAnswer::Memory
-    }
-}
-
-impl<T: Drop> From<AllocFailed<T>> for PlainAnswer {
-    ghost use Rattle.std.specs.Prelude.{◌≡◌};
-    ghost use Rattle.rb_plain.specs.declared.answer.PlainAnswer.TheVariants.{Memory};
-
-    ghost from_gives = { λ _ answer. answer ≡ Memory };
-
-    fn from(_error: AllocFailed<T>) -> Self {
         PlainAnswer::Memory
     }
 }

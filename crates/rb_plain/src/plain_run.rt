@@ -51,7 +51,8 @@ fn perform<S: Sink>(
     requires goes { stuck_in (played (tree program.now) (map plain_turn turns.now) (unkept_opening (tree program.now))) ≡ None }
     ensures { (text : List ℕ) × (plain_text (tree program.now) (map plain_turn turns.now) ≡ Ok text) × Writes text (S.written out.old) (S.written out.new) (S.faults out.old) (S.faults out.new) result }
 {
-    let mut processes = opening(alloc, program)?;
-    play(alloc, program, nested, names, turns, &mut processes, out)?;
-    write_values(alloc, program, names, &processes, out)
+    let mut opened = opening(alloc, program)?;
+    let processes = opened.as_mut_slice();
+    play(alloc, program, nested, names, turns, processes, out)?;
+    write_values(alloc, program, names, processes, out)
 }

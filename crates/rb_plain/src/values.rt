@@ -114,8 +114,7 @@ fn write_channels<'a, S: Sink>(
     out: &mut S,
 ) -> Result<(), Failed>
     requires { length names.now.channels.items ≡ length program.now.channels.items }
-    ensures {
-        let states = states_of (world_of (tree program.now) processes.now) in
+    ensures { let states = states_of (world_of (tree program.now) processes.now) in
         let channels = channels_of (tree program.now) in
         Puts (channel_lines names.now.channels.items (count_sent states 0 channels) (count_taken states 0 channels)) (S.written out.old) (S.written out.new) (S.faults out.old) (S.faults out.new) result }
 {
@@ -159,12 +158,7 @@ fn taken_by<'a>(
 }
 
 // The line of a channel.
-fn write_channel<S: Sink>(
-    out: &mut S,
-    name: &[u8],
-    sent: usize,
-    taken: usize,
-) -> Result<(), Failed>
+fn write_channel<S: Sink>(out: &mut S, name: &[u8], sent: usize, taken: usize) -> Result<(), Failed>
     ensures { Puts (line_of (name.now ∷ codes "sent" ∷ decimal sent ∷ codes "taken" ∷ decimal taken ∷ [])) (S.written out.old) (S.written out.new) (S.faults out.old) (S.faults out.new) result }
 {
     let mut sent_buffer = Buffer::new();

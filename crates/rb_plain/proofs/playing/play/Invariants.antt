@@ -1,4 +1,4 @@
-use Rattle.std.proofs.Common.{◌≡◌, ◌≤◌, None, drop, length, map}
+use Rattle.std.proofs.Common.{◌≡◌, None, drop, map}
 use Rattle.rb_syntax.specs.Plain.{tree}
 use Rattle.rb_trace.specs.Naming.{naming}
 use Rattle.rb_trace.proofs.Written.{Written}

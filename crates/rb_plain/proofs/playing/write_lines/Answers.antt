@@ -1,4 +1,4 @@
-use Rattle.std.proofs.Common.{◌≡◌, ◌∙◌, ℕ, List, Vec, get_or, ap}
+use Rattle.std.proofs.Common.{◌≡◌, ◌∙◌, ℕ, Vec, get_or, ap}
 use Rattle.std.specs.declared.alloc.Global.{Global}
 use Rattle.rb_outside.proofs.Puts.{puts_same}
 use Rattle.rb_trace.specs.Naming.{naming}

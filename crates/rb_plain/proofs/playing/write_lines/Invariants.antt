@@ -10,4 +10,5 @@ use Rattle.rb_plain.proofs.playing.write_lines.Given as goal
 -- the lines so far were written
 abbrev pub invariant-loop-line : goal.invariant-loop-line
 invariant-loop-line g l =
-    Puts {T = Unit {0}} {E = Failed} (flat_map (λ (line : Vec ℕ Global). out_line (naming l.names) l.turn l.process line.items) (take l.line-index l.lines)) (g.S.Sink.written l.initial.out) (g.S.Sink.written l.out) (g.S.Sink.faults l.initial.out) (g.S.Sink.faults l.out) (Ok tt)
+    let text = flat_map (λ (line : Vec ℕ Global). out_line (naming l.names) l.turn l.process line.items) (take l.line-index l.lines) in
+    Puts {T = Unit {0}} {E = Failed} text (g.S.Sink.written l.initial.out) (g.S.Sink.written l.out) (g.S.Sink.faults l.initial.out) (g.S.Sink.faults l.out) (Ok tt)

@@ -1,4 +1,4 @@
-use Rattle.std.proofs.Common.{◌≡◌, ◌+◌, ◌≤◌, ◌++◌, ◌∷◌, ℤ, List, [], length, ap, ◌∙◌, arith, rules, w64}
+use Rattle.std.proofs.Common.{◌+◌, ◌≤◌, ◌++◌, ◌∷◌, ℤ, [], length, ap, ◌∙◌, arith, rules, w64}
 use Rattle.std.proofs.lemmas.Int.{to_z-of_z}
 use Rattle.rb_meaning.specs.Environment.{global_words}
 use Rattle.rb_plain.proofs.Endings.{size_same, word_more}

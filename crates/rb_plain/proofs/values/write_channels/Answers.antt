@@ -25,7 +25,7 @@ loop-c-preserved g c =
     let sent = sym c.sent_by-sent.ensures in
     let taken = sym c.taken_by-taken.ensures in
     let next = next_channel program states names i c.name-item.result c.index-channel.result.now within is there c.index-channel.ensures
-        ∙ (λ j. channel_line (named j) (sent j) (taken j) ++ rest) in
+    ∙ (λ j. channel_line (named j) (sent j) (taken j) ++ rest) in
     written_more _ _ (channel_line c.as_bytes.result.now c.sent_by-sent.result c.taken_by-taken.result) rest _ _ _ _ _ _
     c.loop-c.invariant next c.in_ok-write_channel.ensures
 
@@ -45,6 +45,6 @@ returns-in_err-write_channel g c =
     let sent = sym c.sent_by-sent.ensures in
     let taken = sym c.taken_by-taken.ensures in
     let next = next_channel program states names i c.name-item.result c.index-channel.result.now within is there c.index-channel.ensures
-        ∙ (λ j. channel_line (named j) (sent j) (taken j) ++ rest) in
+    ∙ (λ j. channel_line (named j) (sent j) (taken j) ++ rest) in
     written_part _ _ (channel_line c.as_bytes.result.now c.sent_by-sent.result c.taken_by-taken.result) rest _ _ _ _ _ _ _
     c.from_residual.result c.loop-c.invariant next c.in_err-write_channel.ensures c.from_residual.ensures.0

@@ -26,7 +26,7 @@ returns-in_err-write_all_variables g c =
     let words = value_lines variables (words_of_all c.args.processes.now) in
     let counts = channel_lines names.channels.items (count_sent states 0 channels) (count_taken states 0 channels) in
     let same : words ++ counts ≡ values_text (naming names) (final_of program (world_of program c.args.processes.now)) =
-        ap (λ (ws : List (List ℤ)). value_lines variables ws ++ counts) (sym (words_same program c.args.processes.now)) in
+    ap (λ (ws : List (List ℤ)). value_lines variables ws ++ counts) (sym (words_same program c.args.processes.now)) in
     let answer = c.in_err-write_all_variables.field-0.0 in
     writes_answered _ _ _ _ _ answer c.from_residual.result c.from_residual.ensures.1
     (writes_same (words ++ counts) _ _ _ _ _ (Err answer) same (writes_stopped words counts _ _ _ _ answer c.in_err-write_all_variables.ensures))
@@ -41,7 +41,7 @@ returns-in_err-write_channels g c =
     let words = value_lines variables (words_of_all c.args.processes.now) in
     let counts = channel_lines names.channels.items (count_sent states 0 channels) (count_taken states 0 channels) in
     let same : words ++ counts ≡ values_text (naming names) (final_of program (world_of program c.args.processes.now)) =
-        ap (λ (ws : List (List ℤ)). value_lines variables ws ++ counts) (sym (words_same program c.args.processes.now)) in
+    ap (λ (ws : List (List ℤ)). value_lines variables ws ++ counts) (sym (words_same program c.args.processes.now)) in
     writes_answered _ _ _ _ _ WriteFault c.from_residual-in_err-write_channels.result c.from_residual-in_err-write_channels.ensures.1
     (puts_same (words ++ counts) _ _ _ _ _ (Err WriteFault) same
     (writes_both words counts _ _ _ _ _ _ (Err WriteFault) c.in_ok-write_all_variables.ensures (puts_failed counts _ _ _ _ _ c.in_err-write_channels.ensures)))
@@ -56,6 +56,6 @@ returns g c =
     let words = value_lines variables (words_of_all c.args.processes.now) in
     let counts = channel_lines names.channels.items (count_sent states 0 channels) (count_taken states 0 channels) in
     let same : words ++ counts ≡ values_text (naming names) (final_of program (world_of program c.args.processes.now)) =
-        ap (λ (ws : List (List ℤ)). value_lines variables ws ++ counts) (sym (words_same program c.args.processes.now)) in
+    ap (λ (ws : List (List ℤ)). value_lines variables ws ++ counts) (sym (words_same program c.args.processes.now)) in
     puts_same (words ++ counts) _ _ _ _ _ (Ok tt) same
     (writes_both words counts _ _ _ _ _ _ (Ok tt) c.in_ok-write_all_variables.ensures (puts_well counts _ _ _ _ tt c.in_ok-write_channels.ensures))
