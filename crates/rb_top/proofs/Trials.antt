@@ -48,5 +48,8 @@ module _ (n : ℕ) (source : List ℕ) (made : source ≡ source_of n) (w0 w1 : 
       let both : Accepted source tree = record { short = short; accepted = accepted.accepted } in
       let first : Accepted (source_of n) tree = subst (λ (text : List ℕ). Accepted text tree) made both in
       stage_as (EndsForSchedule (summary_text n) prepared schedule) (Judges (Trial n) []) w0 w1 f0 f1 status
-      (λ j h. (refl, ends_for_schedule (summary_text n) (source_of n) (made_schedule n) tree first j
-      (subst (λ (text : List ℕ). OverSchedule (summary_text n) tree (text ∷ []) j) scheduled (h source accepted))))
+      (λ j h. (
+        refl,
+        ends_for_schedule (summary_text n) (source_of n) (made_schedule n) tree first j
+            (subst (λ (text : List ℕ). OverSchedule (summary_text n) tree (text ∷ []) j) scheduled (h source accepted)),
+      ))

@@ -4,9 +4,10 @@ use rb_outside::{MemoryShelf, MemorySink};
 use std::alloc::Global;
 use std::test::Fail;
 
-const USAGE: &str = "usage: rbl run SOURCE SCHEDULE | check SOURCE | code SOURCE\n";
+const USAGE: &str =
+    "usage: rbl run SOURCE SCHEDULE | survive SOURCE SCHEDULE | plain SOURCE RECORD | check SOURCE | code SOURCE | trial NUMBER\n";
 
-const NO_COMMANDS: u8 = 18;
+const NO_COMMANDS: u8 = 25;
 
 // Words that give no command.
 fn no_command(n: u8) -> &'static [&'static str] {
@@ -28,6 +29,13 @@ fn no_command(n: u8) -> &'static [&'static str] {
         14 => &["--version"],
         15 => &["", "a"],
         16 => &["chec", "a"],
+        17 => &["survive", "a"],
+        18 => &["plain", "a", "a", "a"],
+        19 => &["trial"],
+        20 => &["trial", "0", "0"],
+        21 => &["trial", "x"],
+        22 => &["trial", "18446744073709551616"],
+        23 => &["trial", "000000000000000000000"],
         _ => &["Check", "a"],
     }
 }
@@ -88,7 +96,7 @@ struct Outside {
 const NOTHING_FAILS: Outside = Outside {
     bad_read: 99,
     bad_write: 99,
-    room: 99,
+    room: 199,
 };
 
 const FAULTS: u8 = 4;

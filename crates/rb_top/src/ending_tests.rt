@@ -14,9 +14,9 @@ fn row(n: u8) -> (&'static str, u64, usize, u8, &'static str) {
         2 => (
             "go",
             9,
-            99,
+            199,
             2,
-            "usage: rbl run SOURCE SCHEDULE | check SOURCE | code SOURCE\n",
+            "usage: rbl run SOURCE SCHEDULE | survive SOURCE SCHEDULE | plain SOURCE RECORD | check SOURCE | code SOURCE | trial NUMBER\n",
         ),
         3 => ("run a c", 9, 99, 3, ""),
         4 => ("run a b", 0, 99, 4, ""),

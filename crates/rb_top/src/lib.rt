@@ -44,6 +44,8 @@ mod parse_rows;
 #[cfg(test)]
 mod recovery_rows;
 #[cfg(test)]
+mod survivor_rows;
+#[cfg(test)]
 mod tests;
 #[cfg(test)]
 mod whole_rows;

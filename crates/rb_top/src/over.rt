@@ -50,7 +50,15 @@ pub fn over_files<F: Shelf, S: Sink>(
         result }
 {
     match read_file(alloc, shelf, source, MOST_BYTES) {
-        Ok(bytes) => over_source(alloc, product, source, bytes.as_slice(), schedule, shelf, out),
+        Ok(bytes) => over_source(
+            alloc,
+            product,
+            source,
+            bytes.as_slice(),
+            schedule,
+            shelf,
+            out,
+        ),
         Err(unread) => unread.status(),
     }
 }

@@ -31,7 +31,13 @@ pub fn try_number<S: Sink>(alloc: Global, number: u64, out: &mut S) -> Status
     ensures { StageEnds (Judges (Trial number) []) (S.written out.old) (S.written out.new) (S.faults out.old) (S.faults out.new) result }
 {
     match make(alloc, number) {
-        Ok((source, schedule)) => try_source(alloc, number, source.as_slice(), schedule.as_slice(), out),
+        Ok((source, schedule)) => try_source(
+            alloc,
+            number,
+            source.as_slice(),
+            schedule.as_slice(),
+            out,
+        ),
         Err(_) => Status::Memory,
     }
 }
