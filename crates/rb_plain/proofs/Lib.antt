@@ -20,3 +20,4 @@ pub mod TestLines
 pub mod MovedProcesses
 pub mod AcceptedTests
 pub mod ActedWorlds
+pub mod TurnsMoved
