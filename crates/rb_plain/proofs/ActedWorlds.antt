@@ -1,5 +1,7 @@
 -- The world after a running process acted, for each form of what stands first.
-use Rattle.std.proofs.Common.{◌≡◌, ◌∷◌, ◌++◌, ℕ, ℤ, Bool, true, false, cond, nat_eq, nat_lt, ◌&&◌, List, [], length, map, set, Option, Some, None, option_map, Result, Ok, Err, refl, ap, sym, ◌∙◌, subst}
+use Rattle.std.proofs.Common.{◌≡◌, ◌∷◌, ◌++◌, ℕ, ℤ, Bool, true, false, cond, nat_eq, nat_lt, ◌&&◌, ◌⊎◌, inl, inr, List, [], length, map, set, Option, Some, None, option_map, Result, Ok, Err, refl, ap, sym, ◌∙◌, subst, arith}
+use Rattle.std.specs.Option.{is_some}
+use Rattle.std.proofs.lemmas.Bool.Decides.{nat_tests}
 use Rattle.rb_base.specs.declared.event.Cause.{Cause}
 use Rattle.rb_base.specs.declared.event.Cause.TheVariants.{Test}
 use Rattle.rb_syntax.specs.Tree.{Tree, Command, Recovering, RecoveryBlock}
@@ -17,8 +19,10 @@ use Rattle.rb_meaning.specs.PlainRun.{EntryPoint, PlainWorld, environment_at}
 use Rattle.rb_plain.specs.declared.halt.Halt.{Halt}
 use Rattle.rb_plain.specs.declared.halt.Halt.TheVariants.{Stuck, Memory}
 use Rattle.rb_plain.specs.Comes.{Judges}
-use Rattle.rb_plain.specs.Items.{StandsFirst}
-use Rattle.rb_plain.specs.Moves.{PlainProcess, acted_world, entered_by, gone_on, performed_by, skipped, started_by, with_moved}
+use Rattle.rb_plain.specs.declared.items.First.{First}
+use Rattle.rb_plain.specs.declared.items.First.TheVariants.{BlockEnd, CallEnd}
+use Rattle.rb_plain.specs.Items.{IsFirst, StandsFirst}
+use Rattle.rb_plain.specs.Moves.{PlainProcess, acted_world, entered_by, gone_on, may_give, performed_by, skipped, started_by, with_moved}
 use Rattle.rb_plain.specs.Worlds.{unkept_kind, MovesTo}
 
 -- the value of an acceptance test in a process
@@ -31,6 +35,14 @@ when_moved : (p : ℕ) (w : PlainWorld) (b : Bool) (o : Option (Moved State Entr
     → option_map (λ m. m.world) o ≡ with_moved p w moved → option_map (λ m. m.world) (when b o) ≡ with_moved p w (when b moved)
 when_moved p w true o moved e = e
 when_moved p w false o moved e = refl
+
+-- no alternate is given at an end
+no_number : (n : ℕ) → nat_eq n 0 ≡ true → n ≡ 0
+no_number n e = grind (arith, nat_tests)
+
+pub end_given : (first : First) (n : ℕ) → (first ≡ BlockEnd) ⊎ (first ≡ CallEnd) → may_give first n ≡ true → n ≡ 0
+end_given first n (inl e) given = no_number n (subst (λ f. may_give f n ≡ true) e given)
+end_given first n (inr e) given = no_number n (subst (λ f. may_give f n ≡ true) e given)
 
 module _ (tree : Tree) (kept : Kept) (q : PlainProcess) (w : PlainWorld) where
   -- what a step of the process comes to
@@ -84,13 +96,19 @@ module _ (tree : Tree) (kept : Kept) (q : PlainProcess) (w : PlainWorld) where
 
   module _ (plain : kept.alternate ≡ 0) where
     -- an end that stands first is taken away
-    pub ends : (item : Item) → StandsFirst item q.state.items → wants_first tree (item ∷ rest_of q.state.items) ≡ Acts
+    ends : (item : Item) → StandsFirst item q.state.items → wants_first tree (item ∷ rest_of q.state.items) ≡ Acts
         → step_items tree kept.alternate (environment_at (copy_of (last_of q.levels))) q.state None (item ∷ rest_of q.state.items) ≡ Went q.state tt
         → acted_world tree kept q w ≡ with_moved kept.process w (Some (settled (unkept_kind tree) q.state q.levels))
     ends item first want stays =
         ap CanAct (ap (wants_first tree) first ∙ want)
         ∙ ap (λ b. option_map (λ m. m.world) (when b (plain_steps (unkept_kind tree) kept None q w))) (given_none plain)
         ∙ ap (Steps None) first ∙ ap Comes stays
+
+    -- an end of a block, or of a call
+    pub ended : (first : First) → (first ≡ BlockEnd) ⊎ (first ≡ CallEnd) → IsFirst q.state.items first
+        → acted_world tree kept q w ≡ with_moved kept.process w (Some (settled (unkept_kind tree) q.state q.levels))
+    ended first (inl e) stands = ends EndBlock (subst (IsFirst q.state.items) e stands) refl refl
+    ended first (inr e) stands = ends EndCall (subst (IsFirst q.state.items) e stands) refl refl
 
     module _ (command : Command) (first : StandsFirst (Perform command) q.state.items) where
       wanted : (want : Want) → wants tree command ≡ want → wants_first tree q.state.items ≡ want
@@ -113,13 +131,18 @@ module _ (tree : Tree) (kept : Kept) (q : PlainProcess) (w : PlainWorld) where
           ∙ performed command None first
 
       -- a receipt whose message is there
-      pub receives : (c : ℕ) (v : ℤ) → wants tree command ≡ ReceivesOn c → message_there (unkept_kind tree) w c ≡ Some v
-          → acted_world tree kept q w ≡ with_moved kept.process w (performed_by tree (Some v) command q)
-      receives c v e message =
+      received : (message : Option ℤ) → is_some message ≡ true
+          → option_map (λ m. m.world) (plain_receives (unkept_kind tree) kept q w message) ≡ with_moved kept.process w (performed_by tree message command q)
+      received None there = cc
+      received (Some v) there = performed command (Some v) first
+
+      pub receives : (c : ℕ) (message : Option ℤ) → wants tree command ≡ ReceivesOn c → message ≡ message_there (unkept_kind tree) w c → is_some message ≡ true
+          → acted_world tree kept q w ≡ with_moved kept.process w (performed_by tree message command q)
+      receives c message e is there =
           ap CanAct (wanted (ReceivesOn c) e)
           ∙ ap (λ b. option_map (λ m. m.world) (when b (plain_receives (unkept_kind tree) kept q w (message_there (unkept_kind tree) w c)))) (given_none plain)
-          ∙ ap (λ o. option_map (λ m. m.world) (plain_receives (unkept_kind tree) kept q w o)) message
-          ∙ performed command (Some v) first
+          ∙ ap (λ o. option_map (λ m. m.world) (plain_receives (unkept_kind tree) kept q w o)) (sym is)
+          ∙ received message there
 
       -- a receipt that may find nothing
       pub may_receive : (c : ℕ) (message : Option ℤ) → wants tree command ≡ MayReceiveOn c → message ≡ message_there (unkept_kind tree) w c

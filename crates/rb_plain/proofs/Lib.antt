@@ -29,3 +29,4 @@ pub mod MovedProcesses
 pub mod AcceptedTests
 pub mod Endings
 pub mod ActedWorlds
+pub mod TurnsMoved

@@ -1,5 +1,5 @@
 -- The process that stands at the number is ready, with the statement first; and what comes of it comes of its world.
-use Rattle.std.proofs.Common.{◌≡◌, Some, None, Option, ℤ, get_or, ap, sym, ◌∙◌, subst}
+use Rattle.std.proofs.Common.{◌≡◌, Some, None, Option, ℤ, not, get_or, ap, sym, ◌∙◌, subst}
 use Rattle.std.proofs.lemmas.Option.{get_or_from_slice_get, slice_get-get_or}
 use Rattle.rb_syntax.specs.Plain.{command, recovery_block, tree}
 use Rattle.rb_plain.specs.declared.process.Process.{Process}
@@ -25,12 +25,6 @@ perform-requires c =
 pub perform-requires-then-has_room : goal.perform-requires-then-has_room
 perform-requires-then-has_room c =
     let d = c.index-processes-p-then-has_room.result in
-    let processes = c.args.processes.now in
-    (c.requires.first (get_or processes c.args.kept.process d) (slice_get-get_or processes c.args.kept.process d c.requires.process)).1
-
-pub perform-requires-in-Some : goal.perform-requires-in-Some
-perform-requires-in-Some c =
-    let d = c.index-processes-p-in-Some.result in
     let processes = c.args.processes.now in
     (c.requires.first (get_or processes c.args.kept.process d) (slice_get-get_or processes c.args.kept.process d c.requires.process)).1
 
@@ -72,25 +66,27 @@ returns-then-has_room c = λ one there.
     (c.requires.first one there).1 c.in-Room.channel c.in-Room.ensures (sym c.has_room.ensures ∙ c.if-has_room.true))
     c.perform-then-has_room.ensures
 
-pub returns-in-Some : goal.returns-in-Some
-returns-in-Some c = λ one there.
-    let plain = tree c.args.program.now in
-    let processes = c.args.processes.now in
-    let statement = command c.args.statement.now in
-    moved_there plain (plain_turn c.args.kept) processes one c.index-processes-p-in-Some.result there (performed_by plain (Some c.in-Some.message) statement)
-    c.perform-in-Some.new.self c.perform-in-Some.result
-    (receives plain (plain_turn c.args.kept) (process_of one) (world_of plain processes) c.requires.alternate statement
-    (c.requires.first one there).1 c.in-Message.channel c.in-Some.message c.in-Message.ensures (sym c.message_there.ensures ∙ c.in-Some.is))
-    c.perform-in-Some.ensures
-
 pub returns-in-MessageOrElse : goal.returns-in-MessageOrElse
 returns-in-MessageOrElse c = λ one there.
     let plain = tree c.args.program.now in
     let processes = c.args.processes.now in
     let statement = command c.args.statement.now in
     moved_there plain (plain_turn c.args.kept) processes one c.index-processes-p-in-MessageOrElse.result there
-    (performed_by plain c.message_there-message.result statement)
+    (performed_by plain c.message_there-message-in-MessageOrElse.result statement)
     c.perform-in-MessageOrElse.new.self c.perform-in-MessageOrElse.result
     (may_receive plain (plain_turn c.args.kept) (process_of one) (world_of plain processes) c.requires.alternate statement
-    (c.requires.first one there).1 c.in-MessageOrElse.channel c.message_there-message.result c.in-MessageOrElse.ensures c.message_there-message.ensures)
+    (c.requires.first one there).1 c.in-MessageOrElse.channel c.message_there-message-in-MessageOrElse.result c.in-MessageOrElse.ensures c.message_there-message-in-MessageOrElse.ensures)
     c.perform-in-MessageOrElse.ensures
+
+pub returns-else-is_none : goal.returns-else-is_none
+returns-else-is_none c = λ one there.
+    let plain = tree c.args.program.now in
+    let processes = c.args.processes.now in
+    let statement = command c.args.statement.now in
+    moved_there plain (plain_turn c.args.kept) processes one c.index-processes-p-in-Message.result there
+    (performed_by plain c.message_there-message.result statement)
+    c.perform-in-Message.new.self c.perform-in-Message.result
+    (receives plain (plain_turn c.args.kept) (process_of one) (world_of plain processes) c.requires.alternate statement
+    (c.requires.first one there).1 c.in-Message.channel c.message_there-message.result c.in-Message.ensures c.message_there-message.ensures
+    (c.is_none.ensures ∙ ap not c.if-is_none.false))
+    c.perform-in-Message.ensures
