@@ -28,8 +28,8 @@ mod test_line;
 mod tests;
 mod turn;
 pub mod value;
-mod want;
 mod values;
+mod want;
 
 pub use answer::PlainAnswer;
 pub use plain_run::plain;
