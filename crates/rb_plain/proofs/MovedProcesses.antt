@@ -41,6 +41,6 @@ pub moved_there : {A : Type 0} (tree : Tree) (kept : Kept) (processes : List Pro
 moved_there {A} tree kept processes one d there alone new result acted becomes =
     let w = world_of tree processes in
     let here : Becomes {A = A} (alone (process_of one)) (process_of new) result =
-        subst (λ (x : Process). Becomes {A = A} (alone (process_of x)) (process_of new) result) (get_or_from_slice_get processes kept.process one d there) becomes in
+    subst (λ (x : Process). Becomes {A = A} (alone (process_of x)) (process_of new) result) (get_or_from_slice_get processes kept.process one d there) becomes in
     subst (λ (o : Option PlainWorld). MovesTo {A = A} o (world_of tree (set processes kept.process new)) result) (sym acted)
     (moves_with tree processes kept.process new (alone (process_of one)) result here)

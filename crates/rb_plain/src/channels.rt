@@ -98,11 +98,7 @@ fn first_message<'t, 'a>(
 }
 
 // How many values of the sender's the receiver can see: those at the entry of the sender's first level that the two do not share, or all.
-fn seen<'t, 'a>(
-    sender: &Process<'t, 'a>,
-    receiver: &Process<'t, 'a>,
-    channel: usize,
-) -> usize
+fn seen<'t, 'a>(sender: &Process<'t, 'a>, receiver: &Process<'t, 'a>, channel: usize) -> usize
     ensures { (tree : Tree) → result ≡ seen_count (unkept_kind tree) (state_of sender.now.state) (seen_copy (map level_of sender.now.levels.items) (map level_of receiver.now.levels.items)) channel }
 {
     match first_own(&sender.levels, &receiver.levels) {
