@@ -1,17 +1,17 @@
 -- The world after a running process acted, for each form of what stands first.
-use Rattle.std.proofs.Common.{◌≡◌, ◌∷◌, ◌++◌, ℕ, ℤ, Bool, true, false, cond, nat_eq, nat_lt, ◌&&◌, ◌⊎◌, inl, inr, List, [], length, map, set, Option, Some, None, option_map, Result, Ok, Err, refl, ap, sym, ◌∙◌, subst, arith}
+use Rattle.std.proofs.Common.{◌≡◌, ◌∷◌, ◌++◌, ℕ, ℤ, Bool, true, false, cond, nat_eq, nat_lt, ◌&&◌, ◌⊎◌, inl, inr, List, [], length, Option, Some, None, option_map, Result, Ok, Err, refl, ap, sym, ◌∙◌, subst, arith}
 use Rattle.std.specs.Option.{is_some}
 use Rattle.std.proofs.lemmas.Bool.Decides.{nat_tests}
 use Rattle.rb_base.specs.declared.event.Cause.{Cause}
 use Rattle.rb_base.specs.declared.event.Cause.TheVariants.{Test}
 use Rattle.rb_syntax.specs.Tree.{Tree, Command, Recovering, RecoveryBlock}
-use Rattle.rb_world.specs.Kind.{Kind, Want, NothingLeft, SendsOn, ReceivesOn, MayReceiveOn, Enters, Starts, Acts, Stepped, Trapped, Went, Held}
-use Rattle.rb_world.specs.World.{Level as Open, copy_of, goes_on, last_of, settled, with_process}
+use Rattle.rb_world.specs.Kind.{Want, NothingLeft, SendsOn, ReceivesOn, MayReceiveOn, Enters, Starts, Acts, Stepped, Trapped, Went, Held}
+use Rattle.rb_world.specs.World.{copy_of, goes_on, last_of, settled}
 use Rattle.rb_world.specs.Channels.{has_room, message_there}
 use Rattle.rb_world.specs.Turn.{Moved, accepted, most_levels, new_level, open_at}
 use Rattle.rb_world.specs.Plain.{Kept, has_alternate, no_alternate, plain_acts, plain_receives, plain_stepped, plain_steps, when}
 use Rattle.rb_meaning.specs.Environment.{rest_of}
-use Rattle.rb_meaning.specs.State.{Item, Perform, StartOf, TestOf, EndBlock, EndCall, State, continue_with}
+use Rattle.rb_meaning.specs.State.{Item, Perform, StartOf, TestOf, EndBlock, EndCall, State}
 use Rattle.rb_meaning.specs.Step.{Nothing, alternate_number, alternates_in, enter, former, goes, judged, performs, starts_body, step_items, test_in, wants, wants_first}
 use Rattle.rb_meaning.specs.Value.{Outcome, is_zero, value}
 use Rattle.rb_meaning.specs.Groups.{facts_of}

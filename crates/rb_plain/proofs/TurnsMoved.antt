@@ -1,8 +1,7 @@
 -- The world that a kept turn comes to, by what its process is.
-use Rattle.std.proofs.Common.{◌≡◌, ℕ, Bool, true, false, cond, ◌⊎◌, inl, inr, List, map, slice_get, Option, Some, None, option_map, Result, refl, ap, sym, ◌∙◌, subst}
+use Rattle.std.proofs.Common.{◌≡◌, Bool, true, false, cond, inl, inr, List, slice_get, Option, Some, None, option_map, Result, refl, ap, sym, ◌∙◌, subst}
 use Rattle.std.proofs.lemmas.Option.{slice_get-map}
 use Rattle.rb_syntax.specs.Tree.{Tree}
-use Rattle.rb_world.specs.World.{Status}
 use Rattle.rb_world.specs.Plain.{Kept, plain_acts, plain_moves, plain_runs}
 use Rattle.rb_meaning.specs.Step.{wants_first}
 use Rattle.rb_meaning.specs.PlainRun.{PlainWorld}

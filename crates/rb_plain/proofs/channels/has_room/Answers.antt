@@ -1,5 +1,5 @@
 -- The two ends, as they were looked up, and the room between them.
-use Rattle.std.proofs.Common.{◌≡◌, ◌+◌, map, nat_lt, Some, None, ap, sym, ◌∙◌}
+use Rattle.std.proofs.Common.{◌+◌, map, nat_lt, Some, ap, sym, ◌∙◌}
 use Rattle.rb_syntax.specs.Plain.{tree}
 use Rattle.rb_world.specs.Channels.{has_room_for, room_from}
 use Rattle.rb_meaning.specs.Environment.{natural}

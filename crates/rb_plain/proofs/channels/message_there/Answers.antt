@@ -1,5 +1,5 @@
 -- The two ends, as they were looked up, and the message between them.
-use Rattle.std.proofs.Common.{◌≡◌, Some, None, ap, sym, ◌∙◌}
+use Rattle.std.proofs.Common.{Some, ap, sym, ◌∙◌}
 use Rattle.rb_syntax.specs.Plain.{tree}
 use Rattle.rb_world.specs.Channels.{message_between}
 use Rattle.rb_plain.specs.Worlds.{process_of, unkept_kind}

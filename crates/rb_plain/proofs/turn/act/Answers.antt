@@ -1,10 +1,9 @@
 -- What comes of the process that stands at the number comes of its world.
-use Rattle.std.proofs.Common.{◌≡◌, Some, Ok, Result, ap, sym, ◌∙◌, subst}
+use Rattle.std.proofs.Common.{Some, Ok, ap, sym, ◌∙◌, subst}
 use Rattle.rb_syntax.specs.Plain.{recovery_block, tree}
 use Rattle.rb_world.specs.World.{settled}
-use Rattle.rb_plain.specs.declared.items.First.{First}
 use Rattle.rb_plain.specs.Items.{IsFirst}
-use Rattle.rb_plain.specs.Moves.{may_give, started_by}
+use Rattle.rb_plain.specs.Moves.{started_by}
 use Rattle.rb_plain.specs.Recorded.{plain_turn}
 use Rattle.rb_plain.specs.States.{state_of}
 use Rattle.rb_plain.specs.Worlds.{process_of, unkept_kind, world_of}

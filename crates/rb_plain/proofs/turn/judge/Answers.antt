@@ -1,5 +1,5 @@
 -- The acceptance test holds in the process that stands at the number, or the turn is stuck.
-use Rattle.std.proofs.Common.{◌≡◌, ℤ, false, Some, Ok, Err, get_or, ap, sym, ◌∙◌, subst}
+use Rattle.std.proofs.Common.{◌≡◌, ℤ, false, Some, Ok, Err, ap, sym, ◌∙◌, subst}
 use Rattle.std.proofs.lemmas.Option.{get_or_from_slice_get}
 use Rattle.rb_syntax.specs.Plain.{recovery_block, tree}
 use Rattle.rb_meaning.specs.Value.{is_zero}

@@ -1,9 +1,8 @@
 -- The process that stands at the number is ready, with the statement first; and what comes of it comes of its world.
-use Rattle.std.proofs.Common.{◌≡◌, Some, None, Option, ℤ, not, get_or, ap, sym, ◌∙◌, subst}
-use Rattle.std.proofs.lemmas.Option.{get_or_from_slice_get, slice_get-get_or}
+use Rattle.std.proofs.Common.{None, not, get_or, ap, sym, ◌∙◌}
+use Rattle.std.proofs.lemmas.Option.{slice_get-get_or}
 use Rattle.rb_syntax.specs.Plain.{command, recovery_block, tree}
-use Rattle.rb_plain.specs.declared.process.Process.{Process}
-use Rattle.rb_plain.specs.Moves.{entered_by, performed_by, Becomes}
+use Rattle.rb_plain.specs.Moves.{entered_by, performed_by}
 use Rattle.rb_plain.specs.Recorded.{plain_turn}
 use Rattle.rb_plain.specs.Worlds.{process_of, world_of}
 use Rattle.rb_plain.proofs.ActedWorlds.{acts, enters, may_receive, receives, sends}

@@ -1,3 +1,4 @@
+-- The process that was looked up, and what its turn comes to.
 use Rattle.rb_syntax.specs.Plain.{tree}
 use Rattle.rb_plain.specs.Recorded.{plain_turn}
 use Rattle.rb_plain.specs.Worlds.{world_of}
