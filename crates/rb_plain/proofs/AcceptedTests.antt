@@ -1,11 +1,10 @@
 -- What an acceptance test that held comes to: a private level goes, and a member comes to its test line.
-use Rattle.std.proofs.Common.{◌≡◌, ℕ, List, [], map, set, Option, Some, None, option_map, refl, ap, sym, ◌∙◌, subst}
+use Rattle.std.proofs.Common.{◌≡◌, ℕ, List, map, set, Option, Some, None, option_map, ap, sym, ◌∙◌, subst}
 use Rattle.rb_syntax.specs.Tree.{Tree}
-use Rattle.rb_world.specs.Turn.{Moved, accepted, accepted_at, at_test_line, stands_now}
+use Rattle.rb_world.specs.Turn.{accepted, accepted_at, at_test_line, stands_now}
 use Rattle.rb_world.specs.World.{Level as Open, last_of, settled, with_process, without_last}
 use Rattle.rb_world.proofs.ListFacts.{none_some, some_same}
 use Rattle.rb_meaning.specs.State.{State}
-use Rattle.rb_meaning.specs.Step.{Nothing}
 use Rattle.rb_meaning.specs.PlainRun.{EntryPoint, PlainWorld}
 use Rattle.rb_plain.specs.declared.process.Process.{Process}
 use Rattle.rb_plain.specs.Moves.{skipped}

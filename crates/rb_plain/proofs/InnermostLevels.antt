@@ -1,17 +1,15 @@
 -- The innermost level, and what is known of a level's recovery block.
-use Rattle.std.proofs.Common.{◌≡◌, ◌+◌, ◌-◌, ◌<◌, ◌&&◌, nat_le, nat_lt, ℕ, true, zero, suc, List, [], ◌∷◌, length, map, take, Option, Some, None, option_map, Bor, vec_len, refl, sym, ap, ◌∙◌, arith}
+use Rattle.std.proofs.Common.{◌≡◌, ◌-◌, ◌<◌, ◌&&◌, nat_le, nat_lt, ℕ, true, zero, suc, List, [], ◌∷◌, length, map, take, Option, Some, None, option_map, Bor, vec_len, refl, sym, ap, ◌∙◌, arith}
 use Rattle.std.proofs.Math.Seq.{take-nil}
 use Rattle.std.specs.Option.{option_copied}
 use Rattle.std.specs.List.{slice_get}
 use Rattle.std.proofs.lemmas.Bool.Decides.{nat_tests}
 use Rattle.rb_syntax.specs.declared.statement.Block.{Block}
 use Rattle.rb_syntax.specs.declared.statement.Recovery.{Recovery, out-Recovery}
-use Rattle.rb_syntax.specs.Tree.{RecoveryBlock, Recovers}
 use Rattle.rb_syntax.specs.Plain.{alternates_of, recovery_block}
 use Rattle.rb_syntax.proofs.Bridge.{recovery_out}
-use Rattle.rb_world.specs.World.{Level as Open, last_of, without_last}
+use Rattle.rb_world.specs.World.{last_of, without_last}
 use Rattle.rb_meaning.specs.Groups.{count_alternates}
-use Rattle.rb_meaning.specs.PlainRun.{EntryPoint}
 use Rattle.rb_plain.specs.declared.process.Level.{Level}
 use Rattle.rb_plain.specs.Worlds.{facts_with, level_of}
 
@@ -33,7 +31,8 @@ viewed None = refl
 viewed (Some level) = refl
 
 -- the level that `last` lends
-pub innermost_is : (levels lent : List Level) (r : Option (Bor Level)) → lent ≡ levels → option_copied r ≡ slice_get lent (length lent - 1) → option_map (λ level. level_of level.now) r ≡ last_of (map level_of levels)
+pub innermost_is : (levels lent : List Level) (r : Option (Bor Level)) → lent ≡ levels → option_copied r ≡ slice_get lent (length lent - 1)
+    → option_map (λ level. level_of level.now) r ≡ last_of (map level_of levels)
 innermost_is levels lent r same found =
     viewed r ∙ ap (option_map level_of) found ∙ ap (λ xs. option_map level_of (slice_get xs (length xs - 1))) same ∙ last_is levels
 
@@ -51,16 +50,13 @@ pub popped_is : (levels left : List Level) (n : ℕ) → length levels ≡ n →
 popped_is [] left n long e = ap (map level_of) (e ∙ take-nil (n - 1))
 popped_is (level ∷ levels) left n long e = ap (map level_of) e ∙ without_at (level ∷ levels) (n - 1) (omega arith)
 
--- a level's conversation is that which it was given
-pub facts_conversation : (conversation : Option ℕ) (block : RecoveryBlock) → (facts_with conversation block).conversation ≡ conversation
-facts_conversation conversation (Recovers number name place test bound alternates) = refl
-
 -- as many alternates as its block has
 counted : (blocks : List Block) → count_alternates (alternates_of blocks) ≡ length blocks
 counted [] = refl
 counted (block ∷ blocks) = omega (arith, counted blocks)
 
-pub facts_alternates : (conversation : Option ℕ) (block : Recovery) → (facts_with conversation (recovery_block block)).alternates ≡ length (out-Recovery block).alternates.items
+facts_alternates : (conversation : Option ℕ) (block : Recovery)
+    → (facts_with conversation (recovery_block block)).alternates ≡ length (out-Recovery block).alternates.items
 facts_alternates conversation block =
     ap (λ plain. (facts_with conversation plain).alternates) (recovery_out block) ∙ counted (out-Recovery block).alternates.items
 
@@ -69,7 +65,8 @@ is_counted : (n : ℕ) → 0 < n → nat_lt 0 n ≡ true
 is_counted n some = grind (arith, nat_tests)
 
 -- the block has the alternate of a number from 1 on where the number of its alternates reaches it
-pub alternate_there : (n : ℕ) (conversation : Option ℕ) (block : Recovery) (count : ℕ) → 0 < n → count ≡ vec_len (out-Recovery block).alternates → nat_le n count ≡ nat_lt 0 n && nat_le n (facts_with conversation (recovery_block block)).alternates
+pub alternate_there : (n : ℕ) (conversation : Option ℕ) (block : Recovery) (count : ℕ) → 0 < n → count ≡ vec_len (out-Recovery block).alternates
+    → nat_le n count ≡ nat_lt 0 n && nat_le n (facts_with conversation (recovery_block block)).alternates
 alternate_there n conversation block count some e =
     let all : count ≡ length (out-Recovery block).alternates.items = omega (arith, e, (out-Recovery block).alternates.ok.0) in
     ap (nat_le n) (all ∙ sym (facts_alternates conversation block))

@@ -27,3 +27,5 @@ pub mod BlockFacts
 pub mod TestLines
 pub mod MovedProcesses
 pub mod AcceptedTests
+pub mod ActedWorlds
+pub mod TurnsMoved

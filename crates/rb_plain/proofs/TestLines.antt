@@ -1,7 +1,6 @@
 -- Test lines, where they are passed and where not, in the world that the processes in memory stand for.
-use Rattle.std.proofs.Common.{◌≡◌, ◌+◌, ◌++◌, ◌<◌, ◌≤◌, ℕ, zero, suc, Bool, true, false, cond, List, [], ◌∷◌, length, map, take, drop, get_or, set, slice_get, Option, Some, None, option_map, Bor, refl, ap, sym, ◌∙◌, subst, arith}
-use Rattle.std.specs.Option.{MatchOption}
-use Rattle.std.specs.List.{HoldsAt, list_all}
+use Rattle.std.proofs.Common.{◌≡◌, ◌+◌, ◌++◌, ◌<◌, ℕ, zero, suc, true, false, cond, List, [], ◌∷◌, length, map, take, drop, get_or, set, slice_get, Option, Some, None, option_map, Bor, refl, ap, sym, ◌∙◌, subst, arith}
+use Rattle.std.specs.List.{list_all}
 use Rattle.std.proofs.lemmas.Option.{slice_get-map}
 use Rattle.rb_base.specs.declared.names.Nested.{Nested}
 use Rattle.rb_base.specs.declared.names.Group.{Group}
@@ -9,12 +8,12 @@ use Rattle.rb_base.specs.declared.event.Event.TheVariants.{Pass}
 use Rattle.rb_syntax.specs.Tree.{Tree}
 use Rattle.rb_world.specs.Kind.{Membership}
 use Rattle.rb_world.specs.Reject.{first_again}
-use Rattle.rb_world.specs.Turn.{Moved, all_leave, all_stand, alternate_of, at_test_line, leaves, members_of, opening_talks, passed, stands_there, took}
-use Rattle.rb_world.specs.World.{Process as Seen, World, change_at, talk_at}
+use Rattle.rb_world.specs.Turn.{all_leave, all_stand, alternate_of, at_test_line, leaves, members_of, opening_talks, passed, stands_there, took}
+use Rattle.rb_world.specs.World.{Process as Seen, change_at, talk_at}
 use Rattle.rb_world.proofs.ListFacts.{heads_same, tails_same}
 use Rattle.rb_meaning.specs.Groups.{groups_of}
 use Rattle.rb_meaning.specs.State.{State}
-use Rattle.rb_meaning.specs.PlainRun.{EntryPoint, PlainWorld}
+use Rattle.rb_meaning.specs.PlainRun.{EntryPoint}
 use Rattle.rb_plain.specs.declared.process.Process.{Process}
 use Rattle.rb_plain.specs.Members.{HasMembers}
 use Rattle.rb_plain.specs.Worlds.{process_of, unkept_kind, world_of}
@@ -62,7 +61,7 @@ talks_stay [] c = refl
 talks_stay (group ∷ groups) zero = refl
 talks_stay (group ∷ groups) (suc c) = ap (λ talks. record { alternate = 1; is_broken = false } ∷ talks) (talks_stay groups c)
 
-module _ (tree : Tree) (c : ℕ) (before after : List Process) where
+module _ (tree : Tree) (c : ℕ) (before : List Process) where
   -- the test line is not passed
   pub line_waits : all_stand (unkept_kind tree) c (world_of tree before) ≡ false
       → world_of tree before ≡ (at_test_line (unkept_kind tree) c (world_of tree before)).world
@@ -72,9 +71,10 @@ module _ (tree : Tree) (c : ℕ) (before after : List Process) where
       ap (λ b. (cond b (passed (Pass c (alternate_of (talk_at w c))) (all_leave k c w)) (took w)).world) (sym e)
 
   -- it is passed
-  pub line_passed : all_stand (unkept_kind tree) c (world_of tree before) ≡ true → map process_of after ≡ map (leaves (unkept_kind tree) c) (map process_of before)
+  pub line_passed : (after : List Process) → all_stand (unkept_kind tree) c (world_of tree before) ≡ true
+      → map process_of after ≡ map (leaves (unkept_kind tree) c) (map process_of before)
       → world_of tree after ≡ (at_test_line (unkept_kind tree) c (world_of tree before)).world
-  line_passed e left =
+  line_passed after e left =
       let k = unkept_kind tree in
       let w = world_of tree before in
       ap (λ qs. record { processes = qs; talks = opening_talks (groups_of tree); memory = tt }) left

@@ -87,7 +87,9 @@ fn first_message<'t, 'a>(
     receiver: &Process<'t, 'a>,
     channel: usize,
 ) -> Option<i64>
-    ensures { (tree : Tree) → result ≡ first_message (unkept_kind tree) tt channel (state_of sender.now.state) (seen_copy (map level_of sender.now.levels.items) (map level_of receiver.now.levels.items)) (taken_on (state_of receiver.now.state) channel) }
+    ensures { (tree : Tree) →
+        result ≡ first_message (unkept_kind tree) tt channel (state_of sender.now.state)
+        (seen_copy (map level_of sender.now.levels.items) (map level_of receiver.now.levels.items)) (taken_on (state_of receiver.now.state) channel) }
 {
     let taken = receiver.state.taken_on(channel);
     if taken < seen(sender, receiver, channel) {
@@ -98,12 +100,10 @@ fn first_message<'t, 'a>(
 }
 
 // How many values of the sender's the receiver can see: those at the entry of the sender's first level that the two do not share, or all.
-fn seen<'t, 'a>(
-    sender: &Process<'t, 'a>,
-    receiver: &Process<'t, 'a>,
-    channel: usize,
-) -> usize
-    ensures { (tree : Tree) → result ≡ seen_count (unkept_kind tree) (state_of sender.now.state) (seen_copy (map level_of sender.now.levels.items) (map level_of receiver.now.levels.items)) channel }
+fn seen<'t, 'a>(sender: &Process<'t, 'a>, receiver: &Process<'t, 'a>, channel: usize) -> usize
+    ensures { (tree : Tree) →
+        result ≡ seen_count (unkept_kind tree) (state_of sender.now.state)
+        (seen_copy (map level_of sender.now.levels.items) (map level_of receiver.now.levels.items)) channel }
 {
     match first_own(&sender.levels, &receiver.levels) {
         Some(level) => count_at(&level.sent, channel),

@@ -86,7 +86,9 @@ impl<'t, 'a> Process<'t, 'a> {
 
     /// The acceptance test of the recovery block that stands first: it holds, or the run is stuck.
     pub(crate) fn judge(&self, block: &Recovery<'a>) -> Result<(), Halt>
-        ensures { Judges (value (state_of self.now.state).environment (former (state_of self.now.state).environment (environment_at (copy_of (last_of (map level_of self.now.levels.items))))) [] (test_in (recovery_block block.now))) result }
+        ensures { let s = state_of self.now.state in
+            let prior = environment_at (copy_of (last_of (map level_of self.now.levels.items))) in
+            Judges (value s.environment (former s.environment prior) [] (test_in (recovery_block block.now))) result }
     {
         self.state.judge(block, self.prior())
     }

@@ -45,7 +45,8 @@ impl<'t, 'a> Level<'t, 'a> {
         conversation: Option<usize>,
         state: &State<'t, 'a>,
     ) -> Result<Self, Memory>
-        ensures { IfOk result (λ level. level_of level ≡ record { facts = facts_with conversation (recovery_block block.now); alternate = 0; used = 0; copy = entry_point (state_of state.now) }) }
+        ensures { IfOk result (λ level. level_of level ≡
+            record { facts = facts_with conversation (recovery_block block.now); alternate = 0; used = 0; copy = entry_point (state_of state.now) }) }
     {
         let sent = lengths_of(alloc, state.sent.as_slice())?;
         let taken = Vec::from_slice(alloc, state.taken.as_slice())?;
@@ -58,9 +59,7 @@ impl<'t, 'a> Level<'t, 'a> {
             environment,
         })
     }
-}
 
-impl<'t, 'a> Level<'t, 'a> {
     // Whether its recovery block has this alternate, counted from 1.
     fn has_alternate(&self, alternate: u32) -> bool
         ensures { result ≡ nat_lt 0 alternate && nat_le alternate (level_of self.now).facts.alternates }

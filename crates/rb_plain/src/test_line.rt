@@ -29,7 +29,9 @@ pub(crate) fn accept<'a>(
     requires process { p < length processes.old }
     requires ready { (one : Here) → slice_get processes.old p ≡ Some one → IsReady one }
     ensures { (one : Here) → slice_get processes.old p ≡ Some one →
-        world_of (tree program.now) processes.new ≡ (accepted (unkept_kind (tree program.now)) p (map level_of one.levels.items) (last_of (map level_of one.levels.items)) (world_of (tree program.now) processes.old) (skipped (state_of one.state), tt)).world }
+        let levels = map level_of one.levels.items in
+        world_of (tree program.now) processes.new ≡
+        (accepted (unkept_kind (tree program.now)) p levels (last_of levels) (world_of (tree program.now) processes.old) (skipped (state_of one.state), tt)).world }
 {
     match conversation_of(&processes[p]) {
         None => {}

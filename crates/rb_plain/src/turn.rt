@@ -117,10 +117,13 @@ fn perform<'t, 'a>(
                 Err(Halt::Stuck)
             }
         }
-        Want::Message(channel) => match message_there(program, processes, channel) {
-            Some(message) => processes[p].perform(alloc, program, Some(message), statement),
-            None => Err(Halt::Stuck),
-        },
+        Want::Message(channel) => {
+            let message = message_there(program, processes, channel);
+            if message.is_none() {
+                return Err(Halt::Stuck);
+            }
+            processes[p].perform(alloc, program, message, statement)
+        }
         Want::MessageOrElse(channel) => {
             let message = message_there(program, processes, channel);
             processes[p].perform(alloc, program, message, statement)

@@ -1,4 +1,5 @@
-use Rattle.std.proofs.Common.{◌≡◌, Some, None, option_map, ap, sym, ◌∙◌}
+-- A block's conversation by its name, if it has one.
+use Rattle.std.proofs.Common.{Some, None, option_map, ap, sym, ◌∙◌}
 use Rattle.rb_syntax.specs.Plain.{identifier, tree}
 use Rattle.rb_meaning.specs.Groups.{conversation_of}
 use Rattle.rb_plain.proofs.BlockFacts.{facts_are}

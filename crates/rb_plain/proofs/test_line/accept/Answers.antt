@@ -1,4 +1,5 @@
-use Rattle.std.proofs.Common.{◌≡◌, Some, None, get_or, ap, sym, ◌∙◌}
+-- The process that stands at the number, and what its level comes to.
+use Rattle.std.proofs.Common.{Some, get_or, ap, sym, ◌∙◌}
 use Rattle.std.proofs.lemmas.Option.{get_or_from_slice_get}
 use Rattle.rb_syntax.specs.Plain.{tree}
 use Rattle.rb_plain.proofs.AcceptedTests.{alone_gone, together_gone}

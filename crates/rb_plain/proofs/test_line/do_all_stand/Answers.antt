@@ -1,5 +1,5 @@
 -- The members of the conversation, as it was looked up, and none where there is no conversation.
-use Rattle.std.proofs.Common.{◌≡◌, Bool, map, option_map, slice_get, ap, sym, ◌∙◌}
+use Rattle.std.proofs.Common.{map, option_map, slice_get, ap, sym, ◌∙◌}
 use Rattle.std.specs.List.{list_all}
 use Rattle.rb_world.specs.Turn.{stands_there}
 use Rattle.rb_plain.specs.Worlds.{process_of}

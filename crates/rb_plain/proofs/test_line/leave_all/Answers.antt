@@ -1,3 +1,4 @@
+-- One more process leaves the line.
 use Rattle.rb_syntax.specs.Plain.{tree}
 use Rattle.rb_world.specs.Turn.{leaves}
 use Rattle.rb_plain.specs.Worlds.{unkept_kind}

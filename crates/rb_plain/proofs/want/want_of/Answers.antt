@@ -1,5 +1,5 @@
 -- A receipt asks for its message by the number of its channel.
-use Rattle.std.proofs.Common.{◌≡◌, ap, sym, ◌∙◌}
+use Rattle.std.proofs.Common.{ap, sym, ◌∙◌}
 use Rattle.rb_syntax.specs.Plain.{command, otherwise, tree}
 use Rattle.rb_syntax.proofs.Bridge.{command_receive}
 use Rattle.rb_meaning.specs.Step.{wants, wants_receipt}

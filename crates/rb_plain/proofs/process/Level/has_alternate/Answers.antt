@@ -1,3 +1,4 @@
+-- The alternates of a block in memory, and of its plain block.
 use Rattle.rb_plain.proofs.InnermostLevels.{alternate_there}
 use Rattle.rb_plain.proofs.process.Level.has_alternate.Goals as goal
 

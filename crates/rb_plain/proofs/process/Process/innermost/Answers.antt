@@ -1,3 +1,4 @@
+-- The level that stands last.
 use Rattle.rb_plain.proofs.InnermostLevels.{innermost_is}
 use Rattle.rb_plain.proofs.process.Process.innermost.Goals as goal
 

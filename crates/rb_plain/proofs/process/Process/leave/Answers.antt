@@ -1,3 +1,4 @@
+-- The levels that are left without the last.
 use Rattle.std.proofs.Common.{◌≡◌, ap, ◌∙◌, length, vec_len, arith}
 use Rattle.rb_syntax.specs.Plain.{tree}
 use Rattle.rb_world.specs.World.{settled}
