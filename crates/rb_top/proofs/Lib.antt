@@ -17,3 +17,4 @@ pub mod Trials
 pub mod Recorded
 pub mod Behind
 pub mod CommandLine
+pub mod ErasedAccepted

@@ -4,6 +4,7 @@ use Rattle.rb_base.specs.declared.limits.TheConstants.{MOST_BYTES}
 use Rattle.rb_syntax.specs.Tree.{Tree}
 use Rattle.rb_world.specs.Erased.{numbered}
 use Rattle.rb_world.specs.Text.{outs_text, values_text}
+use Rattle.rb_meaning.specs.Laws.{IsAlwaysErased}
 use Rattle.rb_meaning.specs.Meaning.{final_of, naming_of, run_of, run_text}
 use Rattle.rb_sched.specs.Schedule.{schedule_of}
 use Rattle.rb_top.specs.Words.{Command, Run, Survive, Replay, files_of}
@@ -35,3 +36,8 @@ pub record Replays (source schedule kept : List ℕ) : Type 0 where
 abbrev pub SurvivorsReplay : Type 0
 SurvivorsReplay =
     (source schedule kept : List ℕ) → EndsWith Survive [] (source ∷ schedule ∷ []) (Writes kept) → length kept ≤ MOST_BYTES → Replays source schedule kept
+
+-- Of an accepted source, whatever the turns: the plain run of the survivors is not stuck, ends in the states in which the run ended, and
+-- releases the same lines in the same turns.
+abbrev pub SurvivorsEndAlike : Type 0
+SurvivorsEndAlike = (source : List ℕ) (tree : Tree) → Accepted source tree → IsAlwaysErased tree
