@@ -18,7 +18,7 @@ PROGRAM = os.path.join(ROOT, "crates/rbl/out/rbl")
 PAGES = ["docs/LANGUAGE.md", "docs/TUTORIAL.md"]
 BLOCK = re.compile(r"^```(rbl|schedule|output|record|given|plain|refused)\n(.*?)^```", re.MULTILINE | re.DOTALL)
 ALONE = re.compile(r"^```sh\n\./rbl ([^\n#]*)\n```\n\n```\n(.*?)^```", re.MULTILINE | re.DOTALL)
-BESIDE = re.compile(r"^\./rbl ([^\n#]*?) +# (accepted|refused \S+(?: at \S+)?)", re.MULTILINE)
+BESIDE = re.compile(r"^\./rbl ([^\n#]*?) +# (accepted|refused \w+(?: at [\d:]*\d)?)", re.MULTILINE)
 WORDS = {
     "output": ["run", "source", "schedule"],
     "record": ["survive", "source", "schedule"],
