@@ -1,9 +1,9 @@
 -- How a run ended, as it is read through `Final`, and as the texts of a world tell it.
-use Rattle.std.specs.Prelude.{◌≡◌, ℕ, ℤ, List, [], ◌∷◌, ◌++◌, map}
+use Rattle.std.specs.Prelude.{◌≡◌, ℕ, ◌+◌, ◌*◌, ℤ, List, [], ◌∷◌, ◌++◌, length, map, sum_by}
 use Rattle.rb_base.specs.declared.event.State.{State}
 use Rattle.rb_base.specs.declared.event.State.TheVariants as state
 use Rattle.rb_world.specs.World.{Status, Running, Finished, FailedWith}
-use Rattle.rb_world.specs.Text.{Naming, ProcessNaming, Final, line_of, variable_lines, channel_lines}
+use Rattle.rb_world.specs.Text.{Naming, ProcessNaming, VariableNaming, Final, line_of, size_of, variable_lines, channel_lines}
 use Rattle.rb_trace.specs.Ending.{state_words}
 
 -- the state of a process with this status and so many open levels
@@ -33,3 +33,14 @@ processes_text (p ∷ ps) (s ∷ ss) (ws ∷ wss) = process_text p s ws ++ proce
 -- processes and channels
 abbrev pub ended_text : Naming → List State → List (List ℤ) → List ℕ → List ℕ → List ℕ
 ended_text names states words sent taken = processes_text names.processes states words ++ channel_lines names.channels sent taken
+
+-- how many words a variable has, how many a process prints of its variables, and how many numbers the ending of a run prints: these words,
+-- and two of each channel
+abbrev pub words_of : VariableNaming → ℕ
+words_of variable = size_of variable.size
+
+abbrev pub words_printed : ProcessNaming → ℕ
+words_printed process = sum_by words_of process.variables
+
+abbrev pub numbers_printed : Naming → ℕ
+numbers_printed names = sum_by words_printed names.processes + 2 * length names.channels

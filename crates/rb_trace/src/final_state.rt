@@ -1,6 +1,6 @@
 //! The lines of how a run ended.
 
-ghost use Rattle.std.specs.Prelude.{◌≡◌, ℕ, ◌+◌, ◌^◌, ◌<◌, ◌≤◌, [], ◌∷◌, ◌++◌, codes, decimal, drop, length, map, slice_index, take};
+ghost use Rattle.std.specs.Prelude.{◌≡◌, ℕ, ◌+◌, ◌*◌, ◌^◌, ◌<◌, ◌≤◌, [], ◌∷◌, ◌++◌, codes, decimal, drop, length, map, slice_index, sum_by, take};
 ghost use Rattle.std.specs.Fmt.{signed_decimal};
 ghost use Rattle.rb_base.specs.Lines.{belonging};
 ghost use Rattle.rb_outside.specs.Puts.{Puts};
@@ -8,7 +8,7 @@ ghost use Rattle.rb_world.specs.Text.{Final, end_text, values_text, line_of, var
 ghost use Rattle.rb_trace.specs.Naming.{naming, process_naming, variable_naming};
 ghost use Rattle.rb_trace.specs.Lines.{spaced};
 ghost use Rattle.rb_trace.specs.Fitting.{LiesWithin, ProcessFits, Fits};
-ghost use Rattle.rb_trace.specs.Ended.{IsEndOf, process_text, processes_text, ended_text};
+ghost use Rattle.rb_trace.specs.Ended.{IsEndOf, ended_text, numbers_printed, process_text, processes_text, words_of as words_in, words_printed};
 
 use crate::ending::{put_name, put_value, write_end_line, write_status};
 use crate::line::{put, put_line};
@@ -28,7 +28,8 @@ pub fn write_end<S: Sink, M: Final>(
 ) -> Result<(), Failed>
     requires states { length (M.states end.now) ≡ length names.now.processes.items }
     requires fit { Fits names.now (M.words end.now) (M.sent end.now) (M.taken end.now) }
-    ensures { (final : Final) → IsEndOf (M.states end.now) (M.words end.now) (M.sent end.now) (M.taken end.now) final → Puts (end_text (naming names.now) turns final) (S.written out.old) (S.written out.new) (S.faults out.old) (S.faults out.new) result }
+    ensures text { (final : Final) → IsEndOf (M.states end.now) (M.words end.now) (M.sent end.now) (M.taken end.now) final → Puts (end_text (naming names.now) turns final) (S.written out.old) (S.written out.new) (S.faults out.old) (S.faults out.new) result }
+    ensures work { steps.new ≤ steps.old + numbers_printed (naming names.now) }
 {
     write_end_line(out, turns)?;
     write_ended(out, names, end, steps)
@@ -42,7 +43,8 @@ fn write_ended<S: Sink, M: Final>(
 ) -> Result<(), Failed>
     requires states { length (M.states end.now) ≡ length names.now.processes.items }
     requires fit { Fits names.now (M.words end.now) (M.sent end.now) (M.taken end.now) }
-    ensures { Puts (ended_text (naming names.now) (M.states end.now) (M.words end.now) (M.sent end.now) (M.taken end.now)) (S.written out.old) (S.written out.new) (S.faults out.old) (S.faults out.new) result }
+    ensures text { Puts (ended_text (naming names.now) (M.states end.now) (M.words end.now) (M.sent end.now) (M.taken end.now)) (S.written out.old) (S.written out.new) (S.faults out.old) (S.faults out.new) result }
+    ensures work { steps.new ≤ steps.old + numbers_printed (naming names.now) }
 {
     write_processes(out, names, end, steps)?;
     write_channels(out, names, end, steps)
@@ -56,7 +58,8 @@ pub fn write_values<S: Sink, M: Final>(
     steps: &mut Steps<M::Ledger>,
 ) -> Result<(), Failed>
     requires fit { Fits names.now (M.words end.now) (M.sent end.now) (M.taken end.now) }
-    ensures { (final : Final) → IsEndOf (M.states end.now) (M.words end.now) (M.sent end.now) (M.taken end.now) final → Puts (values_text (naming names.now) final) (S.written out.old) (S.written out.new) (S.faults out.old) (S.faults out.new) result }
+    ensures text { (final : Final) → IsEndOf (M.states end.now) (M.words end.now) (M.sent end.now) (M.taken end.now) final → Puts (values_text (naming names.now) final) (S.written out.old) (S.written out.new) (S.faults out.old) (S.faults out.new) result }
+    ensures work { steps.new ≤ steps.old + numbers_printed (naming names.now) }
 {
     write_all_variables(out, names, end, steps)?;
     write_channels(out, names, end, steps)
@@ -70,7 +73,8 @@ fn write_processes<S: Sink, M: Final>(
 ) -> Result<(), Failed>
     requires states { length (M.states end.now) ≡ length names.now.processes.items }
     requires fit { Fits names.now (M.words end.now) (M.sent end.now) (M.taken end.now) }
-    ensures { Puts (processes_text (map process_naming names.now.processes.items) (M.states end.now) (M.words end.now)) (S.written out.old) (S.written out.new) (S.faults out.old) (S.faults out.new) result }
+    ensures text { Puts (processes_text (map process_naming names.now.processes.items) (M.states end.now) (M.words end.now)) (S.written out.old) (S.written out.new) (S.faults out.old) (S.faults out.new) result }
+    ensures work { steps.new ≤ steps.old + sum_by words_printed (map process_naming names.now.processes.items) }
 {
     for (p, process) in names.processes.iter().enumerate() {
         let state = end.state(p as u32);
@@ -89,7 +93,8 @@ fn write_process<S: Sink, M: Final>(
     steps: &mut Steps<M::Ledger>,
 ) -> Result<(), Failed>
     requires { ProcessFits process.now (belonging (M.words end.now) p) }
-    ensures { Puts (process_text (process_naming process.now) state (belonging (M.words end.now) p)) (S.written out.old) (S.written out.new) (S.faults out.old) (S.faults out.new) result }
+    ensures text { Puts (process_text (process_naming process.now) state (belonging (M.words end.now) p)) (S.written out.old) (S.written out.new) (S.faults out.old) (S.faults out.new) result }
+    ensures work { steps.new ≤ steps.old + words_printed (process_naming process.now) }
 {
     write_status(out, process.name.as_bytes(), state)?;
     write_variables(out, p, process, end, steps)
@@ -102,7 +107,8 @@ fn write_all_variables<S: Sink, M: Final>(
     steps: &mut Steps<M::Ledger>,
 ) -> Result<(), Failed>
     requires fit { Fits names.now (M.words end.now) (M.sent end.now) (M.taken end.now) }
-    ensures { Puts (value_lines (map process_naming names.now.processes.items) (M.words end.now)) (S.written out.old) (S.written out.new) (S.faults out.old) (S.faults out.new) result }
+    ensures text { Puts (value_lines (map process_naming names.now.processes.items) (M.words end.now)) (S.written out.old) (S.written out.new) (S.faults out.old) (S.faults out.new) result }
+    ensures work { steps.new ≤ steps.old + sum_by words_printed (map process_naming names.now.processes.items) }
 {
     for (p, process) in names.processes.iter().enumerate() {
         write_variables(out, p as u32, process, end, steps)?;
@@ -118,7 +124,8 @@ fn write_variables<S: Sink, M: Final>(
     steps: &mut Steps<M::Ledger>,
 ) -> Result<(), Failed>
     requires { ProcessFits process.now (belonging (M.words end.now) p) }
-    ensures { Puts (variable_lines (process_naming process.now) (belonging (M.words end.now) p)) (S.written out.old) (S.written out.new) (S.faults out.old) (S.faults out.new) result }
+    ensures text { Puts (variable_lines (process_naming process.now) (belonging (M.words end.now) p)) (S.written out.old) (S.written out.new) (S.faults out.old) (S.faults out.new) result }
+    ensures work { steps.new ≤ steps.old + words_printed (process_naming process.now) }
 {
     for variable in &process.variables {
         write_words(out, p, process.name.as_bytes(), variable, end, steps)?;
@@ -137,7 +144,8 @@ fn write_words<S: Sink, M: Final>(
 ) -> Result<(), Failed>
     requires few { length (belonging (M.words end.now) p) < 2 ^ 32 }
     requires within { LiesWithin (length (belonging (M.words end.now) p)) variable.now }
-    ensures { Puts (variable_line process.now (belonging (M.words end.now) p) (variable_naming variable.now)) (S.written out.old) (S.written out.new) (S.faults out.old) (S.faults out.new) result }
+    ensures text { Puts (variable_line process.now (belonging (M.words end.now) p) (variable_naming variable.now)) (S.written out.old) (S.written out.new) (S.faults out.old) (S.faults out.new) result }
+    ensures work { steps.new ≤ steps.old + words_in (variable_naming variable.now) }
 {
     put_name(out, process, variable.name.as_bytes())?;
     put_words(out, p, variable.at, words_of(variable), end, steps)
@@ -163,7 +171,8 @@ fn put_words<S: Sink, M: Final>(
 ) -> Result<(), Failed>
     requires few { length (belonging (M.words end.now) p) < 2 ^ 32 }
     requires within { at + size ≤ length (belonging (M.words end.now) p) }
-    ensures { Puts (codes " =" ++ (spaced (map signed_decimal (take size (drop at (belonging (M.words end.now) p)))) ++ 10 ∷ [])) (S.written out.old) (S.written out.new) (S.faults out.old) (S.faults out.new) result }
+    ensures text { Puts (codes " =" ++ (spaced (map signed_decimal (take size (drop at (belonging (M.words end.now) p)))) ++ 10 ∷ [])) (S.written out.old) (S.written out.new) (S.faults out.old) (S.faults out.new) result }
+    ensures work { steps.new ≤ steps.old + size }
 {
     put(out, b" =")?;
     put_words_line(out, p, at, size, end, steps)
@@ -179,7 +188,8 @@ fn put_words_line<S: Sink, M: Final>(
 ) -> Result<(), Failed>
     requires few { length (belonging (M.words end.now) p) < 2 ^ 32 }
     requires within { at + size ≤ length (belonging (M.words end.now) p) }
-    ensures { Puts (spaced (map signed_decimal (take size (drop at (belonging (M.words end.now) p)))) ++ 10 ∷ []) (S.written out.old) (S.written out.new) (S.faults out.old) (S.faults out.new) result }
+    ensures text { Puts (spaced (map signed_decimal (take size (drop at (belonging (M.words end.now) p)))) ++ 10 ∷ []) (S.written out.old) (S.written out.new) (S.faults out.old) (S.faults out.new) result }
+    ensures work { steps.new ≤ steps.old + size }
 {
     put_each_word(out, p, at, size, end, steps)?;
     put(out, b"\n")
@@ -196,7 +206,8 @@ fn put_each_word<S: Sink, M: Final>(
 ) -> Result<(), Failed>
     requires few { length (belonging (M.words end.now) p) < 2 ^ 32 }
     requires within { at + size ≤ length (belonging (M.words end.now) p) }
-    ensures { Puts (spaced (map signed_decimal (take size (drop at (belonging (M.words end.now) p))))) (S.written out.old) (S.written out.new) (S.faults out.old) (S.faults out.new) result }
+    ensures text { Puts (spaced (map signed_decimal (take size (drop at (belonging (M.words end.now) p))))) (S.written out.old) (S.written out.new) (S.faults out.old) (S.faults out.new) result }
+    ensures work { steps.new ≤ steps.old + size }
 {
     for k in 0..size {
         put_value(out, &end.word(p, at + k, steps))?;
@@ -211,7 +222,8 @@ fn write_channels<S: Sink, M: Final>(
     steps: &mut Steps<M::Ledger>,
 ) -> Result<(), Failed>
     requires fit { Fits names.now (M.words end.now) (M.sent end.now) (M.taken end.now) }
-    ensures { Puts (channel_lines names.now.channels.items (M.sent end.now) (M.taken end.now)) (S.written out.old) (S.written out.new) (S.faults out.old) (S.faults out.new) result }
+    ensures text { Puts (channel_lines names.now.channels.items (M.sent end.now) (M.taken end.now)) (S.written out.old) (S.written out.new) (S.faults out.old) (S.faults out.new) result }
+    ensures work { steps.new ≤ steps.old + 2 * length names.now.channels.items }
 {
     for (c, name) in names.channels.iter().enumerate() {
         write_channel(out, c as u32, name.as_bytes(), end, steps)?;
@@ -228,7 +240,8 @@ fn write_channel<S: Sink, M: Final>(
 ) -> Result<(), Failed>
     requires sent { c < length (M.sent end.now) }
     requires taken { c < length (M.taken end.now) }
-    ensures { Puts (line_of (name.now ∷ codes "sent" ∷ decimal (slice_index (M.sent end.now) c) ∷ codes "taken" ∷ decimal (slice_index (M.taken end.now) c) ∷ [])) (S.written out.old) (S.written out.new) (S.faults out.old) (S.faults out.new) result }
+    ensures text { Puts (line_of (name.now ∷ codes "sent" ∷ decimal (slice_index (M.sent end.now) c) ∷ codes "taken" ∷ decimal (slice_index (M.taken end.now) c) ∷ [])) (S.written out.old) (S.written out.new) (S.faults out.old) (S.faults out.new) result }
+    ensures work { steps.new ≤ steps.old + 2 }
 {
     let mut sent = Buffer::new();
     let mut taken = Buffer::new();
