@@ -44,7 +44,7 @@ fn step_one<L: Ledger>(
     ensures stepped { (one : Seen) → slice_get procs.old p ≡ Some one → HasStepped (plain code.now) there p one result mails.old mails.new procs.old procs.new }
     ensures sized { AreSized (plain code.now) mails.new }
 {
-    procs[p as usize].step_wanted(code, mails, wanted, there, steps)
+    procs[p as usize].step(code, mails, wanted, there, steps)
 }
 
 // A turn of process p is kept: it is the last one of the process, and its link leads to the one before.

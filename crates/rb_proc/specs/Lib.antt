@@ -13,6 +13,7 @@ pub mod Acts
 pub mod Runs
 pub mod Given
 pub mod Process
+pub mod Work
 pub mod Entries
 pub mod ProcessInside
 pub mod Views

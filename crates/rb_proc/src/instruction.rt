@@ -1,6 +1,6 @@
 //! One instruction.
 
-ghost use Rattle.std.specs.Prelude.{◌≡◌, ℕ, ◌+◌, ◌<◌, ◌^◌, ℤ, List, [], length, map, slice_get};
+ghost use Rattle.std.specs.Prelude.{◌≡◌, ℕ, ◌+◌, ◌*◌, ◌<◌, ◌≤◌, ◌^◌, ℤ, List, [], length, map, slice_get};
 ghost use Rattle.rb_world.specs.World.{copy_of, last_of};
 ghost use Rattle.rb_code.specs.Plain.{code as plain};
 ghost use Rattle.rb_code.specs.Memory.{Memory};
@@ -11,6 +11,7 @@ ghost use Rattle.rb_proc.specs.Acts.{CursorRises, LeavesEnough};
 ghost use Rattle.rb_proc.specs.Outcomes.{Keeps, outcome_of, whole};
 ghost use Rattle.rb_proc.specs.Pieces.{AreTexts};
 ghost use Rattle.rb_proc.specs.Sees.{AreSized, IsTurnOf, see_of};
+ghost use Rattle.rb_proc.specs.Work.{named};
 
 use crate::bench::Bench;
 use crate::calculate::{
@@ -43,7 +44,7 @@ fn start(code: &Code, block: u32, alternate: u32) -> Next
     }
 }
 
-/// Carries one instruction out.
+/// Carries one instruction out. At most three ticks for each word that it names.
 pub fn act<L: Ledger>(
     code: &Code,
     sight: &Sight,
@@ -65,6 +66,7 @@ pub fn act<L: Ledger>(
     ensures moved { outcome_of result at bench.new.operands (whole (plain code.now).texts bench.new memory.new mails.new) ≡ acted (plain code.now) (see_of sight.now memory.old.levels) instr at bench.old.operands (whole (plain code.now).texts bench.old memory.old mails.old) }
     ensures kept { Keeps result memory.old memory.new mails.old mails.new }
     ensures sized { map length mails.new ≡ map length mails.old }
+    ensures work { steps.new ≤ steps.old + 3 * named instr }
 {
     match instr {
         Instr::Turn | Instr::Done => Next::Stop,

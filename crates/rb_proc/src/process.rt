@@ -1,6 +1,6 @@
 //! One process: what it wants, its steps, its levels and its lines.
 
-ghost use Rattle.std.specs.Prelude.{◌≡◌, ℕ, ◌+◌, ◌-◌, ◌<◌, ◌≤◌, ◌^◌, false, List, [], ◌∷◌, ◌++◌, length, position, drop, slice_get, Some, IfOk, option_copied};
+ghost use Rattle.std.specs.Prelude.{◌≡◌, ℕ, ◌+◌, ◌-◌, ◌*◌, ◌<◌, ◌≤◌, ◌^◌, false, List, [], ◌∷◌, ◌++◌, length, position, drop, slice_get, Some, IfOk, option_copied};
 ghost use Rattle.std.specs.Borrow.{sem};
 ghost use Rattle.std.specs.Io.BufRead.{Rests};
 ghost use Rattle.rb_base.specs.declared.limits.TheConstants.{MOST_HELD_BYTES};
@@ -26,6 +26,7 @@ ghost use Rattle.rb_proc.specs.Sees.{AreSized};
 ghost use Rattle.rb_proc.specs.Statuses.{status_of};
 ghost use Rattle.rb_proc.specs.Views.{CursorThen, IsViewOf};
 ghost use Rattle.rb_proc.specs.Process.{Seen, StepsTo, alternate_for, kind_of, message_for, step_of, wanted_by, wanted_of};
+ghost use Rattle.rb_proc.specs.Work.{named_in_step, named_settling, places_touched};
 
 use crate::answers::{LevelView, Outcome, Status, Wanted};
 use crate::bench::Bench;
@@ -161,32 +162,9 @@ impl<L: Ledger> Proc<L> {
         self.at_line
     }
 
-    /// One turn: all from the `turn` at which the process stands up to the next one. A message is there, or none.
+    /// One turn: all from the `turn` at which the process stands up to the next one. It is known what the process wants, and whether a
+    /// message is there. At most one tick, and three for each word that its instructions name.
     pub fn step(
-        &mut self,
-        code: &Code,
-        mails: &mut [Mail],
-        there: bool,
-        steps: &mut Steps<L>,
-    ) -> Outcome
-        requires code { IsExecutable (plain code.now) }
-        requires running { self.old.process.status ≡ Running }
-        requires away { self.old.process.at_line ≡ false }
-        requires none_waits { self.old.waiting ≡ [] }
-        requires stands { (groups : List Membership) × StandsSoundly (plain code.now) groups self.old.process.state self.old.process.levels }
-        requires serves { Serves (wanted_in (plain code.now) self.old.process.state) (alternate_for (wanted_in (plain code.now) self.old.process.state) self.old.process.levels) (message_for (plain code.now) self.old.process.state mails.old there (wanted_in (plain code.now) self.old.process.state)) self.old.process.levels }
-        requires sized { AreSized (plain code.now) mails.old }
-        requires cursors { CursorsRise (plain code.now) self.old.process.state.process self.old.process.state.words }
-        ensures came { StepsTo (plain code.now) self.old.process mails.old (step_of (plain code.now) self.old.process mails.old there) result self.new.process mails.new }
-        ensures sized { AreSized (plain code.now) mails.new }
-        ensures waiting { self.new.waiting ≡ self.old.waiting }
-    {
-        let wanted = want_at(code, self.at);
-        self.step_wanted(code, mails, wanted, there, steps)
-    }
-
-    /// The same where it is known what the process wants.
-    pub fn step_wanted(
         &mut self,
         code: &Code,
         mails: &mut [Mail],
@@ -206,6 +184,7 @@ impl<L: Ledger> Proc<L> {
         ensures came { StepsTo (plain code.now) self.old.process mails.old (step_of (plain code.now) self.old.process mails.old there) result self.new.process mails.new }
         ensures sized { AreSized (plain code.now) mails.new }
         ensures waiting { self.new.waiting ≡ self.old.waiting }
+        ensures work { steps.new ≤ steps.old + 1 + 3 * named_in_step (plain code.now) self.old.process mails.old there }
     {
         let message = message_of(
             code,
@@ -246,13 +225,14 @@ impl<L: Ledger> Proc<L> {
         }
     }
 
-    /// The innermost level goes, and what stands before the next `turn` is carried out.
+    /// The innermost level goes, and what stands before the next `turn` is carried out. At most three ticks for each word that is named there.
     pub fn accept(&mut self, code: &Code, steps: &mut Steps<L>)
         requires code { IsExecutable (plain code.now) }
         requires none_waits { self.old.waiting ≡ [] }
         requires open { 0 < length self.old.process.levels }
         requires settles { (groups : List Membership) × SettlesSoundly (plain code.now) groups (record self.old.process.state { touched = accepted self.old.process.state.touched }) (without_last self.old.process.levels) }
-        ensures { self.new ≡ record self.old { process = settled (kind_of (plain code.now)) (record self.old.process.state { touched = accepted self.old.process.state.touched }) (without_last self.old.process.levels) } }
+        ensures settled { self.new ≡ record self.old { process = settled (kind_of (plain code.now)) (record self.old.process.state { touched = accepted self.old.process.state.touched }) (without_last self.old.process.levels) } }
+        ensures work { steps.new ≤ steps.old + 3 * named_settling (plain code.now) (record self.old.process.state { touched = accepted self.old.process.state.touched }) (without_last self.old.process.levels) }
     {
         self.memory.accept();
         self.settle(code, steps);
@@ -263,7 +243,8 @@ impl<L: Ledger> Proc<L> {
         requires code { IsExecutable (plain code.now) }
         requires none_waits { self.old.waiting ≡ [] }
         requires settles { (groups : List Membership) × SettlesSoundly (plain code.now) groups self.old.process.state self.old.process.levels }
-        ensures { self.new ≡ record self.old { process = settled (kind_of (plain code.now)) self.old.process.state self.old.process.levels } }
+        ensures settled { self.new ≡ record self.old { process = settled (kind_of (plain code.now)) self.old.process.state self.old.process.levels } }
+        ensures work { steps.new ≤ steps.old + 3 * named_settling (plain code.now) self.old.process.state self.old.process.levels }
     {
         let sight = Sight::new(code, self.process, None, 0);
         self.bench.clear();
@@ -323,11 +304,13 @@ impl<L: Ledger> Proc<L> {
         }
     }
 
-    /// The copy of an open level is put back, and the levels inside it go.
+    /// The copy of an open level is put back, and the levels inside it go. At most one tick for each place that was touched in a level and no
+    /// longer is, and one more.
     pub fn put_back(&mut self, level: u32, steps: &mut Steps<L>)
         requires none_waits { self.old.waiting ≡ [] }
         requires level { level < length self.old.process.levels }
-        ensures { (c : Plain) → self.new ≡ record self.old { process = put_back_at (kind_of c) level self.old.process } }
+        ensures back { (c : Plain) → self.new ≡ record self.old { process = put_back_at (kind_of c) level self.old.process } }
+        ensures work { steps.new + places_touched self.new.process.state.touched ≤ steps.old + places_touched self.old.process.state.touched + 1 }
     {
         let mark = self.memory.put_back(level, steps);
         self.at = mark.at;

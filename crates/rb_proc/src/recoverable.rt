@@ -21,6 +21,7 @@ ghost use Rattle.rb_proc.specs.Contents.{Contents, IsBelowLast, IsMarkOf, PutBac
 ghost use Rattle.rb_proc.specs.Inside.{told as told_by};
 ghost use Rattle.rb_proc.specs.Places.{most_places};
 ghost use Rattle.rb_proc.specs.Views.{IsViewOf};
+ghost use Rattle.rb_proc.specs.Work.{places_touched};
 
 use crate::answers::LevelView;
 use crate::marks::{count_turn, is_last_in, next_mark, place_in, view_of};
@@ -394,12 +395,14 @@ impl<L: Ledger> Recoverable<L> {
         fits
     }
 
-    /// Puts the copy of an open level back. The levels inside it go, and so do the lines that were held after its entry.
+    /// Puts the copy of an open level back. The levels inside it go, and so do the lines that were held after its entry. At most one tick for
+    /// each place that was touched in a level and no longer is, and one more.
     pub fn put_back(&mut self, level: u32, steps: &mut Steps<L>) -> LevelMark
         requires none_waits { self.old.waiting ≡ [] }
         requires level { level < length self.old.levels }
         ensures back { PutBack level self.old (slice_get self.old.levels level) self.new }
         ensures mark { IsMarkOf (slice_get self.old.levels level) result }
+        ensures work { steps.new + places_touched self.new.touched ≤ steps.old + places_touched self.old.touched + 1 }
     {
         put_back(&mut self.cache, &mut self.cells, level, steps);
         let mark = self.marks[level as usize];
@@ -474,6 +477,7 @@ fn put_back<L: Ledger>(cache: &mut Cache, cells: &mut Cells<L>, level: u32, step
     ensures levels { open_levels cache.new ≡ change_last (λ touched. entered touched.height) (take (level + 1) (open_levels cache.old)) }
     ensures fits { Fits cells.new.words cache.new }
     ensures limits { cache.new.limits ≡ cache.old.limits }
+    ensures work { steps.new + places_touched (open_levels cache.new) ≤ steps.old + places_touched (open_levels cache.old) }
 {
     'inner: while level < cache.levels() - 1 {
         cache.reject(cells, steps);

@@ -1,6 +1,6 @@
 //! All instructions up to an end.
 
-ghost use Rattle.std.specs.Prelude.{◌≡◌, ◌<◌, ◌^◌, ℤ, List, [], length};
+ghost use Rattle.std.specs.Prelude.{◌≡◌, ◌+◌, ◌*◌, ◌<◌, ◌≤◌, ◌^◌, ℤ, List, [], length};
 ghost use Rattle.rb_code.specs.Plain.{code as plain};
 ghost use Rattle.rb_code.specs.Act.{execute};
 ghost use Rattle.rb_code.specs.Safe.{IsUnchanged, Safe};
@@ -11,6 +11,7 @@ ghost use Rattle.rb_proc.specs.Runs.{CursorsRise, KeepsEnded};
 ghost use Rattle.rb_proc.specs.Outcomes.{ended_of, whole};
 ghost use Rattle.rb_proc.specs.Pieces.{AreTexts};
 ghost use Rattle.rb_proc.specs.Sees.{AreSized, IsTurnOf, see_of};
+ghost use Rattle.rb_proc.specs.Work.{named_along};
 
 use crate::bench::Bench;
 use crate::instruction::act;
@@ -22,7 +23,7 @@ use rb_code::Code;
 use rb_mail::Mail;
 use std::sync::ledger::Ledger;
 
-/// Carries out the instructions from an address on, up to an end.
+/// Carries out the instructions from an address on, up to an end. At most three ticks for each word that they name.
 pub fn run<L: Ledger>(
     code: &Code,
     sight: &Sight,
@@ -42,6 +43,7 @@ pub fn run<L: Ledger>(
     ensures ended { ended_of result (whole (plain code.now).texts bench.new memory.new mails.new) ≡ execute (plain code.now) (see_of sight.now memory.old.levels) (most_steps (plain code.now)) from bench.old.operands (whole (plain code.now).texts bench.old memory.old mails.old) }
     ensures kept { KeepsEnded result memory.old memory.new mails.old mails.new }
     ensures sized { AreSized (plain code.now) mails.new }
+    ensures work { steps.new ≤ steps.old + 3 * named_along (plain code.now) (see_of sight.now memory.old.levels) (most_steps (plain code.now)) from bench.old.operands (whole (plain code.now).texts bench.old memory.old mails.old) }
 {
     let mut at = from;
     'turn: loop {

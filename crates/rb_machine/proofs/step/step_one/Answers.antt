@@ -6,38 +6,38 @@ use Rattle.rb_proc.specs.Process.{Seen, StepsTo, step_of}
 use Rattle.rb_world.specs.World.{change_at}
 use Rattle.rb_machine.proofs.step.step_one.Goals as goal
 
-pub step_wanted-requires-clause-running : goal.step_wanted-requires-clause-running
-step_wanted-requires-clause-running g c =
+pub step-requires-clause-running : goal.step-requires-clause-running
+step-requires-clause-running g c =
     let procs = c.args.procs.now in
     (c.requires.may (get_or procs c.args.p c.index-procs-p.result) (slice_get-get_or procs c.args.p c.index-procs-p.result c.requires.process)).running
 
-pub step_wanted-requires-clause-away : goal.step_wanted-requires-clause-away
-step_wanted-requires-clause-away g c =
+pub step-requires-clause-away : goal.step-requires-clause-away
+step-requires-clause-away g c =
     let procs = c.args.procs.now in
     (c.requires.may (get_or procs c.args.p c.index-procs-p.result) (slice_get-get_or procs c.args.p c.index-procs-p.result c.requires.process)).away
 
-pub step_wanted-requires-clause-none_waits : goal.step_wanted-requires-clause-none_waits
-step_wanted-requires-clause-none_waits g c =
+pub step-requires-clause-none_waits : goal.step-requires-clause-none_waits
+step-requires-clause-none_waits g c =
     let procs = c.args.procs.now in
     (c.requires.may (get_or procs c.args.p c.index-procs-p.result) (slice_get-get_or procs c.args.p c.index-procs-p.result c.requires.process)).none_waits
 
-pub step_wanted-requires-clause-stands : goal.step_wanted-requires-clause-stands
-step_wanted-requires-clause-stands g c =
+pub step-requires-clause-stands : goal.step-requires-clause-stands
+step-requires-clause-stands g c =
     let procs = c.args.procs.now in
     (c.requires.may (get_or procs c.args.p c.index-procs-p.result) (slice_get-get_or procs c.args.p c.index-procs-p.result c.requires.process)).stands
 
-pub step_wanted-requires-clause-serves : goal.step_wanted-requires-clause-serves
-step_wanted-requires-clause-serves g c =
+pub step-requires-clause-serves : goal.step-requires-clause-serves
+step-requires-clause-serves g c =
     let procs = c.args.procs.now in
     (c.requires.may (get_or procs c.args.p c.index-procs-p.result) (slice_get-get_or procs c.args.p c.index-procs-p.result c.requires.process)).serves
 
-pub step_wanted-requires-clause-cursors : goal.step_wanted-requires-clause-cursors
-step_wanted-requires-clause-cursors g c =
+pub step-requires-clause-cursors : goal.step-requires-clause-cursors
+step-requires-clause-cursors g c =
     let procs = c.args.procs.now in
     (c.requires.may (get_or procs c.args.p c.index-procs-p.result) (slice_get-get_or procs c.args.p c.index-procs-p.result c.requires.process)).cursors
 
-pub step_wanted-requires-clause-wanted : goal.step_wanted-requires-clause-wanted
-step_wanted-requires-clause-wanted g c =
+pub step-requires-clause-wanted : goal.step-requires-clause-wanted
+step-requires-clause-wanted g c =
     let procs = c.args.procs.now in
     c.requires.wanted (get_or procs c.args.p c.index-procs-p.result) (slice_get-get_or procs c.args.p c.index-procs-p.result c.requires.process)
 
@@ -48,11 +48,11 @@ returns-clause-stepped g c = λ one e.
     let x = c.index-procs-p.result in
     let may = c.requires.may one e in
     let same = get_or_from_slice_get procs c.args.p one x e in
-    let none = c.step_wanted.ensures.waiting ∙ (ap (λ (y : Seen). y.waiting) same ∙ may.none_waits) in
+    let none = c.step.ensures.waiting ∙ (ap (λ (y : Seen). y.waiting) same ∙ may.none_waits) in
     record {
-      later = c.step_wanted.new.self.process;
-      comes = subst (λ (y : Seen). StepsTo code y.process c.args.mails.now (step_of code y.process c.args.mails.now c.args.there) c.step_wanted.result c.step_wanted.new.self.process c.step_wanted.new.mails)
-          same c.step_wanted.ensures.came;
-      processes = set-changes (λ _. c.step_wanted.new.self) procs c.args.p x c.requires.process
-          ∙ ap (λ (ls : List (List ℕ)). change_at c.args.p (λ _. record { process = c.step_wanted.new.self.process; waiting = ls }) procs) none;
+      later = c.step.new.self.process;
+      comes = subst (λ (y : Seen). StepsTo code y.process c.args.mails.now (step_of code y.process c.args.mails.now c.args.there) c.step.result c.step.new.self.process c.step.new.mails)
+          same c.step.ensures.came;
+      processes = set-changes (λ _. c.step.new.self) procs c.args.p x c.requires.process
+          ∙ ap (λ (ls : List (List ℕ)). change_at c.args.p (λ _. record { process = c.step.new.self.process; waiting = ls }) procs) none;
     }
