@@ -7,6 +7,7 @@ pub mod Rejections
 pub mod Channels
 pub mod AtWork
 pub mod Moves
+pub mod Work
 pub mod Telling
 pub mod Loading
 pub mod Stepping

@@ -1,6 +1,6 @@
 -- The machine as contracts see it: its code and its conversations, the world of the word machine that it stands for, the released lines
 -- that wait, how many turns it has taken, and how many it may take.
-use Rattle.std.specs.Prelude.{◌≡◌, ◌<◌, ◌≤◌, ◌+◌, ℕ, Bool, false, List, [], ◌∷◌, length, replicate}
+use Rattle.std.specs.Prelude.{◌≡◌, ◌<◌, ◌≤◌, ◌+◌, ℕ, Bool, true, false, List, [], ◌∷◌, length, replicate, slice_get}
 use Rattle.rb_base.specs.declared.limits.TheConstants.{MOST_TURNS}
 use Rattle.rb_world.specs.Kind.{Membership}
 use Rattle.rb_world.specs.Turn.{Told, turn}
@@ -11,6 +11,7 @@ use Rattle.rb_conv.specs.Conversations.{memberships}
 use Rattle.rb_machine.specs.AtWork.{IsAtWork}
 use Rattle.rb_machine.specs.Moves.{world}
 use Rattle.rb_machine.specs.Telling.{AreFreed, running_of}
+use Rattle.rb_machine.specs.Work.{enters_there}
 use Rattle.rb_machine.specs.Worlds.{NoneWaits, lines_of, processes_of}
 use Rattle.rb_machine.specs.declared.parts.Parts.{Parts}
 
@@ -32,12 +33,12 @@ seen c parts taken most = record {
   most = most;
 }
 
--- What ties the parts: they stand for a world of a run, before the next turn; it is known who runs; since the first turn who has no level
--- holds no line; it is known where no released line waits; and there is room for the links of all turns that may come.
+-- What ties the parts: they stand for a world of a run, before the next turn; it is known who runs; who has no level holds no
+-- line; it is known where no released line waits; and there is room for the links of all turns that may come.
 pub record IsTied {L : Type 0} (c : Code) (parts : Parts L) (running : List Bool) (links room taken most : ℕ) (released : Bool) : Type 0 where
   pub work : IsAtWork c (taken + 1) parts.procs.items parts.table parts.mails.items parts.links.items
   pub running_is : running ≡ running_of (processes_of parts.procs.items)
-  pub freed : 0 < taken → AreFreed (processes_of parts.procs.items)
+  pub freed : AreFreed (processes_of parts.procs.items)
   pub none_waits : released ≡ false → NoneWaits parts.procs.items
   pub links_few : links ≤ taken
   pub links_room : most ≤ room
@@ -64,6 +65,10 @@ turned m p = turn (word_kind m.code m.groups) (m.taken + 1) p m.world
 pub record HasTurned (old : Seen) (p : ℕ) (new : Seen) (told : Told) : Type 0 where
   pub machine : new ≡ record old { world = (turned old p).0; waiting = (turned old p).1.released; taken = old.taken + 1 }
   pub told_is : told ≡ (turned old p).1
+
+-- such a turn is an entry that is kept
+abbrev pub IsKeptEntry : Seen → ℕ → Type 0
+IsKeptEntry m p = enters_there m.code (turned m p).1.kind (slice_get m.world.processes p) ≡ true
 
 -- Turns of these processes, one after another, lead from one machine to another, and this is told of them; before each turn the lines that
 -- the turns before it released were taken.

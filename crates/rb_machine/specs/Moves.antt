@@ -75,6 +75,13 @@ IsReadyAt c procs p one =
     (x : Seen) (table : List Conversation) (memory : Common) (t : ℕ) → slice_get procs p ≡ Some x
     → IsReadyFor c (kind_with c table) t p x.process (world_of procs table memory) memory.slots one
 
+-- it is ready for an entry
+abbrev pub IsEntryReady : ReadyFor → Type 0
+IsEntryReady (ready.Enters b) = Unit {0}
+IsEntryReady ready.Idle = ⊥
+IsEntryReady ready.Waits = ⊥
+IsEntryReady (ready.Steps there) = ⊥
+
 -- what process number p wants
 abbrev pub WantsThere : Code → List Seen → ℕ → Wanted → Type 0
 WantsThere c procs p wanted = (one : Seen) → slice_get procs p ≡ Some one → wanted ≡ wanted_by (want c one.process.state)

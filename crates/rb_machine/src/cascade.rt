@@ -1,6 +1,6 @@
 //! Rejections: levels are put back from the inside out, each alone or for all that are inside its conversation.
 
-ghost use Rattle.std.specs.Prelude.{◌≡◌, ◌+◌, ◌<◌, ◌≤◌, ◌++◌, ◌∷◌, ◌&&◌, [], not, nat_eq, nat_lt, map, length, slice_get, IsTrue};
+ghost use Rattle.std.specs.Prelude.{◌≡◌, ℕ, ◌+◌, ◌<◌, ◌≤◌, ◌++◌, ◌∷◌, ◌&&◌, [], not, nat_eq, nat_lt, map, length, slice_get, IsTrue};
 ghost use Rattle.rb_world.specs.Reject.{fallen_inside, put_back, raised, reject, where_inside};
 ghost use Rattle.rb_code.specs.Plain.{Code as Plain};
 ghost use Rattle.rb_code.specs.Turn.{Common};
@@ -9,7 +9,8 @@ ghost use Rattle.rb_conv.specs.Reject.{has_next, rejected};
 ghost use Rattle.rb_proc.specs.Process.{kind_of};
 ghost use Rattle.rb_machine.specs.Cascade.{AreQuiet, HasHappened, MayRejectAt, SameGroups};
 ghost use Rattle.rb_machine.specs.Rejections.{HasRejected, changed, rejection_of, tried_alone, tried_together};
-ghost use Rattle.rb_machine.specs.Worlds.{CanRise, NoneWaits, kind_with};
+ghost use Rattle.rb_machine.specs.Work.{Undoes, inside, inside_one, touched_by, touched_in};
+ghost use Rattle.rb_machine.specs.Worlds.{CanRise, NoneWaits, kind_with, processes_of};
 
 use arrayvec::ArrayVec;
 use rb_base::{Cause, Event, Steps};
@@ -36,6 +37,7 @@ pub fn reject<L: Ledger>(
     ensures waits { NoneWaits procs.new }
     ensures groups { SameGroups table.old table.new }
     ensures few { length events.new.items ≤ length events.old.items + left }
+    ensures work { Undoes steps.old steps.new (processes_of procs.old) events.old.items (processes_of procs.new) events.new.items }
 {
     if left == 0 {
         procs[p as usize].fail(cause);
@@ -66,6 +68,8 @@ fn reject_level<L: Ledger>(
     ensures quiet { IsTrue result → AreQuiet procs.new }
     ensures waits { NoneWaits procs.new }
     ensures groups { SameGroups table.old table.new }
+    ensures work { Undoes steps.old steps.new (processes_of procs.old) events.old.items (processes_of procs.new) events.new.items }
+    ensures fewer { (x : ℕ) → inside x (processes_of procs.new) ≤ inside x (processes_of procs.old) }
 {
     let level = procs[p as usize].level(inner);
     events.push(rejection(p, level, cause));
@@ -107,6 +111,7 @@ fn reject_alone<L: Ledger>(
     requires level { inner < length proc.old.process.levels }
     ensures process { (c : Plain) → proc.new ≡ changed (tried_alone (kind_of c) (nat_lt level.alternate level.alternates) inner) proc.old }
     ensures answer { result ≡ not (nat_lt level.alternate level.alternates) }
+    ensures work { steps.new + touched_by proc.new.process ≤ steps.old + touched_by proc.old.process + 1 }
 {
     proc.put_back(inner, steps);
     if level.alternate < level.alternates {
@@ -130,6 +135,7 @@ fn reject_together<L: Ledger>(
     ensures processes { (c : Plain) → procs.new ≡ map (changed (tried_together (kind_of c) (has_next (conversation_at table.old conversation)) (nat_eq inner 0) conversation)) procs.old }
     ensures table { table.new ≡ rejected conversation table.old }
     ensures answer { result ≡ (not (has_next (conversation_at table.old conversation)) && not (nat_eq inner 0)) }
+    ensures work { steps.new + touched_in (processes_of procs.new) ≤ steps.old + touched_in (processes_of procs.old) + inside conversation (processes_of procs.old) }
 {
     put_back_inside(procs, conversation, steps);
     if table.reject(conversation) {
@@ -146,7 +152,8 @@ fn reject_together<L: Ledger>(
 // Whoever is inside a conversation goes back to its level of it.
 fn put_back_inside<L: Ledger>(procs: &mut [Proc<L>], conversation: u32, steps: &mut Steps<L>)
     requires waits { NoneWaits procs.old }
-    ensures { (c : Plain) → procs.new ≡ map (changed (where_inside (put_back (kind_of c)) conversation)) procs.old }
+    ensures back { (c : Plain) → procs.new ≡ map (changed (where_inside (put_back (kind_of c)) conversation)) procs.old }
+    ensures work { steps.new + touched_in (processes_of procs.new) ≤ steps.old + touched_in (processes_of procs.old) + inside conversation (processes_of procs.old) }
 {
     for proc in procs.iter_mut() {
         put_back_at(proc, conversation, steps);
@@ -155,7 +162,8 @@ fn put_back_inside<L: Ledger>(procs: &mut [Proc<L>], conversation: u32, steps: &
 
 fn put_back_at<L: Ledger>(proc: &mut Proc<L>, conversation: u32, steps: &mut Steps<L>)
     requires waits { proc.old.waiting ≡ [] }
-    ensures { (c : Plain) → proc.new ≡ changed (where_inside (put_back (kind_of c)) conversation) proc.old }
+    ensures back { (c : Plain) → proc.new ≡ changed (where_inside (put_back (kind_of c)) conversation) proc.old }
+    ensures work { steps.new + touched_by proc.new.process ≤ steps.old + touched_by proc.old.process + inside_one conversation proc.old.process }
 {
     if let Some(level) = proc.place_in(conversation) {
         proc.put_back(level, steps);

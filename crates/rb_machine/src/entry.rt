@@ -18,7 +18,8 @@ ghost use Rattle.rb_machine.specs.Cascade.{SameGroups};
 ghost use Rattle.rb_machine.specs.Entries.{IsListedBlock, entry_at, joined_at};
 ghost use Rattle.rb_machine.specs.Moves.{AreAtWork, HasMoved, IsLeft, MovesAt, WantsBlock};
 ghost use Rattle.rb_machine.specs.Rejections.{changed};
-ghost use Rattle.rb_machine.specs.Worlds.{kind_with};
+ghost use Rattle.rb_machine.specs.Work.{undoing};
+ghost use Rattle.rb_machine.specs.Worlds.{kind_with, processes_of};
 
 use crate::came::Came;
 use crate::links::{Link, add};
@@ -32,7 +33,7 @@ use rb_proc::Proc;
 use std::sync::ledger::Ledger;
 
 /// Process p enters a recovery block, at its first alternate, or at the present one of its conversation. It fails where that is broken
-/// for good; and where the most levels are open already, the entry is a trap.
+/// for good; and where the most levels are open already, the entry is a trap. An entry that is kept adds no tick.
 pub fn enter<L: Ledger>(
     code: &Code,
     parts: &mut Parts<L>,
@@ -52,6 +53,7 @@ pub fn enter<L: Ledger>(
     ensures left { IsLeft (plain code.now) parts.old parts.new events.new.items result }
     ensures links { vec_len parts.new.links ≤ vec_len parts.old.links + 1 }
     ensures room { vec_capacity parts.old.links ≤ vec_capacity parts.new.links }
+    ensures work { steps.new ≤ steps.old + undoing result.kind (processes_of parts.old.procs.items) events.new.items (processes_of parts.new.procs.items) }
 {
     let levels = parts.procs[p as usize].levels();
     if levels >= MOST_OPEN_LEVELS {

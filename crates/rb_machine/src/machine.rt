@@ -1,6 +1,6 @@
 //! The machine: a program's processes, channels and conversations, turn by turn.
 
-ghost use Rattle.std.specs.Prelude.{◌≡◌, ◌+◌, ◌*◌, ◌<◌, ◌≤◌, true, false, [], length, map, replicate, sum_by, vec_len, vec_capacity, IfOk};
+ghost use Rattle.std.specs.Prelude.{◌≡◌, ◌+◌, ◌*◌, ◌<◌, ◌≤◌, true, false, [], length, map, replicate, slice_get, sum_by, vec_len, vec_capacity, IfOk};
 ghost use Rattle.rb_base.specs.declared.limits.TheConstants.{MOST_HELD_BYTES, MOST_TURNS};
 ghost use Rattle.rb_code.specs.Plain.{code as plain};
 ghost use Rattle.rb_code.specs.WellFormed.{IsSound};
@@ -10,10 +10,11 @@ ghost use Rattle.rb_world.specs.Turn.{told_at_opening, turn};
 ghost use Rattle.rb_machine.specs.AtWork.{IsAtWork};
 ghost use Rattle.rb_machine.specs.Cascade.{SameGroups};
 ghost use Rattle.rb_machine.specs.Known.{IsLoaded};
-ghost use Rattle.rb_machine.specs.Machine.{HasTurned, opening_seen};
-ghost use Rattle.rb_machine.specs.Moves.{AreAtWork, passes_of, world};
+ghost use Rattle.rb_machine.specs.Machine.{HasTurned, IsKeptEntry, opening_seen};
+ghost use Rattle.rb_machine.specs.Moves.{AreAtWork, world};
 ghost use Rattle.rb_machine.specs.Survivors.{kept_of, word_survivors};
-ghost use Rattle.rb_machine.specs.Telling.{AreFreed, is_alone, running_of};
+ghost use Rattle.rb_machine.specs.Telling.{AreFreed, running_of};
+ghost use Rattle.rb_machine.specs.Work.{enters_there, turn_work};
 ghost use Rattle.rb_machine.specs.Worlds.{NoneWaits, counts_of, kind_with, lines_of, processes_of};
 
 use crate::came::Came;
@@ -96,11 +97,14 @@ impl<'a, L: Ledger> Machine<'a, L> {
     }
 
     /// One turn of process p, as the word machine takes it: the report becomes what it came to, whatever it held before, and the lines that
-    /// it released wait. One report serves all turns of a run, since a new one is large.
+    /// it released wait. One report serves all turns of a run, since a new one is large. It costs the ticks of `turn_work` at most, and none
+    /// where the turn is an entry that is kept.
     pub fn turn(&mut self, p: u32, report: &mut Report, steps: &mut Steps<L>)
         requires more { self.old.taken < self.old.most }
         requires waits { self.old.waiting ≡ replicate (length self.old.world.processes) [] }
-        ensures { HasTurned self.old p self.new (told_of report.new.kind report.new.events.items self.new.waiting) }
+        ensures turned { HasTurned self.old p self.new (told_of report.new.kind report.new.events.items self.new.waiting) }
+        ensures work { steps.new ≤ steps.old + turn_work self.old.code self.old.groups (self.old.taken + 1) p self.old.world }
+        ensures entry { IsKeptEntry self.old p → steps.new ≤ steps.old }
     {
         self.taken += 1;
         self.released = turn(
@@ -196,16 +200,7 @@ impl<'a, L: Ledger> Final for Machine<'a, L> {
     }
 }
 
-// Whether a turn touched no process but its own, and is not the first.
-fn is_alone(number: u32, came: &Came) -> bool
-    ensures later { result ≡ true → 1 < number }
-    ensures alone { result ≡ true → is_alone came.now.kind (passes_of came.now.pass) ≡ true }
-{
-    number > 1 && came.is_alone()
-}
-
-// Turn number `number` of process p, into the report. False where no released line waits. Who held lines before the first turn is not
-// known, so all are looked at in it.
+// Turn number `number` of process p, into the report. False where no released line waits.
 fn turn<L: Ledger>(
     code: &Code,
     parts: &mut Parts<L>,
@@ -219,7 +214,7 @@ fn turn<L: Ledger>(
     requires running { running.old ≡ running_of (processes_of parts.old.procs.items) }
     requires room { vec_len parts.old.links < vec_capacity parts.old.links }
     requires few { number ≤ MOST_TURNS }
-    requires freed { 1 < number → AreFreed (processes_of parts.old.procs.items) }
+    requires freed { AreFreed (processes_of parts.old.procs.items) }
     ensures turned { (world parts.new, told_of report.new.kind report.new.events.items (lines_of parts.new.procs.items)) ≡ turn (kind_with (plain code.now) parts.old.table) number p (world parts.old) }
     ensures groups { SameGroups parts.old.table parts.new.table }
     ensures work { IsAtWork (plain code.now) (number + 1) parts.new.procs.items parts.new.table parts.new.mails.items parts.new.links.items }
@@ -228,11 +223,13 @@ fn turn<L: Ledger>(
     ensures none_waits { result ≡ false → NoneWaits parts.new.procs.items }
     ensures links { vec_len parts.new.links ≤ vec_len parts.old.links + 1 }
     ensures room { vec_capacity parts.old.links ≤ vec_capacity parts.new.links }
+    ensures work { steps.new ≤ steps.old + turn_work (plain code.now) (memberships parts.old.table) number p (world parts.old) }
+    ensures entry { enters_there (plain code.now) report.new.kind (slice_get (processes_of parts.old.procs.items) p) ≡ true → steps.new ≤ steps.old }
 {
     report.events.clear();
     let came = take_turn(code, parts, number, p, &mut report.events, steps);
     report.kind = came.kind;
-    let alone = is_alone(number, &came);
+    let alone = came.is_alone();
     finish(
         &mut parts.procs,
         running,

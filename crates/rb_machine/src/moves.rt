@@ -1,6 +1,6 @@
 //! What a process does in its turn: it waits, steps, enters, or is rejected since a level has used up its turns.
 
-ghost use Rattle.std.specs.Prelude.{◌≡◌, ◌+◌, ◌-◌, ◌<◌, ◌≤◌, ◌^◌, [], length, position, slice_get, vec_len, vec_capacity, Some};
+ghost use Rattle.std.specs.Prelude.{◌≡◌, ◌+◌, ◌*◌, ◌-◌, ◌<◌, ◌≤◌, ◌^◌, [], length, position, slice_get, vec_len, vec_capacity, Some};
 ghost use Rattle.rb_base.specs.declared.limits.TheConstants.{MOST_TURNS};
 ghost use Rattle.rb_world.specs.Kind.{SendsOn, ReceivesOn, MayReceiveOn};
 ghost use Rattle.rb_world.specs.Standing.{Each};
@@ -9,12 +9,14 @@ ghost use Rattle.rb_world.specs.World.{Running, change_at};
 ghost use Rattle.rb_code.specs.Plain.{code as plain};
 ghost use Rattle.rb_code.specs.Sound.{IsReceiver};
 ghost use Rattle.rb_code.specs.Turn.{want};
+ghost use Rattle.rb_conv.specs.Conversations.{memberships};
 ghost use Rattle.rb_proc.specs.Process.{Seen};
 ghost use Rattle.rb_machine.specs.AtWork.{MayAct};
 ghost use Rattle.rb_machine.specs.Channels.{AreNumbered};
-ghost use Rattle.rb_machine.specs.Moves.{AreAtWork, HasMoved, IsLeft, IsReadyAt, MovesAt, ReceivesThere, WantsThere, world};
+ghost use Rattle.rb_machine.specs.Moves.{AreAtWork, HasMoved, IsEntryReady, IsLeft, IsReadyAt, MovesAt, ReceivesThere, WantsThere, world};
 ghost use Rattle.rb_machine.specs.Rejections.{changed};
 ghost use Rattle.rb_machine.specs.Turns.{runs_there};
+ghost use Rattle.rb_machine.specs.Work.{enters_there, looking, move_work, named_by_acts, named_running, named_within, undoing};
 ghost use Rattle.rb_machine.specs.Worlds.{kind_with, processes_of};
 
 use crate::came::Came;
@@ -60,6 +62,7 @@ pub fn act<L: Ledger>(
     ensures left { IsLeft (plain code.now) parts.old parts.new events.new.items result }
     ensures links { vec_len parts.new.links ≤ vec_len parts.old.links + 1 }
     ensures room { vec_capacity parts.old.links ≤ vec_capacity parts.new.links }
+    ensures work { (one : Seen) → slice_get parts.old.procs.items p ≡ Some one → steps.new ≤ steps.old + looking (enters_there (plain code.now) result.kind (Some one.process)) + 3 * named_by_acts (plain code.now) (memberships parts.old.table) turn p one.process (world parts.old) (want (plain code.now) one.process.state) + undoing result.kind (processes_of parts.old.procs.items) events.new.items (processes_of parts.new.procs.items) }
 {
     let wanted = parts.procs[p as usize].want(code);
     match ready(code, &parts.procs, p, wanted, steps) {
@@ -82,7 +85,9 @@ fn ready<L: Ledger>(
     requires process { p < length procs.now }
     requires receiver { ReceivesThere (plain code.now) procs.now p }
     requires wanted { WantsThere (plain code.now) procs.now p wanted }
-    ensures { IsReadyAt (plain code.now) procs.now p result }
+    ensures ready { IsReadyAt (plain code.now) procs.now p result }
+    ensures work { steps.new ≤ steps.old + 2 }
+    ensures entry { IsEntryReady result → steps.new ≤ steps.old }
 {
     match wanted {
         Wanted::Idle | Wanted::Line => ReadyFor::Idle,
@@ -105,7 +110,8 @@ fn send<L: Ledger>(
     requires numbered { AreNumbered (plain code.now) procs.now }
     requires process { p < length procs.now }
     requires wants { (one : Seen) → slice_get procs.now p ≡ Some one → want (plain code.now) one.process.state ≡ SendsOn channel }
-    ensures { IsReadyAt (plain code.now) procs.now p result }
+    ensures ready { IsReadyAt (plain code.now) procs.now p result }
+    ensures work { steps.new ≤ steps.old + 2 }
 {
     if has_room(code, procs, channel, steps) {
         ReadyFor::Steps(false)
@@ -126,7 +132,8 @@ fn receive<L: Ledger>(
     requires process { p < length procs.now }
     requires receiver { IsReceiver (slice_get (plain code.now).channels channel) p }
     requires wants { (one : Seen) → slice_get procs.now p ≡ Some one → want (plain code.now) one.process.state ≡ ReceivesOn channel }
-    ensures { IsReadyAt (plain code.now) procs.now p result }
+    ensures ready { IsReadyAt (plain code.now) procs.now p result }
+    ensures work { steps.new ≤ steps.old + 2 }
 {
     if message_there(code, procs, p, channel, steps) {
         ReadyFor::Steps(true)
@@ -147,7 +154,8 @@ fn look<L: Ledger>(
     requires process { p < length procs.now }
     requires receiver { IsReceiver (slice_get (plain code.now).channels channel) p }
     requires wants { (one : Seen) → slice_get procs.now p ≡ Some one → want (plain code.now) one.process.state ≡ MayReceiveOn channel }
-    ensures { IsReadyAt (plain code.now) procs.now p result }
+    ensures ready { IsReadyAt (plain code.now) procs.now p result }
+    ensures work { steps.new ≤ steps.old + 2 }
 {
     ReadyFor::Steps(message_there(code, procs, p, channel, steps))
 }
@@ -169,6 +177,7 @@ pub fn take_turn<L: Ledger>(
     ensures left { IsLeft (plain code.now) parts.old parts.new events.new.items result }
     ensures links { vec_len parts.new.links ≤ vec_len parts.old.links + 1 }
     ensures room { vec_capacity parts.old.links ≤ vec_capacity parts.new.links }
+    ensures work { steps.new ≤ steps.old + move_work (plain code.now) (memberships parts.old.table) turn p (world parts.old) (move (kind_with (plain code.now) parts.old.table) turn p (world parts.old)) }
 {
     if is_running(&parts.procs, p) {
         run(code, parts, turn, p, events, steps)
@@ -206,6 +215,7 @@ fn run<L: Ledger>(
     ensures left { IsLeft (plain code.now) parts.old parts.new events.new.items result }
     ensures links { vec_len parts.new.links ≤ vec_len parts.old.links + 1 }
     ensures room { vec_capacity parts.old.links ≤ vec_capacity parts.new.links }
+    ensures work { (one : Seen) → slice_get parts.old.procs.items p ≡ Some one → steps.new ≤ steps.old + looking (enters_there (plain code.now) result.kind (Some one.process)) + 3 * named_running (plain code.now) (memberships parts.old.table) turn p (turn_used one.process) (world parts.old) + undoing result.kind (processes_of parts.old.procs.items) events.new.items (processes_of parts.new.procs.items) }
 {
     let over = count(&mut parts.procs, p);
     go_on(code, parts, turn, p, over, events, steps)
@@ -242,6 +252,7 @@ fn go_on<L: Ledger>(
     ensures left { IsLeft (plain code.now) parts.old parts.new events.new.items result }
     ensures links { vec_len parts.new.links ≤ vec_len parts.old.links + 1 }
     ensures room { vec_capacity parts.old.links ≤ vec_capacity parts.new.links }
+    ensures work { (one : Seen) → slice_get parts.old.procs.items p ≡ Some one → steps.new ≤ steps.old + looking (enters_there (plain code.now) result.kind (Some one.process)) + 3 * named_within (plain code.now) (memberships parts.old.table) turn p one.process (world parts.old) (position is_over one.process.levels) + undoing result.kind (processes_of parts.old.procs.items) events.new.items (processes_of parts.new.procs.items) }
 {
     match over {
         Some(level) => undo(parts, p, level + 1, Cause::Overrun, events, steps),

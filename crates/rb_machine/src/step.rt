@@ -1,6 +1,6 @@
 //! A step of a process in its turn: it goes on, traps, or comes to the end of an alternate whose acceptance test held.
 
-ghost use Rattle.std.specs.Prelude.{◌≡◌, ◌+◌, ◌<◌, ◌≤◌, [], ◌∷◌, ◌++◌, length, slice_get, vec_len, vec_capacity, Some};
+ghost use Rattle.std.specs.Prelude.{◌≡◌, ◌+◌, ◌*◌, ◌<◌, ◌≤◌, [], ◌∷◌, ◌++◌, length, slice_get, vec_len, vec_capacity, Some};
 ghost use Rattle.rb_world.specs.Turn.{steps as stepping};
 ghost use Rattle.rb_world.specs.World.{change_at};
 ghost use Rattle.rb_code.specs.Plain.{code as plain};
@@ -8,10 +8,13 @@ ghost use Rattle.rb_code.specs.Turn.{want};
 ghost use Rattle.rb_proc.specs.Executable.{IsExecutable};
 ghost use Rattle.rb_proc.specs.Process.{Seen, alternate_for, message_for};
 ghost use Rattle.rb_proc.specs.Sees.{AreSized};
+ghost use Rattle.rb_proc.specs.Work.{named_in_step};
 ghost use Rattle.rb_machine.specs.AtWork.{IsStep, MayAct};
-ghost use Rattle.rb_machine.specs.Moves.{AreAtWork, HasMoved, IsLeft, MovesAt, WantsThere};
+ghost use Rattle.rb_conv.specs.Conversations.{memberships};
+ghost use Rattle.rb_machine.specs.Moves.{AreAtWork, HasMoved, IsLeft, MovesAt, WantsThere, world};
 ghost use Rattle.rb_machine.specs.Stepping.{HasStepped, MayStep, turn_kept};
-ghost use Rattle.rb_machine.specs.Worlds.{kind_with};
+ghost use Rattle.rb_machine.specs.Work.{named_by_steps, undoing};
+ghost use Rattle.rb_machine.specs.Worlds.{kind_with, processes_of};
 
 use crate::came::Came;
 use crate::cascade::reject;
@@ -43,6 +46,7 @@ fn step_one<L: Ledger>(
     requires sized { AreSized (plain code.now) mails.old }
     ensures stepped { (one : Seen) → slice_get procs.old p ≡ Some one → HasStepped (plain code.now) there p one result mails.old mails.new procs.old procs.new }
     ensures sized { AreSized (plain code.now) mails.new }
+    ensures work { (one : Seen) → slice_get procs.old p ≡ Some one → steps.new ≤ steps.old + 1 + 3 * named_in_step (plain code.now) one.process mails.old there }
 {
     procs[p as usize].step(code, mails, wanted, there, steps)
 }
@@ -99,6 +103,7 @@ pub fn take_step<L: Ledger>(
     ensures left { IsLeft (plain code.now) parts.old parts.new events.new.items result }
     ensures links { vec_len parts.new.links ≤ vec_len parts.old.links + 1 }
     ensures room { vec_capacity parts.old.links ≤ vec_capacity parts.new.links }
+    ensures work { (one : Seen) → slice_get parts.old.procs.items p ≡ Some one → steps.new ≤ steps.old + 1 + 3 * named_by_steps (plain code.now) (memberships parts.old.table) turn p (alternate_for (want (plain code.now) one.process.state) one.process.levels) (message_for (plain code.now) one.process.state parts.old.mails.items there (want (plain code.now) one.process.state)) one.process (world parts.old) + undoing result.kind (processes_of parts.old.procs.items) events.new.items (processes_of parts.new.procs.items) }
 {
     let alternate = started(wanted, &parts.procs[p as usize]);
     match step_one(

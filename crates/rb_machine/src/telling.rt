@@ -13,6 +13,7 @@ ghost use Rattle.rb_proc.specs.Process.{Seen};
 ghost use Rattle.rb_proc.specs.Statuses.{status_of};
 ghost use Rattle.rb_machine.specs.Moves.{passes_of};
 ghost use Rattle.rb_machine.specs.Telling.{WasAlone, ended_by, ended_if, ends_told, freed_one, is_running, running_of};
+ghost use Rattle.rb_machine.specs.Work.{releases_some, releasing};
 ghost use Rattle.rb_machine.specs.Worlds.{NoneWaits, lines_of, processes_of};
 
 use arrayvec::ArrayVec;
@@ -78,6 +79,7 @@ pub fn finish<L: Ledger>(
     ensures processes { (c : Plain) (groups : List Membership) → processes_of procs.new ≡ map (freed (word_kind c groups)) (processes_of procs.old) }
     ensures lines { (c : Plain) (groups : List Membership) → lines_of procs.new ≡ map (λ (q : Process Standing Copy). lines_freed (word_kind c groups) q.state q.levels) (processes_of procs.old) }
     ensures none_waits { result ≡ false → NoneWaits procs.new }
+    ensures work { steps.new ≤ steps.old + 2 * releasing (lines_of procs.new) }
 {
     if alone {
         return finish_one(procs, running, p, events, steps);
@@ -103,6 +105,7 @@ fn finish_one<L: Ledger>(
     ensures running { running.new ≡ running_of (processes_of procs.old) }
     ensures freed { (c : Plain) → procs.new ≡ map (freed_one c) procs.old }
     ensures none_waits { result ≡ false → NoneWaits procs.new }
+    ensures work { steps.new ≤ steps.old + 2 * releasing (lines_of procs.new) }
 {
     let place = p as usize;
     if place >= procs.len() {
@@ -134,6 +137,7 @@ fn release_one<L: Ledger>(proc: &mut Proc<L>, steps: &mut Steps<L>) -> bool
     requires waits { proc.old.waiting ≡ [] }
     ensures freed { (c : Plain) → proc.new ≡ freed_one c proc.old }
     ensures none_waits { result ≡ false → proc.new.waiting ≡ [] }
+    ensures work { steps.new ≤ steps.old + 2 * releases_some proc.new.waiting }
 {
     let releases = proc.may_release();
     proc.release_if_free(steps);
@@ -208,7 +212,7 @@ pub fn release_all<L: Ledger>(procs: &mut [Proc<L>], steps: &mut Steps<L>)
     requires waits { NoneWaits procs.old }
     ensures processes { (c : Plain) (groups : List Membership) → processes_of procs.new ≡ map (freed (word_kind c groups)) (processes_of procs.old) }
     ensures lines { (c : Plain) (groups : List Membership) → lines_of procs.new ≡ map (λ (q : Process Standing Copy). lines_freed (word_kind c groups) q.state q.levels) (processes_of procs.old) }
-    ensures ticks { steps.new ≤ steps.old + 2 * length procs.old }
+    ensures work { steps.new ≤ steps.old + 2 * releasing (lines_of procs.new) }
 {
     for proc in procs.iter_mut() {
         proc.release_if_free(steps);

@@ -1,16 +1,18 @@
 //! The test line of a conversation, to which each member comes whose acceptance test held, and which all pass together; and a private
 //! level that goes.
 
-ghost use Rattle.std.specs.Prelude.{◌≡◌, ◌<◌, [], length, map, slice_get, Some};
+ghost use Rattle.std.specs.Prelude.{◌≡◌, ◌+◌, ◌*◌, ◌<◌, ◌≤◌, [], length, map, slice_get, sum_by, Some};
 ghost use Rattle.rb_world.specs.Standing.{Each};
 ghost use Rattle.rb_world.specs.Turn.{accepted, all_stand, at_test_line, stands_there};
 ghost use Rattle.rb_world.specs.World.{change_at, last_of};
 ghost use Rattle.rb_code.specs.Plain.{Code as Plain, code as plain};
 ghost use Rattle.rb_code.specs.Turn.{Common};
+ghost use Rattle.rb_conv.specs.Conversations.{memberships};
 ghost use Rattle.rb_proc.specs.Executable.{IsExecutable};
 ghost use Rattle.rb_proc.specs.Process.{Seen};
 ghost use Rattle.rb_machine.specs.Cascade.{SameGroups};
 ghost use Rattle.rb_machine.specs.Stepping.{HasTaken, HoldsTest, IsListed, MayLeave, conversation_in, level_gone, line_left, stood};
+ghost use Rattle.rb_machine.specs.Work.{named_accepted, named_at_line, named_by_member, named_leaving};
 ghost use Rattle.rb_machine.specs.Worlds.{NoneWaits, kind_with, processes_of, world_of};
 
 use crate::innermost::innermost;
@@ -38,6 +40,7 @@ pub fn accept<L: Ledger>(
     ensures taken { (one : Seen) (memory : Common) → slice_get procs.old p ≡ Some one → HasTaken memory procs.new table.new result (accepted (kind_with (plain code.now) table.old) p one.process.levels (last_of one.process.levels) (world_of procs.old table.old memory) (one.process.state, memory)) }
     ensures waits { NoneWaits procs.new }
     ensures groups { SameGroups table.old table.new }
+    ensures work { (one : Seen) (memory : Common) → slice_get procs.old p ≡ Some one → steps.new ≤ steps.old + 3 * named_accepted (plain code.now) (memberships table.old) p one.process.levels (last_of one.process.levels) (world_of procs.old table.old memory) one.process.state }
 {
     match conversation_of(&procs[p as usize]) {
         None => {
@@ -67,7 +70,8 @@ fn leave_alone<L: Ledger>(code: &Code, procs: &mut [Proc<L>], p: u32, steps: &mu
     requires process { p < length procs.old }
     requires waits { NoneWaits procs.old }
     requires holds { (one : Seen) → slice_get procs.old p ≡ Some one → HoldsTest (plain code.now) one }
-    ensures { procs.new ≡ change_at p (level_gone (plain code.now)) procs.old }
+    ensures gone { procs.new ≡ change_at p (level_gone (plain code.now)) procs.old }
+    ensures work { (one : Seen) → slice_get procs.old p ≡ Some one → steps.new ≤ steps.old + 3 * named_leaving (plain code.now) one.process.state one.process.levels }
 {
     procs[p as usize].accept(code, steps);
 }
@@ -95,6 +99,7 @@ fn pass_line<L: Ledger>(
     ensures taken { (memory : Common) → HasTaken memory procs.new table.new result (at_test_line (kind_with (plain code.now) table.old) conversation (world_of procs.old table.old memory)) }
     ensures waits { NoneWaits procs.new }
     ensures groups { SameGroups table.old table.new }
+    ensures work { (memory : Common) → steps.new ≤ steps.old + 3 * named_at_line (plain code.now) (memberships table.old) conversation (world_of procs.old table.old memory) }
 {
     if !all_stand(procs, table, conversation) {
         return None;
@@ -136,7 +141,8 @@ fn leave_all<L: Ledger>(code: &Code, procs: &mut [Proc<L>], conversation: u32, s
     requires code { IsExecutable (plain code.now) }
     requires waits { NoneWaits procs.old }
     requires leave { Each (MayLeave (plain code.now)) procs.old }
-    ensures { procs.new ≡ map (line_left (plain code.now) conversation) procs.old }
+    ensures left { procs.new ≡ map (line_left (plain code.now) conversation) procs.old }
+    ensures work { steps.new ≤ steps.old + 3 * sum_by (named_by_member (plain code.now) conversation) (processes_of procs.old) }
 {
     for proc in procs.iter_mut() {
         leave(code, proc, conversation, steps);
@@ -148,7 +154,8 @@ fn leave<L: Ledger>(code: &Code, proc: &mut Proc<L>, conversation: u32, steps: &
     requires code { IsExecutable (plain code.now) }
     requires waits { proc.old.waiting ≡ [] }
     requires leave { MayLeave (plain code.now) 0 proc.old }
-    ensures { proc.new ≡ line_left (plain code.now) conversation proc.old }
+    ensures left { proc.new ≡ line_left (plain code.now) conversation proc.old }
+    ensures work { steps.new ≤ steps.old + 3 * named_by_member (plain code.now) conversation proc.old.process }
 {
     if proc.stands_at(conversation) {
         proc.accept(code, steps);

@@ -1,13 +1,14 @@
 //! Turns that end in rejections.
 
-ghost use Rattle.std.specs.Prelude.{◌≡◌, ◌<◌, ◌≤◌, length};
+ghost use Rattle.std.specs.Prelude.{◌≡◌, ◌+◌, ◌<◌, ◌≤◌, length};
 ghost use Rattle.rb_world.specs.Reject.{reject};
 ghost use Rattle.rb_world.specs.Turn.{undone};
 ghost use Rattle.rb_code.specs.Plain.{Code as Plain};
 ghost use Rattle.rb_proc.specs.Sees.{AreSized};
 ghost use Rattle.rb_machine.specs.Cascade.{AreQuiet, MayRejectAt};
 ghost use Rattle.rb_machine.specs.Moves.{HasMoved, IsLeft, world};
-ghost use Rattle.rb_machine.specs.Worlds.{kind_with};
+ghost use Rattle.rb_machine.specs.Work.{undoing};
+ghost use Rattle.rb_machine.specs.Worlds.{kind_with, processes_of};
 
 use crate::came::Came;
 use crate::cascade::reject;
@@ -33,6 +34,7 @@ pub fn undo<L: Ledger>(
     ensures moved { (c : Plain) → HasMoved parts.new events.new.items result (undone (reject (kind_with c parts.old.table) p left cause (world parts.old))) }
     ensures left { (c : Plain) → AreSized c parts.old.mails.items → IsLeft c parts.old parts.new events.new.items result }
     ensures links { parts.new.links ≡ parts.old.links }
+    ensures work { steps.new ≤ steps.old + undoing result.kind (processes_of parts.old.procs.items) events.new.items (processes_of parts.new.procs.items) }
 {
     reject(
         &mut parts.procs,

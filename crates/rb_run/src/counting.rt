@@ -6,6 +6,7 @@ ghost use Rattle.rb_code.specs.WordKind.{word_kind};
 ghost use Rattle.rb_code.specs.WordRun.{opening_of, word_run};
 ghost use Rattle.rb_world.specs.Turn.{run as run_from, told_at_opening};
 ghost use Rattle.rb_machine.specs.Machine.{opening_seen};
+ghost use Rattle.rb_machine.specs.Work.{turns_work};
 ghost use Rattle.rb_run.specs.Counting.{AreBelow, IsMore, both_counted, counts, nothing_counted, told_counts};
 ghost use Rattle.rb_run.specs.Running.{NoneWaits, ran};
 
@@ -25,7 +26,7 @@ pub struct Counts {
 }
 
 /// Runs a machine that was just loaded over a schedule that was just read, and counts the lines of each kind that its run would print
-/// before its `end` line. It takes no memory.
+/// before its `end` line. It takes no memory, and its ticks are at most those of its turns.
 pub fn count<L: Ledger>(
     machine: &mut Machine<'_, L>,
     schedule: Schedule<'_>,
@@ -36,6 +37,7 @@ pub fn count<L: Ledger>(
     requires turns { length schedule.left ≤ machine.old.most }
     ensures counts { counts result ≡ told_counts (told_at_opening (opening_of machine.old.code machine.old.groups) ∷ (word_run machine.old.code machine.old.groups schedule.entry.all).1) }
     ensures machine { machine.new ≡ ran machine.old schedule.entry.all }
+    ensures work { steps.new ≤ steps.old + turns_work machine.old.code machine.old.groups 1 schedule.entry.all machine.old.world }
 {
     let mut report = machine.opening();
     let mut tally = Counts::none();
@@ -58,6 +60,7 @@ fn count_turns<L: Ledger>(
     requires room { AreBelow (2 ^ 32) tally.old }
     ensures counts { counts tally.new ≡ both_counted (counts tally.old) (told_counts (run_from (word_kind machine.old.code machine.old.groups) (machine.old.taken + 1) schedule.entry.left machine.old.world).1) }
     ensures machine { machine.new ≡ ran machine.old schedule.entry.left }
+    ensures work { steps.new ≤ steps.old + turns_work machine.old.code machine.old.groups (machine.old.taken + 1) schedule.entry.left machine.old.world }
 {
     'turns: while let Some(p) = schedule.next() {
         machine.turn(p, report, steps);

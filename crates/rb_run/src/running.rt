@@ -4,11 +4,13 @@ ghost use Rattle.std.specs.Prelude.{◌≡◌, ℕ, ◌+◌, ◌<◌, ◌≤◌,
 ghost use Rattle.rb_code.specs.WordKind.{word_kind};
 ghost use Rattle.rb_code.specs.WordRun.{word_text};
 ghost use Rattle.rb_outside.specs.Puts.{Puts};
+ghost use Rattle.rb_trace.specs.Ended.{numbers_printed};
 ghost use Rattle.rb_trace.specs.Naming.{naming};
 ghost use Rattle.rb_trace.specs.Report.{told_of};
 ghost use Rattle.rb_world.specs.Text.{all_told, told_text};
 ghost use Rattle.rb_world.specs.Turn.{run as run_from};
 ghost use Rattle.rb_machine.specs.Machine.{opening_seen};
+ghost use Rattle.rb_machine.specs.Work.{turns_work};
 ghost use Rattle.rb_run.specs.Running.{HasNoLines, NoneWaits, NamesFit, ran};
 
 use rb_base::{Names, Report, Steps};
@@ -19,7 +21,8 @@ use rb_trace::{write_end, write_report};
 use std::sync::ledger::Ledger;
 
 /// Runs a machine that was just loaded over a schedule that was just read, and writes the run's text. It takes no memory: it answers Ok
-/// with the whole text written, or Failed where a write failed, with a prefix written.
+/// with the whole text written, or Failed where a write failed, with a prefix written. Its ticks are at most those of its turns, and one
+/// for each number that the ending prints.
 pub fn run<S: Sink, L: Ledger>(
     machine: &mut Machine<'_, L>,
     names: &Names,
@@ -32,7 +35,8 @@ pub fn run<S: Sink, L: Ledger>(
     requires fit { NamesFit machine.old.code names.now }
     requires whole { schedule.left ≡ schedule.all }
     requires turns { length schedule.left ≤ machine.old.most }
-    ensures { Puts (word_text machine.old.code machine.old.groups schedule.entry.all) (S.written out.old) (S.written out.new) (S.faults out.old) (S.faults out.new) result }
+    ensures text { Puts (word_text machine.old.code machine.old.groups schedule.entry.all) (S.written out.old) (S.written out.new) (S.faults out.old) (S.faults out.new) result }
+    ensures work { steps.new ≤ steps.old + turns_work machine.old.code machine.old.groups 1 schedule.entry.all machine.old.world + numbers_printed (naming names.now) }
 {
     let turns = schedule.turns();
     let mut report = machine.opening();
@@ -55,6 +59,7 @@ fn take_turns<S: Sink, L: Ledger>(
     requires turns { machine.old.taken + length schedule.left ≤ machine.old.most }
     ensures text { Puts (all_told (naming names.now) (machine.old.taken + 1) (run_from (word_kind machine.old.code machine.old.groups) (machine.old.taken + 1) schedule.entry.left machine.old.world).1) (S.written out.old) (S.written out.new) (S.faults out.old) (S.faults out.new) result }
     ensures ran { OnOk result (machine.new ≡ ran machine.old schedule.entry.left) }
+    ensures work { steps.new ≤ steps.old + turns_work machine.old.code machine.old.groups (machine.old.taken + 1) schedule.entry.left machine.old.world }
 {
     'turns: while let Some(p) = schedule.next() {
         machine.turn(p, report, steps);

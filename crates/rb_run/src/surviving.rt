@@ -5,6 +5,7 @@ ghost use Rattle.rb_code.specs.WordRun.{word_run};
 ghost use Rattle.rb_trace.specs.Naming.{naming};
 ghost use Rattle.rb_world.specs.Text.{record_text};
 ghost use Rattle.rb_machine.specs.Machine.{opening_seen};
+ghost use Rattle.rb_machine.specs.Work.{turns_work};
 ghost use Rattle.rb_machine.specs.Survivors.{kept_of, word_survivors};
 ghost use Rattle.rb_run.specs.Running.{NoneWaits, ran};
 ghost use Rattle.rb_run.specs.Surviving.{IsErasedOver, Survives};
@@ -28,7 +29,7 @@ pub enum Ended {
 
 /// Runs a machine that was just loaded over a schedule that was just read, with nothing printed, and then writes its survivors as a
 /// record. Where memory is wanting for their list nothing is written. Of code that stands for an accepted source the plain run of this
-/// record ends as the run ended.
+/// record ends as the run ended. Its ticks are at most those of its turns.
 pub fn survive<S: Sink, L: Ledger>(
     alloc: Global,
     machine: &mut Machine<'_, L>,
@@ -43,6 +44,7 @@ pub fn survive<S: Sink, L: Ledger>(
     requires turns { length schedule.left ≤ machine.old.most }
     ensures text { Survives (record_text machine.old.code.names (word_survivors (word_run machine.old.code machine.old.groups schedule.entry.all).0)) (S.written out.old) (S.written out.new) (S.faults out.old) (S.faults out.new) result }
     ensures erased { IsErasedOver machine.old.code machine.old.groups schedule.entry.all }
+    ensures work { steps.new ≤ steps.old + turns_work machine.old.code machine.old.groups 1 schedule.entry.all machine.old.world }
 {
     let mut report = machine.opening();
     take_unseen(machine, schedule, &mut report, steps);
@@ -61,7 +63,8 @@ fn take_unseen<L: Ledger>(
 )
     requires waits { NoneWaits machine.old }
     requires turns { machine.old.taken + length schedule.left ≤ machine.old.most }
-    ensures { machine.new ≡ ran machine.old schedule.entry.left }
+    ensures machine { machine.new ≡ ran machine.old schedule.entry.left }
+    ensures work { steps.new ≤ steps.old + turns_work machine.old.code machine.old.groups (machine.old.taken + 1) schedule.entry.left machine.old.world }
 {
     'turns: while let Some(p) = schedule.next() {
         machine.turn(p, report, steps);
