@@ -4,3 +4,4 @@ pub mod Waiting
 pub mod Released
 pub mod Events
 pub mod Ended
+pub mod Counted
