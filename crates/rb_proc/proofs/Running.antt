@@ -1,5 +1,5 @@
 -- One step of a safe run.
-use Rattle.std.proofs.Common.{◌≡◌, ℕ, zero, suc, ◌-◌, ◌<◌, ◌≤◌, ◌^◌, ℤ, List, length, Option, Some, None, refl, ap, sym, ◌∙◌, subst, arith}
+use Rattle.std.proofs.Common.{◌≡◌, ℕ, zero, suc, ◌+◌, ◌-◌, ◌<◌, ◌≤◌, ◌^◌, ℤ, List, length, Option, Some, None, refl, ap, sym, ◌∙◌, subst, arith}
 use Rattle.std.specs.Prelude.{slice_get, get_or}
 use Rattle.std.proofs.lemmas.Option.{slice_get_within, slice_get_read}
 use Rattle.rb_meaning.specs.Environment.{natural}
@@ -18,6 +18,7 @@ use Rattle.rb_code.specs.declared.instr.Instr.TheVariants.{Put, Take}
 use Rattle.rb_proc.specs.Acts.{CursorRises, LeavesEnough}
 use Rattle.rb_proc.specs.Contents.{Contents}
 use Rattle.rb_proc.specs.Outcomes.{mem}
+use Rattle.rb_proc.specs.Work.{named, named_along, named_at, named_from}
 
 module _ (c : Code) (see : Sight) (P : Memory → Type 0) (calls : ℕ) (start : List ℤ) where
   -- a run of at most so many instructions that is safe from here, and comes to what the whole comes to
@@ -113,20 +114,36 @@ module _ (c : Code) (see : Sight) (P : Memory → Type 0) (calls : ℕ) (start :
       comes_to : (o : Outcome) → o ≡ act c see i a xs m → (n : ℕ) → execute c see (suc n) a xs m ≡ then_go o (execute c see n)
       comes_to o e n = ap (λ x. then_go (act_at c see x a xs m) (execute c see n)) q ∙ ap (λ x. then_go x (execute c see n)) (sym e)
 
-      -- it goes on
+      -- what is named from here on
+      names : (o : Outcome) → o ≡ act c see i a xs m → (n : ℕ) → named_along c see (suc n) a xs m ≡ named i + named_from o (named_along c see n)
+      names o e n =
+          ap (λ x. named_at x + named_from (act_at c see x a xs m) (named_along c see n)) q ∙ ap (λ x. named i + named_from x (named_along c see n)) (sym e)
+
+      pub names_here : named i ≤ named_along c see runs.n a xs m
+      names_here = at runs.n runs.safe
+        where
+          at : (n : ℕ) → Safe c see P n a xs m → named i ≤ named_along c see n a xs m
+          at zero safe = absurd safe
+          at (suc n) safe = omega (arith, names (act c see i a xs m) refl n)
+
+      -- it goes on, and names what this instruction does and what the rest does
       module _ (b : ℕ) (ys : List ℤ) (later : Memory) (e : Going b ys later ≡ act c see i a xs m) where
-        pub onward : Runs most end b ys later
+        pub onward : (rest : Runs most end b ys later) × (named_along c see runs.n a xs m ≡ named i + named_along c see rest.n b ys later)
         onward = at runs.n runs.within runs.safe runs.stays runs.comes
           where
-            at : (n : ℕ) → n ≤ most → Safe c see P n a xs m → Stays c see calls start n a xs m → execute c see n a xs m ≡ end → Runs most end b ys later
+            at : (n : ℕ) → n ≤ most → Safe c see P n a xs m → Stays c see calls start n a xs m → execute c see n a xs m ≡ end
+                → (rest : Runs most end b ys later) × (named_along c see n a xs m ≡ named i + named_along c see rest.n b ys later)
             at zero le safe s x = absurd safe
-            at (suc n) le safe s x = record {
-              n = n;
-              within = omega arith;
-              safe = safe_on (Going b ys later) e n safe;
-              stays = stays_on (Going b ys later) e n s;
-              comes = sym (comes_to (Going b ys later) e n) ∙ x;
-            }
+            at (suc n) le safe s x = (
+              record {
+                n = n;
+                within = omega arith;
+                safe = safe_on (Going b ys later) e n safe;
+                stays = stays_on (Going b ys later) e n s;
+                comes = sym (comes_to (Going b ys later) e n) ∙ x;
+              },
+              names (Going b ys later) e n,
+            )
 
         pub falls : steps_left c see most b ys later < steps_left c see most a xs m
         falls = at runs.n runs.within runs.safe

@@ -33,6 +33,7 @@ use Rattle.rb_proc.specs.declared.line.Piece.{Piece}
 use Rattle.rb_proc.specs.declared.sight.Sight.{Sight}
 use Rattle.rb_proc.specs.Given.{alternate_by, message_by}
 use Rattle.rb_proc.specs.Process.{StepsTo, alternate_for, kind_of, message_for, step_of, wanted_by}
+use Rattle.rb_proc.specs.Work.{named_along, named_in_step, named_settling}
 use Rattle.rb_proc.specs.declared.answers.Outcome.TheVariants as outcome
 
 pub alternate_is : (w : Want) (levels : List (Level Copy)) → alternate_by (wanted_by w) levels ≡ alternate_for w levels
@@ -144,11 +145,19 @@ module _ (c : Code) (r : Contents) (process at kept : ℕ) (at_line : Bool) (sta
       (subst (λ (xs : List ℤ). Stays c (sight now.state alternate_now (copy_of (last_of now.levels)) message_now) (entry_calls (copy_of (last_of r.levels))) r.words (most_steps c) (at + 1) xs (memory_of now.state slots)) (sym operands_ok)
       (steps_stay c groups now.state now.levels alternate_now message_now slots stands serves)))
 
+  -- so whatever is made of it is what is made of that
+  as_given : {A : Type 0} (f : Seen → Memory → List ℤ → A) → f (see_of sg r.levels) (whole c.texts bench r slots) bench.operands
+      ≡ f (sight now.state alternate_now (copy_of (last_of now.levels)) message_now) (memory_of now.state slots) []
+  as_given f =
+      ap (λ (see : Seen). f see (whole c.texts bench r slots) bench.operands) sight_is
+      ∙ ap (λ (m : Memory). f (sight now.state alternate_now (copy_of (last_of now.levels)) message_now) m bench.operands) memory_is
+      ∙ ap (λ (xs : List ℤ). f (sight now.state alternate_now (copy_of (last_of now.levels)) message_now) (memory_of now.state slots) xs) operands_ok
+
   pub executes : execute c (see_of sg r.levels) (most_steps c) (at + 1) bench.operands (whole c.texts bench r slots) ≡ whole_step c now slots there
-  executes =
-      ap (λ (see : Seen). execute c see (most_steps c) (at + 1) bench.operands (whole c.texts bench r slots)) sight_is
-      ∙ ap (λ (m : Memory). execute c (sight now.state alternate_now (copy_of (last_of now.levels)) message_now) (most_steps c) (at + 1) bench.operands m) memory_is
-      ∙ ap (λ (xs : List ℤ). execute c (sight now.state alternate_now (copy_of (last_of now.levels)) message_now) (most_steps c) (at + 1) xs (memory_of now.state slots)) operands_ok
+  executes = as_given (λ see m xs. execute c see (most_steps c) (at + 1) xs m)
+
+  pub step_named : named_along c (see_of sg r.levels) (most_steps c) (at + 1) bench.operands (whole c.texts bench r slots) ≡ named_in_step c now slots there
+  step_named = as_given (λ see m xs. named_along c see (most_steps c) (at + 1) xs m)
 
 -- what is safe stays so where less is asked
 safe_weaker : (c : Code) (see : Seen) (P Q : Memory → Type 0) → ((m : Memory) → P m → Q m) → (n a : ℕ) (xs : List ℤ) (m : Memory) → Safe c see P n a xs m
@@ -184,6 +193,15 @@ module _ (c : Code) (r : Contents) (process at kept : ℕ) (bench : Bench) (sg :
       ap (λ (ps : List Piece). mem r (map (piece_text c.texts) ps) bench.counters []) pieces_ok
       ∙ ap (λ (cs : List (Option Counting)). mem r [] cs []) counters_ok
 
+  settling_given : {A : Type 0} (f : Seen → Memory → List ℤ → A)
+      → f (see_of sg r.levels) (whole c.texts bench r []) bench.operands ≡ f sees (memory_of state_now []) []
+  settling_given f =
+      ap (λ (see : Seen). f see (whole c.texts bench r []) bench.operands) settling_sight
+      ∙ ap (λ (m : Memory). f sees m bench.operands) settling_memory ∙ ap (λ (xs : List ℤ). f sees (memory_of state_now []) xs) operands_ok
+
+  pub settle_named : named_along c (see_of sg r.levels) (most_steps c) at bench.operands (whole c.texts bench r []) ≡ named_settling c state_now r.levels
+  settle_named = settling_given (λ see m xs. named_along c see (most_steps c) at xs m)
+
   pub settle_safe : (groups : List Membership) → SettlesSoundly c groups state_now r.levels
       → Safe c (see_of sg r.levels) (IsUnchanged (whole c.texts bench r [])) (most_steps c) at bench.operands (whole c.texts bench r [])
   settle_safe groups settles =
@@ -210,9 +228,7 @@ module _ (c : Code) (r : Contents) (process at kept : ℕ) (bench : Bench) (sg :
   settle_comes came after pieces counters slots st waiting e keeps status_ok =
       by came keeps status_ok
       ∙ ap (λ (o : Came). goes_on (kind_of c) (settled_by state_now o) r.levels)
-      (e ∙ ap (λ (see : Seen). execute c see (most_steps c) at bench.operands (whole c.texts bench r [])) settling_sight
-      ∙ ap (λ (m : Memory). execute c sees (most_steps c) at bench.operands m) settling_memory
-      ∙ ap (λ (xs : List ℤ). execute c sees (most_steps c) at xs (memory_of state_now [])) operands_ok)
+      (e ∙ settling_given (λ see m xs. execute c see (most_steps c) at xs m))
     where
       same : (to : ℕ) → after ≡ r → status_of st ≡ status_at (wants_there c (slice_get c.instrs at) (slice_get c.instrs (at + 1)))
           → record { state = standing after process at kept; levels = after.levels; at_line = false; status = status_of st } ≡ goes_on (kind_of c) state_now r.levels

@@ -9,7 +9,7 @@ use Rattle.rb_proc.specs.Acts.{CursorRises, LeavesEnough}
 use Rattle.rb_proc.specs.Contents.{Contents}
 use Rattle.rb_proc.specs.Outcomes.{pieces_in, whole}
 use Rattle.rb_proc.specs.Sees.{FitSizes, see_of}
-use Rattle.rb_proc.proofs.Running.{falls, fetched, leaves, onward, over, ready_here, rises, same_contents, unchanged}
+use Rattle.rb_proc.proofs.Running.{falls, fetched, leaves, names_here, onward, over, ready_here, rises, same_contents, unchanged}
 use Rattle.rb_proc.proofs.run.run.Goals as goal
 
 pub turn-init : goal.turn-init
@@ -20,6 +20,7 @@ turn-init g c = record {
   levels = refl;
   waiting = refl;
   sized = c.requires.sized;
+  work = omega arith;
 }
 
 pub act-requires-clause-ready : goal.act-requires-clause-ready
@@ -100,11 +101,13 @@ turn-preserved g c =
     let i = c.index-instr.result.now in
     let q = fetched code see (IsUnchanged first) calls start most c.turn.at xs m end c.turn.invariant.runs i c.index-instr.ensures in
     let moved = subst (λ (ls : List (Level Copy)). Going c.in-Go.to c.act.new.bench.operands (whole code.texts c.act.new.bench c.act.new.memory c.act.new.mails) ≡ acted code (see_of c.args.sight.now ls) i c.turn.at xs m) c.turn.invariant.levels c.in-Go.ensures.moved in
+    let next = onward code see (IsUnchanged first) calls start most c.turn.at xs m end c.turn.invariant.runs i q c.in-Go.to c.act.new.bench.operands (whole code.texts c.act.new.bench c.act.new.memory c.act.new.mails) moved in
     record {
-      runs = onward code see (IsUnchanged first) calls start most c.turn.at xs m end c.turn.invariant.runs i q c.in-Go.to c.act.new.bench.operands (whole code.texts c.act.new.bench c.act.new.memory c.act.new.mails) moved;
+      runs = next.0;
       levels = c.in-Go.ensures.kept.0 ∙ c.turn.invariant.levels;
       waiting = c.in-Go.ensures.kept.1 ∙ c.turn.invariant.waiting;
       sized = subst (λ (ns : List ℕ). FitSizes ns code.channels) (sym c.in-Go.ensures.sized) c.turn.invariant.sized;
+      work = omega (arith, next.1, c.in-Go.ensures.work, c.turn.invariant.work);
       start = start;
       cursors = c.turn.invariant.cursors;
     }
@@ -210,3 +213,48 @@ returns-in-Accepts-clause-sized g c =
 pub returns-in-Trap-clause-sized : goal.returns-in-Trap-clause-sized
 returns-in-Trap-clause-sized g c =
     subst (λ (ns : List ℕ). FitSizes ns (plain c.args.code.now).channels) (sym c.in-Trap.ensures.sized) c.turn.invariant.sized
+
+pub returns-in-Stop-clause-work : goal.returns-in-Stop-clause-work
+returns-in-Stop-clause-work g c =
+    let code = plain c.args.code.now in
+    let see = see_of c.args.sight.now c.args.memory.now.levels in
+    let first = whole code.texts c.args.bench.now c.args.memory.now c.args.mails.now in
+    let m = whole code.texts c.turn.bench c.turn.memory c.turn.mails in
+    let xs = c.turn.bench.operands in
+    let calls = entry_calls (copy_of (last_of c.args.memory.now.levels)) in
+    let start = c.turn.invariant.start in
+    let most = most_steps code in
+    let end = execute code see most c.args.from c.args.bench.now.operands first in
+    let i = c.index-instr.result.now in
+    let q = fetched code see (IsUnchanged first) calls start most c.turn.at xs m end c.turn.invariant.runs i c.index-instr.ensures in
+    omega (arith, names_here code see (IsUnchanged first) calls start most c.turn.at xs m end c.turn.invariant.runs i q, c.in-Stop.ensures.work, c.turn.invariant.work)
+
+pub returns-in-Accepts-clause-work : goal.returns-in-Accepts-clause-work
+returns-in-Accepts-clause-work g c =
+    let code = plain c.args.code.now in
+    let see = see_of c.args.sight.now c.args.memory.now.levels in
+    let first = whole code.texts c.args.bench.now c.args.memory.now c.args.mails.now in
+    let m = whole code.texts c.turn.bench c.turn.memory c.turn.mails in
+    let xs = c.turn.bench.operands in
+    let calls = entry_calls (copy_of (last_of c.args.memory.now.levels)) in
+    let start = c.turn.invariant.start in
+    let most = most_steps code in
+    let end = execute code see most c.args.from c.args.bench.now.operands first in
+    let i = c.index-instr.result.now in
+    let q = fetched code see (IsUnchanged first) calls start most c.turn.at xs m end c.turn.invariant.runs i c.index-instr.ensures in
+    omega (arith, names_here code see (IsUnchanged first) calls start most c.turn.at xs m end c.turn.invariant.runs i q, c.in-Accepts.ensures.work, c.turn.invariant.work)
+
+pub returns-in-Trap-clause-work : goal.returns-in-Trap-clause-work
+returns-in-Trap-clause-work g c =
+    let code = plain c.args.code.now in
+    let see = see_of c.args.sight.now c.args.memory.now.levels in
+    let first = whole code.texts c.args.bench.now c.args.memory.now c.args.mails.now in
+    let m = whole code.texts c.turn.bench c.turn.memory c.turn.mails in
+    let xs = c.turn.bench.operands in
+    let calls = entry_calls (copy_of (last_of c.args.memory.now.levels)) in
+    let start = c.turn.invariant.start in
+    let most = most_steps code in
+    let end = execute code see most c.args.from c.args.bench.now.operands first in
+    let i = c.index-instr.result.now in
+    let q = fetched code see (IsUnchanged first) calls start most c.turn.at xs m end c.turn.invariant.runs i c.index-instr.ensures in
+    omega (arith, names_here code see (IsUnchanged first) calls start most c.turn.at xs m end c.turn.invariant.runs i q, c.in-Trap.ensures.work, c.turn.invariant.work)

@@ -1,5 +1,5 @@
 use Rattle.rb_proc.specs.Runs.{CursorsRise}
-use Rattle.std.proofs.Common.{ℤ, List, ◌≡◌}
+use Rattle.std.proofs.Common.{ℤ, List, ◌≡◌, ◌≤◌, ◌+◌, ◌*◌}
 use Rattle.rb_world.specs.World.{copy_of, last_of}
 use Rattle.rb_code.specs.Plain.{code as plain}
 use Rattle.rb_code.specs.Act.{execute}
@@ -8,6 +8,7 @@ use Rattle.rb_code.specs.Stays.{entry_calls}
 use Rattle.rb_code.specs.Turn.{most_steps}
 use Rattle.rb_proc.specs.Outcomes.{whole}
 use Rattle.rb_proc.specs.Sees.{AreSized, see_of}
+use Rattle.rb_proc.specs.Work.{named_along}
 use Rattle.rb_proc.proofs.Running.{Runs}
 use Rattle.rb_proc.proofs.run.run.Given as goal
 
@@ -23,6 +24,10 @@ invariant-turn g l = record {
   levels : l.memory.levels ≡ l.fn.memory.levels;
   waiting : l.memory.waiting ≡ l.fn.memory.waiting;
   sized : AreSized (plain l.code) l.mails;
+  -- what was worked so far and what is named from here on are no more than what was named from the start
+  work :
+      l.steps + 3 * named_along (plain l.code) (see_of l.sight l.fn.memory.levels) runs.n l.at l.bench.operands (whole (plain l.code).texts l.bench l.memory l.mails)
+      ≤ l.fn.steps + 3 * named_along (plain l.code) (see_of l.sight l.fn.memory.levels) (most_steps (plain l.code)) l.from l.fn.bench.operands (whole (plain l.code).texts l.fn.bench l.fn.memory l.fn.mails);
 }
 
 abbrev pub decreases-turn : goal.decreases-turn

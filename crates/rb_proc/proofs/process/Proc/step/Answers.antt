@@ -1,4 +1,4 @@
-use Rattle.std.proofs.Common.{◌≡◌, ℕ, false, List, refl, ap, sym, ◌∙◌, subst}
+use Rattle.std.proofs.Common.{◌≡◌, ℕ, ◌+◌, ◌*◌, ◌≤◌, false, List, refl, ap, sym, ◌∙◌, subst, arith}
 use Rattle.rb_world.specs.Kind.{Membership}
 use Rattle.rb_world.specs.World.{Level, Status as Stands}
 use Rattle.rb_code.specs.Plain.{code as plain}
@@ -10,8 +10,9 @@ use Rattle.rb_proc.specs.Runs.{CursorsRise}
 use Rattle.rb_proc.specs.Process.{Seen, StepsTo, alternate_for, message_for, step_of, wanted_by}
 use Rattle.rb_proc.specs.ProcessInside.{seen, standing}
 use Rattle.rb_proc.specs.Statuses.{status_of}
+use Rattle.rb_proc.specs.Work.{named_in_step}
 use Rattle.rb_proc.specs.declared.answers.Outcome.TheVariants as outcome
-use Rattle.rb_proc.proofs.Stepping.{accept_comes, executes, step_safe, step_stays, stop_comes, trap_comes}
+use Rattle.rb_proc.proofs.Stepping.{accept_comes, executes, step_named, step_safe, step_stays, stop_comes, trap_comes}
 use Rattle.rb_proc.proofs.process.Proc.step.Goals as goal
 
 pub run-requires-clause-safe : goal.run-requires-clause-safe
@@ -78,3 +79,36 @@ returns-in-Trap-clause-came g c =
     subst (λ (old : Seen). StepsTo code old.process c.args.mails.now (step_of code old.process c.args.mails.now c.args.there) (outcome.Trap c.in-Trap.cause) ((seen c.run.new.memory i.process i.at i.last_kept i.at_line i.status).process) c.run.new.mails) c.self.view_is
     (trap_comes code ((seen i.memory i.process i.at i.last_kept i.at_line i.status).process) c.args.mails.now c.args.there c.in-Trap.cause _ c.run.new.mails e
     (ap (λ (r : Contents). (seen r i.process i.at i.last_kept i.at_line i.status).process) c.in-Trap.ensures.kept.0) c.in-Trap.ensures.kept.1)
+
+pub returns-in-Stop-clause-work : goal.returns-in-Stop-clause-work
+returns-in-Stop-clause-work g c =
+    let code = plain c.args.code.now in
+    let i = c.self.inside in
+    let wanted = subst (λ (old : Seen). c.args.wanted ≡ wanted_by (want code old.process.state)) (sym c.self.view_is) c.requires.wanted in
+    let same = step_named code i.memory i.process i.at i.last_kept i.at_line i.status c.args.mails.now c.args.there c.clear.new.self c.new-sight.result
+    c.args.wanted c.alternate_of.result c.message_of-message.result wanted c.alternate_of.ensures c.message_of-message.ensures.message
+    c.new-sight.ensures.process c.new-sight.ensures.message c.new-sight.ensures.alternate c.clear.ensures.operands c.clear.ensures.line c.clear.ensures.counters in
+    subst (λ (old : Seen). c.run.new.steps ≤ c.args.steps.now + 1 + 3 * named_in_step code old.process c.args.mails.now c.args.there) c.self.view_is
+    (omega (arith, same, c.message_of-message.ensures.ticks, c.in-Stop.ensures.work))
+
+pub returns-in-Accepts-clause-work : goal.returns-in-Accepts-clause-work
+returns-in-Accepts-clause-work g c =
+    let code = plain c.args.code.now in
+    let i = c.self.inside in
+    let wanted = subst (λ (old : Seen). c.args.wanted ≡ wanted_by (want code old.process.state)) (sym c.self.view_is) c.requires.wanted in
+    let same = step_named code i.memory i.process i.at i.last_kept i.at_line i.status c.args.mails.now c.args.there c.clear.new.self c.new-sight.result
+    c.args.wanted c.alternate_of.result c.message_of-message.result wanted c.alternate_of.ensures c.message_of-message.ensures.message
+    c.new-sight.ensures.process c.new-sight.ensures.message c.new-sight.ensures.alternate c.clear.ensures.operands c.clear.ensures.line c.clear.ensures.counters in
+    subst (λ (old : Seen). c.run.new.steps ≤ c.args.steps.now + 1 + 3 * named_in_step code old.process c.args.mails.now c.args.there) c.self.view_is
+    (omega (arith, same, c.message_of-message.ensures.ticks, c.in-Accepts.ensures.work))
+
+pub returns-in-Trap-clause-work : goal.returns-in-Trap-clause-work
+returns-in-Trap-clause-work g c =
+    let code = plain c.args.code.now in
+    let i = c.self.inside in
+    let wanted = subst (λ (old : Seen). c.args.wanted ≡ wanted_by (want code old.process.state)) (sym c.self.view_is) c.requires.wanted in
+    let same = step_named code i.memory i.process i.at i.last_kept i.at_line i.status c.args.mails.now c.args.there c.clear.new.self c.new-sight.result
+    c.args.wanted c.alternate_of.result c.message_of-message.result wanted c.alternate_of.ensures c.message_of-message.ensures.message
+    c.new-sight.ensures.process c.new-sight.ensures.message c.new-sight.ensures.alternate c.clear.ensures.operands c.clear.ensures.line c.clear.ensures.counters in
+    subst (λ (old : Seen). c.run.new.steps ≤ c.args.steps.now + 1 + 3 * named_in_step code old.process c.args.mails.now c.args.there) c.self.view_is
+    (omega (arith, same, c.message_of-message.ensures.ticks, c.in-Trap.ensures.work))
