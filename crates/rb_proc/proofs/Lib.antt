@@ -5,6 +5,7 @@ pub mod Levels
 pub mod Tied
 pub mod Returns
 pub mod Backs
+pub mod TouchedPlaces
 pub mod Tops
 pub mod Mailed
 pub mod Joins

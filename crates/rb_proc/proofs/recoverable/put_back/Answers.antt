@@ -4,6 +4,7 @@ use Rattle.rb_cell.specs.Store.{Store}
 use Rattle.rb_cache.specs.Copies.{Level as Touched, change_last, copies, copy_at, last_copy, last_or, open_levels}
 use Rattle.rb_proc.proofs.Backs.{clear, last_or-take, length-accepted, length-cleared, out_copies, out_long, out_open}
 use Rattle.rb_proc.proofs.Tied.{copies_long, open_long}
+use Rattle.rb_proc.proofs.TouchedPlaces.{back_pays, going_pays}
 use Rattle.rb_proc.proofs.recoverable.put_back.Goals as goal
 
 pub inner-init : goal.inner-init
@@ -20,6 +21,7 @@ inner-init g c =
       copied = sym (take_all (length ls) cs (omega arith));
       limit = refl;
       limits = refl;
+      work = omega arith;
     }
 
 pub inner-smaller : goal.inner-smaller
@@ -51,6 +53,12 @@ inner-preserved g c =
           c.reject.ensures.levels c.reject.ensures.copies c.accept.ensures.levels c.accept.ensures.copies;
       limit = ap (λ (s : Store). s.limit) c.reject.ensures.cells ∙ i.limit;
       limits = c.accept.ensures.limits ∙ c.reject.ensures.limits ∙ i.limits;
+      work = omega (
+        arith,
+        i.work,
+        c.reject.ensures.ticks,
+        going_pays c.inner.cache c.reject.new.self c.accept.new.self c.reject.ensures.levels c.accept.ensures.levels,
+      );
     }
 
 pub returns-clause-cells : goal.returns-clause-cells
@@ -91,3 +99,7 @@ returns-clause-levels g c =
 
 pub returns-clause-limits : goal.returns-clause-limits
 returns-clause-limits g c = c.reject-2.ensures.limits ∙ c.inner.invariant.limits
+
+pub returns-clause-work : goal.returns-clause-work
+returns-clause-work g c =
+    omega (arith, c.inner.invariant.work, c.reject-2.ensures.ticks, back_pays c.inner.cache c.reject-2.new.self c.reject-2.ensures.levels)

@@ -1,5 +1,6 @@
-use Rattle.std.proofs.Common.{◌≡◌, ◌<◌, ◌≤◌, length, take}
+use Rattle.std.proofs.Common.{◌≡◌, ◌+◌, ◌<◌, ◌≤◌, length, take}
 use Rattle.rb_cache.specs.Copies.{Fits, copies, open_levels}
+use Rattle.rb_proc.specs.Work.{places_touched}
 use Rattle.rb_proc.proofs.recoverable.put_back.Given as goal
 
 abbrev pub decreases-inner : goal.decreases-inner
@@ -14,4 +15,5 @@ invariant-inner g l = record {
   copied : copies l.cells.words l.cache ≡ take (length (open_levels l.cache)) (copies l.initial.cells.words l.initial.cache);
   limit : l.cells.limit ≡ l.initial.cells.limit;
   limits : l.cache.limits ≡ l.initial.cache.limits;
+  work : l.steps + places_touched (open_levels l.cache) ≤ l.initial.steps + places_touched (open_levels l.initial.cache);
 }

@@ -3,6 +3,7 @@ use Rattle.std.specs.Prelude.{get_or, slice_get, vec_capacity}
 use Rattle.rb_cell.specs.Store.{Store}
 use Rattle.rb_hold.specs.Held.{IsLengthOf, TwoLists}
 use Rattle.rb_proc.specs.Contents.{Contents, IsMarkOf, PutBack}
+use Rattle.rb_proc.specs.Work.{places_touched}
 use Rattle.rb_proc.specs.Inside.{IsTied, contents, told}
 use Rattle.rb_proc.specs.declared.recoverable.LevelMark.{LevelMark}
 use Rattle.rb_proc.specs.declared.recoverable.OpenCall.{OpenCall as Held}
@@ -125,3 +126,8 @@ returns-clause-mark g c =
     let within : k < length i.marks.items = omega arith in
     let mark_is : (m : LevelMark) → get_or i.marks.items k m ≡ mark = λ m. same_pick i.marks.items k m mark within ∙ sym c.index-mark.ensures in
     subst (λ (old : Contents). IsMarkOf (slice_get old.levels k) mark) c.self.view_is (mark_of _ _ _ _ _ _ _ t k mark within mark_is)
+
+pub returns-clause-work : goal.returns-clause-work
+returns-clause-work g c =
+    let before = ap (λ (r : Contents). places_touched r.touched) c.self.view_is in
+    omega (arith, c.put_back.ensures.work, c.told-held.ensures.ticks)
