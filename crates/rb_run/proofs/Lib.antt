@@ -11,6 +11,7 @@ pub mod RunWritten
 pub mod Counted
 pub mod Recorded
 pub mod TurnsUnseen
+pub mod TurnsWork
 pub mod Survived
 pub mod NoLines
 -- Cursors count what was sent and taken, in the present and in copies.

@@ -6,6 +6,7 @@ use Rattle.rb_machine.specs.Machine.{Seen}
 use Rattle.rb_run.specs.Counting.{IsMore}
 use Rattle.rb_run.proofs.TurnsTaken.{is_after, led_on, none_waits, ran_all}
 use Rattle.rb_run.proofs.TurnsUnseen.{counted_all, counted_on, none_waiting, rest_same, room_after, room_first}
+use Rattle.rb_run.proofs.TurnsWork.{work_left, work_on, work_through}
 use Rattle.rb_run.proofs.counting.count_turns.Goals as goal
 
 pub turns-init : goal.turns-init
@@ -14,6 +15,7 @@ turns-init g c = record {
   few = c.requires.turns;
   room = room_first (length c.args.schedule.left) c.args.tally.now (omega (arith, c.requires.turns, c.requires.few)) c.requires.room;
   led = refl;
+  work = omega arith;
   counted = refl;
 }
 
@@ -24,7 +26,7 @@ turns-preserved g c =
     let turning = c.turn.new.self in
     let now = c.drop_released.new.self in
     let told = told_of c.turn.new.report.kind c.turn.new.report.events.items turning.waiting in
-    let turned = c.turn.ensures in
+    let turned = c.turn.ensures.turned in
     let waits = c.turns.invariant.waits in
     let none = none_waiting m turning now c.in-Some.p told turned waits c.drop_released.ensures.machine in
     let rest = rest_same m turning now c.in-Some.p told turned waits c.drop_released.ensures.machine in
@@ -35,6 +37,8 @@ turns-preserved g c =
       room = room_after c.turns.schedule.left c.next.new.self.left c.in-Some.p c.turns.tally c.add.new.self c.drop_released.result c.deref.result.now
           parts c.turns.invariant.room c.add.ensures c.drop_released.ensures.few (omega (arith, c.deref.ensures.1));
       led = led_on m turning now c.in-Some.p told turned waits none rest c.turns.schedule.left c.next.new.self.left parts ∙ c.turns.invariant.led;
+      work = work_on m turning now c.in-Some.p told turned waits none rest c.turns.schedule.left c.next.new.self.left parts c.turns.steps c.turn.new.steps
+          (c.args.steps.now + work_left c.args.machine.now c.args.schedule.left) c.turn.ensures.work c.turns.invariant.work;
       counted = counted_on m turning now c.in-Some.p told turned waits c.drop_released.ensures.machine c.turns.schedule.left
           c.next.new.self.left parts c.turns.tally c.add.new.self c.drop_released.result
           (subst (λ (events : List Event). IsMore c.turns.tally c.drop_released.result events c.add.new.self) c.deref.ensures.0 c.add.ensures)

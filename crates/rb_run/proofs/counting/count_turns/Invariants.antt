@@ -3,6 +3,7 @@ use Rattle.std.proofs.Common.{◌≡◌, ◌+◌, ◌≤◌, length}
 use Rattle.rb_run.specs.Counting.{both_counted, counts, told_counts}
 use Rattle.rb_run.specs.Running.{NoneWaits, ran}
 use Rattle.rb_run.proofs.TurnsUnseen.{HasRoom, told_left}
+use Rattle.rb_run.proofs.TurnsWork.{work_left}
 use Rattle.rb_run.proofs.counting.count_turns.Given as goal
 
 abbrev pub invariant-turns : goal.invariant-turns
@@ -11,6 +12,7 @@ invariant-turns g l = record {
   few : l.machine.taken + length l.schedule.left ≤ l.machine.most;
   room : HasRoom (length l.schedule.left) l.tally;
   led : ran l.machine l.schedule.left ≡ ran l.fn.machine l.fn.schedule.left;
+  work : l.steps + work_left l.machine l.schedule.left ≤ l.fn.steps + work_left l.fn.machine l.fn.schedule.left;
   counted : both_counted (counts l.tally) (told_counts (told_left l.machine l.schedule.left))
       ≡ both_counted (counts l.fn.tally) (told_counts (told_left l.fn.machine l.fn.schedule.left));
 }

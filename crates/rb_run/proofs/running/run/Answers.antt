@@ -1,5 +1,5 @@
 -- The three parts of a run, and what each asks for.
-use Rattle.std.proofs.Common.{length}
+use Rattle.std.proofs.Common.{arith, length}
 use Rattle.rb_trace.specs.Ended.{state_of}
 use Rattle.rb_trace.specs.Naming.{naming}
 use Rattle.rb_trace.specs.Report.{told_of}
@@ -7,10 +7,11 @@ use Rattle.rb_world.specs.Text.{end_text, told_text}
 use Rattle.rb_code.specs.WordRun.{word_final}
 use Rattle.rb_run.proofs.RunWritten.{end_fits, ending_text, first_text, is_end, named_now, states_each, stopped_at_first, stopped_at_second, turns_text, waits_now, written_whole}
 use Rattle.rb_run.proofs.TurnsTaken.{turns_left}
+use Rattle.rb_run.proofs.TurnsWork.{work_first}
 use Rattle.rb_run.proofs.running.run.Goals as goal
 
-pub returns-in_err-write_report : goal.returns-in_err-write_report
-returns-in_err-write_report g c =
+pub returns-in_err-write_report-clause-text : goal.returns-in_err-write_report-clause-text
+returns-in_err-write_report-clause-text g c =
     let old = c.args.machine.now in
     let first = first_text old c.requires.fresh c.args.names.now c.requires.fit c.requires.named c.opening-report.result.kind
     c.opening-report.result.events.items c.opening-report.ensures.told in
@@ -30,8 +31,8 @@ take_turns-requires-clause-waits g c =
     waits_now c.args.machine.now c.requires.fresh c.args.names.now c.requires.fit c.write_report.new.lines
     c.in_ok-write_report.ensures.none_waits c.write_report.ensures.rest
 
-pub returns-in_err-take_turns : goal.returns-in_err-take_turns
-returns-in_err-take_turns g c =
+pub returns-in_err-take_turns-clause-text : goal.returns-in_err-take_turns-clause-text
+returns-in_err-take_turns-clause-text g c =
     let old = c.args.machine.now in
     let now = c.write_report.new.lines in
     let first = first_text old c.requires.fresh c.args.names.now c.requires.fit c.requires.named c.opening-report.result.kind
@@ -58,8 +59,8 @@ write_end-requires-clause-fit g c =
     c.in_ok-write_report.ensures.none_waits c.write_report.ensures.rest c.args.schedule.all c.args.schedule.left c.requires.whole
     c.take_turns.new.machine c.in_ok-take_turns.ensures.ran c.opening-report.ensures.sound
 
-pub returns : goal.returns
-returns g c =
+pub returns-clause-text : goal.returns-clause-text
+returns-clause-text g c =
     let old = c.args.machine.now in
     let now = c.write_report.new.lines in
     let later = c.take_turns.new.machine in
@@ -78,4 +79,14 @@ returns g c =
     (turns_left (naming c.args.names.now) now c.args.schedule.left)
     (end_text (naming c.args.names.now) c.turns-turns.result (word_final later.code later.world)) first turns ending
     c.in_ok-write_report.ensures.text c.in_ok-take_turns.ensures.text
-    (c.write_end.ensures (word_final later.code later.world) (is_end later))
+    (c.write_end.ensures.text (word_final later.code later.world) (is_end later))
+
+pub returns-in_err-take_turns-clause-work : goal.returns-in_err-take_turns-clause-work
+returns-in_err-take_turns-clause-work g c =
+    omega (arith, c.take_turns.ensures.work,
+    work_first c.args.machine.now c.write_report.new.lines c.requires.fresh c.write_report.ensures.rest c.args.schedule.left c.args.schedule.all c.requires.whole)
+
+pub returns-clause-work : goal.returns-clause-work
+returns-clause-work g c =
+    omega (arith, c.take_turns.ensures.work, c.write_end.ensures.work,
+    work_first c.args.machine.now c.write_report.new.lines c.requires.fresh c.write_report.ensures.rest c.args.schedule.left c.args.schedule.all c.requires.whole)

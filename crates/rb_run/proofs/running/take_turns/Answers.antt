@@ -4,16 +4,17 @@ use Rattle.rb_trace.specs.Naming.{naming}
 use Rattle.rb_trace.specs.Report.{told_of}
 use Rattle.rb_machine.specs.Machine.{Seen}
 use Rattle.rb_run.proofs.TurnsTaken.{all_written, is_after, led_on, none_waits, processes_now, released_each, stopped_in, turned_each, turns_left, written_on}
+use Rattle.rb_run.proofs.TurnsWork.{work_left, work_on, work_through}
 use Rattle.rb_run.proofs.running.take_turns.Goals as goal
 
 pub write_turn-requires-clause-fit : goal.write_turn-requires-clause-fit
 write_turn-requires-clause-fit g c =
-    ap (λ (m : Seen). length m.waiting) c.turn.ensures.machine ∙ released_each c.turns.machine c.in-Some.p ∙ sym c.turns.invariant.named
+    ap (λ (m : Seen). length m.waiting) c.turn.ensures.turned.machine ∙ released_each c.turns.machine c.in-Some.p ∙ sym c.turns.invariant.named
 
 pub write_turn-requires-clause-processes : goal.write_turn-requires-clause-processes
 write_turn-requires-clause-processes g c =
-    ap (λ (m : Seen). length m.waiting) c.turn.ensures.machine ∙ released_each c.turns.machine c.in-Some.p
-    ∙ sym (ap (λ (m : Seen). length m.world.processes) c.turn.ensures.machine ∙ turned_each c.turns.machine c.in-Some.p)
+    ap (λ (m : Seen). length m.waiting) c.turn.ensures.turned.machine ∙ released_each c.turns.machine c.in-Some.p
+    ∙ sym (ap (λ (m : Seen). length m.world.processes) c.turn.ensures.turned.machine ∙ turned_each c.turns.machine c.in-Some.p)
 
 pub turns-preserved : goal.turns-preserved
 turns-preserved g c =
@@ -24,7 +25,7 @@ turns-preserved g c =
     let none = c.in_ok-write_turn.ensures.none_waits in
     let rest = c.write_turn.ensures.rest in
     let told = told_of c.turn.new.report.kind c.turn.new.report.events.items turning.waiting in
-    let turned = c.turn.ensures in
+    let turned = c.turn.ensures.turned in
     let waits = c.turns.invariant.waits in
     let same = is_after m turning now c.in-Some.p told turned waits none rest in
     record {
@@ -32,6 +33,8 @@ turns-preserved g c =
       waits = none_waits m turning now c.in-Some.p told turned waits none rest;
       few = omega (arith, ap (λ (x : Seen). x.taken) same, ap (λ (x : Seen). x.most) same, ap length parts, c.turns.invariant.few);
       led = led_on m turning now c.in-Some.p told turned waits none rest c.turns.schedule.left c.next.new.self.left parts ∙ c.turns.invariant.led;
+      work = work_on m turning now c.in-Some.p told turned waits none rest c.turns.schedule.left c.next.new.self.left parts c.turns.steps c.turn.new.steps
+          (c.args.steps.now + work_left c.args.machine.now c.args.schedule.left) c.turn.ensures.work c.turns.invariant.work;
       text = written_on m turning now c.in-Some.p told turned waits none rest c.turns.schedule.left c.next.new.self.left parts
           (naming c.args.names.now) turning.taken refl
           (turns_left (naming c.args.names.now) c.args.machine.now c.args.schedule.left)
@@ -44,7 +47,7 @@ pub returns-in_err-write_turn-clause-text : goal.returns-in_err-write_turn-claus
 returns-in_err-write_turn-clause-text g c =
     let turning = c.turn.new.self in
     stopped_in c.turns.machine turning c.in-Some.p
-    (told_of c.turn.new.report.kind c.turn.new.report.events.items turning.waiting) c.turn.ensures
+    (told_of c.turn.new.report.kind c.turn.new.report.events.items turning.waiting) c.turn.ensures.turned
     c.turns.schedule.left c.next.new.self.left c.in-Some.ensures.0 (naming c.args.names.now) turning.taken refl
     (turns_left (naming c.args.names.now) c.args.machine.now c.args.schedule.left)
     (g.S.Sink.written c.args.out.now) (g.S.Sink.written c.turns.out) (g.S.Sink.written c.write_turn.new.out)
@@ -57,3 +60,8 @@ returns-clause-text g c =
     (turns_left (naming c.args.names.now) c.args.machine.now c.args.schedule.left)
     (g.S.Sink.written c.args.out.now) (g.S.Sink.written c.turns.out) (g.S.Sink.faults c.args.out.now) (g.S.Sink.faults c.turns.out)
     c.turns.invariant.text
+
+pub returns-in_err-write_turn-clause-work : goal.returns-in_err-write_turn-clause-work
+returns-in_err-write_turn-clause-work g c =
+    work_through c.turns.machine c.in-Some.p c.turns.schedule.left c.next.new.self.left c.in-Some.ensures.0 c.turns.steps c.turn.new.steps
+    (c.args.steps.now + work_left c.args.machine.now c.args.schedule.left) c.turn.ensures.work c.turns.invariant.work

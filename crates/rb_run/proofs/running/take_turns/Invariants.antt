@@ -4,6 +4,7 @@ use Rattle.rb_trace.specs.Naming.{naming}
 use Rattle.rb_run.specs.Running.{NoneWaits, ran}
 use Rattle.rb_run.proofs.Completes.{Remains}
 use Rattle.rb_run.proofs.TurnsTaken.{turns_left}
+use Rattle.rb_run.proofs.TurnsWork.{work_left}
 use Rattle.rb_run.proofs.running.take_turns.Given as goal
 
 abbrev pub invariant-turns : goal.invariant-turns
@@ -12,6 +13,7 @@ invariant-turns g l = record {
   waits : NoneWaits l.machine;
   few : l.machine.taken + length l.schedule.left ≤ l.machine.most;
   led : ran l.machine l.schedule.left ≡ ran l.fn.machine l.fn.schedule.left;
+  work : l.steps + work_left l.machine l.schedule.left ≤ l.fn.steps + work_left l.fn.machine l.fn.schedule.left;
   text : Remains (turns_left (naming l.names) l.machine l.schedule.left) (turns_left (naming l.names) l.fn.machine l.fn.schedule.left) (g.S.Sink.written l.fn.out) (g.S.Sink.written l.out) (g.S.Sink.faults l.fn.out) (g.S.Sink.faults l.out);
 }
 

@@ -1,6 +1,8 @@
 -- The survivors of all turns, which are those of the meaning.
+use Rattle.std.proofs.Common.{arith, refl}
 use Rattle.rb_run.proofs.Survived.{erased_over}
 use Rattle.rb_run.proofs.TurnsUnseen.{none_waits_first}
+use Rattle.rb_run.proofs.TurnsWork.{work_first}
 use Rattle.rb_run.proofs.surviving.survive.Goals as goal
 
 pub take_unseen-requires-clause-waits : goal.take_unseen-requires-clause-waits
@@ -11,3 +13,11 @@ returns-in-Ok-clause-erased g c = erased_over c.args.machine.now.code c.args.mac
 
 pub returns-in-Err-clause-erased : goal.returns-in-Err-clause-erased
 returns-in-Err-clause-erased g c = erased_over c.args.machine.now.code c.args.machine.now.groups c.args.schedule.all
+
+pub returns-in-Ok-clause-work : goal.returns-in-Ok-clause-work
+returns-in-Ok-clause-work g c =
+    omega (arith, c.take_unseen.ensures.work, work_first c.args.machine.now c.args.machine.now c.requires.fresh refl c.args.schedule.left c.args.schedule.all c.requires.whole)
+
+pub returns-in-Err-clause-work : goal.returns-in-Err-clause-work
+returns-in-Err-clause-work g c =
+    omega (arith, c.take_unseen.ensures.work, work_first c.args.machine.now c.args.machine.now c.requires.fresh refl c.args.schedule.left c.args.schedule.all c.requires.whole)

@@ -4,6 +4,7 @@ use Rattle.rb_trace.specs.Report.{told_of}
 use Rattle.rb_machine.specs.Machine.{Seen}
 use Rattle.rb_run.proofs.TurnsTaken.{is_after, led_on, none_waits, ran_all}
 use Rattle.rb_run.proofs.TurnsUnseen.{none_waiting, rest_same}
+use Rattle.rb_run.proofs.TurnsWork.{work_left, work_on, work_through}
 use Rattle.rb_run.proofs.surviving.take_unseen.Goals as goal
 
 pub turns-preserved : goal.turns-preserved
@@ -13,7 +14,7 @@ turns-preserved g c =
     let turning = c.turn.new.self in
     let now = c.drop_released.new.self in
     let told = told_of c.turn.new.report.kind c.turn.new.report.events.items turning.waiting in
-    let turned = c.turn.ensures in
+    let turned = c.turn.ensures.turned in
     let waits = c.turns.invariant.waits in
     let none = none_waiting m turning now c.in-Some.p told turned waits c.drop_released.ensures.machine in
     let rest = rest_same m turning now c.in-Some.p told turned waits c.drop_released.ensures.machine in
@@ -22,7 +23,9 @@ turns-preserved g c =
       waits = none_waits m turning now c.in-Some.p told turned waits none rest;
       few = omega (arith, ap (λ (x : Seen). x.taken) same, ap (λ (x : Seen). x.most) same, ap length parts, c.turns.invariant.few);
       led = led_on m turning now c.in-Some.p told turned waits none rest c.turns.schedule.left c.next.new.self.left parts ∙ c.turns.invariant.led;
+      work = work_on m turning now c.in-Some.p told turned waits none rest c.turns.schedule.left c.next.new.self.left parts c.turns.steps c.turn.new.steps
+          (c.args.steps.now + work_left c.args.machine.now c.args.schedule.left) c.turn.ensures.work c.turns.invariant.work;
     }
 
-pub returns : goal.returns
-returns g c = sym (ran_all c.turns.machine c.turns.schedule.left c.in_default.ensures.0) ∙ c.turns.invariant.led
+pub returns-clause-machine : goal.returns-clause-machine
+returns-clause-machine g c = sym (ran_all c.turns.machine c.turns.schedule.left c.in_default.ensures.0) ∙ c.turns.invariant.led

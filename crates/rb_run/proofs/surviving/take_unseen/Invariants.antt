@@ -1,6 +1,7 @@
 -- The turns that are left lead to where all of them lead.
 use Rattle.std.proofs.Common.{◌≡◌, ◌+◌, ◌≤◌, length}
 use Rattle.rb_run.specs.Running.{NoneWaits, ran}
+use Rattle.rb_run.proofs.TurnsWork.{work_left}
 use Rattle.rb_run.proofs.surviving.take_unseen.Given as goal
 
 abbrev pub invariant-turns : goal.invariant-turns
@@ -8,6 +9,7 @@ invariant-turns g l = record {
   waits : NoneWaits l.machine;
   few : l.machine.taken + length l.schedule.left ≤ l.machine.most;
   led : ran l.machine l.schedule.left ≡ ran l.fn.machine l.fn.schedule.left;
+  work : l.steps + work_left l.machine l.schedule.left ≤ l.fn.steps + work_left l.fn.machine l.fn.schedule.left;
 }
 
 abbrev pub decreases-turns : goal.decreases-turns

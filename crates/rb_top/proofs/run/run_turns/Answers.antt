@@ -33,5 +33,5 @@ returns-in-Ok g c =
     let meant = word_text (code prepared.code) (memberships (opening prepared.nested)) turns in
     text_ends (λ judgement. judgement ≡ Writes meant) _ c.status_after.result (word_text machine.code machine.groups turns)
     (g.S.Sink.written c.args.out.now) (g.S.Sink.written c.run.new.out) (g.S.Sink.faults c.args.out.now) (g.S.Sink.faults c.run.new.out)
-    c.run.ensures c.status_after.ensures
+    c.run.ensures.text c.status_after.ensures
     (ap (λ (m : Seen). Writes (word_text m.code m.groups turns)) c.in-Ok.ensures)
