@@ -26,6 +26,9 @@ pub mod KnownTurns
 -- What a load asks of code, and what it makes of it.
 pub mod ExecutableCode
 pub mod FirstProcesses
+-- Before the first turn no line is held.
+pub mod HeldWhileSettling
+pub mod FirstHeld
 pub mod Opens
 pub mod TurnOfParts
 pub mod MachineRuns
@@ -62,9 +65,11 @@ pub mod LentAtWork
 -- A turn that touches no process but its own.
 pub mod Alone
 pub mod Finished
+-- The ticks of a turn.
+pub mod ReleaseWork
+pub mod TurnWork
 pub mod ReadyFor
 -- The laws of turns: what is known of each world of a run orders it, and so its turns keep them.
-pub mod HeldWhileSettling
 pub mod BrokenTalks
 pub mod OrderedRuns
 pub mod RejectionsTold
