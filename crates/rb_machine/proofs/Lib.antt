@@ -63,6 +63,8 @@ pub mod LentAtWork
 pub mod Alone
 pub mod Finished
 pub mod ReadyFor
+-- What a turn costs before lines are released.
+pub mod MoveWork
 -- The laws of turns: what is known of each world of a run orders it, and so its turns keep them.
 pub mod HeldWhileSettling
 pub mod BrokenTalks
