@@ -69,6 +69,8 @@ pub mod Finished
 pub mod ReleaseWork
 pub mod TurnWork
 pub mod ReadyFor
+-- What a turn costs before lines are released.
+pub mod MoveWork
 -- The laws of turns: what is known of each world of a run orders it, and so its turns keep them.
 pub mod BrokenTalks
 pub mod OrderedRuns
