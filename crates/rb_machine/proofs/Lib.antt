@@ -6,6 +6,9 @@ pub mod KnownHere
 pub mod TestLines
 pub mod TakenSteps
 pub mod StepTaken
+-- What is named on the way to the next turn, and the work of a step.
+pub mod LineWork
+pub mod StepWork
 -- How many processes and conversations there are, that levels are few, and that who has failed has none.
 pub mod Sizes
 -- Who stands where, with which levels.
