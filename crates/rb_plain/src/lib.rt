@@ -24,8 +24,6 @@ mod room;
 pub mod state;
 mod steps;
 mod test_line;
-#[cfg(test)]
-mod tests;
 mod turn;
 pub mod value;
 mod values;

@@ -16,8 +16,6 @@ pub mod recoverable;
 mod room;
 pub mod run;
 pub mod sight;
-#[cfg(test)]
-mod tests;
 pub mod wants;
 pub mod words;
 
