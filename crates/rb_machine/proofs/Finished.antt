@@ -88,15 +88,16 @@ state_same : (c : Code) (levels : List (Level Copy)) (s : Standing) → HoldsNon
 state_same c [] s none = none.0
 state_same c (level ∷ levels) s none = refl
 
-no_lines : (c : Code) (levels : List (Level Copy)) (s : Standing) → HoldsNone levels s → lines_freed (kind_of c) s levels ≡ []
-no_lines c [] s none = none.1
-no_lines c (level ∷ levels) s none = refl
+pub no_lines : (c : Code) (groups : List Membership) (levels : List (Level Copy)) (s : Standing) → HoldsNone levels s
+    → lines_freed (word_kind c groups) s levels ≡ []
+no_lines c groups [] s none = none.1
+no_lines c groups (level ∷ levels) s none = refl
 
 freed_same : (c : Code) (one : Seen) → IsFreed one.process → one.waiting ≡ [] → one ≡ freed_one c one
 freed_same c one free none =
     let q = one.process in
     let state = state_same c q.levels q.state free in
-    let lines = no_lines c q.levels q.state free in
+    let lines = no_lines c [] q.levels q.state free in
     ap (λ (waiting : List (List ℕ)). record { process = q; waiting = waiting }) (none ∙ sym lines)
     ∙ ap (λ (s : Standing). record {
       process = record { state = s; levels = q.levels; at_line = q.at_line; status = q.status };

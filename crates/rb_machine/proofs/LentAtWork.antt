@@ -61,7 +61,7 @@ tied_same c old new running taken most before released tied processes mails tabl
       (subst (λ links. IsAtWork c (taken + 1) new.procs.items old.table old.mails.items links.items) (sym links)
       (same_work c (taken + 1) old.procs.items new.procs.items old.table old.mails.items old.links.items processes tied.work)));
   running_is = tied.running_is ∙ ap running_of (sym processes);
-  freed = λ some. subst AreFreed (sym processes) (tied.freed some);
+  freed = subst AreFreed (sym processes) tied.freed;
   none_waits = none;
   links_few = subst (λ links. vec_len links ≤ taken) (sym links) tied.links_few;
   links_room = subst (λ links. most ≤ vec_capacity links) (sym links) tied.links_room;

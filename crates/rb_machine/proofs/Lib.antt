@@ -6,6 +6,9 @@ pub mod KnownHere
 pub mod TestLines
 pub mod TakenSteps
 pub mod StepTaken
+-- What is named on the way to the next turn, and the work of a step.
+pub mod LineWork
+pub mod StepWork
 -- How many processes and conversations there are, that levels are few, and that who has failed has none.
 pub mod Sizes
 -- Who stands where, with which levels.
@@ -26,6 +29,9 @@ pub mod KnownTurns
 -- What a load asks of code, and what it makes of it.
 pub mod ExecutableCode
 pub mod FirstProcesses
+-- Before the first turn no line is held.
+pub mod HeldWhileSettling
+pub mod FirstHeld
 pub mod Opens
 pub mod TurnOfParts
 pub mod MachineRuns
@@ -63,9 +69,13 @@ pub mod LentAtWork
 -- A turn that touches no process but its own.
 pub mod Alone
 pub mod Finished
+-- The ticks of a turn.
+pub mod ReleaseWork
+pub mod TurnWork
 pub mod ReadyFor
+-- What a turn costs before lines are released.
+pub mod MoveWork
 -- The laws of turns: what is known of each world of a run orders it, and so its turns keep them.
-pub mod HeldWhileSettling
 pub mod BrokenTalks
 pub mod OrderedRuns
 pub mod RejectionsTold

@@ -25,8 +25,10 @@ use Rattle.rb_machine.specs.AtWork.{HasFewAlternates, IsAtWork}
 use Rattle.rb_machine.specs.Known.{IsKnown, IsLoaded}
 use Rattle.rb_machine.specs.Loading.{AllSettle, first_seen}
 use Rattle.rb_machine.specs.Machine.{Seen as Machine, opening_seen}
+use Rattle.rb_machine.specs.Telling.{AreFreed}
 use Rattle.rb_machine.specs.Worlds.{counts_of, lines_of, memory_of, processes_of, world_of}
 use Rattle.rb_machine.specs.declared.links.Link.{Link}
+use Rattle.rb_machine.proofs.FirstHeld.{opening_freed}
 use Rattle.rb_machine.proofs.KnownTurns.{known_opening}
 use Rattle.rb_machine.proofs.Sizes.{opening-processes}
 
@@ -123,3 +125,9 @@ module _ (c : Code) (nested : Nested) (loaded : IsLoaded c (memberships (opening
         sized = zero_fits c.channels;
         turns = omega arith;
       }))))
+
+  -- and no line is held
+  pub opens_freed : (procs : List Seen) → procs ≡ firsts → AreFreed (processes_of procs)
+  opens_freed procs first =
+      subst (λ (ps : List Seen). AreFreed (processes_of ps)) (sym first)
+      (opening_freed c groups loaded.sound.table loaded.sound.has loaded.sound.well.lists)

@@ -1,6 +1,6 @@
 -- Every world of a run of sound code is ordered, as the laws of turns ask: levels are nested, and are those of members; an outermost
 -- conversation is entered with no level; a conversation that is broken lies in no other; and no line is left to release.
-use Rattle.std.proofs.Common.{◌≡◌, ℕ, ◌+◌, ℤ, pos, true, false, List, [], ◌∷◌, slice_get, slice_set, Option, Some, None, refl, sym, ap, ◌∙◌, subst, arith}
+use Rattle.std.proofs.Common.{◌≡◌, ℕ, ◌+◌, ℤ, pos, true, false, List, [], ◌∷◌, slice_get, slice_set, Option, Some, None, refl, sym, ap, subst}
 use Rattle.rb_world.specs.Kind.{Enters, Facts, Kind, Membership}
 use Rattle.rb_world.specs.Reject.{parent_of}
 use Rattle.rb_world.specs.Standing.{Each, is_failed}
@@ -10,29 +10,21 @@ use Rattle.rb_world.proofs.EachProcess.{settled_each}
 use Rattle.rb_world.proofs.ListFacts.{none_some}
 use Rattle.rb_world.proofs.Members.PassTogether.{map_found}
 use Rattle.rb_world.proofs.Members.Together.{IsOrdered}
-use Rattle.rb_code.specs.Plain.{Code, Part}
-use Rattle.rb_code.specs.Memory.{body_place, held_place, word_at}
+use Rattle.rb_code.specs.Plain.{Code}
+use Rattle.rb_code.specs.Memory.{held_place}
 use Rattle.rb_code.specs.Sound.{HasTable, Table}
 use Rattle.rb_code.specs.Stands.{Stands}
 use Rattle.rb_code.specs.StandsInRuns.{StandsNow}
-use Rattle.rb_code.specs.Turn.{Common, Copy, Standing, settle, want}
+use Rattle.rb_code.specs.Turn.{Common, Copy, Standing, want}
 use Rattle.rb_code.specs.WellFormed.{ListsChannels}
 use Rattle.rb_code.specs.WordKind.{copied, released, word_kind}
-use Rattle.rb_code.specs.WordRun.{WordWorld, opening_of, opening_standing, opening_standings, word_run}
-use Rattle.rb_code.proofs.StandsAgain.{opening_settles}
+use Rattle.rb_code.specs.WordRun.{WordWorld, opening_of, opening_standings, word_run}
 use Rattle.rb_machine.specs.Known.{IsKnown, IsLoaded, IsPlaced}
 use Rattle.rb_machine.proofs.BrokenTalks.{AllOuterIfBroken, opening_outer, turn_outer}
-use Rattle.rb_machine.proofs.FirstProcesses.{opens_at}
-use Rattle.rb_machine.proofs.HeldWhileSettling.{Holds, settling_holds}
+use Rattle.rb_machine.proofs.FirstHeld.{opening_holds_none}
 use Rattle.rb_machine.proofs.KnownTurns.{known_opening, known_turn}
 use Rattle.rb_machine.proofs.Placed.Behind.{IsBusy, behind, behind_may}
 use Rattle.rb_machine.proofs.Placed.NewLevel.{EndIn, MayOpen, entry_opens}
-use Rattle.rb_machine.proofs.WordsKept.{word_zero}
-
--- the first word of those whose first word is 0 is set to 0
-set_zero : (words : List ℤ) → word_at words held_place ≡ pos 0 → slice_set words held_place (pos 0) ≡ words
-set_zero [] e = refl
-set_zero (x ∷ words) e = ap (λ (y : ℤ). y ∷ words) (sym e)
 
 set_again : (words : List ℤ) → slice_set (slice_set words held_place (pos 0)) held_place (pos 0) ≡ slice_set words held_place (pos 0)
 set_again [] = refl
@@ -61,29 +53,14 @@ module _ (c : Code) (groups : List Membership) where
       subst (λ (y : Process Standing Copy). freed Words y ≡ y) found.2
       (ap (λ (s : Standing). record { state = s; levels = x.levels; at_line = x.at_line; status = x.status }) (freed_again x.state x.levels))
 
-  -- nor are there any of a process that holds nothing
-  nothing_released : (s : Standing) → Holds [] (pos 0) s.held s.words → released s ≡ s
-  nothing_released s h =
-      ap (λ (words : List ℤ). record s { held = []; words = words }) (set_zero s.words h.1)
-      ∙ ap (λ (lines : List (List ℕ)). record s { held = lines }) (sym h.0)
-
 module _ (c : Code) (groups : List Membership) (t : Table) (has : HasTable c groups t) (lists : ListsChannels c) where
-  opening_holds : (r : ℕ) (part : Part) → slice_get c.processes r ≡ Some part
-      → Holds [] (pos 0) (settle c None (opening_standing r part)).held (settle c None (opening_standing r part)).words
-  opening_holds r part e =
-      let h = settling_holds c groups t has lists (opening_standing r part) [] (opening_settles c t groups has r part e) in
-      (h.0, h.1 ∙ word_zero (body_place part) held_place)
-
   opening_quiet : Each (IsQuiet c groups) (opening_of c groups).processes
   opening_quiet =
       settled_each (word_kind c groups) (IsQuiet c groups) (opening_standings 0 c.processes)
       (λ r s e.
-      let h = opens_at 0 r c.processes s e in
-      let is : s ≡ opening_standing r h.0 = h.2 ∙ ap (λ n. opening_standing n h.0) (omega arith) in
-      subst (λ (x : Standing). IsQuiet c groups r (settled (word_kind c groups) x [])) (sym is)
-      (let q : Process Standing Copy = settled (word_kind c groups) (opening_standing r h.0) [] in
+      let q : Process Standing Copy = settled (word_kind c groups) s [] in
       ap (λ (s : Standing). record { state = s; levels = []; at_line = false; status = q.status })
-      (nothing_released c groups q.state (opening_holds r h.0 h.1))))
+      (opening_holds_none c groups t has lists r s e).0)
 
   -- Who enters a conversation at no line has the levels that its block asks for, unless it has failed, when it has none.
   enters_open : (p : ℕ) (q : Process Standing Copy) (new : Level Copy) → IsPlaced c groups t p q → Stands c t q.state q.levels

@@ -6,7 +6,7 @@ use Rattle.rb_world.specs.Slots.{Slots}
 use Rattle.rb_code.specs.Plain.{Code}
 use Rattle.rb_code.specs.Sound.{IsReceiver}
 use Rattle.rb_code.specs.Turn.{Common, want}
-use Rattle.rb_conv.specs.Conversations.{Conversation}
+use Rattle.rb_conv.specs.Conversations.{Conversation, memberships}
 use Rattle.rb_proc.specs.Process.{Seen, message_for, wanted_of}
 use Rattle.rb_proc.specs.declared.answers.Wanted.{Wanted}
 use Rattle.rb_proc.specs.declared.answers.Wanted.TheVariants as wanted
@@ -17,6 +17,7 @@ use Rattle.rb_machine.specs.Worlds.{kind_with, world_of}
 use Rattle.rb_machine.specs.declared.links.Link.{Link}
 use Rattle.rb_machine.specs.declared.moves.ReadyFor.TheVariants as ready
 use Rattle.rb_machine.proofs.Acting.{answered, done_idles, is_done, is_entry, is_maybe, is_message, look_steps, receipt_steps, receipt_waits, send_steps, send_waits, starts_or_acts, step_steps}
+use Rattle.rb_machine.proofs.MoveWork.{look_names, receipt_names, send_names, step_names}
 use Rattle.rb_machine.proofs.Receivers.{takes_as_receiver, waits_as_receiver}
 use Rattle.rb_machine.proofs.RoomsAndMessages.{given_is_taken, given_is_taken_if_there}
 
@@ -53,6 +54,7 @@ module _ (c : Code) (procs : List Seen) (p : ℕ) where
     steps_ready e x table memory t there = (
       starts_or_acts (want c x.process.state) answer (sym (wants x there)) e,
       step_steps c (kind_with c table) t p x.process (world_of procs table memory) memory.slots answer (sym (wants x there)) e,
+      step_names c (memberships table) t p x.process (world_of procs table memory) memory.slots answer (sym (wants x there)) e,
     )
 
     -- who takes a message is the receiver
@@ -73,6 +75,7 @@ module _ (c : Code) (procs : List Seen) (p : ℕ) where
     send_ready room x table memory t there = (
       subst (IsStep false) (sym (wants x there)) tt,
       send_steps c (kind_with c table) t p x.process (world_of procs table memory) memory.slots channel (wants x there) (room table memory),
+      send_names c (memberships table) t p x.process (world_of procs table memory) memory.slots channel (wants x there) (room table memory),
     )
 
     pub send_unready : ((table : List Conversation) (memory : Common) → has_room (kind_with c table) (world_of procs table memory) channel ≡ false)
@@ -96,6 +99,8 @@ module _ (c : Code) (procs : List Seen) (p : ℕ) where
         subst (IsStep true) (sym (wants x there)) refl,
         receipt_steps c (kind_with c table) t p x.process (world_of procs table memory) memory.slots channel (wants x there)
             (taken true e x table memory there),
+        receipt_names c (memberships table) t p x.process (world_of procs table memory) memory.slots channel (wants x there)
+            (taken true e x table memory there),
       )
 
       pub receipt_unready : seen ≡ false → IsReadyAt c procs p ready.Waits
@@ -106,8 +111,9 @@ module _ (c : Code) (procs : List Seen) (p : ℕ) where
     -- a look for one, whatever is there
     pub look_ready : ((x : Seen) → slice_get procs p ≡ Some x → want c x.process.state ≡ MayReceiveOn channel)
         → IsReadyAt c procs p (ready.Steps seen)
-    look_ready wants x table memory t there = (
-      subst (IsStep seen) (sym (wants x there)) tt,
-      look_steps c (kind_with c table) t p x.process (world_of procs table memory) memory.slots seen channel (wants x there)
-          (given table memory ∙ given_is_taken_if_there c procs numbered memory.slots p channel x seen there),
-    )
+    look_ready wants x table memory t there =
+        let is = given table memory ∙ given_is_taken_if_there c procs numbered memory.slots p channel x seen there in (
+          subst (IsStep seen) (sym (wants x there)) tt,
+          look_steps c (kind_with c table) t p x.process (world_of procs table memory) memory.slots seen channel (wants x there) is,
+          look_names c (memberships table) t p x.process (world_of procs table memory) memory.slots seen channel (wants x there) is,
+        )

@@ -56,7 +56,7 @@ pub record AtStep (c : Code) (turn p : ℕ) (there : Bool) (procs : List Seen) (
 
 module _ {c : Code} {turn p : ℕ} {there : Bool} {procs : List Seen} {table : List Conversation} {slots : Slots} {links : List Linked}
     (at : AtStep c turn p there procs table slots links) where
-  may : (one : Seen) → slice_get procs p ≡ Some one → MayStep c slots there one
+  pub may : (one : Seen) → slice_get procs p ≡ Some one → MayStep c slots there one
   may one here =
       may_step c table at.work.loaded (turn + 1) procs (memory_of slots links) at.work.known slots there p one here at.waits (at.acting one here) (at.wants one here)
       at.work.turns
@@ -80,7 +80,7 @@ module _ {c : Code} {turn p : ℕ} {there : Bool} {procs : List Seen} {table : L
         steps (kind_with c table) turn p (alternate_for (want c one.process.state) one.process.levels)
         (message_for c one.process.state slots there (want c one.process.state)) one.process (world_of procs table (memory_of slots links))
 
-    number : one.process.state.process ≡ p
+    pub number : one.process.state.process ≡ p
     number = (at.work.known.placed p one.process (process_there procs p one here)).number
 
     -- the process after the step stands where it stood
@@ -129,7 +129,7 @@ module _ {c : Code} {turn p : ℕ} {there : Bool} {procs : List Seen} {table : L
     -- its acceptance test held
     module _ (slots' : Slots) (procs1 procs2 procs3 procs4 : List Seen) (stepping : HasStepped c there p one outcome.Accepts slots slots' procs procs1)
         (same : procs2 ≡ procs1) (kept : procs3 ≡ change_at p (turn_kept turn) procs2) (again : procs4 ≡ procs3) where
-      kept1 : procs4 ≡ change_at p (turn_kept turn) procs1
+      pub kept1 : procs4 ≡ change_at p (turn_kept turn) procs1
       kept1 = again ∙ (kept ∙ ap (change_at p (turn_kept turn)) same)
 
       abbrev holder : Seen
@@ -179,7 +179,7 @@ module _ {c : Code} {turn p : ℕ} {there : Bool} {procs : List Seen} {table : L
     -- it trapped
     module _ (slots' : Slots) (procs1 procs2 : List Seen) (cause : Cause)
         (stepping : HasStepped c there p one (outcome.Trap cause) slots slots' procs procs1) (again : procs2 ≡ procs1) where
-      unchanged : procs2 ≡ procs
+      pub unchanged : procs2 ≡ procs
       unchanged = again ∙ taken.same_processes c table slots links there turn p one procs here (may one here) number slots' procs1 cause stepping
 
       -- the levels that are counted are those that the process had

@@ -151,7 +151,7 @@ module _ (c : Code) (table : List Conversation) (slots : Slots) (links : List Li
     abbrev pub holder : Seen
     holder = turn_kept turn (calm stepping.later)
 
-    held : HeldTest one.process slots (step_of c one.process slots there) stepping.later slots'
+    pub held : HeldTest one.process slots (step_of c one.process slots there) stepping.later slots'
     held = held_test c one.process slots (step_of c one.process slots there) stepping.later slots' stepping.comes
 
     abbrev at_test : Standing
@@ -160,7 +160,7 @@ module _ (c : Code) (table : List Conversation) (slots : Slots) (links : List Li
     pub put_held : procs2 ≡ change_at p (λ _. holder) procs
     put_held = kept ∙ (ap (change_at p (turn_kept turn)) stepping.processes ∙ change_after p (turn_kept turn) (calm stepping.later) procs)
 
-    holder_is : holder.process ≡ record one.process { state = at_test }
+    pub holder_is : holder.process ≡ record one.process { state = at_test }
     holder_is = ap (λ (q : Process Standing Copy). (turn_kept turn (calm q)).process) held.process
 
     only_address : held.later ≡ record one.process.state { at = held.later.at }

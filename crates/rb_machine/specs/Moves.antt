@@ -1,21 +1,23 @@
 -- What a turn of a world comes to, before lines are released, as the machine's parts have it.
 use Rattle.std.specs.Prelude.{◌≡◌, ◌≤◌, ◌+◌, ℕ, List, [], ◌∷◌, length, slice_get, Option, Some, None}
 use Rattle.rb_base.specs.declared.event.Event.{Event}
-use Rattle.rb_world.specs.Kind.{Kind, Want, NothingLeft, SendsOn, ReceivesOn, MayReceiveOn, Enters, Starts, Acts}
+use Rattle.rb_world.specs.Kind.{Membership, Want, NothingLeft, SendsOn, ReceivesOn, MayReceiveOn, Enters, Starts, Acts}
 use Rattle.rb_world.specs.Slots.{Slots}
 use Rattle.rb_world.specs.Turn.{Moved, acts, idles, steps, waits}
 use Rattle.rb_world.specs.World.{Process}
 use Rattle.rb_code.specs.Plain.{Code}
 use Rattle.rb_code.specs.Sound.{IsReceiver}
 use Rattle.rb_code.specs.Turn.{Common, Copy, Standing, want}
+use Rattle.rb_code.specs.WordKind.{word_kind}
 use Rattle.rb_code.specs.WordRun.{WordWorld}
-use Rattle.rb_conv.specs.Conversations.{Conversation}
+use Rattle.rb_conv.specs.Conversations.{Conversation, memberships}
 use Rattle.rb_proc.specs.Process.{Seen, alternate_for, message_for, wanted_by}
 use Rattle.rb_proc.specs.declared.answers.Wanted.{Wanted}
 use Rattle.rb_proc.specs.Sees.{AreSized}
 use Rattle.rb_machine.specs.AtWork.{IsAtWork, IsStep}
 use Rattle.rb_machine.specs.Cascade.{SameGroups}
-use Rattle.rb_machine.specs.Worlds.{NoneWaits, kind_with, memory_of, world_of}
+use Rattle.rb_machine.specs.Work.{named_by_acts, named_by_steps}
+use Rattle.rb_machine.specs.Worlds.{NoneWaits, memory_of, world_of}
 use Rattle.rb_machine.specs.declared.came.Came.{Came}
 use Rattle.rb_machine.specs.declared.moves.ReadyFor.{ReadyFor}
 use Rattle.rb_machine.specs.declared.moves.ReadyFor.TheVariants as ready
@@ -59,21 +61,23 @@ WantsBlock b (Enters facts) = facts.number ≡ b
 WantsBlock b _ = ⊥
 
 -- What process number p does in its turn, by what it is ready for: it idles, waits, enters a block, or steps, with the message that is there
--- or without one.
-abbrev pub IsReadyFor : Code → Kind Standing Copy Common → ℕ → ℕ → Process Standing Copy → WordWorld → Slots → ReadyFor → Type 0
-IsReadyFor c k t p q w slots ready.Idle = acts k t p q w (want c q.state) ≡ idles w
-IsReadyFor c k t p q w slots ready.Waits = acts k t p q w (want c q.state) ≡ waits w
-IsReadyFor c k t p q w slots (ready.Enters b) = WantsBlock b (want c q.state)
-IsReadyFor c k t p q w slots (ready.Steps there) =
+-- or without one; and a step names the words that count for what stands first.
+abbrev pub IsReadyFor : Code → List Membership → ℕ → ℕ → Process Standing Copy → WordWorld → Slots → ReadyFor → Type 0
+IsReadyFor c groups t p q w slots ready.Idle = acts (word_kind c groups) t p q w (want c q.state) ≡ idles w
+IsReadyFor c groups t p q w slots ready.Waits = acts (word_kind c groups) t p q w (want c q.state) ≡ waits w
+IsReadyFor c groups t p q w slots (ready.Enters b) = WantsBlock b (want c q.state)
+IsReadyFor c groups t p q w slots (ready.Steps there) =
     IsStep there (want c q.state)
-    × (acts k t p q w (want c q.state)
-    ≡ steps k t p (alternate_for (want c q.state) q.levels) (message_for c q.state slots there (want c q.state)) q w)
+    × (acts (word_kind c groups) t p q w (want c q.state)
+    ≡ steps (word_kind c groups) t p (alternate_for (want c q.state) q.levels) (message_for c q.state slots there (want c q.state)) q w)
+    × (named_by_acts c groups t p q w (want c q.state)
+    ≡ named_by_steps c groups t p (alternate_for (want c q.state) q.levels) (message_for c q.state slots there (want c q.state)) q w)
 
 -- the same of whoever stands at that number, in every turn and with every table
 abbrev pub IsReadyAt : Code → List Seen → ℕ → ReadyFor → Type 0
 IsReadyAt c procs p one =
     (x : Seen) (table : List Conversation) (memory : Common) (t : ℕ) → slice_get procs p ≡ Some x
-    → IsReadyFor c (kind_with c table) t p x.process (world_of procs table memory) memory.slots one
+    → IsReadyFor c (memberships table) t p x.process (world_of procs table memory) memory.slots one
 
 -- it is ready for an entry
 abbrev pub IsEntryReady : ReadyFor → Type 0

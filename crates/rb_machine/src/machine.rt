@@ -217,7 +217,7 @@ fn turn<L: Ledger>(
     requires freed { AreFreed (processes_of parts.old.procs.items) }
     ensures turned { (world parts.new, told_of report.new.kind report.new.events.items (lines_of parts.new.procs.items)) ≡ turn (kind_with (plain code.now) parts.old.table) number p (world parts.old) }
     ensures groups { SameGroups parts.old.table parts.new.table }
-    ensures work { IsAtWork (plain code.now) (number + 1) parts.new.procs.items parts.new.table parts.new.mails.items parts.new.links.items }
+    ensures at_work { IsAtWork (plain code.now) (number + 1) parts.new.procs.items parts.new.table parts.new.mails.items parts.new.links.items }
     ensures running { running.new ≡ running_of (processes_of parts.new.procs.items) }
     ensures freed { AreFreed (processes_of parts.new.procs.items) }
     ensures none_waits { result ≡ false → NoneWaits parts.new.procs.items }

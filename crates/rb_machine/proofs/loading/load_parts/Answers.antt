@@ -11,7 +11,7 @@ use Rattle.rb_machine.specs.Machine.{Seen as Machine}
 use Rattle.rb_machine.specs.Telling.{running_of}
 use Rattle.rb_machine.specs.Worlds.{processes_of}
 use Rattle.rb_machine.proofs.ExecutableCode.{is_executable}
-use Rattle.rb_machine.proofs.Opens.{channels_sized, opens_as, opens_at_work, settles}
+use Rattle.rb_machine.proofs.Opens.{channels_sized, opens_as, opens_at_work, opens_freed, settles}
 use Rattle.rb_machine.proofs.TurnOfParts.{none_wait}
 use Rattle.rb_machine.proofs.loading.load_parts.Goals as goal
 
@@ -46,7 +46,7 @@ returns-clause-tied g c = record {
       (c.in_ok-mails.ensures ∙ ap (λ (channels : List ChannelCode). zero_slots (map channel channels)) c.deref.ensures.value)
       c.in_ok-links.ensures.items;
   running_is = c.in_ok-running.ensures ∙ ap (λ (procs : List Seen). running_of (processes_of procs)) c.deref-2.ensures.value;
-  freed = λ some. absurd (omega (arith, some));
+  freed = opens_freed (plain c.args.code.now) c.args.nested.now c.requires.loaded _ c.in_ok-procs.ensures;
   none_waits = λ _. none_wait _ (length (plain c.args.code.now).processes) (ap (λ (machine : Machine). machine.waiting) (returns-clause-seen g c));
   links_few = omega (arith, c.in_ok-links.ensures.len);
   links_room = omega (arith, c.in_ok-links.ensures.capacity);

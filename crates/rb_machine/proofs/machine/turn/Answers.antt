@@ -1,7 +1,7 @@
 -- What a turn of the parts told and left is what the turn of the word machine does.
 use Rattle.std.proofs.Common.{List, ◌++◌, length, map, ap, sym, ◌∙◌, subst, arith}
 use Rattle.std.proofs.lemmas.List.{with_items_is}
-use Rattle.rb_world.specs.Turn.{Told, freed, lines_freed}
+use Rattle.rb_world.specs.Turn.{Told, freed, freed_lines, lines_freed}
 use Rattle.rb_world.specs.World.{Process}
 use Rattle.rb_code.specs.Turn.{Copy, Standing}
 use Rattle.rb_code.specs.WordKind.{word_kind}
@@ -9,12 +9,13 @@ use Rattle.rb_code.specs.Plain.{code as plain}
 use Rattle.rb_code.specs.WordRun.{WordWorld}
 use Rattle.rb_conv.specs.Conversations.{memberships}
 use Rattle.rb_proc.specs.Process.{Seen}
-use Rattle.rb_machine.specs.Moves.{passes_of}
+use Rattle.rb_machine.specs.Moves.{passes_of, world}
 use Rattle.rb_machine.specs.Telling.{AreFreed, WasAlone, ends_told, running_of}
 use Rattle.rb_machine.specs.Worlds.{NoneWaits, lines_of, processes_of}
 use Rattle.rb_machine.proofs.Alone.{no_passes}
 use Rattle.rb_machine.proofs.Finished.{all_freed}
 use Rattle.rb_machine.proofs.TurnOfParts.{few_after, running_after, running_as_many, turns_to, was_alone, works_on}
+use Rattle.rb_machine.proofs.TurnWork.{entry_adds_nothing, turn_costs}
 use Rattle.rb_machine.proofs.machine.turn.Goals as goal
 
 pub finish-requires-clause-as_many : goal.finish-requires-clause-as_many
@@ -38,11 +39,11 @@ finish-requires-clause-room g c =
 pub finish-requires-clause-alone : goal.finish-requires-clause-alone
 finish-requires-clause-alone g c e =
     let came = c.take_turn-came.result in
-    let alone = c.is_alone-alone.ensures.alone e in (
+    let alone = sym c.is_alone-alone.ensures ∙ e in (
       no_passes came.kind (passes_of came.pass) alone,
       subst (λ (procs : List Seen). WasAlone c.args.p c.args.running.now (processes_of procs)) (sym c.deref_mut.ensures.value)
           (was_alone (plain c.args.code.now) c.args.number c.args.p c.args.parts.now c.take_turn-came.new.parts c.take_turn-came.new.events.items came
-          c.take_turn-came.ensures.moved c.args.running.now c.requires.running (c.requires.freed (c.is_alone-alone.ensures.later e)) alone),
+          c.take_turn-came.ensures.moved c.args.running.now c.requires.running c.requires.freed alone),
     )
 
 pub returns-clause-turned : goal.returns-clause-turned
@@ -63,8 +64,8 @@ returns-clause-turned g c =
     (ap lines_of is ∙ (c.finish.ensures.lines code groups
     ∙ ap (λ (procs : List Seen). map freed_of (processes_of procs)) c.deref_mut.ensures.value))
 
-pub returns-clause-work : goal.returns-clause-work
-returns-clause-work g c =
+pub returns-clause-at_work : goal.returns-clause-at_work
+returns-clause-at_work g c =
     works_on (plain c.args.code.now) c.args.number c.args.p c.args.parts.now c.take_turn-came.new.parts c.take_turn-came.new.events.items
     c.take_turn-came.result _ c.requires.work.work c.take_turn-came.ensures.left c.requires.few
     (ap (λ (pair : WordWorld × Told). pair.0) (returns-clause-turned g c))
@@ -93,3 +94,19 @@ returns-clause-none_waits g c e =
     let after = c.take_turn-came.new.parts in
     let is = with_items_is after.procs c.finish.new.procs (omega (arith, c.finish.auto.procs, c.deref_mut.ensures.len)) in
     subst NoneWaits (sym is) (c.finish.ensures.none_waits e)
+
+pub returns-clause-work : goal.returns-clause-work
+returns-clause-work g c =
+    let code = plain c.args.code.now in
+    let groups = memberships c.args.parts.now.table in
+    let freed_of = λ (q : Process Standing Copy). lines_freed (word_kind code groups) q.state q.levels in
+    turn_costs code groups c.args.number c.args.p (world c.args.parts.now) (lines_of c.finish.new.procs) _ _ _ c.take_turn-came.ensures.work
+    (c.finish.ensures.lines code groups
+    ∙ (ap (λ (procs : List Seen). map freed_of (processes_of procs)) c.deref_mut.ensures.value
+    ∙ ap (freed_lines (word_kind code groups)) c.take_turn-came.ensures.moved.worlds))
+    c.finish.ensures.work
+
+pub returns-clause-entry : goal.returns-clause-entry
+returns-clause-entry g c e =
+    entry_adds_nothing (plain c.args.code.now) (memberships c.args.parts.now.table) c.args.number c.args.p (world c.args.parts.now)
+    c.take_turn-came.result.kind _ _ c.requires.freed c.take_turn-came.ensures.moved.kind e (returns-clause-work g c)

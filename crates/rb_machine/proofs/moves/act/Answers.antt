@@ -6,11 +6,13 @@ use Rattle.rb_code.specs.Plain.{code as plain}
 use Rattle.rb_code.specs.Turn.{want}
 use Rattle.rb_proc.specs.Process.{Seen}
 use Rattle.rb_machine.specs.Channels.{AreNumbered}
-use Rattle.rb_machine.specs.Moves.{IsReadyAt, ReceivesThere, WantsThere, passes_of, world}
+use Rattle.rb_machine.specs.Moves.{IsEntryReady, IsReadyAt, ReceivesThere, WantsThere, passes_of, world}
+use Rattle.rb_machine.specs.Work.{is_kept}
 use Rattle.rb_machine.specs.Worlds.{kind_with, memory_of}
 use Rattle.rb_machine.proofs.Acting.{entry_enters, moved_as}
 use Rattle.rb_machine.proofs.Changed.{no_elements}
 use Rattle.rb_machine.proofs.Entering.{wants_block}
+use Rattle.rb_machine.proofs.MoveWork.{looks_stepping, looks_unkept, pays_entry, pays_step, pays_waiting}
 use Rattle.rb_machine.proofs.KnownNumbers.{numbered_at_work}
 use Rattle.rb_machine.proofs.ReadyFor.{receives_there, wants_read}
 use Rattle.rb_machine.proofs.moves.act.Goals as goal
@@ -41,7 +43,7 @@ pub enter-requires-clause-wants : goal.enter-requires-clause-wants
 enter-requires-clause-wants g c one there =
     let code = plain c.args.code.now in
     let parts = c.args.parts.now in
-    let at = subst (λ (xs : List Seen). IsReadyAt code xs c.args.p c.ready.result) c.deref.ensures.value c.ready.ensures in
+    let at = subst (λ (xs : List Seen). IsReadyAt code xs c.args.p c.ready.result) c.deref.ensures.value c.ready.ensures.ready in
     let fit = subst (IsReadyAt code parts.procs.items c.args.p) c.in-Enters.is at in
     fit one parts.table (memory_of parts.mails.items parts.links.items) c.args.turn there
 
@@ -49,7 +51,7 @@ pub take_step-requires-clause-step : goal.take_step-requires-clause-step
 take_step-requires-clause-step g c one there =
     let code = plain c.args.code.now in
     let parts = c.args.parts.now in
-    let at = subst (λ (xs : List Seen). IsReadyAt code xs c.args.p c.ready.result) c.deref.ensures.value c.ready.ensures in
+    let at = subst (λ (xs : List Seen). IsReadyAt code xs c.args.p c.ready.result) c.deref.ensures.value c.ready.ensures.ready in
     let fit = subst (IsReadyAt code parts.procs.items c.args.p) c.in-Steps.is at in
     (fit one parts.table (memory_of parts.mails.items parts.links.items) c.args.turn there).0
 
@@ -62,7 +64,7 @@ pub returns-in-Idle-clause-moved : goal.returns-in-Idle-clause-moved
 returns-in-Idle-clause-moved g c one there =
     let code = plain c.args.code.now in
     let parts = c.args.parts.now in
-    let at = subst (λ (xs : List Seen). IsReadyAt code xs c.args.p c.ready.result) c.deref.ensures.value c.ready.ensures in
+    let at = subst (λ (xs : List Seen). IsReadyAt code xs c.args.p c.ready.result) c.deref.ensures.value c.ready.ensures.ready in
     let fit = subst (IsReadyAt code parts.procs.items c.args.p) c.in-Idle.is at in
     moved_as (sym (fit one parts.table (memory_of parts.mails.items parts.links.items) c.args.turn there))
     (record {
@@ -76,7 +78,7 @@ pub returns-in-Waits-clause-moved : goal.returns-in-Waits-clause-moved
 returns-in-Waits-clause-moved g c one there =
     let code = plain c.args.code.now in
     let parts = c.args.parts.now in
-    let at = subst (λ (xs : List Seen). IsReadyAt code xs c.args.p c.ready.result) c.deref.ensures.value c.ready.ensures in
+    let at = subst (λ (xs : List Seen). IsReadyAt code xs c.args.p c.ready.result) c.deref.ensures.value c.ready.ensures.ready in
     let fit = subst (IsReadyAt code parts.procs.items c.args.p) c.in-Waits.is at in
     moved_as (sym (fit one parts.table (memory_of parts.mails.items parts.links.items) c.args.turn there))
     (record {
@@ -90,7 +92,7 @@ pub returns-in-Enters-clause-moved : goal.returns-in-Enters-clause-moved
 returns-in-Enters-clause-moved g c one there =
     let code = plain c.args.code.now in
     let parts = c.args.parts.now in
-    let at = subst (λ (xs : List Seen). IsReadyAt code xs c.args.p c.ready.result) c.deref.ensures.value c.ready.ensures in
+    let at = subst (λ (xs : List Seen). IsReadyAt code xs c.args.p c.ready.result) c.deref.ensures.value c.ready.ensures.ready in
     let fit = subst (IsReadyAt code parts.procs.items c.args.p) c.in-Enters.is at in
     let wants = wants_block c.in-Enters.block (want code one.process.state)
     (fit one parts.table (memory_of parts.mails.items parts.links.items) c.args.turn there) in
@@ -102,7 +104,31 @@ pub returns-in-Steps-clause-moved : goal.returns-in-Steps-clause-moved
 returns-in-Steps-clause-moved g c one there =
     let code = plain c.args.code.now in
     let parts = c.args.parts.now in
-    let at = subst (λ (xs : List Seen). IsReadyAt code xs c.args.p c.ready.result) c.deref.ensures.value c.ready.ensures in
+    let at = subst (λ (xs : List Seen). IsReadyAt code xs c.args.p c.ready.result) c.deref.ensures.value c.ready.ensures.ready in
     let fit = subst (IsReadyAt code parts.procs.items c.args.p) c.in-Steps.is at in
     moved_as (sym (fit one parts.table (memory_of parts.mails.items parts.links.items) c.args.turn there).1)
     (c.take_step.ensures.moved one there)
+
+pub returns-in-Idle-clause-work : goal.returns-in-Idle-clause-work
+returns-in-Idle-clause-work g c one there =
+    pays_waiting _ _ _ _ _ c.ready.ensures.work
+    (looks_unkept (plain c.args.code.now) one.process c.without_pass.result.kind (ap is_kept c.without_pass.ensures.kind))
+
+pub returns-in-Waits-clause-work : goal.returns-in-Waits-clause-work
+returns-in-Waits-clause-work g c one there =
+    pays_waiting _ _ _ _ _ c.ready.ensures.work
+    (looks_unkept (plain c.args.code.now) one.process c.without_pass-in-Waits.result.kind (ap is_kept c.without_pass-in-Waits.ensures.kind))
+
+pub returns-in-Enters-clause-work : goal.returns-in-Enters-clause-work
+returns-in-Enters-clause-work g c one there =
+    pays_entry _ _ _ _ _ _ (c.ready.ensures.entry (subst IsEntryReady (sym c.in-Enters.is) tt)) c.enter.ensures.work
+
+pub returns-in-Steps-clause-work : goal.returns-in-Steps-clause-work
+returns-in-Steps-clause-work g c one there =
+    let code = plain c.args.code.now in
+    let parts = c.args.parts.now in
+    let at = subst (λ (xs : List Seen). IsReadyAt code xs c.args.p c.ready.result) c.deref.ensures.value c.ready.ensures.ready in
+    let fit = subst (IsReadyAt code parts.procs.items c.args.p) c.in-Steps.is at in
+    let ready = fit one parts.table (memory_of parts.mails.items parts.links.items) c.args.turn there in
+    pays_step _ _ _ _ _ _ _ c.ready.ensures.work (c.take_step.ensures.work one there)
+    (looks_stepping code one.process c.take_step.result.kind c.in-Steps.there ready.0) ready.2

@@ -5,12 +5,14 @@ use Rattle.rb_world.specs.Turn.{is_over}
 use Rattle.rb_world.proofs.ListFacts.{slice_get-there, some_same}
 use Rattle.rb_world.proofs.Members.Outcomes.{position_within}
 use Rattle.rb_code.specs.Plain.{code as plain}
+use Rattle.rb_conv.specs.Conversations.{memberships}
 use Rattle.rb_proc.specs.Process.{Seen}
 use Rattle.rb_machine.specs.Moves.{passes_of, world}
 use Rattle.rb_machine.specs.Worlds.{kind_with, memory_of}
 use Rattle.rb_machine.proofs.Acting.{moved_as}
 use Rattle.rb_machine.proofs.Changed.{no_elements}
 use Rattle.rb_machine.proofs.KnownHere.{are_quiet, may_reject, process_there}
+use Rattle.rb_machine.proofs.MoveWork.{named_away, pays_rest, pays_same, pays_undoing}
 use Rattle.rb_machine.proofs.TurnsTaken.{away_acts, line_waits, overrun_rejects}
 use Rattle.rb_machine.proofs.moves.go_on.Goals as goal
 
@@ -90,3 +92,20 @@ returns-in-None-2-clause-moved g c one there =
     moved_as (sym (away_acts (kind_with (plain c.args.code.now) parts.table) c.args.turn c.args.p (world parts) one.process c.args.over
     (c.requires.over one there) c.in-None-2.is away))
     (c.act.ensures.moved one there)
+
+pub returns-in-Some-clause-work : goal.returns-in-Some-clause-work
+returns-in-Some-clause-work g c one there = pays_undoing _ _ _ _ _ c.undo.ensures.work
+
+pub returns-in-None-clause-work : goal.returns-in-None-clause-work
+returns-in-None-clause-work g c one there = pays_rest _ _ _ _
+
+pub returns-in-None-2-clause-work : goal.returns-in-None-2-clause-work
+returns-in-None-2-clause-work g c one there =
+    let code = plain c.args.code.now in
+    let parts = c.args.parts.now in
+    let procs = parts.procs.items in
+    let here = slice_get_read procs (length procs) c.args.p c.index.result.now refl c.requires.process c.index.ensures in
+    let away = ap (λ (x : Seen). x.process.at_line) (sym (some_same (sym here ∙ there))) ∙ (sym c.at_line.ensures ∙ c.if-at_line.false) in
+    pays_same _ _ _ _ _ _ _ (c.act.ensures.work one there)
+    (named_away code (memberships parts.table) c.args.turn c.args.p one.process (world parts) c.args.over (c.requires.over one there) c.in-None-2.is away)
+    refl

@@ -1,9 +1,11 @@
 -- Each answer tells what the process is ready for.
-use Rattle.std.proofs.Common.{sym, ◌∙◌}
+use Rattle.std.proofs.Common.{ap, sym, ◌∙◌}
 use Rattle.rb_world.proofs.ListFacts.{slice_get-there}
 use Rattle.rb_code.specs.Plain.{code as plain}
 use Rattle.rb_code.specs.Turn.{want}
 use Rattle.rb_machine.proofs.Acting.{is_maybe, is_message, is_room}
+use Rattle.rb_machine.specs.Work.{is_entry}
+use Rattle.rb_machine.proofs.MoveWork.{is_no_entry}
 use Rattle.rb_machine.proofs.ReadyFor.{enters_ready, idles_ready, receiver_here, receiver_if_here, steps_ready}
 use Rattle.rb_machine.proofs.moves.ready.Goals as goal
 
@@ -31,12 +33,34 @@ pub look-requires-clause-wants : goal.look-requires-clause-wants
 look-requires-clause-wants g c one there =
     is_maybe (want (plain c.args.code.now) one.process.state) c.in-Maybe.channel (sym (c.requires.wanted one there) ∙ c.in-Maybe.is)
 
-pub returns-in-Idle : goal.returns-in-Idle
-returns-in-Idle g c = idles_ready (plain c.args.code.now) c.args.procs.now c.args.p c.args.wanted c.requires.wanted c.in-Idle.is
+pub returns-in-Idle-clause-ready : goal.returns-in-Idle-clause-ready
+returns-in-Idle-clause-ready g c = idles_ready (plain c.args.code.now) c.args.procs.now c.args.p c.args.wanted c.requires.wanted c.in-Idle.is
 
-pub returns-in-Entry : goal.returns-in-Entry
-returns-in-Entry g c =
+pub returns-in-Entry-clause-ready : goal.returns-in-Entry-clause-ready
+returns-in-Entry-clause-ready g c =
     enters_ready (plain c.args.code.now) c.args.procs.now c.args.p c.args.wanted c.requires.wanted c.in-Entry.block c.in-Entry.is
 
-pub returns-in-Start : goal.returns-in-Start
-returns-in-Start g c = steps_ready (plain c.args.code.now) c.args.procs.now c.args.p c.args.wanted c.requires.wanted c.in-Start.is
+pub returns-in-Start-clause-ready : goal.returns-in-Start-clause-ready
+returns-in-Start-clause-ready g c = steps_ready (plain c.args.code.now) c.args.procs.now c.args.p c.args.wanted c.requires.wanted c.in-Start.is
+
+-- who wants room or a message is ready for no entry
+pub returns-in-Room-clause-entry : goal.returns-in-Room-clause-entry
+returns-in-Room-clause-entry g c entry =
+    let code = plain c.args.code.now in
+    let here = slice_get-there c.args.procs.now c.args.p c.requires.process in
+    let wants = is_room (want code here.0.process.state) c.in-Room.channel (sym (c.requires.wanted here.0 here.1) ∙ c.in-Room.is) in
+    absurd (is_no_entry code c.args.procs.now c.args.p c.send.result here.0 c.send.ensures.ready here.1 (ap is_entry wants) entry)
+
+pub returns-in-Message-clause-entry : goal.returns-in-Message-clause-entry
+returns-in-Message-clause-entry g c entry =
+    let code = plain c.args.code.now in
+    let here = slice_get-there c.args.procs.now c.args.p c.requires.process in
+    let wants = is_message (want code here.0.process.state) c.in-Message.channel (sym (c.requires.wanted here.0 here.1) ∙ c.in-Message.is) in
+    absurd (is_no_entry code c.args.procs.now c.args.p c.receive.result here.0 c.receive.ensures.ready here.1 (ap is_entry wants) entry)
+
+pub returns-in-Maybe-clause-entry : goal.returns-in-Maybe-clause-entry
+returns-in-Maybe-clause-entry g c entry =
+    let code = plain c.args.code.now in
+    let here = slice_get-there c.args.procs.now c.args.p c.requires.process in
+    let wants = is_maybe (want code here.0.process.state) c.in-Maybe.channel (sym (c.requires.wanted here.0 here.1) ∙ c.in-Maybe.is) in
+    absurd (is_no_entry code c.args.procs.now c.args.p c.look.result here.0 c.look.ensures.ready here.1 (ap is_entry wants) entry)

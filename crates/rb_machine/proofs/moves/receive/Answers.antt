@@ -4,12 +4,12 @@ use Rattle.rb_conv.specs.Conversations.{memberships, talks}
 use Rattle.rb_machine.proofs.ReadyFor.{receipt_ready, receipt_unready}
 use Rattle.rb_machine.proofs.moves.receive.Goals as goal
 
-pub returns-then-message_there : goal.returns-then-message_there
-returns-then-message_there g c =
+pub returns-then-message_there-clause-ready : goal.returns-then-message_there-clause-ready
+returns-then-message_there-clause-ready g c =
     receipt_ready (plain c.args.code.now) c.args.procs.now c.args.p c.requires.numbered c.args.channel c.message_there.result
     (λ table memory. c.message_there.ensures.there (memberships table) (talks table) memory) c.requires.wants c.if-message_there.true
 
-pub returns-else-message_there : goal.returns-else-message_there
-returns-else-message_there g c =
+pub returns-else-message_there-clause-ready : goal.returns-else-message_there-clause-ready
+returns-else-message_there-clause-ready g c =
     receipt_unready (plain c.args.code.now) c.args.procs.now c.args.p c.requires.numbered c.args.channel c.message_there.result
     (λ table memory. c.message_there.ensures.there (memberships table) (talks table) memory) c.requires.wants c.if-message_there.false

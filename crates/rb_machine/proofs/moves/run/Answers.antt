@@ -2,16 +2,21 @@
 use Rattle.std.proofs.Common.{ap, sym, ◌∙◌, subst, List, option_map, slice_get, position, arith}
 use Rattle.std.proofs.lemmas.List.{with_items_is}
 use Rattle.rb_world.specs.Turn.{bounded, is_over, turn_used}
-use Rattle.rb_world.specs.World.{change_at}
+use Rattle.rb_world.specs.World.{Process, change_at}
 use Rattle.rb_world.proofs.ListFacts.{slice_get-change_at, slice_get-there}
 use Rattle.rb_code.specs.Plain.{code as plain}
+use Rattle.rb_code.specs.Turn.{Copy, Standing}
 use Rattle.rb_code.specs.WordRun.{WordWorld}
+use Rattle.rb_conv.specs.Conversations.{memberships}
 use Rattle.rb_proc.specs.Process.{Seen}
 use Rattle.rb_machine.specs.Rejections.{changed}
-use Rattle.rb_machine.specs.Worlds.{NoneWaits, kind_with}
+use Rattle.rb_machine.specs.Work.{named_within, undoing}
+use Rattle.rb_machine.specs.Worlds.{NoneWaits, kind_with, processes_of}
 use Rattle.rb_machine.proofs.Acting.{moved_as}
 use Rattle.rb_machine.proofs.CountedTurns.{counted_there, counted_work, counted_world, few_used}
+use Rattle.rb_machine.proofs.MoveWork.{counted_undoing, pays_same}
 use Rattle.rb_machine.proofs.QuietProcesses.{waits_at}
+use Rattle.rb_machine.proofs.SeenWorlds.{processes_at}
 use Rattle.rb_machine.proofs.moves.run.Goals as goal
 
 pub count-over-requires-clause-few : goal.count-over-requires-clause-few
@@ -57,3 +62,24 @@ returns-clause-moved g c one there =
     (c.go_on.ensures.moved (changed turn_used one)
     (ap (λ (xs : List Seen). slice_get xs c.args.p) counted
     ∙ (slice_get-change_at c.args.p (changed turn_used) parts.procs.items ∙ ap (option_map (changed turn_used)) there)))
+
+pub returns-clause-work : goal.returns-clause-work
+returns-clause-work g c one there =
+    let code = plain c.args.code.now in
+    let parts = c.args.parts.now in
+    let procs = parts.procs.items in
+    let groups = memberships parts.table in
+    let kept = with_items_is parts.procs c.count-over.new.procs (omega (arith, c.count-over.auto.procs, c.deref_mut.ensures.len)) in
+    let counted = kept ∙ (c.count-over.ensures.counted ∙ ap (change_at c.args.p (changed turn_used)) c.deref_mut.ensures.value) in
+    let q = turn_used one.process in
+    let w = counted_world code c.args.turn procs parts.table parts.mails.items parts.links.items c.requires.work.work c.args.p one there _ counted in
+    let kind = c.go_on.result.kind in
+    let events = c.go_on.new.events.items in
+    let after = processes_of c.go_on.new.parts.procs.items in
+    pays_same _ _ _ _ _ _ _
+    (c.go_on.ensures.work (changed turn_used one)
+    (ap (λ (xs : List Seen). slice_get xs c.args.p) counted
+    ∙ (slice_get-change_at c.args.p (changed turn_used) procs ∙ ap (option_map (changed turn_used)) there)))
+    (ap (λ (x : WordWorld). named_within code groups c.args.turn c.args.p q x (position is_over q.levels)) (sym w))
+    (sym (ap (λ (qs : List (Process Standing Copy)). undoing kind qs events after) (ap processes_of counted ∙ processes_at c.args.p turn_used procs)
+    ∙ counted_undoing c.args.p (processes_of procs) kind events after))

@@ -1,8 +1,9 @@
-use Rattle.std.proofs.Common.{ℕ, List, ap, ◌∙◌, subst, get_or}
+use Rattle.std.proofs.Common.{ℕ, ◌+◌, ◌*◌, ◌≤◌, List, ap, ◌∙◌, subst, get_or}
 use Rattle.std.proofs.lemmas.Option.{get_or_from_slice_get, slice_get-get_or}
 use Rattle.rb_code.specs.Plain.{code as plain}
 use Rattle.rb_conv.proofs.Places.{set-changes}
 use Rattle.rb_proc.specs.Process.{Seen, StepsTo, step_of}
+use Rattle.rb_proc.specs.Work.{named_in_step}
 use Rattle.rb_world.specs.World.{change_at}
 use Rattle.rb_machine.proofs.step.step_one.Goals as goal
 
@@ -56,3 +57,8 @@ returns-clause-stepped g c = λ one e.
       processes = set-changes (λ _. c.step.new.self) procs c.args.p x c.requires.process
           ∙ ap (λ (ls : List (List ℕ)). change_at c.args.p (λ _. record { process = c.step.new.self.process; waiting = ls }) procs) none;
     }
+
+pub returns-clause-work : goal.returns-clause-work
+returns-clause-work g c = λ one e.
+    subst (λ (y : Seen). c.step.new.steps ≤ c.args.steps.now + 1 + 3 * named_in_step (plain c.args.code.now) y.process c.args.mails.now c.args.there)
+    (get_or_from_slice_get c.args.procs.now c.args.p one c.index-procs-p.result e) c.step.ensures.work

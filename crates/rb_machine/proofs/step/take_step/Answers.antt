@@ -12,6 +12,7 @@ use Rattle.rb_machine.proofs.Changed.{no_elements}
 use Rattle.rb_machine.proofs.InnermostLevel.{alternate_known}
 use Rattle.rb_machine.proofs.StepTaken.{AtStep}
 use Rattle.rb_machine.proofs.StepTaken as step
+use Rattle.rb_machine.proofs.StepWork as work
 use Rattle.rb_machine.proofs.TestLines.{same_table}
 use Rattle.rb_machine.proofs.step.take_step.Goals as goal
 
@@ -227,3 +228,44 @@ returns-in-Accepts-clause-moved g c = λ one here.
     c.index.ensures (alternate_known (plain c.args.code.now) parts.procs.items c.args.p c.index.result.now c.args.wanted c.started-alternate.result
     c.requires.process c.index.ensures c.requires.wanted c.started-alternate.ensures) c.keep_turn-in-Accepts.ensures.links (λ y memory e. c.accept-pass.ensures.taken y memory e)) in
     record { worlds = comes.0; kind = comes.1; rejections = comes.2; passes = comes.3 }
+
+pub returns-in-Trap-clause-work : goal.returns-in-Trap-clause-work
+returns-in-Trap-clause-work g c = λ one here.
+    let parts = c.args.parts.now in
+    let at : AtStep (plain c.args.code.now) c.args.turn c.args.p c.args.there parts.procs.items parts.table parts.mails.items parts.links.items =
+    record { work = c.requires.work.work; waits = c.requires.work.waits; acting = c.requires.acting; wants = c.requires.step } in
+    let stepping = step.stepped_here at (outcome.Trap c.in-Trap.cause) c.deref_mut.result.now c.step_one.new.procs c.deref_mut-2.result.now
+    c.step_one.new.mails c.deref_mut.ensures.value c.deref_mut-2.ensures.value c.in-Trap.ensures.stepped one here in
+    let items = with_items_is parts.procs c.step_one.new.procs (omega arith) in
+    let final = with_items_is (with_items parts.procs c.step_one.new.procs) c.reject.new.procs (omega arith) in
+    let counted = work.counted_here at one here c.deref_mut.result.now c.deref_mut-2.result.now c.args.steps.now c.step_one.new.steps
+    c.deref_mut.ensures.value c.deref_mut-2.ensures.value c.step_one.ensures.work in
+    work.trap_work at one here c.step_one.new.mails c.step_one.new.procs c.deref_mut-in-Trap.result.now c.in-Trap.cause stepping
+    (c.deref_mut-in-Trap.ensures.value ∙ items) c.reject.new.procs _ c.args.events.now.items c.reject.new.events.items c.args.steps.now
+    c.step_one.new.steps c.reject.new.steps (no_elements c.args.events.now.items c.requires.none) final counted c.reject.ensures.work
+
+pub returns-in-Went-clause-work : goal.returns-in-Went-clause-work
+returns-in-Went-clause-work g c = λ one here.
+    let parts = c.args.parts.now in
+    let at : AtStep (plain c.args.code.now) c.args.turn c.args.p c.args.there parts.procs.items parts.table parts.mails.items parts.links.items =
+    record { work = c.requires.work.work; waits = c.requires.work.waits; acting = c.requires.acting; wants = c.requires.step } in
+    let counted = work.counted_here at one here c.deref_mut.result.now c.deref_mut-2.result.now c.args.steps.now c.step_one.new.steps
+    c.deref_mut.ensures.value c.deref_mut-2.ensures.value c.step_one.ensures.work in
+    work.went_work at one here _ c.args.events.now.items c.args.steps.now c.step_one.new.steps counted
+
+pub returns-in-Accepts-clause-work : goal.returns-in-Accepts-clause-work
+returns-in-Accepts-clause-work g c = λ one here.
+    let parts = c.args.parts.now in
+    let at : AtStep (plain c.args.code.now) c.args.turn c.args.p c.args.there parts.procs.items parts.table parts.mails.items parts.links.items =
+    record { work = c.requires.work.work; waits = c.requires.work.waits; acting = c.requires.acting; wants = c.requires.step } in
+    let stepping = step.stepped_here at outcome.Accepts c.deref_mut.result.now c.step_one.new.procs c.deref_mut-2.result.now
+    c.step_one.new.mails c.deref_mut.ensures.value c.deref_mut-2.ensures.value c.in-Accepts.ensures.stepped one here in
+    let items = with_items_is parts.procs c.step_one.new.procs (omega arith) in
+    let v = with_items parts.procs c.step_one.new.procs in
+    let kept = with_items_is v c.keep_turn-in-Accepts.new.procs (omega arith) in
+    let counted = work.counted_here at one here c.deref_mut.result.now c.deref_mut-2.result.now c.args.steps.now c.step_one.new.steps
+    c.deref_mut.ensures.value c.deref_mut-2.ensures.value c.step_one.ensures.work in
+    work.held_work at one here c.step_one.new.mails c.step_one.new.procs c.deref_mut-in-Accepts.result.now c.keep_turn-in-Accepts.new.procs
+    c.deref_mut-in-Accepts-2.result.now stepping (c.deref_mut-in-Accepts.ensures.value ∙ items) c.keep_turn-in-Accepts.ensures.processes
+    (c.deref_mut-in-Accepts-2.ensures.value ∙ kept) _ c.args.events.now.items c.args.steps.now c.step_one.new.steps c.accept-pass.new.steps counted
+    (λ y memory e. c.accept-pass.ensures.work y memory e)

@@ -1,11 +1,12 @@
 -- What is looked at of one process is all that there is to see.
-use Rattle.std.proofs.Common.{◌++◌, get_or, false, ap, sym, ◌∙◌}
+use Rattle.std.proofs.Common.{◌++◌, get_or, false, ap, sym, ◌∙◌, arith}
 use Rattle.std.specs.Option.{option_to_list}
 use Rattle.rb_world.specs.World.{Status}
 use Rattle.rb_proc.specs.Process.{Seen}
 use Rattle.rb_machine.specs.Telling.{ended_if, freed_one, is_running}
 use Rattle.rb_machine.specs.declared.telling.Ending.TheVariants as ending
 use Rattle.rb_machine.proofs.Finished.{none_after, noted_beyond, noted_here, released_beyond, released_here, told_beyond, told_here}
+use Rattle.rb_machine.proofs.ReleaseWork.{one_releases}
 use Rattle.rb_machine.proofs.telling.finish_one.Goals as goal
 
 pub returns-then-place-procs-clause-told : goal.returns-then-place-procs-clause-told
@@ -45,3 +46,7 @@ returns-clause-freed g c code =
 
 pub returns-clause-none_waits : goal.returns-clause-none_waits
 returns-clause-none_waits g c e = none_after c.args.p c.args.procs.now c.release_one.new.proc c.requires.waits (c.release_one.ensures.none_waits e)
+
+pub returns-clause-work : goal.returns-clause-work
+returns-clause-work g c =
+    omega (arith, c.release_one.ensures.work, one_releases c.args.procs.now c.args.p c.release_one.new.proc c.if-place-procs.false)

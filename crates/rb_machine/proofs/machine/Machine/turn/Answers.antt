@@ -1,5 +1,5 @@
 -- The parts are at work before the next turn, and no line waits.
-use Rattle.std.proofs.Common.{length, ap, ◌∙◌, arith}
+use Rattle.std.proofs.Common.{length, ap, ◌∙◌}
 use Rattle.rb_machine.specs.Machine.{Seen}
 use Rattle.rb_machine.proofs.TurnOfParts.{none_wait}
 use Rattle.rb_machine.proofs.machine.Machine.turn.Goals as goal
@@ -10,6 +10,3 @@ turn-self-inside-requires-clause-work g c = record {
   waits = none_wait c.self.inside.parts.procs.items (length c.args.self.now.world.processes)
       (ap (λ (machine : Seen). machine.waiting) c.self.view_is ∙ c.requires.waits);
 }
-
-pub turn-self-inside-requires-clause-freed : goal.turn-self-inside-requires-clause-freed
-turn-self-inside-requires-clause-freed g c later = c.self.invariant.freed (omega (arith, later))
