@@ -55,6 +55,7 @@ pub mod RejectedLevels
 pub mod RowsKept
 pub mod SeenWorlds
 pub mod SomeCode
+pub mod UndoingWork
 pub mod WhoIsInside
 pub mod EndsTold
 pub mod Released

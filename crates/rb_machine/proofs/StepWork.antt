@@ -9,14 +9,14 @@ use Rattle.rb_world.specs.Slots.{Slots}
 use Rattle.rb_world.specs.Turn.{stands_now}
 use Rattle.rb_world.specs.World.{Level, Process, change_at, copy_of, last_of}
 use Rattle.rb_code.specs.Plain.{Code}
-use Rattle.rb_code.specs.Turn.{Common, Copy, Link, Standing, step, want}
+use Rattle.rb_code.specs.Turn.{Common, Copy, Standing, step, want}
 use Rattle.rb_code.specs.WordRun.{WordWorld}
 use Rattle.rb_conv.specs.Conversations.{Conversation, memberships, talks}
 use Rattle.rb_proc.specs.Process.{Seen, alternate_for, message_for, step_of}
 use Rattle.rb_proc.specs.Work.{named_in_step}
 use Rattle.rb_proc.specs.declared.answers.Outcome.TheVariants as outcome
 use Rattle.rb_machine.specs.Stepping.{HasStepped, turn_kept}
-use Rattle.rb_machine.specs.Work.{Undoes, levels_put_back, named_accepted, named_accepted_at, named_at_line, named_behind, named_by_steps, named_leaving, touched_in, undoing}
+use Rattle.rb_machine.specs.Work.{Undoes, levels_put_back, named_accepted, named_accepted_at, named_at_line, named_behind, named_by_steps, touched_in, undoing}
 use Rattle.rb_machine.specs.Worlds.{memory_of, processes_of, world_of}
 use Rattle.rb_machine.specs.declared.links.Link.{Link as Linked}
 use Rattle.rb_machine.proofs.Changed.{change_twice}
@@ -112,7 +112,7 @@ module _ {c : Code} {turn p : ℕ} {there : Bool} {procs : List Seen} {table : L
     abbrev holder : Seen
     holder = turn_kept turn (taken.calm stepping.later)
 
-    held : HeldTest one.process slots (step_of c one.process slots there) stepping.later slots'
+    abbrev held : HeldTest one.process slots (step_of c one.process slots there) stepping.later slots'
     held = taken.held c table slots links there turn p one procs here (known.may at one here) (known.number at one here) slots' procs1 procs4 stepping kept1
 
     abbrev at_test : Standing

@@ -1,6 +1,14 @@
-use Rattle.std.proofs.Common.{◌≡◌, ◌+◌, ◌-◌, subst, arith}
+use Rattle.std.proofs.Common.{◌≡◌, ◌+◌, ◌-◌, [], subst, arith}
+use Rattle.rb_base.specs.declared.event.Cause.TheVariants.{Inner}
+use Rattle.rb_world.specs.Reject.{fallen, reject}
+use Rattle.rb_code.specs.Turn.{Common}
+use Rattle.rb_proc.specs.Process.{kind_of}
 use Rattle.rb_machine.specs.Cascade.{MayRejectAt}
+use Rattle.rb_machine.specs.Work.{touched_by}
+use Rattle.rb_machine.specs.Worlds.{kind_with, processes_of, world_of}
 use Rattle.rb_machine.proofs.CascadeEnds.{falls, falls_quietly, one_told}
+use Rattle.rb_machine.proofs.SomeCode.{some_code}
+use Rattle.rb_machine.proofs.UndoingWork.{one_fewer, touched_fallen, undoes_further}
 use Rattle.rb_machine.proofs.cascade.+reject.Goals as goal
 
 pub returns-then-left-eq0-clause-happened : goal.returns-then-left-eq0-clause-happened
@@ -36,3 +44,19 @@ reject-requires g t c κs within =
         ),
       ),
     )
+
+pub returns-then-left-eq0-clause-work : goal.returns-then-left-eq0-clause-work
+returns-then-left-eq0-clause-work g t c =
+    let fewer = one_fewer touched_by (fallen (kind_of some_code) c.args.cause) (touched_fallen some_code c.args.cause) c.args.procs.now c.args.p
+    c.index-procs-p.result c.fail.new.self c.requires.process (c.fail.ensures some_code) in
+    omega arith
+
+pub returns-then-reject_level-clause-work : goal.returns-then-reject_level-clause-work
+returns-then-reject_level-clause-work g t c =
+    let level = c.reject_level in
+    let k = kind_with some_code level.new.table in
+    let none : Common = record { slots = []; links = [] } in
+    let more = (reject k c.args.p (c.args.left - 1) Inner (world_of level.new.procs level.new.table none)).1 in
+    undoes_further (processes_of c.args.procs.now) (processes_of level.new.procs) level.ensures.fewer (processes_of c.reject.new.procs)
+    c.args.events.now.items level.new.events.items more c.reject.new.events.items c.args.steps.now level.new.steps c.reject.new.steps
+    (c.reject.ensures.happened some_code none).told level.ensures.work c.reject.ensures.work

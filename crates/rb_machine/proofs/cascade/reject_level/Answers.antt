@@ -1,6 +1,13 @@
-use Rattle.std.proofs.Common.{nat_lt, refl}
+use Rattle.std.proofs.Common.{nat_eq, nat_lt, refl}
+use Rattle.rb_conv.specs.Conversations.{conversation_at}
+use Rattle.rb_conv.specs.Reject.{has_next}
+use Rattle.rb_proc.specs.Process.{kind_of}
+use Rattle.rb_machine.specs.Rejections.{tried_alone, tried_together}
+use Rattle.rb_machine.specs.Work.{inside_one}
 use Rattle.rb_machine.proofs.LevelRejected.{alone_may, alone_quiet, alone_rejected, alone_waits, conversation_there}
 use Rattle.rb_machine.proofs.LevelRejected.{same_groups, together_may, together_quiet, together_rejected, together_waits}
+use Rattle.rb_machine.proofs.SomeCode.{some_code}
+use Rattle.rb_machine.proofs.UndoingWork.{all_fewer, alone_undoes, inside_alone, inside_together, one_fewer, together_undoes}
 use Rattle.rb_machine.proofs.cascade.reject_level.Goals as goal
 
 pub reject_together-requires-clause-conversation :
@@ -84,3 +91,37 @@ returns-in-Some-clause-waits g c =
 
 pub returns-in-Some-clause-groups : goal.returns-in-Some-clause-groups
 returns-in-Some-clause-groups g c = same_groups c.args.table.now c.reject_together.new.table c.in-Some.conversation c.reject_together.ensures.table
+
+pub returns-in-None-clause-work : goal.returns-in-None-clause-work
+returns-in-None-clause-work g c =
+    let a = c.args in
+    let gone = c.reject_alone in
+    alone_undoes a.procs.now a.p c.level-level.result a.cause c.rejection.result a.events.now.items c.push.new.self.items c.rejection.ensures c.push.ensures.items
+    a.steps.now gone.new.steps c.index-procs-p-in-None.result gone.new.proc c.requires.process c.in-None.is gone.ensures.work
+
+pub returns-in-None-clause-fewer : goal.returns-in-None-clause-fewer
+returns-in-None-clause-fewer g c x =
+    let a = c.args in
+    let view = c.level-level in
+    let gone = c.reject_alone in
+    let k = kind_of some_code in
+    let more = nat_lt view.result.alternate view.result.alternates in
+    one_fewer (inside_one x) (tried_alone k more a.inner) (inside_alone k x more a.inner) a.procs.now a.p c.index-procs-p-in-None.result gone.new.proc
+    c.requires.process (gone.ensures.process some_code)
+
+pub returns-in-Some-clause-work : goal.returns-in-Some-clause-work
+returns-in-Some-clause-work g c =
+    let a = c.args in
+    let gone = c.reject_together in
+    together_undoes a.procs.now a.p c.level-level.result a.cause c.rejection.result a.events.now.items c.push.new.self.items c.rejection.ensures c.push.ensures.items
+    a.steps.now gone.new.steps c.in-Some.conversation gone.new.procs c.in-Some.is gone.ensures.work
+
+pub returns-in-Some-clause-fewer : goal.returns-in-Some-clause-fewer
+returns-in-Some-clause-fewer g c x =
+    let a = c.args in
+    let gone = c.reject_together in
+    let k = kind_of some_code in
+    let d = c.in-Some.conversation in
+    let more = has_next (conversation_at a.table.now d) in
+    let lone = nat_eq a.inner 0 in
+    all_fewer (inside_one x) (tried_together k more lone d) (inside_together k x more lone d) a.procs.now gone.new.procs (gone.ensures.processes some_code)

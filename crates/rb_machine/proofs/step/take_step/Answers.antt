@@ -251,7 +251,7 @@ returns-in-Went-clause-work g c = λ one here.
     record { work = c.requires.work.work; waits = c.requires.work.waits; acting = c.requires.acting; wants = c.requires.step } in
     let counted = work.counted_here at one here c.deref_mut.result.now c.deref_mut-2.result.now c.args.steps.now c.step_one.new.steps
     c.deref_mut.ensures.value c.deref_mut-2.ensures.value c.step_one.ensures.work in
-    work.went_work at one here _ c.args.events.now.items c.args.steps.now c.step_one.new.steps counted
+    work.went_work at one here (with_items (with_items parts.procs c.step_one.new.procs) c.keep_turn.new.procs).items c.args.events.now.items c.args.steps.now c.step_one.new.steps counted
 
 pub returns-in-Accepts-clause-work : goal.returns-in-Accepts-clause-work
 returns-in-Accepts-clause-work g c = λ one here.
@@ -267,5 +267,5 @@ returns-in-Accepts-clause-work g c = λ one here.
     c.deref_mut.ensures.value c.deref_mut-2.ensures.value c.step_one.ensures.work in
     work.held_work at one here c.step_one.new.mails c.step_one.new.procs c.deref_mut-in-Accepts.result.now c.keep_turn-in-Accepts.new.procs
     c.deref_mut-in-Accepts-2.result.now stepping (c.deref_mut-in-Accepts.ensures.value ∙ items) c.keep_turn-in-Accepts.ensures.processes
-    (c.deref_mut-in-Accepts-2.ensures.value ∙ kept) _ c.args.events.now.items c.args.steps.now c.step_one.new.steps c.accept-pass.new.steps counted
+    (c.deref_mut-in-Accepts-2.ensures.value ∙ kept) (with_items (with_items v c.keep_turn-in-Accepts.new.procs) c.accept-pass.new.procs).items c.args.events.now.items c.args.steps.now c.step_one.new.steps c.accept-pass.new.steps counted
     (λ y memory e. c.accept-pass.ensures.work y memory e)

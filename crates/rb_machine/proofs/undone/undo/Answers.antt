@@ -6,7 +6,8 @@ use Rattle.rb_world.specs.Reject.{reject}
 use Rattle.rb_proc.specs.Process.{Seen}
 use Rattle.rb_machine.specs.Cascade.{HasHappened, MayRejectAt}
 use Rattle.rb_machine.specs.Moves.{passes_of, world}
-use Rattle.rb_machine.specs.Worlds.{NoneWaits, kind_with, memory_of, world_of}
+use Rattle.rb_machine.specs.Work.{levels_put_back, touched_in}
+use Rattle.rb_machine.specs.Worlds.{NoneWaits, kind_with, memory_of, processes_of, world_of}
 use Rattle.rb_machine.proofs.Changed.{no_elements}
 use Rattle.rb_machine.proofs.undone.undo.Goals as goal
 
@@ -39,3 +40,13 @@ returns-clause-left g c code sized =
       sized = sized;
       few = omega (arith, c.reject.ensures.few, c.requires.none, ap (λ pass. length (passes_of pass)) c.without_pass.ensures.pass);
     }
+
+pub returns-clause-work : goal.returns-clause-work
+returns-clause-work g c =
+    let parts = c.args.parts.now in
+    let same = with_items_is parts.procs c.reject.new.procs (omega (arith, c.reject.auto.procs, c.deref_mut.ensures.len)) in
+    let touched = ap (λ (procs : List Seen). touched_in (processes_of procs)) c.deref_mut.ensures.value in
+    let first = ap (λ (procs : List Seen). levels_put_back (processes_of procs) c.args.events.now.items) c.deref_mut.ensures.value in
+    let none = ap (levels_put_back (processes_of parts.procs.items)) (no_elements c.args.events.now.items c.requires.none) in
+    let then = ap (λ (procs : List Seen). levels_put_back (processes_of procs) c.reject.new.events.items) c.deref_mut.ensures.value in
+    rw (c.without_pass.ensures.kind, same) (omega (arith, c.reject.ensures.work))
