@@ -49,8 +49,12 @@ one_more_release old now i d after h long same first ticks later so_far few free
 releases_sum : (procs : List Seen) → sum_by releases procs ≡ releasing (lines_of (map (freed_one some_code) procs))
 releases_sum [] = refl
 releases_sum (one ∷ procs) =
-    omega (arith, sum_by-cons releases one procs,
-    sum_by-cons releases_some (freed_one some_code one).waiting (lines_of (map (freed_one some_code) procs)), releases_sum procs)
+    omega (
+      arith,
+      sum_by-cons releases one procs,
+      sum_by-cons releases_some (freed_one some_code one).waiting (lines_of (map (freed_one some_code) procs)),
+      releases_sum procs,
+    )
 
 -- at last all of them
 pub all_releases : (old after : List Seen) (i : ℕ) → length old ≤ i → after ≡ map (freed_one some_code) old → (first last : ℕ)
