@@ -1,5 +1,5 @@
 -- One turn more, whose lines are counted and forgotten.
-use Rattle.std.proofs.Common.{List, length, ap, arith, refl, ◌∙◌, subst, sym}
+use Rattle.std.proofs.Common.{List, ◌+◌, length, ap, arith, refl, ◌∙◌, subst, sym}
 use Rattle.rb_base.specs.declared.event.Event.{Event}
 use Rattle.rb_trace.specs.Report.{told_of}
 use Rattle.rb_machine.specs.Machine.{Seen}

@@ -1,5 +1,5 @@
 -- Each turn is written, and the rest stays to be written.
-use Rattle.std.proofs.Common.{length, refl, sym, ap, ◌∙◌, arith}
+use Rattle.std.proofs.Common.{◌+◌, length, refl, sym, ap, ◌∙◌, arith}
 use Rattle.rb_trace.specs.Naming.{naming}
 use Rattle.rb_trace.specs.Report.{told_of}
 use Rattle.rb_machine.specs.Machine.{Seen}

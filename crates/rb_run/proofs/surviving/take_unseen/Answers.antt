@@ -1,5 +1,5 @@
 -- One turn more, whose lines are forgotten.
-use Rattle.std.proofs.Common.{length, ap, arith, ◌∙◌, sym}
+use Rattle.std.proofs.Common.{◌+◌, length, ap, arith, ◌∙◌, sym}
 use Rattle.rb_trace.specs.Report.{told_of}
 use Rattle.rb_machine.specs.Machine.{Seen}
 use Rattle.rb_run.proofs.TurnsTaken.{is_after, led_on, none_waits, ran_all}
