@@ -83,10 +83,17 @@ returns-clause-text g c =
 
 pub returns-in_err-take_turns-clause-work : goal.returns-in_err-take_turns-clause-work
 returns-in_err-take_turns-clause-work g c =
-    omega (arith, c.take_turns.ensures.work,
-    work_first c.args.machine.now c.write_report.new.lines c.requires.fresh c.write_report.ensures.rest c.args.schedule.left c.args.schedule.all c.requires.whole)
+    omega (
+      arith,
+      c.take_turns.ensures.work,
+      work_first c.args.machine.now c.write_report.new.lines c.requires.fresh c.write_report.ensures.rest c.args.schedule.left c.args.schedule.all c.requires.whole,
+    )
 
 pub returns-clause-work : goal.returns-clause-work
 returns-clause-work g c =
-    omega (arith, c.take_turns.ensures.work, c.write_end.ensures.work,
-    work_first c.args.machine.now c.write_report.new.lines c.requires.fresh c.write_report.ensures.rest c.args.schedule.left c.args.schedule.all c.requires.whole)
+    omega (
+      arith,
+      c.take_turns.ensures.work,
+      c.write_end.ensures.work,
+      work_first c.args.machine.now c.write_report.new.lines c.requires.fresh c.write_report.ensures.rest c.args.schedule.left c.args.schedule.all c.requires.whole,
+    )
