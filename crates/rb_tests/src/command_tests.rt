@@ -1,5 +1,5 @@
 //! Tests of words that give no command, and of `check`.
-use crate::{Status, Words, command};
+use rb_top::{Status, Words, command};
 use rb_outside::{MemoryShelf, MemorySink};
 use std::alloc::Global;
 use std::test::Fail;

@@ -1,5 +1,5 @@
 //! What survived worked runs, plain runs of records, and trials: what each command writes.
-use crate::{Status, Words, command};
+use rb_top::{Status, Words, command};
 use rb_outside::{MemoryShelf, MemorySink};
 use std::alloc::Global;
 use std::test::Fail;

@@ -1,5 +1,5 @@
 //! Each call of the shelf and of the sink fails once.
-use crate::{Status, Words, command};
+use rb_top::{Status, Words, command};
 use rb_outside::{MemoryShelf, MemorySink};
 use std::alloc::{AllocError, Global};
 use std::test::Fail;

@@ -1,5 +1,5 @@
 //! Programs at the limits of the language: each of them runs to its end.
-use crate::{Status, Words, command};
+use rb_top::{Status, Words, command};
 use rb_base::MOST_BYTES;
 use rb_outside::{MemoryShelf, MemorySink};
 use std::alloc::Global;

@@ -1,5 +1,5 @@
 //! Listings of the code of worked sources, and of the largest ones.
-use crate::{Status, Words, command};
+use rb_top::{Status, Words, command};
 use rb_base::MOST_BYTES;
 use rb_outside::{MemoryShelf, MemorySink};
 use std::alloc::Global;

@@ -1,5 +1,5 @@
 //! The program's ending over a sink in memory: the exit status, and what has reached the sink.
-use crate::{Carried, Words, carry_out};
+use rb_top::{Carried, Words, carry_out};
 use rb_outside::{MemoryShelf, MemorySink};
 use std::alloc::Global;
 use std::test::Fail;
