@@ -1,7 +1,7 @@
 //! Listings of the code of worked sources, and of the largest ones.
-use rb_top::{Status, Words, command};
 use rb_base::MOST_BYTES;
 use rb_outside::{MemoryShelf, MemorySink};
+use rb_top::{Status, Words, command};
 use std::alloc::Global;
 use std::test::Fail;
 

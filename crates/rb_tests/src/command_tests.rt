@@ -1,6 +1,6 @@
 //! Tests of words that give no command, and of `check`.
-use rb_top::{Status, Words, command};
 use rb_outside::{MemoryShelf, MemorySink};
+use rb_top::{Status, Words, command};
 use std::alloc::Global;
 use std::test::Fail;
 

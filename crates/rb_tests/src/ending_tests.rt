@@ -1,6 +1,6 @@
 //! The program's ending over a sink in memory: the exit status, and what has reached the sink.
-use rb_top::{Carried, Words, carry_out};
 use rb_outside::{MemoryShelf, MemorySink};
+use rb_top::{Carried, Words, carry_out};
 use std::alloc::Global;
 use std::test::Fail;
 

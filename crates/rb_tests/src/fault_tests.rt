@@ -1,6 +1,6 @@
 //! Each call of the shelf and of the sink fails once.
-use rb_top::{Status, Words, command};
 use rb_outside::{MemoryShelf, MemorySink};
+use rb_top::{Status, Words, command};
 use std::alloc::{AllocError, Global};
 use std::test::Fail;
 

@@ -1,7 +1,7 @@
 //! Programs at the limits of the language: each of them runs to its end.
-use rb_top::{Status, Words, command};
 use rb_base::MOST_BYTES;
 use rb_outside::{MemoryShelf, MemorySink};
+use rb_top::{Status, Words, command};
 use std::alloc::Global;
 use std::test::Fail;
 

@@ -1,8 +1,8 @@
 //! Tests of `run`: texts of runs, refusals, and what fails outside.
 use crate::recovery_rows::{self, FULL_SCHEDULE, FULL_WANT, full_source, recovery_row};
 use crate::whole_rows::{self, whole_row};
-use rb_top::{Status, Words, command};
 use rb_outside::{MemoryShelf, MemorySink};
+use rb_top::{Status, Words, command};
 use std::alloc::{AllocError, Global};
 use std::test::Fail;
 

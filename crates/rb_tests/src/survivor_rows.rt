@@ -1,6 +1,6 @@
 //! What survived worked runs, plain runs of records, and trials: what each command writes.
-use rb_top::{Status, Words, command};
 use rb_outside::{MemoryShelf, MemorySink};
+use rb_top::{Status, Words, command};
 use std::alloc::Global;
 use std::test::Fail;
 
