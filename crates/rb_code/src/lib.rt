@@ -7,8 +7,6 @@ pub mod laws;
 mod line;
 pub mod listing;
 pub mod rows;
-#[cfg(test)]
-mod tests;
 
 pub use code::{BlockCode, ChannelCode, Code, ProcedureCode, ProcessCode};
 pub use instr::{Instr, Spot};

@@ -15,6 +15,3 @@ mod words;
 
 pub use lexer::Lexer;
 pub use token::{Kind, Token};
-
-#[cfg(test)]
-mod tests;

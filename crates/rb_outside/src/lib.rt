@@ -6,15 +6,11 @@ pub mod buffered;
 mod calls;
 mod faults;
 pub mod host;
-#[cfg(test)]
-mod host_tests;
 pub mod memory_shelf;
 pub mod memory_sink;
 pub mod put;
 pub mod shelf;
 pub mod sink;
-#[cfg(test)]
-mod tests;
 
 pub use buffered::{Buffered, buffer_memory};
 pub use host::{HostShelf, HostSink};

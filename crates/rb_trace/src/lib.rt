@@ -6,8 +6,6 @@ pub mod event;
 pub mod final_state;
 pub mod line;
 pub mod report;
-#[cfg(test)]
-mod tests;
 
 pub use ending::{write_end_line, write_status, write_variable};
 pub use event::{write_event, write_out};

@@ -1,10 +1,10 @@
 //! The listing of a small code, written to a sink in memory.
 
-use crate::code::{Code, ProcessCode};
-use crate::instr::{Instr, Spot};
-use crate::listing::listing;
 use rb_base::names::ProcessNames;
 use rb_base::{Edition, Memory, Names, Text};
+use rb_code::code::{Code, ProcessCode};
+use rb_code::instr::{Instr, Spot};
+use rb_code::listing::listing;
 use rb_outside::MemorySink;
 use std::alloc::Global;
 use std::test::Fail;

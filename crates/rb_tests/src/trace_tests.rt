@@ -4,11 +4,11 @@ ghost use Rattle.std.specs.Prelude.{◌≡◌, ℕ, ℤ, ◌<◌, [], ◌∷◌,
 ghost use Rattle.rb_base.specs.declared.event.State.TheVariants.{Done};
 ghost use Rattle.rb_trace.specs.Fitting.{Fits};
 
-use crate::{write_end, write_report, write_values};
 use arrayvec::ArrayVec;
 use rb_base::names::{ProcessNames, Variable};
 use rb_base::{Event, Final, Lines, Memory, Names, Report, State, Steps, Text, TurnKind};
 use rb_outside::MemorySink;
+use rb_trace::{write_end, write_report, write_values};
 use std::alloc::Global;
 use std::marker::{Brand, PhantomData};
 use std::sync::ledger::{Blank, Ledger};

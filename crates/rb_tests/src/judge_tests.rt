@@ -1,8 +1,8 @@
 //! Tests of verdicts.
 
 use crate::fault_rows::{FIRST_OF_NESTING, FIRST_OF_TWO, SMALLEST, SMALLEST_NESTING};
-use crate::judge;
 use rb_base::{MOST_BYTES, Refusal};
+use rb_judge::judge;
 use rb_scope::Slot;
 use std::alloc::Global;
 use std::test::Fail;

@@ -1,6 +1,6 @@
 //! Shelves and sinks in memory, with calls that fail, and a buffer in front of a sink.
 
-use crate::{Buffered, Failed, MemoryShelf, MemorySink, Shelf, Sink, put_all, put_number};
+use rb_outside::{Buffered, Failed, MemoryShelf, MemorySink, Shelf, Sink, put_all, put_number};
 use std::alloc::{AllocError, Global};
 use std::test::Fail;
 

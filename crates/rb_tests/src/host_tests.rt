@@ -1,6 +1,6 @@
 //! Files of the host that are read, and output to terminals that take few bytes at a time.
 
-use crate::{Failed, HostShelf, HostSink, Shelf, Sink, put_all};
+use rb_outside::{Failed, HostShelf, HostSink, Shelf, Sink, put_all};
 use std::cell::Cell;
 use std::fmt::Display;
 use std::rt::Files;

@@ -1,7 +1,7 @@
 //! Each row has a source and what the lexer answers: for each token its place, kind and text, and then the end or
 //! the fault.
-use crate::{Kind, Lexer, Token};
 use rb_base::{MOST_BYTES, Place, SourceFault};
+use rb_lex::{Kind, Lexer, Token};
 use std::alloc::Global;
 use std::test::Fail;
 
