@@ -15,9 +15,9 @@ use Rattle.rb_code.specs.Plain.{Code}
 use Rattle.rb_code.specs.Slots.{counter_of, elements_of, quantified_of, spot_of}
 use Rattle.rb_code.specs.Template.{Template, One, ◌⨾◌, Empty}
 use Rattle.rb_code.specs.Forms.{AndCode, ExpressionCode, LinksCode, OperatorCode, OrCode, QuantifiedCode, ScalarCode, SubscriptCode}
-use Rattle.rb_gen.specs.Output.{Output, added, is_text, linked, patched}
-use Rattle.rb_gen.specs.Emits.{Adds, Emits, Placed}
-use Rattle.rb_gen.proofs.Emits.{as_if, at, both, empty, filled, labelled, one}
+use Rattle.rb_draft.specs.Output.{Output, added, is_text, linked, patched}
+use Rattle.rb_draft.specs.Emits.{Adds, Emits, Placed}
+use Rattle.rb_draft.proofs.Emits.{as_if, at, both, empty, filled, labelled, one}
 use Rattle.rb_gen.proofs.Rows.{then_adds}
 use Rattle.rb_gen.proofs.QuantifiedRows.{every_row, some_row, sum_row}
 

@@ -18,15 +18,15 @@ use Rattle.rb_code.specs.Plain.{Block, Code, Part, Procedure}
 use Rattle.rb_code.specs.Template.{One, ◌⨾◌}
 use Rattle.rb_code.specs.Forms.{CommandsCode, ProceduresCode}
 use Rattle.rb_code.specs.StandsFor.{ProcessesCode, StandsFor, channels_from}
-use Rattle.rb_gen.specs.Output.{Output, added, as_it_is, linked, linked_to, patched}
-use Rattle.rb_gen.specs.Emits.{Emits}
+use Rattle.rb_draft.specs.Output.{Output, added, as_it_is, linked, linked_to, patched}
+use Rattle.rb_draft.specs.Emits.{Emits}
 use Rattle.rb_gen.specs.Given.{BodyGiven, ProcessesGiven}
 use Rattle.rb_gen.specs.Writes.{HasParts, IsLinked, ProcessTemplate, Setting, WritesProcedures, WritesProcess, WritesProcesses, room_of}
-use Rattle.rb_gen.proofs.Emits.{both, upto}
+use Rattle.rb_draft.proofs.Emits.{both, upto}
 use Rattle.rb_gen.proofs.Exists.{add}
 use Rattle.rb_gen.proofs.ExistsStatements.{commands_made}
 use Rattle.rb_gen.proofs.GivenParts.{processes_given}
-use Rattle.rb_gen.proofs.Growing.{follows_self}
+use Rattle.rb_draft.proofs.Growing.{follows_self}
 use Rattle.rb_gen.proofs.LinkSteps.{IsLinkedTo, linked_all, linked_init, linked_step}
 use Rattle.rb_gen.proofs.ProcessRows.{part_there, process_row, whole_code}
 

@@ -11,13 +11,13 @@ use Rattle.rb_code.specs.Plain.{Block}
 use Rattle.rb_code.specs.Slots.{channel_of, elements_of, procedure_of, spot_of}
 use Rattle.rb_code.specs.Template.{Template, One, Quoted}
 use Rattle.rb_code.specs.Forms.{ArgumentsCode, CallCode, Called, DropCode, FrameCode, ItemsCode, PrintedCode, StoreCode, procedure_words}
-use Rattle.rb_gen.specs.Output.{Output, added, linked, patched, settled}
-use Rattle.rb_gen.specs.Emits.{Emits}
-use Rattle.rb_gen.specs.Lookups.{joined_of}
+use Rattle.rb_draft.specs.Output.{Output, added, linked, patched, settled}
+use Rattle.rb_draft.specs.Emits.{Emits}
+use Rattle.rb_draft.specs.Lookups.{joined_of}
 use Rattle.rb_gen.specs.Writes.{Setting, WritesAlternates, WritesBody, WritesCommand, WritesCommands, WritesElse, WritesOthers, WritesRecovery, room_of}
-use Rattle.rb_gen.proofs.Emits.{as_if, both, one, quoted}
+use Rattle.rb_draft.proofs.Emits.{as_if, both, one, quoted}
 use Rattle.rb_gen.proofs.Exists.{Makes, add, expression_made, makes_nothing, makes_one, makes_then}
-use Rattle.rb_gen.proofs.Growing.{same_length}
+use Rattle.rb_draft.proofs.Growing.{same_length}
 use Rattle.rb_gen.proofs.RecoveryRows.{first_alternate, further, no_alternate, no_other, recovered}
 use Rattle.rb_gen.proofs.StatementRows.{assigned, body_row, called, conditional, conditional_else, else_row, failed, looped, no_command, one_command, printing, received, received_else, sending}
 

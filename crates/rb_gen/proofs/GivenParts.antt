@@ -12,8 +12,8 @@ use Rattle.rb_world.specs.Kind.{Ends}
 use Rattle.rb_scope.specs.Frames.{Frames, main_frames, procedure_frames, pushed}
 use Rattle.rb_scope.specs.InFrames.{AlternatesInFrames, BodyInFrames, ChannelInFrames, CommandInFrames, CommandsInFrames, JoinedInFrames, OtherwiseInFrames, ProcedureInFrames, ProcessInFrames, RecoveryInFrames}
 use Rattle.rb_scope.specs.declared.slot.Slot.{Slot}
-use Rattle.rb_gen.specs.Lookups.{joined_in, joined_of, process_in, process_of}
-use Rattle.rb_gen.specs.Channels.{ends_by}
+use Rattle.rb_draft.specs.Lookups.{joined_in, joined_of, process_in, process_of}
+use Rattle.rb_draft.specs.Channels.{ends_by}
 use Rattle.rb_gen.specs.Given.{AlternatesGiven, BodyGiven, CommandGiven, CommandsGiven, OtherwiseGiven, ProceduresGiven, ProcessGiven, ProcessesGiven, RecoveryGiven}
 
 module _ (tree : Tree) (slots : List Slot) where

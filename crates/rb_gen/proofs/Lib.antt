@@ -1,8 +1,5 @@
 -- Lemmas of the generator.
-pub mod Growing
-pub mod Emits
 pub mod Rows
-pub mod FrameWords
 pub mod StatementRows
 pub mod RecoveryRows
 pub mod GivenParts

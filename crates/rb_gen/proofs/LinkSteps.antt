@@ -5,9 +5,9 @@ use Rattle.rb_code.specs.declared.instr.Instr.{Instr}
 use Rattle.rb_code.specs.declared.instr.Instr.TheVariants.{Call}
 use Rattle.rb_code.specs.Plain.{Procedure}
 use Rattle.rb_code.specs.StandsFor.{text_numbers}
-use Rattle.rb_gen.specs.Output.{Output, linked_to, patched}
+use Rattle.rb_draft.specs.Output.{Output, linked_to, patched}
 use Rattle.rb_gen.specs.Writes.{IsLinked}
-use Rattle.rb_gen.proofs.Growing.{get_set, get_other, same_length, texts-same}
+use Rattle.rb_draft.proofs.Growing.{get_set, get_other, same_length, texts-same}
 
 -- those from an address up to another are linked, and no others
 pub record IsLinkedTo (procedures : List Procedure) (from to : ℕ) (old new : Output) : Type 0 where

@@ -21,13 +21,13 @@ use Rattle.rb_code.specs.Plain.{Code, Part, Procedure}
 use Rattle.rb_code.specs.Template.{Template, One, ◌⨾◌}
 use Rattle.rb_code.specs.Forms.{CommandsCode, ProceduresCode}
 use Rattle.rb_code.specs.StandsFor.{ProcessesCode, StandsFor, channels_from, numbers_from, text_numbers}
-use Rattle.rb_gen.specs.Output.{Output, as_it_is, linked, linked_to}
-use Rattle.rb_gen.specs.Emits.{Adds, Emits, Grows, Keeps, Settles}
+use Rattle.rb_draft.specs.Output.{Output, as_it_is, linked, linked_to}
+use Rattle.rb_draft.specs.Emits.{Adds, Emits, Grows, Keeps, Settles}
 use Rattle.rb_gen.specs.Given.{ProcessesGiven}
-use Rattle.rb_gen.specs.Channels.{ends_by}
+use Rattle.rb_draft.specs.Channels.{ends_by}
 use Rattle.rb_gen.specs.Writes.{HasParts, IsLinked, ProcessTemplate, Setting, WritesCommands, WritesProcedures, WritesProcess, WritesProcesses, room_of}
-use Rattle.rb_gen.proofs.Emits.{both, both_back, upto}
-use Rattle.rb_gen.proofs.Growing.{append-none, follows_self}
+use Rattle.rb_draft.proofs.Emits.{both, both_back, upto}
+use Rattle.rb_draft.proofs.Growing.{append-none, follows_self}
 use Rattle.rb_gen.proofs.GivenParts.{ends_given, processes_given}
 
 same : {A : Type 0} (o : Option A) → option_map (λ x. x) o ≡ o

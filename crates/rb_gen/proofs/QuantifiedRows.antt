@@ -3,9 +3,9 @@ use Rattle.std.proofs.Common.{◌≡◌, ℕ, length, refl, subst, pos}
 use Rattle.rb_code.specs.declared.instr.Instr.TheVariants.{Add, Again, Jump, JumpZero, Push, Range}
 use Rattle.rb_code.specs.Template.{Template, One}
 use Rattle.rb_code.specs.Forms.{EveryCode, SomeCode, SumCode}
-use Rattle.rb_gen.specs.Output.{Output, added, patched}
-use Rattle.rb_gen.specs.Emits.{Adds}
-use Rattle.rb_gen.proofs.Emits.{at, both, filled, labelled}
+use Rattle.rb_draft.specs.Output.{Output, added, patched}
+use Rattle.rb_draft.specs.Emits.{Adds}
+use Rattle.rb_draft.proofs.Emits.{at, both, filled, labelled}
 
 -- a place that was left
 abbrev pub Left : ℕ → Output → Output → Type 0

@@ -10,12 +10,12 @@ use Rattle.rb_code.specs.declared.instr.Instr.TheVariants.{Turn, Jump, Enter, St
 use Rattle.rb_code.specs.Plain.{Block}
 use Rattle.rb_code.specs.Template.{One}
 use Rattle.rb_code.specs.Forms.{AlternatesCode, BlockCode, BodyCode, CommandCode, ExpressionCode, OthersCode}
-use Rattle.rb_gen.specs.Output.{Output, added, filled_with, patched, settled}
-use Rattle.rb_gen.specs.Emits.{Adds}
-use Rattle.rb_gen.specs.Lookups.{joined_of}
+use Rattle.rb_draft.specs.Output.{Output, added, filled_with, patched, settled}
+use Rattle.rb_draft.specs.Emits.{Adds}
+use Rattle.rb_draft.specs.Lookups.{joined_of}
 use Rattle.rb_gen.specs.Writes.{WritesAlternates, WritesBody, WritesOthers, WritesRecovery}
-use Rattle.rb_gen.proofs.Growing.{append-none}
-use Rattle.rb_gen.proofs.Emits.{at, both, filled, filled-last, filled-length, listed, only, settled_then, upto}
+use Rattle.rb_draft.proofs.Growing.{append-none}
+use Rattle.rb_draft.proofs.Emits.{at, both, filled, filled-last, filled-length, listed, only, settled_then, upto}
 
 module _ (slots : List Slot) (words : List ℕ) where
   -- a recovery block, whose entry is settled behind its code

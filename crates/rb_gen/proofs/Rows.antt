@@ -21,11 +21,11 @@ use Rattle.rb_code.specs.declared.instr.Instr.TheVariants.{Call, Drop, Frame, It
 use Rattle.rb_code.specs.Slots.{counter_of, elements_of, quantified_of, spot_of}
 use Rattle.rb_code.specs.Template.{Template, One, ◌⨾◌, Quoted}
 use Rattle.rb_code.specs.Forms.{AndCode, Called, OrCode, PrintedCode, procedure_words, DropCode, FrameCode, EveryCode, ExpressionCode, LinksCode, OperatorCode, QuantifiedCode, ScalarCode, SomeCode, StoreCode, SubscriptCode, SumCode}
-use Rattle.rb_gen.specs.Output.{Output, is_text, linked}
+use Rattle.rb_draft.specs.Output.{Output, is_text, linked}
 use Rattle.rb_gen.specs.InMemory.{operator}
-use Rattle.rb_gen.specs.Emits.{Adds, Emits, Placed}
+use Rattle.rb_draft.specs.Emits.{Adds, Emits, Placed}
 use Rattle.rb_gen.specs.Writes.{room_of}
-use Rattle.rb_gen.proofs.Emits.{both, empty}
+use Rattle.rb_draft.proofs.Emits.{both, empty}
 
 -- one template after another
 pub then_adds : {P Q : Template} {c d e : Output} → Adds P c d → Adds Q d e → Adds (P ⨾ Q) c e

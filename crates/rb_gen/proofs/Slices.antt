@@ -6,9 +6,9 @@ use Rattle.rb_syntax.specs.declared.statement.Item.{Item}
 use Rattle.rb_syntax.specs.Plain.{expression, print_item, printed}
 use Rattle.rb_scope.specs.declared.slot.Slot.{Slot}
 use Rattle.rb_code.specs.Forms.{ArgumentsCode, ExpressionCode, ItemsCode, PrintedCode}
-use Rattle.rb_gen.specs.Output.{Output}
-use Rattle.rb_gen.specs.Emits.{Adds}
-use Rattle.rb_gen.proofs.Emits.{empty}
+use Rattle.rb_draft.specs.Output.{Output}
+use Rattle.rb_draft.specs.Emits.{Adds}
+use Rattle.rb_draft.proofs.Emits.{empty}
 use Rattle.rb_gen.proofs.Rows.{then_adds}
 
 pub take_all : {A : Type 0} (xs : List A) → take (length xs) xs ≡ xs

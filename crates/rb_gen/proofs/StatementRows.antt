@@ -8,11 +8,11 @@ use Rattle.rb_code.specs.declared.instr.Instr.TheVariants.{Turn, There, Take, Ro
 use Rattle.rb_code.specs.Slots.{channel_of}
 use Rattle.rb_code.specs.Template.{One, ◌⨾◌, At, Label}
 use Rattle.rb_code.specs.Forms.{BodyCode, BranchesCode, CallCode, CommandCode, CommandsCode, DropCode, ExpressionCode, FrameCode, ItemsCode, ReceiptCode, StoreCode}
-use Rattle.rb_gen.specs.Output.{Output, added, linked, patched}
-use Rattle.rb_gen.specs.Emits.{Adds, Emits}
+use Rattle.rb_draft.specs.Output.{Output, added, linked, patched}
+use Rattle.rb_draft.specs.Emits.{Adds, Emits}
 use Rattle.rb_gen.specs.InMemory.{LeavesTest}
 use Rattle.rb_gen.specs.Writes.{Setting, WritesBody, WritesCommand, WritesCommands, WritesElse}
-use Rattle.rb_gen.proofs.Emits.{as_if, at, both, empty, filled, labelled, upto}
+use Rattle.rb_draft.proofs.Emits.{as_if, at, both, empty, filled, labelled, upto}
 use Rattle.rb_gen.proofs.Rows.{then_adds}
 
 module _ (slots : List Slot) (words : List ℕ) where

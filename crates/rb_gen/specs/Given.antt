@@ -5,7 +5,7 @@ use Rattle.rb_syntax.specs.Tree.{Command, Assignment, Printing, Sending, Receivi
 use Rattle.rb_syntax.specs.Numbered.{blocks_in_body, blocks_in_command, blocks_in_procedures, blocks_in_process}
 use Rattle.rb_meaning.specs.Groups.{conversation_of}
 use Rattle.rb_scope.specs.declared.slot.Slot.{Slot}
-use Rattle.rb_gen.specs.Lookups.{joined_of}
+use Rattle.rb_draft.specs.Lookups.{joined_of}
 
 abbrev mutual
   pub CommandGiven : Tree → List Slot → ℕ → Command → Type 0

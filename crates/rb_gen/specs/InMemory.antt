@@ -12,8 +12,8 @@ use Rattle.rb_code.specs.Template.{Template, One, ◌⨾◌}
 use Rattle.rb_code.specs.Forms.{ExpressionCode, ScalarCode, SubscriptCode}
 use Rattle.rb_code.specs.declared.instr.Instr.{Instr}
 use Rattle.rb_code.specs.declared.instr.Instr.TheVariants.{Add, Sub, Mul, Div, Rem, Eq, Ne, Lt, Le, Gt, Ge, Bool, Jump, LoadAt, Prior, PriorAt, Put, Room, Turn}
-use Rattle.rb_gen.specs.Output.{Output, added}
-use Rattle.rb_gen.specs.Emits.{Adds}
+use Rattle.rb_draft.specs.Output.{Output, added}
+use Rattle.rb_draft.specs.Emits.{Adds}
 
 -- the code of a place, as it is, and as it was before the recovery block
 abbrev pub ValueCode : List Slot → Target → Template

@@ -13,8 +13,8 @@ use Rattle.rb_code.specs.StandsFor.{ProcessesCode, text_numbers}
 use Rattle.rb_code.specs.Template.{Template, One, ◌⨾◌, At, Label}
 use Rattle.rb_code.specs.Forms.{AlternatesCode, BodyCode, CallCode, CommandCode, CommandsCode, OthersCode, Owner, ProceduresCode}
 use Rattle.rb_code.specs.declared.instr.Instr.TheVariants.{Done, Jump}
-use Rattle.rb_gen.specs.Output.{Output, as_it_is, linked, linked_to}
-use Rattle.rb_gen.specs.Emits.{Emits}
+use Rattle.rb_draft.specs.Output.{Output, as_it_is, linked, linked_to}
+use Rattle.rb_draft.specs.Emits.{Emits}
 use Rattle.rb_gen.specs.Given.{AlternatesGiven, BodyGiven, CommandGiven, CommandsGiven, ProceduresGiven, ProcessGiven, ProcessesGiven}
 
 -- how many words the variables of a procedure's block have

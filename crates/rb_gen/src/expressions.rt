@@ -5,14 +5,14 @@ ghost use Rattle.rb_syntax.specs.Plain.{expression as plain, links_of};
 ghost use Rattle.rb_code.specs.Slots.{elements_of};
 ghost use Rattle.rb_code.specs.Template.{One};
 ghost use Rattle.rb_code.specs.Forms.{AndCode, EveryCode, ExpressionCode, LinksCode, OperatorCode, OrCode, QuantifiedCode, ScalarCode, SomeCode, SumCode};
-ghost use Rattle.rb_gen.specs.Output.{output};
-ghost use Rattle.rb_gen.specs.Emits.{Adds};
+ghost use Rattle.rb_draft.specs.Output.{output};
+ghost use Rattle.rb_draft.specs.Emits.{Adds};
 ghost use Rattle.rb_gen.specs.InMemory.{LeavesTest, PriorCode, ValueCode, operator, over};
 
-use crate::draft::{Draft, here, leave, patch, put};
-use crate::lookups::{counter_of, elements_of, quantified_of, spot_of};
 use rb_base::Memory;
 use rb_code::{Instr, Spot};
+use rb_draft::lookups::{counter_of, elements_of, quantified_of, spot_of};
+use rb_draft::{Draft, here, leave, patch, put};
 use rb_scope::Slot;
 use rb_syntax::{Expr, Link, Op, Quantified, Quantifier, Target};
 

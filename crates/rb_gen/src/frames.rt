@@ -1,53 +1,16 @@
-//! The words of variables, and their code.
+//! The code that pushes the words of variables, and that drops them.
 
-ghost use Rattle.std.specs.Prelude.{◌≡◌, map, IfOk, OnOk};
-ghost use Rattle.rb_syntax.specs.Plain.{declaration};
-ghost use Rattle.rb_meaning.specs.Environment.{frame_of, frame_words, natural, size_of};
+ghost use Rattle.std.specs.Prelude.{◌≡◌, OnOk};
 ghost use Rattle.rb_code.specs.Forms.{DropCode, FrameCode};
-ghost use Rattle.rb_gen.specs.Output.{output};
-ghost use Rattle.rb_gen.specs.Emits.{Adds};
+ghost use Rattle.rb_draft.specs.Output.{output};
+ghost use Rattle.rb_draft.specs.Emits.{Adds};
 
-use crate::draft::{Draft, put};
 use rb_base::Memory;
 use rb_code::Instr;
-use rb_syntax::{Number, Var};
-
-/// A number of the source, as far as 32 bits can count.
-pub(crate) fn natural(number: Number) -> Result<u32, Memory>
-    ensures { IfOk result (λ n. n ≡ natural number.value) }
-{
-    if number.value < 0 {
-        return Ok(0);
-    }
-    u32::try_from(number.value).map_err(|_| Memory)
-}
-
-/// How many words a variable of this size has.
-fn size_of(size: Option<Number>) -> Result<u32, Memory>
-    ensures { IfOk result (λ n. n ≡ size_of size) }
-{
-    match size {
-        None => Ok(1),
-        Some(number) => natural(number),
-    }
-}
-
-/// How many words these variables have.
-#[tactic(auto, using(crate::proofs::FrameWords::frame_more))]
-pub(crate) fn words_of(variables: &[Var<'_>]) -> Result<u32, Memory>
-    ensures { IfOk result (λ n. n ≡ frame_words (frame_of (map declaration variables.now))) }
-{
-    let mut total: u32 = 0;
-    let mut rest = variables;
-    'variables: while let [variable, after @ ..] = rest {
-        total = total.checked_add(size_of(variable.size)?).ok_or(Memory)?;
-        rest = after;
-    }
-    Ok(total)
-}
+use rb_draft::{Draft, put};
 
 /// Pushes so many words.
-#[tactic(auto, using(crate::proofs::Emits::empty))]
+#[tactic(auto, using(rb_draft::proofs::Emits::empty))]
 pub(crate) fn put_frame(draft: &mut Draft, words: u32) -> Result<(), Memory>
     ensures { OnOk result (Adds (FrameCode words) (output draft.old) (output draft.new)) }
 {
@@ -59,7 +22,7 @@ pub(crate) fn put_frame(draft: &mut Draft, words: u32) -> Result<(), Memory>
 }
 
 /// Drops them.
-#[tactic(auto, using(crate::proofs::Emits::empty))]
+#[tactic(auto, using(rb_draft::proofs::Emits::empty))]
 pub(crate) fn put_drop(draft: &mut Draft, words: u32) -> Result<(), Memory>
     ensures { OnOk result (Adds (DropCode words) (output draft.old) (output draft.new)) }
 {

@@ -2,11 +2,11 @@
 
 ghost use Rattle.std.specs.Prelude.{◌≡◌, map};
 ghost use Rattle.rb_code.specs.Plain.{procedure as plain_procedure};
-ghost use Rattle.rb_gen.specs.Output.{linked_to, output, start_among};
+ghost use Rattle.rb_draft.specs.Output.{linked_to, output, start_among};
 ghost use Rattle.rb_gen.specs.Writes.{IsLinked};
 
-use crate::draft::{Draft, patch};
 use rb_code::{Instr, ProcedureCode};
+use rb_draft::{Draft, patch};
 
 /// The first address of a procedure, by its number.
 fn start_of(procedures: &[ProcedureCode], number: u32) -> u32

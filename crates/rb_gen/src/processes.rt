@@ -3,16 +3,16 @@
 ghost use Rattle.std.specs.Prelude.{◌≡◌, map, IfOk};
 ghost use Rattle.rb_syntax.specs.Plain.{procedure_declaration, process_declaration as declared};
 ghost use Rattle.rb_code.specs.Plain.{channel as plain_channel, part as plain_part, procedure as plain_procedure};
-ghost use Rattle.rb_gen.specs.Output.{output};
+ghost use Rattle.rb_draft.specs.Output.{output};
 ghost use Rattle.rb_gen.specs.Writes.{WritesProcedures, WritesProcess, WritesProcesses, room_of};
 
-use crate::channels::channels_of;
-use crate::draft::{Draft, here, put};
-use crate::frames::words_of;
 use crate::linking::link;
 use crate::statements::emit_statements;
 use rb_base::{Memory, Text};
 use rb_code::{ChannelCode, Instr, ProcedureCode, ProcessCode};
+use rb_draft::channels::channels_of;
+use rb_draft::sizes::words_of;
+use rb_draft::{Draft, here, put};
 use rb_scope::Slot;
 use rb_syntax::{Procedure, Process};
 use std::alloc::Global;

@@ -7,11 +7,11 @@ ghost use Rattle.rb_scope.specs.InFrames.{Resolved};
 ghost use Rattle.rb_code.specs.Plain.{code};
 ghost use Rattle.rb_code.specs.StandsFor.{StandsFor};
 
-use crate::channels::channel_codes;
-use crate::draft::Draft;
 use crate::processes::emit_processes;
 use rb_base::Memory;
 use rb_code::{BlockCode, Code};
+use rb_draft::Draft;
+use rb_draft::channels::channel_codes;
 use rb_scope::{Checked, names};
 use std::alloc::Global;
 

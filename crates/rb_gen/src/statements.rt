@@ -3,16 +3,17 @@
 ghost use Rattle.std.specs.Prelude.{◌≡◌, ℕ, length, IfOk, OnOk};
 ghost use Rattle.rb_syntax.specs.Plain.{alternates_of, body, command, commands_of, expression as plain, identifier, otherwise, recovery_block, reference};
 ghost use Rattle.rb_syntax.specs.Tree.{Loop, Receiving};
-ghost use Rattle.rb_gen.specs.Output.{output};
+ghost use Rattle.rb_draft.specs.Output.{output};
 ghost use Rattle.rb_gen.specs.Writes.{WritesAlternates, WritesBody, WritesCommand, WritesCommands, WritesElse, WritesRecovery};
 
-use crate::draft::{Draft, fill, here, leave, patch, put, settle};
 use crate::expressions::{emit_expression, emit_test};
-use crate::frames::{natural, put_drop, put_frame, words_of};
-use crate::lookups::{channel_of, joined_of};
+use crate::frames::{put_drop, put_frame};
 use crate::simple::{emit_assignment, emit_call, emit_printing, emit_sending, emit_taking};
 use rb_base::Memory;
 use rb_code::{BlockCode, Instr};
+use rb_draft::lookups::{channel_of, joined_of};
+use rb_draft::sizes::{natural, words_of};
+use rb_draft::{Draft, fill, here, leave, patch, put, settle};
 use rb_scope::Slot;
 use rb_syntax::{Block, Expr, Name, Recovery, Statement, Target};
 use std::alloc::Global;

@@ -1,5 +1,5 @@
 use Rattle.std.proofs.Common.{refl}
-use Rattle.rb_gen.specs.Output.{output}
+use Rattle.rb_draft.specs.Output.{output}
 use Rattle.rb_gen.proofs.Rows.{then_adds}
 use Rattle.rb_gen.proofs.expressions.emit_test.Goals as goal
 

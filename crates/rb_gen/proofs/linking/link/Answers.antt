@@ -3,7 +3,7 @@ use Rattle.std.specs.Prelude.{slice_get}
 use Rattle.std.proofs.lemmas.Option.{slice_get-get_or}
 use Rattle.rb_code.specs.Plain.{procedure}
 use Rattle.rb_code.specs.declared.instr.Instr.{Instr}
-use Rattle.rb_gen.specs.Output.{output, patched}
+use Rattle.rb_draft.specs.Output.{output, patched}
 use Rattle.rb_gen.proofs.LinkSteps.{linked_step}
 use Rattle.rb_gen.proofs.linking.link.Goals as goal
 

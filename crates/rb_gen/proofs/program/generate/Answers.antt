@@ -7,8 +7,8 @@ use Rattle.rb_scope.specs.declared.slot.Slot.{Slot}
 use Rattle.rb_code.specs.declared.code.Code.{Code}
 use Rattle.rb_code.specs.declared.code.ChannelCode.{ChannelCode}
 use Rattle.rb_code.specs.Plain.{block, channel, code, part}
-use Rattle.rb_gen.specs.Channels.{ends_by}
-use Rattle.rb_gen.specs.Output.{Output, output}
+use Rattle.rb_draft.specs.Channels.{ends_by}
+use Rattle.rb_draft.specs.Output.{Output, output}
 use Rattle.rb_gen.specs.Writes.{WritesProcesses}
 use Rattle.rb_gen.proofs.ProcessRows.{program_row}
 use Rattle.rb_gen.proofs.program.generate.Goals as goal

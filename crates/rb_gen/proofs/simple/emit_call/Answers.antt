@@ -1,7 +1,7 @@
 use Rattle.std.proofs.Common.{◌≡◌, ◌∙◌, sym, length, map, refl}
 use Rattle.std.proofs.lemmas.List.{length-map}
 use Rattle.rb_syntax.specs.Plain.{expression}
-use Rattle.rb_gen.proofs.Emits.{both}
+use Rattle.rb_draft.proofs.Emits.{both}
 use Rattle.rb_gen.proofs.Rows.{call_row, room_there}
 use Rattle.rb_gen.proofs.simple.emit_call.Goals as goal
 

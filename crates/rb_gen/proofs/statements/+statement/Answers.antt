@@ -9,7 +9,7 @@ use Rattle.rb_syntax.specs.declared.statement.Block.{Block}
 use Rattle.rb_meaning.specs.Environment.{frame_of, frame_words}
 use Rattle.rb_code.specs.Plain.{Block as Entry}
 use Rattle.rb_code.specs.declared.instr.Instr.TheVariants.{Jump}
-use Rattle.rb_gen.specs.Output.{output, filled_with}
+use Rattle.rb_draft.specs.Output.{output, filled_with}
 use Rattle.rb_gen.specs.Writes.{WritesAlternates}
 use Rattle.rb_gen.proofs.StatementRows.{assigned, printing, sending, called, failed, received, received_else, conditional, conditional_else, looped, same_command, no_command, one_command, body_row, else_row}
 use Rattle.rb_gen.proofs.RecoveryRows.{recovered, no_alternate, alternates_init, alternates_step, alternates_end}

@@ -1,6 +1,6 @@
 use Rattle.std.proofs.Common.{drop}
 use Rattle.rb_syntax.specs.Plain.{alternates_of, commands_of}
-use Rattle.rb_gen.specs.Output.{Output, output}
+use Rattle.rb_draft.specs.Output.{Output, output}
 use Rattle.rb_gen.specs.Writes.{WritesCommands}
 use Rattle.rb_gen.proofs.RecoveryRows.{Completes}
 use Rattle.rb_gen.proofs.statements.+statement.Given as goal

@@ -4,7 +4,7 @@ use Rattle.rb_syntax.specs.Tree.{ChannelDeclaration}
 use Rattle.rb_meaning.specs.Environment.{natural}
 use Rattle.rb_world.specs.Kind.{Ends}
 use Rattle.rb_scope.specs.declared.slot.Slot.{Slot}
-use Rattle.rb_gen.specs.Lookups.{process_of}
+use Rattle.rb_draft.specs.Lookups.{process_of}
 
 abbrev pub ends_by : List Slot → ChannelDeclaration → Ends
 ends_by slots channel = record {

@@ -5,7 +5,7 @@ use Rattle.rb_code.specs.Plain.{Block, Code, Procedure, block}
 use Rattle.rb_code.specs.Memory.{part_of}
 use Rattle.rb_code.specs.declared.instr.Instr.{Instr}
 use Rattle.rb_code.specs.declared.instr.Instr.TheVariants.{Call, Text}
-use Rattle.rb_gen.specs.declared.draft.Draft.{Draft}
+use Rattle.rb_draft.specs.declared.draft.Draft.{Draft}
 
 -- the code so far: an entry of the list of recovery blocks is settled once the block's code is there
 pub record Output : Type 0 where

@@ -1,8 +1,8 @@
 use Rattle.std.proofs.Common.{ap, List}
 use Rattle.std.proofs.lemmas.List.{map-set}
 use Rattle.rb_code.specs.Plain.{Block, block}
-use Rattle.rb_gen.specs.Output.{Output}
-use Rattle.rb_gen.proofs.draft.settle.Goals as goal
+use Rattle.rb_draft.specs.Output.{Output}
+use Rattle.rb_draft.proofs.draft.settle.Goals as goal
 
 pub returns-then-at-len : goal.returns-then-at-len
 returns-then-at-len c =

@@ -3,14 +3,14 @@
 ghost use Rattle.std.specs.Prelude.{◌≡◌, option_map};
 ghost use Rattle.rb_syntax.specs.Plain.{identifier};
 ghost use Rattle.rb_code.specs.Slots.{channel_of, counter_of, elements_of, procedure_of, quantified_of, spot_of};
-ghost use Rattle.rb_gen.specs.Lookups.{joined_of, process_of};
+ghost use Rattle.rb_draft.specs.Lookups.{joined_of, process_of};
 
 use rb_code::Spot;
 use rb_scope::Slot;
 use rb_syntax::Name;
 
 /// The first word of a variable.
-pub(crate) fn spot_of(slots: &[Slot], id: u32) -> Spot
+pub fn spot_of(slots: &[Slot], id: u32) -> Spot
     ensures { result ≡ spot_of slots.now id }
 {
     match slots.get(id as usize) {
@@ -21,7 +21,7 @@ pub(crate) fn spot_of(slots: &[Slot], id: u32) -> Spot
 }
 
 /// How many elements an array has.
-pub(crate) fn elements_of(slots: &[Slot], id: u32) -> u32
+pub fn elements_of(slots: &[Slot], id: u32) -> u32
     ensures { result ≡ elements_of slots.now id }
 {
     match slots.get(id as usize) {
@@ -34,7 +34,7 @@ pub(crate) fn elements_of(slots: &[Slot], id: u32) -> u32
 }
 
 /// The counter that a name stands for, if it is that of a quantified expression.
-pub(crate) fn counter_of(slots: &[Slot], id: u32) -> Option<u32>
+pub fn counter_of(slots: &[Slot], id: u32) -> Option<u32>
     ensures { result ≡ counter_of slots.now id }
 {
     match slots.get(id as usize) {
@@ -44,7 +44,7 @@ pub(crate) fn counter_of(slots: &[Slot], id: u32) -> Option<u32>
 }
 
 /// The counter of a quantified expression, by its name.
-pub(crate) fn quantified_of(slots: &[Slot], id: u32) -> u32
+pub fn quantified_of(slots: &[Slot], id: u32) -> u32
     ensures { result ≡ quantified_of slots.now id }
 {
     match slots.get(id as usize) {
@@ -54,7 +54,7 @@ pub(crate) fn quantified_of(slots: &[Slot], id: u32) -> u32
 }
 
 /// The number of a channel.
-pub(crate) fn channel_of(slots: &[Slot], id: u32) -> u32
+pub fn channel_of(slots: &[Slot], id: u32) -> u32
     ensures { result ≡ channel_of slots.now id }
 {
     match slots.get(id as usize) {
@@ -64,7 +64,7 @@ pub(crate) fn channel_of(slots: &[Slot], id: u32) -> u32
 }
 
 /// The number of a procedure in its process.
-pub(crate) fn procedure_of(slots: &[Slot], id: u32) -> u32
+pub fn procedure_of(slots: &[Slot], id: u32) -> u32
     ensures { result ≡ procedure_of slots.now id }
 {
     match slots.get(id as usize) {
@@ -74,7 +74,7 @@ pub(crate) fn procedure_of(slots: &[Slot], id: u32) -> u32
 }
 
 /// The number of a process.
-pub(crate) fn process_of(slots: &[Slot], id: u32) -> u32
+pub fn process_of(slots: &[Slot], id: u32) -> u32
     ensures { result ≡ process_of slots.now id }
 {
     match slots.get(id as usize) {
@@ -84,7 +84,7 @@ pub(crate) fn process_of(slots: &[Slot], id: u32) -> u32
 }
 
 /// The number of the conversation that a recovery block is a part of, if it has one.
-pub(crate) fn joined_of(slots: &[Slot], name: Option<Name<'_>>) -> Option<u32>
+pub fn joined_of(slots: &[Slot], name: Option<Name<'_>>) -> Option<u32>
     ensures { result ≡ joined_of slots.now (option_map identifier name.entry) }
 {
     match name {

@@ -5,8 +5,8 @@ use Rattle.rb_code.specs.Plain.{Block, Code}
 use Rattle.rb_code.specs.StandsFor.{numbers_from, text_numbers}
 use Rattle.rb_code.specs.declared.instr.Instr.{Instr}
 use Rattle.rb_code.specs.declared.instr.Instr.TheVariants.{Text}
-use Rattle.rb_gen.specs.Output.{Output, is_text}
-use Rattle.rb_gen.specs.Emits.{Grows, Keeps, Follows, Covers, Includes}
+use Rattle.rb_draft.specs.Output.{Output, is_text}
+use Rattle.rb_draft.specs.Emits.{Grows, Keeps, Follows, Covers, Includes}
 
 pub get_front : {A : Type 0} (xs ys : List A) (i : ℕ) → i < length xs → slice_get (xs ++ ys) i ≡ slice_get xs i
 get_front [] ys i h = absurd (omega arith)

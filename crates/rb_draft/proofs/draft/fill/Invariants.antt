@@ -1,6 +1,6 @@
 use Rattle.std.proofs.Common.{◌≡◌, drop}
-use Rattle.rb_gen.specs.Output.{output, filled_with}
-use Rattle.rb_gen.proofs.draft.fill.Given as goal
+use Rattle.rb_draft.specs.Output.{output, filled_with}
+use Rattle.rb_draft.proofs.draft.fill.Given as goal
 
 -- what is left to write makes of the draft what all would have made of the first
 abbrev pub invariant-places : goal.invariant-places

@@ -6,9 +6,9 @@ use Rattle.rb_code.specs.StandsFor.{numbers_from, text_numbers}
 use Rattle.rb_code.specs.Template.{Template, ◌⨾◌, Empty, Only, At, Label, Quoted, WithBlock, Listed}
 use Rattle.rb_code.specs.declared.instr.Instr.{Instr}
 use Rattle.rb_code.specs.declared.instr.Instr.TheVariants.{Jump, Text}
-use Rattle.rb_gen.specs.Output.{Output, added, filled_with, is_text, linked, patched, settled}
-use Rattle.rb_gen.specs.Emits.{Grows, Keeps, Emits, Placed}
-use Rattle.rb_gen.proofs.Growing.{get_end, get_set, get_other, same_length, texts-added, texts-append, texts-set, numbers-append, grows_self, grows_more, keeps_self, follows_self, follows_on, follows_back, includes_front, includes_back, includes_late, includes_early}
+use Rattle.rb_draft.specs.Output.{Output, added, filled_with, is_text, linked, patched, settled}
+use Rattle.rb_draft.specs.Emits.{Grows, Keeps, Emits, Placed}
+use Rattle.rb_draft.proofs.Growing.{get_end, get_set, get_other, same_length, texts-added, texts-append, texts-set, numbers-append, grows_self, grows_more, keeps_self, follows_self, follows_on, follows_back, includes_front, includes_back, includes_late, includes_early}
 
 -- one template after another
 pub both : {link : Code → Instr → Instr} {m n k : ℕ} {P Q : Template} {c d e : Output} → Emits link m n P c d → Emits link n k Q d e → Emits link m k (P ⨾ Q) c e

@@ -1,8 +1,8 @@
 use Rattle.std.proofs.Common.{◌≡◌, ◌++◌, length, map}
 use Rattle.rb_syntax.specs.Plain.{channel_declaration}
 use Rattle.rb_code.specs.Plain.{channel}
-use Rattle.rb_gen.specs.Channels.{ends_by}
-use Rattle.rb_gen.proofs.channels.channel_codes.Given as goal
+use Rattle.rb_draft.specs.Channels.{ends_by}
+use Rattle.rb_draft.proofs.channels.channel_codes.Given as goal
 
 -- those so far, and the others
 abbrev pub invariant-channels : goal.invariant-channels

@@ -4,10 +4,10 @@ ghost use Rattle.std.specs.Prelude.{◌≡◌, ◌++◌, ◌∷◌, [], cond, ma
 ghost use Rattle.rb_syntax.specs.Plain.{channel_declaration};
 ghost use Rattle.rb_code.specs.Plain.{channel as plain_channel};
 ghost use Rattle.rb_code.specs.StandsFor.{channels_from};
-ghost use Rattle.rb_gen.specs.Channels.{ends_by};
+ghost use Rattle.rb_draft.specs.Channels.{ends_by};
 
-use crate::frames::natural;
 use crate::lookups::process_of;
+use crate::sizes::natural;
 use rb_base::Memory;
 use rb_code::ChannelCode;
 use rb_scope::Slot;
@@ -15,7 +15,7 @@ use rb_syntax::Channel;
 use std::alloc::Global;
 
 /// The channels of a program, in the order of declaration.
-pub(crate) fn channel_codes(
+pub fn channel_codes(
     alloc: Global,
     slots: &[Slot],
     channels: &[Channel<'_>],
@@ -43,7 +43,7 @@ fn channel_code(slots: &[Slot], channel: &Channel<'_>) -> Result<ChannelCode, Me
 }
 
 /// The numbers of the channels of which a process is an end.
-pub(crate) fn channels_of(
+pub fn channels_of(
     alloc: Global,
     process: u32,
     channels: &[ChannelCode],

@@ -5,7 +5,7 @@ use Rattle.rb_code.specs.Plain.{Block, Code}
 use Rattle.rb_code.specs.Template.{Template, One}
 use Rattle.rb_code.specs.StandsFor.{numbers_from, text_numbers}
 use Rattle.rb_code.specs.declared.instr.Instr.{Instr}
-use Rattle.rb_gen.specs.Output.{Output, linked}
+use Rattle.rb_draft.specs.Output.{Output, linked}
 
 -- one instruction of process number p, in the whole code
 abbrev pub Placed : ℕ → Instr → Template

@@ -1,0 +1,4 @@
+-- Lemmas of drafts.
+pub mod Growing
+pub mod Emits
+pub mod FrameWords

@@ -1,0 +1,5 @@
+-- What is said of a draft.
+pub mod Output
+pub mod Emits
+pub mod Lookups
+pub mod Channels
