@@ -19,7 +19,7 @@ use Rattle.rb_code.specs.WellFormed.{IsPart, IsWellFormed}
 use Rattle.rb_code.specs.declared.code.BlockCode.{BlockCode}
 use Rattle.rb_code.proofs.WholeRuns.ProcessesBegin.{all_there}
 use Rattle.rb_proc.specs.Executable.{IsExecutable}
-use Rattle.rb_proc.specs.Pieces.{IsText}
+use Rattle.rb_bench.specs.Pieces.{IsText}
 use Rattle.rb_machine.specs.AtWork.{HasFewAlternates}
 
 -- a process has no more channels than there are

@@ -6,9 +6,8 @@ pub mod Tied
 pub mod Returns
 pub mod Backs
 pub mod TouchedPlaces
-pub mod Tops
 pub mod Mailed
-pub mod Joins
+pub mod Texts
 pub mod Running
 pub mod Stepping
 pub mod Leaving

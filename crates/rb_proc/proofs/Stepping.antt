@@ -18,18 +18,19 @@ use Rattle.rb_code.specs.Stays.{Stays, entry_calls}
 use Rattle.rb_code.proofs.SoundSteps.{settling_is_safe, steps_are_safe}
 use Rattle.rb_code.proofs.Staying.{settling_stays, steps_stay}
 use Rattle.rb_proc.specs.Contents.{Contents}
-use Rattle.rb_proc.specs.Outcomes.{ended_of, mem, stop_at, whole}
+use Rattle.rb_bench.specs.Outcomes.{ended_of, stop_at}
+use Rattle.rb_proc.specs.Outcomes.{mem, whole}
 use Rattle.rb_proc.specs.Runs.{CursorsRise, KeepsEnded}
 use Rattle.rb_proc.specs.Statuses.{status_of}
-use Rattle.rb_proc.specs.declared.next.Ended.{Ended}
-use Rattle.rb_proc.specs.declared.next.Ended.TheVariants as ended
-use Rattle.rb_proc.specs.Pieces.{piece_text}
+use Rattle.rb_bench.specs.declared.next.Ended.{Ended}
+use Rattle.rb_bench.specs.declared.next.Ended.TheVariants as ended
+use Rattle.rb_bench.specs.Pieces.{piece_text}
 use Rattle.rb_proc.specs.ProcessInside.{seen, standing}
 use Rattle.rb_proc.specs.Sees.{FitSizes, see_of}
 use Rattle.rb_proc.specs.declared.answers.Status.{Status}
 use Rattle.rb_proc.specs.declared.answers.Wanted.{Wanted}
-use Rattle.rb_proc.specs.declared.bench.Bench.{Bench}
-use Rattle.rb_proc.specs.declared.line.Piece.{Piece}
+use Rattle.rb_bench.specs.declared.bench.Bench.{Bench}
+use Rattle.rb_bench.specs.declared.line.Piece.{Piece}
 use Rattle.rb_proc.specs.declared.sight.Sight.{Sight}
 use Rattle.rb_proc.specs.Given.{alternate_by, message_by}
 use Rattle.rb_proc.specs.Process.{StepsTo, alternate_for, kind_of, message_for, step_of, wanted_by}

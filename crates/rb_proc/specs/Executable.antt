@@ -3,7 +3,7 @@ use Rattle.std.specs.Prelude.{◌≡◌, ◌+◌, ◌<◌, ◌≤◌, ◌^◌, �
 use Rattle.rb_base.specs.Limits.{most_words}
 use Rattle.rb_code.specs.Plain.{Block, Code}
 use Rattle.rb_code.specs.Memory.{part_of, variables_place}
-use Rattle.rb_proc.specs.Pieces.{AreTexts}
+use Rattle.rb_bench.specs.Pieces.{AreTexts}
 use Rattle.rb_proc.specs.Places.{most_places}
 
 -- no more instructions than addresses, texts that may stand in a line, and for each process no more channels and words than places; and

@@ -2,9 +2,6 @@
 pub mod Places
 pub mod Contents
 pub mod Inside
-pub mod Counting
-pub mod LineSeen
-pub mod Pieces
 pub mod Sees
 pub mod Outcomes
 pub mod Executable

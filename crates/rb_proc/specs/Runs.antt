@@ -6,8 +6,8 @@ use Rattle.rb_code.specs.Plain.{Code}
 use Rattle.rb_code.specs.Memory.{cursor_place, part_of, word_at}
 use Rattle.rb_code.specs.Stands.{IsAmong}
 use Rattle.rb_proc.specs.Contents.{Contents}
-use Rattle.rb_proc.specs.declared.next.Ended.{Ended}
-use Rattle.rb_proc.specs.declared.next.Ended.TheVariants as ended
+use Rattle.rb_bench.specs.declared.next.Ended.{Ended}
+use Rattle.rb_bench.specs.declared.next.Ended.TheVariants as ended
 
 -- the cursors of a process can rise
 abbrev pub CursorsRise : Code → ℕ → List ℤ → Type 0

@@ -8,24 +8,24 @@ ghost use Rattle.rb_code.specs.Act.{Going, act as acted, alternate_address, if_t
 ghost use Rattle.rb_code.specs.Safe.{Ready};
 ghost use Rattle.rb_code.specs.Stays.{HasEnough, entry_calls};
 ghost use Rattle.rb_proc.specs.Acts.{CursorRises, LeavesEnough};
-ghost use Rattle.rb_proc.specs.Outcomes.{Keeps, outcome_of, whole};
-ghost use Rattle.rb_proc.specs.Pieces.{AreTexts};
+ghost use Rattle.rb_bench.specs.Outcomes.{outcome_of};
+ghost use Rattle.rb_proc.specs.Outcomes.{Keeps, whole};
+ghost use Rattle.rb_bench.specs.Pieces.{AreTexts};
 ghost use Rattle.rb_proc.specs.Sees.{AreSized, IsTurnOf, see_of};
 ghost use Rattle.rb_proc.specs.Work.{named};
 
-use crate::bench::Bench;
-use crate::calculate::{
-    again, bound, counter, jump_zero, negate, operate, push, range, test, test_zero,
-};
 use crate::channels::{print, put_value, take_message};
-use crate::line::Piece;
-use crate::next::Next;
 use crate::recoverable::Recoverable;
 use crate::sight::Sight;
 use crate::words::{
     call, drop_words, frame, go_back, load, load_at, prior, prior_at, store, store_at,
 };
 use rb_base::{Cause, Steps};
+use rb_bench::calculate::{
+    again, bound, counter, jump_zero, negate, operate, push, range, test, test_zero,
+};
+use rb_bench::line::Piece;
+use rb_bench::{Bench, Next};
 use rb_code::{Code, Instr};
 use rb_mail::Mail;
 use rb_syntax::Op;

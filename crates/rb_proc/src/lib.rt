@@ -2,18 +2,11 @@
 #![tactic(auto)]
 
 pub mod answers;
-pub mod bench;
-pub mod calculate;
 pub mod channels;
-pub mod counters;
 pub mod instruction;
-pub mod line;
 mod marks;
-pub mod next;
-pub mod operands;
 pub mod process;
 pub mod recoverable;
-mod room;
 pub mod run;
 pub mod sight;
 pub mod wants;

@@ -20,7 +20,7 @@ ghost use Rattle.rb_code.specs.WordRun.{opening_standing, variable_words};
 ghost use Rattle.rb_proc.specs.Contents.{IsBelowLast};
 ghost use Rattle.rb_proc.specs.Entries.{EntersAs};
 ghost use Rattle.rb_proc.specs.Executable.{IsExecutable};
-ghost use Rattle.rb_proc.specs.Outcomes.{stop_at};
+ghost use Rattle.rb_bench.specs.Outcomes.{stop_at};
 ghost use Rattle.rb_proc.specs.Runs.{CursorsRise};
 ghost use Rattle.rb_proc.specs.Sees.{AreSized};
 ghost use Rattle.rb_proc.specs.Statuses.{status_of};
@@ -29,14 +29,13 @@ ghost use Rattle.rb_proc.specs.Process.{Seen, StepsTo, alternate_for, kind_of, m
 ghost use Rattle.rb_proc.specs.Work.{named_in_step, named_settling, places_touched};
 
 use crate::answers::{LevelView, Outcome, Status, Wanted};
-use crate::bench::Bench;
 use crate::channels::{cursor_place as place_of_cursor, first_variable};
-use crate::next::Ended;
 use crate::recoverable::{Recoverable, natural};
 use crate::run::run;
 use crate::sight::Sight;
 use crate::wants::{alternate_of, cursor_of, entry_at, message_of, status_here, want_at};
 use rb_base::{Cause, Memory, State, Steps};
+use rb_bench::{Bench, Ended};
 use rb_code::Code;
 use rb_mail::Mail;
 use std::alloc::Global;

@@ -25,8 +25,8 @@ ghost use Rattle.rb_proc.specs.Work.{places_touched};
 
 use crate::answers::LevelView;
 use crate::marks::{count_turn, is_last_in, next_mark, place_in, view_of};
-use crate::room::put;
 use rb_base::{Memory, Steps};
+use rb_bench::room::put;
 use rb_cache::Cache;
 use rb_cell::Cells;
 use rb_hold::Hold;

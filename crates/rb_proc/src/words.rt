@@ -12,13 +12,14 @@ ghost use Rattle.rb_code.specs.Act.{Going, Sight as Seen, Trapped, arguments, be
 ghost use Rattle.rb_code.specs.Safe.{HasCall, HasTop, StayAbove};
 ghost use Rattle.rb_code.specs.Stays.{entry_calls};
 ghost use Rattle.rb_code.specs.Turn.{prior_words};
-ghost use Rattle.rb_proc.specs.Outcomes.{Keeps, mem, outcome_of};
+ghost use Rattle.rb_bench.specs.Outcomes.{outcome_of};
+ghost use Rattle.rb_proc.specs.Outcomes.{Keeps, mem};
 ghost use Rattle.rb_proc.specs.Places.{most_places};
 
-use crate::next::Next;
-use crate::operands::Operands;
 use crate::recoverable::Recoverable;
 use rb_base::{Cause, Steps};
+use rb_bench::Next;
+use rb_bench::operands::Operands;
 use std::sync::ledger::Ledger;
 
 /// Pushes a word.

@@ -3,11 +3,12 @@ use Rattle.rb_code.specs.Plain.{code as plain}
 use Rattle.rb_code.specs.Act.{act as acted}
 use Rattle.rb_code.specs.Safe.{Ready}
 use Rattle.rb_code.specs.declared.instr.Instr.{Instr}
-use Rattle.rb_proc.specs.Outcomes.{mem, outcome_of, pieces_in, whole}
-use Rattle.rb_proc.specs.Pieces.{piece_text}
+use Rattle.rb_bench.specs.Outcomes.{outcome_of}
+use Rattle.rb_proc.specs.Outcomes.{mem, pieces_in, whole}
+use Rattle.rb_bench.specs.Pieces.{piece_text}
 use Rattle.rb_code.specs.declared.instr.Instr.TheVariants.{Print}
 use Rattle.rb_proc.specs.Sees.{see_of}
-use Rattle.rb_proc.proofs.Joins.{text_comes}
+use Rattle.rb_proc.proofs.Texts.{text_comes}
 use Rattle.rb_proc.proofs.instruction.act.Goals as goal
 
 pub returns-in-Text-clause-moved : goal.returns-in-Text-clause-moved

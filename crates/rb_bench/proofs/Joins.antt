@@ -8,15 +8,9 @@ use Rattle.std.proofs.lemmas.Fmt.{decimal-digits_of, decimal_digit, length_signe
 use Rattle.std.proofs.lemmas.List.{append_assoc, length-append, length-map, length-take-le, map-append, map_more}
 use Rattle.std.proofs.lemmas.List.Elements.{All-append, All-cons, All-nil}
 use Rattle.rb_hold.specs.Held.{IsLine}
-use Rattle.rb_world.specs.Slots.{Slots}
-use Rattle.rb_code.specs.Act.{Going, Outcome, if_there, joined_pieces}
-use Rattle.rb_proc.specs.Contents.{Contents}
-use Rattle.rb_proc.specs.LineSeen.{LineSeen}
-use Rattle.rb_proc.specs.Outcomes.{mem}
-use Rattle.rb_proc.specs.declared.bench.Bench.{Bench}
-use Rattle.rb_proc.specs.declared.line.Piece.TheVariants.{Text}
-use Rattle.rb_proc.specs.declared.line.Piece.{Piece}
-use Rattle.rb_proc.specs.Pieces.{AreTexts, IsText, piece_text}
+use Rattle.rb_code.specs.Act.{joined_pieces}
+use Rattle.rb_bench.specs.declared.line.Piece.{Piece}
+use Rattle.rb_bench.specs.Pieces.{AreTexts, IsText, piece_text}
 
 no_text : IsText []
 no_text = record { short = omega arith; line = All-nil _ }
@@ -97,18 +91,3 @@ joined_more texts pieces i d before after is_first h first later j t e = record 
     front_long : (b : Bool) → length (cond b before (before ++ 32 ∷ [])) ≤ length before + 1
     front_long true = omega arith
     front_long false = let k = length-append before (32 ∷ []) in omega arith
-
--- a text joins the line
-there_is : (texts : List (List ℕ)) (k : ℕ) (go : List ℕ → Outcome) → k < length texts → if_there (slice_get texts k) go ≡ go (unwrap_or (slice_get texts k) [])
-there_is [] k go h = absurd (omega arith)
-there_is (text ∷ texts) zero go h = refl
-there_is (text ∷ texts) (suc k) go h = there_is texts k go (omega arith)
-
-pub text_comes : (texts : List (List ℕ)) (bench : Bench) (r : Contents) (slots : Slots) (at k : ℕ) (after : LineSeen)
-    → after ≡ record { pieces = bench.line.pieces ++ Text k ∷ []; bytes = bench.line.bytes } → k < length texts
-    → Going (at + 1) bench.operands (mem r (map (piece_text texts) after.pieces) bench.counters slots)
-    ≡ if_there (slice_get texts k) (λ text. Going (at + 1) bench.operands (mem r (map (piece_text texts) bench.line.pieces ++ text ∷ []) bench.counters slots))
-text_comes texts bench r slots at k after e h =
-    ap (λ (l : LineSeen). Going (at + 1) bench.operands (mem r (map (piece_text texts) l.pieces) bench.counters slots)) e
-    ∙ ap (λ (ps : List (List ℕ)). Going (at + 1) bench.operands (mem r ps bench.counters slots)) (map-append (piece_text texts) bench.line.pieces (Text k ∷ []))
-    ∙ sym (there_is texts k (λ text. Going (at + 1) bench.operands (mem r (map (piece_text texts) bench.line.pieces ++ text ∷ []) bench.counters slots)) h)

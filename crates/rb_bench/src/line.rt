@@ -4,7 +4,7 @@ ghost use Rattle.std.specs.Prelude.{◌≡◌, ℕ, ◌+◌, ◌*◌, ◌<◌, �
 ghost use Rattle.std.specs.Fmt.{signed_decimal};
 ghost use Rattle.rb_code.specs.Act.{joined_pieces};
 ghost use Rattle.rb_hold.specs.Held.{IsLine};
-ghost use Rattle.rb_proc.specs.Pieces.{AreTexts, IsText, piece_text};
+ghost use Rattle.rb_bench.specs.Pieces.{AreTexts, IsText, piece_text};
 
 use crate::room::put;
 use itoa::Buffer;
@@ -28,7 +28,7 @@ pub struct Line {
 
 impl Model for Line {
     ghost use Rattle.std.specs.Prelude.{◌≤◌, vec_len, vec_capacity};
-    ghost use Rattle.rb_proc.specs.LineSeen.{LineSeen};
+    ghost use Rattle.rb_bench.specs.LineSeen.{LineSeen};
 
     ghost Value = { LineSeen };
 

@@ -6,7 +6,7 @@ ghost use Rattle.rb_meaning.specs.Value.{applied, fitting, is_zero, span, truth}
 ghost use Rattle.rb_code.specs.Memory.{Memory};
 ghost use Rattle.rb_code.specs.Act.{Accepts, Going, Trapped, counted_on, counter_at, if_there, on_top, operate, or_trap, ranged, within};
 ghost use Rattle.rb_base.specs.declared.event.Cause.TheVariants.{Test as TestCause};
-ghost use Rattle.rb_proc.specs.Outcomes.{outcome_of};
+ghost use Rattle.rb_bench.specs.Outcomes.{outcome_of};
 
 use crate::counters::{Counters, Counting};
 use crate::next::Next;

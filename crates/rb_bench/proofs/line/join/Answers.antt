@@ -1,7 +1,7 @@
 use Rattle.std.proofs.Common.{◌≡◌, ℕ, ◌<◌, arith}
 use Rattle.std.proofs.lemmas.Bool.{eqb-false, eqb-true}
-use Rattle.rb_proc.proofs.Joins.{joined_more}
-use Rattle.rb_proc.proofs.line.join.Goals as goal
+use Rattle.rb_bench.proofs.Joins.{joined_more}
+use Rattle.rb_bench.proofs.line.join.Goals as goal
 use Rattle.std.specs.Prelude.{nat_eq}
 
 positive : (n : ℕ) → (n ≡ 0 → ⊥) → 0 < n

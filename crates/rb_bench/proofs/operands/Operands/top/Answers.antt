@@ -1,8 +1,8 @@
 use Rattle.std.proofs.Common.{◌-◌, ℤ, List, length, take, drop, ap, ◌∙◌, arith, length-take-le}
 use Rattle.std.proofs.lemmas.List.{length-reverse}
 use Rattle.rb_code.specs.Act.{arguments}
-use Rattle.rb_proc.proofs.Tops.{top_in}
-use Rattle.rb_proc.proofs.operands.Operands.top.Goals as goal
+use Rattle.rb_bench.proofs.Tops.{top_in}
+use Rattle.rb_bench.proofs.operands.Operands.top.Goals as goal
 
 pub returns : goal.returns
 returns c =

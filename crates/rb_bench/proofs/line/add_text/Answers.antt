@@ -1,6 +1,6 @@
 use Rattle.std.proofs.Common.{List, ℕ, length, ap, arith}
-use Rattle.rb_proc.proofs.Joins.{text_there}
-use Rattle.rb_proc.proofs.line.add_text.Goals as goal
+use Rattle.rb_bench.proofs.Joins.{text_there}
+use Rattle.rb_bench.proofs.line.add_text.Goals as goal
 
 pub add-requires : goal.add-requires
 add-requires c =

@@ -3,7 +3,7 @@
 ghost use Rattle.std.specs.Prelude.{◌≡◌, ◌<◌, ◌∷◌, [], None, slice_get, slice_set, option_map};
 ghost use Rattle.std.specs.Option.{unwrap_or};
 ghost use Rattle.rb_code.specs.Memory.{no_counters};
-ghost use Rattle.rb_proc.specs.Counting.{counting_of};
+ghost use Rattle.rb_bench.specs.Counting.{counting_of};
 
 use std::marker::Model;
 
@@ -27,7 +27,7 @@ impl Model for Counters {
 
     ghost Value = { List (Option Counts) };
 
-    ghost use Rattle.rb_proc.specs.Counting.{counting_of};
+    ghost use Rattle.rb_bench.specs.Counting.{counting_of};
 
     ghost view = { λ c. option_map counting_of c.first ∷ option_map counting_of c.second ∷ [] };
 }

@@ -5,8 +5,8 @@ use Rattle.std.specs.List.{AllByRecursion}
 use Rattle.std.specs.Option.{unwrap_or}
 use Rattle.rb_base.specs.declared.limits.TheConstants.{LONGEST_TEXT}
 use Rattle.rb_hold.specs.Held.{IsLine}
-use Rattle.rb_proc.specs.declared.line.Piece.{Piece}
-use Rattle.rb_proc.specs.declared.line.Piece.TheVariants.{Text, Number}
+use Rattle.rb_bench.specs.declared.line.Piece.{Piece}
+use Rattle.rb_bench.specs.declared.line.Piece.TheVariants.{Text, Number}
 
 -- the bytes of a piece
 abbrev pub piece_text : List (List ℕ) → Piece → List ℕ
