@@ -5,7 +5,7 @@ use Rattle.std.specs.Fmt.{decimal, signed_decimal}
 use lib.Signed.{mag}
 use Rattle.std.specs.Option.{unwrap_or}
 use Rattle.std.proofs.lemmas.Fmt.{decimal-digits_of, decimal_digit, length_signed_le}
-use Rattle.std.proofs.lemmas.List.{append_assoc, length-append, length-map, length-take-le, map-append, map_more}
+use Rattle.std.proofs.lemmas.List.{append_assoc, length-append, length-map, length-take-le, map_more}
 use Rattle.std.proofs.lemmas.List.Elements.{All-append, All-cons, All-nil}
 use Rattle.rb_hold.specs.Held.{IsLine}
 use Rattle.rb_code.specs.Act.{joined_pieces}

@@ -22,7 +22,7 @@ use Rattle.rb_code.proofs.LastOf.{former_is, last_level, reverse_none}
 use Rattle.rb_code.proofs.LoopSteps.{left_at}
 use Rattle.rb_code.proofs.Needs.{former_words}
 use Rattle.rb_code.proofs.Weaker.{rank}
-use Rattle.rb_code.proofs.Progress.{Progress, distance, left_from, potential}
+use Rattle.rb_code.proofs.Progress.{Progress, left_from, potential}
 use Rattle.rb_code.proofs.Safety.{From, from_here}
 use Rattle.rb_code.proofs.Served.{is_turn, met}
 use Rattle.rb_code.proofs.StandingSteps as standing

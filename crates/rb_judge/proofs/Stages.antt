@@ -6,10 +6,8 @@ use Rattle.rb_syntax.specs.Tree.{Tree}
 use Rattle.rb_grammar.specs.Verdict as texts
 use Rattle.rb_grammar.specs.Verdict.{HasTree}
 use Rattle.rb_scope.specs.Resolved as scopes
-use Rattle.rb_scope.specs.Resolved.{IsResolved}
 use Rattle.rb_scope.specs.Rules.{faults_of}
 use Rattle.rb_nest.specs.Nest as nesting
-use Rattle.rb_nest.specs.Nest.{IsNest}
 use Rattle.rb_judge.specs.Judged.{IsRefusal}
 use Rattle.rb_judge.specs.Verdict.{in_nesting, in_scopes, in_text}
 

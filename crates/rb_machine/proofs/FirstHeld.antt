@@ -1,5 +1,5 @@
 -- Before the first turn no process holds a line, so that none has anything to release.
-use Rattle.std.proofs.Common.{◌≡◌, ℕ, ◌+◌, ℤ, pos, List, [], ◌∷◌, map, slice_get, slice_set, Some, None, refl, sym, ap, ◌∙◌, subst, arith}
+use Rattle.std.proofs.Common.{◌≡◌, ℕ, ℤ, pos, List, [], ◌∷◌, map, slice_get, slice_set, Some, None, refl, sym, ap, ◌∙◌, subst, arith}
 use Rattle.std.specs.List.{AllByRecursion}
 use Rattle.rb_world.specs.Kind.{Membership}
 use Rattle.rb_code.specs.Plain.{Code, Part}
@@ -7,7 +7,6 @@ use Rattle.rb_code.specs.Memory.{body_place, held_place, word_at}
 use Rattle.rb_code.specs.Sound.{HasTable, Table}
 use Rattle.rb_code.specs.Turn.{Standing, settle}
 use Rattle.rb_code.specs.WellFormed.{ListsChannels}
-use Rattle.rb_code.specs.WordKind.{released}
 use Rattle.rb_code.specs.WordRun.{opening_standing, opening_standings}
 use Rattle.rb_code.proofs.StandsAgain.{opening_settles}
 use Rattle.rb_machine.specs.Loading.{first_seen}

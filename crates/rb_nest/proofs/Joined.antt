@@ -1,9 +1,8 @@
 -- A conversation of a tree without a fault is joined: each of its members has a `converse` for it.
-use Rattle.std.proofs.Common.{◌≡◌, ℕ, zero, suc, ◌+◌, nat_eq, nat_lt, Bool, true, false, not, ◌&&◌, ◌||◌, List, [], ◌∷◌, ◌++◌, length, map, position, slice_get, Option, Some, None, refl, sym, ap, ◌∙◌, subst}
+use Rattle.std.proofs.Common.{◌≡◌, ℕ, zero, suc, ◌+◌, nat_eq, nat_lt, Bool, true, false, not, ◌||◌, List, [], ◌∷◌, ◌++◌, length, slice_get, Option, Some, None, refl, sym, ap, ◌∙◌, subst}
 use Rattle.std.specs.List.{flat_map, list_any}
 use Rattle.std.proofs.lemmas.Bool.{eq-eqb}
 use Rattle.rb_base.specs.declared.fault.FaultName.TheVariants.{N6, N11}
-use Rattle.rb_base.specs.declared.fault.SourceFault.{SourceFault}
 use Rattle.rb_syntax.specs.Tree.{ConversationDeclaration, Identifier, Tree}
 use Rattle.rb_meaning.specs.Environment.{or_else, same_name}
 use Rattle.rb_meaning.specs.Groups.{conversation_number, number_or_zero, process_number}

@@ -1,5 +1,5 @@
 -- What is known of a file that was found by its name.
-use Rattle.std.proofs.Common.{◌≡◌, ℕ, suc, ◌<◌, List, ◌∷◌, length, drop, get_or, Some, Vec, true, cond, refl, sym, ap, subst, ◌∙◌, arith, nat_eq, drop-cons}
+use Rattle.std.proofs.Common.{◌≡◌, ℕ, suc, ◌<◌, List, ◌∷◌, length, drop, get_or, Some, Vec, true, cond, refl, sym, ap, subst, ◌∙◌, nat_eq, drop-cons}
 use Rattle.std.specs.List.{slice_get}
 use Rattle.std.specs.Option.{option_map}
 use Rattle.std.proofs.lemmas.Option.{slice_get_read, slice_get-map}

@@ -1,9 +1,9 @@
 -- A piece of the file of the newest start.
-use Rattle.std.proofs.Common.{◌≡◌, ℕ, zero, suc, ◌+◌, ◌-◌, ◌<◌, ◌≤◌, min, true, List, [], ◌∷◌, ◌++◌, length, take, drop, Option, Some, refl, sym, ap, ◌∙◌, arith, length-drop}
+use Rattle.std.proofs.Common.{◌≡◌, ℕ, zero, suc, ◌+◌, ◌-◌, ◌<◌, min, true, List, [], ◌∷◌, ◌++◌, length, take, drop, Some, refl, sym, ap, ◌∙◌, arith, length-drop}
 use Rattle.std.specs.Option.{option_map, unwrap_or}
 use Rattle.std.proofs.Math.Seq.{take-append_seam}
 use Rattle.std.proofs.lemmas.List.{length-take}
-use Rattle.rb_outside.specs.Outside.{File, Start, Passes, bytes_of}
+use Rattle.rb_outside.specs.Outside.{File, Start, Passes}
 use Rattle.rb_outside.specs.InMemory.{started_bytes}
 use Rattle.rb_outside.specs.Started.{start_of, name_at, IsReading}
 use Rattle.rb_outside.specs.declared.memory_shelf.Started.{Started}

@@ -1,5 +1,5 @@
 -- What contracts say of files and of output that are kept in memory, with calls that fail by their number.
-use Rattle.std.specs.Prelude.{ℕ, ◌+◌, ◌-◌, ◌^◌, min, nat_eq, Bool, not, ◌||◌, List, [], ◌∷◌, ◌++◌, length, take, drop, Option, Some, None, cond, is_none}
+use Rattle.std.specs.Prelude.{ℕ, ◌+◌, ◌-◌, min, nat_eq, Bool, not, ◌||◌, List, [], ◌∷◌, ◌++◌, length, take, drop, Option, Some, None, cond, is_none}
 use Rattle.std.specs.List.{list_any}
 use Rattle.std.specs.Option.{unwrap_or}
 use Rattle.rb_outside.specs.Outside.{File, Faults, Start, bytes_of, begun, shut, one_more, no_faults, went_well, failed_once, was_missing, told_starts}

@@ -4,7 +4,7 @@ use Rattle.rb_world.specs.Turn.{Told}
 use Rattle.rb_machine.specs.Machine.{HasTurned, Seen, opening_seen}
 use Rattle.rb_machine.specs.Work.{turn_work, turns_work}
 use Rattle.rb_run.specs.Running.{NoneWaits}
-use Rattle.rb_run.proofs.TurnsTaken.{after_turn, is_after}
+use Rattle.rb_run.proofs.TurnsTaken.{is_after}
 
 abbrev pub work_left : Seen → List ℕ → ℕ
 work_left m turns = turns_work m.code m.groups (m.taken + 1) turns m.world

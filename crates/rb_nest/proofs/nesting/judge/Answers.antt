@@ -1,11 +1,9 @@
-use Rattle.std.proofs.Common.{◌≡◌, None, Some, ap, subst, sym, ◌∙◌}
+use Rattle.std.proofs.Common.{ap, subst, sym, ◌∙◌}
 use Rattle.rb_syntax.specs.Plain.{tree}
 use Rattle.rb_meaning.specs.Groups.{groups_of}
 use Rattle.rb_meaning.specs.Nesting.{alternates_of}
 use Rattle.rb_scope.specs.FirstFault.{IsFirstOf}
-use Rattle.rb_scope.specs.Finding.{first_after}
 use Rattle.rb_scope.proofs.Order.{first_kept, nothing_kept}
-use Rattle.rb_nest.specs.Nest.{IsNest}
 use Rattle.rb_nest.specs.Rules.{nesting_faults}
 use Rattle.rb_nest.proofs.nesting.judge.Goals as goal
 

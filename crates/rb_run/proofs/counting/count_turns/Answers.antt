@@ -6,7 +6,7 @@ use Rattle.rb_machine.specs.Machine.{Seen}
 use Rattle.rb_run.specs.Counting.{IsMore}
 use Rattle.rb_run.proofs.TurnsTaken.{is_after, led_on, none_waits, ran_all}
 use Rattle.rb_run.proofs.TurnsUnseen.{counted_all, counted_on, none_waiting, rest_same, room_after, room_first}
-use Rattle.rb_run.proofs.TurnsWork.{work_left, work_on, work_through}
+use Rattle.rb_run.proofs.TurnsWork.{work_left, work_on}
 use Rattle.rb_run.proofs.counting.count_turns.Goals as goal
 
 pub turns-init : goal.turns-init

@@ -4,7 +4,7 @@ use Rattle.rb_trace.specs.Report.{told_of}
 use Rattle.rb_machine.specs.Machine.{Seen}
 use Rattle.rb_run.proofs.TurnsTaken.{is_after, led_on, none_waits, ran_all}
 use Rattle.rb_run.proofs.TurnsUnseen.{none_waiting, rest_same}
-use Rattle.rb_run.proofs.TurnsWork.{work_left, work_on, work_through}
+use Rattle.rb_run.proofs.TurnsWork.{work_left, work_on}
 use Rattle.rb_run.proofs.surviving.take_unseen.Goals as goal
 
 pub turns-preserved : goal.turns-preserved

@@ -1,4 +1,4 @@
-use Rattle.std.proofs.Common.{◌≡◌, ℕ, ◌+◌, Some, List, ◌∷◌, map, true, drop, sym, ap, subst, ◌∙◌}
+use Rattle.std.proofs.Common.{◌≡◌, ◌+◌, Some, List, ◌∷◌, map, true, drop, sym, ap, subst, ◌∙◌}
 use Rattle.rb_outside.specs.Outside.{File, Start, IsOpen, Reads}
 use Rattle.rb_outside.specs.InMemory.{started_bytes}
 use Rattle.rb_outside.specs.Started.{stored_files, start_of, starts_of, name_at, AreSound, IsReading}
