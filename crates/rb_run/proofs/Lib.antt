@@ -9,6 +9,7 @@ pub mod TurnsTaken
 pub mod RunWritten
 -- Lines that are counted, and records that are written.
 pub mod Counted
+pub mod Gathered
 pub mod Recorded
 pub mod TurnsUnseen
 pub mod TurnsWork

@@ -1,6 +1,7 @@
 //! A run: a loaded machine goes over a schedule, and its lines are written.
 #![tactic(auto)]
 
+mod block;
 pub mod counting;
 pub mod laws;
 pub mod record;
