@@ -59,10 +59,6 @@ pub record IsJoined (texts : List (List ℕ)) (pieces : List Piece) (i : ℕ) (b
   pub line : IsLine bytes
   pub short : length bytes ≤ 257 * i
 
-pub joined_none : (texts : List (List ℕ)) (pieces : List Piece) (bytes : List ℕ) → bytes ≡ [] → IsJoined texts pieces 0 bytes
-joined_none texts pieces bytes e =
-    record { joined = e; line = subst IsLine (sym e) (All-nil _); short = let k = ap length e in omega arith }
-
 pub joined_more : (texts : List (List ℕ)) (pieces : List Piece) (i : ℕ) (d : Piece) (before after : List ℕ) (is_first : Bool) → i < length pieces
     → (is_first ≡ true → i ≡ 0) → (is_first ≡ false → 0 < i) → IsJoined texts pieces i before → IsText (piece_text texts (get_or pieces i d))
     → after ≡ cond is_first before (before ++ 32 ∷ []) ++ piece_text texts (get_or pieces i d) → IsJoined texts pieces (i + 1) after

@@ -117,14 +117,3 @@ pub channel_there : (code : Held) (n : ℕ) (one : ChannelCode) → n < length (
 channel_there code n one h read =
     let within : n < length code.channels.items = omega (arith, h, length-map code.channels.items ends_of) in
     channel_lent code code.channels.items n one refl within read
-
--- a channel with a count is one of the code
-pub sent_within : (c : Code) (processes : List (Process Standing Copy)) (channel : ℕ) → channel < length (sent_of c processes)
-    → channel < length c.channels
-sent_within c processes channel h =
-    omega (arith, h, sent_long c (map (λ (q : Process Standing Copy). q.state) processes) 0 c.channels)
-
-pub taken_within : (c : Code) (processes : List (Process Standing Copy)) (channel : ℕ) → channel < length (taken_of c processes)
-    → channel < length c.channels
-taken_within c processes channel h =
-    omega (arith, h, taken_long c (map (λ (q : Process Standing Copy). q.state) processes) 0 c.channels)

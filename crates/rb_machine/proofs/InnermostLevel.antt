@@ -12,7 +12,7 @@ use Rattle.rb_proc.specs.Views.{IsViewOf}
 use Rattle.rb_proc.specs.declared.answers.LevelView.{LevelView}
 use Rattle.rb_proc.specs.declared.answers.Wanted.{Wanted}
 use Rattle.rb_machine.specs.Moves.{WantsThere}
-use Rattle.rb_machine.specs.Stepping.{IsInnermost, conversation_in, tried_by}
+use Rattle.rb_machine.specs.Stepping.{IsInnermost, tried_by}
 use Rattle.rb_machine.proofs.Changed.{last_there}
 
 -- the level at the last number is the innermost one
@@ -31,14 +31,6 @@ tried_seen None None h = refl
 tried_seen None (Some view) h = absurd h
 tried_seen (Some level) None h = absurd h
 tried_seen (Some level) (Some view) h = h.1
-
-pub none_seen : (o : Option (Level Copy)) → IsInnermost o None → None ≡ conversation_in o
-none_seen None h = refl
-none_seen (Some level) h = absurd h
-
-pub conversation_seen : (o : Option (Level Copy)) (view : LevelView) → IsInnermost o (Some view) → view.conversation ≡ conversation_in o
-conversation_seen None view h = absurd h
-conversation_seen (Some level) view h = ap (λ facts. facts.conversation) h.0
 
 -- what a process that was read wants tells the alternate of its step
 pub alternate_known : (c : Code) (procs : List Seen) (p : ℕ) (read : Seen) (answer : Wanted) (n : ℕ) → p < length procs → read ≡ get_or procs p read

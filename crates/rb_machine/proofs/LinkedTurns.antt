@@ -22,11 +22,6 @@ use Rattle.rb_code.specs.WordRun.{WordWorld, opening_of, opening_standings}
 use Rattle.rb_code.proofs.WholeRuns.MachineSteps.{IsSameProcess, LeavesLinks, settle_same, step_leaves}
 use Rattle.rb_machine.specs.Linked.{AreLinked, Fall, IsLinked, IsOwn}
 
--- links that fall do so from above 0, from below a higher number too, and each is below it
-pub fall_some : (t : ℕ) (links : List Link) → Fall t links → 0 < t
-fall_some t [] fall = fall
-fall_some t (link ∷ links) fall = omega (arith, fall.0)
-
 pub fall_later : (t u : ℕ) (links : List Link) → t ≤ u → Fall t links → Fall u links
 fall_later t u [] le fall = omega (arith, fall)
 fall_later t u (link ∷ links) le fall = (omega (arith, fall.0), fall.1)

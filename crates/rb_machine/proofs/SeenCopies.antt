@@ -1,10 +1,10 @@
 -- The copy that a receiver sees of a sender, as both lists of levels are walked from the outside in.
-use Rattle.std.proofs.Common.{◌≡◌, ℕ, zero, suc, ◌+◌, ◌≤◌, ◌<◌, true, false, cond, List, [], ◌∷◌, length, drop, slice_get, Option, Some, None, refl, ap, sym, subst, ◌∙◌, true≢false, add-one, arith}
+use Rattle.std.proofs.Common.{◌≡◌, ℕ, zero, suc, ◌+◌, true, false, cond, List, [], ◌∷◌, drop, slice_get, Option, Some, None, ap, sym, subst, ◌∙◌, true≢false, add-one, arith}
 use Rattle.std.proofs.lemmas.List.{drop_all}
 use Rattle.rb_world.specs.Channels.{seen_copy}
 use Rattle.rb_world.specs.World.{Level, is_shared}
 use Rattle.rb_world.proofs.ListFacts.{none_some, some_same}
-use Rattle.rb_machine.specs.Channels.{IsCopyAt, conversation_in, outermost_copy}
+use Rattle.rb_machine.specs.Channels.{IsCopyAt, conversation_in}
 
 -- what is of no conversation is not shared
 shared_none : (o : Option ℕ) → is_shared o None ≡ true → ⊥
@@ -40,17 +40,3 @@ pub own_is_seen : {C : Type 0} (ls ms : List (Level C)) (k : ℕ) (level : Level
     → is_shared (conversation_in (slice_get ls k)) (conversation_in (slice_get ms k)) ≡ false → seen_copy ls ms ≡ seen_copy (drop k ls) (drop k ms)
     → IsCopyAt ls (Some k) (seen_copy ls ms)
 own_is_seen ls ms k level there e so_far = (level, there, so_far ∙ own_at ls ms k level there e)
-
--- where all are passed the present is seen
-pub present_is_seen : {C : Type 0} (ls ms : List (Level C)) (k : ℕ) → length ls ≤ k → seen_copy ls ms ≡ seen_copy (drop k ls) (drop k ms)
-    → IsCopyAt ls None (seen_copy ls ms)
-present_is_seen ls ms k all so_far = so_far ∙ ap (λ l. seen_copy l (drop k ms)) (drop_all k ls all)
-
--- the outermost level, and none without a level
-pub outermost_there : {C : Type 0} (ls : List (Level C)) → 0 < length ls → IsCopyAt ls (Some 0) (outermost_copy ls)
-outermost_there [] some = absurd (omega arith)
-outermost_there (l ∷ ls) some = (l, refl, refl)
-
-pub outermost_none : {C : Type 0} (ls : List (Level C)) → length ls ≤ 0 → IsCopyAt ls None (outermost_copy ls)
-outermost_none [] none = refl
-outermost_none (l ∷ ls) none = absurd (omega arith)

@@ -1,7 +1,7 @@
 -- Frames in memory: each list has its innermost frame last, and definitions have it first.
 use Rattle.std.proofs.Common.{◌≡◌, ◌+◌, ◌-◌, ◌<◌, ◌≤◌, ℕ, ℤ, suc, true, false, cond, ◌||◌, List, [], ◌∷◌, ◌++◌, map, reverse, length, get_or, set, take, drop, sym, ap, ◌∙◌, subst, arith, add-one, Vec, Global}
 use Rattle.std.specs.List.{list_any}
-use Rattle.std.proofs.lemmas.List.{append-nil, append_assoc, reverse-append, take_all, drop_all, take_more, drop_more, set_split, map-set, set-get_or, get_or-map, length-map, with_items_is}
+use Rattle.std.proofs.lemmas.List.{append_assoc, reverse-append, take_all, drop_all, take_more, drop_more, set_split, map-set, set-get_or, get_or-map, length-map, with_items_is}
 use Rattle.std.specs.Vec.{with_items}
 use Rattle.rb_meaning.specs.Environment.{Frame, has, stored_in, stored_among}
 use Rattle.rb_plain.specs.declared.frames.Slot.{Slot}
@@ -81,10 +81,6 @@ innermost_stored x i v fs k d out one =
     ∙ sym (out.among i v
     ∙ ap (λ (gs : List Frame). reverse (drop (k + 1) fs) ++ stored_among x i v gs) (reverse-more fs k d here)
     ∙ ap (λ b. reverse (drop (k + 1) fs) ++ cond b (stored_in x i v (get_or fs k d) ∷ reverse (take k fs)) (get_or fs k d ∷ stored_among x i v (reverse (take k fs)))) one)
-
--- no frame has it, and none is changed
-pub none_stored : (x : List ℕ) (i : ℕ) (v : ℤ) (fs : List Frame) → IsFurtherOut x fs 0 → reverse fs ≡ stored_among x i v (reverse fs)
-none_stored x i v fs out = sym (out.among i v ∙ append-nil (reverse fs))
 
 -- a frame in memory
 abbrev pub frame_in : Vec Slot Global → Frame

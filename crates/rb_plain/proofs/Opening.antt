@@ -1,5 +1,5 @@
 -- The processes before the first turn, one after another.
-use Rattle.std.proofs.Common.{◌≡◌, ◌<◌, ◌≤◌, ◌+◌, ℕ, List, [], ◌∷◌, ◌++◌, suc, length, map, drop, get_or, refl, sym, ap, ◌∙◌, append_assoc, append-nil, arith, drop_of_length-le}
+use Rattle.std.proofs.Common.{◌≡◌, ◌<◌, ◌≤◌, ◌+◌, ℕ, List, [], ◌∷◌, ◌++◌, suc, length, map, drop, get_or, refl, sym, ap, ◌∙◌, append_assoc, arith}
 use Rattle.std.proofs.lemmas.List.{length-map, map-append}
 use Rattle.rb_base.specs.declared.names.Names.{Names}
 use Rattle.rb_syntax.specs.Plain.{process_declaration}
@@ -9,9 +9,7 @@ use Rattle.rb_trace.proofs.Ended.{from_item}
 use Rattle.rb_trace.specs.Naming.{naming, process_naming}
 use Rattle.rb_world.specs.World.{Process as Seen, settled}
 use Rattle.rb_world.specs.Text.{Naming}
-use Rattle.rb_world.specs.Turn.{opening_talks}
 use Rattle.rb_meaning.specs.State.{State}
-use Rattle.rb_meaning.specs.Groups.{groups_of}
 use Rattle.rb_meaning.specs.Meaning.{naming_of, opening_state, opening_states, process_named}
 use Rattle.rb_meaning.specs.PlainRun.{EntryPoint, PlainWorld}
 use Rattle.rb_plain.specs.declared.process.Process.{Process}
@@ -34,17 +32,6 @@ opened_more tree declared i one made process whole within is new so_far =
     ∙ ap (λ (ds : List Declaration). map process_of made ++ map (λ s. settled (unkept_kind tree) s []) (opening_states tree i (map process_declaration ds)))
     (sym (from_item declared i one within is))
     ∙ so_far
-
--- all were opened
-pub opened_all : (tree : Tree) (declared : List Declaration) (i : ℕ) (made : List Process) → tree.processes ≡ map process_declaration declared → length declared ≤ i
-    → map process_of made ++ opened_from tree i declared ≡ opened_from tree 0 declared → world_of tree made ≡ unkept_opening tree
-opened_all tree declared i made is past so_far =
-    ap (λ (qs : List (Seen State EntryPoint)). record { processes = qs; talks = opening_talks (groups_of tree); memory = tt })
-    (sym (append-nil (map process_of made))
-    ∙ ap (λ (ds : List Declaration). map process_of made ++ map (λ s. settled (unkept_kind tree) s []) (opening_states tree i (map process_declaration ds)))
-    (sym (drop_of_length-le declared past))
-    ∙ so_far
-    ∙ ap (λ (ds : List ProcessDeclaration). map (λ s. settled (unkept_kind tree) s []) (opening_states tree 0 ds)) (sym is))
 
 -- there are as many as have names
 length_states : (tree : Tree) (p : ℕ) (processes : List ProcessDeclaration) → length (opening_states tree p processes) ≡ length processes

@@ -38,10 +38,6 @@ pub every_on : (n i : ℕ) (a : ℤ) (f : ℤ → Outcome) (v : ℤ) → i < n �
 every_on n i a f v h e z =
     every_step n i a f (Ok v) h e ∙ ap (λ b. cond b (Ok (pos 0)) (every_from (n - (i + 1)) (a +ℤ pos (i + 1)) f)) z
 
--- no number is left
-pub every_done : (n i : ℕ) (a : ℤ) (f : ℤ → Outcome) → n ≤ i → every_from (n - i) (a +ℤ pos i) f ≡ Ok (pos 1)
-every_done n i a f h = ap (λ m. every_from m (a +ℤ pos i) f) (none_left n i h)
-
 -- the same where one has to hold
 some_step : (n i : ℕ) (a : ℤ) (f : ℤ → Outcome) (body : Outcome) → i < n → f (a +ℤ pos i) ≡ body → some_from (n - i) (a +ℤ pos i) f ≡ and_then body (λ v. cond (is_zero v) (some_from (n - (i + 1)) (a +ℤ pos (i + 1)) f) (Ok (pos 1)))
 some_step n i a f body h e =
@@ -63,10 +59,6 @@ pub some_on : (n i : ℕ) (a : ℤ) (f : ℤ → Outcome) (v : ℤ) → i < n �
 some_on n i a f v h e z =
     some_step n i a f (Ok v) h e ∙ ap (λ b. cond b (some_from (n - (i + 1)) (a +ℤ pos (i + 1)) f) (Ok (pos 1))) z
 
--- no number is left
-pub some_done : (n i : ℕ) (a : ℤ) (f : ℤ → Outcome) → n ≤ i → some_from (n - i) (a +ℤ pos i) f ≡ Ok (pos 0)
-some_done n i a f h = ap (λ m. some_from m (a +ℤ pos i) f) (none_left n i h)
-
 -- the same for a sum so far
 sum_step : (n i : ℕ) (a : ℤ) (f : ℤ → Outcome) (total : ℤ) (body : Outcome) → i < n → f (a +ℤ pos i) ≡ body → sum_from (n - i) (a +ℤ pos i) f total ≡ and_then body (λ v. and_then (fitting (total +ℤ v)) (sum_from (n - (i + 1)) (a +ℤ pos (i + 1)) f))
 sum_step n i a f total body h e =
@@ -82,10 +74,6 @@ sum_trap n i a f total cause h e = sum_step n i a f total (Err cause) h e
 pub sum_on : (n i : ℕ) (a : ℤ) (f : ℤ → Outcome) (total v : ℤ) (added : Outcome) → i < n → f (a +ℤ pos i) ≡ Ok v → fitting (total +ℤ v) ≡ added → sum_from (n - i) (a +ℤ pos i) f total ≡ and_then added (sum_from (n - (i + 1)) (a +ℤ pos (i + 1)) f)
 sum_on n i a f total v added h e g =
     sum_step n i a f total (Ok v) h e ∙ ap (λ o. and_then o (sum_from (n - (i + 1)) (a +ℤ pos (i + 1)) f)) g
-
--- no number is left
-pub sum_done : (n i : ℕ) (a : ℤ) (f : ℤ → Outcome) (total : ℤ) → n ≤ i → sum_from (n - i) (a +ℤ pos i) f total ≡ Ok total
-sum_done n i a f total h = ap (λ m. sum_from m (a +ℤ pos i) f total) (none_left n i h)
 
 -- what a test against 0 says, where it reads the bits of a number
 pub is_zero_bits : (z : ℤ) → FitsSigned w64 z → of_z w64 z ≡ 0 → is_zero z ≡ true

@@ -20,11 +20,6 @@ pub puts_well : {E D : Type 0} (a : List ℕ) (w0 w1 : Option (List ℕ)) (f0 f1
     → Puts {T = Unit {0}} {E = E} a w0 w1 f0 f1 (Ok done) → Puts {T = Unit {0}} {E = D} a w0 w1 f0 f1 (Ok tt)
 puts_well a w0 w1 f0 f1 done p = record { ok = p.ok; quiet = p.quiet; err = tt; failed = tt }
 
--- what a sink answered
-pub writes_well : (a : List ℕ) (w0 w1 : Option (List ℕ)) (f0 f1 : Faults) (done : Unit {0}) (r : Result (Unit {0}) PlainAnswer) → r ≡ Ok tt
-    → Puts {T = Unit {0}} {E = Failed} a w0 w1 f0 f1 (Ok done) → Writes a w0 w1 f0 f1 r
-writes_well a w0 w1 f0 f1 done r e p = subst (Writes a w0 w1 f0 f1) (sym e) (puts_well a w0 w1 f0 f1 done p)
-
 pub puts_failed : (a : List ℕ) (w0 w1 : Option (List ℕ)) (f0 f1 : Faults) (failed : Failed) → Puts {T = Unit {0}} {E = Failed} a w0 w1 f0 f1 (Err failed)
     → Puts {T = Unit {0}} {E = PlainAnswer} a w0 w1 f0 f1 (Err WriteFault)
 puts_failed a w0 w1 f0 f1 failed p = record { ok = tt; quiet = tt; err = p.err; failed = p.failed }

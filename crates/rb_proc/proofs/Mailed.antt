@@ -1,8 +1,6 @@
 -- Channels: places of cursors, and slots that are written.
-use Rattle.std.proofs.Common.{◌≡◌, ℕ, zero, suc, ◌+◌, ◌<◌, ◌≤◌, ◌%◌, ◌+ℤ◌, ℤ, pos, Option, List, [], ◌∷◌, map, length, drop, refl, ap, sym, ◌∙◌, arith}
-use Rattle.std.specs.Prelude.{cond, get_or, slice_set}
-use Rattle.std.proofs.lemmas.Bool.{eq-eqb, ne_eqb}
-use Rattle.std.proofs.Math.Seq.{drop-cons}
+use Rattle.std.proofs.Common.{◌≡◌, ℕ, zero, suc, ◌+◌, ◌<◌, ◌≤◌, ◌%◌, ◌+ℤ◌, ℤ, pos, Option, List, [], ◌∷◌, map, length, refl, ap, sym, ◌∙◌, arith}
+use Rattle.std.specs.Prelude.{get_or, slice_set}
 use Rattle.std.proofs.lemmas.List.{length-set}
 use Rattle.rb_world.specs.Kind.{Ends}
 use Rattle.rb_world.specs.Slots.{Slots, put_slot, size_on}
@@ -10,7 +8,7 @@ use Rattle.rb_world.specs.World.{change_at}
 use Rattle.rb_meaning.specs.Environment.{natural}
 use Rattle.rb_cache.specs.Copies.{change_last, joined}
 use Rattle.rb_code.specs.Plain.{Code}
-use Rattle.rb_code.specs.Memory.{Counting, cursor_place, part_of, place_among, word_at}
+use Rattle.rb_code.specs.Memory.{Counting, cursor_place, part_of, word_at}
 use Rattle.rb_code.specs.Act.{Going, Outcome, Sight, on_top, put}
 use Rattle.rb_proc.specs.Contents.{Contents}
 use Rattle.rb_proc.specs.Outcomes.{mem}
@@ -42,17 +40,6 @@ pub lengths_kept : (k : ℕ) (n : List ℤ → ℕ) (v : ℤ) (slots : Slots) �
 lengths_kept k n v [] = refl
 lengths_kept zero n v (values ∷ slots) = ap (λ l. l ∷ map length slots) (length-set values (n values) v)
 lengths_kept (suc k) n v (values ∷ slots) = ap (λ (ls : List ℕ). length values ∷ ls) (lengths_kept k n v slots)
-
--- a channel's place, looked for from the front
-pub place_here : (xs : List ℕ) (c i : ℕ) → i < length xs → get_or xs i 0 ≡ c → place_among c (drop i xs) ≡ 0
-place_here xs c i h e =
-    ap (place_among c) (drop-cons xs i 0 h)
-    ∙ ap (λ b. cond b 0 (suc (place_among c (drop (suc i) xs)))) (eq-eqb (get_or xs i 0) c e)
-
-pub place_further : (xs : List ℕ) (c i : ℕ) → i < length xs → (get_or xs i 0 ≡ c → ⊥) → place_among c (drop i xs) ≡ suc (place_among c (drop (suc i) xs))
-place_further xs c i h ne =
-    ap (place_among c) (drop-cons xs i 0 h)
-    ∙ ap (λ b. cond b 0 (suc (place_among c (drop (suc i) xs)))) (ne_eqb (get_or xs i 0) c ne)
 
 -- a value is put into a channel
 pub put_comes : (c : Code) (see : Sight) (p channel at place : ℕ) (ops rest : List ℤ) (v cursor next : ℤ) (old new : Contents) (before after : Slots)

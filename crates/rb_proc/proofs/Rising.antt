@@ -19,11 +19,6 @@ pub rise_more : (ns : List ℕ) (last more : ℕ) → last ≤ more → Rise ns 
 rise_more [] last more le h = tt
 rise_more (n ∷ ns) last more le h = (let below = first_more ns last more le in let x = h.0 in omega arith, rise_more ns last more le h.1)
 
--- one more, at the end
-first_push : (ns : List ℕ) (n last : ℕ) → first_or (ns ++ n ∷ []) last ≡ first_or ns n
-first_push [] n last = refl
-first_push (m ∷ ns) n last = refl
-
 pub rise_push : (ns : List ℕ) (n last : ℕ) → Rise ns n → n ≤ last → Rise (ns ++ n ∷ []) last
 rise_push [] n last h le = (le, tt)
 rise_push (m ∷ ns) n last h le = (subst (λ x. m ≤ x) (sym_first ns n last) h.0, rise_push ns n last h.1 le)

@@ -6,9 +6,8 @@ use Rattle.rb_base.specs.declared.event.Cause.{Cause}
 use Rattle.rb_world.specs.Kind.{Ends, Want, NothingLeft, SendsOn, ReceivesOn, MayReceiveOn, Enters, Starts, Acts}
 use Rattle.rb_world.specs.Slots.{Slots, slot_of}
 use Rattle.rb_world.specs.World.{Level, Process, Status as Stands, copy_of, goes_on, last_of, settled, status_at}
-use Rattle.rb_meaning.specs.Environment.{natural}
 use Rattle.rb_code.specs.Plain.{Code}
-use Rattle.rb_code.specs.Memory.{Counting, Memory, no_counters, word_at}
+use Rattle.rb_code.specs.Memory.{Counting, Memory, no_counters}
 use Rattle.rb_code.specs.Act.{Accepts, Going, Outcome as Came, Sight as Seen, Stopped, Trapped, Unfinished, execute, move}
 use Rattle.rb_code.specs.Turn.{Copy, Standing, came_to, memory_of, most_steps, prior_words, settled_by, sight, standing_at, want, wants_there}
 use Rattle.rb_world.specs.Kind.{Membership}
@@ -73,11 +72,6 @@ slot_none channels [] k n h = refl
 slot_none channels (vs ∷ slots) zero n h = absurd (omega arith)
 slot_none [] (vs ∷ slots) (suc k) n h = slot_none [] slots k n (omega arith)
 slot_none (ends ∷ channels) (vs ∷ slots) (suc k) n h = slot_none channels slots k n (omega arith)
-
-pub word_none : (words : List ℤ) (at : ℕ) → length words ≤ at → 0 ≡ natural (word_at words at)
-word_none [] at h = refl
-word_none (w ∷ words) zero h = absurd (omega arith)
-word_none (w ∷ words) (suc at) h = word_none words at (omega arith)
 
 module _ (c : Code) (q : Process Standing Copy) (slots : Slots) (there : Bool) where
   -- what the instructions of a step come to

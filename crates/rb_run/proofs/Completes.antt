@@ -1,20 +1,16 @@
 -- How a text is written part by part.
-use Rattle.std.proofs.Common.{◌≡◌, ℕ, List, [], ◌++◌, Option, Result, Ok, Err, IsErr, refl, sym, ap, ◌∙◌, append_assoc}
+use Rattle.std.proofs.Common.{◌≡◌, ℕ, List, [], ◌++◌, Option, Result, Ok, Err, IsErr, sym, ap, ◌∙◌, append_assoc}
 use Rattle.std.proofs.lemmas.List.{append-nil}
 use Rattle.rb_outside.specs.declared.Failed.{Failed}
 use Rattle.rb_outside.specs.Outside.{Faults}
 use Rattle.rb_outside.specs.Puts.{Puts}
-use Rattle.rb_outside.proofs.Puts.{puts_nothing, puts_both, puts_same, puts_stopped_at}
+use Rattle.rb_outside.proofs.Puts.{puts_both, puts_same, puts_stopped_at}
 
 -- so far a text was written up to these bytes
 pub record Remains (rest whole : List ℕ) (old now : Option (List ℕ)) (before at : Faults) : Type 0 where
   pub done : List ℕ
   pub parts : done ++ rest ≡ whole
   pub wrote : Puts {T = Unit {0}} {E = Failed} done old now before at (Ok tt)
-
--- nothing was written yet
-pub remains_all : (whole : List ℕ) (w : Option (List ℕ)) (f : Faults) → Remains whole whole w w f f
-remains_all whole w f = record { done = []; parts = refl; wrote = puts_nothing w f tt }
 
 -- another name for what is left
 pub remains_same : (a b whole : List ℕ) (w0 w1 : Option (List ℕ)) (f0 f1 : Faults) → a ≡ b → Remains a whole w0 w1 f0 f1 → Remains b whole w0 w1 f0 f1
