@@ -24,7 +24,8 @@ use Rattle.rb_proc.specs.Runs.{CursorsRise}
 use Rattle.rb_machine.specs.AtWork.{HasFewAlternates, IsStep, MayActNow}
 use Rattle.rb_machine.specs.Cascade.{AreQuiet, MayRejectAt, TriesWith}
 use Rattle.rb_machine.specs.Known.{IsKnown, IsLoaded, IsTried}
-use Rattle.rb_machine.specs.Stepping.{IsListed, MayLeave, MayStep, conversation_in}
+use Rattle.rb_machine.specs.Channels.{conversation_in}
+use Rattle.rb_machine.specs.Stepping.{IsListed, MayLeave, MayStep}
 use Rattle.rb_machine.specs.Worlds.{CanRise, NoneWaits, counts_of, processes_of, world_of}
 use Rattle.rb_machine.proofs.Changed.{all_of_each, all_there, last_found}
 

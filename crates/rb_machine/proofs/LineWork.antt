@@ -10,7 +10,8 @@ use Rattle.rb_conv.specs.Conversations.{Conversation, memberships, talks}
 use Rattle.rb_conv.proofs.TalksAfterCalls.{map_changed}
 use Rattle.rb_proc.specs.Process.{Seen}
 use Rattle.rb_trace.proofs.Counted.{counted_more}
-use Rattle.rb_machine.specs.Stepping.{conversation_in, stood}
+use Rattle.rb_machine.specs.Channels.{conversation_in}
+use Rattle.rb_machine.specs.Stepping.{stood}
 use Rattle.rb_machine.specs.Work.{named_accepted, named_accepted_at, named_at_line, named_by_member, named_leaving}
 use Rattle.rb_machine.specs.Worlds.{kind_with, processes_of, world_of}
 use Rattle.rb_machine.proofs.Changed.{change_there, none_last}

@@ -20,7 +20,8 @@ use Rattle.rb_proc.specs.declared.answers.Outcome.TheVariants as outcome
 use Rattle.rb_machine.specs.AtWork.{IsAtWork, IsStep, MayAct}
 use Rattle.rb_machine.specs.Cascade.{AreQuiet, HasHappened, MayRejectAt}
 use Rattle.rb_machine.specs.Moves.{passes_of}
-use Rattle.rb_machine.specs.Stepping.{HasStepped, HasTaken, HoldsTest, IsListed, MayLeave, MayStep, conversation_in, turn_kept}
+use Rattle.rb_machine.specs.Channels.{conversation_in}
+use Rattle.rb_machine.specs.Stepping.{HasStepped, HasTaken, HoldsTest, IsListed, MayLeave, MayStep, turn_kept}
 use Rattle.rb_machine.specs.Worlds.{NoneWaits, kind_with, memory_of, world_of}
 use Rattle.rb_machine.specs.declared.links.Link.{Link as Linked}
 use Rattle.rb_machine.proofs.KnownHere.{are_quiet, is_listed, may_leave, may_reject, may_step, process_there}

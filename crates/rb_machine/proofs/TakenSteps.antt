@@ -21,7 +21,8 @@ use Rattle.rb_proc.specs.Process.{Seen, alternate_for, message_for, step_of}
 use Rattle.rb_proc.specs.declared.answers.Outcome.{Outcome}
 use Rattle.rb_proc.specs.declared.answers.Outcome.TheVariants as outcome
 use Rattle.rb_machine.specs.Cascade.{HasHappened}
-use Rattle.rb_machine.specs.Stepping.{HasStepped, HasTaken, HoldsTest, IsListed, MayLeave, MayStep, SettlesOnceAccepted, conversation_in, turn_kept}
+use Rattle.rb_machine.specs.Channels.{conversation_in}
+use Rattle.rb_machine.specs.Stepping.{HasStepped, HasTaken, HoldsTest, IsListed, MayLeave, MayStep, SettlesOnceAccepted, turn_kept}
 use Rattle.rb_machine.specs.Worlds.{NoneWaits, kind_with, link_of, memory_of, processes_of, world_of}
 use Rattle.rb_machine.specs.declared.links.Link.{Link as Linked}
 use Rattle.rb_machine.proofs.Changed.{all_changed, change_after, change_twice, none_last, same_there}

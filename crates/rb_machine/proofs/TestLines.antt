@@ -14,7 +14,8 @@ use Rattle.rb_conv.specs.Conversations.{Conversation, conversation_at, emptied, 
 use Rattle.rb_conv.proofs.TalksAfterCalls.{map_changed, map_same, members_stay, talks_are_the_worlds}
 use Rattle.rb_proc.specs.Process.{Seen}
 use Rattle.rb_machine.specs.Cascade.{SameGroups}
-use Rattle.rb_machine.specs.Stepping.{HasTaken, HoldsTest, MayLeave, conversation_in, level_gone, line_left, stood}
+use Rattle.rb_machine.specs.Channels.{conversation_in}
+use Rattle.rb_machine.specs.Stepping.{HasTaken, HoldsTest, MayLeave, level_gone, line_left, stood}
 use Rattle.rb_machine.specs.Worlds.{NoneWaits, counts_of, kind_with, processes_of, world_of}
 use Rattle.rb_machine.proofs.Changed.{all_changed, all_mapped, change_there, none_last}
 

@@ -65,11 +65,6 @@ pub record HoldsTest (c : Code) (one : Seen) : Type 0 where
   pub inside : 0 < length one.process.levels
   pub settles : SettlesOnceAccepted c one.process
 
--- the conversation of a level, if it has one
-abbrev pub conversation_in : Option (Level Copy) → Option ℕ
-conversation_in None = None
-conversation_in (Some level) = level.facts.conversation
-
 -- a conversation is one of so many, if there is one
 abbrev pub IsListed : ℕ → Option ℕ → Type 0
 IsListed n None = Unit {0}

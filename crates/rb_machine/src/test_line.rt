@@ -11,7 +11,8 @@ ghost use Rattle.rb_conv.specs.Conversations.{memberships};
 ghost use Rattle.rb_proc.specs.Executable.{IsExecutable};
 ghost use Rattle.rb_proc.specs.Process.{Seen};
 ghost use Rattle.rb_machine.specs.Cascade.{SameGroups};
-ghost use Rattle.rb_machine.specs.Stepping.{HasTaken, HoldsTest, IsListed, MayLeave, conversation_in, level_gone, line_left, stood};
+ghost use Rattle.rb_machine.specs.Channels.{conversation_in};
+ghost use Rattle.rb_machine.specs.Stepping.{HasTaken, HoldsTest, IsListed, MayLeave, level_gone, line_left, stood};
 ghost use Rattle.rb_machine.specs.Work.{named_accepted, named_at_line, named_by_member, named_leaving};
 ghost use Rattle.rb_machine.specs.Worlds.{NoneWaits, kind_with, processes_of, world_of};
 
