@@ -3,11 +3,12 @@ use Rattle.std.proofs.Common.{◌≡◌, ℕ, zero, suc, ◌+◌, ◌≤◌, Lis
 use Rattle.std.specs.Prelude.{false, slice_get, slice_set, option_map}
 use Rattle.rb_code.specs.Plain.{Block, Code}
 use Rattle.rb_code.specs.StandsFor.{numbers_from, text_numbers}
-use Rattle.rb_code.specs.Template.{Template, ◌⨾◌, Empty, Only, At, Label, Quoted, WithBlock, Listed}
+use Rattle.rb_code.specs.Template.{Template, ◌⨾◌, Empty, One, Only, At, Label, Quoted, WithBlock, Listed}
+use Rattle.rb_code.specs.Forms.{DropCode, FrameCode}
 use Rattle.rb_code.specs.declared.instr.Instr.{Instr}
-use Rattle.rb_code.specs.declared.instr.Instr.TheVariants.{Jump, Text}
+use Rattle.rb_code.specs.declared.instr.Instr.TheVariants.{Drop, Frame, Jump, Text}
 use Rattle.rb_draft.specs.Output.{Output, added, filled_with, is_text, linked, patched, settled}
-use Rattle.rb_draft.specs.Emits.{Grows, Keeps, Emits, Placed}
+use Rattle.rb_draft.specs.Emits.{Adds, Grows, Keeps, Emits, Placed}
 use Rattle.rb_draft.proofs.Growing.{get_end, get_set, get_other, same_length, texts-added, texts-append, texts-set, numbers-append, grows_self, grows_more, keeps_self, follows_self, follows_on, follows_back, includes_front, includes_back, includes_late, includes_early}
 
 -- one template after another
@@ -188,3 +189,12 @@ filled-last (g ∷ gs) h i o =
 pub filled-length : (hs : List ℕ) (i : Instr) (o : Output) → length (filled_with hs i o).instrs ≡ length o.instrs
 filled-length [] i o = refl
 filled-length (h ∷ hs) i o = filled-length hs i (patched o h i) ∙ same_length o.instrs h i
+
+-- the words of a frame, of which there are some
+pub frame_row : (n : ℕ) {c d : Output} → (n ≡ 0 → ⊥) → Adds (One (Frame n)) c d → Adds (FrameCode n) c d
+frame_row zero h p = absurd (h refl)
+frame_row (suc n) h p = p
+
+pub drop_row : (n : ℕ) {c d : Output} → (n ≡ 0 → ⊥) → Adds (One (Drop n)) c d → Adds (DropCode n) c d
+drop_row zero h p = absurd (h refl)
+drop_row (suc n) h p = p

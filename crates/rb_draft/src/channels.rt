@@ -6,8 +6,8 @@ ghost use Rattle.rb_code.specs.Plain.{channel as plain_channel};
 ghost use Rattle.rb_code.specs.StandsFor.{channels_from};
 ghost use Rattle.rb_draft.specs.Channels.{ends_by};
 
+use crate::frames::natural;
 use crate::lookups::process_of;
-use crate::sizes::natural;
 use rb_base::Memory;
 use rb_code::ChannelCode;
 use rb_scope::Slot;

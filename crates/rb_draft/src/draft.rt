@@ -2,11 +2,13 @@
 
 ghost use Rattle.std.specs.Prelude.{◌≡◌, ◌<◌, ℕ, false, length, IfOk, OnOk};
 ghost use Rattle.rb_code.specs.Plain.{block as plain_block};
+ghost use Rattle.rb_code.specs.Template.{Quoted};
 ghost use Rattle.rb_draft.specs.Output.{added, filled_with, is_text, linked, output, patched, settled};
-ghost use Rattle.rb_draft.specs.Emits.{Emits, Placed};
+ghost use Rattle.rb_draft.specs.Emits.{Adds, Emits, Placed};
 
 use rb_base::{Memory, Text};
 use rb_code::{BlockCode, Instr};
+use std::alloc::Global;
 
 /// The code so far. A call that is not linked yet has the number of its procedure in place of an address.
 #[derive(Drop)]
@@ -35,6 +37,17 @@ pub fn put(draft: &mut Draft, instr: Instr) -> Result<(), Memory>
     ensures { OnOk result (is_text instr ≡ false → (p n : ℕ) → Emits (linked p) n n (Placed p instr) (output draft.old) (output draft.new)) }
 {
     draft.instrs.push(instr)?;
+    Ok(())
+}
+
+/// Adds a text, and the instruction that names it.
+pub fn put_text(alloc: Global, draft: &mut Draft, text: &[u8]) -> Result<(), Memory>
+    ensures { OnOk result (Adds (Quoted text.now) (output draft.old) (output draft.new)) }
+{
+    let number = narrow(draft.texts.len())?;
+    let copy = Text::from_slice(alloc, text)?;
+    draft.texts.push(copy)?;
+    draft.instrs.push(Instr::Text(number))?;
     Ok(())
 }
 

@@ -3,7 +3,7 @@
 
 pub mod channels;
 pub mod draft;
+pub mod frames;
 pub mod lookups;
-pub mod sizes;
 
-pub use draft::{Draft, fill, here, leave, narrow, patch, put, settle};
+pub use draft::{Draft, fill, here, leave, narrow, patch, put, put_text, settle};

@@ -1,5 +1,5 @@
 -- The code of expressions and of simple statements, as it is put together.
-use Rattle.std.proofs.Common.{◌≡◌, ℕ, zero, suc, List, Option, refl, sym, ap, ◌∙◌, subst, ℤ}
+use Rattle.std.proofs.Common.{◌≡◌, ℕ, List, Option, refl, sym, ap, ◌∙◌, subst, ℤ}
 use Rattle.std.specs.Prelude.{false, get_or, map}
 use Rattle.std.specs.Option.{unwrap_or}
 use Rattle.std.proofs.lemmas.Option.{slice_get-map, unwrap_or-slice_get}
@@ -17,10 +17,10 @@ use Rattle.rb_syntax.specs.Tree.{Identifier, Expression, Literal, Variable, Form
 use Rattle.rb_scope.specs.declared.slot.Slot.{Slot}
 use Rattle.rb_code.specs.declared.instr.Instr.{Instr}
 use Rattle.rb_code.specs.declared.instr.Spot.{Spot}
-use Rattle.rb_code.specs.declared.instr.Instr.TheVariants.{Call, Drop, Frame, Item, Put, Room, Turn, Push, Prior, Bound, LoadAt, PriorAt, Store, StoreAt, Neg, Not}
+use Rattle.rb_code.specs.declared.instr.Instr.TheVariants.{Call, Item, Put, Room, Turn, Push, Prior, Bound, LoadAt, PriorAt, Store, StoreAt, Neg, Not}
 use Rattle.rb_code.specs.Slots.{counter_of, elements_of, quantified_of, spot_of}
 use Rattle.rb_code.specs.Template.{Template, One, ◌⨾◌, Quoted}
-use Rattle.rb_code.specs.Forms.{AndCode, Called, OrCode, PrintedCode, procedure_words, DropCode, FrameCode, EveryCode, ExpressionCode, LinksCode, OperatorCode, QuantifiedCode, ScalarCode, SomeCode, StoreCode, SubscriptCode, SumCode}
+use Rattle.rb_code.specs.Forms.{AndCode, Called, OrCode, PrintedCode, procedure_words, EveryCode, ExpressionCode, LinksCode, OperatorCode, QuantifiedCode, ScalarCode, SomeCode, StoreCode, SubscriptCode, SumCode}
 use Rattle.rb_draft.specs.Output.{Output, is_text, linked}
 use Rattle.rb_gen.specs.InMemory.{operator}
 use Rattle.rb_draft.specs.Emits.{Adds, Emits, Placed}
@@ -158,15 +158,6 @@ pub store_element : (slots : List Slot) (name : Identifier) {bound : ℕ} {s : S
 store_element slots name {P = P} {c = c} {d = d} {e = e} {f = f} {g = g} is at same p q r t =
     let b : Adds (One (Bound (elements_of slots name.id))) d e = subst (λ (n : ℕ). Adds (One (Bound n)) d e) same q in
     subst (λ y. Adds (StoreCode slots (Refer name y) P) c g) (sym is) (then_adds p (then_adds b (then_adds r (subst (λ y. Adds (One (StoreAt y)) f g) at t))))
-
--- the words of a frame, of which there are some
-pub frame_row : (n : ℕ) {c d : Output} → (n ≡ 0 → ⊥) → Adds (One (Frame n)) c d → Adds (FrameCode n) c d
-frame_row zero h p = absurd (h refl)
-frame_row (suc n) h p = p
-
-pub drop_row : (n : ℕ) {c d : Output} → (n ≡ 0 → ⊥) → Adds (One (Drop n)) c d → Adds (DropCode n) c d
-drop_row zero h p = absurd (h refl)
-drop_row (suc n) h p = p
 
 -- operators that may leave their right operand out
 pub op_and : {o : Op} {P : Template} {c d : Output} → o ≡ op.And → Adds (AndCode P) c d → Adds (OperatorCode o P) c d

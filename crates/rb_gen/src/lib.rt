@@ -2,7 +2,6 @@
 #![tactic(auto)]
 
 mod expressions;
-mod frames;
 pub mod laws;
 mod linking;
 mod processes;

@@ -11,7 +11,7 @@ use crate::statements::emit_statements;
 use rb_base::{Memory, Text};
 use rb_code::{ChannelCode, Instr, ProcedureCode, ProcessCode};
 use rb_draft::channels::channels_of;
-use rb_draft::sizes::words_of;
+use rb_draft::frames::words_of;
 use rb_draft::{Draft, here, put};
 use rb_scope::Slot;
 use rb_syntax::{Procedure, Process};

@@ -2,7 +2,7 @@
 
 ghost use Rattle.std.specs.Prelude.{◌≡◌, map, get_or, OnOk};
 ghost use Rattle.rb_syntax.specs.Plain.{expression as plain, identifier, print_item, printed, reference};
-ghost use Rattle.rb_code.specs.Template.{One, Quoted, ◌⨾◌};
+ghost use Rattle.rb_code.specs.Template.{One, ◌⨾◌};
 ghost use Rattle.rb_code.specs.Slots.{channel_of};
 ghost use Rattle.rb_code.specs.Forms.{ArgumentsCode, ExpressionCode, ItemsCode, PrintedCode, StoreCode};
 ghost use Rattle.rb_draft.specs.Output.{output};
@@ -11,10 +11,10 @@ ghost use Rattle.rb_gen.specs.InMemory.{SendCode};
 ghost use Rattle.rb_gen.specs.Writes.{WritesCall};
 
 use crate::expressions::{emit_expression, put_bound};
-use rb_base::{Memory, Text};
+use rb_base::Memory;
 use rb_code::Instr;
 use rb_draft::lookups::{channel_of, procedure_of, spot_of};
-use rb_draft::{Draft, narrow, put};
+use rb_draft::{Draft, narrow, put, put_text};
 use rb_scope::Slot;
 use rb_syntax::{Expr, Item, ItemKind, Name, Target};
 use std::alloc::Global;
@@ -86,17 +86,6 @@ pub(crate) fn emit_sending(
     put(draft, Instr::Room(number))?;
     emit_expression(draft, slots, value)?;
     put(draft, Instr::Put(number))?;
-    Ok(())
-}
-
-/// Adds a text, and the instruction that names it.
-fn put_text(alloc: Global, draft: &mut Draft, text: &[u8]) -> Result<(), Memory>
-    ensures { OnOk result (Adds (Quoted text.now) (output draft.old) (output draft.new)) }
-{
-    let number = narrow(draft.texts.len())?;
-    let copy = Text::from_slice(alloc, text)?;
-    draft.texts.push(copy)?;
-    draft.instrs.push(Instr::Text(number))?;
     Ok(())
 }
 

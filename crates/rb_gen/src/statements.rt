@@ -7,12 +7,11 @@ ghost use Rattle.rb_draft.specs.Output.{output};
 ghost use Rattle.rb_gen.specs.Writes.{WritesAlternates, WritesBody, WritesCommand, WritesCommands, WritesElse, WritesRecovery};
 
 use crate::expressions::{emit_expression, emit_test};
-use crate::frames::{put_drop, put_frame};
 use crate::simple::{emit_assignment, emit_call, emit_printing, emit_sending, emit_taking};
 use rb_base::Memory;
 use rb_code::{BlockCode, Instr};
+use rb_draft::frames::{natural, put_drop, put_frame, words_of};
 use rb_draft::lookups::{channel_of, joined_of};
-use rb_draft::sizes::{natural, words_of};
 use rb_draft::{Draft, fill, here, leave, patch, put, settle};
 use rb_scope::Slot;
 use rb_syntax::{Block, Expr, Name, Recovery, Statement, Target};

@@ -1,7 +1,7 @@
 use Rattle.std.proofs.Common.{ap, ◌∙◌, ◌∷◌, ◌++◌, [], List, ℕ, refl}
 use Rattle.rb_draft.specs.Output.{output}
 use Rattle.rb_draft.proofs.Emits.{quoted}
-use Rattle.rb_gen.proofs.simple.put_text.Goals as goal
+use Rattle.rb_draft.proofs.draft.put_text.Goals as goal
 
 pub returns : goal.returns
 returns c = λ p n.

@@ -1,6 +1,6 @@
 use Rattle.std.proofs.Common.{refl}
-use Rattle.rb_gen.proofs.Rows.{drop_row}
-use Rattle.rb_gen.proofs.frames.put_drop.Goals as goal
+use Rattle.rb_draft.proofs.Emits.{drop_row}
+use Rattle.rb_draft.proofs.frames.put_drop.Goals as goal
 
 pub returns-then-words-ne0 : goal.returns-then-words-ne0
 returns-then-words-ne0 c = drop_row c.args.words c.if-words-ne0.true (c.in_ok-put.ensures refl)

@@ -1,10 +1,15 @@
-//! How many words variables have.
+//! The words of variables, and their code.
 
-ghost use Rattle.std.specs.Prelude.{◌≡◌, map, IfOk};
+ghost use Rattle.std.specs.Prelude.{◌≡◌, map, IfOk, OnOk};
 ghost use Rattle.rb_syntax.specs.Plain.{declaration};
 ghost use Rattle.rb_meaning.specs.Environment.{frame_of, frame_words, natural, size_of};
+ghost use Rattle.rb_code.specs.Forms.{DropCode, FrameCode};
+ghost use Rattle.rb_draft.specs.Output.{output};
+ghost use Rattle.rb_draft.specs.Emits.{Adds};
 
+use crate::draft::{Draft, put};
 use rb_base::Memory;
+use rb_code::Instr;
 use rb_syntax::{Number, Var};
 
 /// A number of the source, as far as 32 bits can count.
@@ -39,4 +44,28 @@ pub fn words_of(variables: &[Var<'_>]) -> Result<u32, Memory>
         rest = after;
     }
     Ok(total)
+}
+
+/// Pushes so many words.
+#[tactic(auto, using(crate::proofs::Emits::empty))]
+pub fn put_frame(draft: &mut Draft, words: u32) -> Result<(), Memory>
+    ensures { OnOk result (Adds (FrameCode words) (output draft.old) (output draft.new)) }
+{
+    if words != 0 {
+        put(draft, Instr::Frame(words))?;
+        return Ok(());
+    }
+    Ok(())
+}
+
+/// Drops them.
+#[tactic(auto, using(crate::proofs::Emits::empty))]
+pub fn put_drop(draft: &mut Draft, words: u32) -> Result<(), Memory>
+    ensures { OnOk result (Adds (DropCode words) (output draft.old) (output draft.new)) }
+{
+    if words != 0 {
+        put(draft, Instr::Drop(words))?;
+        return Ok(());
+    }
+    Ok(())
 }
