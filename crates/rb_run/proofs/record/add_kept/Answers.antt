@@ -15,19 +15,19 @@ returns-in_err-add g c =
     (gathers_both _ _ _ _ _ _ _ _ _ _ _ _ _ c.in_ok-add_number.ensures
     (gathers_stopped_at _ _ _ _ _ _ _ _ _ _ _ c.from_residual-in_err-add.ensures.0 c.in_err-add.ensures))
 
-pub returns-in_err-add-2 : goal.returns-in_err-add-2
-returns-in_err-add-2 g c =
+pub returns-in_err-add_process : goal.returns-in_err-add_process
+returns-in_err-add_process g c =
     gathers_same _ _ _ _ _ _ _ _ _ (line_in_pieces (naming c.args.names.now) c.args.kept.now)
     (gathers_both _ _ _ _ _ _ _ _ _ _ _ _ _ c.in_ok-add_number.ensures
     (gathers_both _ _ _ _ _ _ _ _ _ _ _ _ _ c.in_ok-add.ensures
-    (gathers_stopped_at _ _ _ _ _ _ _ _ _ _ _ c.from_residual-in_err-add-2.ensures.0 c.in_err-add-2.ensures)))
+    (gathers_stopped_at _ _ _ _ _ _ _ _ _ _ _ c.from_residual-in_err-add_process.ensures.0 c.in_err-add_process.ensures)))
 
 pub returns-in_err-add_alternate : goal.returns-in_err-add_alternate
 returns-in_err-add_alternate g c =
     gathers_same _ _ _ _ _ _ _ _ _ (line_in_pieces (naming c.args.names.now) c.args.kept.now)
     (gathers_both _ _ _ _ _ _ _ _ _ _ _ _ _ c.in_ok-add_number.ensures
     (gathers_both _ _ _ _ _ _ _ _ _ _ _ _ _ c.in_ok-add.ensures
-    (gathers_both _ _ _ _ _ _ _ _ _ _ _ _ _ c.in_ok-add-2.ensures
+    (gathers_both _ _ _ _ _ _ _ _ _ _ _ _ _ c.in_ok-add_process.ensures
     (gathers_stopped_at _ _ _ _ _ _ _ _ _ _ _ c.from_residual-in_err-add_alternate.ensures.0 c.in_err-add_alternate.ensures))))
 
 pub returns : goal.returns
@@ -35,5 +35,5 @@ returns g c =
     gathers_same _ _ _ _ _ _ _ _ _ (line_in_pieces (naming c.args.names.now) c.args.kept.now)
     (gathers_both _ _ _ _ _ _ _ _ _ _ _ _ _ c.in_ok-add_number.ensures
     (gathers_both _ _ _ _ _ _ _ _ _ _ _ _ _ c.in_ok-add.ensures
-    (gathers_both _ _ _ _ _ _ _ _ _ _ _ _ _ c.in_ok-add-2.ensures
-    (gathers_both _ _ _ _ _ _ _ _ _ _ _ _ _ c.in_ok-add_alternate.ensures c.add-3.ensures))))
+    (gathers_both _ _ _ _ _ _ _ _ _ _ _ _ _ c.in_ok-add_process.ensures
+    (gathers_both _ _ _ _ _ _ _ _ _ _ _ _ _ c.in_ok-add_alternate.ensures c.add-2.ensures))))
