@@ -12,19 +12,9 @@ mod ending_tests;
 #[cfg(test)]
 mod environment_tests;
 #[cfg(test)]
-mod fault_rows;
-#[cfg(test)]
 mod fault_tests;
 #[cfg(test)]
-mod host_tests;
-#[cfg(test)]
-mod judge_tests;
-#[cfg(test)]
-mod lexer_tests;
-#[cfg(test)]
 mod limit_tests;
-#[cfg(test)]
-mod listing_tests;
 #[cfg(test)]
 mod parse_rows;
 #[cfg(test)]
@@ -36,11 +26,7 @@ mod recovery_rows;
 #[cfg(test)]
 mod run_tests;
 #[cfg(test)]
-mod sink_tests;
-#[cfg(test)]
 mod survivor_rows;
-#[cfg(test)]
-mod trace_tests;
 #[cfg(test)]
 mod value_tests;
 #[cfg(test)]

@@ -1,4 +1,4 @@
-use Rattle.rb_tests.proofs.trace_tests.write_both.Goals as goal
+use Rattle.rb_low_tests.proofs.trace_tests.write_both.Goals as goal
 
 pub write_end-requires-clause-fit : goal.write_end-requires-clause-fit
 write_end-requires-clause-fit g c = c.requires.fits c.args.end.now.word
