@@ -8,7 +8,7 @@ use Rattle.rb_meaning.specs.State.{State}
 use Rattle.rb_meaning.specs.PlainRun.{EntryPoint, PlainWorld}
 use Rattle.rb_plain.specs.declared.process.Process.{Process}
 use Rattle.rb_plain.specs.Moves.{skipped}
-use Rattle.rb_plain.specs.States.{state_of}
+use Rattle.rb_walk.specs.States.{state_of}
 use Rattle.rb_plain.specs.Worlds.{level_of, process_of, unkept_kind, world_of}
 use Rattle.rb_plain.proofs.MovedProcesses.{world_moved}
 

@@ -16,12 +16,12 @@ use Rattle.rb_meaning.specs.Step.{Nothing, alternate_number, alternates_in, ente
 use Rattle.rb_meaning.specs.Value.{Outcome, is_zero, value}
 use Rattle.rb_meaning.specs.Groups.{facts_of}
 use Rattle.rb_meaning.specs.PlainRun.{EntryPoint, PlainWorld, environment_at}
-use Rattle.rb_plain.specs.declared.halt.Halt.{Halt}
-use Rattle.rb_plain.specs.declared.halt.Halt.TheVariants.{Stuck, Memory}
-use Rattle.rb_plain.specs.Comes.{Judges}
-use Rattle.rb_plain.specs.declared.items.First.{First}
-use Rattle.rb_plain.specs.declared.items.First.TheVariants.{BlockEnd, CallEnd}
-use Rattle.rb_plain.specs.Items.{IsFirst, StandsFirst}
+use Rattle.rb_walk.specs.declared.halt.Halt.{Halt}
+use Rattle.rb_walk.specs.declared.halt.Halt.TheVariants.{Stuck, Memory}
+use Rattle.rb_walk.specs.Comes.{Judges}
+use Rattle.rb_walk.specs.declared.items.First.{First}
+use Rattle.rb_walk.specs.declared.items.First.TheVariants.{BlockEnd, CallEnd}
+use Rattle.rb_walk.specs.Items.{IsFirst, StandsFirst}
 use Rattle.rb_plain.specs.Moves.{PlainProcess, acted_world, entered_by, gone_on, may_give, performed_by, skipped, started_by, with_moved}
 use Rattle.rb_plain.specs.Worlds.{unkept_kind, MovesTo}
 

@@ -23,7 +23,7 @@ use Rattle.rb_meaning.specs.State.{State}
 use Rattle.rb_meaning.specs.PlainRun.{EntryPoint}
 use Rattle.rb_plain.specs.declared.process.Process.{Process}
 use Rattle.rb_plain.specs.Played.{ProcessesLie, VariablesLie, own_words, words_of_all}
-use Rattle.rb_plain.specs.States.{state_of}
+use Rattle.rb_walk.specs.States.{state_of}
 use Rattle.rb_plain.proofs.LentEnds.{LooksUp, process_at, seen_as}
 use Rattle.rb_plain.specs.Worlds.{process_of, world_of}
 

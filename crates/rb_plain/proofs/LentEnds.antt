@@ -14,7 +14,7 @@ use Rattle.rb_meaning.specs.Groups.{ends_of}
 use Rattle.rb_meaning.specs.PlainRun.{EntryPoint}
 use Rattle.rb_plain.specs.declared.process.Process.{Process}
 use Rattle.rb_plain.specs.Worlds.{process_of, unkept_kind, world_of}
-use Rattle.rb_plain.proofs.Lookups.{looked_up}
+use Rattle.rb_walk.proofs.Lookups.{looked_up}
 
 -- what a look-up in a slice says of what it lends
 abbrev pub LooksUp : {A : Type 0} → List A → ℕ → Option (Bor A) → Type 0

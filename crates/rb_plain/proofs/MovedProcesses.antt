@@ -7,8 +7,8 @@ use Rattle.rb_world.specs.Turn.{opening_talks}
 use Rattle.rb_world.specs.Plain.{Kept}
 use Rattle.rb_meaning.specs.Groups.{groups_of}
 use Rattle.rb_meaning.specs.PlainRun.{PlainWorld}
-use Rattle.rb_plain.specs.declared.halt.Halt.{Halt}
-use Rattle.rb_plain.specs.declared.halt.Halt.TheVariants.{Stuck, Memory}
+use Rattle.rb_walk.specs.declared.halt.Halt.{Halt}
+use Rattle.rb_walk.specs.declared.halt.Halt.TheVariants.{Stuck, Memory}
 use Rattle.rb_plain.specs.declared.process.Process.{Process}
 use Rattle.rb_plain.specs.Moves.{PlainProcess, acted_world, Becomes, with_moved}
 use Rattle.rb_plain.specs.Worlds.{process_of, world_of, MovesTo}

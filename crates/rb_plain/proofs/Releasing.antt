@@ -15,7 +15,7 @@ use Rattle.rb_meaning.specs.State.{State}
 use Rattle.rb_meaning.specs.PlainRun.{EntryPoint}
 use Rattle.rb_plain.specs.declared.process.Process.{Process}
 use Rattle.rb_plain.specs.Worlds.{level_of, process_of, unkept_kind}
-use Rattle.rb_plain.specs.States.{state_of}
+use Rattle.rb_walk.specs.States.{state_of}
 
 -- one more process holds no line
 pub one_more_freed : (tree : Tree) (old now : List Process) (i : ℕ) (one after : Process) → i < length old → length now ≡ length old

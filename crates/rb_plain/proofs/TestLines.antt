@@ -18,7 +18,7 @@ use Rattle.rb_plain.specs.declared.process.Process.{Process}
 use Rattle.rb_plain.specs.Members.{HasMembers}
 use Rattle.rb_plain.specs.Worlds.{process_of, unkept_kind, world_of}
 use Rattle.rb_plain.proofs.LentEnds.{LooksUp}
-use Rattle.rb_plain.proofs.Lookups.{looked_up}
+use Rattle.rb_walk.proofs.Lookups.{looked_up}
 
 -- the members of a group that may not exist, in memory, and a list that may not exist
 abbrev pub members_in : Option Group → List ℕ

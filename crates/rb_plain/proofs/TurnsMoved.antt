@@ -5,8 +5,8 @@ use Rattle.rb_syntax.specs.Tree.{Tree}
 use Rattle.rb_world.specs.Plain.{Kept, plain_acts, plain_moves, plain_runs}
 use Rattle.rb_meaning.specs.Step.{wants_first}
 use Rattle.rb_meaning.specs.PlainRun.{PlainWorld}
-use Rattle.rb_plain.specs.declared.halt.Halt.{Halt}
-use Rattle.rb_plain.specs.declared.items.First.{First}
+use Rattle.rb_walk.specs.declared.halt.Halt.{Halt}
+use Rattle.rb_walk.specs.declared.items.First.{First}
 use Rattle.rb_plain.specs.declared.process.Process.{Process}
 use Rattle.rb_plain.specs.Moves.{PlainProcess, acted_world, IsFirstReady, IsReady}
 use Rattle.rb_plain.specs.Worlds.{moved_world, process_of, status_of, unkept_kind, world_of, MovesTo}

@@ -1,11 +1,5 @@
-pub mod Slots
-pub mod Counters
 pub mod Record
 pub mod Recorded
-pub mod Items
-pub mod Comes
-pub mod Holding
-pub mod States
 pub mod Worlds
 pub mod Members
 pub mod Moves

@@ -12,15 +12,15 @@ use Rattle.rb_meaning.specs.State.{State, continue_with}
 use Rattle.rb_meaning.specs.Step.{alternate_number, alternates_in, enter, performs, starts_body, wants, wants_first}
 use Rattle.rb_meaning.specs.Groups.{facts_of}
 use Rattle.rb_meaning.specs.PlainRun.{EntryPoint, PlainWorld}
-use Rattle.rb_plain.specs.declared.halt.Halt.{Halt}
-use Rattle.rb_plain.specs.declared.halt.Halt.TheVariants.{Stuck, Memory}
-use Rattle.rb_plain.specs.declared.items.First.{First}
-use Rattle.rb_plain.specs.declared.items.First.TheVariants as first
+use Rattle.rb_walk.specs.declared.halt.Halt.{Halt}
+use Rattle.rb_walk.specs.declared.halt.Halt.TheVariants.{Stuck, Memory}
+use Rattle.rb_walk.specs.declared.items.First.{First}
+use Rattle.rb_walk.specs.declared.items.First.TheVariants as first
 use Rattle.rb_plain.specs.declared.process.Process.{Process}
 use Rattle.rb_plain.specs.declared.want.Want.{Want}
 use Rattle.rb_plain.specs.declared.want.Want.TheVariants as asks
-use Rattle.rb_plain.specs.Items.{IsFirst}
-use Rattle.rb_plain.specs.States.{state_of}
+use Rattle.rb_walk.specs.Items.{IsFirst}
+use Rattle.rb_walk.specs.States.{state_of}
 use Rattle.rb_plain.specs.Worlds.{unkept_kind}
 
 -- a process of a plain run, as its world has it

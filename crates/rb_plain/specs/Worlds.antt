@@ -11,11 +11,11 @@ use Rattle.rb_meaning.specs.State.{State}
 use Rattle.rb_meaning.specs.Step.{Nothing}
 use Rattle.rb_meaning.specs.Groups.{count_alternates, groups_of}
 use Rattle.rb_meaning.specs.PlainRun.{EntryPoint, PlainWorld, plain_kind}
-use Rattle.rb_plain.specs.declared.halt.Halt.{Halt}
-use Rattle.rb_plain.specs.declared.halt.Halt.TheVariants.{Stuck, Memory}
-use Rattle.rb_plain.specs.declared.items.First.{First}
-use Rattle.rb_plain.specs.declared.items.First.TheVariants as first
-use Rattle.rb_plain.specs.States.{state_of}
+use Rattle.rb_walk.specs.declared.halt.Halt.{Halt}
+use Rattle.rb_walk.specs.declared.halt.Halt.TheVariants.{Stuck, Memory}
+use Rattle.rb_walk.specs.declared.items.First.{First}
+use Rattle.rb_walk.specs.declared.items.First.TheVariants as first
+use Rattle.rb_walk.specs.States.{state_of}
 use Rattle.rb_plain.specs.declared.process.Level.{Level}
 use Rattle.rb_plain.specs.declared.process.Process.{Process}
 

@@ -9,11 +9,11 @@ ghost use Rattle.rb_world.specs.World.{is_shared};
 ghost use Rattle.rb_meaning.specs.Environment.{natural};
 ghost use Rattle.rb_meaning.specs.Meaning.{taken_on};
 ghost use Rattle.rb_plain.specs.Worlds.{level_of, unkept_kind, world_of};
-ghost use Rattle.rb_plain.specs.States.{state_of};
+ghost use Rattle.rb_walk.specs.States.{state_of};
 
-use crate::numbers::process_number;
 use crate::process::{Level, Process};
 use rb_syntax::{Number, Program};
+use rb_walk::numbers::process_number;
 
 /// Whether a send on this channel has room.
 pub(crate) fn has_room<'a>(

@@ -11,19 +11,19 @@ ghost use Rattle.rb_meaning.specs.PlainRun.{environment_at};
 ghost use Rattle.rb_meaning.specs.State.{Perform, StartOf};
 ghost use Rattle.rb_meaning.specs.Step.{former, test_in};
 ghost use Rattle.rb_meaning.specs.Value.{value};
-ghost use Rattle.rb_plain.specs.Comes.{Judges};
-ghost use Rattle.rb_plain.specs.Items.{StandsFirst};
+ghost use Rattle.rb_walk.specs.Comes.{Judges};
+ghost use Rattle.rb_walk.specs.Items.{StandsFirst};
 ghost use Rattle.rb_plain.specs.Moves.{entered_by, performed_by, skipped, started_by, Becomes, IsReady};
 ghost use Rattle.rb_plain.specs.Recorded.{plain_turn};
-ghost use Rattle.rb_plain.specs.States.{state_of};
+ghost use Rattle.rb_walk.specs.States.{state_of};
 ghost use Rattle.rb_plain.specs.Worlds.{facts_with, level_of, process_of, unkept_kind};
 
-use crate::halt::Halt;
-use crate::numbers::conversation_number;
 use crate::process::{Level, Process};
 use crate::record::Kept;
 use rb_base::MOST_OPEN_LEVELS;
 use rb_syntax::{Program, Recovery, Statement};
+use rb_walk::Halt;
+use rb_walk::numbers::conversation_number;
 use std::alloc::Global;
 
 impl<'t, 'a> Process<'t, 'a> {

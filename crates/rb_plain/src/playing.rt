@@ -16,15 +16,14 @@ ghost use Rattle.rb_plain.specs.Recorded.{plain_turn};
 ghost use Rattle.rb_plain.specs.Worlds.{moved_world, process_of, unkept_kind, world_of};
 
 use crate::answer::PlainAnswer;
-use crate::halt::Halt;
 use crate::process::Process;
 use crate::record::Kept;
-use crate::state::State;
 use crate::turn::take_turn;
 use rb_base::{Memory, Names, Nested};
 use rb_outside::{Failed, Sink};
 use rb_syntax::{Process as Declaration, Program};
 use rb_trace::write_out;
+use rb_walk::{Halt, State};
 use std::alloc::Global;
 
 /// The processes of a program before the first turn.

@@ -7,14 +7,13 @@ ghost use Rattle.rb_world.specs.World.{copy_of, last_of, settled, without_last};
 ghost use Rattle.rb_world.specs.Turn.{freed, lines_freed, stands_at};
 ghost use Rattle.rb_world.specs.Plain.{alternates_of};
 ghost use Rattle.rb_meaning.specs.PlainRun.{entry_point, environment_at};
-ghost use Rattle.rb_plain.specs.States.{state_of};
+ghost use Rattle.rb_walk.specs.States.{state_of};
 ghost use Rattle.rb_plain.specs.Worlds.{facts_with, is_nothing_left, level_of, process_of, unkept_kind};
 
-use crate::environment::Environment;
-use crate::items::First;
-use crate::state::State;
 use rb_base::Memory;
 use rb_syntax::{Program, Recovery};
+use rb_walk::items::First;
+use rb_walk::{Environment, State};
 use std::alloc::Global;
 
 /// An open level: its recovery block, the number of its conversation if it has one, and what stood at its entry.

@@ -9,7 +9,7 @@ ghost use Rattle.rb_world.specs.Turn.{accepted, all_stand, at_test_line, leaves,
 ghost use Rattle.rb_world.specs.World.{last_of};
 ghost use Rattle.rb_plain.specs.Members.{HasMembers};
 ghost use Rattle.rb_plain.specs.Moves.{skipped, IsReady};
-ghost use Rattle.rb_plain.specs.States.{state_of};
+ghost use Rattle.rb_walk.specs.States.{state_of};
 ghost use Rattle.rb_plain.specs.Worlds.{level_of, process_of, unkept_kind, world_of};
 ghost use Rattle.rb_plain.specs.declared.process.Process.{Process as Here};
 

@@ -3,23 +3,23 @@
 ghost use Rattle.std.specs.Prelude.{◌≡◌, ◌<◌, length, slice_get, Some};
 ghost use Rattle.rb_syntax.specs.Plain.{command, recovery_block, tree};
 ghost use Rattle.rb_meaning.specs.State.{Perform, TestOf};
-ghost use Rattle.rb_plain.specs.Items.{IsFirst, StandsFirst};
+ghost use Rattle.rb_walk.specs.Items.{IsFirst, StandsFirst};
 ghost use Rattle.rb_plain.specs.Members.{HasMembers};
 ghost use Rattle.rb_plain.specs.Moves.{acted_world, may_give, IsFirstReady, IsReady};
 ghost use Rattle.rb_plain.specs.Recorded.{plain_turn};
-ghost use Rattle.rb_plain.specs.States.{state_of};
+ghost use Rattle.rb_walk.specs.States.{state_of};
 ghost use Rattle.rb_plain.specs.Worlds.{moved_world, process_of, world_of, MovesTo};
 ghost use Rattle.rb_plain.specs.declared.process.Process.{Process as Here};
 
 use crate::channels::{has_room, message_there};
-use crate::halt::Halt;
-use crate::items::First;
 use crate::process::Process;
 use crate::record::Kept;
 use crate::test_line::accept;
 use crate::want::{Want, want_of};
 use rb_base::Nested;
 use rb_syntax::{Program, Recovery, Statement};
+use rb_walk::Halt;
+use rb_walk::items::First;
 use std::alloc::Global;
 
 /// Takes a kept turn. After it held lines are not yet released.

@@ -13,8 +13,6 @@ ghost use Rattle.rb_plain.specs.Played.{own_words, words_of_all, ProcessesLie, V
 ghost use Rattle.rb_plain.specs.Worlds.{world_of};
 
 use crate::answer::PlainAnswer;
-use crate::environment::Environment;
-use crate::numbers::process_number;
 use crate::process::Process;
 use itoa::Buffer;
 use rb_base::names::{ProcessNames, Variable};
@@ -22,6 +20,8 @@ use rb_base::{Memory, Names};
 use rb_outside::{Failed, Sink};
 use rb_syntax::Program;
 use rb_trace::{put_line, write_variable};
+use rb_walk::Environment;
+use rb_walk::numbers::process_number;
 use std::alloc::Global;
 
 /// Writes the variables of each process, and what was sent and taken on each channel.

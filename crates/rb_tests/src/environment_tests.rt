@@ -1,7 +1,7 @@
-//! Tests of the variables of a process in a plain run (rb_plain): their frames, their words, and copies.
+//! Tests of the variables of a process in a plain run (rb_walk): their frames, their words, and copies.
 
 use rb_base::Place;
-use rb_plain::environment::Environment;
+use rb_walk::environment::Environment;
 use rb_syntax::{Name, Number, Var};
 use std::test::Fail;
 

@@ -3,7 +3,7 @@ use Rattle.std.proofs.Common.{◌+◌, map, nat_lt, Some, ap, sym, ◌∙◌}
 use Rattle.rb_syntax.specs.Plain.{tree}
 use Rattle.rb_world.specs.Channels.{has_room_for, room_from}
 use Rattle.rb_meaning.specs.Environment.{natural}
-use Rattle.rb_plain.specs.States.{state_of}
+use Rattle.rb_walk.specs.States.{state_of}
 use Rattle.rb_plain.specs.Worlds.{level_of, process_of, unkept_kind}
 use Rattle.rb_plain.proofs.LentEnds.{ends_in, room_between, seen_as}
 use Rattle.rb_plain.proofs.channels.has_room.Goals as goal

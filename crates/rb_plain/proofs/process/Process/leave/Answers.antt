@@ -2,7 +2,7 @@
 use Rattle.std.proofs.Common.{◌≡◌, ap, ◌∙◌, length, vec_len, arith}
 use Rattle.rb_syntax.specs.Plain.{tree}
 use Rattle.rb_world.specs.World.{settled}
-use Rattle.rb_plain.specs.States.{state_of}
+use Rattle.rb_walk.specs.States.{state_of}
 use Rattle.rb_plain.specs.Worlds.{unkept_kind}
 use Rattle.rb_plain.proofs.InnermostLevels.{popped_is}
 use Rattle.rb_plain.proofs.process.Process.leave.Goals as goal
