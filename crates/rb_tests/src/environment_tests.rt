@@ -1,8 +1,8 @@
 //! Tests of the variables of a process in a plain run (rb_walk): their frames, their words, and copies.
 
 use rb_base::Place;
-use rb_walk::environment::Environment;
 use rb_syntax::{Name, Number, Var};
+use rb_walk::environment::Environment;
 use std::test::Fail;
 
 const PLACE: Place = Place { line: 1, column: 1 };

@@ -1,10 +1,10 @@
 //! Values of small expressions that are made by hand, and the traps of their evaluation (rb_walk).
 
 use rb_base::{Cause, Place};
+use rb_syntax::{Expr, Link, Name, Number, Op, Quantified, Quantifier, Target, Var};
 use rb_walk::counter::Counters;
 use rb_walk::environment::Environment;
 use rb_walk::value::value_of;
-use rb_syntax::{Expr, Link, Name, Number, Op, Quantified, Quantifier, Target, Var};
 use std::alloc::{AllocError, Global};
 use std::test::Fail;
 
