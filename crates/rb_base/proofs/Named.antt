@@ -17,7 +17,8 @@ position_mapped : {X Y : Type 0} (p : Y → Bool) (f : X → Y) (xs : List X) �
 position_mapped p f xs = rw (prefix_len_mapped (λ y. not (p y)) f xs, length-map xs f) refl
 
 -- a name's place is its process's
-pub place_named : (names : Names) (word : List ℕ) (ps : List ProcessNames) (r : Option ℕ) → ps ≡ names.processes.items → r ≡ position (λ process. pointwise nat_eq process.name word) ps → r ≡ first_named (process_names names) word
+pub place_named : (names : Names) (word : List ℕ) (ps : List ProcessNames) (r : Option ℕ) → ps ≡ names.processes.items
+    → r ≡ position (λ process. pointwise nat_eq process.name word) ps → r ≡ first_named (process_names names) word
 place_named names word ps r same found =
     found
     ∙ ap (position (λ process. pointwise nat_eq process.name word)) same

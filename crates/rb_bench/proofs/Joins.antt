@@ -25,7 +25,9 @@ glyphs_line [] = All-nil _
 glyphs_line (d ∷ ds) = All-cons (λ (byte : ℕ). byte ≢ 10) (48 + d) (map (λ d. 48 + d) ds) (λ e. absurd (omega arith)) (glyphs_line ds)
 
 digits_line : (n : ℕ) → n < 2 ^ 64 → IsLine (decimal n)
-digits_line zero h = subst IsLine (sym (decimal_digit 0 (omega arith))) (All-cons (λ (byte : ℕ). byte ≢ 10) 48 [] (λ e. absurd (omega arith)) (All-nil (λ (byte : ℕ). byte ≢ 10)))
+digits_line zero h =
+    subst IsLine (sym (decimal_digit 0 (omega arith)))
+    (All-cons (λ (byte : ℕ). byte ≢ 10) 48 [] (λ e. absurd (omega arith)) (All-nil (λ (byte : ℕ). byte ≢ 10)))
 digits_line (suc n) h = subst IsLine (sym (decimal-digits_of (suc n) (omega arith) h)) (glyphs_line _)
 
 number_line : (z : ℤ) → mag z < 2 ^ 63 → IsLine (signed_decimal z)
@@ -68,7 +70,8 @@ joined_more texts pieces i d before after is_first h first later j t e = record 
       ∙ sym (joined_push texts_now text is_first (λ q. long ∙ first q) (λ q. let k = later q in let l = long in omega arith))
       ∙ ap joined_pieces (sym (map_more (piece_text texts) pieces i d h));
   line = subst IsLine (sym e) (All-append (λ (byte : ℕ). byte ≢ 10) (cond is_first before (before ++ 32 ∷ [])) text (front is_first) t.line);
-  short = let k = ap length e in let a = length-append (cond is_first before (before ++ 32 ∷ [])) text in let f = front_long is_first in let s = t.short in let o = j.short in omega arith;
+  short = let k = ap length e in let a = length-append (cond is_first before (before ++ 32 ∷ [])) text in let f =
+      front_long is_first in let s = t.short in let o = j.short in omega arith;
 }
   where
     text : List ℕ
@@ -82,7 +85,8 @@ joined_more texts pieces i d before after is_first h first later j t e = record 
 
     front : (b : Bool) → IsLine (cond b before (before ++ 32 ∷ []))
     front true = j.line
-    front false = All-append (λ (byte : ℕ). byte ≢ 10) before (32 ∷ []) j.line (All-cons (λ (byte : ℕ). byte ≢ 10) 32 [] (λ e. absurd (omega arith)) (All-nil (λ (byte : ℕ). byte ≢ 10)))
+    front false = All-append (λ (byte : ℕ). byte ≢ 10) before (32 ∷ []) j.line
+        (All-cons (λ (byte : ℕ). byte ≢ 10) 32 [] (λ e. absurd (omega arith)) (All-nil (λ (byte : ℕ). byte ≢ 10)))
 
     front_long : (b : Bool) → length (cond b before (before ++ 32 ∷ [])) ≤ length before + 1
     front_long true = omega arith

@@ -41,7 +41,8 @@ pub arguments_long : (p : ℕ) (xs : List ℤ) → p ≤ length xs → length (a
 arguments_long zero xs h = refl
 arguments_long (suc p) [] h = absurd (omega arith)
 arguments_long (suc p) (x ∷ xs) h =
-    let e = arguments_long p xs (omega arith) in length-append (arguments p xs) (x ∷ []) ∙ ap (λ n. n + 1) e ∙ (let k : p + 1 ≡ suc p = omega arith in k)
+    let e = arguments_long p xs (omega arith) in length-append (arguments p xs) (x ∷ []) ∙ ap (λ n. n + 1) e
+    ∙ (let k : p + 1 ≡ suc p = omega arith in k)
 
 -- the same of a list in memory that holds so many
 module _ (vs : List ℤ) (h p : ℕ) (le : p ≤ h) (room : h ≤ length vs) where

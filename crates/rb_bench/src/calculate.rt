@@ -35,7 +35,9 @@ fn finish(value: Result<i64, Cause>, at: u32, operands: &mut Operands) -> Next
 pub fn operate(op: Op, at: u32, operands: &mut Operands) -> Next
     requires at { at + 1 < 2 ^ 32 }
     requires two { 1 < length operands.old }
-    ensures { (m : Memory) → outcome_of result at operands.new m ≡ on_top operands.old (λ y rest. on_top rest (λ x others. or_trap (applied op x y) (λ z. Going (at + 1) (z ∷ others) m))) }
+    ensures { (m : Memory)
+        → outcome_of result at operands.new m
+        ≡ on_top operands.old (λ y rest. on_top rest (λ x others. or_trap (applied op x y) (λ z. Going (at + 1) (z ∷ others) m))) }
 {
     let right = operands.pop();
     let left = operands.pop();
@@ -46,7 +48,8 @@ pub fn operate(op: Op, at: u32, operands: &mut Operands) -> Next
 pub fn negate(at: u32, operands: &mut Operands) -> Next
     requires at { at + 1 < 2 ^ 32 }
     requires one { 0 < length operands.old }
-    ensures { (m : Memory) → outcome_of result at operands.new m ≡ on_top operands.old (λ x rest. or_trap (fitting (neg_ℤ x)) (λ z. Going (at + 1) (z ∷ rest) m)) }
+    ensures { (m : Memory)
+        → outcome_of result at operands.new m ≡ on_top operands.old (λ x rest. or_trap (fitting (neg_ℤ x)) (λ z. Going (at + 1) (z ∷ rest) m)) }
 {
     let x = operands.pop();
     finish(x.checked_neg().ok_or(Cause::Overflow), at, operands)
@@ -56,7 +59,9 @@ pub fn negate(at: u32, operands: &mut Operands) -> Next
 pub fn test_zero(zero: bool, at: u32, operands: &mut Operands) -> Next
     requires at { at + 1 < 2 ^ 32 }
     requires one { 0 < length operands.old }
-    ensures { (m : Memory) → outcome_of result at operands.new m ≡ on_top operands.old (λ x rest. Going (at + 1) (truth (cond zero (is_zero x) (not (is_zero x))) ∷ rest) m) }
+    ensures { (m : Memory)
+        → outcome_of result at operands.new m
+        ≡ on_top operands.old (λ x rest. Going (at + 1) (truth (cond zero (is_zero x) (not (is_zero x))) ∷ rest) m) }
 {
     let x = operands.pop();
     operands.push(truth((x == 0) == zero));
@@ -84,7 +89,9 @@ fn is_within(n: u32, i: i64) -> bool
 pub fn bound(n: u32, at: u32, operands: &mut Operands) -> Next
     requires at { at + 1 < 2 ^ 32 }
     requires one { 0 < length operands.old }
-    ensures { (m : Memory) → outcome_of result at operands.new m ≡ on_top operands.old (λ i rest. cond (within n i) (Going (at + 1) (i ∷ rest) m) (Trapped Index)) }
+    ensures { (m : Memory)
+        → outcome_of result at operands.new m
+        ≡ on_top operands.old (λ i rest. cond (within n i) (Going (at + 1) (i ∷ rest) m) (Trapped Index)) }
 {
     let i = operands.pop();
     if is_within(n, i) {
@@ -99,7 +106,8 @@ pub fn bound(n: u32, at: u32, operands: &mut Operands) -> Next
 pub fn jump_zero(to: u32, at: u32, operands: &mut Operands) -> Next
     requires at { at + 1 < 2 ^ 32 }
     requires one { 0 < length operands.old }
-    ensures { (m : Memory) → outcome_of result at operands.new m ≡ on_top operands.old (λ x rest. cond (is_zero x) (Going to rest m) (Going (at + 1) rest m)) }
+    ensures { (m : Memory)
+        → outcome_of result at operands.new m ≡ on_top operands.old (λ x rest. cond (is_zero x) (Going to rest m) (Going (at + 1) rest m)) }
 {
     if operands.pop() == 0 {
         Next::Go(to)
@@ -112,7 +120,8 @@ pub fn jump_zero(to: u32, at: u32, operands: &mut Operands) -> Next
 pub fn test(at: u32, operands: &mut Operands) -> Next
     requires at { at + 1 < 2 ^ 32 }
     requires one { 0 < length operands.old }
-    ensures { (m : Memory) → outcome_of result at operands.new m ≡ on_top operands.old (λ x rest. cond (is_zero x) (Trapped TestCause) (Accepts (at + 1) m)) }
+    ensures { (m : Memory)
+        → outcome_of result at operands.new m ≡ on_top operands.old (λ x rest. cond (is_zero x) (Trapped TestCause) (Accepts (at + 1) m)) }
 {
     if operands.pop() == 0 {
         Next::Trap(Cause::Test)
@@ -125,7 +134,11 @@ pub fn test(at: u32, operands: &mut Operands) -> Next
 pub fn range(k: u32, past: u32, at: u32, operands: &mut Operands, counters: &mut Counters) -> Next
     requires at { at + 1 < 2 ^ 32 }
     requires two { 1 < length operands.old }
-    ensures { (m : Memory) → outcome_of result at operands.new (record m { counters = counters.new }) ≡ on_top operands.old (λ y rest. on_top rest (λ x others. or_trap (span x y) (ranged k past (at + 1) x y others (record m { counters = counters.old })))) }
+    ensures { (m : Memory)
+        → outcome_of result at operands.new (record m { counters = counters.new })
+        ≡ on_top operands.old
+        (λ y rest. on_top rest
+        (λ x others. or_trap (span x y) (ranged k past (at + 1) x y others (record m { counters = counters.old })))) }
 {
     let end = operands.pop();
     let now = operands.pop();
@@ -142,7 +155,10 @@ pub fn range(k: u32, past: u32, at: u32, operands: &mut Operands, counters: &mut
 /// One step of a counter: on to the next number, or past the loop.
 pub fn again(k: u32, first: u32, at: u32, counters: &mut Counters) -> Next
     requires at { at + 1 < 2 ^ 32 }
-    ensures { (m : Memory) (operands : List ℤ) → outcome_of result at operands (record m { counters = counters.new }) ≡ if_there (counter_at k (record m { counters = counters.old })) (λ counter. counted_on k first (at + 1) counter operands (record m { counters = counters.old })) }
+    ensures { (m : Memory) (operands : List ℤ)
+        → outcome_of result at operands (record m { counters = counters.new })
+        ≡ if_there (counter_at k (record m { counters = counters.old }))
+        (λ counter. counted_on k first (at + 1) counter operands (record m { counters = counters.old })) }
 {
     match counters.get(k) {
         Some(counter) if counter.now < counter.end => {
@@ -168,7 +184,10 @@ pub fn again(k: u32, first: u32, at: u32, counters: &mut Counters) -> Next
 pub fn counter(k: u32, at: u32, operands: &mut Operands, counters: &Counters) -> Next
     requires at { at + 1 < 2 ^ 32 }
     requires room { length operands.old < 512 }
-    ensures { (m : Memory) → outcome_of result at operands.new (record m { counters = counters.now }) ≡ if_there (counter_at k (record m { counters = counters.now })) (λ counter. Going (at + 1) (counter.now ∷ operands.old) (record m { counters = counters.now })) }
+    ensures { (m : Memory)
+        → outcome_of result at operands.new (record m { counters = counters.now })
+        ≡ if_there (counter_at k (record m { counters = counters.now }))
+        (λ counter. Going (at + 1) (counter.now ∷ operands.old) (record m { counters = counters.now })) }
 {
     match counters.get(k) {
         Some(counter) => {

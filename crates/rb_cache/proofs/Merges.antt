@@ -25,7 +25,8 @@ pub record Merging (n : ℕ) (l : Mark) (ms : List Mark) (s : Merge) (todo : Lis
 
 -- what the entries that are merged are
 step_log : (b : Bool) (st us : List ℕ) (log : List Entry) (e : Entry) (more : List Entry)
-    → (let t : Merge = cond b (record { stamps = st; log = log ++ e ∷ [] }) (record { stamps = us; log = log }) in t.log) ++ more ≡ log ++ cond b (e ∷ more) more
+    → (let t : Merge = cond b (record { stamps = st; log = log ++ e ∷ [] }) (record { stamps = us; log = log }) in t.log) ++ more
+    ≡ log ++ cond b (e ∷ more) more
 step_log true st us log e more = append_assoc log (e ∷ []) more
 step_log false st us log e more = refl
 
@@ -48,7 +49,8 @@ filter_same l base (e ∷ todo) a =
     ∙ ap (λ (c : Bool). nat_lt e.place l.height && not c) (sym (is_saved-last l.first base e.place)) in
     filter_cond (is_merged l e) e (filter (is_merged l) todo)
     ∙ ap (λ (c : Bool). cond c (saved_of e ∷ map saved_of (filter (is_merged l) todo)) (map saved_of (filter (is_merged l) todo))) b
-    ∙ ap (λ (es : List Saved). cond (is_new l.height (map saved_of (drop l.first base)) (saved_of e)) (saved_of e ∷ es) es) (filter_same l base todo a.1)
+    ∙ ap (λ (es : List Saved). cond (is_new l.height (map saved_of (drop l.first base)) (saved_of e)) (saved_of e ∷ es) es)
+    (filter_same l base todo a.1)
 
 -- one step
 both : (a b : Bool) → (a && not b) ≡ true → (a ≡ true) × (b ≡ false)
@@ -81,7 +83,9 @@ now_step n st v e todo log new sz lt now here there p h k false b =
 
 pub Merging-step : (n : ℕ) (l : Mark) (ms : List Mark) (s : Merge) (e : Entry) (todo : List Entry) → Merging n l ms s (e ∷ todo) → (b : Bool)
     → is_merged l e ≡ b
-    → Merging n l ms (cond b (record { stamps = set s.stamps e.place (length s.log + 1); log = s.log ++ e ∷ [] }) (record { stamps = set s.stamps e.place e.earlier; log = s.log })) todo
+    → Merging n l ms
+    (cond b (record { stamps = set s.stamps e.place (length s.log + 1); log = s.log ++ e ∷ [] })
+    (record { stamps = set s.stamps e.place e.earlier; log = s.log })) todo
 Merging-step n l ms s e todo m true b =
     let t = both (nat_lt e.place l.height) (nat_lt l.first e.earlier) b in
     let d = apart e.place (map place_of (map saved_of todo)) m.distinct in
@@ -215,7 +219,8 @@ regions-merged n t l ms st log k =
     (drop-append-le l.first base more k.cuts.1.0)
     ∙ ap (λ (xs : List Entry). record { height = l.height; saved = map saved_of (drop l.first base ++ more) } ∷ regions_of ms xs)
     (take-append-le l.first base more k.cuts.1.0)
-    ∙ ap (λ (es : List Saved). record { height = l.height; saved = es } ∷ regions_of ms (take l.first base)) (map-append saved_of (drop l.first base) more)
+    ∙ ap (λ (es : List Saved). record { height = l.height; saved = es } ∷ regions_of ms (take l.first base))
+    (map-append saved_of (drop l.first base) more)
     ∙ ap (λ (es : List Saved). record { height = l.height; saved = map saved_of (drop l.first base) ++ es } ∷ regions_of ms (take l.first base))
     (filter_same l base (drop t.first log) m.ready)
 
@@ -276,7 +281,8 @@ pub entries_within : (n : ℕ) (t : Mark) (ms all : List Mark) (st : List ℕ) (
     → AllByRecursion (λ (e : Entry). e.place < length st) (drop t.first log)
 entries_within n t ms all st log e k =
     let h : Holds n (t ∷ ms) st log = subst (λ (xs : List Mark). Holds n xs st log) e k in
-    subst (λ (i : ℕ). AllByRecursion (λ (x : Entry). x.place < i) (drop t.first log)) (sym h.size) (within_saved n (drop t.first log) h.stacked.0.within)
+    subst (λ (i : ℕ). AllByRecursion (λ (x : Entry). x.place < i) (drop t.first log)) (sym h.size)
+    (within_saved n (drop t.first log) h.stacked.0.within)
 
 pub accepted_all : (n : ℕ) (t l : Mark) (ms all : List Mark) (st : List ℕ) (log : List Entry) (r : Merge) → all ≡ t ∷ ms → l ≡ innermost ms
     → Holds n all st log

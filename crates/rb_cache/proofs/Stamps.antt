@@ -102,7 +102,11 @@ pub WellStamped-pop : (st : List ℕ) (log : List Entry) (e : Entry) → WellSta
 WellStamped-pop st log e w lt =
     let o : e.earlier ≡ last_of log e.place =
     let h = w.before (length log) e (omega (arith, length_push log e)) in
-    rw (get_or_push log e e (length log) refl, take-append-le (length log) log (e ∷ []) (omega arith), take_all (length log) log (omega arith)) at h in
+    rw (
+      get_or_push log e e (length log) refl,
+      take-append-le (length log) log (e ∷ []) (omega arith),
+      take_all (length log) log (omega arith),
+    ) at h in
     record {
       now = λ p h. WellStamped-pop_now st log e w o p (omega (arith, length-set st e.place e.earlier)) (eqb e.place p) refl;
       before = λ i d h.
@@ -114,7 +118,8 @@ pub Cuts-push : (m : Mark) (ms : List Mark) (log : List Entry) (e : Entry) → C
 Cuts-push m ms log e c = (omega (arith, length_push log e, c.0), subst (Cuts ms) (sym (take-append-le m.first log (e ∷ []) c.0)) c.1)
 
 pub regions-push : (m : Mark) (ms : List Mark) (log : List Entry) (e : Entry) → m.first ≤ length log
-    → regions_of (m ∷ ms) (log ++ e ∷ []) ≡ record { height = m.height; saved = map saved_of (drop m.first log) ++ saved_of e ∷ [] } ∷ regions_of ms (take m.first log)
+    → regions_of (m ∷ ms) (log ++ e ∷ [])
+    ≡ record { height = m.height; saved = map saved_of (drop m.first log) ++ saved_of e ∷ [] } ∷ regions_of ms (take m.first log)
 regions-push m ms log e h =
     rw (drop-append-le m.first log (e ∷ []) h, take-append-le m.first log (e ∷ []) h, map-append saved_of (drop m.first log) (e ∷ [])) refl
 
@@ -303,7 +308,8 @@ not_noted marks st log p v d some k lt le =
     let ms = reverse (take (length marks - 1) marks) in
     let r : reverse marks ≡ m ∷ ms = reverse-last marks d some in
     let h : Holds (length st) (m ∷ ms) st log = subst (λ (xs : List Mark). Holds (length st) xs st log) r k in
-    subst (λ (xs : List Mark). regions_of xs log ≡ recorded p v (regions_of xs log)) (sym r) (not_noted_in m ms st log p v h lt le (nat_lt p m.height) refl)
+    subst (λ (xs : List Mark). regions_of xs log ≡ recorded p v (regions_of xs log)) (sym r)
+    (not_noted_in m ms st log p v h lt le (nat_lt p m.height) refl)
 
 all_last : (P : Saved → Type 0) (xs : List Saved) (x : Saved) → AllByRecursion P (xs ++ x ∷ []) → AllByRecursion P xs × P x
 all_last P [] x a = (tt, a.0)

@@ -72,7 +72,8 @@ levels-merged [] = refl
 levels-merged (top ∷ []) = refl
 levels-merged (top ∷ r ∷ rs) =
     ap (λ (places : List ℕ). reverse (record { height = r.height; touched = places } ∷ map level_of rs))
-    (map-append place_of r.saved (filter (is_new r.height r.saved) top.saved) ∙ ap (λ (ps : List ℕ). map place_of r.saved ++ ps) (map-is_new r top.saved))
+    (map-append place_of r.saved (filter (is_new r.height r.saved) top.saved)
+    ∙ ap (λ (ps : List ℕ). map place_of r.saved ++ ps) (map-is_new r top.saved))
     ∙ sym (accepted-reverse (level_of top) (level_of r) (map level_of rs))
 
 pub length-levels : (rs : List Region) → length (reverse (map level_of rs)) ≡ length rs

@@ -20,7 +20,8 @@ pub fn stamp_at(stamps: &[usize], at: u32) -> usize
 /// The first value that the entries from `first` on saved of a place, found by following its entries from number `last`
 /// back: at most one in each level.
 pub fn first_value(arena: &[Entry], first: usize, last: usize, at: u32) -> Option<i64>
-    requires before { (i : ℕ) (d : Entry) → i < length arena.now → (get_or arena.now i d).earlier ≡ last_of (take i arena.now) (get_or arena.now i d).place }
+    requires before { (i : ℕ) (d : Entry) → i < length arena.now
+        → (get_or arena.now i d).earlier ≡ last_of (take i arena.now) (get_or arena.now i d).place }
     requires last { last ≡ last_of arena.now at }
     ensures { result ≡ first_saved at (map saved_of (drop first arena.now)) }
 {

@@ -20,7 +20,8 @@ fn merge_step(
     requires kept { kept ≤ i }
     requires i { i < length arena.old.items }
     requires within { AllByRecursion (λ (e : Entry). e.place < length stamps.old.items) (drop i arena.old.items) }
-    ensures merged { (e : Entry) × (drop i arena.old.items ≡ e ∷ drop (i + 1) arena.old.items) × (so_far stamps.new.items result arena.new.items ≡ merge_one lower (so_far stamps.old.items kept arena.old.items) e) }
+    ensures merged { (e : Entry) × (drop i arena.old.items ≡ e ∷ drop (i + 1) arena.old.items)
+        × (so_far stamps.new.items result arena.new.items ≡ merge_one lower (so_far stamps.old.items kept arena.old.items) e) }
     ensures rest { drop (i + 1) arena.new.items ≡ drop (i + 1) arena.old.items }
     ensures size { length arena.new.items ≡ length arena.old.items }
     ensures stamps { length stamps.new.items ≡ length stamps.old.items }
@@ -43,7 +44,8 @@ fn merge_step(
 fn merge(stamps: &mut Vec<usize>, arena: &mut Vec<Entry>, lower: Mark, first: usize)
     requires first { first ≤ length arena.old.items }
     requires within { AllByRecursion (λ (e : Entry). e.place < length stamps.old.items) (drop first arena.old.items) }
-    ensures merged { record { stamps = stamps.new.items; log = arena.new.items } ≡ merge_all lower (so_far stamps.old.items first arena.old.items) (drop first arena.old.items) }
+    ensures merged { record { stamps = stamps.new.items; log = arena.new.items }
+        ≡ merge_all lower (so_far stamps.old.items first arena.old.items) (drop first arena.old.items) }
     ensures room { vec_capacity arena.new ≡ vec_capacity arena.old }
 {
     let mut kept = first;

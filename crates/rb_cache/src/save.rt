@@ -53,7 +53,8 @@ pub fn save_prior<L: Ledger>(
     requires within { at < length stamps.old.items }
     requires at { at < length cells.now.words }
     ensures holds { Holds (length stamps.old.items) (reverse marks.now) stamps.new.items arena.new.items }
-    ensures regions { regions_of (reverse marks.now) arena.new.items ≡ recorded at (get_or cells.now.words at (pos 0)) (regions_of (reverse marks.now) arena.old.items) }
+    ensures regions { regions_of (reverse marks.now) arena.new.items
+        ≡ recorded at (get_or cells.now.words at (pos 0)) (regions_of (reverse marks.now) arena.old.items) }
     ensures room { vec_capacity arena.old ≤ vec_capacity arena.new }
     ensures ticks { steps.new ≤ steps.old + 1 }
 {

@@ -25,7 +25,8 @@ use Rattle.rb_code.proofs.Found.{Finds}
 use Rattle.rb_code.proofs.Stores.{finds, frames_of}
 use Rattle.rb_code.proofs.Took.{HasCursors, InTurn, words_continue}
 
-module _ (tree : Tree) (slots : List Slot) (c : Code) (see : Sight) (has : HasCursors c see.process) (s : State) (m : Memory) (turn : InTurn tree slots c see has s m) where
+module _ (tree : Tree) (slots : List Slot) (c : Code) (see : Sight) (has : HasCursors c see.process) (s : State)
+    (m : Memory) (turn : InTurn tree slots c see has s m) where
   -- the variables before the block are found by the same places
   prior_finds : (copy : State) (called : List OpenCall) → IsPrior tree c see.process s m.calls copy see.prior called
       → Finds (part_of c see.process) m.calls (in_acceptance (frames_of tree slots c see has s)) copy.environment see.prior
@@ -55,7 +56,8 @@ module _ (tree : Tree) (slots : List Slot) (c : Code) (see : Sight) (has : HasCu
   test_ends number rest a d b (Err cause) comes code left = comes
   test_ends number rest a d b (Ok v) comes code left = by (is_zero v) refl
     where
-      acts : (t : Bool) → is_zero v ≡ t → act c see (Test number) d (v ∷ []) (recounted comes.0 m) ≡ cond t (Trapped TestCause) (Accepts (d + 1) (recounted comes.0 m))
+      acts : (t : Bool) → is_zero v ≡ t
+          → act c see (Test number) d (v ∷ []) (recounted comes.0 m) ≡ cond t (Trapped TestCause) (Accepts (d + 1) (recounted comes.0 m))
       acts t e = ap (λ b. cond b (Trapped TestCause) (Accepts (d + 1) (recounted comes.0 m))) e
 
       by : (t : Bool) → is_zero v ≡ t → Tested a rest t
@@ -63,7 +65,8 @@ module _ (tree : Tree) (slots : List Slot) (c : Code) (see : Sight) (has : HasCu
       by false e = record {
         to = d + 1;
         later = comes.0;
-        ends = leads_to_end c see comes.2 (ends c see (Test number) d (v ∷ []) (recounted comes.0 m) (Accepts (d + 1) (recounted comes.0 m)) code.0 (acts false e) refl);
+        ends = leads_to_end c see comes.2
+            (ends c see (Test number) d (v ∷ []) (recounted comes.0 m) (Accepts (d + 1) (recounted comes.0 m)) code.0 (acts false e) refl);
         meets = record {
           words_meet = words_continue tree c see.process has s m.words m.calls rest turn.words_meet;
           left = subst (λ z. Left tree slots c see.process (stacks_of s.environment.calls) rest m.calls z) code.1 left;
@@ -71,7 +74,8 @@ module _ (tree : Tree) (slots : List Slot) (c : Code) (see : Sight) (has : HasCu
       }
 
   pub test_judged : (copy : State) (called : List OpenCall) → IsPrior tree c see.process s m.calls copy see.prior called
-      → (block : RecoveryBlock) (rest : List Item) (a b : ℕ) → TestCode slots block c a b → TestInFrames slots (frames_of tree slots c see has s) block
+      → (block : RecoveryBlock) (rest : List Item) (a b : ℕ) → TestCode slots block c a b
+      → TestInFrames slots (frames_of tree slots c see has s) block
       → Left tree slots c see.process (stacks_of s.environment.calls) rest m.calls b
       → Judged (a + 1) rest (value s.environment copy.environment [] (test_in block))
   test_judged copy called prior (Recovers number conversation place test bound alternates) rest a b (d, turn1, (e, code, last)) is left =
@@ -79,6 +83,7 @@ module _ (tree : Tree) (slots : List Slot) (c : Code) (see : Sight) (has : HasCu
       let before = prior_finds copy called prior in
       test_ends number rest (a + 1) e b (value s.environment copy.environment [] test)
       (expression_comes c see slots (own_shape tree see.process) (running (stacks_of s.environment.calls)) true s.environment copy.environment m
-      (record { found = now.found }) (λ h. record { found = before.found }) test [] 0 [] (a + 1) e m.counters [] (record { fit = tt; two = turn.two }) is
+      (record { found = now.found }) (λ h. record { found = before.found }) test [] 0 [] (a + 1) e m.counters []
+      (record { fit = tt; two = turn.two }) is
       (subst (λ z. ExpressionCode slots test c z e) turn1.1 code))
       last left

@@ -34,7 +34,8 @@ module _ (c d : Code) where
 
   -- `and` and `or`
   abbrev and_parts : Template → ℕ → ℕ → Template
-  and_parts right fails end = One (instr.JumpZero fails) ⨾ right ⨾ One instr.Bool ⨾ One (instr.Jump end) ⨾ At fails ⨾ One (instr.Push (pos 0)) ⨾ At end
+  and_parts right fails end =
+      One (instr.JumpZero fails) ⨾ right ⨾ One instr.Bool ⨾ One (instr.Jump end) ⨾ At fails ⨾ One (instr.Push (pos 0)) ⨾ At end
 
   and_alike : (right : Template) → Fixed c d right → Fixed c d (AndCode right)
   and_alike right f =
@@ -47,7 +48,8 @@ module _ (c d : Code) where
       (same_then c d (same_at c d fails fails')
       (same_then c d (fixed_one c d (instr.Push (pos 0)) refl)
       (same_at c d end end')))))))
-      (λ u (t0, (t1, (t2, (t3, (at_fails, (t5, at_end)))))). (zero_alike fails fails' at_fails, (tt, (tt, (jump_alike end end' at_end, (tt, (tt, tt)))))))
+      (λ u (t0, (t1, (t2, (t3, (at_fails, (t5, at_end)))))).
+      (zero_alike fails fails' at_fails, (tt, (tt, (jump_alike end end' at_end, (tt, (tt, tt)))))))
       (λ t. tt))
 
   abbrev or_parts : Template → ℕ → ℕ → Template
@@ -64,7 +66,8 @@ module _ (c d : Code) where
       (same_then c d f
       (same_then c d (fixed_one c d instr.Bool refl)
       (same_at c d end end')))))))
-      (λ u (t0, (t1, (t2, (at_other, (t4, (t5, at_end)))))). (zero_alike other other' at_other, (tt, (jump_alike end end' at_end, (tt, (tt, (tt, tt)))))))
+      (λ u (t0, (t1, (t2, (at_other, (t4, (t5, at_end)))))).
+      (zero_alike other other' at_other, (tt, (jump_alike end end' at_end, (tt, (tt, (tt, tt)))))))
       (λ t. tt))
 
   pub operator_alike : (op : Op) (right : Template) → Fixed c d right → Fixed c d (OperatorCode op right)
@@ -256,7 +259,8 @@ module _ (c d : Code) where
   abbrev while_parts : Template → Template → ℕ → ℕ → Template
   while_parts test body loop end = At loop ⨾ One instr.Turn ⨾ test ⨾ One (instr.JumpZero end) ⨾ body ⨾ One (instr.Jump loop) ⨾ At end
 
-  pub while_alike : {H T : Type 0} (test body : Template) → Fixed c d test → Same c d H T body body → Same c d H T (WhileCode test body) (WhileCode test body)
+  pub while_alike : {H T : Type 0} (test body : Template) → Fixed c d test → Same c d H T body body
+      → Same c d H T (WhileCode test body) (WhileCode test body)
   while_alike test body f g =
       same_labels c d (while_parts test body) (λ loop end loop' end'.
       same_closed c d

@@ -61,7 +61,8 @@ module _ (c d : Code) (slots : List Slot) where
   arguments_alike [] = same_empty c d
   arguments_alike (argument ∷ arguments) = fixed_then c d (expression_alike argument) (arguments_alike arguments)
 
-  called_alike : (p number arguments words : ℕ) → Same c d (SameStarts c d) (Unit {0}) (Called p number arguments words) (Called p number arguments words)
+  called_alike : (p number arguments words : ℕ)
+      → Same c d (SameStarts c d) (Unit {0}) (Called p number arguments words) (Called p number arguments words)
   called_alike p number arguments words = record {
     ends = λ a b x y at e f. let n = e.1 in let m = f.1 in omega arith;
     told = λ a b x y at e f. tt;

@@ -33,7 +33,8 @@ module _ (c d : Code) (tree : Tree) (slots : List Slot) where
   procedure_alike owner n (Scope variables commands) numbered = commands_alike c d tree slots owner n commands numbered
 
   -- procedures, and the list of them
-  procedures_alike : (owner : Owner) (n : ℕ) (procedures : List ProcedureDeclaration) → ProceduresNumbered n procedures → (entries others : List Procedure)
+  procedures_alike : (owner : Owner) (n : ℕ) (procedures : List ProcedureDeclaration) → ProceduresNumbered n procedures
+      → (entries others : List Procedure)
       → Same c d (SameStarts c d) ((entries ≡ others) × SameBlocks c d n (n + blocks_in_procedures procedures))
       (ProceduresCode tree slots owner procedures entries) (ProceduresCode tree slots owner procedures others)
   procedures_alike owner n [] numbered entries others =
@@ -92,7 +93,8 @@ module _ (c d : Code) (tree : Tree) (slots : List Slot) where
     told = λ a b x y at (one, more, here, code) (other, less, there, other_code).
         let told = (both one other more less).told a b x y at code other_code in
         (here ∙ ap (λ z. z ∷ more) told.0.0 ∙ ap (λ z. other ∷ z) told.0.1 ∙ sym there, told.1);
-    alike = λ starts a b x y at (one, more, here, code) (other, less, there, other_code). (both one other more less).alike starts a b x y at code other_code;
+    alike = λ starts a b x y at (one, more, here, code) (other, less, there, other_code).
+        (both one other more less).alike starts a b x y at code other_code;
   }
     where
       both : (one other : Part) (more less : List Part)

@@ -142,7 +142,9 @@ module _ (c d : Code) where
       command_alike n (Conditional test body NoElse) numbered =
           same_closed c d
           (if_alike c d (ExpressionCode slots test) (BodyCode tree slots owner body) (expression_alike c d slots test) (body_alike n body numbered.0))
-          (λ starts t. starts) (λ these. both_blocks n (blocks_in_body body) 0 these (no_blocks (n + blocks_in_body body) (n + blocks_in_body body + 0) (omega arith)))
+          (λ starts t. starts)
+          (λ these. both_blocks n (blocks_in_body body) 0 these
+          (no_blocks (n + blocks_in_body body) (n + blocks_in_body body + 0) (omega arith)))
       command_alike n (Conditional test body (Else other)) numbered =
           same_closed c d
           (if_else_alike c d (ExpressionCode slots test) (BodyCode tree slots owner body) (BodyCode tree slots owner other)
@@ -156,7 +158,8 @@ module _ (c d : Code) where
           plain_statement n (fixed_then c d (fixed_one c d instr.Turn refl) (fixed_one c d instr.Fail refl))
       command_alike n (Recovering (Recovers number conversation place test bound alternates)) numbered =
           recovery_alike n number conversation place.line (natural bound.value) alternates (ExpressionCode slots test) numbered.0
-          (expression_alike c d slots test) (λ addresses others first second. alternates_alike (n + 1) alternates numbered.1 addresses others first second)
+          (expression_alike c d slots test)
+          (λ addresses others first second. alternates_alike (n + 1) alternates numbered.1 addresses others first second)
 
       pub commands_alike : (n : ℕ) (commands : Commands) → CommandsNumbered n commands
           → Statement n (n + blocks_in commands) (CommandsCode tree slots owner commands)

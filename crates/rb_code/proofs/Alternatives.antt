@@ -51,7 +51,8 @@ module _ (c : Code) (groups : List Membership) (P : Around) (within : Within) wh
           lying = (here, lower a m others body.ordered more.lying);
           stretch = told_less c groups P asks asks (λ t. Rests c groups P within words blocks Begun a t × rest t)
               (λ t. Rests c groups P within words blocks Begun a t × AllBegin words blocks (a ∷ others) t) a b
-              (in_order c groups P asks (Onward c groups P within words blocks m) (Rests c groups P within words blocks Begun a) rest a m b body more.stretch
+              (in_order c groups P asks (Onward c groups P within words blocks m)
+              (Rests c groups P within words blocks Begun a) rest a m b body more.stretch
               (λ t known asked. known.0))
               (λ t asked. asked) (λ t told asked. (told.0, (told.0, told.1.1)));
         }
@@ -87,11 +88,17 @@ module _ (c : Code) (groups : List Membership) (P : Around) (within : Within) wh
         let decides : Stretch c groups P asks last n b =
         begins_with c groups P asks asks asks (Test number) n b b (judged within words inner) accept refl within_it (no_stretch c groups P asks b)
         (λ t here asked. asked)
-        (λ t all here known asked. (tt, refl, refl, (refl, (refl, refl, behind_it c groups t (Test number) n b (resting within words blocks Changed) accept asked)))) in
+        (λ t all here known asked. (
+          tt,
+          refl,
+          refl,
+          (refl, (refl, refl, behind_it c groups t (Test number) n b (resting within words blocks Changed) accept asked)),
+        )) in
         let tested : Stretch c groups P asks tells m b =
         in_order c groups P asks (Judged c groups P within words inner n) (Rests c groups P within words inner Fresh m) last m n b test decides
         (λ t known asked. known.0) in
-        told_less c groups P asks asks (λ t. Rests c groups P within words inner Changed a t × tells t) (Rests c groups P within words inner Changed a) a b
+        told_less c groups P asks asks (λ t. Rests c groups P within words inner Changed a t × tells t)
+        (Rests c groups P within words inner Changed a) a b
         (turn_first c groups P asks asks tells a m b within words inner within_it turn tested (λ t known. known.0) (λ t here asked. asked))
         (λ t asked. asked) (λ t told asked. told.0)
 
@@ -109,7 +116,8 @@ module _ (c : Code) (groups : List Membership) (P : Around) (within : Within) wh
         in_order c groups P asks (Onward c groups P within words inner d) begun (Rests c groups P within words inner Changed d) n d b
         alternatives.stretch test (λ t known asked. known) in
         let started : Stretch c groups P asks tells m b =
-        begins_with c groups P asks parts asks (Start number) m n b (resting within words inner Fresh) start refl within_it both (λ t here asked. asked)
+        begins_with c groups P asks parts asks (Start number) m n b
+        (resting within words inner Fresh) start refl within_it both (λ t here asked. asked)
         (λ t all here known asked. (
           refl,
           refl,
@@ -119,7 +127,8 @@ module _ (c : Code) (groups : List Membership) (P : Around) (within : Within) wh
               (λ x. IsAhead c groups t m x × LeadsTo c groups t x (resting within words inner Begun))
               (λ x up leads. (ahead_of c groups t (Start number) m n x start up, leads)) alternatives.lying known.0.1),
         )) in
-        told_less c groups P asks asks (λ t. Rests c groups P within words inner Changed a t × tells t) (Rests c groups P within words inner Changed a) a b
+        told_less c groups P asks asks (λ t. Rests c groups P within words inner Changed a t × tells t)
+        (Rests c groups P within words inner Changed a) a b
         (turn_first c groups P asks asks tells a m b within words inner within_it turn started (λ t known. known.0) (λ t here asked. asked))
         (λ t asked. asked) (λ t told asked. told.0)
 
@@ -133,7 +142,8 @@ module _ (c : Code) (groups : List Membership) (P : Around) (within : Within) wh
         let asks : Around = Onward c groups P within words blocks b in
         let tells : Around = λ t. Rests c groups P within words blocks Fresh m t × Rests c groups P within words inner Changed n t in
         let entered : Stretch c groups P asks tells m b =
-        begins_with c groups P asks (Rests c groups P within words inner Changed n) asks (Enter number) m n b (resting within words blocks Fresh) enter refl above
+        begins_with c groups P asks (Rests c groups P within words inner Changed n) asks (Enter number) m n b
+        (resting within words blocks Fresh) enter refl above
         (tried n i d e b block there again start alternatives (acceptance e x y b line test accept)) (λ t here asked. asked)
         (λ t all here known asked. (
           refl,
@@ -143,6 +153,7 @@ module _ (c : Code) (groups : List Membership) (P : Around) (within : Within) wh
           subst (λ o. MayEnter c groups t (conversation_of o) (resting within words blocks Fresh)) (sym there) (may t),
           behind_it c groups t (Enter number) m n (resting within words inner Changed) enter known,
         )) in
-        told_less c groups P asks asks (λ t. Rests c groups P within words blocks Changed a t × tells t) (Rests c groups P within words blocks Changed a) a b
+        told_less c groups P asks asks (λ t. Rests c groups P within words blocks Changed a t × tells t)
+        (Rests c groups P within words blocks Changed a) a b
         (turn_first c groups P asks asks tells a m b within words blocks above turn entered (λ t known. known.0) (λ t here asked. asked))
         (λ t asked. asked) (λ t told asked. told.0)

@@ -31,7 +31,8 @@ module _ (tree : Tree) (slots : List Slot) (c : Code) (see : Sight) (has : HasCu
       let part = part_of c see.process in
       let env = store s.environment x k v in
       let all = slice_set m.words (place_lying part m.calls at + k) v in
-      let laid = laid_store part w.front s.environment m.words m.calls w.laid (frames_of tree slots c see has s) (in_frames tree slots c see has s m w) x at e k v l in
+      let laid = laid_store part w.front s.environment m.words m.calls w.laid (frames_of tree slots c see has s)
+      (in_frames tree slots c see has s m w) x at e k v l in
       let few = w.few in
       let fewer : words env ≤ most_words c.edition =
       omega (
@@ -63,7 +64,8 @@ module _ (tree : Tree) (slots : List Slot) (c : Code) (see : Sight) (has : HasCu
       (λ x at found k l y later two. arrives tree slots c see has (with_environment (store s.environment x k y) (continue_with rest s)) b
       (written (place_lying (part_of c see.process) m.calls at + k) y (recounted later m)) (λ later. m.slots)
       (record {
-        words_meet = words_continue tree c see.process has (with_environment (store s.environment x k y) s) _ m.calls rest (words_stored s m turn.words_meet x at found k y l);
+        words_meet = words_continue tree c see.process has (with_environment (store s.environment x k y) s) _ m.calls rest
+            (words_stored s m turn.words_meet x at found k y l);
         held = turn.held;
         two = two;
       })

@@ -34,18 +34,21 @@ module _ (tree : Tree) (slots : List Slot) (c : Code) (see : Sight) (has : HasCu
       → InTurn tree slots c see has s (recounted later m)
   recounted_turn s m later two turn = record { words_meet = turn.words_meet; held = turn.held; two = two }
 
-  pub continued_turn : (s : State) (m : Memory) (items : List Item) → InTurn tree slots c see has s m → InTurn tree slots c see has (continue_with items s) m
+  pub continued_turn : (s : State) (m : Memory) (items : List Item) → InTurn tree slots c see has s m
+      → InTurn tree slots c see has (continue_with items s) m
   continued_turn s m items turn =
       record { words_meet = words_continue tree c see.process has s m.words m.calls items turn.words_meet; held = turn.held; two = turn.two }
 
   module _ (s : State) (m : Memory) (turn : InTurn tree slots c see has s m) where
     -- what is left once a block was begun
-    left_pushed : (variables : List Declaration) (commands : Commands) (rest : List Item) (a d b next : ℕ) (main : HasMain (stacks_of s.environment.calls))
+    left_pushed : (variables : List Declaration) (commands : Commands) (rest : List Item) (a d b next : ℕ)
+        (main : HasMain (stacks_of s.environment.calls))
         → CommandsCode tree slots (owner_of tree see.process) commands c a d
         → BodyInFrames tree slots see.process (frames_of tree slots c see has s) (Scope variables commands)
         → DropCode (frame_words (frame_of variables)) c d b → Onward c b next
         → Left tree slots c see.process (stacks_of s.environment.calls) rest m.calls next
-        → Left tree slots c see.process (stacks_of (push_frame (frame_of variables) s.environment).calls) (performed commands (EndBlock ∷ rest)) m.calls a
+        → Left tree slots c see.process (stacks_of (push_frame (frame_of variables) s.environment).calls)
+        (performed commands (EndBlock ∷ rest)) m.calls a
     left_pushed variables commands rest a d b next main code is drop on left =
         let shape = shape_of (frame_of variables) in
         let p = see.process in
@@ -95,13 +98,19 @@ module _ (tree : Tree) (slots : List Slot) (c : Code) (see : Sight) (has : HasCu
             (cond t (Err Stack) (Ok (with_environment env (continue_with (performed commands (EndBlock ∷ rest)) s))))
         by true h = frame_traps c see n a d (words env) m frame many limit h
         by false h =
-            took_from tree slots c see has a d [] [] m (framed n m) (λ later. m.slots) (Ok (with_environment env (continue_with (performed commands (EndBlock ∷ rest)) s)))
+            took_from tree slots c see has a d [] [] m (framed n m) (λ later. m.slots)
+            (Ok (with_environment env (continue_with (performed commands (EndBlock ∷ rest)) s)))
             (frame_leads c see n a d (words env) m frame many h)
-            (arrives tree slots c see has (with_environment env (continue_with (performed commands (EndBlock ∷ rest)) s)) d (framed n m) (λ later. m.slots)
+            (arrives tree slots c see has (with_environment env (continue_with (performed commands (EndBlock ∷ rest)) s)) d
+            (framed n m) (λ later. m.slots)
             (record {
-              words_meet = words_continue tree c see.process has (with_environment env s) (framed n m).words m.calls (performed commands (EndBlock ∷ rest))
-                  (words_again tree c see.process has s m.words m.calls w env (framed n m).words m.calls laid refl (not_above (most_words c.edition) (words env) h));
+              words_meet =
+                  words_continue tree c see.process has (with_environment env s) (framed n m).words m.calls
+                  (performed commands (EndBlock ∷ rest))
+                  (words_again tree c see.process has s m.words m.calls w env (framed n m).words m.calls laid refl
+                  (not_above (most_words c.edition) (words env) h));
               held = turn.held;
               two = turn.two;
             })
-            (left_pushed variables commands rest d e b next (has_main (part_of c see.process) w.front s.environment m.words m.calls w.laid) code is drop on left) refl)
+            (left_pushed variables commands rest d e b next
+            (has_main (part_of c see.process) w.front s.environment m.words m.calls w.laid) code is drop on left) refl)

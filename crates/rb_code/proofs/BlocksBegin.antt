@@ -37,7 +37,8 @@ pub record HasMain (stacks : List (List Shape)) : Type 0 where
   pub outer : List (List Shape)
   pub is : stacks ≡ first ∷ outer
 
-pub has_main : (part : Part) (front : List ℤ) (env : Environment) (all : List ℤ) (calls : List OpenCall) → Laid part front env all calls → HasMain (stacks_of env.calls)
+pub has_main : (part : Part) (front : List ℤ) (env : Environment) (all : List ℤ) (calls : List OpenCall)
+    → Laid part front env all calls → HasMain (stacks_of env.calls)
 has_main part front env all calls l = by (stacks_of env.calls) l.based
   where
     by : (stacks : List (List Shape)) → Based (body_place part) calls stacks → HasMain stacks
@@ -59,14 +60,16 @@ module _ (c : Code) (see : Sight) where
   pub frame_leads : (n a d w : ℕ) (m : Memory) → FrameCode n c a d → length m.words + n ≡ variables_place (here c see) + w
       → nat_lt (most_words c.edition) w ≡ false → Leads c see a [] m d [] (framed n m)
   frame_leads zero a d w m code e h =
-      subst (λ ws. Leads c see a [] m d [] (with_words ws m)) (sym (append-nil m.words)) (subst (λ x. Leads c see a [] m x [] m) (sym code) (stays c see a [] m))
+      subst (λ ws. Leads c see a [] m d [] (with_words ws m)) (sym (append-nil m.words))
+      (subst (λ x. Leads c see a [] m x [] m) (sym code) (stays c see a [] m))
   frame_leads (suc n) a d w m code e h =
       passes c see (FrameInstr (suc n)) a d [] [] m (framed (suc n) m) code
       (ap (λ b. cond b (Going (a + 1) [] (framed (suc n) m)) (Trapped Stack))
       (fits (variables_place (here c see)) (most_words c.edition) (length m.words) (suc n) w e h))
 
   pub frame_traps : (n a d w : ℕ) (m : Memory) → FrameCode n c a d → length m.words + n ≡ variables_place (here c see) + w
-      → length m.words ≤ variables_place (here c see) + most_words c.edition → nat_lt (most_words c.edition) w ≡ true → EndsIn c see a [] m (Trapped Stack)
+      → length m.words ≤ variables_place (here c see) + most_words c.edition → nat_lt (most_words c.edition) w ≡ true
+      → EndsIn c see a [] m (Trapped Stack)
   frame_traps zero a d w m code e l h = absurd (not_full (variables_place (here c see)) (most_words c.edition) (length m.words) w e l h)
   frame_traps (suc n) a d w m code e l h =
       ends c see (FrameInstr (suc n)) a [] m (Trapped Stack) code.0

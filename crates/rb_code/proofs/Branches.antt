@@ -21,7 +21,8 @@ use Rattle.rb_code.proofs.Stores.{frames_of, plain_comes}
 use Rattle.rb_code.proofs.Blocks.{block_took, continued_turn, recounted_turn}
 use Rattle.rb_code.proofs.Took.{HasCursors, InTurn, Took, arrives, took_from, took_on}
 
-module _ (tree : Tree) (slots : List Slot) (c : Code) (see : Sight) (has : HasCursors c see.process) (s : State) (m : Memory) (turn : InTurn tree slots c see has s m)
+module _ (tree : Tree) (slots : List Slot) (c : Code) (see : Sight) (has : HasCursors c see.process) (s : State)
+    (m : Memory) (turn : InTurn tree slots c see has s m)
     (edition : c.edition ≡ tree.edition) where
   abbrev Does : ℕ → List ℤ → Memory → Result State Cause → Type 0
   Does a os n o = Took tree slots c see has a os n (λ later. m.slots) o
@@ -31,7 +32,8 @@ module _ (tree : Tree) (slots : List Slot) (c : Code) (see : Sight) (has : HasCu
 
   -- a test whose value is on top decides between two ways
   test_took : (v : ℤ) (later : List (Option Counting)) (to a d : ℕ) (zeroed other : Result State Cause) → One (JumpZero to) c a d
-      → Does to [] (recounted later m) zeroed → Does d [] (recounted later m) other → Does a (v ∷ []) (recounted later m) (cond (is_zero v) zeroed other)
+      → Does to [] (recounted later m) zeroed → Does d [] (recounted later m) other
+      → Does a (v ∷ []) (recounted later m) (cond (is_zero v) zeroed other)
   test_took v later to a d zeroed other code if_zero if_not = by (is_zero v) refl
     where
       by : (t : Bool) → is_zero v ≡ t → Does a (v ∷ []) (recounted later m) (cond t zeroed other)
@@ -44,10 +46,12 @@ module _ (tree : Tree) (slots : List Slot) (c : Code) (see : Sight) (has : HasCu
 
   -- a block with what follows it
   body_took : (body : Body) (rest : List Item) (a b next : ℕ) (later : List (Option Counting)) → length later ≡ 2
-      → BodyCode tree slots (owner_of tree see.process) body c a b → BodyInFrames tree slots see.process (frames_of tree slots c see has s) body → Onward c b next
+      → BodyCode tree slots (owner_of tree see.process) body c a b
+      → BodyInFrames tree slots see.process (frames_of tree slots c see has s) body → Onward c b next
       → LeftAt rest next → Does a [] (recounted later m) (pushes c.edition body rest s)
   body_took body rest a b next later two code is on left =
-      block_took tree slots c see has s (recounted later m) (recounted_turn tree slots c see has s m later two turn) body rest a b next code is on left
+      block_took tree slots c see has s (recounted later m)
+      (recounted_turn tree slots c see has s m later two turn) body rest a b next code is on left
 
   pub goes_past : (rest : List Item) (a : ℕ) (later : List (Option Counting)) → length later ≡ 2 → LeftAt rest a
       → Does a [] (recounted later m) (Ok (continue_with rest s))
@@ -57,20 +61,37 @@ module _ (tree : Tree) (slots : List Slot) (c : Code) (see : Sight) (has : HasCu
 
   -- an `if`
   branches_took : (test : Expression) (body : Body) (otherwise : Otherwise) (rest : List Item) (a b : ℕ)
-      → BranchesCode tree slots (owner_of tree see.process) (ExpressionCode slots test) (BodyCode tree slots (owner_of tree see.process) body) otherwise c a b
+      → BranchesCode tree slots (owner_of tree see.process) (ExpressionCode slots test)
+      (BodyCode tree slots (owner_of tree see.process) body) otherwise c a b
       → ExpressionInFrames slots (frames_of tree slots c see has s) test → BodyInFrames tree slots see.process (frames_of tree slots c see has s) body
       → OtherwiseInFrames tree slots see.process (frames_of tree slots c see has s) otherwise → LeftAt rest b
       → Does (a + 1) [] m (and_then (present_value s.environment test) (chooses c.edition body otherwise rest s))
   unfolding CommandCode
   branches_took test body NoElse rest a b (end, (d, begin, (e, test_code, (f, jump, (g, body_code, at_end))))) test_is body_is none left =
       took_on tree slots c see has (a + 1) e [] m (λ v. v ∷ []) (λ v. m) (λ later. m.slots) (present_value s.environment test) _
-      (plain_comes tree slots c see has s m turn test test_is (a + 1) e m.counters [] turn.two (subst (λ z. ExpressionCode slots test c z e) begin.1 test_code))
+      (plain_comes tree slots c see has s m turn test test_is (a + 1) e m.counters [] turn.two
+      (subst (λ z. ExpressionCode slots test c z e) begin.1 test_code))
       (λ v later at many. test_took v later end e f _ _ jump
       (goes_past rest end later (many ∙ turn.two) (subst (λ z. LeftAt rest z) (at_end.1 ∙ at_end.0) left))
       (body_took body rest f g b later (many ∙ turn.two) body_code body_is (inl at_end.1) left))
-  branches_took test body (Else other) rest a b (fails, (end, (d, begin, (e, test_code, (f, jump_zero, (g, body_code, (h, jump, (i, at_no, (j, other_code, at_end))))))))) test_is body_is other_is left =
+  branches_took test body (Else other) rest a b (
+    fails,
+    (
+      end,
+      (
+        d,
+        begin,
+        (
+          e,
+          test_code,
+          (f, jump_zero, (g, body_code, (h, jump, (i, at_no, (j, other_code, at_end))))),
+        ),
+      ),
+    ),
+  ) test_is body_is other_is left =
       took_on tree slots c see has (a + 1) e [] m (λ v. v ∷ []) (λ v. m) (λ later. m.slots) (present_value s.environment test) _
-      (plain_comes tree slots c see has s m turn test test_is (a + 1) e m.counters [] turn.two (subst (λ z. ExpressionCode slots test c z e) begin.1 test_code))
+      (plain_comes tree slots c see has s m turn test test_is (a + 1) e m.counters [] turn.two
+      (subst (λ z. ExpressionCode slots test c z e) begin.1 test_code))
       (λ v later at many. test_took v later fails e f _ _ jump_zero
       (body_took other rest fails j b later (many ∙ turn.two)
       (subst (λ z. BodyCode tree slots (owner_of tree see.process) other c z j) (at_no.1 ∙ at_no.0) other_code) other_is (inl at_end.1) left)
@@ -95,7 +116,8 @@ module _ (tree : Tree) (slots : List Slot) (c : Code) (see : Sight) (has : HasCu
       let from : d ≡ a + 1 = begin.1 ∙ ap (λ z. z + 1) at_loop.1 in
       subst (λ x. Does (a + 1) [] m (and_then (present_value s.environment test) (repeats x test body rest s))) edition
       (took_on tree slots c see has (a + 1) e [] m (λ v. v ∷ []) (λ v. m) (λ later. m.slots) (present_value s.environment test) _
-      (plain_comes tree slots c see has s m turn test is.0 (a + 1) e m.counters [] turn.two (subst (λ z. ExpressionCode slots test c z e) from test_code))
+      (plain_comes tree slots c see has s m turn test is.0 (a + 1) e m.counters [] turn.two
+      (subst (λ z. ExpressionCode slots test c z e) from test_code))
       (λ v later at many. test_took v later end e f _ _ jump_zero
       (goes_past rest end later (many ∙ turn.two) (subst (λ z. LeftAt rest z) (at_end.1 ∙ at_end.0) left))
       (body_took body (Perform (Loop test body) ∷ rest) f g a later (many ∙ turn.two) body_code is.1

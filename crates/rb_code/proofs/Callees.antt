@@ -20,7 +20,8 @@ use Rattle.rb_code.proofs.WholeRuns.Openings.{AsMany, parts_stand}
 use Rattle.rb_code.proofs.WholeRuns.ProcessesBegin.{all_there, stands_at}
 
 -- where one list has an element, the other has one
-part_for : (processes : List ProcessDeclaration) (parts : List Part) (p : ℕ) (process : ProcessDeclaration) → AsMany processes parts → slice_get processes p ≡ Some process
+part_for : (processes : List ProcessDeclaration) (parts : List Part) (p : ℕ) (process : ProcessDeclaration)
+    → AsMany processes parts → slice_get processes p ≡ Some process
     → (part : Part) × (slice_get parts p ≡ Some part)
 part_for [] parts p process many e = absurd (none_some e)
 part_for (one ∷ processes) [] p process many e = absurd many
@@ -28,14 +29,16 @@ part_for (one ∷ processes) (part ∷ parts) zero process many e = (part, refl)
 part_for (one ∷ processes) (part ∷ parts) (suc p) process many e = part_for processes parts p process many.1 e
 
 -- a procedure of a list stands at the address of its entry
-pub record StandsThere (tree : Tree) (slots : List Slot) (owner : Owner) (c : Code) (entries : List Procedure) (number : ℕ) (procedure : ProcedureDeclaration) : Type 0 where
+pub record StandsThere (tree : Tree) (slots : List Slot) (owner : Owner) (c : Code) (entries : List Procedure) (number : ℕ)
+    (procedure : ProcedureDeclaration) : Type 0 where
   pub entry : Procedure
   pub listed : slice_get entries number ≡ Some entry
   pub end : ℕ
   pub commands : CommandsCode tree slots owner (commands_of procedure.body) c entry.start end
   pub return : slice_get c.instrs end ≡ Some Return
 
-procedure_there : (tree : Tree) (slots : List Slot) (owner : Owner) (c : Code) (procedures : List ProcedureDeclaration) (entries : List Procedure) (a b number : ℕ)
+procedure_there : (tree : Tree) (slots : List Slot) (owner : Owner) (c : Code) (procedures : List ProcedureDeclaration)
+    (entries : List Procedure) (a b number : ℕ)
     (procedure : ProcedureDeclaration) → ProceduresCode tree slots owner procedures entries c a b → slice_get procedures number ≡ Some procedure
     → StandsThere tree slots owner c entries number procedure
 procedure_there tree slots owner c [] entries a b number procedure code e = absurd (none_some e)
@@ -63,7 +66,8 @@ module _ (tree : Tree) (slots : List Slot) (c : Code) (stands : StandsFor tree s
       → slice_get (procedures_of o) number ≡ Some procedure → IsCallee tree slots c p number procedure
   callee p number procedure None there e = absurd (none_some e)
   callee p number procedure (Some process) there e =
-      let part = part_for tree.processes c.processes p process (parts_stand tree slots c 0 0 (length c.instrs) tree.processes c.processes stands.instrs_are) there in
+      let part = part_for tree.processes c.processes p process
+      (parts_stand tree slots c 0 0 (length c.instrs) tree.processes c.processes stands.instrs_are) there in
       let at = stands_at tree slots c stands p process part.0 there part.1 in
       let mine : Owner = record { number = p; procedures = process.procedures } in
       let owner_is : owner_of tree p ≡ mine = ap (λ o. let one : Owner = record { number = p; procedures = procedures_of o } in one) there in
@@ -79,7 +83,9 @@ module _ (tree : Tree) (slots : List Slot) (c : Code) (stands : StandsFor tree s
       record {
         end = found.end;
         commands = subst (λ (a : ℕ). CommandsCode tree slots (owner_of tree p) (commands_of procedure.body) c a found.end) (sym start)
-            (subst (λ (owner : Owner). CommandsCode tree slots owner (commands_of procedure.body) c found.entry.start found.end) (sym owner_is) found.commands);
+            (subst
+            (λ (owner : Owner). CommandsCode tree slots owner (commands_of procedure.body) c found.entry.start found.end)
+            (sym owner_is) found.commands);
         return = found.return;
         in_frames = subst (λ (frames : Frames). CommandsInFrames tree slots p frames (commands_of procedure.body)) (sym frames_are) inside;
       }

@@ -107,7 +107,8 @@ pub record IsCallee (tree : Tree) (slots : List Slot) (c : Code) (p number : ℕ
   pub return : slice_get c.instrs end ≡ Some Return
   pub in_frames : CommandsInFrames tree slots p (frames_at tree p (call_shape procedure ∷ [])) (commands_of procedure.body)
 
-module _ (tree : Tree) (slots : List Slot) (c : Code) (see : Sight) (has : HasCursors c see.process) (s : State) (m : Memory) (turn : InTurn tree slots c see has s m) where
+module _ (tree : Tree) (slots : List Slot) (c : Code) (see : Sight) (has : HasCursors c see.process) (s : State)
+    (m : Memory) (turn : InTurn tree slots c see has s m) where
   -- arguments are left on the operands
   arguments_come : (es : List Expression) (a b : ℕ) (set : List (Option Counting)) (os : List ℤ) → length set ≡ 2 → ArgumentsCode slots es c a b
       → All (ExpressionInFrames slots (frames_of tree slots c see has s)) es
@@ -131,7 +132,8 @@ module _ (tree : Tree) (slots : List Slot) (c : Code) (see : Sight) (has : HasCu
   abbrev frame_with : ProcedureDeclaration → List ℤ → Frame
   frame_with procedure vs = bound_to procedure.parameters vs ++ frame_of (variables_of procedure.body)
 
-  call_took : (procedure : ProcedureDeclaration) (number : ℕ) (vs : List ℤ) (later : List (Option Counting)) (n a : ℕ) (rest : List Item) → length later ≡ 2
+  call_took : (procedure : ProcedureDeclaration) (number : ℕ) (vs : List ℤ) (later : List (Option Counting)) (n a : ℕ) (rest : List Item)
+      → length later ≡ 2
       → length vs ≡ length procedure.parameters → n ≡ length vs → IsCallee tree slots c see.process number procedure
       → slice_get c.instrs a ≡ Some (Call (procedure_start c see.process number) n (frame_words (frame_of (variables_of procedure.body))))
       → Left tree slots c see.process (stacks_of s.environment.calls) rest m.calls (a + 1)
@@ -177,7 +179,14 @@ module _ (tree : Tree) (slots : List Slot) (c : Code) (see : Sight) (has : HasCu
       room : length m.words + (n + zeros) ≡ variables_place (part_of c see.process) + words env
       room =
           let long = laid_long (part_of c see.process) w.front env new_words new_calls laid in
-          omega (arith, long, count, length-append m.words (vs ++ replicate zeros (pos 0)), length-append vs (replicate zeros (pos 0)), length-replicate zeros (pos 0))
+          omega (
+            arith,
+            long,
+            count,
+            length-append m.words (vs ++ replicate zeros (pos 0)),
+            length-append vs (replicate zeros (pos 0)),
+            length-replicate zeros (pos 0),
+          )
 
       taken : (arguments n (onto vs []) ≡ vs) × (below n (onto vs []) ≡ [])
       taken = all_taken vs n count
@@ -198,9 +207,13 @@ module _ (tree : Tree) (slots : List Slot) (c : Code) (see : Sight) (has : HasCu
           ≡ cond t (Trapped Calls) (cond u (Going (procedure_start c see.process number) [] new_memory) (Trapped Stack))
       acts t u e f =
           ap (λ b. cond b (Trapped Calls) (cond (has_words_for c (part_of c see.process) (length m.words + (n + zeros)))
-          (Going (procedure_start c see.process number) (below n (onto vs [])) (called (a + 1) (arguments n (onto vs [])) zeros (recounted later m))) (Trapped Stack))) e
+          (Going (procedure_start c see.process number) (below n (onto vs []))
+          (called (a + 1) (arguments n (onto vs [])) zeros (recounted later m)))
+          (Trapped Stack))) e
           ∙ ap (λ b. cond t (Trapped Calls) (cond b
-          (Going (procedure_start c see.process number) (below n (onto vs [])) (called (a + 1) (arguments n (onto vs [])) zeros (recounted later m))) (Trapped Stack))) f
+          (Going (procedure_start c see.process number) (below n (onto vs []))
+          (called (a + 1) (arguments n (onto vs [])) zeros (recounted later m)))
+          (Trapped Stack))) f
           ∙ ap (λ xs. cond t (Trapped Calls) (cond u (Going (procedure_start c see.process number) (below n (onto vs []))
           (called (a + 1) xs zeros (recounted later m))) (Trapped Stack))) taken.0
           ∙ ap (λ xs. cond t (Trapped Calls) (cond u (Going (procedure_start c see.process number) xs new_memory) (Trapped Stack))) taken.1
@@ -210,15 +223,20 @@ module _ (tree : Tree) (slots : List Slot) (c : Code) (see : Sight) (has : HasCu
       cases true u e f = ends c see _ a (onto vs []) (recounted later m) (Trapped Calls) instr (acts true _ e refl) refl
       cases false true e f =
           ends c see _ a (onto vs []) (recounted later m) (Trapped Stack) instr
-          (acts false false e (full (variables_place (part_of c see.process)) (most_words c.edition) (length m.words) (n + zeros) (words env) room f)) refl
+          (acts false false e
+          (full (variables_place (part_of c see.process)) (most_words c.edition) (length m.words) (n + zeros) (words env) room f)) refl
       cases false false e f =
-          took_from tree slots c see has a (procedure_start c see.process number) (onto vs []) [] (recounted later m) new_memory (λ later. m.slots) (Ok later_state)
+          took_from tree slots c see has a (procedure_start c see.process number) (onto vs []) []
+          (recounted later m) new_memory (λ later. m.slots) (Ok later_state)
           (goes c see _ a (procedure_start c see.process number) (onto vs []) [] (recounted later m) new_memory instr
           (acts false true e (fits (variables_place (part_of c see.process)) (most_words c.edition) (length m.words) (n + zeros) (words env) room f)))
           (arrives tree slots c see has later_state (procedure_start c see.process number) new_memory (λ later. m.slots)
           (record {
-            words_meet = words_continue tree c see.process has (with_environment env s) new_words new_calls (performed (commands_of procedure.body) (EndCall ∷ rest))
-                (words_again tree c see.process has s m.words m.calls w env new_words new_calls laid refl (not_above (most_words c.edition) (words env) f));
+            words_meet =
+                words_continue tree c see.process has (with_environment env s) new_words new_calls
+                (performed (commands_of procedure.body) (EndCall ∷ rest))
+                (words_again tree c see.process has s m.words m.calls w env new_words new_calls laid refl
+                (not_above (most_words c.edition) (words env) f));
             held = turn.held;
             two = two;
           })
@@ -227,7 +245,8 @@ module _ (tree : Tree) (slots : List Slot) (c : Code) (see : Sight) (has : HasCu
       by : (t u : Bool) → nat_le most_calls (length m.calls) ≡ t → nat_lt (most_words c.edition) (words env) ≡ u
           → Took tree slots c see has a (onto vs []) (recounted later m) (λ later. m.slots) (calls_with c.edition (Some procedure) rest s vs)
       by t u e f =
-          same_took tree slots c see has a (onto vs []) (recounted later m) (λ later. m.slots) (cond t (Err Calls) (cond u (Err Stack) (Ok later_state))) _
+          same_took tree slots c see has a (onto vs []) (recounted later m) (λ later. m.slots)
+          (cond t (Err Calls) (cond u (Err Stack) (Ok later_state))) _
           (ap (λ b. cond t (Err Calls) (cond b (Err Stack) (Ok later_state))) (sym f)
           ∙ ap (λ b. cond b (Err Calls) (cond (nat_lt (most_words c.edition) (words env)) (Err Stack) (Ok later_state))) (sym e ∙ sym opened))
           (cases t u e f)
@@ -246,14 +265,17 @@ module _ (tree : Tree) (slots : List Slot) (c : Code) (see : Sight) (has : HasCu
       let declared = procedures_of (slice_get tree.processes p) in
       let number : procedure_of slots name.id ≡ is.number = ap procedure_in is.slot in
       let many : procedure_words declared (procedure_of slots name.id) ≡ frame_words (frame_of (variables_of is.procedure.body)) =
-      ap (procedure_words declared) number ∙ ap (λ o. unwrap_or (option_map (λ (one : ProcedureDeclaration). frame_words (frame_of (variables_of one.body))) o) 0) is.there in
-      let instr : slice_get c.instrs e ≡ Some (Call (procedure_start c p is.number) (length es) (frame_words (frame_of (variables_of is.procedure.body)))) =
+      ap (procedure_words declared) number
+      ∙ ap (λ o. unwrap_or (option_map (λ (one : ProcedureDeclaration). frame_words (frame_of (variables_of one.body))) o) 0) is.there in
+      let instr : slice_get c.instrs e
+      ≡ Some (Call (procedure_start c p is.number) (length es) (frame_words (frame_of (variables_of is.procedure.body)))) =
       call.0 ∙ ap (λ k. Some (Call (procedure_start c p k) (length es) (procedure_words declared (procedure_of slots name.id)))) number
       ∙ ap (λ k. Some (Call (procedure_start c p is.number) (length es) k)) many in
       let found : procedure_named tree s.process name.text ≡ Some is.procedure = ap (λ k. procedure_named tree k name.text) mine ∙ is.found in
       took_on tree slots c see has (a + 1) e [] m (λ vs. onto vs []) (λ vs. m) (λ later. m.slots) (values_in s.environment es) _
       (arguments_come es (a + 1) e m.counters [] turn.two (subst (λ z. ArgumentsCode slots es c z e) begin.1 code) fit)
-      (λ vs later at kept. same_took tree slots c see has e (onto vs []) (recounted later m) (λ later. m.slots) (calls_with c.edition (Some is.procedure) rest s vs) _
+      (λ vs later at kept. same_took tree slots c see has e (onto vs []) (recounted later m) (λ later. m.slots)
+      (calls_with c.edition (Some is.procedure) rest s vs) _
       (ap (λ x. calls_with x (Some is.procedure) rest s vs) edition ∙ ap (λ o. calls_with tree.edition o rest s vs) (sym found))
       (call_took is.procedure is.number vs later (length es) e rest (kept ∙ turn.two) (values_long s.environment es vs at ∙ sym is.parameters)
       (sym (values_long s.environment es vs at)) (callees is.number is.procedure is.there) instr

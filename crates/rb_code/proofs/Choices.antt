@@ -63,7 +63,8 @@ module _ (c : Code) (groups : List Membership) (P : Around) (within : Within) wh
         → ((t : Table) → behind t → asks t → Rests words blocks Free d t)
         → Stretch c groups P asks (λ t. Rests words blocks Fresh a t × (LeadsTo c groups t n (judged within words blocks) × behind t)) a b
     choose asks behind a n m b d test jump up rest onward there =
-        in_order c groups P asks (Judged words blocks n) (Rests words blocks Fresh a) (λ t. LeadsTo c groups t n (judged within words blocks) × behind t)
+        in_order c groups P asks (Judged words blocks n) (Rests words blocks Fresh a)
+        (λ t. LeadsTo c groups t n (judged within words blocks) × behind t)
         a n b test
         (begins_with c groups P asks behind asks (JumpZero d) n m b (judged within words blocks) jump refl above rest (λ t here asked. asked)
         (λ t all here known asked. (
@@ -87,7 +88,8 @@ module _ (c : Code) (groups : List Membership) (P : Around) (within : Within) wh
 
     -- a block, a jump behind another, and that other
     either : (d n e b : ℕ) (mode other : Mode) → Enclosed words blocks mode d n → One (Jump b) c n e → Enclosed words blocks other e b
-        → Stretch c groups P (Onward words blocks b) (λ t. Rests words blocks mode d t × (Rests words blocks Changed n t × Rests words blocks other e t)) d b
+        → Stretch c groups P (Onward words blocks b)
+        (λ t. Rests words blocks mode d t × (Rests words blocks Changed n t × Rests words blocks other e t)) d b
     either d n e b mode other body jump otherwise =
         in_order c groups P (Onward words blocks b) (Onward words blocks n) (Rests words blocks mode d)
         (λ t. Rests words blocks Changed n t × Rests words blocks other e t) d n b body
@@ -117,10 +119,12 @@ module _ (c : Code) (groups : List Membership) (P : Around) (within : Within) wh
         let tells : Around = λ t. Rests words blocks Fresh m t × (LeadsTo c groups t n (judged within words blocks) × parts t) in
         let up : d ≤ b = omega (arith, body.ordered, back.1) in
         let returns : Stretch c groups P inside (λ t. Rests words blocks Changed i t × inside t) i b =
-        begins_with c groups P inside inside inside (Jump a) i b b (resting within words blocks Changed) back refl above (no_stretch c groups P inside b)
+        begins_with c groups P inside inside inside (Jump a) i b b (resting within words blocks Changed) back refl above
+        (no_stretch c groups P inside b)
         (λ t here asked. asked) (λ t all here known asked. (inr turn.0, asked.1)) in
         let whole : Stretch c groups P inside parts d b =
-        in_order c groups P inside (Onward words blocks i) (Rests words blocks Free d) (λ t. Rests words blocks Changed i t × inside t) d i b body returns
+        in_order c groups P inside (Onward words blocks i) (Rests words blocks Free d)
+        (λ t. Rests words blocks Changed i t × inside t) d i b body returns
         (λ t known asked. known.0) in
         let chosen : Stretch c groups P inside tells m b = choose inside parts m n d b b test jump up whole
         (λ t known asked. known.0)
@@ -154,7 +158,8 @@ module _ (c : Code) (groups : List Membership) (P : Around) (within : Within) wh
         (λ t asked. asked) (λ t told asked. told.0)
 
     -- words of a frame are pushed, and dropped
-    framed : (w : ℕ) (a m b : ℕ) (mode : Mode) → MayFrame mode → One (Frame w) c a m → Statements (words + w) blocks m b → (d : ℕ) → One (Drop w) c b d
+    framed : (w : ℕ) (a m b : ℕ) (mode : Mode) → MayFrame mode → One (Frame w) c a m → Statements (words + w) blocks m b
+        → (d : ℕ) → One (Drop w) c b d
         → Enclosed words blocks mode a d
     framed w a m b mode may frame statements d drop =
         let asks = Onward words blocks d in

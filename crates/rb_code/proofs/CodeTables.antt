@@ -24,14 +24,18 @@ module _ (c : Code) (tree : Tree) (slots : List Slot) where
   start_in entries number = unwrap_or (option_map (λ one. one.start) (slice_get entries number)) 0
 
   -- a procedure by its number
-  procedure_begins : (t : Table) (p : ℕ) (procedures : List ProcedureDeclaration) (entries : List Procedure) (number : ℕ) (procedure : ProcedureDeclaration)
+  procedure_begins : (t : Table) (p : ℕ) (procedures : List ProcedureDeclaration) (entries : List Procedure) (number : ℕ)
+      (procedure : ProcedureDeclaration)
       → ProceduresBegin c tree p procedures entries t → slice_get procedures number ≡ Some procedure
       → LeadsTo c (groups_of tree) t (start_in entries number) (resting (in_procedure p) (call_words procedure) [] Changed)
       × IsProcedureAt entries (start_in entries number)
   procedure_begins t p [] entries number procedure all at = absurd (none_some at)
   procedure_begins t p (one ∷ others) [] number procedure all at = absurd all
-  procedure_begins t p (one ∷ others) (entry ∷ more) zero procedure all at =
-      (subst (λ each. LeadsTo c (groups_of tree) t entry.start (resting (in_procedure p) (call_words each) [] Changed)) (some_same at) all.0, inl refl)
+  procedure_begins t p (one ∷ others) (entry ∷ more) zero procedure all at = (
+    subst (λ each. LeadsTo c (groups_of tree) t entry.start (resting (in_procedure p) (call_words each) [] Changed))
+        (some_same at) all.0,
+    inl refl,
+  )
   procedure_begins t p (one ∷ others) (entry ∷ more) (suc number) procedure all at =
       let later = procedure_begins t p others more number procedure all.1 at in
       (later.0, inr later.1)

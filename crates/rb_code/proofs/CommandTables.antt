@@ -63,7 +63,8 @@ module _ (tree : Tree) (slots : List Slot) (c : Code) (owner : Owner) (P : Aroun
 
   -- a message that goes to its place
   abbrev pub TakenIsTabled : Type 0
-  TakenIsTabled = (words : ℕ) (blocks : List OpenBlock) (frames : Frames) (spot : Spot) (to : Reference) (channel a b : ℕ) → Known words blocks frames spot
+  TakenIsTabled =
+      (words : ℕ) (blocks : List OpenBlock) (frames : Frames) (spot : Spot) (to : Reference) (channel a b : ℕ) → Known words blocks frames spot
       → frames.in_test ≡ false → ReferenceInFrames slots frames (IsScalar slots frames) to → StoreHasRoom to (λ n. n < most_operands)
       → StoreCode slots to (One (Take channel)) c a b → Enclosed c (groups_of tree) P within words blocks (MayTake channel) a b
 
@@ -71,7 +72,13 @@ module _ (tree : Tree) (slots : List Slot) (c : Code) (owner : Owner) (P : Aroun
       → Known (words + frame_words (frame_of variables)) blocks (pushed variables frames) spot
   known_pushed words blocks frames spot variables known = record {
     above = higher blocks known.above;
-    running_are = omega (arith, known.running_are, sum_by-cons shape_words (shape_of (frame_of variables)) frames.running, frame_and_shape (frame_of variables));
+    running_are =
+        omega (
+          arith,
+          known.running_are,
+          sum_by-cons shape_words (shape_of (frame_of variables)) frames.running,
+          frame_and_shape (frame_of variables),
+        );
     globals_are = known.globals_are;
     none_counted = known.none_counted;
     none_quantified = known.none_quantified;
@@ -124,7 +131,8 @@ module _ (tree : Tree) (slots : List Slot) (c : Code) (owner : Owner) (P : Aroun
     mutual
       unfolding CommandCode CommandsCode BodyCode ReceiptCode BranchesCode BlockCode AlternatesCode OthersCode
 
-      pub command_tabled : (words : ℕ) (blocks : List OpenBlock) (frames : Frames) (spot : Spot) (command : Command) (a b : ℕ) → Known words blocks frames spot
+      pub command_tabled : (words : ℕ) (blocks : List OpenBlock) (frames : Frames) (spot : Spot) (command : Command) (a b : ℕ)
+          → Known words blocks frames spot
           → frames.in_test ≡ false → KeepRules tree (uses_in_command spot command) → CommandInFrames tree slots within.process frames command
           → CommandWithin command → CommandHasRoom command → CommandCode tree slots owner command c a b
           → Statements c (groups_of tree) P within words blocks a b
@@ -147,24 +155,28 @@ module _ (tree : Tree) (slots : List Slot) (c : Code) (owner : Owner) (P : Aroun
           (subst (λ x. One (Jump x) c i e) (sym k_end) onward)
           (subst (λ x. Enclosed c (groups_of tree) P within words blocks Free x b) at_none.1
           (subst (λ x. Enclosed c (groups_of tree) P within words blocks Free e' x) (sym at_end.1)
-          (body_tabled words blocks frames spot Free other e' k known outside tt (rules_second tree receives (uses_in_body spot other) rules) names.2 limits room.1 other_code)))
+          (body_tabled words blocks frames spot Free other e' k known outside tt
+          (rules_second tree receives (uses_in_body spot other) rules) names.2 limits room.1 other_code)))
       command_tabled words blocks frames spot (Conditional test body NoElse) a b known outside rules names limits room
           (end, (m, turn, (n, test_code, (d, jump, (k, body_code, at_end))))) =
           if_stretch c (groups_of tree) P within words blocks known.above a m n d b turn
           (tests words blocks frames spot test m n known (no_test blocks frames outside) names.0 room.0 test_code)
           (subst (λ x. One (JumpZero x) c n d) (sym (at_end.1 ∙ at_end.0)) jump)
           (subst (λ x. Enclosed c (groups_of tree) P within words blocks Free d x) (sym at_end.1)
-          (body_tabled words blocks frames spot Free body d k known outside tt (rules_first tree (uses_in_body spot body) [] rules) names.1 limits.0 room.1 body_code))
+          (body_tabled words blocks frames spot Free body d k known outside tt
+          (rules_first tree (uses_in_body spot body) [] rules) names.1 limits.0 room.1 body_code))
       command_tabled words blocks frames spot (Conditional test body (Else other)) a b known outside rules names limits room
           (fails, (end, (m, turn, (n, test_code, (d, jump, (i, body_code, (e, onward, (e', at_fails, (k, other_code, at_end))))))))) =
           if_else_stretch c (groups_of tree) P within words blocks known.above a m n d i e b turn
           (tests words blocks frames spot test m n known (no_test blocks frames outside) names.0 room.0 test_code)
           (subst (λ x. One (JumpZero x) c n d) (sym at_fails.0) jump)
-          (body_tabled words blocks frames spot Free body d i known outside tt (rules_first tree (uses_in_body spot body) (uses_in_body spot other) rules) names.1 limits.0 room.1 body_code)
+          (body_tabled words blocks frames spot Free body d i known outside tt
+          (rules_first tree (uses_in_body spot body) (uses_in_body spot other) rules) names.1 limits.0 room.1 body_code)
           (subst (λ x. One (Jump x) c i e) (sym (at_end.1 ∙ at_end.0)) onward)
           (subst (λ x. Enclosed c (groups_of tree) P within words blocks Free x b) at_fails.1
           (subst (λ x. Enclosed c (groups_of tree) P within words blocks Free e' x) (sym at_end.1)
-          (body_tabled words blocks frames spot Free other e' k known outside tt (rules_second tree (uses_in_body spot body) (uses_in_body spot other) rules) names.2 limits.1 room.2 other_code)))
+          (body_tabled words blocks frames spot Free other e' k known outside tt
+          (rules_second tree (uses_in_body spot body) (uses_in_body spot other) rules) names.2 limits.1 room.2 other_code)))
       command_tabled words blocks frames spot (Loop test body) a b known outside rules names limits room
           (loop, (end, (a', at_loop, (m, turn, (n, test_code, (d, jump, (i, body_code, (k, back, at_end)))))))) =
           while_stretch c (groups_of tree) P within words blocks known.above a m n d i b
@@ -177,8 +189,24 @@ module _ (tree : Tree) (slots : List Slot) (c : Code) (owner : Owner) (P : Aroun
           simple words blocks frames spot (Invocation procedure arguments) a b tt known rules outside names limits room code
       command_tabled words blocks frames spot Failure a b known outside rules names limits room code =
           simple words blocks frames spot Failure a b tt known rules outside names limits room code
-      command_tabled words blocks frames spot (Recovering (Recovers number conversation place test bound alternates)) a b known outside rules names limits room
-          (block, there, (m0, (tells, e0), (m1, turn, (m2, enter, (m3, (restart, e3), (m4, again, (m5, start, (m6, tries, (m7, (line, e7), (m8, last, (m9, test_code, accept))))))))))) =
+      command_tabled words blocks frames spot
+          (Recovering (Recovers number conversation place test bound alternates)) a b known outside rules names limits room (
+            block,
+            there,
+            (
+              m0,
+              (tells, e0),
+              (
+                m1,
+                turn,
+                (
+                  m2,
+                  enter,
+                  (m3, (restart, e3), (m4, again, (m5, start, (m6, tries, (m7, (line, e7), (m8, last, (m9, test_code, accept))))))),
+                ),
+              ),
+            ),
+          ) =
           let inner = record { number = number; words = words } ∷ blocks in
           let is : conversation_of (slice_get c.blocks number) ≡ number_joined tree conversation = ap conversation_of there ∙ tells.conversation_is in
           let deeper = known_inside words blocks frames spot number conversation is known in
@@ -191,10 +219,12 @@ module _ (tree : Tree) (slots : List Slot) (c : Code) (owner : Owner) (P : Aroun
           (alternates_tabled words inner frames (inside conversation spot) alternates block.alternates block.test m5 m6 (sym line) deeper outside
           (rules_second tree joins others rules) names.2 limits.1 room.1 tries)
           (subst (λ x. One Turn c x m8) e7 last)
-          (tests words inner (in_acceptance frames) (inside conversation spot) test m8 m9 (known_tested words inner frames (inside conversation spot) deeper)
+          (tests words inner (in_acceptance frames) (inside conversation spot) test m8 m9
+          (known_tested words inner frames (inside conversation spot) deeper)
           (λ in_it. let r = known.running_are in omega arith) names.1 room.0 test_code) accept
 
-      pub commands_tabled : (words : ℕ) (blocks : List OpenBlock) (frames : Frames) (spot : Spot) (commands : Commands) (a b : ℕ) → Known words blocks frames spot
+      pub commands_tabled : (words : ℕ) (blocks : List OpenBlock) (frames : Frames) (spot : Spot) (commands : Commands) (a b : ℕ)
+          → Known words blocks frames spot
           → frames.in_test ≡ false → KeepRules tree (uses_in spot commands) → CommandsInFrames tree slots within.process frames commands
           → CommandsWithin commands → CommandsHaveRoom commands → CommandsCode tree slots owner commands c a b
           → Statements c (groups_of tree) P within words blocks a b
@@ -202,10 +232,13 @@ module _ (tree : Tree) (slots : List Slot) (c : Code) (owner : Owner) (P : Aroun
           subst (λ x. Statements c (groups_of tree) P within words blocks a x) (sym code) (no_statement c (groups_of tree) P within words blocks a)
       commands_tabled words blocks frames spot (Then first rest) a b known outside rules names limits room (m, code, more) =
           then_more c (groups_of tree) P within words blocks Changed a m b
-          (command_tabled words blocks frames spot first a m known outside (rules_first tree (uses_in_command spot first) (uses_in spot rest) rules) names.0 limits.0 room.0 code)
-          (commands_tabled words blocks frames spot rest m b known outside (rules_second tree (uses_in_command spot first) (uses_in spot rest) rules) names.1 limits.1 room.1 more)
+          (command_tabled words blocks frames spot first a m known outside
+          (rules_first tree (uses_in_command spot first) (uses_in spot rest) rules) names.0 limits.0 room.0 code)
+          (commands_tabled words blocks frames spot rest m b known outside
+          (rules_second tree (uses_in_command spot first) (uses_in spot rest) rules) names.1 limits.1 room.1 more)
 
-      body_tabled : (words : ℕ) (blocks : List OpenBlock) (frames : Frames) (spot : Spot) (mode : Mode) (body : Body) (a b : ℕ) → Known words blocks frames spot
+      body_tabled : (words : ℕ) (blocks : List OpenBlock) (frames : Frames) (spot : Spot) (mode : Mode) (body : Body) (a b : ℕ)
+          → Known words blocks frames spot
           → frames.in_test ≡ false → MayFrame mode → KeepRules tree (uses_in_body spot body) → BodyInFrames tree slots within.process frames body
           → BodyWithin body → BodyHasRoom body → BodyCode tree slots owner body c a b
           → Enclosed c (groups_of tree) P within words blocks mode a b
@@ -215,15 +248,18 @@ module _ (tree : Tree) (slots : List Slot) (c : Code) (owner : Owner) (P : Aroun
           (known_pushed words blocks frames spot variables known) outside rules names limits room code)
           drop
 
-      alternates_tabled : (words : ℕ) (blocks : List OpenBlock) (frames : Frames) (spot : Spot) (alternates : Alternates) (addresses : List ℕ) (test a b : ℕ) → test ≡ b
+      alternates_tabled : (words : ℕ) (blocks : List OpenBlock) (frames : Frames) (spot : Spot) (alternates : Alternates)
+          (addresses : List ℕ) (test a b : ℕ) → test ≡ b
           → Known words blocks frames spot → frames.in_test ≡ false → KeepRules tree (uses_in_alternates spot alternates)
           → AlternatesInFrames tree slots within.process frames alternates → AlternatesWithin alternates → AlternatesHaveRoom alternates
           → AlternatesCode tree slots owner alternates addresses test c a b
           → Alternatives c (groups_of tree) P within words blocks Begun a b addresses
       alternates_tabled words blocks frames spot NoAlternate addresses test a b e known outside rules names limits room (none, here) =
           subst (Alternatives c (groups_of tree) P within words blocks Begun a b) (sym none)
-          (subst (λ x. Alternatives c (groups_of tree) P within words blocks Begun a x []) (sym here) (no_alternative c (groups_of tree) P within words blocks Begun a))
-      alternates_tabled words blocks frames spot (Alternate body others) addresses test a b e known outside rules names limits room (more, is, (m, code, rest)) =
+          (subst (λ x. Alternatives c (groups_of tree) P within words blocks Begun a x []) (sym here)
+          (no_alternative c (groups_of tree) P within words blocks Begun a))
+      alternates_tabled words blocks frames spot
+          (Alternate body others) addresses test a b e known outside rules names limits room (more, is, (m, code, rest)) =
           subst (Alternatives c (groups_of tree) P within words blocks Begun a b) (sym is)
           (alternative c (groups_of tree) P within words blocks a m b more
           (body_tabled words blocks frames spot Begun body a m known outside tt
@@ -231,15 +267,19 @@ module _ (tree : Tree) (slots : List Slot) (c : Code) (owner : Owner) (P : Aroun
           (others_tabled words blocks frames spot others more test m b e known outside
           (rules_second tree (uses_in_body spot body) (uses_in_alternates spot others) rules) names.1 limits.1 room.1 rest))
 
-      others_tabled : (words : ℕ) (blocks : List OpenBlock) (frames : Frames) (spot : Spot) (alternates : Alternates) (addresses : List ℕ) (test a b : ℕ) → test ≡ b
+      others_tabled : (words : ℕ) (blocks : List OpenBlock) (frames : Frames) (spot : Spot) (alternates : Alternates)
+          (addresses : List ℕ) (test a b : ℕ) → test ≡ b
           → Known words blocks frames spot → frames.in_test ≡ false → KeepRules tree (uses_in_alternates spot alternates)
           → AlternatesInFrames tree slots within.process frames alternates → AlternatesWithin alternates → AlternatesHaveRoom alternates
           → OthersCode tree slots owner alternates addresses test c a b
           → Alternatives c (groups_of tree) P within words blocks Changed a b addresses
       others_tabled words blocks frames spot NoAlternate addresses test a b e known outside rules names limits room (none, here) =
           subst (Alternatives c (groups_of tree) P within words blocks Changed a b) (sym none)
-          (subst (λ x. Alternatives c (groups_of tree) P within words blocks Changed a x []) (sym here) (no_alternative c (groups_of tree) P within words blocks Changed a))
-      others_tabled words blocks frames spot (Alternate body others) addresses test a b e known outside rules names limits room (d, jump, (more, is, (m, code, rest))) =
+          (subst (λ x. Alternatives c (groups_of tree) P within words blocks Changed a x []) (sym here)
+          (no_alternative c (groups_of tree) P within words blocks Changed a))
+      others_tabled words blocks frames spot
+          (Alternate body others) addresses test a b e known outside rules names limits room
+          (d, jump, (more, is, (m, code, rest))) =
           subst (Alternatives c (groups_of tree) P within words blocks Changed a b) (sym is)
           (other_alternative c (groups_of tree) P within words blocks a d b (d ∷ more) known.above (subst (λ x. One (Jump x) c a d) e jump)
           (alternative c (groups_of tree) P within words blocks d m b more

@@ -57,7 +57,8 @@ number_there q (one ∷ around) (other ∷ counters) set x k fit e =
     by next false h g =
         let rest = next g in (
           rest.0,
-          ap (λ y. cond (same_name y x) (Some other.1) (counter_of counters x)) (sym fit.0) ∙ ap (λ b. cond b (Some other.1) (counter_of counters x)) h ∙ rest.1,
+          ap (λ y. cond (same_name y x) (Some other.1) (counter_of counters x)) (sym fit.0)
+              ∙ ap (λ b. cond b (Some other.1) (counter_of counters x)) h ∙ rest.1,
           rest.2,
         )
 

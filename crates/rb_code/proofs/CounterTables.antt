@@ -171,9 +171,11 @@ module _ (c : Code) (groups : List Membership) (e : Entry) (above : IsAbove e.bl
           (joined_first c groups R1 d3 d4 d6 on got
           (push_tabled c groups e above loops after after q (λ t. LeadsTo c groups t d4 got × R1 t) (pos 1) d3 d4 os push1
           (cover d3 (omega arith) (omega arith)) room (λ t s. s.0))
-          (jump_tabled c groups e above loops after after q R1 end d4 d6 (None ∷ os) (jump.0, n7 ∙ n6) (cover d4 (omega arith) (omega arith)) (omega arith)
+          (jump_tabled c groups e above loops after after q R1 end d4 d6 (None ∷ os) (jump.0, n7 ∙ n6)
+          (cover d4 (omega arith) (omega arith)) (omega arith)
           (λ t s. subst (λ x. LeadsTo c groups t x got) (n9 ∙ m9) (next t s.1))).whole).whole)
-          (push_tabled c groups e above loops after after q R (pos 0) d6 b os (push0.0, n9 ∙ n8) (cover d6 (omega arith) (omega arith)) room next).whole
+          (push_tabled c groups e above loops after after q R (pos 0) d6 b os (push0.0, n9 ∙ n8)
+          (cover d6 (omega arith) (omega arith)) room next).whole
 
       -- `some`
       some_tabled : (mode : Mode) (R : Around) (a b : ℕ) (os : List (Option ℕ)) → length os < most_operands → PushesIn loops mode low os
@@ -249,7 +251,8 @@ module _ (c : Code) (groups : List Membership) (e : Entry) (above : IsAbove e.bl
           (λ t s. left_behind t (r + 1) d4 end (None ∷ os) (omega arith)
           (subst (λ x. LeadsTo c groups t x got) (n9 ∙ m9) (next t (more t s).1)))).whole)
           (λ t s. s.0)).whole)
-          (push_tabled c groups e above loops after after q R (pos 0) d6 b os (push0.0, n9 ∙ n8) (cover d6 (omega arith) (omega arith)) room next).whole
+          (push_tabled c groups e above loops after after q R (pos 0) d6 b os (push0.0, n9 ∙ n8)
+          (cover d6 (omega arith) (omega arith)) room next).whole
 
       -- `sum`
       sum_tabled : (mode : Mode) (R : Around) (a b : ℕ) (os : List (Option ℕ)) → Quiet mode after → length os < most_operands

@@ -36,7 +36,8 @@ abbrev pub one_taken : ℕ → State → State
 one_taken channel s = with_taken (change_at channel (λ n. n + 1) s.taken) s
 
 -- what was changed at a place that a list has
-changed_there : {A : Type 0} (xs : List A) (k : ℕ) (f : A → A) (d : A) → k < length xs → unwrap_or (slice_get (change_at k f xs) k) d ≡ f (unwrap_or (slice_get xs k) d)
+changed_there : {A : Type 0} (xs : List A) (k : ℕ) (f : A → A) (d : A) → k < length xs
+    → unwrap_or (slice_get (change_at k f xs) k) d ≡ f (unwrap_or (slice_get xs k) d)
 changed_there xs k f d h =
     let there = slice_get-there xs k h in
     ap (λ o. unwrap_or o d) (slice_get-change_at k f xs ∙ ap (option_map f) there.1) ∙ ap (λ o. f (unwrap_or o d)) (sym there.1)
@@ -56,7 +57,8 @@ taken_elsewhere s channel other ne = ap (λ o. unwrap_or o 0) (slice_get-change_
 risen_to : (w : ℤ) (n : ℕ) → w ≡ pos n → w +ℤ pos 1 ≡ pos (n + 1)
 risen_to w n e = ap (λ z. z +ℤ pos 1) e ∙ omega (arith, ints)
 
-module _ (tree : Tree) (c : Code) (p : ℕ) (has : HasCursors c p) (s : State) (all : List ℤ) (calls : List OpenCall) (w : WordsMeet tree c p s all calls) where
+module _ (tree : Tree) (c : Code) (p : ℕ) (has : HasCursors c p) (s : State) (all : List ℤ) (calls : List OpenCall)
+    (w : WordsMeet tree c p s all calls) where
   -- the words with the cursor of a channel one further
   abbrev pub raised : ℕ → List ℤ
   raised channel = slice_set all (cursor_place (part_of c p) channel) (word_at all (cursor_place (part_of c p) channel) +ℤ pos 1)
@@ -68,7 +70,8 @@ module _ (tree : Tree) (c : Code) (p : ℕ) (has : HasCursors c p) (s : State) (
         let inside = cursor_in_front c p channel ends has at mine in
         word_set all (cursor_place (part_of c p) channel) _ (omega (arith, long, inside))
 
-    raised_elsewhere : (other : ℕ) → (other ≡ channel → ⊥) → word_at (raised channel) (cursor_place (part_of c p) other) ≡ word_at all (cursor_place (part_of c p) other)
+    raised_elsewhere : (other : ℕ) → (other ≡ channel → ⊥)
+        → word_at (raised channel) (cursor_place (part_of c p) other) ≡ word_at all (cursor_place (part_of c p) other)
     raised_elsewhere other ne =
         word_other all (cursor_place (part_of c p) channel) (cursor_place (part_of c p) other) _
         (cursor_apart (part_of c p) channel other (has.place channel ends at mine) (λ e. ne (sym e)))
@@ -98,7 +101,8 @@ module _ (tree : Tree) (c : Code) (p : ℕ) (has : HasCursors c p) (s : State) (
             by_channel (λ x. word_at (raised channel) (cursor_place (part_of c p) x) ≡ pos (length (sent_on (one_sent channel v s) x))) channel other
             (raised_there channel me.ends me.at mine ∙ risen_to _ (length (sent_on s channel)) (w.sent channel me.ends me.at me.is)
             ∙ ap (λ n. pos n) (one_more (sent_on s channel) v ∙ ap length (sym (sent_there s channel v me.within))))
-            (λ ne. raised_elsewhere channel me.ends me.at mine other ne ∙ w.sent other ends at is ∙ ap (λ xs. pos (length xs)) (sym (sent_elsewhere s channel other v ne)));
+            (λ ne. raised_elsewhere channel me.ends me.at mine other ne ∙ w.sent other ends at is
+            ∙ ap (λ xs. pos (length xs)) (sym (sent_elsewhere s channel other v ne)));
         taken = λ other ends at is.
             raised_elsewhere channel me.ends me.at mine other (λ e. not_both other ends at is e) ∙ w.taken other ends at is;
       }
@@ -127,7 +131,8 @@ module _ (tree : Tree) (c : Code) (p : ℕ) (has : HasCursors c p) (s : State) (
             by_channel (λ x. word_at (raised channel) (cursor_place (part_of c p) x) ≡ pos (taken_on (one_taken channel s) x)) channel other
             (raised_there channel me.ends me.at mine ∙ risen_to _ (taken_on s channel) (w.taken channel me.ends me.at me.is)
             ∙ ap (λ n. pos n) (sym (taken_there s channel me.within)))
-            (λ ne. raised_elsewhere channel me.ends me.at mine other ne ∙ w.taken other ends at is ∙ ap (λ n. pos n) (sym (taken_elsewhere s channel other ne)));
+            (λ ne. raised_elsewhere channel me.ends me.at mine other ne ∙ w.taken other ends at is
+            ∙ ap (λ n. pos n) (sym (taken_elsewhere s channel other ne)));
       }
     where
       not_both : (other : ℕ) (ends : Ends) → slice_get c.channels other ≡ Some ends → ends.sender ≡ p → other ≡ channel → ⊥

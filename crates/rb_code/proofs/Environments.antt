@@ -18,17 +18,34 @@ use Rattle.rb_code.proofs.Found.{Finds}
 pub words_of_frame : (frame : Frame) → length (flat_frame frame) ≡ frame_words frame
 words_of_frame [] = refl
 words_of_frame (stored ∷ frame) =
-    omega (arith, length-append stored.values (flat_frame frame), words_of_frame frame, sum_by-cons (λ (one : Stored). length one.values) stored frame)
+    omega (
+      arith,
+      length-append stored.values (flat_frame frame),
+      words_of_frame frame,
+      sum_by-cons (λ (one : Stored). length one.values) stored frame,
+    )
 
 words_of_frames : (frames : List Frame) → length (flat_frames frames) ≡ frames_words frames
 words_of_frames [] = refl
 words_of_frames (frame ∷ around) =
-    omega (arith, length-append (flat_frames around) (flat_frame frame), words_of_frames around, words_of_frame frame, sum_by-cons frame_words frame around)
+    omega (
+      arith,
+      length-append (flat_frames around) (flat_frame frame),
+      words_of_frames around,
+      words_of_frame frame,
+      sum_by-cons frame_words frame around,
+    )
 
 words_of_calls : (calls : List (List Frame)) → length (flat_calls calls) ≡ sum_by frames_words calls
 words_of_calls [] = refl
 words_of_calls (frames ∷ outer) =
-    omega (arith, length-append (flat_calls outer) (flat_frames frames), words_of_calls outer, words_of_frames frames, sum_by-cons frames_words frames outer)
+    omega (
+      arith,
+      length-append (flat_calls outer) (flat_frames frames),
+      words_of_calls outer,
+      words_of_frames frames,
+      sum_by-cons frames_words frames outer,
+    )
 
 pub words_of : (env : Environment) → length (flat env) ≡ words env
 words_of env = omega (arith, length-append (flat_frame env.globals) (flat_calls env.calls), words_of_calls env.calls, words_of_frame env.globals)
@@ -79,7 +96,8 @@ store_kept env x i v = by (list_any (has x) (running_frames env.calls))
     by false = (frame_kept env.globals x i v, refl)
 
 -- where the words of the running call begin
-pub based_top : (part : Part) (calls : List OpenCall) (shapes : List Shape) (outer : List (List Shape)) → Based (body_place part) calls (shapes ∷ outer)
+pub based_top : (part : Part) (calls : List OpenCall) (shapes : List Shape) (outer : List (List Shape))
+    → Based (body_place part) calls (shapes ∷ outer)
     → base_of part calls ≡ body_place part + stacks_words outer
 based_top part [] shapes [] h = omega arith
 based_top part [] shapes (other ∷ outer) h = absurd h
@@ -120,9 +138,11 @@ module _ (part : Part) where
   abbrev pub InFrames : Environment → Frames → Type 0
   InFrames env frames = (frames.globals ≡ shape_of env.globals) × (frames.running ≡ running (stacks_of env.calls))
 
-  module _ (globals : Frame) (front : List ℤ) (long : length front ≡ variables_place part) (many : shape_words (shape_of globals) ≡ part.words) (x : List ℕ) where
+  module _ (globals : Frame) (front : List ℤ) (long : length front ≡ variables_place part)
+      (many : shape_words (shape_of globals) ≡ part.words) (x : List ℕ) where
     -- by where the look-up ends
-    own_variable : (calls : List (List Frame)) (opened : List OpenCall) (at : Lying) (w : Option (ℕ × ℕ)) → lies_among x (running (stacks_of calls)) ≡ None
+    own_variable : (calls : List (List Frame)) (opened : List OpenCall) (at : Lying) (w : Option (ℕ × ℕ))
+        → lies_among x (running (stacks_of calls)) ≡ None
         → lies_in x (shape_of globals) ≡ w → option_map (λ (words : ℕ × ℕ). OfProcess words.0 words.1) w ≡ Some at
         → LiesAt (record { globals = globals; calls = calls }) front x (place_lying part opened at) (words_lying at)
     own_variable calls opened at None none e g = absurd (none_some g)
@@ -130,7 +150,8 @@ module _ (part : Part) where
         subst (λ y. LiesAt (record { globals = globals; calls = calls }) front x (place_lying part opened y) (words_lying y)) (some_same g)
         (own_lies front globals calls x (variables_place part + w.0) w.0 w.1 (ap (λ n. n + w.0) (sym long)) none e)
 
-    variable : (calls : List (List Frame)) (opened : List OpenCall) (at : Lying) (w : Option (ℕ × ℕ)) → Based (body_place part) opened (stacks_of calls)
+    variable : (calls : List (List Frame)) (opened : List OpenCall) (at : Lying) (w : Option (ℕ × ℕ))
+        → Based (body_place part) opened (stacks_of calls)
         → lies_among x (running (stacks_of calls)) ≡ w
         → or_else (option_map (λ (words : ℕ × ℕ). OfCall words.0 words.1) w)
         (option_map (λ (words : ℕ × ℕ). OfProcess words.0 words.1) (lies_in x (shape_of globals))) ≡ Some at
@@ -145,7 +166,9 @@ module _ (part : Part) where
         (call_lies front globals frames outer x (base_of part opened + w.0) w.0 w.1 begins e)
 
   -- what is laid out is found by its places
-  pub lies_at : (front : List ℤ) (env : Environment) (all : List ℤ) (calls : List OpenCall) (l : Laid part front env all calls) (frames : Frames) → InFrames env frames → (x : List ℕ) (at : Lying)
+  pub lies_at : (front : List ℤ) (env : Environment) (all : List ℤ) (calls : List OpenCall)
+      (l : Laid part front env all calls) (frames : Frames)
+      → InFrames env frames → (x : List ℕ) (at : Lying)
       → lying frames x ≡ Some at → LiesAt env front x (place_lying part calls at) (words_lying at)
   lies_at front env all calls l frames is x at e =
       variable env.globals front l.long l.globals x env.calls calls at (lies_among x (running (stacks_of env.calls))) l.based refl
@@ -155,7 +178,8 @@ module _ (part : Part) where
       (option_map (λ (words : ℕ × ℕ). OfProcess words.0 words.1) (lies_in x frames.globals))) (sym is.1)
       ∙ e)
 
-  pub laid_finds : (front : List ℤ) (env : Environment) (all : List ℤ) (calls : List OpenCall) → Laid part front env all calls → (frames : Frames) → InFrames env frames
+  pub laid_finds : (front : List ℤ) (env : Environment) (all : List ℤ) (calls : List OpenCall)
+      → Laid part front env all calls → (frames : Frames) → InFrames env frames
       → Finds part calls frames env all
   laid_finds front env all calls l frames is = record {
     found = λ x at e.
@@ -172,8 +196,10 @@ module _ (part : Part) where
   }
 
   -- a write to a place is a write to the variable
-  pub laid_store : (front : List ℤ) (env : Environment) (all : List ℤ) (calls : List OpenCall) → Laid part front env all calls → (frames : Frames) → InFrames env frames → (x : List ℕ) (at : Lying)
-      → lying frames x ≡ Some at → (i : ℕ) (v : ℤ) → i < words_lying at → Laid part front (store env x i v) (slice_set all (place_lying part calls at + i) v) calls
+  pub laid_store : (front : List ℤ) (env : Environment) (all : List ℤ) (calls : List OpenCall)
+      → Laid part front env all calls → (frames : Frames) → InFrames env frames → (x : List ℕ) (at : Lying)
+      → lying frames x ≡ Some at → (i : ℕ) (v : ℤ) → i < words_lying at
+      → Laid part front (store env x i v) (slice_set all (place_lying part calls at + i) v) calls
   laid_store front env all calls l frames is x at e i v h =
       let r = lies_at front env all calls l frames is x at e in
       let kept = store_kept env x i v in

@@ -90,8 +90,10 @@ module _ (c : Code) (groups : List Membership) (slots : List Slot) (globals : Sh
         ((t : Table) → R t → LeadsTo c groups t b (point e (None ∷ os) loops after)) → TabledFirst c groups R a b (point e os loops mode)
 
     -- a scalar, or a counter
-    name_tabled : (R : Around) (name : Identifier) (named : List (List ℕ × ℕ)) (q a b : ℕ) (os : List (Option ℕ)) (loops : List Loop) (mode after : Mode)
-        (o : Option ℕ) → counter_among named name.text ≡ o → Quiet mode after → CountersSet q named loops → IsValueBy o slots (frames_with named q) name
+    name_tabled : (R : Around) (name : Identifier) (named : List (List ℕ × ℕ)) (q a b : ℕ) (os : List (Option ℕ))
+        (loops : List Loop) (mode after : Mode)
+        (o : Option ℕ) → counter_among named name.text ≡ o → Quiet mode after → CountersSet q named loops
+        → IsValueBy o slots (frames_with named q) name
         → length os < most_operands → LieAround a loops → ScalarCode (counter_of slots name.id) (spot_of slots name.id) c a b
         → Leading R a b os loops mode after
     name_tabled R name named q a b os loops mode after None at quiet set is room lies code next =
@@ -106,7 +108,8 @@ module _ (c : Code) (groups : List Membership) (slots : List Slot) (globals : Sh
     -- an element behind its index
     element_tabled : (R : Around) (one : Instr) (n a m b : ℕ) (os : List (Option ℕ)) (loops : List Loop) (mode after : Mode) → Quiet mode after
         → ((S : Around) → Leading S a m os loops mode after) → a ≤ m → Cover a b loops → (One (instr.Bound n) ⨾ One one) c m b
-        → ((t : Table) (d : ℕ) → LeadsTo c groups t (d + 1) (point e (None ∷ os) loops (freed after)) → Fine c groups t one d (point e (Some n ∷ os) loops after))
+        → ((t : Table) (d : ℕ) → LeadsTo c groups t (d + 1) (point e (None ∷ os) loops (freed after))
+        → Fine c groups t one d (point e (Some n ∷ os) loops after))
         → Leading R a b os loops mode after
     element_tabled R one n a m b os loops mode after quiet index low cover (d, bound, last) fine next =
         let n0 = bound.1 in let n1 = last.1 in
@@ -126,7 +129,8 @@ module _ (c : Code) (groups : List Membership) (slots : List Slot) (globals : Sh
           (mode after : Mode) → Quiet mode after → CountersSet q named loops → ExpressionInFrames slots (frames_with named q) x
           → HasRoom (length os) x → Cover a b loops → ExpressionCode slots x c a b → Leading R a b os loops mode after
       expression_tabled (Literal number) named q R a b os loops mode after quiet set is room cover code next =
-          push_tabled c groups e words.above loops mode after quiet R number.value a b os code (cover a (omega arith) (let n = code.1 in omega arith)) room next
+          push_tabled c groups e words.above loops mode after quiet R number.value a b os code
+          (cover a (omega arith) (let n = code.1 in omega arith)) room next
       expression_tabled (Variable (Refer name Scalar)) named q R a b os loops mode after quiet set is room cover code next =
           let l = expression_forward c slots (Variable (Refer name Scalar)) a b code in
           name_tabled R name named q a b os loops mode after (counter_among named name.text) refl quiet set is room
@@ -163,7 +167,8 @@ module _ (c : Code) (groups : List Membership) (slots : List Slot) (globals : Sh
           let l = expression_forward c slots operand a m code in
           let n = one.1 in
           joined_first c groups R a m b (point e os loops mode) (point e (None ∷ os) loops after)
-          (expression_tabled operand named q (λ t. LeadsTo c groups t m (point e (None ∷ os) loops after) × R t) a m os loops mode after quiet set is room
+          (expression_tabled operand named q
+          (λ t. LeadsTo c groups t m (point e (None ∷ os) loops after) × R t) a m os loops mode after quiet set is room
           (cover_within a b a m loops (omega arith) (omega arith) cover) code (λ t r. r.0))
           (plain_tabled c groups e words.above loops after after (quiet_on mode after quiet) R instr.Neg m b (None ∷ os) (None ∷ os) one
           (cover m (omega arith) (omega arith)) (λ t r leads. (quiet.traps_after, leads)) next).whole
@@ -171,7 +176,8 @@ module _ (c : Code) (groups : List Membership) (slots : List Slot) (globals : Sh
           let l = expression_forward c slots operand a m code in
           let n = one.1 in
           joined_first c groups R a m b (point e os loops mode) (point e (None ∷ os) loops after)
-          (expression_tabled operand named q (λ t. LeadsTo c groups t m (point e (None ∷ os) loops after) × R t) a m os loops mode after quiet set is room
+          (expression_tabled operand named q
+          (λ t. LeadsTo c groups t m (point e (None ∷ os) loops after) × R t) a m os loops mode after quiet set is room
           (cover_within a b a m loops (omega arith) (omega arith) cover) code (λ t r. r.0))
           (plain_tabled c groups e words.above loops after after (quiet_on mode after quiet) R instr.Not m b (None ∷ os) (None ∷ os) one
           (cover m (omega arith) (omega arith)) (λ t r leads. leads) next).whole
@@ -179,7 +185,8 @@ module _ (c : Code) (groups : List Membership) (slots : List Slot) (globals : Sh
           let l = expression_forward c slots first a m code in
           let h = links_forward c slots links m b more in
           joined_first c groups R a m b (point e os loops mode) (point e (None ∷ os) loops after)
-          (expression_tabled first named q (λ t. LeadsTo c groups t m (point e (None ∷ os) loops after) × R t) a m os loops mode after quiet set is.0 room.0
+          (expression_tabled first named q
+          (λ t. LeadsTo c groups t m (point e (None ∷ os) loops after) × R t) a m os loops mode after quiet set is.0 room.0
           (cover_within a b a m loops (omega arith) (omega arith) cover) code (λ t r. r.0))
           (links_tabled links named q R m b os loops after (quiet_on mode after quiet) set is.1 room.1
           (cover_within a b m b loops (omega arith) (omega arith) cover) more next)
@@ -190,24 +197,31 @@ module _ (c : Code) (groups : List Membership) (slots : List Slot) (globals : Sh
           (λ m begun S a1 b1 cover1 code1 next1. expression_tabled low named (q + 1) S a1 b1 (summed_operands kind os) loops m after begun
           (in_limit_set q named loops set) is.2 (subst (λ n. HasRoom n low) (summed_long kind os) room.1) cover1 code1 next1)
           (λ S a1 b1 cover1 code1 next1. expression_tabled high named (q + 1) S a1 b1 (None ∷ summed_operands kind os) loops after after
-          (quiet_on mode after quiet) (in_limit_set q named loops set) is.3 (subst (λ n. HasRoom (suc n) high) (summed_long kind os) room.2) cover1 code1 next1)
+          (quiet_on mode after quiet) (in_limit_set q named loops set) is.3
+          (subst (λ n. HasRoom (suc n) high) (summed_long kind os) room.2) cover1 code1 next1)
           (λ first last S a1 b1 cover1 code1 next1. expression_tabled body ((name.text, q) ∷ named) (q + 1) S a1 b1 (summed_operands kind os)
           (loop_over q first last ∷ loops) after after (quiet_on mode after quiet) (in_body_set q first last name.text named loops set) is.4
           (subst (λ n. HasRoom n body) (summed_long kind os) room.3) cover1 code1 next1) cover
-          (subst (λ j. QuantifiedCode kind j (ExpressionCode slots low) (ExpressionCode slots high) (ExpressionCode slots body) c a b) (ap quantified_in is.1) code)
+          (subst
+          (λ j. QuantifiedCode kind j (ExpressionCode slots low) (ExpressionCode slots high) (ExpressionCode slots body) c a b)
+          (ap quantified_in is.1) code)
           next
 
-      links_tabled : (links : Links) (named : List (List ℕ × ℕ)) (q : ℕ) (R : Around) (a b : ℕ) (os : List (Option ℕ)) (loops : List Loop) (after : Mode)
+      links_tabled : (links : Links) (named : List (List ℕ × ℕ)) (q : ℕ) (R : Around) (a b : ℕ) (os : List (Option ℕ))
+          (loops : List Loop) (after : Mode)
           → Quiet after after → CountersSet q named loops → LinksInFrames slots (frames_with named q) links → LinksHaveRoom (length os) links
           → Cover a b loops → LinksCode slots links c a b → ((t : Table) → R t → LeadsTo c groups t b (point e (None ∷ os) loops after))
           → Tabled c groups R a b (point e (None ∷ os) loops after)
-      links_tabled NoLink named q R a b os loops after quiet set is room cover code next = none_tabled c groups R a b (point e (None ∷ os) loops after) code next
+      links_tabled NoLink named q R a b os loops after quiet set is room cover code next =
+          none_tabled c groups R a b (point e (None ∷ os) loops after) code next
       links_tabled (Linked op right links) named q R a b os loops after quiet set is room cover (m, code, more) next =
           let l = operator_forward c op (ExpressionCode slots right) (expression_forward c slots right) a m code in
           let h = links_forward c slots links m b more in
           joined_tabled c groups R a m b (point e (None ∷ os) loops after) (point e (None ∷ os) loops after)
           (operator_tabled c groups e words.above loops after quiet (λ t. LeadsTo c groups t m (point e (None ∷ os) loops after) × R t)
-          (ExpressionCode slots right) (expression_forward c slots right) os a m (cover_within a b a m loops (omega arith) (omega arith) cover) op room.0
+          (ExpressionCode slots right) (expression_forward c slots right) os a m
+          (cover_within a b a m loops (omega arith) (omega arith) cover) op room.0
           (λ S a1 b1 cover1 code1 next1. expression_tabled right named q S a1 b1 (beside_operands op os) loops after after quiet set is.0
           (subst (λ n. HasRoom n right) (beside_long op os) room.1) cover1 code1 next1) code (λ t r. r.0)).whole
-          (links_tabled links named q R m b os loops after quiet set is.1 room.2 (cover_within a b m b loops (omega arith) (omega arith) cover) more next)
+          (links_tabled links named q R m b os loops after quiet set is.1 room.2
+          (cover_within a b m b loops (omega arith) (omega arith) cover) more next)

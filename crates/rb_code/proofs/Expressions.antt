@@ -37,7 +37,8 @@ module _ (c : Code) (see : Sight) (m : Memory) where
     plain_operator op one a b x set os kept acts (d, code, last) =
         comes_on c see q a d b (x ∷ os) (recounted set m) (λ v. v ∷ x ∷ os) (λ v. m) (λ v. v ∷ os) (λ v. m) r (applied op x)
         (right_gives a d set (x ∷ os) kept code)
-        (λ y later more. passes_or_traps c see one q d (y ∷ x ∷ os) (recounted later m) b (λ z. z ∷ os) (applied op x y) last (acts y d (recounted later m)))
+        (λ y later more. passes_or_traps c see one q d (y ∷ x ∷ os) (recounted later m) b (λ z. z ∷ os)
+        (applied op x y) last (acts y d (recounted later m)))
 
     -- the right side of `and` and `or`, made into a truth
     truth_of_right : (op : Op) (a d e b : ℕ) (x : ℤ) (set : List (Option Counting)) (os : List ℤ) → KeptBelow q m.counters set
@@ -81,7 +82,8 @@ module _ (c : Code) (see : Sight) (m : Memory) where
       kept_here q set,
       leads_on c see (passes_zero c see a other d x os (recounted set m) test z)
           (leads_on c see (pushes c see d d1 (pos 1) os (recounted set m) push)
-          (to_there c see d1 end b (pos 1 ∷ os) (pos 1 ∷ os) _ _ (sym (at_end.1 ∙ at_end.0)) (jumps c see d1 end d2 (pos 1 ∷ os) (recounted set m) jump))),
+          (to_there c see d1 end b (pos 1 ∷ os) (pos 1 ∷ os) _ _ (sym (at_end.1 ∙ at_end.0))
+          (jumps c see d1 end d2 (pos 1 ∷ os) (recounted set m) jump))),
     )
 
     -- an operator with its left value
@@ -120,7 +122,8 @@ module _ (c : Code) (see : Sight) (slots : List Slot) (globals : Shape) (shapes 
         record { fit = fit_kept q named counters set later kept k.fit; two = kept.many ∙ k.two }
 
     -- the same within a quantified expression: in its limits, and in its body
-    inside : (q : ℕ) (named : List (List ℕ × ℕ)) (counters : Counters) (set : List (Option Counting)) → q < most_quantifications → Knows q named counters set
+    inside : (q : ℕ) (named : List (List ℕ × ℕ)) (counters : Counters) (set : List (Option Counting))
+        → q < most_quantifications → Knows q named counters set
         → q < length set
     inside q named counters set l k = subst (λ n. q < n) (sym k.two) l
 
@@ -140,7 +143,8 @@ module _ (c : Code) (see : Sight) (slots : List Slot) (globals : Shape) (shapes 
 
     one_more : (q a b : ℕ) (set : List (Option Counting)) (os : List ℤ) (o : Value) → Gives c see (q + 1) a os (recounted set m) b o
         → Gives c see (suc q) a os (recounted set m) b o
-    one_more q a b set os o comes = fewer_kept c see (suc q) (q + 1) a os (recounted set m) b (λ v. v ∷ os) (λ v. recounted set m) o (omega arith) comes
+    one_more q a b set os o comes =
+        fewer_kept c see (suc q) (q + 1) a os (recounted set m) b (λ v. v ∷ os) (λ v. recounted set m) o (omega arith) comes
 
     -- a word that an instruction pushes
     word_comes : (one : Instr) (q a b : ℕ) (v : ℤ) (set : List (Option Counting)) (ps os : List ℤ) (x : ℤ) → One one c a b → x ≡ v
@@ -151,7 +155,8 @@ module _ (c : Code) (see : Sight) (slots : List Slot) (globals : Shape) (shapes 
         (set, kept_here q set, passes c see one a b ps (v ∷ os) (recounted set m) (recounted set m) code acts)
 
     -- a name that may stand for a counter
-    name_comes : (name : Identifier) (named : List (List ℕ × ℕ)) (q : ℕ) (counters : Counters) (a b : ℕ) (set : List (Option Counting)) (os : List ℤ) (o : Option ℕ)
+    name_comes : (name : Identifier) (named : List (List ℕ × ℕ)) (q : ℕ) (counters : Counters) (a b : ℕ)
+        (set : List (Option Counting)) (os : List ℤ) (o : Option ℕ)
         → counter_among named name.text ≡ o → Knows q named counters set → IsValueBy o slots (around named q) name
         → ScalarCode (counter_slot slots name.id) (spot_of slots name.id) c a b
         → Gives c see q a os (recounted set m) b (read env prior counters env counters (Refer name Scalar))
@@ -160,7 +165,8 @@ module _ (c : Code) (see : Sight) (slots : List Slot) (globals : Shape) (shapes 
         let one = subst (λ o. ScalarCode o (spot_of slots name.id) c a b) none code in
         word_comes (instr.Load (spot_of slots name.id)) q a b (word_at m.words (place c see m.calls (spot_of slots name.id))) set os os _ one
         (ap (λ o. counter_or o (number_at (values_of env name.text) 0)) (no_number q named counters set name.text k.fit e)
-        ∙ scalar_value c see (around [] 0) m.calls env m.words slots name now (record { at = is.at; found = is.found; one_word = is.one_word; slot = is.slot }))
+        ∙ scalar_value c see (around [] 0) m.calls env m.words slots name now
+        (record { at = is.at; found = is.found; one_word = is.one_word; slot = is.slot }))
         refl
     name_comes name named q counters a b set os (Some j) e k is code =
         let r = number_there q named counters set name.text j k.fit e in
@@ -170,7 +176,8 @@ module _ (c : Code) (see : Sight) (slots : List Slot) (globals : Shape) (shapes 
         (ap (λ o. if_there (unwrap_or o None) (λ counting. Going (a + 1) (counting.now ∷ os) (recounted set m))) r.2.1)
 
     -- an element behind its index, in the words of now or of before
-    element_comes : (one : Instr) (words : List ℤ) (there : Environment) (name : Identifier) (named : List (List ℕ × ℕ)) (q : ℕ) (a d b : ℕ) (set : List (Option Counting))
+    element_comes : (one : Instr) (words : List ℤ) (there : Environment) (name : Identifier) (named : List (List ℕ × ℕ))
+        (q : ℕ) (a d b : ℕ) (set : List (Option Counting))
         (os : List ℤ) (index : Value) → Finds (here c see) m.calls (around [] 0) there words → IsArray slots (around named q) name
         → ((i d : ℕ) (later : List (Option Counting)) → act c see one d (pos i ∷ os) (recounted later m)
         ≡ Going (d + 1) (word_at words (place c see m.calls (spot_of slots name.id) + i) ∷ os) (recounted later m))
@@ -179,9 +186,11 @@ module _ (c : Code) (see : Sight) (slots : List Slot) (globals : Shape) (shapes 
     element_comes one words there name named q a d b set os index finds array acts comes (d1, bound, last) =
         comes_on c see q a d b os (recounted set m) (λ v. v ∷ os) (λ v. m) (λ v. v ∷ os) (λ v. m) index
         (λ i. and_then (index_in (values_of there name.text) i) (λ n. Ok (number_at (values_of there name.text) n))) comes
-        (λ i later more. bound_comes c see (elements_of slots name.id) q d d1 b (values_of there name.text) i os (recounted later m) (λ v. v ∷ os) (λ v. m)
+        (λ i later more. bound_comes c see (elements_of slots name.id) q d d1 b (values_of there name.text) i os
+        (recounted later m) (λ v. v ∷ os) (λ v. m)
         (λ n. Ok (number_at (values_of there name.text) n)) bound (array_values c see (around [] 0) m.calls there words slots name finds plain)
-        (λ n l. word_comes one q d1 b _ later (pos n ∷ os) os _ last (element_value c see (around [] 0) m.calls there words slots name n finds plain l) (acts n d1 later)))
+        (λ n l. word_comes one q d1 b _ later (pos n ∷ os) os _ last
+        (element_value c see (around [] 0) m.calls there words slots name n finds plain l) (acts n d1 later)))
       where
         plain : IsArray slots (around [] 0) name
         plain = record { at = array.at; found = array.found; some = array.some; few = array.few; slot = array.slot }
@@ -189,7 +198,8 @@ module _ (c : Code) (see : Sight) (slots : List Slot) (globals : Shape) (shapes 
     mutual
       unfolding ExpressionCode SubscriptCode LinksCode
 
-      pub expression_comes : (e : Expression) (named : List (List ℕ × ℕ)) (q : ℕ) (counters : Counters) (a b : ℕ) (set : List (Option Counting)) (os : List ℤ)
+      pub expression_comes : (e : Expression) (named : List (List ℕ × ℕ)) (q : ℕ) (counters : Counters) (a b : ℕ)
+          (set : List (Option Counting)) (os : List ℤ)
           → Knows q named counters set → ExpressionInFrames slots (around named q) e → ExpressionCode slots e c a b
           → Gives c see q a os (recounted set m) b (value env prior counters e)
       expression_comes (Literal number) named q counters a b set os k is code =
@@ -205,14 +215,17 @@ module _ (c : Code) (see : Sight) (slots : List Slot) (globals : Shape) (shapes 
           (record { at = is.1.at; found = is.1.found; one_word = is.1.one_word; slot = is.1.slot }))
           refl
       expression_comes (Former at (Refer name (Element index))) named q counters a b set os k is (d, code, last) =
-          element_comes (instr.PriorAt (spot_of slots name.id)) see.prior prior name named q a d b set os (value env prior counters index) (before is.0) is.1.0
+          element_comes (instr.PriorAt (spot_of slots name.id)) see.prior prior name named q a d b set os
+          (value env prior counters index) (before is.0) is.1.0
           (λ i d1 later. refl) (expression_comes index named q counters a d set os k is.1.1 code) last
       expression_comes (Minus operand) named q counters a b set os k is (d, code, neg) =
-          comes_on c see q a d b os (recounted set m) (λ v. v ∷ os) (λ v. m) (λ v. v ∷ os) (λ v. m) (value env prior counters operand) (λ x. fitting (neg_ℤ x))
+          comes_on c see q a d b os (recounted set m) (λ v. v ∷ os) (λ v. m) (λ v. v ∷ os) (λ v. m)
+          (value env prior counters operand) (λ x. fitting (neg_ℤ x))
           (expression_comes operand named q counters a d set os k is code)
           (λ x later more. passes_or_traps c see instr.Neg q d (x ∷ os) (recounted later m) b (λ z. z ∷ os) (fitting (neg_ℤ x)) neg refl)
       expression_comes (Negation operand) named q counters a b set os k is (d, code, negate) =
-          comes_on c see q a d b os (recounted set m) (λ v. v ∷ os) (λ v. m) (λ v. v ∷ os) (λ v. m) (value env prior counters operand) (λ x. Ok (truth (is_zero x)))
+          comes_on c see q a d b os (recounted set m) (λ v. v ∷ os) (λ v. m) (λ v. v ∷ os) (λ v. m)
+          (value env prior counters operand) (λ x. Ok (truth (is_zero x)))
           (expression_comes operand named q counters a d set os k is code)
           (λ x later more. (
             later,
@@ -220,21 +233,29 @@ module _ (c : Code) (see : Sight) (slots : List Slot) (globals : Shape) (shapes 
             passes c see instr.Not d b (x ∷ os) (truth (is_zero x) ∷ os) (recounted later m) (recounted later m) negate refl,
           ))
       expression_comes (Chained first links) named q counters a b set os k is (d, code, more) =
-          links_come links named q counters a d b set os (value env prior counters first) k is.1 (expression_comes first named q counters a d set os k is.0 code) more
+          links_come links named q counters a d b set os (value env prior counters first) k is.1
+          (expression_comes first named q counters a d set os k is.0 code) more
       expression_comes (Quantification kind at name low high body) named q counters a b set os k is code =
           let slot : quantified_of slots name.id ≡ q = ap quantified_in is.1 in
-          quantified_comes c see q m set (inside q named counters set is.0 k) (ExpressionCode slots low) (ExpressionCode slots high) (ExpressionCode slots body)
+          quantified_comes c see q m set (inside q named counters set is.0 k) (ExpressionCode slots low)
+          (ExpressionCode slots high) (ExpressionCode slots body)
           (value env prior counters low) (value env prior counters high) (λ n. value env prior ((name.text, n) ∷ counters) body)
           (λ a1 b1 set1 os1 kept code1. one_more q a1 b1 set1 os1 (value env prior counters low)
           (expression_comes low named (q + 1) counters a1 b1 set1 os1 (knows_more q named counters set set1 kept k) is.2 code1))
           (λ a1 b1 set1 os1 kept code1. one_more q a1 b1 set1 os1 (value env prior counters high)
           (expression_comes high named (q + 1) counters a1 b1 set1 os1 (knows_more q named counters set set1 kept k) is.3 code1))
-          (λ end x a1 b1 set1 os1 kept at1 code1. one_more q a1 b1 set1 os1 (value env prior ((name.text, x) ∷ counters) body) (expression_comes body ((name.text, q) ∷ named) (q + 1) ((name.text, x) ∷ counters) a1 b1 set1 os1
+          (λ end x a1 b1 set1 os1 kept at1 code1. one_more q a1 b1 set1 os1
+          (value env prior ((name.text, x) ∷ counters) body)
+          (expression_comes body ((name.text, q) ∷ named) (q + 1) ((name.text, x) ∷ counters) a1 b1 set1 os1
           (knows_inside q name named counters set set1 x end kept at1 k) is.4 code1))
-          kind a b set os (kept_here q set) (subst (λ j. QuantifiedCode kind j (ExpressionCode slots low) (ExpressionCode slots high) (ExpressionCode slots body) c a b) slot code)
+          kind a b set os (kept_here q set)
+          (subst (λ j. QuantifiedCode kind j (ExpressionCode slots low) (ExpressionCode slots high)
+          (ExpressionCode slots body) c a b) slot code)
 
-      links_come : (links : Links) (named : List (List ℕ × ℕ)) (q : ℕ) (counters : Counters) (a d b : ℕ) (set : List (Option Counting)) (os : List ℤ) (left : Value)
-          → Knows q named counters set → LinksInFrames slots (around named q) links → Gives c see q a os (recounted set m) d left → LinksCode slots links c d b
+      links_come : (links : Links) (named : List (List ℕ × ℕ)) (q : ℕ) (counters : Counters) (a d b : ℕ)
+          (set : List (Option Counting)) (os : List ℤ) (left : Value)
+          → Knows q named counters set → LinksInFrames slots (around named q) links
+          → Gives c see q a os (recounted set m) d left → LinksCode slots links c d b
           → Gives c see q a os (recounted set m) b (chained env prior counters left links)
       links_come NoLink named q counters a d b set os left k is comes code = subst (λ n. Gives c see q a os (recounted set m) n left) (sym code) comes
       links_come (Linked op right links) named q counters a d b set os left k is comes (d1, code, more) =
@@ -242,5 +263,6 @@ module _ (c : Code) (see : Sight) (slots : List Slot) (globals : Shape) (shapes 
           (comes_on c see q a d d1 os (recounted set m) (λ v. v ∷ os) (λ v. m) (λ v. v ∷ os) (λ v. m) left
           (λ x. unless_decided (decided op x) op x (value env prior counters right)) comes
           (λ x later more. operator_comes c see (recounted later m) q (ExpressionCode slots right) (value env prior counters right)
-          (λ a1 b1 set1 os1 kept code1. expression_comes right named q counters a1 b1 set1 os1 (knows_later q named counters set set1 (kept_on more kept) k) is.0 code1)
+          (λ a1 b1 set1 os1 kept code1. expression_comes right named q counters a1 b1 set1 os1
+          (knows_later q named counters set set1 (kept_on more kept) k) is.0 code1)
           op d d1 x later os (kept_here q later) code)) more

@@ -34,7 +34,8 @@ module _ (c : Code) where
       let e0 = test.1 in let e1 = push.1 in let e2 = jump.1 in let e3 = at_other.1 in
       let l1 = f s u code in let e4 = bool.1 in let e5 = at_end.1 in omega arith
   operator_forward op.And right f a b (fails, (end, (p, test, (q, code, (r, bool, (s, jump, (u, at_fails, (v, push, at_end)))))))) =
-      let e0 = test.1 in let l1 = f p q code in let e1 = bool.1 in let e2 = jump.1 in let e3 = at_fails.1 in let e4 = push.1 in let e5 = at_end.1 in omega arith
+      let e0 = test.1 in let l1 = f p q code in let e1 = bool.1 in let e2 = jump.1 in let e3 = at_fails.1 in let e4 =
+      push.1 in let e5 = at_end.1 in omega arith
   operator_forward op.Eq right f a b (m, p, one) = and_one right a m b f p one.1
   operator_forward op.Ne right f a b (m, p, one) = and_one right a m b f p one.1
   operator_forward op.Lt right f a b (m, p, one) = and_one right a m b f p one.1
@@ -121,7 +122,8 @@ module _ (c : Code) where
       let l0 = f a p lc in let l1 = g p r hc in let l2 = h first d0 bc in
       let e0 = range.1 in let e1 = at_loop.1 in let e2 = zero_test.1 in let e3 = push1.1 in let e4 = jump.1 in
       let e5 = at_next.1 in let e6 = again.1 in let e7 = at_no.1 in let e8 = push0.1 in let e9 = at_end.1 in omega arith
-  quantified_forward Total k low high body f g h a b (loop, (end, (a0, push0, (p, lc, (r, hc, (d, range, (first, at_loop, (d0, bc, (d1, adds, (d2, again, at_end)))))))))) =
+  quantified_forward Total k low high body f g h a b
+      (loop, (end, (a0, push0, (p, lc, (r, hc, (d, range, (first, at_loop, (d0, bc, (d1, adds, (d2, again, at_end)))))))))) =
       let l0 = f a0 p lc in let l1 = g p r hc in let l2 = h first d0 bc in
       let e0 = push0.1 in let e1 = range.1 in let e2 = at_loop.1 in let e3 = adds.1 in let e4 = again.1 in let e5 = at_end.1 in omega arith
 

@@ -31,18 +31,23 @@ pub place_apart : (c d : ℕ) (channels : List ℕ) → place_among c channels �
 place_apart c d [] e h = absurd (omega arith)
 place_apart c d (x ∷ others) e h = by (place_apart c d others) (nat_eq x c) (nat_eq x d) refl refl e h
   where
-    by : (place_among c others ≡ place_among d others → place_among c others < length others → c ≡ d) → (b1 b2 : Bool) → nat_eq x c ≡ b1 → nat_eq x d ≡ b2
-        → cond b1 0 (suc (place_among c others)) ≡ cond b2 0 (suc (place_among d others)) → cond b1 0 (suc (place_among c others)) < suc (length others) → c ≡ d
+    by : (place_among c others ≡ place_among d others → place_among c others < length others → c ≡ d) → (b1 b2 : Bool)
+        → nat_eq x c ≡ b1 → nat_eq x d ≡ b2
+        → cond b1 0 (suc (place_among c others)) ≡ cond b2 0 (suc (place_among d others))
+        → cond b1 0 (suc (place_among c others)) < suc (length others) → c ≡ d
     by next true true p q e h = sym (eqb-true x c p) ∙ eqb-true x d q
     by next true false p q e h = absurd (omega arith)
     by next false true p q e h = absurd (omega arith)
     by next false false p q e h = next (omega arith) (omega arith)
 
-pub cursor_apart : (part : Part) (c d : ℕ) → place_among c part.channels < length part.channels → (c ≡ d → ⊥) → cursor_place part d ≡ cursor_place part c → ⊥
-cursor_apart part c d h other e = let f : place_among c part.channels ≡ place_among d part.channels = omega arith in other (place_apart c d part.channels f h)
+pub cursor_apart : (part : Part) (c d : ℕ) → place_among c part.channels < length part.channels → (c ≡ d → ⊥)
+    → cursor_place part d ≡ cursor_place part c → ⊥
+cursor_apart part c d h other e = let f : place_among c part.channels ≡ place_among d part.channels =
+    omega arith in other (place_apart c d part.channels f h)
 
 -- the words with one of the front written
-pub laid_written : (part : Part) (front : List ℤ) (env : Environment) (all : List ℤ) (calls : List OpenCall) (k : ℕ) (v : ℤ) → Laid part front env all calls
+pub laid_written : (part : Part) (front : List ℤ) (env : Environment) (all : List ℤ) (calls : List OpenCall) (k : ℕ) (v : ℤ)
+    → Laid part front env all calls
     → k < variables_place part → Laid part (slice_set front k v) env (slice_set all k v) calls
 laid_written part front env all calls k v l h = record {
   long = length-set front k v ∙ l.long;

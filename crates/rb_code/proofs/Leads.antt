@@ -36,7 +36,8 @@ module _ (c : Code) (see : Sight) where
   pub leads_on : {a b d : ℕ} {os ps qs : List ℤ} {m n o : Memory} → Leads a os m b ps n → Leads b ps n d qs o → Leads a os m d qs o
   leads_on x y = record { by = λ k. let r = y.by k in let q = x.by r.0 in (q.0, q.1 ∙ r.1) }
 
-  pub leads_to_end : {a b : ℕ} {os ps : List ℤ} {m n : Memory} {outcome : Outcome} → Leads a os m b ps n → EndsIn b ps n outcome → EndsIn a os m outcome
+  pub leads_to_end : {a b : ℕ} {os ps : List ℤ} {m n : Memory} {outcome : Outcome} → Leads a os m b ps n
+      → EndsIn b ps n outcome → EndsIn a os m outcome
   leads_to_end x y = let q = x.by y.steps in record { steps = q.0; is = q.1 ∙ y.is }
 
   -- an instruction by its address
@@ -54,7 +55,8 @@ module _ (c : Code) (see : Sight) where
   passes instr a b os ps m n (h, next) e = subst (λ x. Leads a os m x ps n) (sym next) (goes instr a (a + 1) os ps m n h e)
 
   -- one that ends it
-  pub ends : (instr : Instr) (a : ℕ) (os : List ℤ) (m : Memory) (outcome : Outcome) → slice_get c.instrs a ≡ Some instr → act c see instr a os m ≡ outcome
+  pub ends : (instr : Instr) (a : ℕ) (os : List ℤ) (m : Memory) (outcome : Outcome) → slice_get c.instrs a ≡ Some instr
+      → act c see instr a os m ≡ outcome
       → then_go outcome (execute c see zero) ≡ outcome → EndsIn a os m outcome
   ends instr a os m outcome h e same =
       record { steps = 1; is = ap (λ o. then_go o (execute c see zero)) (moved instr a os m h ∙ e) ∙ same }
@@ -69,7 +71,8 @@ module _ (c : Code) (see : Sight) where
   same_after (Trapped cause) j n end is next e f = e
   same_after Unfinished j n end is next e f = absurd f
 
-  pub same_end : (j n : ℕ) (a : ℕ) (os : List ℤ) (m : Memory) (end : Outcome) → IsEnd end → execute c see j a os m ≡ end → IsFinished (execute c see n a os m)
+  pub same_end : (j n : ℕ) (a : ℕ) (os : List ℤ) (m : Memory) (end : Outcome) → IsEnd end → execute c see j a os m ≡ end
+      → IsFinished (execute c see n a os m)
       → execute c see n a os m ≡ end
   same_end zero n a os m end is e f = absurd (subst IsEnd (sym e) is)
   same_end (suc j) zero a os m end is e f = absurd f

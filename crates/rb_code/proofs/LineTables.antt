@@ -25,7 +25,8 @@ abbrev pub with_pieces : ℕ → Entry → Entry
 with_pieces n e = record e { pieces = n }
 
 module _ (c : Code) (groups : List Membership) (slots : List Slot) (globals : Shape) (shapes : List Shape) (in_test : Bool) where
-  words_with_pieces : (n : ℕ) (e : Entry) → HasWords c groups slots globals shapes in_test e → HasWords c groups slots globals shapes in_test (with_pieces n e)
+  words_with_pieces : (n : ℕ) (e : Entry) → HasWords c groups slots globals shapes in_test e
+      → HasWords c groups slots globals shapes in_test (with_pieces n e)
   words_with_pieces n e w = record { above = w.above; running = w.running; own = w.own; before = w.before }
 
   module _ (e : Entry) (words : HasWords c groups slots globals shapes in_test e) where
@@ -36,9 +37,11 @@ module _ (c : Code) (groups : List Membership) (slots : List Slot) (globals : Sh
     -- an item of a line
     item_tabled : (what : Printed) (n : ℕ) (R : Around) (a b : ℕ) (mode after : Mode) → Quiet mode after → PrintedInFrames slots frames what
         → PrintedHasRoom what → n < most_pieces → PrintedCode slots what c a b
-        → ((t : Table) → R t → LeadsTo c groups t b (point (with_pieces (n + 1) e) [] [] after)) → TabledFirst c groups R a b (point (with_pieces n e) [] [] mode)
+        → ((t : Table) → R t → LeadsTo c groups t b (point (with_pieces (n + 1) e) [] [] after))
+        → TabledFirst c groups R a b (point (with_pieces n e) [] [] mode)
     item_tabled (Words text) n R a b mode after begun known room few (k, is, one) next =
-        step_tabled c groups R (instr.Text k) a b (point (with_pieces n e) [] [] mode) (point (with_pieces (n + 1) e) [] [] after) one refl words.above
+        step_tabled c groups R (instr.Text k) a b (point (with_pieces n e) [] [] mode)
+        (point (with_pieces (n + 1) e) [] [] after) one refl words.above
         (λ t r leads. (
           slice_get_within c.texts k text is,
           few,
@@ -56,7 +59,8 @@ module _ (c : Code) (groups : List Membership) (slots : List Slot) (globals : Sh
     items_tabled : (items : List PrintItem) (n : ℕ) (R : Around) (a b : ℕ) (mode after : Mode) → Quiet mode after
         → All (λ item. PrintedInFrames slots frames item.what) items → All (λ item. PrintedHasRoom item.what) items → n + length items ≤ most_pieces
         → (ItemsCode slots items ⨾ One instr.Print) c a b
-        → ((t : Table) → R t → LeadsTo c groups t b (point (with_pieces 0 e) [] [] Changed)) → TabledFirst c groups R a b (point (with_pieces n e) [] [] mode)
+        → ((t : Table) → R t → LeadsTo c groups t b (point (with_pieces 0 e) [] [] Changed))
+        → TabledFirst c groups R a b (point (with_pieces n e) [] [] mode)
     items_tabled [] n R a b mode after begun known room few (m, none, one) next =
         step_tabled c groups R instr.Print a b (point (with_pieces n e) [] [] mode) (point (with_pieces 0 e) [] [] Changed)
         (subst (λ x. One instr.Print c x b) none one) refl words.above (λ t r leads. (begun.traps, leads)) next
@@ -76,13 +80,15 @@ module _ (c : Code) (groups : List Membership) (slots : List Slot) (globals : Sh
         → ((t : Table) → R t → LeadsTo c groups t b (point e [] [] Changed)) → TabledFirst c groups R a b (point e [] [] mode)
     print_tabled items R a b mode pieces known room few (m, turn, code) next =
         joined_first c groups R a m b (point e [] [] mode) (point e [] [] Fresh)
-        (turn_tabled c groups slots globals shapes in_test e words (λ t. LeadsTo c groups t m (point e [] [] Fresh) × R t) a m mode pieces turn (λ t r. r.0))
+        (turn_tabled c groups slots globals shapes in_test e words
+        (λ t. LeadsTo c groups t m (point e [] [] Fresh) × R t) a m mode pieces turn (λ t r. r.0))
         (subst (λ n. TabledFirst c groups R m b (point (with_pieces n e) [] [] Fresh)) (sym pieces)
         (items_tabled items 0 R m b Fresh Free (quiet Fresh tt) known room (omega (arith, few)) code
         (λ t r. subst (λ n. LeadsTo c groups t b (point (with_pieces n e) [] [] Changed)) pieces (next t r)))).whole
 
     -- arguments on operands, and the call
-    module _ (to p n : ℕ) (R : Around) (b : ℕ) (pieces : e.pieces ≡ 0) (there : (t : Table) → R t → IsProcedureAt (part_of c e.within.process).procedures to)
+    module _ (to p n : ℕ) (R : Around) (b : ℕ) (pieces : e.pieces ≡ 0)
+        (there : (t : Table) → R t → IsProcedureAt (part_of c e.within.process).procedures to)
         (enters : (t : Table) → R t → BeginsAs (t to) e.within.process (p + n))
         (next : (t : Table) → R t → LeadsTo c groups t b (point e [] [] Changed)) where
       arguments_tabled : (arguments : List Expression) (a : ℕ) (os : List (Option ℕ)) (mode after : Mode) → Quiet mode after
@@ -94,7 +100,8 @@ module _ (c : Code) (groups : List Membership) (slots : List Slot) (globals : Sh
           (λ t r leads. (begun.traps, omega (arith, long), pieces, refl, there t r, enters t r, leads)) next
       arguments_tabled (argument ∷ arguments) a os mode after begun known room long (m, (d, code, more), one) =
           joined_first c groups R a d b (point e os [] mode) (point e (None ∷ os) [] after)
-          (value_tabled c groups slots globals shapes in_test e words argument (λ t. LeadsTo c groups t d (point e (None ∷ os) [] after) × R t) a d os mode after
+          (value_tabled c groups slots globals shapes in_test e words argument
+          (λ t. LeadsTo c groups t d (point e (None ∷ os) [] after) × R t) a d os mode after
           begun (All-head (ExpressionInFrames slots frames) argument arguments known) room.0 code (λ t r. r.0))
           (arguments_tabled arguments d (None ∷ os) after after (quiet_on mode after begun)
           (All-tail (ExpressionInFrames slots frames) argument arguments known) room.1 (omega (arith, long)) (m, more, one)).whole
@@ -105,5 +112,6 @@ module _ (c : Code) (groups : List Membership) (slots : List Slot) (globals : Sh
           → TabledFirst c groups R a b (point e [] [] mode)
       call_tabled arguments a mode known room long (m, turn, code) =
           joined_first c groups R a m b (point e [] [] mode) (point e [] [] Fresh)
-          (turn_tabled c groups slots globals shapes in_test e words (λ t. LeadsTo c groups t m (point e [] [] Fresh) × R t) a m mode pieces turn (λ t r. r.0))
+          (turn_tabled c groups slots globals shapes in_test e words
+          (λ t. LeadsTo c groups t m (point e [] [] Fresh) × R t) a m mode pieces turn (λ t r. r.0))
           (arguments_tabled arguments m [] Fresh Free (quiet Fresh tt) known room (omega (arith, long)) code).whole

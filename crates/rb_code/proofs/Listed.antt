@@ -22,11 +22,13 @@ pub puts_as : {T U E : Type 0} (bytes : List ℕ) (w0 w1 : Option (List ℕ)) (f
 puts_as bytes w0 w1 f0 f1 v u p = record { ok = p.ok; quiet = p.quiet; err = tt; failed = tt }
 
 -- the next part stopped, whatever it would have answered, and the whole text with it
-pub written_stopped : {T U : Type 0} (whole rest part after : List ℕ) (w0 w1 w2 : Option (List ℕ)) (f0 f1 f2 : Faults) (e : Failed) (r : Result T Failed) →
+pub written_stopped : {T U : Type 0} (whole rest part after : List ℕ) (w0 w1 w2 : Option (List ℕ)) (f0 f1 f2 : Faults)
+    (e : Failed) (r : Result T Failed) →
     Written whole rest w0 w1 f0 f1 → rest ≡ part ++ after → Puts {T = U} {E = Failed} part w1 w2 f1 f2 (Err e) → IsErr r
     → Puts {T = T} {E = Failed} whole w0 w2 f0 f2 r
 written_stopped {T} {U} whole rest part after w0 w1 w2 f0 f1 f2 e r so_far is p failed =
-    let both : Puts {T = U} {E = Failed} (so_far.front ++ part) w0 w2 f0 f2 (Err e) = puts_both so_far.front part w0 w1 w2 f0 f1 f2 tt (Err e) so_far.puts p in
+    let both : Puts {T = U} {E = Failed} (so_far.front ++ part) w0 w2 f0 f2 (Err e) =
+    puts_both so_far.front part w0 w1 w2 f0 f1 f2 tt (Err e) so_far.puts p in
     puts_same _ _ w0 w2 f0 f2 r (append_assoc so_far.front part after ∙ ap (λ (x : List ℕ). so_far.front ++ x) (sym is) ∙ so_far.splits)
     (puts_stopped_at (so_far.front ++ part) after w0 w2 f0 f2 e r failed both)
 
@@ -66,17 +68,26 @@ instr_first texts heads instrs a within =
     ap (instr_lines texts a heads) (drop-cons instrs a Turn within ∙ ap (λ (n : ℕ). get_or instrs a Turn ∷ drop n instrs) (sym (add-one a)))
 
 -- the same, where texts and instructions are read behind references
-pub instr_next : (texts read_texts : List (List ℕ)) (heads : List Head) (instrs read_instrs : List Instr) (a : ℕ) → read_texts ≡ texts → read_instrs ≡ instrs →
+pub instr_next : (texts read_texts : List (List ℕ)) (heads : List Head) (instrs read_instrs : List Instr) (a : ℕ)
+    → read_texts ≡ texts → read_instrs ≡ instrs →
     a < length read_instrs → instr_lines texts a heads (drop a instrs)
-    ≡ lines_at a heads ++ (instr_line read_texts a (get_or read_instrs a Turn) ++ instr_lines texts (a + 1) (heads_past a heads) (drop (a + 1) instrs))
+    ≡ lines_at a heads
+    ++ (instr_line read_texts a (get_or read_instrs a Turn) ++ instr_lines texts (a + 1) (heads_past a heads) (drop (a + 1) instrs))
 instr_next texts read_texts heads instrs read_instrs a same_texts same_instrs within =
     let there : a < length instrs = omega (arith, within, ap length same_instrs) in
     instr_first texts heads instrs a there
-    ∙ ap (λ (ts : List (List ℕ)). lines_at a heads ++ (instr_line ts a (get_or instrs a Turn) ++ instr_lines texts (a + 1) (heads_past a heads) (drop (a + 1) instrs))) (sym same_texts)
-    ∙ ap (λ (xs : List Instr). lines_at a heads ++ (instr_line read_texts a (get_or xs a Turn) ++ instr_lines texts (a + 1) (heads_past a heads) (drop (a + 1) instrs))) (sym same_instrs)
+    ∙ ap
+    (λ (ts : List (List ℕ)). lines_at a heads
+    ++ (instr_line ts a (get_or instrs a Turn) ++ instr_lines texts (a + 1) (heads_past a heads) (drop (a + 1) instrs)))
+    (sym same_texts)
+    ∙ ap
+    (λ (xs : List Instr). lines_at a heads
+    ++ (instr_line read_texts a (get_or xs a Turn) ++ instr_lines texts (a + 1) (heads_past a heads) (drop (a + 1) instrs)))
+    (sym same_instrs)
 
 -- the first of the recovery blocks that are left
-pub block_next : {X : Type 0} (plain : X → Block) (names : Naming) (blocks : List X) (b : ℕ) (one : X) → b < length blocks → one ≡ get_or blocks b one →
+pub block_next : {X : Type 0} (plain : X → Block) (names : Naming) (blocks : List X) (b : ℕ) (one : X) → b < length blocks
+    → one ≡ get_or blocks b one →
     block_lines names b (map plain (drop b blocks)) ≡ block_line names b (plain one) ++ block_lines names (b + 1) (map plain (drop (b + 1) blocks))
 block_next {X} plain names blocks b one within is = ap (λ (xs : List X). block_lines names b (map plain xs)) (from_item blocks b one within is)
 
@@ -95,9 +106,11 @@ abbrev words_place : ℕ → ℕ → List (List ℕ)
 words_place b line = decimal b ∷ codes "line" ∷ decimal line ∷ []
 
 abbrev words_limits : ℕ → ℕ → ℕ → List (List ℕ)
-words_limits bound restart test = codes "within" ∷ decimal bound ∷ codes "restart" ∷ decimal restart ∷ codes "test" ∷ decimal test ∷ codes "alternates" ∷ []
+words_limits bound restart test =
+    codes "within" ∷ decimal bound ∷ codes "restart" ∷ decimal restart ∷ codes "test" ∷ decimal test ∷ codes "alternates" ∷ []
 
-spaced_four : (p kind limits others : List (List ℕ)) → spaced (p ++ (kind ++ (limits ++ others))) ≡ spaced p ++ (spaced kind ++ (spaced limits ++ spaced others))
+spaced_four : (p kind limits others : List (List ℕ))
+    → spaced (p ++ (kind ++ (limits ++ others))) ≡ spaced p ++ (spaced kind ++ (spaced limits ++ spaced others))
 spaced_four p kind limits others =
     spaced-append p (kind ++ (limits ++ others))
     ∙ ap (λ (x : List ℕ). spaced p ++ x) (spaced-append kind (limits ++ others) ∙ ap (λ (x : List ℕ). spaced kind ++ x) (spaced-append limits others))
@@ -105,7 +118,8 @@ spaced_four p kind limits others =
 -- the parts of that line
 pub block_parts : (names : Naming) (b : ℕ) (one : Block) →
     (codes "block" ++ spaced (decimal b ∷ codes "line" ∷ decimal one.line ∷ []))
-    ++ (spaced (block_kind names one.conversation) ++ (block_limits one.bound one.restart one.test ++ (spaced (map decimal one.alternates) ++ 10 ∷ [])))
+    ++ (spaced (block_kind names one.conversation)
+    ++ (block_limits one.bound one.restart one.test ++ (spaced (map decimal one.alternates) ++ 10 ∷ [])))
     ≡ block_line names b one
 block_parts names b one =
     let kind = block_kind names one.conversation in

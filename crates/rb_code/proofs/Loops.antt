@@ -82,12 +82,14 @@ module _ (c : Code) (see : Sight) where
           (again_past k first d1 d2 x end os (recounted later m) again (still x set later more at) (ap (int_lt x) e ∙ at_end x))
           (kept_set k later None) next
 
-      other_comes : (n : ℕ) (x : ℤ) (set later : List (Option Counting)) (os ps : List ℤ) (o : Value) → end ≡ x +ℤ pos (suc n) → KeptBelow (suc k) set later
+      other_comes : (n : ℕ) (x : ℤ) (set later : List (Option Counting)) (os ps : List ℤ) (o : Value)
+          → end ≡ x +ℤ pos (suc n) → KeptBelow (suc k) set later
           → slice_get set k ≡ Some (counter x end)
           → Comes c see k first os (recounted (slice_set later k (counter (x +ℤ pos 1) end)) m) b (λ v. v ∷ ps) (λ v. m) o
           → Comes c see k d1 os (recounted later m) b (λ v. v ∷ ps) (λ v. m) o
       other_comes n x set later os ps o e more at next =
-          comes_from c see k d1 first os os (recounted later m) (recounted (slice_set later k (counter (x +ℤ pos 1) end)) m) b (λ v. v ∷ ps) (λ v. m) o
+          comes_from c see k d1 first os os (recounted later m)
+          (recounted (slice_set later k (counter (x +ℤ pos 1) end)) m) b (λ v. v ∷ ps) (λ v. m) o
           (again_on k first d1 d2 x end os (recounted later m) again (still x set later more at) (ap (int_lt x) e ∙ before_end x n))
           (kept_set k later (counter (x +ℤ pos 1) end)) next
 
@@ -152,7 +154,11 @@ module _ (c : Code) (see : Sight) where
             (λ v later more. tested v later os os (some_from n (x +ℤ pos 1) f) (Ok (pos 1))
             (λ z. comes_from c see k d d1 (v ∷ os) os (recounted later m) (recounted later m) b (λ v. v ∷ os) (λ v. m) _
             (jumps_zero d d1 d0 v os (recounted later m) zero_test z) (kept_here k later) (next later more))
-            (λ z. (later, kept_here k later, leads_on c see (passes_zero d d1 d0 v os (recounted later m) zero_test z) (to_yes os (recounted later m)))))
+            (λ z. (
+              later,
+              kept_here k later,
+              leads_on c see (passes_zero d d1 d0 v os (recounted later m) zero_test z) (to_yes os (recounted later m)),
+            )))
 
         pub some_loop : (n : ℕ) (x : ℤ) (set : List (Option Counting)) (os : List ℤ) → end ≡ x +ℤ pos n → KeptBelow k base set
             → slice_get set k ≡ Some (counter x end)
@@ -174,7 +180,8 @@ module _ (c : Code) (see : Sight) where
         sum_body n x total set os kept at next =
             comes_inside c see k (suc k) first d b (total ∷ os) (recounted set m) (λ v. v ∷ total ∷ os) (λ v. m) (λ v. v ∷ os) (λ v. m) (f x)
             (λ v. and_then (fitting (total +ℤ v)) (sum_from n (x +ℤ pos 1) f)) (omega arith) (body x set (total ∷ os) kept at)
-            (λ v later more. comes_inside c see k (suc k) d d1 b (v ∷ total ∷ os) (recounted later m) (λ v. v ∷ os) (λ v. recounted later m) (λ v. v ∷ os) (λ v. m)
+            (λ v later more. comes_inside c see k (suc k) d d1 b (v ∷ total ∷ os) (recounted later m) (λ v. v ∷ os)
+            (λ v. recounted later m) (λ v. v ∷ os) (λ v. m)
             (fitting (total +ℤ v)) (sum_from n (x +ℤ pos 1) f) (omega arith)
             (passes_or_traps c see Add (suc k) d (v ∷ total ∷ os) (recounted later m) d1 (λ v. v ∷ os) (fitting (total +ℤ v)) adds refl)
             (λ w later2 more2. next w later2 (kept_on more more2)))

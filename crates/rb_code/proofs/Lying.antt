@@ -70,10 +70,12 @@ lies_behind values words less wrote o p n e h =
       is = h.is;
       long = h.long;
       room = omega (arith, room, length-append less words);
-      reads = λ i l. let q : p + i ≡ length less + (o + i) = omega arith in ap (slice_get (less ++ words)) q ∙ get_behind less words (o + i) ∙ h.reads i l;
+      reads = λ i l. let q : p + i ≡ length less + (o + i) =
+          omega arith in ap (slice_get (less ++ words)) q ∙ get_behind less words (o + i) ∙ h.reads i l;
       writes = λ i x l.
           let q : p + i - length less ≡ o + i = omega arith in
-          ap (λ ws. less ++ ws) (h.writes i x l ∙ ap (λ k. slice_set words k x) (sym q)) ∙ sym (set-append_right less words (length less) (p + i) x refl (omega arith));
+          ap (λ ws. less ++ ws) (h.writes i x l ∙ ap (λ k. slice_set words k x) (sym q))
+          ∙ sym (set-append_right less words (length less) (p + i) x refl (omega arith));
     }
 
 -- under another name of what is found and written
@@ -96,7 +98,8 @@ lies_first : (stored : Stored) (frame : Frame) (x : List ℕ) → same_name stor
 lies_first stored frame x e =
     lies_as (Some stored.values) _ _ (λ i v. slice_set stored.values i v ++ flat_frame frame) _ 0 (length stored.values)
     (ap (λ b. cond b (Some stored.values) (found_in x frame)) e)
-    (λ i v. ap (λ b. flat_frame (cond b (record { name = stored.name; values = slice_set stored.values i v } ∷ frame) (stored ∷ stored_in x i v frame))) e)
+    (λ i v. ap (λ b. flat_frame
+    (cond b (record { name = stored.name; values = slice_set stored.values i v } ∷ frame) (stored ∷ stored_in x i v frame))) e)
     (lies_before (Some stored.values) stored.values (flat_frame frame) (λ i v. slice_set stored.values i v) 0 (length stored.values)
     (record {
       all = stored.values;
@@ -115,7 +118,8 @@ lies_later : (stored : Stored) (frame : Frame) (x : List ℕ) (o p n : ℕ) → 
 lies_later stored frame x o p n q e h =
     lies_as (found_in x frame) _ _ (λ i v. stored.values ++ flat_frame (stored_in x i v frame)) _ p n
     (ap (λ b. cond b (Some stored.values) (found_in x frame)) e)
-    (λ i v. ap (λ b. flat_frame (cond b (record { name = stored.name; values = slice_set stored.values i v } ∷ frame) (stored ∷ stored_in x i v frame))) e)
+    (λ i v. ap (λ b. flat_frame
+    (cond b (record { name = stored.name; values = slice_set stored.values i v } ∷ frame) (stored ∷ stored_in x i v frame))) e)
     (lies_behind _ _ stored.values _ o p n q h)
 
 -- what a place says of a pair of words
@@ -139,5 +143,6 @@ frame_lies (stored ∷ frame) x o n h = by (λ p m e. frame_lies frame x p m e) 
         → cond b (Some (0, length stored.values)) (option_map (moved (length stored.values)) (lies_in x (shape_of frame))) ≡ Some (o, n)
         → LiesIn (stored ∷ frame) x o n
     by next true e g =
-        subst (λ p. LiesIn (stored ∷ frame) x p n) (first_is g) (subst (λ m. LiesIn (stored ∷ frame) x 0 m) (second_is g) (lies_first stored frame x e))
+        subst (λ p. LiesIn (stored ∷ frame) x p n) (first_is g)
+        (subst (λ m. LiesIn (stored ∷ frame) x 0 m) (second_is g) (lies_first stored frame x e))
     by next false e g = rest next (lies_in x (shape_of frame)) e refl g

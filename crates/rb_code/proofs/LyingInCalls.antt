@@ -69,7 +69,8 @@ frames_lie (frame ∷ around) x o n h = by (frames_lie around x o n) (lies_in x 
         (lies_before _ _ (flat_frame frame) _ o n (next g))
 
 -- whether some frame of the call has the name
-pub frames_lost : (frames : List Frame) (x : List ℕ) → lies_among x (shapes_of frames) ≡ None → (found_among x frames ≡ None) × (list_any (has x) frames ≡ false)
+pub frames_lost : (frames : List Frame) (x : List ℕ) → lies_among x (shapes_of frames) ≡ None
+    → (found_among x frames ≡ None) × (list_any (has x) frames ≡ false)
 frames_lost [] x h = (refl, refl)
 frames_lost (frame ∷ around) x h = by (frames_lost around x) (lies_in x (shape_of frame)) refl h
   where

@@ -29,7 +29,8 @@ use Rattle.rb_code.proofs.Blocks.{block_took}
 use Rattle.rb_code.proofs.Cursors.{IsReceiver, IsSender, one_sent, one_taken, sent_there, words_sent, words_taken}
 use Rattle.rb_code.proofs.Took.{HasCursors, InTurn, Took, arrives, took_from, took_on, words_continue}
 
-module _ (tree : Tree) (slots : List Slot) (c : Code) (see : Sight) (has : HasCursors c see.process) (s : State) (m : Memory) (turn : InTurn tree slots c see has s m)
+module _ (tree : Tree) (slots : List Slot) (c : Code) (see : Sight) (has : HasCursors c see.process) (s : State)
+    (m : Memory) (turn : InTurn tree slots c see has s m)
     (channels : c.channels ≡ channels_of tree) (edition : c.edition ≡ tree.edition) where
   -- the slots behind a send
   abbrev pub slots_then : ℕ → State → Slots
@@ -40,9 +41,11 @@ module _ (tree : Tree) (slots : List Slot) (c : Code) (see : Sight) (has : HasCu
       → (put c see channel v m).slots ≡ slots_then channel (one_sent channel v (continue_with rest s))
   slots_put channel v rest me =
       let n = length (sent_on s channel) in
-      let sent : natural (word_at m.words (cursor_place (part_of c see.process) channel)) ≡ n = ap natural (turn.words_meet.sent channel me.ends me.at me.is) in
+      let sent : natural (word_at m.words (cursor_place (part_of c see.process) channel)) ≡ n =
+      ap natural (turn.words_meet.sent channel me.ends me.at me.is) in
       let last : message_number (one_sent channel v s) channel n ≡ v =
-      ap (λ xs. unwrap_or (slice_get xs n) (pos 0)) (sent_there s channel v me.within) ∙ ap (λ o. unwrap_or o (pos 0)) (slice_get-end (sent_on s channel) v) in
+      ap (λ xs. unwrap_or (slice_get xs n) (pos 0)) (sent_there s channel v me.within)
+      ∙ ap (λ o. unwrap_or o (pos 0)) (slice_get-end (sent_on s channel) v) in
       ap (λ k. put_slot c.channels channel k v m.slots) sent ∙ ap (λ cs. put_slot cs channel n v m.slots) channels
       ∙ ap (λ x. put_slot (channels_of tree) channel n x m.slots) (sym last)
 
@@ -59,9 +62,11 @@ module _ (tree : Tree) (slots : List Slot) (c : Code) (see : Sight) (has : HasCu
       (subst (λ x. Leads c see x [] m d1 [] m) begin.1 (passes c see (Room (channel_of slots name.id)) d d1 [] [] m m room refl))
       (took_on tree slots c see has d1 d2 [] m (λ v. v ∷ []) (λ v. m) (slots_then channel) (present_value s.environment e) _
       (plain_comes tree slots c see has s m turn e is.1 d1 d2 m.counters [] turn.two code)
-      (λ v later at many. took_from tree slots c see has d2 b (v ∷ []) [] (recounted later m) (recounted later (put c see channel v m)) (slots_then channel)
+      (λ v later at many. took_from tree slots c see has d2 b (v ∷ []) [] (recounted later m)
+      (recounted later (put c see channel v m)) (slots_then channel)
       (Ok (one_sent channel v (continue_with rest s)))
-      (passes c see (Put channel) d2 b (v ∷ []) [] (recounted later m) (recounted later (put c see channel v m)) (subst (λ x. One (Put x) c d2 b) same last) refl)
+      (passes c see (Put channel) d2 b (v ∷ []) [] (recounted later m) (recounted later (put c see channel v m))
+      (subst (λ x. One (Put x) c d2 b) same last) refl)
       (arrives tree slots c see has (one_sent channel v (continue_with rest s)) b (recounted later (put c see channel v m)) (slots_then channel)
       (record {
         words_meet = words_continue tree c see.process has (one_sent channel v s) (put c see channel v m).words m.calls rest
@@ -110,7 +115,8 @@ module _ (tree : Tree) (slots : List Slot) (c : Code) (see : Sight) (has : HasCu
   by_message (Some v) none d = Going (d + 1) [] m
 
   absent_by : (message : Option ℤ) → see.message ≡ message → (channel none d : ℕ) → act c see (Absent channel none) d [] m ≡ by_message message none d
-  absent_by message there channel none d = ap (λ o. let look : Sight = record see { message = o } in act c look (Absent channel none) d [] m) there ∙ by message
+  absent_by message there channel none d =
+      ap (λ o. let look : Sight = record see { message = o } in act c look (Absent channel none) d [] m) there ∙ by message
     where
       by : (o : Option ℤ) → (let look : Sight = record see { message = o } in act c look (Absent channel none) d [] m) ≡ by_message o none d
       by None = refl
@@ -122,7 +128,8 @@ module _ (tree : Tree) (slots : List Slot) (c : Code) (see : Sight) (has : HasCu
   MayReceive None NoElse = ⊥
   MayReceive None (Else other) = Unit {0}
 
-  receipt_took : (message : Option ℤ) → see.message ≡ message → (channel : ℕ) → IsReceiver c see.process s channel → (to : Reference) (otherwise : Otherwise)
+  receipt_took : (message : Option ℤ) → see.message ≡ message → (channel : ℕ) → IsReceiver c see.process s channel
+      → (to : Reference) (otherwise : Otherwise)
       (rest : List Item) (a b : ℕ) → MayReceive message otherwise
       → ReceiptCode tree slots (owner_of tree see.process) channel (StoreCode slots to (One (Take channel))) otherwise c a b
       → ReferenceInFrames slots (frames_of tree slots c see has s) (IsScalar slots (frames_of tree slots c see has s)) to
@@ -134,14 +141,19 @@ module _ (tree : Tree) (slots : List Slot) (c : Code) (see : Sight) (has : HasCu
       took_from tree slots c see has (a + 1) d1 [] [] m m (λ later. m.slots) (takes (continue_with rest s) channel to v)
       (subst (λ x. Leads c see x [] m d1 [] m) begin.1 (passes c see (There channel) d d1 [] [] m m is_there refl))
       (takes_took v there channel me to rest d1 b b is taken (λ n. stays c see b [] n) left)
-  receipt_took (Some v) there channel me to (Else other) rest a b may (none, (end, (d, begin, (d1, absent, (d2, taken, (d3, jump, (d4, at_none, (d5, other_code, at_end)))))))) is other_is left =
+  receipt_took (Some v) there channel me to (Else other) rest a b may
+      (none, (end, (d, begin, (d1, absent, (d2, taken, (d3, jump, (d4, at_none, (d5, other_code, at_end)))))))) is other_is left =
       took_from tree slots c see has (a + 1) d1 [] [] m m (λ later. m.slots) (takes (continue_with rest s) channel to v)
-      (subst (λ x. Leads c see x [] m d1 [] m) begin.1 (passes c see (Absent channel none) d d1 [] [] m m absent (absent_by (Some v) there channel none d)))
-      (takes_took v there channel me to rest d1 d2 b is taken (λ n. to_there c see d2 end b [] [] n n (sym (at_end.1 ∙ at_end.0)) (jumps c see d2 end d3 [] n jump)) left)
+      (subst (λ x. Leads c see x [] m d1 [] m) begin.1
+      (passes c see (Absent channel none) d d1 [] [] m m absent (absent_by (Some v) there channel none d)))
+      (takes_took v there channel me to rest d1 d2 b is taken
+      (λ n. to_there c see d2 end b [] [] n n (sym (at_end.1 ∙ at_end.0)) (jumps c see d2 end d3 [] n jump)) left)
   receipt_took None there channel me to NoElse rest a b may code is other_is left = absurd may
-  receipt_took None there channel me to (Else other) rest a b may (none, (end, (d, begin, (d1, absent, (d2, taken, (d3, jump, (d4, at_none, (d5, other_code, at_end)))))))) is other_is left =
+  receipt_took None there channel me to (Else other) rest a b may
+      (none, (end, (d, begin, (d1, absent, (d2, taken, (d3, jump, (d4, at_none, (d5, other_code, at_end)))))))) is other_is left =
       took_from tree slots c see has (a + 1) none [] [] m m (λ later. m.slots) (pushes tree.edition other rest s)
-      (subst (λ x. Leads c see x [] m none [] m) begin.1 (goes c see (Absent channel none) d none [] [] m m absent.0 (absent_by None there channel none d)))
+      (subst (λ x. Leads c see x [] m none [] m) begin.1
+      (goes c see (Absent channel none) d none [] [] m m absent.0 (absent_by None there channel none d)))
       (subst (λ e. Took tree slots c see has none [] m (λ later. m.slots) (pushes e other rest s)) edition
       (block_took tree slots c see has s m turn other rest none d5 b
       (subst (λ z. BodyCode tree slots (owner_of tree see.process) other c z d5) (at_none.1 ∙ at_none.0) other_code) other_is (inl at_end.1) left))

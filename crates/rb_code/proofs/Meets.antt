@@ -33,7 +33,8 @@ pub record Meets (tree : Tree) (slots : List Slot) (c : Code) (p : ℕ) (s : Sta
   pub left : Left tree slots c p (stacks_of s.environment.calls) s.items calls at
 
 -- where a copy was made, whose words `prior` reads: in the same frames and calls
-pub record IsPrior (tree : Tree) (c : Code) (p : ℕ) (s : State) (calls : List OpenCall) (copy : State) (copied : List ℤ) (called : List OpenCall) : Type 0 where
+pub record IsPrior (tree : Tree) (c : Code) (p : ℕ) (s : State) (calls : List OpenCall) (copy : State) (copied : List ℤ)
+    (called : List OpenCall) : Type 0 where
   pub words_meet : WordsMeet tree c p copy copied called
   pub calls_are : called ≡ calls
   pub stacks_are : stacks_of copy.environment.calls ≡ stacks_of s.environment.calls

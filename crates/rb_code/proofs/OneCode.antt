@@ -131,12 +131,15 @@ one_code_with_slots tree slots c d numbered these those =
     let told = whole.told 0 (length c.instrs) 0 (length d.instrs) refl these.instrs_are those.instrs_are in
     let long : length c.instrs ≡ length d.instrs = whole.ends 0 (length c.instrs) 0 (length d.instrs) refl these.instrs_are those.instrs_are in
     let starts : SameStarts c d =
-    λ p number. ap (λ parts. unwrap_or (option_map (λ one. one.start) (slice_get (unwrap_or (slice_get parts p) no_part).procedures number)) 0) told.0 in
-    let alike : AlikeBetween c d 0 (length c.instrs) = whole.alike starts 0 (length c.instrs) 0 (length d.instrs) refl these.instrs_are those.instrs_are in
+    λ p number. ap
+    (λ parts. unwrap_or (option_map (λ one. one.start) (slice_get (unwrap_or (slice_get parts p) no_part).procedures number)) 0) told.0 in
+    let alike : AlikeBetween c d 0 (length c.instrs) =
+    whole.alike starts 0 (length c.instrs) 0 (length d.instrs) refl these.instrs_are those.instrs_are in
     let all = same_instrs c d c.instrs d.instrs long (λ z low. alike z (omega arith) low) 0 c.texts d.texts these.one_text_each those.one_text_each
     (all_texts c d c) (all_texts c d d) in
     let many = numbered.blocks in
-    let blocks = list_same c.blocks d.blocks (these.one_block_each ∙ sym those.one_block_each) (λ k low. told.1 k (omega arith) (omega (arith, low, these.one_block_each, many))) in
+    let blocks = list_same c.blocks d.blocks (these.one_block_each ∙ sym those.one_block_each)
+    (λ k low. told.1 k (omega arith) (omega (arith, low, these.one_block_each, many))) in
     code_same c d (these.edition_is ∙ sym those.edition_is) all.0 told.0 blocks (these.channels_are ∙ sym those.channels_are) all.1
     (these.names_are ∙ sym those.names_are)
 

@@ -36,7 +36,8 @@ module _ (c : Code) (groups : List Membership) (e : Entry) (above : IsAbove e.bl
   -- a right operand, and an instruction that takes both
   module _ (R : Around) (right : Template) (forward : Forward c right) (os : List (Option ℕ)) (a b : ℕ) (cover : Cover a b loops) where
     both : (one : Instr) → PushesOn right (None ∷ os)
-        → ((m : ℕ) (t : Table) → Takes2 c groups t m (point e (None ∷ None ∷ os) loops after) → Fine c groups t one m (point e (None ∷ None ∷ os) loops after))
+        → ((m : ℕ) (t : Table) → Takes2 c groups t m (point e (None ∷ None ∷ os) loops after)
+        → Fine c groups t one m (point e (None ∷ None ∷ os) loops after))
         → (m : ℕ) × right c a m × One one c m b → ((t : Table) → R t → LeadsTo c groups t b (point e (None ∷ os) loops after))
         → TabledFirst c groups R a b (point e (None ∷ os) loops after)
     both one pushes fine (m, code, is) next =
@@ -68,7 +69,8 @@ module _ (c : Code) (groups : List Membership) (e : Entry) (above : IsAbove e.bl
         (pushes R3 d0 d1 (cover_within a b d0 d1 loops (omega arith) (omega arith) cover) code (λ t r. r.0)).whole)
         (plain_tabled c groups e above loops after after q R2 instr.Bool d1 d2 (None ∷ os) (None ∷ os) bool (cover d1 (omega arith) (omega arith))
         (λ t r leads. leads) (λ t r. r.0)).whole)
-        (jump_tabled c groups e above loops after after q R1 end d2 d4 (None ∷ os) (jump.0, n3 ∙ n2) (cover d2 (omega arith) (omega arith)) (omega arith)
+        (jump_tabled c groups e above loops after after q R1 end d2 d4 (None ∷ os) (jump.0, n3 ∙ n2)
+        (cover d2 (omega arith) (omega arith)) (omega arith)
         (λ t r. subst (λ x. LeadsTo c groups t x got) (n5 ∙ last) (next t r.1))).whole)
         (push_tabled c groups e above loops after after q R (pos 0) d4 b os (push.0, n5 ∙ n4) (cover d4 (omega arith) (omega arith)) room next).whole
 
@@ -90,10 +92,12 @@ module _ (c : Code) (groups : List Membership) (e : Entry) (above : IsAbove e.bl
         (jump_zero_tabled c groups e above loops after after q (λ t. LeadsTo c groups t d0 on × R3 t) other a d0 None os test
         (cover a (omega arith) (omega arith)) (omega arith) (λ t r. subst (λ x. LeadsTo c groups t x on) (n3 ∙ same) r.1.1.0) (λ t r. r.0))
         (push_tabled c groups e above loops after after q R3 (pos 1) d0 d1 os push (cover d0 (omega arith) (omega arith)) room (λ t r. r.0)).whole)
-        (jump_tabled c groups e above loops after after q R2 end d1 d3 (None ∷ os) (jump.0, n3 ∙ n2) (cover d1 (omega arith) (omega arith)) (omega arith)
+        (jump_tabled c groups e above loops after after q R2 end d1 d3 (None ∷ os) (jump.0, n3 ∙ n2)
+        (cover d1 (omega arith) (omega arith)) (omega arith)
         (λ t r. subst (λ x. LeadsTo c groups t x got) (n5 ∙ last) (next t r.1.1))).whole)
         (pushes R1 d3 d4 (cover_within a b d3 d4 loops (omega arith) (omega arith) cover) code (λ t r. r.0)).whole)
-        (plain_tabled c groups e above loops after after q R instr.Bool d4 b (None ∷ os) (None ∷ os) (bool.0, n5 ∙ n4) (cover d4 (omega arith) (omega arith))
+        (plain_tabled c groups e above loops after after q R instr.Bool d4 b (None ∷ os) (None ∷ os) (bool.0, n5 ∙ n4)
+        (cover d4 (omega arith) (omega arith))
         (λ t r leads. leads) next).whole
 
     pub operator_tabled : (op : Op) → length os < most_operands → PushesOn right (beside_operands op os) → OperatorCode op right c a b

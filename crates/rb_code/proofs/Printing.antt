@@ -39,14 +39,16 @@ abbrev line_of : Bool → List (List ℕ) → List ℕ
 line_of first [] = []
 line_of first (text ∷ others) = after_blank text first ++ line_of false others
 
-line_from_texts : (env : Environment) (first : Bool) (items : List PrintItem) → line_from env first items ≡ and_then (texts_of env items) (λ texts. Ok (line_of first texts))
+line_from_texts : (env : Environment) (first : Bool) (items : List PrintItem)
+    → line_from env first items ≡ and_then (texts_of env items) (λ texts. Ok (line_of first texts))
 line_from_texts env first [] = refl
 line_from_texts env first (item ∷ items) =
     and_then_same {B = List ℕ} (printed env item.what) _ _
     (λ text. ap (λ o. and_then o (λ rest. Ok (after_blank text first ++ rest))) (line_from_texts env false items)
     ∙ then_then (texts_of env items) (λ texts. Ok (line_of false texts)) (λ rest. Ok (after_blank text first ++ rest))
     ∙ sym (then_then (texts_of env items) (λ others. Ok (text ∷ others)) (λ texts. Ok (line_of first texts))))
-    ∙ sym (then_then (printed env item.what) (λ text. and_then (texts_of env items) (λ others. Ok (text ∷ others))) (λ texts. Ok (line_of first texts)))
+    ∙ sym (then_then (printed env item.what) (λ text. and_then (texts_of env items) (λ others. Ok (text ∷ others)))
+    (λ texts. Ok (line_of first texts)))
 
 pieces_behind : (text : List ℕ) (others : List (List ℕ)) → joined_pieces (text ∷ others) ≡ text ++ line_of false others
 pieces_behind text [] = sym (append-nil text)
@@ -60,14 +62,16 @@ pieces_are (text ∷ others) = pieces_behind text others
 abbrev with_pieces : List (List ℕ) → Memory → Memory
 with_pieces pieces m = record m { pieces = pieces }
 
-module _ (tree : Tree) (slots : List Slot) (c : Code) (see : Sight) (has : HasCursors c see.process) (s : State) (m : Memory) (turn : InTurn tree slots c see has s m) where
+module _ (tree : Tree) (slots : List Slot) (c : Code) (see : Sight) (has : HasCursors c see.process) (s : State)
+    (m : Memory) (turn : InTurn tree slots c see has s m) where
   abbrev IsInFrames : PrintItem → Type 0
   IsInFrames item = PrintedInFrames slots (frames_of tree slots c see has s) item.what
 
   -- an item adds its text
   item_comes : (what : Printed) (a b : ℕ) (set : List (Option Counting)) (pieces : List (List ℕ)) → length set ≡ 2 → PrintedCode slots what c a b
       → PrintedInFrames slots (frames_of tree slots c see has s) what
-      → Comes c see 0 a [] (recounted set (with_pieces pieces m)) b (λ text. []) (λ text. with_pieces (pieces ++ text ∷ []) m) (printed s.environment what)
+      → Comes c see 0 a [] (recounted set (with_pieces pieces m)) b (λ text. [])
+      (λ text. with_pieces (pieces ++ text ∷ []) m) (printed s.environment what)
   item_comes (Words text) a b set pieces two (k, there, one) is = (
     set,
     kept_here 0 set,
@@ -75,18 +79,23 @@ module _ (tree : Tree) (slots : List Slot) (c : Code) (see : Sight) (has : HasCu
         (ap (λ o. if_there o (λ text. Going (a + 1) [] (recounted set (with_pieces (pieces ++ text ∷ []) m)))) there),
   )
   item_comes (Amount value) a b set pieces two (d, code, one) is =
-      comes_on c see 0 a d b [] (recounted set (with_pieces pieces m)) (λ v. v ∷ []) (λ v. with_pieces pieces m) (λ text. []) (λ text. with_pieces (pieces ++ text ∷ []) m)
+      comes_on c see 0 a d b [] (recounted set (with_pieces pieces m)) (λ v. v ∷ []) (λ v. with_pieces pieces m)
+      (λ text. []) (λ text. with_pieces (pieces ++ text ∷ []) m)
       (present_value s.environment value) (λ v. Ok (signed_decimal v))
-      (plain_comes tree slots c see has s (with_pieces pieces m) (record { words_meet = turn.words_meet; held = turn.held; two = turn.two }) value is a d set [] two code)
+      (plain_comes tree slots c see has s (with_pieces pieces m)
+      (record { words_meet = turn.words_meet; held = turn.held; two = turn.two }) value is a d set [] two code)
       (λ v later kept. (
         later,
         kept_here 0 later,
-        passes c see ItemInstr d b (v ∷ []) [] (recounted later (with_pieces pieces m)) (recounted later (with_pieces (pieces ++ signed_decimal v ∷ []) m)) one refl,
+        passes c see ItemInstr d b (v ∷ []) [] (recounted later (with_pieces pieces m))
+            (recounted later (with_pieces (pieces ++ signed_decimal v ∷ []) m)) one refl,
       ))
 
-  items_come : (items : List PrintItem) (a b : ℕ) (set : List (Option Counting)) (pieces : List (List ℕ)) → length set ≡ 2 → ItemsCode slots items c a b
+  items_come : (items : List PrintItem) (a b : ℕ) (set : List (Option Counting)) (pieces : List (List ℕ)) → length set ≡ 2
+      → ItemsCode slots items c a b
       → All IsInFrames items
-      → Comes c see 0 a [] (recounted set (with_pieces pieces m)) b (λ texts. []) (λ texts. with_pieces (pieces ++ texts) m) (texts_of s.environment items)
+      → Comes c see 0 a [] (recounted set (with_pieces pieces m)) b (λ texts. []) (λ texts. with_pieces (pieces ++ texts) m)
+      (texts_of s.environment items)
   items_come [] a b set pieces two code is = (
     set,
     kept_here 0 set,
@@ -96,18 +105,25 @@ module _ (tree : Tree) (slots : List Slot) (c : Code) (see : Sight) (has : HasCu
   )
   items_come (item ∷ items) a b set pieces two (d, code, more) is =
       comes_on c see 0 a d b [] (recounted set (with_pieces pieces m)) (λ text. []) (λ text. with_pieces (pieces ++ text ∷ []) m) (λ texts. [])
-      (λ texts. with_pieces (pieces ++ texts) m) (printed s.environment item.what) (λ text. and_then (texts_of s.environment items) (λ others. Ok (text ∷ others)))
+      (λ texts. with_pieces (pieces ++ texts) m) (printed s.environment item.what)
+      (λ text. and_then (texts_of s.environment items) (λ others. Ok (text ∷ others)))
       (item_comes item.what a d set pieces two code (All-head IsInFrames item items is))
       (λ text later kept. rest text later (texts_of s.environment items)
       (items_come items d b later (pieces ++ text ∷ []) (kept.many ∙ two) more (All-tail IsInFrames item items is)))
     where
       rest : (text : List ℕ) (later : List (Option Counting)) (o : Result (List (List ℕ)) Cause)
-          → Comes c see 0 d [] (recounted later (with_pieces (pieces ++ text ∷ []) m)) b (λ texts. []) (λ texts. with_pieces ((pieces ++ text ∷ []) ++ texts) m) o
+          → Comes c see 0 d [] (recounted later (with_pieces (pieces ++ text ∷ []) m)) b (λ texts. [])
+          (λ texts. with_pieces ((pieces ++ text ∷ []) ++ texts) m) o
           → Comes c see 0 d [] (recounted later (with_pieces (pieces ++ text ∷ []) m)) b (λ texts. []) (λ texts. with_pieces (pieces ++ texts) m)
           (and_then o (λ others. Ok (text ∷ others)))
       rest text later (Ok others) r =
-          let grouped : (pieces ++ text ∷ []) ++ others ≡ pieces ++ text ∷ others = append_assoc pieces (text ∷ []) others in
-          (r.0, r.1, subst (λ ps. Leads c see d [] (recounted later (with_pieces (pieces ++ text ∷ []) m)) b [] (recounted r.0 (with_pieces ps m))) grouped r.2)
+          let grouped : (pieces ++ text ∷ []) ++ others ≡ pieces ++ text ∷ others = append_assoc pieces (text ∷ []) others in (
+            r.0,
+            r.1,
+            subst
+                (λ ps. Leads c see d [] (recounted later (with_pieces (pieces ++ text ∷ []) m)) b []
+                (recounted r.0 (with_pieces ps m))) grouped r.2,
+          )
       rest text later (Err cause) r = r
 
   -- the line is held
@@ -134,7 +150,8 @@ module _ (tree : Tree) (slots : List Slot) (c : Code) (see : Sight) (has : HasCu
 
   hold_took : (texts : List (List ℕ)) (later : List (Option Counting)) (rest : List Item) (a b : ℕ) → length later ≡ 2 → One Print c a b
       → Left tree slots c see.process (stacks_of s.environment.calls) rest m.calls b
-      → Took tree slots c see has a [] (recounted later (with_pieces texts m)) (λ later. m.slots) (held_with (continue_with rest s) (joined_pieces texts))
+      → Took tree slots c see has a [] (recounted later (with_pieces texts m)) (λ later. m.slots)
+      (held_with (continue_with rest s) (joined_pieces texts))
   hold_took texts later rest a b two code left = by (nat_lt most_held bytes) refl
     where
       line : List ℕ
@@ -174,8 +191,11 @@ module _ (tree : Tree) (slots : List Slot) (c : Code) (see : Sight) (has : HasCu
       let hold : List ℕ → Result State Cause = held_with (continue_with rest s) in
       same_took tree slots c see has (a + 1) [] m (λ later. m.slots) (and_then (texts_of s.environment items) (λ texts. hold (joined_pieces texts))) _
       (and_then_same {B = State} (texts_of s.environment items) _ _ (λ texts. ap hold (pieces_are texts))
-      ∙ sym (ap (λ o. and_then o hold) (line_from_texts s.environment true items) ∙ then_then (texts_of s.environment items) (λ texts. Ok (line_of true texts)) hold))
+      ∙ sym (ap (λ o. and_then o hold) (line_from_texts s.environment true items)
+      ∙ then_then (texts_of s.environment items) (λ texts. Ok (line_of true texts)) hold))
       (took_on tree slots c see has (a + 1) e [] m (λ texts. []) (λ texts. with_pieces texts m) (λ later. m.slots) (texts_of s.environment items) _
-      (subst (λ ps. Comes c see 0 (a + 1) [] (with_pieces ps m) e (λ texts. []) (λ texts. with_pieces texts m) (texts_of s.environment items)) (sym none)
+      (subst
+      (λ ps. Comes c see 0 (a + 1) [] (with_pieces ps m) e (λ texts. []) (λ texts. with_pieces texts m) (texts_of s.environment items))
+      (sym none)
       (items_come items (a + 1) e m.counters [] turn.two (subst (λ z. ItemsCode slots items c z e) begin.1 code) is))
       (λ texts later at many. hold_took texts later rest e b (many ∙ turn.two) print left))

@@ -31,10 +31,15 @@ use Rattle.rb_code.proofs.CommandTables.{Known, SimpleAreTabled, TakenIsTabled, 
 abbrev pub call_words : ProcedureDeclaration → ℕ
 call_words procedure = length procedure.parameters + frame_words (frame_of (variables_of procedure.body))
 
-bound_words : (parameters : List Identifier) (frame : Frame) → shape_words (shape_of (bound_to parameters [] ++ frame)) ≡ length parameters + frame_words frame
+bound_words : (parameters : List Identifier) (frame : Frame)
+    → shape_words (shape_of (bound_to parameters [] ++ frame)) ≡ length parameters + frame_words frame
 bound_words [] frame = omega (arith, frame_and_shape frame)
 bound_words (x ∷ xs) frame =
-    omega (arith, bound_words xs frame, sum_by-cons (λ (s : Sized). s.words) (record { name = x.text; words = 1 }) (shape_of (bound_to xs [] ++ frame)))
+    omega (
+      arith,
+      bound_words xs frame,
+      sum_by-cons (λ (s : Sized). s.words) (record { name = x.text; words = 1 }) (shape_of (bound_to xs [] ++ frame)),
+    )
 
 called_words : (procedure : ProcedureDeclaration) → call_words procedure ≡ shapes_words (call_shape procedure ∷ [])
 called_words procedure =
@@ -93,7 +98,8 @@ module _ (c : Code) (tree : Tree) where
     abbrev nothing : Around
     nothing t = Unit {0}
 
-    pub procedures_tabled : (procedures : List ProcedureDeclaration) (entries : List Procedure) (a b : ℕ) → All (ProcedureInFrames tree slots p process) procedures
+    pub procedures_tabled : (procedures : List ProcedureDeclaration) (entries : List Procedure) (a b : ℕ)
+        → All (ProcedureInFrames tree slots p process) procedures
         → All ProcedureWithin procedures → All RoomOf procedures
         → KeepRules tree (uses_in_procedures p procedures) → ProceduresCode tree slots (owner_by p process) procedures entries c a b
         → Stretch c (groups_of tree) P nothing (ProceduresBegin p procedures entries) a b
@@ -102,18 +108,22 @@ module _ (c : Code) (tree : Tree) where
     procedures_tabled (procedure ∷ others) entries a b names limits room rules (more, is, (m, code, (n, back, rest))) =
         let w = call_words procedure in
         let body : Statements c (groups_of tree) P (in_procedure p) w [] a m =
-        commands_tabled tree slots c (owner_by p process) P (in_procedure p) channels_are (tests (in_procedure p) refl) (simple (in_procedure p) refl) (taken (in_procedure p) refl)
+        commands_tabled tree slots c (owner_by p process) P (in_procedure p) channels_are (tests (in_procedure p) refl)
+        (simple (in_procedure p) refl) (taken (in_procedure p) refl)
         w [] (procedure_frames process procedure) (outside p true) (commands_of procedure.body) a m (known_called procedure) refl
-        (uses_of_body tree (outside p true) procedure.body (rules_first tree (uses_in_body (outside p true) procedure.body) (uses_in_procedures p others) rules))
+        (uses_of_body tree (outside p true) procedure.body
+        (rules_first tree (uses_in_body (outside p true) procedure.body) (uses_in_procedures p others) rules))
         (All-head (ProcedureInFrames tree slots p process) procedure others names) (All-head ProcedureWithin procedure others limits).commands
         (All-head RoomOf procedure others room) code in
         let behind : Stretch c (groups_of tree) P nothing (ProceduresBegin p others more) n b =
-        procedures_tabled others more n b (All-tail (ProcedureInFrames tree slots p process) procedure others names) (All-tail ProcedureWithin procedure others limits)
+        procedures_tabled others more n b (All-tail (ProcedureInFrames tree slots p process) procedure others names)
+        (All-tail ProcedureWithin procedure others limits)
         (All-tail RoomOf procedure others room)
         (rules_second tree (uses_in_body (outside p true) procedure.body) (uses_in_procedures p others) rules) rest in
         let ends : Around = λ t. Rests c (groups_of tree) P (in_procedure p) w [] Changed m t × ProceduresBegin p others more t in
         let returns : Stretch c (groups_of tree) P nothing ends m b =
-        begins_with c (groups_of tree) P nothing (ProceduresBegin p others more) nothing Return m n b (resting (in_procedure p) w [] Changed) back refl tt behind
+        begins_with c (groups_of tree) P nothing (ProceduresBegin p others more) nothing Return m n b
+        (resting (in_procedure p) w [] Changed) back refl tt behind
         (λ t here asked. asked) (λ t all here known asked. (refl, refl, refl, refl)) in
         subst (λ es. Stretch c (groups_of tree) P nothing (ProceduresBegin p (procedure ∷ others) es) a b) (sym is)
         (told_less c (groups_of tree) P nothing nothing (λ t. Rests c (groups_of tree) P (in_procedure p) w [] Changed a t × ends t)
@@ -132,15 +142,20 @@ module _ (c : Code) (tree : Tree) where
         → ProcessCode tree slots p process part c a b → Stretch c (groups_of tree) P nothing (ProcessBegins part) a b
     process_tabled part a b names limits room rules main_rules (tells, (m, code, (n, done, procedures))) =
         let body : Statements c (groups_of tree) P (in_main p) 0 [] a m =
-        commands_tabled tree slots c (owner_by p process) P (in_main p) channels_are (tests (in_main p) refl) (simple (in_main p) refl) (taken (in_main p) refl)
-        0 [] (main_frames process) (outside p false) process.commands a m known_main refl main_rules names.commands limits.commands room.commands code in
+        commands_tabled tree slots c (owner_by p process) P (in_main p) channels_are (tests (in_main p) refl)
+        (simple (in_main p) refl) (taken (in_main p) refl)
+        0 [] (main_frames process)
+        (outside p false) process.commands a m known_main refl main_rules names.commands limits.commands room.commands code in
         let behind = procedures_tabled process.procedures part.procedures n b names.procedures limits.procedures room.procedures rules procedures in
         let ends : Around = λ t. Rests c (groups_of tree) P (in_main p) 0 [] Changed m t × ProceduresBegin p process.procedures part.procedures t in
         let stops : Stretch c (groups_of tree) P nothing ends m b =
-        begins_with c (groups_of tree) P nothing (ProceduresBegin p process.procedures part.procedures) nothing Done m n b (resting (in_main p) 0 [] Changed)
+        begins_with c (groups_of tree) P nothing (ProceduresBegin p process.procedures part.procedures) nothing Done m n b
+        (resting (in_main p) 0 [] Changed)
         done refl tt behind (λ t here asked. asked) (λ t all here known asked. (refl, refl, refl, refl)) in
-        told_less c (groups_of tree) P nothing nothing (λ t. Rests c (groups_of tree) P (in_main p) 0 [] Changed a t × ends t) (ProcessBegins part) a b
-        (in_order c (groups_of tree) P nothing (Onward c (groups_of tree) P (in_main p) 0 [] m) (Rests c (groups_of tree) P (in_main p) 0 [] Changed a)
+        told_less c (groups_of tree) P nothing nothing
+        (λ t. Rests c (groups_of tree) P (in_main p) 0 [] Changed a t × ends t) (ProcessBegins part) a b
+        (in_order c (groups_of tree) P nothing (Onward c (groups_of tree) P (in_main p) 0 [] m)
+        (Rests c (groups_of tree) P (in_main p) 0 [] Changed a)
         ends a m b body stops (λ t known asked. known.0))
         (λ t asked. asked)
         (λ t told asked. (subst (λ x. LeadsTo c (groups_of tree) t x (resting (in_main p) 0 [] Changed)) (sym tells.start_is) told.0, told.1.1))

@@ -27,7 +27,8 @@ take_front xs ys all n e l = ap (λ z. take n z) e ∙ ap (λ k. take k (xs ++ y
 
 module _ (part : Part) where
   -- a frame begins
-  based_frame : (calls : List OpenCall) (n : ℕ) (shapes others : List Shape) (outer : List (List Shape)) → Based n calls (shapes ∷ outer) → Based n calls (others ∷ outer)
+  based_frame : (calls : List OpenCall) (n : ℕ) (shapes others : List Shape) (outer : List (List Shape))
+      → Based n calls (shapes ∷ outer) → Based n calls (others ∷ outer)
   based_frame [] n shapes others [] h = tt
   based_frame [] n shapes others (more ∷ outer) h = absurd h
   based_frame (call ∷ calls) n shapes others outer h = h
@@ -51,21 +52,25 @@ module _ (part : Part) where
         based = based_frame opened (body_place part) (shapes_of frames) (shapes_of (frame ∷ frames)) (stacks_of outer) l.based;
       }
 
-  pub laid_pushed : (variables : List Declaration) (env : Environment) (all : List ℤ) (opened : List OpenCall) (front : List ℤ) → Laid part front env all opened
+  pub laid_pushed : (variables : List Declaration) (env : Environment) (all : List ℤ) (opened : List OpenCall) (front : List ℤ)
+      → Laid part front env all opened
       → Laid part front (push_frame (frame_of variables) env) (all ++ replicate (frame_words (frame_of variables)) (pos 0)) opened
   laid_pushed variables env all opened front l =
       subst (λ ws. Laid part front (push_frame (frame_of variables) env) (all ++ ws) opened) (zeros_flat variables)
       (laid_frame (frame_of variables) env.globals env.calls all opened front l)
 
   -- a frame ends
-  laid_cut : (frame : Frame) (globals : Frame) (frames : List Frame) (outer : List (List Frame)) (all : List ℤ) (opened : List OpenCall) (front : List ℤ)
+  laid_cut : (frame : Frame) (globals : Frame) (frames : List Frame) (outer : List (List Frame)) (all : List ℤ)
+      (opened : List OpenCall) (front : List ℤ)
       → Laid part front (record { globals = globals; calls = (frame ∷ frames) ∷ outer }) all opened
       → Laid part front (record { globals = globals; calls = frames ∷ outer }) (take (length all - shape_words (shape_of frame)) all) opened
   laid_cut frame globals frames outer all opened front l =
       let xs = front ++ (flat_frame globals ++ (flat_calls outer ++ flat_frames frames)) in
-      let ends : front ++ (flat_frame globals ++ (flat_calls outer ++ (flat_frames frames ++ flat_frame frame))) ≡ xs ++ flat_frame frame = simp append_assoc in
+      let ends : front ++ (flat_frame globals ++ (flat_calls outer ++ (flat_frames frames ++ flat_frame frame))) ≡ xs ++ flat_frame frame =
+      simp append_assoc in
       let is : all ≡ xs ++ flat_frame frame = l.is ∙ ends in
-      let n : length all - shape_words (shape_of frame) ≡ length xs = omega (arith, ap length is, length-append xs (flat_frame frame), frame_long frame) in
+      let n : length all - shape_words (shape_of frame) ≡ length xs =
+      omega (arith, ap length is, length-append xs (flat_frame frame), frame_long frame) in
       record {
         long = l.long;
         is = take_front xs (flat_frame frame) all _ is n;
@@ -73,12 +78,14 @@ module _ (part : Part) where
         based = based_frame opened (body_place part) (shapes_of (frame ∷ frames)) (shapes_of frames) (stacks_of outer) l.based;
       }
 
-  pub laid_popped : (env : Environment) (all : List ℤ) (opened : List OpenCall) (front : List ℤ) (shape : Shape) (shapes : List Shape) (outer : List (List Shape))
+  pub laid_popped : (env : Environment) (all : List ℤ) (opened : List OpenCall) (front : List ℤ) (shape : Shape)
+      (shapes : List Shape) (outer : List (List Shape))
       → stacks_of env.calls ≡ (shape ∷ shapes) ∷ outer → Laid part front env all opened
       → Laid part front (pop_frame env) (take (length all - shape_words shape) all) opened × (stacks_of (pop_frame env).calls ≡ shapes ∷ outer)
   laid_popped env all opened front shape shapes outer e l = by env.calls e l
     where
-      by : (calls : List (List Frame)) → stacks_of calls ≡ (shape ∷ shapes) ∷ outer → Laid part front (record { globals = env.globals; calls = calls }) all opened
+      by : (calls : List (List Frame)) → stacks_of calls ≡ (shape ∷ shapes) ∷ outer
+          → Laid part front (record { globals = env.globals; calls = calls }) all opened
           → Laid part front (pop_frame (record { globals = env.globals; calls = calls })) (take (length all - shape_words shape) all) opened
           × (stacks_of (pop_frame (record { globals = env.globals; calls = calls })).calls ≡ shapes ∷ outer)
       by [] e l = absurd cc
@@ -91,7 +98,8 @@ module _ (part : Part) where
           )
 
   -- a call begins, and ends
-  pub laid_called : (frame : Frame) (env : Environment) (all : List ℤ) (opened : List OpenCall) (front : List ℤ) (back : ℕ) → Laid part front env all opened
+  pub laid_called : (frame : Frame) (env : Environment) (all : List ℤ) (opened : List OpenCall) (front : List ℤ) (back : ℕ)
+      → Laid part front env all opened
       → Laid part front (push_call frame env) (all ++ flat_frame frame) (record { back = back; base = length all } ∷ opened)
   laid_called frame env all opened front back l =
       let long = l.long in
@@ -117,12 +125,14 @@ module _ (part : Part) where
         );
       }
 
-  pub laid_returned : (env : Environment) (all : List ℤ) (call : OpenCall) (opened : List OpenCall) (front : List ℤ) (shapes : List Shape) (outer : List (List Shape))
+  pub laid_returned : (env : Environment) (all : List ℤ) (call : OpenCall) (opened : List OpenCall) (front : List ℤ)
+      (shapes : List Shape) (outer : List (List Shape))
       → stacks_of env.calls ≡ shapes ∷ outer → Laid part front env all (call ∷ opened)
       → Laid part front (pop_call env) (take call.base all) opened × (stacks_of (pop_call env).calls ≡ outer)
   laid_returned env all call opened front shapes outer e l = by env.calls e l
     where
-      by : (calls : List (List Frame)) → stacks_of calls ≡ shapes ∷ outer → Laid part front (record { globals = env.globals; calls = calls }) all (call ∷ opened)
+      by : (calls : List (List Frame)) → stacks_of calls ≡ shapes ∷ outer
+          → Laid part front (record { globals = env.globals; calls = calls }) all (call ∷ opened)
           → Laid part front (pop_call (record { globals = env.globals; calls = calls })) (take call.base all) opened
           × (stacks_of (pop_call (record { globals = env.globals; calls = calls })).calls ≡ outer)
       by [] e l = absurd cc

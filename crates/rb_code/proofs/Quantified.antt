@@ -45,7 +45,8 @@ module _ (c : Code) (see : Sight) where
       (body_comes : (end x : ℤ) (a b : ℕ) (set : List (Option Counting)) (os : List ℤ) → KeptBelow k base set
       → slice_get set k ≡ Some (counter x end) → body c a b → Comes c see (suc k) a os (recounted set m) b (λ v. v ∷ os) (λ v. m) (f x)) where
     -- both limits, the range, and then what a loop comes to
-    limits_come : (past a p r d b : ℕ) (set : List (Option Counting)) (os ps : List ℤ) (h : ℤ → ℕ → Value) → KeptBelow k base set → low c a p → high c p r
+    limits_come : (past a p r d b : ℕ) (set : List (Option Counting)) (os ps : List ℤ) (h : ℤ → ℕ → Value)
+        → KeptBelow k base set → low c a p → high c p r
         → One (Range k past) c r d
         → ((x : ℤ) (set : List (Option Counting)) → KeptBelow k base set → Comes c see k past os (recounted set m) b (λ v. v ∷ ps) (λ v. m) (h x 0))
         → ((x y : ℤ) (j : ℕ) (set : List (Option Counting)) → y ≡ x +ℤ pos j → KeptBelow k base set → slice_get set k ≡ Some (counter x y)
@@ -69,7 +70,8 @@ module _ (c : Code) (see : Sight) where
         long set kept = subst (λ n. k < n) (sym kept.many) there
 
     -- a number behind which the expression ends
-    answers : (a d e b end : ℕ) (v : ℤ) (os : List ℤ) (n : Memory) → One (Push v) c a d → One (Jump end) c d e → b ≡ end → Leads c see a os n b (v ∷ os) n
+    answers : (a d e b end : ℕ) (v : ℤ) (os : List ℤ) (n : Memory) → One (Push v) c a d → One (Jump end) c d e → b ≡ end
+        → Leads c see a os n b (v ∷ os) n
     answers a d e b end v os n push jump is =
         leads_on c see (pushes c see a d v os n push) (to_there c see d end b (v ∷ os) (v ∷ os) n n (sym is) (jumps c see d end e (v ∷ os) n jump))
 
@@ -78,7 +80,43 @@ module _ (c : Code) (see : Sight) where
 
     every_comes : (a b : ℕ) (set : List (Option Counting)) (os : List ℤ) → KeptBelow k base set → EveryCode k low high body c a b
         → Comes c see k a os (recounted set m) b (λ v. v ∷ os) (λ v. m) (over_span Every from to f)
-    every_comes a b set os kept (loop, (fails, (holds, (end, (p, lc, (r, hc, (d, range, (first, at_loop, (d0, bc, (d1, zero_test, (d2, again, (d3, at_yes, (d4, push1, (d5, jump, (d6, at_no, (d7, push0, at_end)))))))))))))))) =
+    every_comes a b set os kept (
+      loop,
+      (
+        fails,
+        (
+          holds,
+          (
+            end,
+            (
+              p,
+              lc,
+              (
+                r,
+                hc,
+                (
+                  d,
+                  range,
+                  (
+                    first,
+                    at_loop,
+                    (
+                      d0,
+                      bc,
+                      (
+                        d1,
+                        zero_test,
+                        (d2, again, (d3, at_yes, (d4, push1, (d5, jump, (d6, at_no, (d7, push0, at_end)))))),
+                      ),
+                    ),
+                  ),
+                ),
+              ),
+            ),
+          ),
+        ),
+      ),
+    ) =
         limits_come holds a p r d b set os os (λ x n. quantified Every n x f) kept lc hc range
         (λ x set1 kept1. (set1, kept_here k set1, from_yes os (recounted set1 m)))
         (λ x y j set1 e kept1 at. subst (λ z. Comes c see k z os (recounted set1 m) b (λ v. v ∷ os) (λ v. m) (quantified Every (suc j) x f)) at_loop.1
@@ -87,14 +125,52 @@ module _ (c : Code) (see : Sight) where
         (λ os2 n2. from_there c see d2 holds b os2 (pos 1 ∷ os2) n2 n2 at_yes.0 (from_yes os2 n2)) from_no j x set1 os e kept1 at))
       where
         from_yes : (os : List ℤ) (n : Memory) → Leads c see holds os n b (pos 1 ∷ os) n
-        from_yes os n = from_there c see holds d3 b os (pos 1 ∷ os) n n (sym (at_yes.1 ∙ at_yes.0)) (answers d3 d4 d5 b end (pos 1) os n push1 jump (at_end.1 ∙ at_end.0))
+        from_yes os n =
+            from_there c see holds d3 b os (pos 1 ∷ os) n n (sym (at_yes.1 ∙ at_yes.0))
+            (answers d3 d4 d5 b end (pos 1) os n push1 jump (at_end.1 ∙ at_end.0))
 
         from_no : (os : List ℤ) (n : Memory) → Leads c see fails os n b (pos 0 ∷ os) n
         from_no os n = from_there c see fails d6 b os (pos 0 ∷ os) n n (sym (at_no.1 ∙ at_no.0)) (last_answer d6 d7 b end (pos 0) os n push0 at_end)
 
     some_comes : (a b : ℕ) (set : List (Option Counting)) (os : List ℤ) → KeptBelow k base set → SomeCode k low high body c a b
         → Comes c see k a os (recounted set m) b (λ v. v ∷ os) (λ v. m) (over_span Any from to f)
-    some_comes a b set os kept (loop, (next, (fails, (end, (p, lc, (r, hc, (d, range, (first, at_loop, (d0, bc, (d1, zero_test, (d2, push1, (d3, jump, (d4, at_next, (d5, again, (d6, at_no, (d7, push0, at_end)))))))))))))))) =
+    some_comes a b set os kept (
+      loop,
+      (
+        next,
+        (
+          fails,
+          (
+            end,
+            (
+              p,
+              lc,
+              (
+                r,
+                hc,
+                (
+                  d,
+                  range,
+                  (
+                    first,
+                    at_loop,
+                    (
+                      d0,
+                      bc,
+                      (
+                        d1,
+                        zero_test,
+                        (d2, push1, (d3, jump, (d4, at_next, (d5, again, (d6, at_no, (d7, push0, at_end)))))),
+                      ),
+                    ),
+                  ),
+                ),
+              ),
+            ),
+          ),
+        ),
+      ),
+    ) =
         limits_come fails a p r d b set os os (λ x n. quantified Any n x f) kept lc hc range
         (λ x set1 kept1. (set1, kept_here k set1, from_no os (recounted set1 m)))
         (λ x y j set1 e kept1 at. subst (λ z. Comes c see k z os (recounted set1 m) b (λ v. v ∷ os) (λ v. m) (quantified Any (suc j) x f)) at_loop.1
@@ -113,8 +189,14 @@ module _ (c : Code) (see : Sight) where
         comes_from c see k a a0 os (pos 0 ∷ os) (recounted set m) (recounted set m) b (λ v. v ∷ os) (λ v. m) (over_span Total from to f)
         (pushes c see a a0 (pos 0) os (recounted set m) push0) (kept_here k set)
         (limits_come end a0 p r d b set (pos 0 ∷ os) os (λ x n. quantified Total n x f) kept lc hc range
-        (λ x set1 kept1. (set1, kept_here k set1, to_there c see end end b (pos 0 ∷ os) (pos 0 ∷ os) _ _ (sym (at_end.1 ∙ at_end.0)) (stays c see end (pos 0 ∷ os) (recounted set1 m))))
-        (λ x y j set1 e kept1 at. subst (λ z. Comes c see k z (pos 0 ∷ os) (recounted set1 m) b (λ v. v ∷ os) (λ v. m) (quantified Total (suc j) x f)) at_loop.1
+        (λ x set1 kept1. (
+          set1,
+          kept_here k set1,
+          to_there c see end end b (pos 0 ∷ os) (pos 0 ∷ os) _ _ (sym (at_end.1 ∙ at_end.0))
+              (stays c see end (pos 0 ∷ os) (recounted set1 m)),
+        ))
+        (λ x y j set1 e kept1 at. subst
+        (λ z. Comes c see k z (pos 0 ∷ os) (recounted set1 m) b (λ v. v ∷ os) (λ v. m) (quantified Total (suc j) x f)) at_loop.1
         (sum_loop c see k m base there y f first d0 (λ x1 set2 os2 kept2 at2. body_comes y x1 first d0 set2 os2 kept2 at2 bc) b d1 d2
         (subst (λ z. One (Again k z) c d1 d2) (sym (at_loop.1 ∙ at_loop.0)) again) adds (sym at_end.1) j x (pos 0) set1 os e kept1 at)))
 

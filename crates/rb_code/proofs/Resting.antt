@@ -58,7 +58,8 @@ module _ (c : Code) (groups : List Membership) where
       → LeadsTo c groups t a (resting within words blocks Changed) → LeadsTo c groups t a (resting within words blocks mode)
   rests_weaker t a within words blocks mode h = has_weaker (t a) within words blocks mode h
 
-  pub rests_as : (t : Table) (a : ℕ) (within : Within) (words : ℕ) (blocks : List OpenBlock) → LeadsTo c groups t a (resting within words blocks Changed)
+  pub rests_as : (t : Table) (a : ℕ) (within : Within) (words : ℕ) (blocks : List OpenBlock)
+      → LeadsTo c groups t a (resting within words blocks Changed)
       → t a ≡ Some (resting within words blocks Changed)
   rests_as t a within words blocks h = has_changed (t a) within words blocks h
 

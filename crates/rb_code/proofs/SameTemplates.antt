@@ -27,14 +27,18 @@ module _ (slots others : List Slot) where
     expression_same (Variable (Refer name Scalar)) frames is it =
         ap (λ o. ScalarCode (counter_in o) (spot_in o)) (value_slot_same slots others frames name is it)
     expression_same (Variable (Refer name (Element index))) frames is it =
-        ap (λ o. ExpressionCode slots index ⨾ One (instr.Bound (elements_in o)) ⨾ One (instr.LoadAt (spot_in o))) (array_slot_same slots others frames name is.0 it.0)
-        ∙ ap (λ (P : Template). P ⨾ One (instr.Bound (elements_in (slice_get others name.id))) ⨾ One (instr.LoadAt (spot_in (slice_get others name.id))))
+        ap (λ o. ExpressionCode slots index ⨾ One (instr.Bound (elements_in o)) ⨾ One (instr.LoadAt (spot_in o)))
+        (array_slot_same slots others frames name is.0 it.0)
+        ∙ ap (λ (P : Template). P ⨾ One (instr.Bound (elements_in (slice_get others name.id))) ⨾ One
+        (instr.LoadAt (spot_in (slice_get others name.id))))
         (expression_same index frames is.1 it.1)
     expression_same (Former place (Refer name Scalar)) frames is it =
         ap (λ o. One (instr.Prior (spot_in o))) (scalar_slot_same slots others frames name is.1 it.1)
     expression_same (Former place (Refer name (Element index))) frames is it =
-        ap (λ o. ExpressionCode slots index ⨾ One (instr.Bound (elements_in o)) ⨾ One (instr.PriorAt (spot_in o))) (array_slot_same slots others frames name is.1.0 it.1.0)
-        ∙ ap (λ (P : Template). P ⨾ One (instr.Bound (elements_in (slice_get others name.id))) ⨾ One (instr.PriorAt (spot_in (slice_get others name.id))))
+        ap (λ o. ExpressionCode slots index ⨾ One (instr.Bound (elements_in o)) ⨾ One (instr.PriorAt (spot_in o)))
+        (array_slot_same slots others frames name is.1.0 it.1.0)
+        ∙ ap (λ (P : Template). P ⨾ One (instr.Bound (elements_in (slice_get others name.id))) ⨾ One
+        (instr.PriorAt (spot_in (slice_get others name.id))))
         (expression_same index frames is.1.1 it.1.1)
     expression_same (Minus operand) frames is it = ap (λ (P : Template). P ⨾ One instr.Neg) (expression_same operand frames is it)
     expression_same (Negation operand) frames is it = ap (λ (P : Template). P ⨾ One instr.Not) (expression_same operand frames is it)
@@ -42,12 +46,17 @@ module _ (slots others : List Slot) where
         ap (λ (P : Template). P ⨾ LinksCode slots links) (expression_same first frames is.0 it.0)
         ∙ ap (λ (P : Template). ExpressionCode others first ⨾ P) (links_same links frames is.1 it.1)
     expression_same (Quantification kind place name low high body) frames is it =
-        ap (λ o. QuantifiedCode kind (quantified_in o) (ExpressionCode slots low) (ExpressionCode slots high) (ExpressionCode slots body)) (is.1 ∙ sym it.1)
-        ∙ ap (λ (P : Template). QuantifiedCode kind (quantified_in (slice_get others name.id)) P (ExpressionCode slots high) (ExpressionCode slots body))
+        ap
+        (λ o. QuantifiedCode kind (quantified_in o) (ExpressionCode slots low) (ExpressionCode slots high) (ExpressionCode slots body))
+        (is.1 ∙ sym it.1)
+        ∙ ap (λ (P : Template). QuantifiedCode kind (quantified_in (slice_get others name.id)) P (ExpressionCode slots high)
+        (ExpressionCode slots body))
         (expression_same low (in_limit frames) is.2 it.2)
-        ∙ ap (λ (P : Template). QuantifiedCode kind (quantified_in (slice_get others name.id)) (ExpressionCode others low) P (ExpressionCode slots body))
+        ∙ ap (λ (P : Template). QuantifiedCode kind (quantified_in (slice_get others name.id)) (ExpressionCode others low) P
+        (ExpressionCode slots body))
         (expression_same high (in_limit frames) is.3 it.3)
-        ∙ ap (λ (P : Template). QuantifiedCode kind (quantified_in (slice_get others name.id)) (ExpressionCode others low) (ExpressionCode others high) P)
+        ∙ ap (λ (P : Template). QuantifiedCode kind (quantified_in (slice_get others name.id)) (ExpressionCode others low)
+        (ExpressionCode others high) P)
         (expression_same body (in_body name frames) is.4 it.4)
 
     links_same : (links : Links) (frames : Frames) → LinksInFrames slots frames links → LinksInFrames others frames links
@@ -62,8 +71,10 @@ module _ (slots others : List Slot) where
   store_same (Refer name Scalar) value frames is it =
       ap (λ o. value ⨾ One (instr.Store (spot_in o))) (scalar_slot_same slots others frames name is it)
   store_same (Refer name (Element index)) value frames is it =
-      ap (λ o. ExpressionCode slots index ⨾ One (instr.Bound (elements_in o)) ⨾ value ⨾ One (instr.StoreAt (spot_in o))) (array_slot_same slots others frames name is.0 it.0)
-      ∙ ap (λ (P : Template). P ⨾ One (instr.Bound (elements_in (slice_get others name.id))) ⨾ value ⨾ One (instr.StoreAt (spot_in (slice_get others name.id))))
+      ap (λ o. ExpressionCode slots index ⨾ One (instr.Bound (elements_in o)) ⨾ value ⨾ One (instr.StoreAt (spot_in o)))
+      (array_slot_same slots others frames name is.0 it.0)
+      ∙ ap (λ (P : Template). P ⨾ One (instr.Bound (elements_in (slice_get others name.id))) ⨾ value ⨾ One
+      (instr.StoreAt (spot_in (slice_get others name.id))))
       (expression_same index frames is.1 it.1)
 
   printed_same : (printed : Printed) (frames : Frames) → PrintedInFrames slots frames printed → PrintedInFrames others frames printed
@@ -89,7 +100,8 @@ module _ (slots others : List Slot) where
     mutual
       unfolding CommandCode CommandsCode BodyCode ReceiptCode BranchesCode BlockCode AlternatesCode OthersCode
 
-      command_same : (command : Command) (frames : Frames) → CommandInFrames tree slots p frames command → CommandInFrames tree others p frames command
+      command_same : (command : Command) (frames : Frames) → CommandInFrames tree slots p frames command
+          → CommandInFrames tree others p frames command
           → CommandCode tree slots owner command ≡ CommandCode tree others owner command
       command_same (Assignment to value) frames is it =
           ap (λ (P : Template). One instr.Turn ⨾ StoreCode slots to P) (expression_same value frames is.1 it.1)
@@ -104,7 +116,8 @@ module _ (slots others : List Slot) where
           ∙ ap (λ (P : Template). One instr.Turn ⨾ One (instr.Room (channel_in (slice_get others channel.id))) ⨾ P
           ⨾ One (instr.Put (channel_in (slice_get others channel.id)))) (expression_same value frames is.1 it.1)
       command_same (Receiving channel to NoElse) frames is it =
-          ap (λ o. ReceiveCode (channel_in o) (StoreCode slots to (One (instr.Take (channel_in o))))) (channel_slot_same slots others tree channel is.0 it.0)
+          ap (λ o. ReceiveCode (channel_in o) (StoreCode slots to (One (instr.Take (channel_in o)))))
+          (channel_slot_same slots others tree channel is.0 it.0)
           ∙ ap (λ (P : Template). ReceiveCode (channel_in (slice_get others channel.id)) P)
           (store_same to (One (instr.Take (channel_in (slice_get others channel.id)))) frames is.1 it.1)
       command_same (Receiving channel to (Else other)) frames is it =
@@ -118,7 +131,8 @@ module _ (slots others : List Slot) where
           ap (λ (P : Template). IfCode P (BodyCode tree slots owner body)) (expression_same test frames is.0 it.0)
           ∙ ap (λ (P : Template). IfCode (ExpressionCode others test) P) (body_same body frames is.1 it.1)
       command_same (Conditional test body (Else other)) frames is it =
-          ap (λ (P : Template). IfElseCode P (BodyCode tree slots owner body) (BodyCode tree slots owner other)) (expression_same test frames is.0 it.0)
+          ap (λ (P : Template). IfElseCode P (BodyCode tree slots owner body) (BodyCode tree slots owner other))
+          (expression_same test frames is.0 it.0)
           ∙ ap (λ (P : Template). IfElseCode (ExpressionCode others test) P (BodyCode tree slots owner other)) (body_same body frames is.1 it.1)
           ∙ ap (λ (P : Template). IfElseCode (ExpressionCode others test) (BodyCode tree others owner body) P) (body_same other frames is.2 it.2)
       command_same (Loop test body) frames is it =
@@ -135,10 +149,12 @@ module _ (slots others : List Slot) where
       command_same Failure frames is it = refl
       command_same (Recovering (Recovers number conversation place test bound alternates)) frames is it =
           let Tells = TellsOf tree conversation place.line (natural bound.value) in
-          ap (λ (P : Template). RecoveryCode number Tells (AlternatesCode tree slots owner alternates) P) (expression_same test (in_acceptance frames) is.1 it.1)
+          ap (λ (P : Template). RecoveryCode number Tells (AlternatesCode tree slots owner alternates) P)
+          (expression_same test (in_acceptance frames) is.1 it.1)
           ∙ ap (λ (P : List ℕ → ℕ → Template). RecoveryCode number Tells P (ExpressionCode others test)) (alternates_same alternates frames is.2 it.2)
 
-      commands_same : (commands : Commands) (frames : Frames) → CommandsInFrames tree slots p frames commands → CommandsInFrames tree others p frames commands
+      commands_same : (commands : Commands) (frames : Frames) → CommandsInFrames tree slots p frames commands
+          → CommandsInFrames tree others p frames commands
           → CommandsCode tree slots owner commands ≡ CommandsCode tree others owner commands
       commands_same NoCommand frames is it = refl
       commands_same (Then first rest) frames is it =
@@ -152,19 +168,22 @@ module _ (slots others : List Slot) where
           (commands_same commands (pushed variables frames) is it)
 
       alternates_same : (alternates : Alternates) (frames : Frames) → AlternatesInFrames tree slots p frames alternates
-          → AlternatesInFrames tree others p frames alternates → AlternatesCode tree slots owner alternates ≡ AlternatesCode tree others owner alternates
+          → AlternatesInFrames tree others p frames alternates
+          → AlternatesCode tree slots owner alternates ≡ AlternatesCode tree others owner alternates
       alternates_same NoAlternate frames is it = refl
       alternates_same (Alternate body rest) frames is it =
           ap (λ (P : Template). λ (addresses : List ℕ) (test : ℕ). Listed addresses (λ more. P ⨾ OthersCode tree slots owner rest more test))
           (body_same body frames is.0 it.0)
-          ∙ ap (λ (P : List ℕ → ℕ → Template). λ (addresses : List ℕ) (test : ℕ). Listed addresses (λ more. BodyCode tree others owner body ⨾ P more test))
+          ∙ ap (λ (P : List ℕ → ℕ → Template). λ (addresses : List ℕ) (test : ℕ). Listed addresses
+          (λ more. BodyCode tree others owner body ⨾ P more test))
           (others_same rest frames is.1 it.1)
 
       others_same : (alternates : Alternates) (frames : Frames) → AlternatesInFrames tree slots p frames alternates
           → AlternatesInFrames tree others p frames alternates → OthersCode tree slots owner alternates ≡ OthersCode tree others owner alternates
       others_same NoAlternate frames is it = refl
       others_same (Alternate body rest) frames is it =
-          ap (λ (P : Template). λ (addresses : List ℕ) (test : ℕ). One (instr.Jump test) ⨾ Listed addresses (λ more. P ⨾ OthersCode tree slots owner rest more test))
+          ap (λ (P : Template). λ (addresses : List ℕ) (test : ℕ). One (instr.Jump test) ⨾ Listed addresses
+          (λ more. P ⨾ OthersCode tree slots owner rest more test))
           (body_same body frames is.0 it.0)
           ∙ ap (λ (P : List ℕ → ℕ → Template). λ (addresses : List ℕ) (test : ℕ). One (instr.Jump test)
           ⨾ Listed addresses (λ more. BodyCode tree others owner body ⨾ P more test)) (others_same rest frames is.1 it.1)
@@ -174,7 +193,8 @@ module _ (slots others : List Slot) where
         → ProceduresCode tree slots owner procedures ≡ ProceduresCode tree others owner procedures
     procedures_same process [] is it = refl
     procedures_same process (procedure ∷ rest) is it =
-        ap (λ (P : Template). λ (entries : List Procedure) c a b. (more : List Procedure) × (entries ≡ record { name = procedure.name.text; start = a } ∷ more)
+        ap (λ (P : Template). λ (entries : List Procedure) c a b. (more : List Procedure)
+        × (entries ≡ record { name = procedure.name.text; start = a } ∷ more)
         × (P ⨾ One instr.Return ⨾ ProceduresCode tree slots owner rest more) c a b)
         (commands_same (commands_of procedure.body) _ is.0 it.0)
         ∙ ap (λ (P : List Procedure → Template). λ (entries : List Procedure) c a b. (more : List Procedure)

@@ -98,7 +98,8 @@ module _ (c : Code) (groups : List Membership) (t : Table) (has : HasTable c gro
     pub met : IsMet c (sight s alternate (copy_of (last_of levels)) message) (slice_get c.instrs (s.at + 1))
     met = by (slice_get c.instrs (s.at + 1)) refl serves_behind
       where
-        by : (o : Option Instr) → slice_get c.instrs (s.at + 1) ≡ o → Serves (wants_behind c o) alternate message levels → IsMet c (sight s alternate (copy_of (last_of levels)) message) o
+        by : (o : Option Instr) → slice_get c.instrs (s.at + 1) ≡ o → Serves (wants_behind c o) alternate message levels
+            → IsMet c (sight s alternate (copy_of (last_of levels)) message) o
         by None e h = tt
         by (Some (There channel)) e h = h
         by (Some (Start b)) e h = starts b e h

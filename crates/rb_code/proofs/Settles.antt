@@ -26,12 +26,14 @@ abbrev pub IsTurn : Code → ℕ → Type 0
 IsTurn c a = slice_get c.instrs a ≡ Some Turn
 
 module _ (tree : Tree) (slots : List Slot) (owner : Owner) (c : Code) where
-  receipt_turn : (channel : ℕ) (taken : Code → ℕ → ℕ → Type 0) (otherwise : Otherwise) (a b : ℕ) → ReceiptCode tree slots owner channel taken otherwise c a b → IsTurn c a
+  receipt_turn : (channel : ℕ) (taken : Code → ℕ → ℕ → Type 0) (otherwise : Otherwise) (a b : ℕ)
+      → ReceiptCode tree slots owner channel taken otherwise c a b → IsTurn c a
   unfolding ExpressionCode CommandCode
   receipt_turn channel taken NoElse a b (d, turn, more) = turn.0
   receipt_turn channel taken (Else other) a b (none, (end, (d, turn, more))) = turn.0
 
-  branches_turn : (test body : Code → ℕ → ℕ → Type 0) (otherwise : Otherwise) (a b : ℕ) → BranchesCode tree slots owner test body otherwise c a b → IsTurn c a
+  branches_turn : (test body : Code → ℕ → ℕ → Type 0) (otherwise : Otherwise) (a b : ℕ)
+      → BranchesCode tree slots owner test body otherwise c a b → IsTurn c a
   unfolding ExpressionCode CommandCode
   branches_turn test body NoElse a b (end, (d, turn, more)) = turn.0
   branches_turn test body (Else other) a b (end, (other_, (d, turn, more))) = turn.0
@@ -68,7 +70,8 @@ module _ (c : Code) (see : Sight) where
   -- words are dropped
   pub drops : (n a b : ℕ) (os : List ℤ) (m : Memory) → DropCode n c a b → Leads c see a os m b os (dropped n m)
   drops zero a b os m code =
-      subst (λ ws. Leads c see a os m b os (with_words ws m)) (sym (cut_nothing m.words)) (subst (λ x. Leads c see a os m x os m) (sym code) (stays c see a os m))
+      subst (λ ws. Leads c see a os m b os (with_words ws m)) (sym (cut_nothing m.words))
+      (subst (λ x. Leads c see a os m x os m) (sym code) (stays c see a os m))
   drops (suc n) a b os m code = passes c see (Drop (suc n)) a b os os m (dropped (suc n) m) code refl
 
   pub onward : (a b : ℕ) (os : List ℤ) (m : Memory) → Onward c a b → Leads c see a os m b os m
@@ -78,7 +81,8 @@ module _ (c : Code) (see : Sight) where
   module _ (tree : Tree) (slots : List Slot) (p : ℕ) where
     -- It comes from a to where a turn begins or the process is done, before the items that are left, and the words are those of the
     -- environment; the held length and the cursors stay.
-    pub record Settled (front : List ℤ) (a : ℕ) (m : Memory) (all : List ℤ) (calls : List OpenCall) (items : List Item) (env : Environment) : Type 0 where
+    pub record Settled (front : List ℤ) (a : ℕ) (m : Memory) (all : List ℤ) (calls : List OpenCall) (items : List Item)
+        (env : Environment) : Type 0 where
       pub to : ℕ
       pub words : List ℤ
       pub opened : List OpenCall
@@ -104,8 +108,10 @@ module _ (c : Code) (see : Sight) where
       stops = stops;
     }
 
-    settled_behind : (front : List ℤ) (a b : ℕ) (m : Memory) (all words : List ℤ) (calls opened : List OpenCall) (items : List Item) (env : Environment)
-        → length words ≤ length all → Leads c see a [] (with_calls all calls m) b [] (with_calls words opened m) → Settled front b m words opened items env
+    settled_behind : (front : List ℤ) (a b : ℕ) (m : Memory) (all words : List ℤ) (calls opened : List OpenCall)
+        (items : List Item) (env : Environment)
+        → length words ≤ length all → Leads c see a [] (with_calls all calls m) b [] (with_calls words opened m)
+        → Settled front b m words opened items env
         → Settled front a m all calls items env
     settled_behind front a b m all words calls opened items env less l s = record {
       to = s.to;
@@ -119,18 +125,22 @@ module _ (c : Code) (see : Sight) where
       stops = s.stops;
     }
 
-    pub settles : (front : List ℤ) (items : List Item) (env : Environment) (stacks : List (List Shape)) → stacks_of env.calls ≡ stacks → (a : ℕ) (m : Memory) (all : List ℤ)
+    pub settles : (front : List ℤ) (items : List Item) (env : Environment) (stacks : List (List Shape))
+        → stacks_of env.calls ≡ stacks → (a : ℕ) (m : Memory) (all : List ℤ)
         (calls : List OpenCall) → Left tree slots c p stacks items calls a → (l : Laid (part_of c p) front env all calls)
         → Settled front a m all calls (settle_items items env).0 (settle_items items env).1
     settles front [] env stacks e a m all calls left l = settled_here front a m all calls [] env left l tt (inr left.0)
     settles front (Perform command ∷ rest) env stacks e a m all calls left l =
-        settled_here front a m all calls (Perform command ∷ rest) env (subst (λ s. Left tree slots c p s (Perform command ∷ rest) calls a) (sym e) left) l tt
+        settled_here front a m all calls (Perform command ∷ rest) env
+        (subst (λ s. Left tree slots c p s (Perform command ∷ rest) calls a) (sym e) left) l tt
         (inl (command_turn tree slots (owner_of tree p) c command a left.0 left.1))
     settles front (StartOf block ∷ rest) env stacks e a m all calls left l =
-        settled_here front a m all calls (StartOf block ∷ rest) env (subst (λ s. Left tree slots c p s (StartOf block ∷ rest) calls a) (sym e) left) l tt
+        settled_here front a m all calls (StartOf block ∷ rest) env
+        (subst (λ s. Left tree slots c p s (StartOf block ∷ rest) calls a) (sym e) left) l tt
         (inl (start_turn tree slots (owner_of tree p) c block a left.0 left.1))
     settles front (TestOf block ∷ rest) env stacks e a m all calls left l =
-        settled_here front a m all calls (TestOf block ∷ rest) env (subst (λ s. Left tree slots c p s (TestOf block ∷ rest) calls a) (sym e) left) l tt
+        settled_here front a m all calls (TestOf block ∷ rest) env
+        (subst (λ s. Left tree slots c p s (TestOf block ∷ rest) calls a) (sym e) left) l tt
         (inl (test_turn tree slots (owner_of tree p) c block a left.0 left.1))
     settles front (EndBlock ∷ rest) env [] e a m all calls left l = absurd left
     settles front (EndBlock ∷ rest) env ([] ∷ outer) e a m all calls left l = absurd left
@@ -138,7 +148,8 @@ module _ (c : Code) (see : Sight) where
         let popped = laid_popped (part_of c p) env all calls front shape shapes outer e l in
         let words = take (length all - shape_words shape) all in
         let s = settles front rest (pop_frame env) (shapes ∷ outer) popped.1 b m words calls left popped.0 in
-        settled_behind front a b m all words calls calls (settle_items rest (pop_frame env)).0 (settle_items rest (pop_frame env)).1 (cut_shorter (length all - shape_words shape) all)
+        settled_behind front a b m all words calls calls (settle_items rest (pop_frame env)).0
+        (settle_items rest (pop_frame env)).1 (cut_shorter (length all - shape_words shape) all)
         (leads_on c see (drops (shape_words shape) a d [] (with_calls all calls m) drop) (onward d b [] (with_calls words calls m) on)) s
     settles front (EndCall ∷ rest) env [] e a m all calls left l = absurd left
     settles front (EndCall ∷ rest) env (shapes ∷ outer) e a m all [] left l = absurd left
@@ -146,5 +157,6 @@ module _ (c : Code) (see : Sight) where
         let returned = laid_returned (part_of c p) env all call calls front shapes outer e l in
         let words = take call.base all in
         let s = settles front rest (pop_call env) outer returned.1 call.back m words calls left.1 returned.0 in
-        settled_behind front a call.back m all words (call ∷ calls) calls (settle_items rest (pop_call env)).0 (settle_items rest (pop_call env)).1 (cut_shorter call.base all)
+        settled_behind front a call.back m all words (call ∷ calls) calls (settle_items rest (pop_call env)).0
+        (settle_items rest (pop_call env)).1 (cut_shorter call.base all)
         (goes c see Return a call.back [] [] (with_calls all (call ∷ calls) m) (with_calls words calls m) left.0 refl) s

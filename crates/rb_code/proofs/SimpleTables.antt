@@ -33,7 +33,8 @@ use Rattle.rb_code.proofs.Tabled.{Around, TabledFirst}
 
 module _ (tree : Tree) (slots : List Slot) (c : Code) (owner : Owner) (P : Around) (within : Within) where
   -- the words of the frames are there
-  words_there : (words : ℕ) (blocks : List OpenBlock) (frames : Frames) (spot : Spot) (mode : Mode) → Known tree slots c owner P within words blocks frames spot
+  words_there : (words : ℕ) (blocks : List OpenBlock) (frames : Frames) (spot : Spot) (mode : Mode)
+      → Known tree slots c owner P within words blocks frames spot
       → MayLookBack tree slots c owner P within blocks frames
       → HasWords c (groups_of tree) slots frames.globals frames.running frames.in_test (resting within words blocks mode)
   words_there words blocks frames spot mode known before = record {
@@ -58,16 +59,19 @@ module _ (tree : Tree) (slots : List Slot) (c : Code) (owner : Owner) (P : Aroun
   pub test_tabled : (words : ℕ) (blocks : List OpenBlock) (frames : Frames) (spot : Spot) (x : Expression) (a b : ℕ)
       → Known tree slots c owner P within words blocks frames spot → MayLookBack tree slots c owner P within blocks frames
       → ExpressionInFrames slots frames x → HasRoom 0 x → ExpressionCode slots x c a b
-      → TabledFirst c (groups_of tree) (λ t. P t × LeadsTo c (groups_of tree) t b (judged within words blocks)) a b (resting within words blocks Fresh)
+      → TabledFirst c (groups_of tree) (λ t. P t × LeadsTo c (groups_of tree) t b (judged within words blocks)) a b
+      (resting within words blocks Fresh)
   test_tabled words blocks frames spot x a b known before is room code =
       value_tabled c (groups_of tree) slots frames.globals frames.running frames.in_test (resting within words blocks Fresh)
-      (words_there words blocks frames spot Fresh known before) x (λ t. P t × LeadsTo c (groups_of tree) t b (judged within words blocks)) a b [] Fresh Free
+      (words_there words blocks frames spot Fresh known before) x
+      (λ t. P t × LeadsTo c (groups_of tree) t b (judged within words blocks)) a b [] Fresh Free
       (quiet Fresh tt) (subst (λ f. ExpressionInFrames slots f x) (plain_frames words blocks frames spot known) is) room code (λ t r. r.1)
 
   -- a message that goes to its place
   pub taken_first : (words : ℕ) (blocks : List OpenBlock) (frames : Frames) (spot : Spot) (to : Reference) (channel a b : ℕ)
       → Known tree slots c owner P within words blocks frames spot → frames.in_test ≡ false
-      → ReferenceInFrames slots frames (IsScalar slots frames) to → StoreHasRoom to (λ n. n < most_operands) → StoreCode slots to (One (Take channel)) c a b
+      → ReferenceInFrames slots frames (IsScalar slots frames) to → StoreHasRoom to (λ n. n < most_operands)
+      → StoreCode slots to (One (Take channel)) c a b
       → TabledFirst c (groups_of tree) (λ t. P t × LeadsTo c (groups_of tree) t b (resting within words blocks Changed)) a b
       (resting within words blocks (MayTake channel))
   taken_first words blocks frames spot to channel a b known outside is room code =
@@ -95,7 +99,8 @@ module _ (tree : Tree) (slots : List Slot) (c : Code) (owner : Owner) (P : Aroun
         (resting within words blocks Changed)
     unfolding CommandCode ReceiptCode
     simple_tabled words blocks frames spot command a b simple known rules outside is limits room code =
-        by command simple rules (subst (λ f. CommandInFrames tree slots within.process f command) (plain_frames words blocks frames spot known) is) limits room code
+        by command simple rules
+        (subst (λ f. CommandInFrames tree slots within.process f command) (plain_frames words blocks frames spot known) is) limits room code
       where
         R : Around
         R t = P t × LeadsTo c (groups_of tree) t b (resting within words blocks Changed)
@@ -116,20 +121,26 @@ module _ (tree : Tree) (slots : List Slot) (c : Code) (owner : Owner) (P : Aroun
             subst (λ n. Is (slice_get c.channels n) within.process) (sym (ap channel_in here.slot))
             (subst (λ channels. Is (slice_get channels (channel_number tree channel.text)) within.process) (sym channels_are) h)
 
-        by : (command : Command) → IsSimple command → KeepRules tree (uses_in_command spot command) → CommandInFrames tree slots within.process plain command
+        by : (command : Command) → IsSimple command → KeepRules tree (uses_in_command spot command)
+            → CommandInFrames tree slots within.process plain command
             → CommandWithin command → CommandHasRoom command → CommandCode tree slots owner command c a b → TabledFirst c (groups_of tree) R a b e
         by (Assignment to value) simple rules is limits room code =
-            assignment_tabled c (groups_of tree) slots frames.globals frames.running frames.in_test e there R to value a b Changed refl is.0 is.1 room code
+            assignment_tabled c
+            (groups_of tree) slots frames.globals frames.running frames.in_test e there R to value a b Changed refl is.0 is.1 room code
             (λ t r. r.1)
         by (Printing items) simple rules is limits room code =
-            print_tabled c (groups_of tree) slots frames.globals frames.running frames.in_test e there items R a b Changed refl is room limits code (λ t r. r.1)
+            print_tabled c
+            (groups_of tree) slots frames.globals frames.running frames.in_test e there items R a b Changed refl is room limits code
+            (λ t r. r.1)
         by (Sending channel value) simple rules is limits room code =
             let speaks = sends_on c tree within blocks spot channel known.stands rules in
-            send_tabled c (groups_of tree) slots frames.globals frames.running frames.in_test e there (channel_of slots channel.id) R value a b Changed refl
+            send_tabled c (groups_of tree) slots frames.globals frames.running frames.in_test e there
+            (channel_of slots channel.id) R value a b Changed refl
             speaks.0 (ends_are IsSender 0 channel is.0 speaks.1) is.1 room code (λ t r. r.1)
         by (Receiving channel to NoElse) simple rules is limits room code =
             let speaks = receives_from c tree within blocks spot channel known.stands rules in
-            receive_tabled c (groups_of tree) slots frames.globals frames.running frames.in_test e there (channel_of slots channel.id) R to a b Changed refl
+            receive_tabled c (groups_of tree) slots frames.globals frames.running frames.in_test e there
+            (channel_of slots channel.id) R to a b Changed refl
             speaks.0 (ends_are IsReceiver 0 channel is.0 speaks.1) is.1 room.0 code (λ t r. r.1)
         by (Invocation name arguments) simple rules is limits room code =
             let called = is.0 in
@@ -139,11 +150,14 @@ module _ (tree : Tree) (slots : List Slot) (c : Code) (owner : Owner) (P : Aroun
             let n = frame_words (frame_of (variables_of called.procedure.body)) in
             let are : procedure_words owner.procedures called.number ≡ n =
             ap (λ o. unwrap_or (option_map (λ (each : ProcedureDeclaration). frame_words (frame_of (variables_of each.body))) o) 0) one in
-            call_tabled c (groups_of tree) slots frames.globals frames.running frames.in_test e there (procedure_start c owner.number (procedure_of slots name.id))
+            call_tabled c (groups_of tree) slots frames.globals frames.running frames.in_test e there
+            (procedure_start c owner.number (procedure_of slots name.id))
             (length arguments) (procedure_words owner.procedures (procedure_of slots name.id)) R b refl
             (λ t r. subst (λ k. IsProcedureAt (part_of c within.process).procedures (procedure_start c owner.number k)) (sym same)
             (procedures.there t r.0 called.number called.procedure one))
-            (λ t r. subst (λ k. BeginsAs (t (procedure_start c owner.number k)) within.process (length arguments + procedure_words owner.procedures k)) (sym same)
+            (λ t r. subst
+            (λ k. BeginsAs (t (procedure_start c owner.number k)) within.process (length arguments + procedure_words owner.procedures k))
+            (sym same)
             (subst (λ w. BeginsAs (t (procedure_start c owner.number called.number)) within.process (length arguments + w)) (sym are)
             (subst (λ l. BeginsAs (t (procedure_start c owner.number called.number)) within.process (l + n)) called.parameters
             (procedures.enters t r.0 called.number called.procedure one))))

@@ -46,7 +46,8 @@ pub record StandsAt (c : Code) (tree : Tree) (within : Within) (blocks : List Op
   pub main : within.main ≡ not spot.in_procedure
   pub opened : OpenAs c tree blocks spot.around
 
-pub stands_inside : (c : Code) (tree : Tree) (within : Within) (blocks : List OpenBlock) (block : OpenBlock) (spot : Spot) (conversation : Option Identifier)
+pub stands_inside : (c : Code) (tree : Tree) (within : Within) (blocks : List OpenBlock) (block : OpenBlock) (spot : Spot)
+    (conversation : Option Identifier)
     → conversation_of (slice_get c.blocks block.number) ≡ number_joined tree conversation → StandsAt c tree within blocks spot
     → StandsAt c tree within (block ∷ blocks) (inside conversation spot)
 stands_inside c tree within blocks block spot conversation is at =
@@ -77,7 +78,8 @@ module _ (c : Code) (tree : Tree) (t : Table) where
       h.0 ∙ ap (λ k. Some k) (sym (eqb-true d (conversation_number tree name.text) same))
 
   -- a `converse` stands where its block may be entered
-  enters : (within : Within) (blocks : List OpenBlock) (e : Entry) (spot : Spot) (name : Identifier) (alternates : Alternates) → e.within ≡ within → e.blocks ≡ blocks
+  enters : (within : Within) (blocks : List OpenBlock) (e : Entry) (spot : Spot) (name : Identifier) (alternates : Alternates)
+      → e.within ≡ within → e.blocks ≡ blocks
       → StandsAt c tree within blocks spot → (one : Use) → one ≡ record { name = name; deed = Joins (count_alternates alternates); spot = spot }
       → keeps_n1 tree one ≡ true → keeps_n2 tree one ≡ true → keeps_n4 tree one ≡ true
       → MayEnter c (groups_of tree) t (Some (conversation_number tree name.text)) e
@@ -126,7 +128,8 @@ receiver_is p None e = true≢false (sym e)
 receiver_is p (Some ends) e = eqb-true ends.receiver p e
 
 -- who sends on a channel, in a main body, is its sender; and who receives from it its receiver
-pub sends_on : (c : Code) (tree : Tree) (within : Within) (blocks : List OpenBlock) (spot : Spot) (name : Identifier) → StandsAt c tree within blocks spot
+pub sends_on : (c : Code) (tree : Tree) (within : Within) (blocks : List OpenBlock) (spot : Spot) (name : Identifier)
+    → StandsAt c tree within blocks spot
     → KeepRules tree (record { name = name; deed = Sends; spot = spot } ∷ [])
     → (within.main ≡ true) × IsSender (slice_get (channels_of tree) (channel_number tree name.text)) within.process
 sends_on c tree within blocks spot name at rules =
@@ -136,7 +139,8 @@ sends_on c tree within blocks spot name at rules =
       subst (IsSender ends) at.process (sender_is spot.process ends (fifth tree speech (first_holds (keeps_rules tree speech) true rules.kept))),
     )
 
-pub receives_from : (c : Code) (tree : Tree) (within : Within) (blocks : List OpenBlock) (spot : Spot) (name : Identifier) → StandsAt c tree within blocks spot
+pub receives_from : (c : Code) (tree : Tree) (within : Within) (blocks : List OpenBlock) (spot : Spot) (name : Identifier)
+    → StandsAt c tree within blocks spot
     → KeepRules tree (record { name = name; deed = Receives; spot = spot } ∷ [])
     → (within.main ≡ true) × IsReceiver (slice_get (channels_of tree) (channel_number tree name.text)) within.process
 receives_from c tree within blocks spot name at rules =

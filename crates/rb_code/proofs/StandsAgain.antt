@@ -159,7 +159,8 @@ module _ (c : Code) (groups : List Membership) (t : Table) (has : HasTable c gro
       let blocks : r.entry.blocks ≡ block ∷ stands.entry.blocks = r.blocks_are ∙ ap (λ bs. block ∷ bs) g.blocks_are in
       let long : length s.words ≡ base_of (part_of c s.process) s.calls + g.entry.words =
       stands.layout.words_are ∙ ap (λ k. base_of (part_of c s.process) s.calls + k) (sym g.words_are) in
-      let fits : LevelFits c t stands.entry.within block stands.entry.blocks (base_of (part_of c s.process) s.calls + block.words) s.calls (opened level) = record {
+      let fits : LevelFits c t stands.entry.within block stands.entry.blocks
+      (base_of (part_of c s.process) s.calls + block.words) s.calls (opened level) = record {
         one = here.one;
         is_block = here.is_block;
         facts = here.facts_are;

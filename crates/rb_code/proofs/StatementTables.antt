@@ -60,7 +60,8 @@ module _ (c : Code) (groups : List Membership) (slots : List Slot) (globals : Sh
   pub turn_tabled : (R : Around) (a b : ℕ) (mode : Mode) → e.pieces ≡ 0 → One instr.Turn c a b
       → ((t : Table) → R t → LeadsTo c groups t b (point e [] [] Fresh)) → TabledFirst c groups R a b (point e [] [] mode)
   turn_tabled R a b mode pieces one next =
-      step_tabled c groups R instr.Turn a b (point e [] [] mode) (point e [] [] Fresh) one refl words.above (λ t r leads. (refl, pieces, refl, leads)) next
+      step_tabled c groups R instr.Turn a b (point e [] [] mode) (point e [] [] Fresh) one refl words.above
+      (λ t r leads. (refl, pieces, refl, leads)) next
 
   -- a value, which some code pushes, goes to a place
   module _ (R : Around) (V : Template) (Room : ℕ → Type 0) (mode after done : Mode) (begun : Quiet mode after)
@@ -69,12 +70,17 @@ module _ (c : Code) (groups : List Membership) (slots : List Slot) (globals : Sh
       (behind : (n : ℕ) (S : Around) (d f : ℕ) → Room 1 → V c d f → ((t : Table) → S t → LeadsTo c groups t f (point e (None ∷ Some n ∷ []) [] done))
       → TabledFirst c groups S d f (point e (Some n ∷ []) [] after)) where
     pub store_tabled : (to : Reference) (a b : ℕ) → ReferenceInFrames slots around (IsScalar slots around) to → StoreHasRoom to Room
-        → StoreCode slots to V c a b → ((t : Table) → R t → LeadsTo c groups t b (point e [] [] Changed)) → TabledFirst c groups R a b (point e [] [] mode)
+        → StoreCode slots to V c a b → ((t : Table) → R t → LeadsTo c groups t b (point e [] [] Changed))
+        → TabledFirst c groups R a b (point e [] [] mode)
     store_tabled (Refer name Scalar) a b is room (m, code, one) next =
         joined_first c groups R a m b (point e [] [] mode) (point e (None ∷ []) [] done)
         (alone (λ t. LeadsTo c groups t m (point e (None ∷ []) [] done) × R t) a m room code (λ t r. r.0))
         (step_tabled c groups R (instr.Store (spot_of slots name.id)) m b (point e (None ∷ []) [] done) (point e [] [] Changed) one refl words.above
-        (λ t r leads. (scalar_range c groups slots globals shapes in_test e.words (part_of c e.within.process).words name [] 0 words.own words.running is, leads))
+        (λ t r leads. (
+          scalar_range c groups slots globals shapes in_test e.words
+              (part_of c e.within.process).words name [] 0 words.own words.running is,
+          leads,
+        ))
         next).whole
     store_tabled (Refer name (Element index)) a b is room (m, code, (d, bound, (f, value, one))) next =
         let n = elements_of slots name.id in
@@ -91,7 +97,11 @@ module _ (c : Code) (groups : List Membership) (slots : List Slot) (globals : Sh
         (λ t r leads. (begun.traps_after, leads)) (λ t r. r.0)).whole)
         (behind n R1 d f room.1 value (λ t r. r.0)).whole)
         (step_tabled c groups R (instr.StoreAt (spot_of slots name.id)) f b third (point e [] [] Changed) one refl words.above
-        (λ t r leads. (array_range c groups slots globals shapes in_test e.words (part_of c e.within.process).words name [] 0 words.own words.running is.0, leads))
+        (λ t r leads. (
+          array_range c groups slots globals shapes in_test e.words
+              (part_of c e.within.process).words name [] 0 words.own words.running is.0,
+          leads,
+        ))
         next).whole
 
   -- an assignment
@@ -137,7 +147,8 @@ module _ (c : Code) (groups : List Membership) (slots : List Slot) (globals : Sh
         (step_tabled c groups R (instr.Put channel) f b full (point e [] [] Changed) put refl words.above (λ t r leads. (refl, leads)) next).whole
 
     -- a message that is there is taken, and goes to a place
-    pub taken_tabled : (R : Around) (to : Reference) (a b : ℕ) → ReferenceInFrames slots around (IsScalar slots around) to → StoreHasRoom to (λ n. n < most_operands)
+    pub taken_tabled : (R : Around) (to : Reference) (a b : ℕ) → ReferenceInFrames slots around (IsScalar slots around) to
+        → StoreHasRoom to (λ n. n < most_operands)
         → StoreCode slots to (One (instr.Take channel)) c a b
         → ((t : Table) → R t → LeadsTo c groups t b (point e [] [] Changed)) → TabledFirst c groups R a b (point e [] [] (MayTake channel))
     taken_tabled R to a b is room code next =
@@ -149,7 +160,8 @@ module _ (c : Code) (groups : List Membership) (slots : List Slot) (globals : Sh
 
     -- `receive`
     pub receive_tabled : (R : Around) (to : Reference) (a b : ℕ) (mode : Mode) → e.pieces ≡ 0 → e.within.main ≡ true
-        → IsReceiver (slice_get c.channels channel) e.within.process → ReferenceInFrames slots around (IsScalar slots around) to → StoreHasRoom to (λ n. n < most_operands)
+        → IsReceiver (slice_get c.channels channel) e.within.process
+        → ReferenceInFrames slots around (IsScalar slots around) to → StoreHasRoom to (λ n. n < most_operands)
         → (One instr.Turn ⨾ One (instr.There channel) ⨾ StoreCode slots to (One (instr.Take channel))) c a b
         → ((t : Table) → R t → LeadsTo c groups t b (point e [] [] Changed)) → TabledFirst c groups R a b (point e [] [] mode)
     receive_tabled R to a b mode pieces main receiver is room (m, turn, (d, there, code)) next =

@@ -51,7 +51,8 @@ module _ (c : Code) (t : Table) (p : ℕ) where
       let k = back (λ w bs ls. body_calls calls w bs ls) (t call.back) h.1 in omega arith
     where
       back : ((w : Within) (bs : List OpenBlock) (ls : Levels) → BodyFits c t p calls w bs ls → former_calls ls ≤ length calls)
-          → (o : Option Entry) → ReturnsTo o (λ e. (call.base ≡ base_of (part_of c p) calls + e.words) × BodyFits c t p calls e.within e.blocks levels)
+          → (o : Option Entry)
+          → ReturnsTo o (λ e. (call.base ≡ base_of (part_of c p) calls + e.words) × BodyFits c t p calls e.within e.blocks levels)
           → former_calls levels ≤ length calls
       back rest None r = absurd r
       back rest (Some e) r = rest e.within e.blocks levels r.4.1
@@ -75,7 +76,8 @@ module _ (c : Code) (groups : List Membership) (t : Table) (see : Sight) (levels
   abbrev pub Same : Memory → Type 0
   Same m = m.words ≡ start
 
-  pub keeps : (m : Memory) (pieces : List (List ℕ)) (counters : List (Option Counting)) → Same m → Same (record m { pieces = pieces; counters = counters })
+  pub keeps : (m : Memory) (pieces : List (List ℕ)) (counters : List (Option Counting)) → Same m
+      → Same (record m { pieces = pieces; counters = counters })
   keeps m pieces counters h = h
 
   -- where a process stands
@@ -121,8 +123,10 @@ module _ (c : Code) (groups : List Membership) (t : Table) (see : Sight) (levels
 
   pub stays : (n : ℕ) → From c groups t see levels Same keeps has lists exists former (Staying n) n
   stays zero a e xs m q fits clean lt = absurd (omega arith)
-  stays (suc n) a e xs m q fits clean lt =
-      ((enough_here a e xs m fits, cursor_at a e xs m (slice_get c.instrs a) fits clean (has.each a e q).fine), by (stays n) (slice_get c.instrs a) refl (has.each a e q).fine lt)
+  stays (suc n) a e xs m q fits clean lt = (
+    (enough_here a e xs m fits, cursor_at a e xs m (slice_get c.instrs a) fits clean (has.each a e q).fine),
+    by (stays n) (slice_get c.instrs a) refl (has.each a e q).fine lt,
+  )
     where
       by : From c groups t see levels Same keeps has lists exists former (Staying n) n → (o : Option Instr) → slice_get c.instrs a ≡ o
           → FineAt c groups t o a e

@@ -38,13 +38,15 @@ use Rattle.rb_code.proofs.WholeRuns.StandTogether.{ComesTo, PriorFor, StepsCome}
 
 -- what each process of a code may call
 abbrev pub HasCallees : Tree → List Slot → Code → Type 0
-HasCallees tree slots c = (p number : ℕ) (procedure : ProcedureDeclaration) → slice_get (procedures_of (slice_get tree.processes p)) number ≡ Some procedure
+HasCallees tree slots c =
+    (p number : ℕ) (procedure : ProcedureDeclaration) → slice_get (procedures_of (slice_get tree.processes p)) number ≡ Some procedure
     → IsCallee tree slots c p number procedure
 
 module _ (tree : Tree) (slots : List Slot) (c : Code) (cursors : (p : ℕ) → HasCursors c p) (edition : c.edition ≡ tree.edition)
     (channels : c.channels ≡ channels_of tree) (callees : HasCallees tree slots c)
     (u : Standing) (s : State) (alternate : ℕ) (x : Option State) (y : Option Copy) (message : Option ℤ) (before : Slots)
-    (own : IsOwn tree u.process s) (mail : HasOwnMail c u.process s) (lines : u.held ≡ s.held) (meets : Meets tree slots c u.process s u.at u.words u.calls) where
+    (own : IsOwn tree u.process s) (mail : HasOwnMail c u.process s) (lines : u.held ≡ s.held)
+    (meets : Meets tree slots c u.process s u.at u.words u.calls) where
   abbrev see : Sight
   see = sight u alternate y message
 
@@ -73,7 +75,8 @@ module _ (tree : Tree) (slots : List Slot) (c : Code) (cursors : (p : ℕ) → H
   took_comes items e stored (Err cause) same r = r
 
   -- a receipt stores nothing into slots
-  receipt_slots : (channel : ℕ) (otherwise : Otherwise) (t : State) → slots_after (tree_kind tree) tt (wants_receipt channel otherwise) s t before ≡ before
+  receipt_slots : (channel : ℕ) (otherwise : Otherwise) (t : State)
+      → slots_after (tree_kind tree) tt (wants_receipt channel otherwise) s t before ≡ before
   receipt_slots channel NoElse t = refl
   receipt_slots channel (Else other) t = refl
 
@@ -103,7 +106,8 @@ module _ (tree : Tree) (slots : List Slot) (c : Code) (cursors : (p : ℕ) → H
       record {
         ends = there.0;
         at = there.1;
-        is = first_sends tree u.process channel there.0 s.items own.clear wants (ap (λ (all : List Ends). slice_get all channel) (sym channels) ∙ there.1);
+        is = first_sends tree u.process channel there.0 s.items own.clear wants
+            (ap (λ (all : List Ends). slice_get all channel) (sym channels) ∙ there.1);
         within = subst (λ n. channel < n) (sym (mail.sent_long ∙ as_channels)) h;
       }
 
@@ -113,7 +117,8 @@ module _ (tree : Tree) (slots : List Slot) (c : Code) (cursors : (p : ℕ) → H
       record {
         ends = there.0;
         at = there.1;
-        is = first_receives tree u.process channel there.0 s.items own.clear wants (ap (λ (all : List Ends). slice_get all channel) (sym channels) ∙ there.1);
+        is = first_receives tree u.process channel there.0 s.items own.clear wants
+            (ap (λ (all : List Ends). slice_get all channel) (sym channels) ∙ there.1);
         within = subst (λ n. channel < n) (sym (mail.taken_long ∙ as_channels)) h;
       }
 
@@ -128,52 +133,66 @@ module _ (tree : Tree) (slots : List Slot) (c : Code) (cursors : (p : ℕ) → H
   judged_comes rest (Ok v) r = tested_comes rest (is_zero v) r
   judged_comes rest (Err cause) r = r
 
-  test_comes : (block : RecoveryBlock) (rest : List Item) → Left tree slots c u.process (stacks_of s.environment.calls) (TestOf block ∷ rest) u.calls u.at
+  test_comes : (block : RecoveryBlock) (rest : List Item)
+      → Left tree slots c u.process (stacks_of s.environment.calls) (TestOf block ∷ rest) u.calls u.at
       → PriorFor tree slots c u s (TestOf block ∷ rest) x y
-      → ComesTo tree slots c u see before (stepped_with_slots (tree_kind tree) s before (judged rest s (value s.environment (former s.environment (environment_of x)) [] (test_in block))))
+      → ComesTo tree slots c u see before
+      (stepped_with_slots (tree_kind tree) s before
+      (judged rest s (value s.environment (former s.environment (environment_of x)) [] (test_in block))))
   test_comes block rest (b, code, is, left) (copy, seen, e, f, prior) =
       subst (λ (o : Option State). ComesTo tree slots c u see before
-      (stepped_with_slots (tree_kind tree) s before (judged rest s (value s.environment (former s.environment (environment_of o)) [] (test_in block))))) (sym e)
+      (stepped_with_slots (tree_kind tree) s before
+      (judged rest s (value s.environment (former s.environment (environment_of o)) [] (test_in block))))) (sym e)
       (judged_comes rest (value s.environment copy.environment [] (test_in block))
       (test_judged tree slots c see has s m turn copy u.calls
       (subst (λ (o : Option Copy). IsPrior tree c u.process s u.calls copy (prior_words o) u.calls) (sym f) prior) block rest u.at b code is left))
 
   -- whatever stands first
   command_comes : (command : Command) (rest : List Item) → s.items ≡ Perform command ∷ rest
-      → Left tree slots c u.process (stacks_of s.environment.calls) (Perform command ∷ rest) u.calls u.at → MayStep (wants_first tree (Perform command ∷ rest)) message
+      → Left tree slots c u.process (stacks_of s.environment.calls) (Perform command ∷ rest) u.calls u.at
+      → MayStep (wants_first tree (Perform command ∷ rest)) message
       → ComesTo tree slots c u see before (stepped_with_slots (tree_kind tree) s before (goes (performs tree message s rest command)))
   command_comes (Assignment to value) rest e (b, code, is, left) may =
-      took_comes (Perform (Assignment to value) ∷ rest) e (λ t. before) _ (λ t. refl) (assignment_took tree slots c see has s m turn to value rest u.at b code is left)
+      took_comes (Perform (Assignment to value) ∷ rest) e (λ t. before) _ (λ t. refl)
+      (assignment_took tree slots c see has s m turn to value rest u.at b code is left)
   command_comes (Printing items) rest e (b, code, is, left) may =
-      took_comes (Perform (Printing items) ∷ rest) e (λ t. before) _ (λ t. refl) (printing_took tree slots c see has s m turn refl items rest u.at b code is left)
+      took_comes (Perform (Printing items) ∷ rest) e (λ t. before) _ (λ t. refl)
+      (printing_took tree slots c see has s m turn refl items rest u.at b code is left)
   command_comes (Sending name value) rest e (b, code, is, left) may =
       let channel = channel_number tree name.text in
       took_comes (Perform (Sending name value) ∷ rest) e (slots_then tree slots c see has s m turn channels edition channel) _ (λ t. refl)
-      (sending_took tree slots c see has s m turn channels edition name value rest u.at b (sender channel is.0.there (ap (wants_first tree) e)) code is left)
+      (sending_took tree slots c see has s m turn channels edition name value rest u.at b
+      (sender channel is.0.there (ap (wants_first tree) e)) code is left)
   command_comes (Receiving name to otherwise) rest e (b, code, is, left) may =
       let channel = channel_number tree name.text in
       took_comes (Perform (Receiving name to otherwise) ∷ rest) e (λ t. before) _ (receipt_slots channel otherwise)
       (receiving_took tree slots c see has s m turn channels edition name to otherwise rest u.at b
-      (receiver channel is.0.there (ap (λ items. receives_on (wants_first tree items)) e ∙ receipt_on channel otherwise)) (may_receive channel otherwise message may) code is left)
+      (receiver channel is.0.there (ap (λ items. receives_on (wants_first tree items)) e ∙ receipt_on channel otherwise))
+      (may_receive channel otherwise message may) code is left)
   command_comes (Conditional test body otherwise) rest e (b, code, is, left) may =
       took_comes (Perform (Conditional test body otherwise) ∷ rest) e (λ t. before) _ (λ t. refl)
       (conditional_took tree slots c see has s m turn edition test body otherwise rest u.at b code is left)
   command_comes (Loop test body) rest e (b, code, is, left) may =
-      took_comes (Perform (Loop test body) ∷ rest) e (λ t. before) _ (λ t. refl) (loop_took tree slots c see has s m turn edition test body rest u.at b code is left)
+      took_comes (Perform (Loop test body) ∷ rest) e (λ t. before) _ (λ t. refl)
+      (loop_took tree slots c see has s m turn edition test body rest u.at b code is left)
   command_comes (Invocation name arguments) rest e (b, code, is, left) may =
       took_comes (Perform (Invocation name arguments) ∷ rest) e (λ t. before) _ (λ t. refl)
       (invocation_took tree slots c see has s m turn edition own.process (callees u.process) name arguments rest u.at b code is left)
   command_comes Failure rest e (b, code, is, left) may =
-      took_comes (Perform Failure ∷ rest) e (λ t. before) (performs tree message s rest Failure) (λ t. refl) (failure_took tree slots c see has s m turn rest u.at b code)
+      took_comes (Perform Failure ∷ rest) e (λ t. before) (performs tree message s rest Failure) (λ t. refl)
+      (failure_took tree slots c see has s m turn rest u.at b code)
   command_comes (Recovering block) rest e (b, code, is, left) may = absurd may
 
-  items_come : (items : List Item) → s.items ≡ items → Left tree slots c u.process (stacks_of s.environment.calls) items u.calls u.at → IsSettled items
+  items_come : (items : List Item) → s.items ≡ items
+      → Left tree slots c u.process (stacks_of s.environment.calls) items u.calls u.at → IsSettled items
       → PriorFor tree slots c u s items x y → MayStep (wants_first tree items) message
-      → ComesTo tree slots c u see before (stepped_with_slots (tree_kind tree) s before (step_items tree alternate (environment_of x) s message items))
+      → ComesTo tree slots c u see before
+      (stepped_with_slots (tree_kind tree) s before (step_items tree alternate (environment_of x) s message items))
   items_come [] e left settled prior may = absurd may
   items_come (Perform command ∷ rest) e left settled prior may = command_comes command rest e left may
   items_come (StartOf block ∷ rest) e (b, code, is, left) settled prior may =
-      took_comes (StartOf block ∷ rest) e (λ t. before) _ (λ t. refl) (start_took tree slots c see has s m turn edition block rest u.at b code is left)
+      took_comes (StartOf block ∷ rest) e (λ t. before) _ (λ t. refl)
+      (start_took tree slots c see has s m turn edition block rest u.at b code is left)
   items_come (TestOf block ∷ rest) e left settled prior may = test_comes block rest left prior
   items_come (EndBlock ∷ rest) e left settled prior may = absurd settled
   items_come (EndCall ∷ rest) e left settled prior may = absurd settled

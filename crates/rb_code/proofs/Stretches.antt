@@ -99,7 +99,8 @@ module _ (c : Code) (groups : List Membership) (P : Around) where
       given : (t : Table) → AgreeBetween a b t whole → asks t → before t
       given t agree asked = enough t (rest.told t (right t agree) asked) asked
 
-      by : (t : Table) → AgreeBetween a b t whole → P t → asks t → (x : ℕ) (g : Entry) → a ≤ x → x < b → t x ≡ Some g → (test : Bool) → nat_lt x m ≡ test
+      by : (t : Table) → AgreeBetween a b t whole → P t → asks t → (x : ℕ) (g : Entry) → a ≤ x → x < b → t x ≡ Some g
+          → (test : Bool) → nat_lt x m ≡ test
           → IsSoundAt c groups t x g
       by t agree all asked x g low high there true e =
           let here : x < m = grind arith in
@@ -153,7 +154,8 @@ module _ (c : Code) (groups : List Membership) (P : Around) where
         around = around;
       }
 
-      by : (t : Table) → AgreeBetween a b t whole → P t → asks t → (x : ℕ) (g : Entry) → a ≤ x → x < b → t x ≡ Some g → (test : Bool) → nat_lt x m ≡ test
+      by : (t : Table) → AgreeBetween a b t whole → P t → asks t → (x : ℕ) (g : Entry) → a ≤ x → x < b → t x ≡ Some g
+          → (test : Bool) → nat_lt x m ≡ test
           → IsSoundAt c groups t x g
       by t agree all asked x g low high is true h =
           let same : a ≡ x = grind (arith, next) in

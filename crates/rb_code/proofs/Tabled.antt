@@ -108,7 +108,8 @@ module _ (c : Code) (groups : List Membership) (R : Around) where
   }
 
   -- one part after another, which begins with the entry to which the first leads
-  module _ (a m b : ℕ) (first second : Table) (low : a ≤ m) (high : m ≤ b) (t : Table) (same : AgreeBetween a b t (λ x. cond (nat_lt x m) (first x) (second x))) where
+  module _ (a m b : ℕ) (first second : Table) (low : a ≤ m) (high : m ≤ b) (t : Table)
+      (same : AgreeBetween a b t (λ x. cond (nat_lt x m) (first x) (second x))) where
     agree_first : AgreeBetween a m t first
     agree_first x p q = same x p (omega arith) ∙ ap (λ z. cond z (first x) (second x)) (lt-ltb x m q)
 

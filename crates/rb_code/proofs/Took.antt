@@ -55,7 +55,8 @@ cursor_in_front c p channel ends has e is = let h = has.place channel ends e is 
 
 module _ (tree : Tree) (c : Code) (p : ℕ) (has : HasCursors c p) where
   -- other variables, whose words lie behind the same front
-  pub words_again : (s : State) (all : List ℤ) (calls : List OpenCall) (w : WordsMeet tree c p s all calls) (env : Environment) (others : List ℤ) (opened : List OpenCall)
+  pub words_again : (s : State) (all : List ℤ) (calls : List OpenCall) (w : WordsMeet tree c p s all calls)
+      (env : Environment) (others : List ℤ) (opened : List OpenCall)
       → Laid (part_of c p) w.front env others opened → shape_of env.globals ≡ shape_of s.environment.globals → words env ≤ most_words c.edition
       → WordsMeet tree c p (with_environment env s) others opened
   words_again s all calls w env others opened l same few =

@@ -53,7 +53,8 @@ module _ (c : Code) (groups : List Membership) (t : Table) (has : HasTable c gro
       upright_held c groups t has lists ds u alternate message memory v h (served (want c u) message may) e
 
   pub sound_settling_finishes : (ds : List Copy) (u : Standing) → Upright c t true ds u
-      → IsFinished (execute c (sight (accepted_touched u) 0 (last_of (without_last ds)) None) (most_steps c) u.at [] (memory_of (accepted_touched u) []))
+      → IsFinished
+      (execute c (sight (accepted_touched u) 0 (last_of (without_last ds)) None) (most_steps c) u.at [] (memory_of (accepted_touched u) []))
   sound_settling_finishes ds u h =
       finished (execute c (sight (accepted_touched u) 0 (last_of (without_last ds)) None) (most_steps c) u.at [] (memory_of (accepted_touched u) []))
       (upright_settling_finishes c groups t has lists ds u h)

@@ -95,7 +95,8 @@ module _ (c : Code) (tree : Tree) where
         let first : Stretch c (groups_of tree) CallsFind nothing (Begins p process part) a m =
         process_tabled c tree slots CallsFind p process channels_are (ap (λ o. (unwrap_or o no_part).words) own ∙ code.0.words_are)
         (λ within e. tests p process within there e) (λ within e. simple p process within there e) (λ within e. taken p process within there e)
-        part a m (resolved.processes p process there) (All-head (ProcessWithin tree.edition) process others limits) (All-head ProcessHasRoom process others room)
+        part a m (resolved.processes p process there) (All-head (ProcessWithin tree.edition) process others limits)
+        (All-head ProcessHasRoom process others room)
         (rules_first tree (uses_in_procedures p process.procedures) mains rules)
         (rules_first tree (uses_in (outside p false) process.commands) (uses_in_processes (p + 1) others) behind) code in
         let next : Stretch c (groups_of tree) CallsFind nothing (AllBegin (p + 1) others more) m b =
@@ -105,10 +106,12 @@ module _ (c : Code) (tree : Tree) where
         resolved (All-tail (ProcessWithin tree.edition) process others limits) (All-tail ProcessHasRoom process others room)
         (rules_second tree (uses_in (outside p false) process.commands) (uses_in_processes (p + 1) others) behind) rest in
         subst (λ ps. Stretch c (groups_of tree) CallsFind nothing (AllBegin p (process ∷ others) ps) a b) (sym is)
-        (in_order c (groups_of tree) CallsFind nothing nothing (Begins p process part) (AllBegin (p + 1) others more) a m b first next (λ t known asked. tt))
+        (in_order c (groups_of tree) CallsFind nothing nothing (Begins p process part)
+        (AllBegin (p + 1) others more) a m b first next (λ t known asked. tt))
 
     -- a stretch over the whole code is its table
-    whole_table : (n : ℕ) → Stretch c (groups_of tree) CallsFind nothing (AllBegin 0 tree.processes c.processes) 0 n → (t : Table) × HasTable c (groups_of tree) t
+    whole_table : (n : ℕ) → Stretch c (groups_of tree) CallsFind nothing (AllBegin 0 tree.processes c.processes) 0 n
+        → (t : Table) × HasTable c (groups_of tree) t
     whole_table n whole = (
       final,
       record {
@@ -144,6 +147,7 @@ module _ (c : Code) (tree : Tree) where
         → (t : Table) × HasTable c (groups_of tree) t
     tree_has_table resolved limits nested few stands =
         whole_table (length c.instrs)
-        (processes_tabled 0 tree.processes c.processes 0 (length c.instrs) (λ i n e. let same : n ≡ i = omega (arith, e) in ap (slice_get c.processes) same)
+        (processes_tabled 0 tree.processes c.processes 0 (length c.instrs)
+        (λ i n e. let same : n ≡ i = omega (arith, e) in ap (slice_get c.processes) same)
         (λ i n e. let same : n ≡ i = omega (arith, e) in ap (slice_get tree.processes) same)
         resolved limits.processes few (record { kept = uses_kept tree nested; outside = nested.n8 }) stands.instrs_are)

@@ -23,7 +23,8 @@ use Rattle.rb_code.specs.Stands.{ServedBut, Serves, SettlesSoundly, StandsSoundl
 
 -- A step of a process that stands is safe: each instruction finds what it needs, and where the turn may be given up it has changed nothing.
 abbrev pub SoundStepsAreSafe : Type 0
-SoundStepsAreSafe = (c : Code) (groups : List Membership) (s : Standing) (levels : List (Level Copy)) (alternate : ℕ) (message : Option ℤ) (slots : Slots)
+SoundStepsAreSafe =
+    (c : Code) (groups : List Membership) (s : Standing) (levels : List (Level Copy)) (alternate : ℕ) (message : Option ℤ) (slots : Slots)
     → StandsSoundly c groups s levels → Serves (want c s) alternate message levels
     → Safe c (sight s alternate (copy_of (last_of levels)) message) (IsUnchanged (memory_of s slots)) (most_steps c) (s.at + 1) [] (memory_of s slots)
 
@@ -35,7 +36,8 @@ SoundStepsEnd = (c : Code) (groups : List Membership) (s : Standing) (levels : L
 
 -- And then the process stands again.
 abbrev pub SoundStepsStand : Type 0
-SoundStepsStand = (c : Code) (groups : List Membership) (s : Standing) (levels : List (Level Copy)) (alternate : ℕ) (message : Option ℤ) (memory : Common)
+SoundStepsStand =
+    (c : Code) (groups : List Membership) (s : Standing) (levels : List (Level Copy)) (alternate : ℕ) (message : Option ℤ) (memory : Common)
     → StandsSoundly c groups s levels → Serves (want c s) alternate message levels
     → StandsSoundlyAfter c groups s levels (step c alternate (copy_of (last_of levels)) s message memory)
 
@@ -64,7 +66,8 @@ abbrev pub SoundRunsEnd : Type 0
 SoundRunsEnd = (c : Code) (groups : List Membership) (t : Table) → HasTable c groups t → ListsChannels c → (turns : List ℕ) (p : ℕ)
     (q : Process Standing Copy) → slice_get (word_run c groups turns).0.processes p ≡ Some q → q.status ≡ Running → q.at_line ≡ false
     → (alternate : ℕ) (message : Option ℤ) (slots : Slots) → ServedBut (want c q.state) message
-    → execute c (sight q.state alternate (copy_of (last_of q.levels)) message) (most_steps c) (q.state.at + 1) [] (memory_of q.state slots) ≡ Unfinished
+    → execute c (sight q.state alternate (copy_of (last_of q.levels)) message) (most_steps c) (q.state.at + 1) [] (memory_of q.state slots)
+    ≡ Unfinished
     → ⊥
 
 -- The code of a tree that is resolved, within the limits and nested, and whose expressions need no more operands than there are, is sound.

@@ -47,7 +47,8 @@ module _ (c : Code) (see : Sight) (calls : ℕ) (start : List ℤ) where
 -- In a step of a process that stands there are never fewer calls than at the entry of its innermost level, always a word, and cursors are used as they
 -- were at its beginning.
 abbrev pub SoundStepsStay : Type 0
-SoundStepsStay = (c : Code) (groups : List Membership) (s : Standing) (levels : List (Level Copy)) (alternate : ℕ) (message : Option ℤ) (slots : Slots)
+SoundStepsStay =
+    (c : Code) (groups : List Membership) (s : Standing) (levels : List (Level Copy)) (alternate : ℕ) (message : Option ℤ) (slots : Slots)
     → StandsSoundly c groups s levels → Serves (want c s) alternate message levels
     → Stays c (sight s alternate (copy_of (last_of levels)) message) (entry_calls (copy_of (last_of levels))) s.words (most_steps c) (s.at + 1) []
     (memory_of s slots)

@@ -35,7 +35,8 @@ pub(crate) fn put_instr_line<S: Sink>(
 }
 
 fn put_instr<S: Sink>(out: &mut S, at: &[u8], instr: &Instr, texts: &[Text]) -> Result<(), Failed>
-    ensures { Puts (line_of (at.now ∷ instr_words texts.now instr.now)) (S.written out.old) (S.written out.new) (S.faults out.old) (S.faults out.new) result }
+    ensures { Puts (line_of (at.now ∷ instr_words texts.now instr.now)) (S.written out.old) (S.written out.new)
+        (S.faults out.old) (S.faults out.new) result }
 {
     match *instr {
         Instr::Push(n) => put_signed(out, at, b"push", n),
@@ -135,21 +136,24 @@ pub(crate) fn put_two<'w, S: Sink>(
 }
 
 fn put_signed<S: Sink>(out: &mut S, at: &[u8], word: &[u8], n: i64) -> Result<(), Failed>
-    ensures { Puts (line_of (at.now ∷ word.now ∷ signed_decimal n ∷ [])) (S.written out.old) (S.written out.new) (S.faults out.old) (S.faults out.new) result }
+    ensures { Puts (line_of (at.now ∷ word.now ∷ signed_decimal n ∷ [])) (S.written out.old) (S.written out.new)
+        (S.faults out.old) (S.faults out.new) result }
 {
     let mut buffer = Buffer::new();
     put_line(out, &[at, word, buffer.format(n).as_bytes()])
 }
 
 fn put_number<S: Sink>(out: &mut S, at: &[u8], word: &[u8], n: u32) -> Result<(), Failed>
-    ensures { Puts (line_of (at.now ∷ word.now ∷ decimal n ∷ [])) (S.written out.old) (S.written out.new) (S.faults out.old) (S.faults out.new) result }
+    ensures { Puts (line_of (at.now ∷ word.now ∷ decimal n ∷ [])) (S.written out.old) (S.written out.new) (S.faults out.old)
+        (S.faults out.new) result }
 {
     let mut buffer = Buffer::new();
     put_line(out, &[at, word, buffer.format(n).as_bytes()])
 }
 
 fn put_pair<S: Sink>(out: &mut S, at: &[u8], word: &[u8], m: u32, n: u32) -> Result<(), Failed>
-    ensures { Puts (line_of (at.now ∷ word.now ∷ decimal m ∷ decimal n ∷ [])) (S.written out.old) (S.written out.new) (S.faults out.old) (S.faults out.new) result }
+    ensures { Puts (line_of (at.now ∷ word.now ∷ decimal m ∷ decimal n ∷ [])) (S.written out.old) (S.written out.new)
+        (S.faults out.old) (S.faults out.new) result }
 {
     let mut first = Buffer::new();
     let mut second = Buffer::new();
@@ -158,7 +162,8 @@ fn put_pair<S: Sink>(out: &mut S, at: &[u8], word: &[u8], m: u32, n: u32) -> Res
 }
 
 fn put_call<S: Sink>(out: &mut S, at: &[u8], a: u32, p: u32, n: u32) -> Result<(), Failed>
-    ensures { Puts (line_of (at.now ∷ codes "call" ∷ decimal a ∷ decimal p ∷ decimal n ∷ [])) (S.written out.old) (S.written out.new) (S.faults out.old) (S.faults out.new) result }
+    ensures { Puts (line_of (at.now ∷ codes "call" ∷ decimal a ∷ decimal p ∷ decimal n ∷ [])) (S.written out.old)
+        (S.written out.new) (S.faults out.old) (S.faults out.new) result }
 {
     let mut addresses = Buffer::new();
     let mut arguments = Buffer::new();
@@ -172,7 +177,8 @@ fn put_call<S: Sink>(out: &mut S, at: &[u8], a: u32, p: u32, n: u32) -> Result<(
 }
 
 fn put_spot<S: Sink>(out: &mut S, at: &[u8], word: &[u8], spot: Spot) -> Result<(), Failed>
-    ensures { Puts (line_of (at.now ∷ word.now ∷ spot_words spot)) (S.written out.old) (S.written out.new) (S.faults out.old) (S.faults out.new) result }
+    ensures { Puts (line_of (at.now ∷ word.now ∷ spot_words spot)) (S.written out.old) (S.written out.new)
+        (S.faults out.old) (S.faults out.new) result }
 {
     let mut buffer = Buffer::new();
     match spot {
@@ -182,7 +188,8 @@ fn put_spot<S: Sink>(out: &mut S, at: &[u8], word: &[u8], spot: Spot) -> Result<
 }
 
 fn put_text<S: Sink>(out: &mut S, at: &[u8], text: &[u8]) -> Result<(), Failed>
-    ensures { Puts (line_of (at.now ∷ codes "text" ∷ quoted text.now ∷ [])) (S.written out.old) (S.written out.new) (S.faults out.old) (S.faults out.new) result }
+    ensures { Puts (line_of (at.now ∷ codes "text" ∷ quoted text.now ∷ [])) (S.written out.old) (S.written out.new)
+        (S.faults out.old) (S.faults out.new) result }
 {
     put_pieces(out, &[at, b" text \"", text, b"\"\n"])
 }
@@ -204,14 +211,16 @@ pub(crate) fn put_block<S: Sink>(
     block: &BlockCode,
     names: &Names,
 ) -> Result<(), Failed>
-    ensures { Puts (block_line (naming names.now) number (plain_block block.now)) (S.written out.old) (S.written out.new) (S.faults out.old) (S.faults out.new) result }
+    ensures { Puts (block_line (naming names.now) number (plain_block block.now)) (S.written out.old) (S.written out.new)
+        (S.faults out.old) (S.faults out.new) result }
 {
     put_block_place(out, number, block.line)?;
     put_block_rest(out, block, names)
 }
 
 fn put_block_place<S: Sink>(out: &mut S, number: usize, line: u32) -> Result<(), Failed>
-    ensures { Puts (codes "block" ++ spaced (decimal number ∷ codes "line" ∷ decimal line ∷ [])) (S.written out.old) (S.written out.new) (S.faults out.old) (S.faults out.new) result }
+    ensures { Puts (codes "block" ++ spaced (decimal number ∷ codes "line" ∷ decimal line ∷ [])) (S.written out.old)
+        (S.written out.new) (S.faults out.old) (S.faults out.new) result }
 {
     let mut numbers = Buffer::new();
     let mut lines = Buffer::new();
@@ -223,7 +232,10 @@ fn put_block_place<S: Sink>(out: &mut S, number: usize, line: u32) -> Result<(),
 }
 
 fn put_block_rest<S: Sink>(out: &mut S, block: &BlockCode, names: &Names) -> Result<(), Failed>
-    ensures { Puts (spaced (block_kind (naming names.now) block.now.conversation) ++ (block_limits block.now.bound block.now.restart block.now.test ++ (spaced (map decimal block.now.alternates.items) ++ 10 ∷ []))) (S.written out.old) (S.written out.new) (S.faults out.old) (S.faults out.new) result }
+    ensures { Puts
+        (spaced (block_kind (naming names.now) block.now.conversation)
+        ++ (block_limits block.now.bound block.now.restart block.now.test ++ (spaced (map decimal block.now.alternates.items) ++ 10 ∷ [])))
+        (S.written out.old) (S.written out.new) (S.faults out.old) (S.faults out.new) result }
 {
     put_block_kind(out, block.conversation, names)?;
     put_block_addresses(out, block)
@@ -234,7 +246,8 @@ fn put_block_kind<S: Sink>(
     conversation: Option<u32>,
     names: &Names,
 ) -> Result<(), Failed>
-    ensures { Puts (spaced (block_kind (naming names.now) conversation)) (S.written out.old) (S.written out.new) (S.faults out.old) (S.faults out.new) result }
+    ensures { Puts (spaced (block_kind (naming names.now) conversation)) (S.written out.old) (S.written out.new)
+        (S.faults out.old) (S.faults out.new) result }
 {
     match conversation {
         None => put(out, b" ensure"),
@@ -253,7 +266,9 @@ fn conversation_of(names: &Names, conversation: u32) -> &[u8]
 }
 
 fn put_block_addresses<S: Sink>(out: &mut S, block: &BlockCode) -> Result<(), Failed>
-    ensures { Puts (block_limits block.now.bound block.now.restart block.now.test ++ (spaced (map decimal block.now.alternates.items) ++ 10 ∷ [])) (S.written out.old) (S.written out.new) (S.faults out.old) (S.faults out.new) result }
+    ensures { Puts
+        (block_limits block.now.bound block.now.restart block.now.test ++ (spaced (map decimal block.now.alternates.items) ++ 10 ∷ []))
+        (S.written out.old) (S.written out.new) (S.faults out.old) (S.faults out.new) result }
 {
     put_limits(out, block.bound, block.restart, block.test)?;
     put_alternates_line(out, &block.alternates)
@@ -283,7 +298,8 @@ fn put_limits<S: Sink>(out: &mut S, bound: u32, restart: u32, test: u32) -> Resu
 }
 
 fn put_alternates_line<S: Sink>(out: &mut S, alternates: &[u32]) -> Result<(), Failed>
-    ensures { Puts (spaced (map decimal alternates.now) ++ 10 ∷ []) (S.written out.old) (S.written out.new) (S.faults out.old) (S.faults out.new) result }
+    ensures { Puts (spaced (map decimal alternates.now) ++ 10 ∷ []) (S.written out.old) (S.written out.new)
+        (S.faults out.old) (S.faults out.new) result }
 {
     put_alternates(out, alternates)?;
     put(out, b"\n")

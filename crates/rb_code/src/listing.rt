@@ -38,7 +38,9 @@ struct Next<'c> {
 }
 
 fn put_instrs<S: Sink>(code: &Code, out: &mut S) -> Result<(), Failed>
-    ensures { Puts (instr_lines code.now.texts.items 0 (heads_from (naming code.now.names) 0 (map part code.now.processes.items)) code.now.instrs.items) (S.written out.old) (S.written out.new) (S.faults out.old) (S.faults out.new) result }
+    ensures { Puts
+        (instr_lines code.now.texts.items 0 (heads_from (naming code.now.names) 0 (map part code.now.processes.items)) code.now.instrs.items)
+        (S.written out.old) (S.written out.new) (S.faults out.old) (S.faults out.new) result }
 {
     let mut heads = Heads {
         procedures: &[],
@@ -60,7 +62,8 @@ fn put_heads<'c, S: Sink>(
     names: &'c Names,
 ) -> Result<Heads<'c>, Failed>
     requires { heads.process + length heads.processes.now < 2 ^ 64 }
-    ensures text { Puts (lines_at address (heads_left (naming names.now) heads.entry)) (S.written out.old) (S.written out.new) (S.faults out.old) (S.faults out.new) result }
+    ensures text { Puts (lines_at address (heads_left (naming names.now) heads.entry)) (S.written out.old)
+        (S.written out.new) (S.faults out.old) (S.faults out.new) result }
     ensures past { IfOk result (λ left. heads_left (naming names.now) left ≡ heads_past address (heads_left (naming names.now) heads.entry)) }
     ensures few { IfOk result (λ left. left.process + length left.processes.now ≡ heads.entry.process + length heads.entry.processes.now) }
 {
@@ -75,9 +78,14 @@ fn put_heads<'c, S: Sink>(
 // The next head, where it stands before this address.
 fn next_at<'c>(left: Heads<'c>, address: usize, names: &'c Names) -> Option<Next<'c>>
     requires { left.process + length left.processes.now < 2 ^ 64 }
-    ensures some { IfSome result (λ next. heads_left (naming names.now) left.entry ≡ record { at = address; words = next.word.now ∷ next.name.now ∷ [] } ∷ heads_left (naming names.now) next.others) }
-    ensures few { IfSome result (λ next. next.others.process + length next.others.processes.now ≡ left.entry.process + length left.entry.processes.now) }
-    ensures none { result ≡ None → (lines_at address (heads_left (naming names.now) left.entry) ≡ []) × (heads_past address (heads_left (naming names.now) left.entry) ≡ heads_left (naming names.now) left.entry) }
+    ensures some { IfSome result
+        (λ next. heads_left (naming names.now) left.entry
+        ≡ record { at = address; words = next.word.now ∷ next.name.now ∷ [] } ∷ heads_left (naming names.now) next.others) }
+    ensures few { IfSome result
+        (λ next. next.others.process + length next.others.processes.now ≡ left.entry.process + length left.entry.processes.now) }
+    ensures none { result ≡ None
+        → (lines_at address (heads_left (naming names.now) left.entry) ≡ [])
+        × (heads_past address (heads_left (naming names.now) left.entry) ≡ heads_left (naming names.now) left.entry) }
 {
     match left.procedures {
         [] => next_process(left, address, names),
@@ -101,9 +109,14 @@ fn next_at<'c>(left: Heads<'c>, address: usize, names: &'c Names) -> Option<Next
 fn next_process<'c>(left: Heads<'c>, address: usize, names: &'c Names) -> Option<Next<'c>>
     requires few { left.process + length left.processes.now < 2 ^ 64 }
     requires none { left.procedures.now ≡ [] }
-    ensures some { IfSome result (λ next. heads_left (naming names.now) left.entry ≡ record { at = address; words = next.word.now ∷ next.name.now ∷ [] } ∷ heads_left (naming names.now) next.others) }
-    ensures few { IfSome result (λ next. next.others.process + length next.others.processes.now ≡ left.entry.process + length left.entry.processes.now) }
-    ensures none { result ≡ None → (lines_at address (heads_left (naming names.now) left.entry) ≡ []) × (heads_past address (heads_left (naming names.now) left.entry) ≡ heads_left (naming names.now) left.entry) }
+    ensures some { IfSome result
+        (λ next. heads_left (naming names.now) left.entry
+        ≡ record { at = address; words = next.word.now ∷ next.name.now ∷ [] } ∷ heads_left (naming names.now) next.others) }
+    ensures few { IfSome result
+        (λ next. next.others.process + length next.others.processes.now ≡ left.entry.process + length left.entry.processes.now) }
+    ensures none { result ≡ None
+        → (lines_at address (heads_left (naming names.now) left.entry) ≡ [])
+        × (heads_past address (heads_left (naming names.now) left.entry) ≡ heads_left (naming names.now) left.entry) }
 {
     match left.processes {
         [] => None,
@@ -135,7 +148,8 @@ fn process_of(names: &Names, process: usize) -> &[u8]
 }
 
 fn put_blocks<S: Sink>(code: &Code, out: &mut S) -> Result<(), Failed>
-    ensures { Puts (block_lines (naming code.now.names) 0 (map plain_block code.now.blocks.items)) (S.written out.old) (S.written out.new) (S.faults out.old) (S.faults out.new) result }
+    ensures { Puts (block_lines (naming code.now.names) 0 (map plain_block code.now.blocks.items)) (S.written out.old)
+        (S.written out.new) (S.faults out.old) (S.faults out.new) result }
 {
     for (number, block) in code.blocks.iter().enumerate() {
         put_block(out, number, block, &code.names)?;

@@ -8,7 +8,8 @@ use Rattle.rb_conv.specs.Laws.{AllStandByEach}
 use Rattle.rb_conv.proofs.WhoIsInside.{is_there}
 
 -- nobody stands there by the number of a process that is no member
-nobody_by : (p : ℕ) (ms : List Member) → AllByRecursion (λ q. nat_eq p q ≡ false) (map (λ (m : Member). m.process) ms) → is_there is_at_line p ms ≡ false
+nobody_by : (p : ℕ) (ms : List Member) → AllByRecursion (λ q. nat_eq p q ≡ false) (map (λ (m : Member). m.process) ms)
+    → is_there is_at_line p ms ≡ false
 nobody_by p [] h = refl
 nobody_by p (m ∷ ms) h =
     grind (arith, nat_tests, h.0, nobody_by p ms h.1)

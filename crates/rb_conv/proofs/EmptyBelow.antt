@@ -40,7 +40,8 @@ membership_kept true conversation = ap (λ (ps : List ℕ). record { members = p
 membership_kept false conversation = refl
 
 -- the same of all of them, once one was written
-pub memberships_kept : (xs : List Conversation) (d : ℕ) (e y : Conversation) → membership y ≡ membership (get_or xs d e) → memberships (set xs d y) ≡ memberships xs
+pub memberships_kept : (xs : List Conversation) (d : ℕ) (e y : Conversation) → membership y ≡ membership (get_or xs d e)
+    → memberships (set xs d y) ≡ memberships xs
 memberships_kept [] d e y h = refl
 memberships_kept (x ∷ xs) zero e y h = ap (λ (m : Membership). m ∷ memberships xs) h
 memberships_kept (x ∷ xs) (suc d) e y h = ap (λ (ms : List Membership). membership x ∷ ms) (memberships_kept xs d e y h)

@@ -11,7 +11,8 @@ pub parent_at : (conversations : List Conversation) (d : ℕ) (conversation : Co
     → conversation ≡ get_or conversations d conversation → parent_of (slice_get (memberships conversations) d) ≡ conversation.parent
 parent_at conversations d conversation h e =
     ap parent_of (slice_get-map membership conversations d)
-    ∙ ap (λ (o : Option Conversation). parent_of (option_map membership o)) (slice_get_read conversations (length conversations) d conversation refl h e)
+    ∙ ap (λ (o : Option Conversation). parent_of (option_map membership o))
+    (slice_get_read conversations (length conversations) d conversation refl h e)
 
 -- one step, with at least one left
 pub below_step : (groups : List Membership) (n i c d : ℕ) → i < n

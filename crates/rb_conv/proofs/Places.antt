@@ -11,7 +11,8 @@ set-changes f (y ∷ ys) zero x h = refl
 set-changes {A} f (y ∷ ys) (suc i) x h = ap (λ (zs : List A). y ∷ zs) (set-changes f ys i x (le_of_suc-le-suc h))
 
 -- the same of an element that was read, and written later
-pub written : {A : Type 0} (f : A → A) (xs ys : List A) (i : ℕ) (x y : A) → xs ≡ ys → i < length ys → x ≡ get_or xs i x → y ≡ f x → set xs i y ≡ change_at i f ys
+pub written : {A : Type 0} (f : A → A) (xs ys : List A) (i : ℕ) (x y : A) → xs ≡ ys → i < length ys → x ≡ get_or xs i x
+    → y ≡ f x → set xs i y ≡ change_at i f ys
 written f xs ys i x y same h read wrote =
     let h2 : i < length xs = omega (arith, h, ap length same) in
     ap (set xs i) (wrote ∙ ap f read) ∙ set-changes f xs i x h2 ∙ ap (change_at i f) same

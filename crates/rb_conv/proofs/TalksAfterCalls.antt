@@ -121,7 +121,8 @@ same_membership x y e f =
 membership_gone : (p : ℕ) (place : Place) (x : Conversation) → membership (with_members (one_goes p place x.members) x) ≡ membership x
 membership_gone p place x = same_membership (with_members (one_goes p place x.members) x) x refl (one_kept p place x.members)
 
-membership_entered : (p : ℕ) (place : Place) (x : Conversation) (b : Bool) → membership (cond b x (with_members (one_goes p place x.members) x)) ≡ membership x
+membership_entered : (p : ℕ) (place : Place) (x : Conversation) (b : Bool)
+    → membership (cond b x (with_members (one_goes p place x.members) x)) ≡ membership x
 membership_entered p place x true = refl
 membership_entered p place x false = membership_gone p place x
 
@@ -138,6 +139,7 @@ members_stay before c p = record {
   entry = map_same membership (entered p) c before (λ x. membership_entered p Inside x x.talk.is_broken);
   arrival = map_same membership (arrived p) c before (membership_gone p AtLine);
   passing = map_same membership emptied c before (membership_kept true);
-  rejection = map_same membership (put_back (has_next (conversation_at before c))) c (emptied_below c before) (membership_put_back (has_next (conversation_at before c)))
+  rejection = map_same membership (put_back (has_next (conversation_at before c))) c (emptied_below c before)
+      (membership_put_back (has_next (conversation_at before c)))
       ∙ memberships_emptied (is_below (memberships before) (length before) c) 0 before;
 }

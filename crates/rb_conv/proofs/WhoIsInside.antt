@@ -79,7 +79,8 @@ places_are_exact x p r left = record {
   entry = λ whole.
       ap (λ (b : Bool). is_inside r (cond b x (with_members (one_goes p Inside x.members) x))) whole ∙ there_gone is_within p r Inside x.members refl;
   entry_line = λ whole.
-      ap (λ (b : Bool). stands r (cond b x (with_members (one_goes p Inside x.members) x))) whole ∙ not_there_gone is_at_line p r Inside x.members refl;
+      ap (λ (b : Bool). stands r (cond b x (with_members (one_goes p Inside x.members) x))) whole
+      ∙ not_there_gone is_at_line p r Inside x.members refl;
   arrival = there_gone is_within p r AtLine x.members refl;
   arrival_line = there_gone is_at_line p r AtLine x.members refl;
   passing = nobody_there is_within r x.members refl;
@@ -101,5 +102,7 @@ pub others_stay : OthersStay
 others_stay = (
   changed_there,
   λ before c d h. emptied_at (is_below (memberships before) (length before) c) 0 before d nobody h
-      ∙ ap (λ (k : ℕ). cond (is_below (memberships before) (length before) c k) (emptied (get_or before d nobody)) (get_or before d nobody)) (omega arith),
+      ∙ ap
+      (λ (k : ℕ). cond (is_below (memberships before) (length before) c k) (emptied (get_or before d nobody)) (get_or before d nobody))
+      (omega arith),
 )

@@ -12,14 +12,16 @@ use Rattle.rb_draft.specs.Emits.{Adds, Grows, Keeps, Emits, Placed}
 use Rattle.rb_draft.proofs.Growing.{get_end, get_set, get_other, same_length, texts-added, texts-append, texts-set, numbers-append, grows_self, grows_more, keeps_self, follows_self, follows_on, follows_back, includes_front, includes_back, includes_late, includes_early}
 
 -- one template after another
-pub both : {link : Code → Instr → Instr} {m n k : ℕ} {P Q : Template} {c d e : Output} → Emits link m n P c d → Emits link n k Q d e → Emits link m k (P ⨾ Q) c e
+pub both : {link : Code → Instr → Instr} {m n k : ℕ} {P Q : Template} {c d e : Output} → Emits link m n P c d
+    → Emits link n k Q d e → Emits link m k (P ⨾ Q) c e
 both {d = d} p q = record {
   follows = follows_on p.follows q.follows;
   stands = λ w i. (length d.instrs, p.stands w (includes_front p.follows q.follows i), q.stands w (includes_back p.follows i));
 }
 
 -- the same where the second has the recovery blocks before those of the first
-pub both_back : {link : Code → Instr → Instr} {m n k : ℕ} {P Q : Template} {c d e : Output} → Emits link n k P c d → Emits link m n Q d e → Emits link m k (P ⨾ Q) c e
+pub both_back : {link : Code → Instr → Instr} {m n k : ℕ} {P Q : Template} {c d e : Output} → Emits link n k P c d
+    → Emits link m n Q d e → Emits link m k (P ⨾ Q) c e
 both_back {d = d} p q = record {
   follows = follows_back p.follows q.follows;
   stands = λ w i. (length d.instrs, p.stands w (includes_late p.follows q.follows i), q.stands w (includes_early p.follows q.follows i));
@@ -30,7 +32,8 @@ pub upto : {link : Code → Instr → Instr} {m n k : ℕ} {P : Template} {c d :
 upto {link = link} {m = m} {P = P} {c = c} {d = d} p e = subst (λ (x : ℕ). Emits link m x P c d) e p
 
 -- code of one template is code of another
-pub as_if : {link : Code → Instr → Instr} {m n : ℕ} {P Q : Template} {c d : Output} → ((w : Code) (a b : ℕ) → P w a b → Q w a b) → Emits link m n P c d → Emits link m n Q c d
+pub as_if : {link : Code → Instr → Instr} {m n : ℕ} {P Q : Template} {c d : Output}
+    → ((w : Code) (a b : ℕ) → P w a b → Q w a b) → Emits link m n P c d → Emits link m n Q c d
 as_if {c = c} {d = d} f p = record { follows = p.follows; stands = λ w i. f w (length c.instrs) (length d.instrs) (p.stands w i) }
 
 -- nothing
@@ -44,7 +47,8 @@ only n c x = record { follows = follows_self n c; stands = λ w i. (x, refl) }
 pub at : {link : Code → Instr → Instr} (n : ℕ) {label : ℕ} (c : Output) → label ≡ length c.instrs → Emits link n n (At label) c c
 at n c e = record { follows = follows_self n c; stands = λ w i. (sym e, refl) }
 
-pub labelled : {link : Code → Instr → Instr} {m n : ℕ} {P : ℕ → Template} {c d : Output} (label : ℕ) → Emits link m n (P label) c d → Emits link m n (Label P) c d
+pub labelled : {link : Code → Instr → Instr} {m n : ℕ} {P : ℕ → Template} {c d : Output} (label : ℕ)
+    → Emits link m n (P label) c d → Emits link m n (Label P) c d
 labelled label p = record { follows = p.follows; stands = λ w i. (label, p.stands w i) }
 
 pub listed : {link : Code → Instr → Instr} {m n : ℕ} {P : List ℕ → Template} {address : ℕ} {more : List ℕ} {c d : Output} → address ≡ length c.instrs
@@ -64,7 +68,8 @@ one i c d e f g t p n = record {
   };
   stands = λ w h.
       let long : length d.instrs ≡ length c.instrs + 1 = ap length e ∙ length-append c.instrs (i ∷ []) in (
-        h.instrs.has (length c.instrs) (omega arith) (omega arith) ∙ ap (λ (xs : List Instr). option_map (linked p w) (slice_get xs (length c.instrs))) e ∙ ap
+        h.instrs.has (length c.instrs) (omega arith) (omega arith)
+            ∙ ap (λ (xs : List Instr). option_map (linked p w) (slice_get xs (length c.instrs))) e ∙ ap
             (option_map (linked p w)) (get_end c.instrs i),
         long,
       );
@@ -78,13 +83,15 @@ filled_here x {p = p} {m = m} {n = n} {k = k} {P = P} {c = c} {e = e} t at q =
     let more : length d.instrs ≡ length c.instrs + 1 = length-append c.instrs (Jump 0 ∷ []) in
     let long : length (slice_set e.instrs k x) ≡ length e.instrs = same_length e.instrs k x in
     let up : length d.instrs ≤ length e.instrs = q.follows.instrs.longer in
-    let was : slice_get e.instrs k ≡ Some (Jump 0) = ap (λ i. slice_get e.instrs i) at ∙ q.follows.instrs.kept (length c.instrs) (omega arith) ∙ get_end c.instrs (Jump 0) in
+    let was : slice_get e.instrs k ≡ Some (Jump 0) =
+    ap (λ i. slice_get e.instrs i) at ∙ q.follows.instrs.kept (length c.instrs) (omega arith) ∙ get_end c.instrs (Jump 0) in
     record {
       follows = record {
         rises = q.follows.rises;
         instrs = record {
           longer = omega (arith, long);
-          kept = λ i h. get_other e.instrs k i x (λ same. absurd (omega arith)) ∙ q.follows.instrs.kept i (omega arith) ∙ (grows_more c.instrs (Jump 0 ∷ [])).kept i h;
+          kept = λ i h. get_other e.instrs k i x (λ same. absurd (omega arith)) ∙ q.follows.instrs.kept i (omega arith)
+              ∙ (grows_more c.instrs (Jump 0 ∷ [])).kept i h;
         };
         texts = q.follows.texts;
         blocks = q.follows.blocks;
@@ -92,10 +99,15 @@ filled_here x {p = p} {m = m} {n = n} {k = k} {P = P} {c = c} {e = e} t at q =
       };
       stands = λ w h.
           let first : slice_get w.instrs (length c.instrs) ≡ Some (linked p w x) =
-          h.instrs.has (length c.instrs) (omega arith) (omega (arith, long)) ∙ ap (λ i. option_map (linked p w) (slice_get (slice_set e.instrs k x) i)) (sym at) ∙ ap
+          h.instrs.has (length c.instrs) (omega arith) (omega (arith, long))
+          ∙ ap (λ i. option_map (linked p w) (slice_get (slice_set e.instrs k x) i)) (sym at) ∙ ap
           (option_map (linked p w)) (get_set e.instrs k x (omega arith)) in
           let rest : P w (length d.instrs) (length e.instrs) = q.stands w record {
-            instrs = record { has = λ i a b. h.instrs.has i (omega arith) (omega (arith, long)) ∙ ap (option_map (linked p w)) (get_other e.instrs k i x (λ same. absurd (omega arith))) };
+            instrs = record {
+              has =
+                  λ i a b. h.instrs.has i (omega arith) (omega (arith, long))
+                  ∙ ap (option_map (linked p w)) (get_other e.instrs k i x (λ same. absurd (omega arith)));
+            };
             texts = h.texts;
             blocks = h.blocks;
           } in
@@ -113,7 +125,8 @@ pub quoted : (text : List ℕ) (k : ℕ) (c d : Output) → d.instrs ≡ c.instr
 quoted text k c d f g h at p n =
     let long : length d.texts ≡ length c.texts + 1 = ap length g ∙ length-append c.texts (text ∷ []) in
     let longer : length d.instrs ≡ length c.instrs + 1 = ap length f ∙ length-append c.instrs (Text k ∷ []) in
-    let there : slice_get d.texts k ≡ Some text = ap (λ (xs : List (List ℕ)). slice_get xs k) g ∙ ap (λ i. slice_get (c.texts ++ (text ∷ [])) i) at ∙ get_end c.texts text in
+    let there : slice_get d.texts k ≡ Some text =
+    ap (λ (xs : List (List ℕ)). slice_get xs k) g ∙ ap (λ i. slice_get (c.texts ++ (text ∷ [])) i) at ∙ get_end c.texts text in
     record {
       follows = record {
         rises = omega arith;
@@ -121,13 +134,15 @@ quoted text k c d f g h at p n =
         texts = subst (λ (xs : List (List ℕ)). Grows c.texts xs) (sym g) (grows_more c.texts (text ∷ []));
         blocks = subst (λ xs. Keeps n n c.blocks xs) (sym h) (keeps_self n c.blocks);
         numbered = λ e.
-            ap text_numbers f ∙ texts-append c.instrs (Text k ∷ []) ∙ ap (λ l. l ++ (k ∷ [])) e ∙ ap (λ i. numbers_from 0 c.texts ++ (i ∷ [])) (at ∙ zero_plus (length c.texts))
+            ap text_numbers f ∙ texts-append c.instrs (Text k ∷ []) ∙ ap (λ l. l ++ (k ∷ [])) e
+            ∙ ap (λ i. numbers_from 0 c.texts ++ (i ∷ [])) (at ∙ zero_plus (length c.texts))
             ∙ sym (ap (numbers_from 0) g ∙ numbers-append 0 c.texts text);
       };
       stands = λ w i.
           let named : slice_get w.texts k ≡ Some text = i.texts.has k (omega arith) (omega arith) ∙ ap (option_map (λ t. t)) there in
           let placed : slice_get w.instrs (length c.instrs) ≡ Some (Text k) =
-          i.instrs.has (length c.instrs) (omega arith) (omega arith) ∙ ap (λ (xs : List Instr). option_map (linked p w) (slice_get xs (length c.instrs))) f ∙ ap
+          i.instrs.has (length c.instrs) (omega arith) (omega arith)
+          ∙ ap (λ (xs : List Instr). option_map (linked p w) (slice_get xs (length c.instrs))) f ∙ ap
           (option_map (linked p w)) (get_end c.instrs (Text k)) in
           (k, named, (placed, longer));
     }
@@ -147,13 +162,15 @@ settled_here {m = m} {k = k} {P = P} {c = c} {e = e} x q =
         texts = q.follows.texts;
         blocks = record {
           long = long ∙ q.follows.blocks.long;
-          kept = λ i h. get_other e.blocks m i x (λ same. h (omega arith) (omega (arith, q.follows.rises))) ∙ q.follows.blocks.kept i (λ a b. h (omega arith) b);
+          kept = λ i h. get_other e.blocks m i x (λ same. h (omega arith) (omega (arith, q.follows.rises)))
+              ∙ q.follows.blocks.kept i (λ a b. h (omega arith) b);
         };
         numbered = q.follows.numbered;
       };
       stands = λ w h.
           let there : slice_get w.blocks m ≡ Some x =
-          h.blocks.has m (omega arith) (omega (arith, q.follows.rises)) ∙ get_set e.blocks m x (omega (arith, long, h.blocks.room, q.follows.rises)) in (
+          h.blocks.has m (omega arith) (omega (arith, q.follows.rises))
+          ∙ get_set e.blocks m x (omega (arith, long, h.blocks.room, q.follows.rises)) in (
             x,
             there,
             q.stands w record {
@@ -170,7 +187,8 @@ settled_here {m = m} {k = k} {P = P} {c = c} {e = e} x q =
 pub settled_then : {link : Code → Instr → Instr} {m k number : ℕ} {P : Block → Template} {c e f : Output} (x : Block) → number ≡ m
     → f ≡ settled e number x → Emits link (m + 1) k (P x) c e → Emits link m k (WithBlock number P) c f
 settled_then {link = link} {m = m} {k = k} {number = number} {P = P} {c = c} {e = e} {f = f} x same is q =
-    let all : Emits link m k (WithBlock m P) c f = subst (λ o. Emits link m k (WithBlock m P) c o) (sym (is ∙ ap (λ i. settled e i x) same)) (settled_here x q) in
+    let all : Emits link m k (WithBlock m P) c f =
+    subst (λ o. Emits link m k (WithBlock m P) c o) (sym (is ∙ ap (λ i. settled e i x) same)) (settled_here x q) in
     subst (λ (i : ℕ). Emits link m k (WithBlock i P) c f) (sym same) all
 
 -- two places with one instruction, in either order
@@ -184,7 +202,8 @@ swapped (x ∷ xs) (suc h) (suc k) i = ap (λ l. x ∷ l) (swapped xs h k i)
 pub filled-last : (hs : List ℕ) (h : ℕ) (i : Instr) (o : Output) → filled_with (hs ++ (h ∷ [])) i o ≡ filled_with hs i (patched o h i)
 filled-last [] h i o = refl
 filled-last (g ∷ gs) h i o =
-    filled-last gs h i (patched o g i) ∙ ap (λ (xs : List Instr). filled_with gs i record { instrs = xs; texts = o.texts; blocks = o.blocks }) (swapped o.instrs g h i)
+    filled-last gs h i (patched o g i)
+    ∙ ap (λ (xs : List Instr). filled_with gs i record { instrs = xs; texts = o.texts; blocks = o.blocks }) (swapped o.instrs g h i)
 
 pub filled-length : (hs : List ℕ) (i : Instr) (o : Output) → length (filled_with hs i o).instrs ≡ length o.instrs
 filled-length [] i o = refl

@@ -63,7 +63,8 @@ texts-same (Text k ∷ xs) (suc n) x y at e = ap (λ l. k ∷ l) (texts-same xs 
 texts-same (z ∷ xs) (suc n) x y at e = texts-same xs n x y at e
 
 -- one in the place of another, and neither names a text
-pub texts-set : (xs : List Instr) (n : ℕ) (x y : Instr) → slice_get xs n ≡ Some y → is_text y ≡ false → is_text x ≡ false → text_numbers (slice_set xs n x) ≡ text_numbers xs
+pub texts-set : (xs : List Instr) (n : ℕ) (x y : Instr) → slice_get xs n ≡ Some y → is_text y ≡ false → is_text x ≡ false
+    → text_numbers (slice_set xs n x) ≡ text_numbers xs
 texts-set xs n x y at e f = texts-same xs n x y at (no_text x f ∙ sym (no_text y e))
 
 -- one number more
@@ -113,11 +114,13 @@ follows_on f g = record {
 covers_front : {A : Type 0} (form : A → A) (n : ℕ) {ys zs ws : List A} → Grows ys zs → Covers form n zs ws → Covers form n ys ws
 covers_front form n g c = record { has = λ i h k. c.has i h (omega (arith, g.longer)) ∙ ap (option_map form) (g.kept i k) }
 
-covers_back : {A : Type 0} (form : A → A) (xs : List A) {ys zs ws : List A} → Grows xs ys → Covers form (length xs) zs ws → Covers form (length ys) zs ws
+covers_back : {A : Type 0} (form : A → A) (xs : List A) {ys zs ws : List A} → Grows xs ys → Covers form (length xs) zs ws
+    → Covers form (length ys) zs ws
 covers_back form xs g c = record { has = λ i h k. c.has i (omega (arith, g.longer)) k }
 
 -- what includes all includes the first part, and the second
-pub includes_front : {link : Code → Instr → Instr} {m n k : ℕ} {c d e : Output} {w : Code} → Follows m n c d → Follows n k d e → Includes link m k c e w → Includes link m n c d w
+pub includes_front : {link : Code → Instr → Instr} {m n k : ℕ} {c d e : Output} {w : Code} → Follows m n c d
+    → Follows n k d e → Includes link m k c e w → Includes link m n c d w
 includes_front {link = link} {m = m} {n = n} {k = k} {c = c} {w = w} f g i = record {
   instrs = covers_front (link w) (length c.instrs) g.instrs i.instrs;
   texts = covers_front (λ text. text) (length c.texts) g.texts i.texts;
@@ -127,7 +130,8 @@ includes_front {link = link} {m = m} {n = n} {k = k} {c = c} {w = w} f g i = rec
   };
 }
 
-pub includes_back : {link : Code → Instr → Instr} {m n k : ℕ} {c d e : Output} {w : Code} → Follows m n c d → Includes link m k c e w → Includes link n k d e w
+pub includes_back : {link : Code → Instr → Instr} {m n k : ℕ} {c d e : Output} {w : Code} → Follows m n c d
+    → Includes link m k c e w → Includes link n k d e w
 includes_back {link = link} {c = c} {w = w} f i = record {
   instrs = covers_back (link w) c.instrs f.instrs i.instrs;
   texts = covers_back (λ text. text) c.texts f.texts i.texts;
@@ -150,7 +154,8 @@ follows_back f g = record {
   numbered = λ e. g.numbered (f.numbered e);
 }
 
-pub includes_late : {link : Code → Instr → Instr} {m n k : ℕ} {c d e : Output} {w : Code} → Follows n k c d → Follows m n d e → Includes link m k c e w → Includes link n k c d w
+pub includes_late : {link : Code → Instr → Instr} {m n k : ℕ} {c d e : Output} {w : Code} → Follows n k c d
+    → Follows m n d e → Includes link m k c e w → Includes link n k c d w
 includes_late {link = link} {c = c} {w = w} f g i = record {
   instrs = covers_front (link w) (length c.instrs) g.instrs i.instrs;
   texts = covers_front (λ text. text) (length c.texts) g.texts i.texts;
@@ -160,7 +165,8 @@ includes_late {link = link} {c = c} {w = w} f g i = record {
   };
 }
 
-pub includes_early : {link : Code → Instr → Instr} {m n k : ℕ} {c d e : Output} {w : Code} → Follows n k c d → Follows m n d e → Includes link m k c e w → Includes link m n d e w
+pub includes_early : {link : Code → Instr → Instr} {m n k : ℕ} {c d e : Output} {w : Code} → Follows n k c d
+    → Follows m n d e → Includes link m k c e w → Includes link m n d e w
 includes_early {link = link} {c = c} {w = w} f g i = record {
   instrs = covers_back (link w) c.instrs f.instrs i.instrs;
   texts = covers_back (λ text. text) c.texts f.texts i.texts;

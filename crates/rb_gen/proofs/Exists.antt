@@ -97,7 +97,8 @@ operator_made op.Rem p = makes_then p (makes_one Rem refl (λ j w. refl))
 
 -- ---- quantified expressions
 
-quantified_made : (kind : Quantifier) (k : ℕ) {low high over : Template} → Makes low → Makes high → Makes over → Makes (QuantifiedCode kind k low high over)
+quantified_made : (kind : Quantifier) (k : ℕ) {low high over : Template} → Makes low → Makes high → Makes over
+    → Makes (QuantifiedCode kind k low high over)
 quantified_made Every k low high over c =
     let l = low c in
     let h = high l.0 in
@@ -112,9 +113,11 @@ quantified_made Every k low high over c =
     let d1 = patched c9 (length c7.instrs) (Jump (length c9.instrs)) in
     let d2 = patched d1 (length b.0.instrs) (JumpZero (length c8.instrs)) in (
       patched d2 (length h.0.instrs) (Range k (length c6.instrs)),
-      every_row k {range = length h.0.instrs} {again = again} {test = length b.0.instrs} {full = length c6.instrs} {skip = length c7.instrs} {gone = length c8.instrs} {end = length c9.instrs}
+      every_row k {range = length h.0.instrs} {again = again} {test = length b.0.instrs} {full = length c6.instrs} {skip =
+          length c7.instrs} {gone = length c8.instrs} {end = length c9.instrs}
           {c5 = c5} {c7 = c7} {c8 = c8} {c9 = c9} {d1 = d1} {d2 = d2}
-          refl l.1 h.1 (refl, refl) refl b.1 (refl, refl) (add (Again k again) refl (λ j w. refl) c5) refl (add (Push (pos 1)) refl (λ j w. refl) c6) (refl, refl) refl
+          refl l.1 h.1 (refl, refl) refl b.1 (refl, refl) (add (Again k again) refl (λ j w. refl) c5) refl
+          (add (Push (pos 1)) refl (λ j w. refl) c6) (refl, refl) refl
           (add (Push (pos 0)) refl (λ j w. refl) c8) refl refl refl refl,
     )
 quantified_made Any k low high over c =
@@ -131,9 +134,11 @@ quantified_made Any k low high over c =
     let d1 = patched c9 (length c6.instrs) (Jump (length c9.instrs)) in
     let d2 = patched d1 (length b.0.instrs) (JumpZero (length c7.instrs)) in (
       patched d2 (length h.0.instrs) (Range k (length c8.instrs)),
-      some_row k {range = length h.0.instrs} {again = again} {test = length b.0.instrs} {skip = length c6.instrs} {next = length c7.instrs} {gone = length c8.instrs} {end = length c9.instrs}
+      some_row k {range = length h.0.instrs} {again = again} {test = length b.0.instrs} {skip = length c6.instrs} {next =
+          length c7.instrs} {gone = length c8.instrs} {end = length c9.instrs}
           {c5 = c5} {c7 = c7} {c8 = c8} {c9 = c9} {d1 = d1} {d2 = d2}
-          refl l.1 h.1 (refl, refl) refl b.1 (refl, refl) (add (Push (pos 1)) refl (λ j w. refl) c5) (refl, refl) refl (add (Again k again) refl (λ j w. refl) c7) refl
+          refl l.1 h.1 (refl, refl) refl b.1 (refl, refl) (add (Push (pos 1)) refl (λ j w. refl) c5) (refl, refl) refl
+          (add (Again k again) refl (λ j w. refl) c7) refl
           (add (Push (pos 0)) refl (λ j w. refl) c8) refl refl refl refl,
     )
 quantified_made Total k low high over c =
@@ -146,7 +151,8 @@ quantified_made Total k low high over c =
     let c5 = added Add b.0 in
     let c6 = added (Again k again) c5 in (
       patched c6 (length h.0.instrs) (Range k (length c6.instrs)),
-      sum_row k {range = length h.0.instrs} {again = again} {end = length c6.instrs} {c5 = c5} {c6 = c6} refl (add (Push (pos 0)) refl (λ j w. refl) c) l.1 h.1 (refl, refl) refl b.1 (add Add refl (λ j w. refl) b.0)
+      sum_row k {range = length h.0.instrs} {again = again} {end = length c6.instrs} {c5 = c5} {c6 = c6} refl
+          (add (Push (pos 0)) refl (λ j w. refl) c) l.1 h.1 (refl, refl) refl b.1 (add Add refl (λ j w. refl) b.0)
           (add (Again k again) refl (λ j w. refl) c5) refl refl,
     )
 

@@ -33,7 +33,8 @@ use Rattle.rb_gen.proofs.ProcessRows.{part_there, process_row, whole_code}
 -- ---- linking
 
 -- so many instructions from an address on are linked
-linked_some : (procedures : List Procedure) (from : ℕ) (o : Output) (k : ℕ) → from + k ≤ length o.instrs → (d : Output) × IsLinkedTo procedures from (from + k) o d
+linked_some : (procedures : List Procedure) (from : ℕ) (o : Output) (k : ℕ) → from + k ≤ length o.instrs
+    → (d : Output) × IsLinkedTo procedures from (from + k) o d
 linked_some procedures from o zero h = (o, subst (λ (n : ℕ). IsLinkedTo procedures from n o o) (omega arith) (linked_init procedures from o))
 linked_some procedures from o (suc k) h =
     let before = linked_some procedures from o k (omega arith) in
@@ -59,17 +60,22 @@ linked_made : (procedures : List Procedure) (from : ℕ) (o : Output) → (d : O
 linked_made procedures from o = by (rest_to from (length o.instrs))
   where
     by : ((k : ℕ) × (from + k ≡ length o.instrs)) ⊎ (length o.instrs ≤ from) → (d : Output) × IsLinked procedures from o d
-    by (inl (k, e)) = let l = linked_some procedures from o k (omega (arith, e)) in (l.0, linked_all procedures from (from + k) (omega (arith, e)) l.1)
+    by (inl (k, e)) = let l =
+        linked_some procedures from o k (omega (arith, e)) in (l.0, linked_all procedures from (from + k) (omega (arith, e)) l.1)
     by (inr h) = (o, linked_all procedures from from h (linked_init procedures from o))
 
 -- ---- procedures
 
 module _ (slots : List Slot) (words : List ℕ) where
   -- the statements of a procedure
-  inside_made : (x : Body) (c : Output) → (d : Output) × ((s : Setting words) (n : ℕ) → BodyGiven s.tree slots n x → Emits (linked s.owner.number) n (n + blocks_in_body x) (CommandsCode s.tree slots s.owner (commands_of x)) c d)
+  inside_made : (x : Body) (c : Output)
+      → (d : Output) ×
+      ((s : Setting words) (n : ℕ) → BodyGiven s.tree slots n x
+      → Emits (linked s.owner.number) n (n + blocks_in_body x) (CommandsCode s.tree slots s.owner (commands_of x)) c d)
   inside_made (Scope variables commands) c = commands_made slots words commands c
 
-  procedures_made : (x : List ProcedureDeclaration) (c : Output) → (entries : List Procedure) × (d : Output) × WritesProcedures slots words x entries c d
+  procedures_made : (x : List ProcedureDeclaration) (c : Output)
+      → (entries : List Procedure) × (d : Output) × WritesProcedures slots words x entries c d
   procedures_made [] c = ([], c, λ s n g. upto (record { follows = follows_self n c; stands = λ w i. (refl, refl) }) (omega arith))
   procedures_made (procedure ∷ others) c =
       let m = inside_made procedure.body c in
@@ -78,14 +84,19 @@ module _ (slots : List Slot) (words : List ℕ) where
         entry ∷ o.0,
         o.1,
         λ s n (g, k).
-            let all : Emits (linked s.owner.number) n ((n + blocks_in_body procedure.body) + blocks_in_procedures others) (CommandsCode s.tree slots s.owner (commands_of procedure.body) ⨾ One Return ⨾ ProceduresCode s.tree slots s.owner others o.0) c o.1 =
-            both (m.1 s n g) (both (add Return refl (λ j w. refl) m.0 s.owner.number (n + blocks_in_body procedure.body)) (o.2 s (n + blocks_in_body procedure.body) k)) in
+            let all : Emits (linked s.owner.number) n ((n + blocks_in_body procedure.body) + blocks_in_procedures others)
+            (CommandsCode s.tree slots s.owner
+            (commands_of procedure.body) ⨾ One Return ⨾ ProceduresCode s.tree slots s.owner others o.0) c o.1 =
+            both (m.1 s n g)
+            (both (add Return refl (λ j w. refl) m.0 s.owner.number (n + blocks_in_body procedure.body))
+            (o.2 s (n + blocks_in_body procedure.body) k)) in
             upto (record { follows = all.follows; stands = λ w i. (o.0, refl, all.stands w i) }) (omega arith),
       )
 
 -- ---- processes
 
-process_made : (slots : List Slot) (process : ProcessDeclaration) (c : Output) → (entries : List Procedure) × (d : Output) × WritesProcess slots process entries c d
+process_made : (slots : List Slot) (process : ProcessDeclaration) (c : Output)
+    → (entries : List Procedure) × (d : Output) × WritesProcess slots process entries c d
 process_made slots process c =
     let words = map room_of process.procedures in
     let m = commands_made slots words process.commands c in
@@ -109,14 +120,27 @@ module _ (slots : List Slot) (ends : List Ends) where
         o.1,
         λ tree known n (g, k).
             let first : Emits as_it_is n (n + blocks_in_process process) (ProcessTemplate tree slots p process m.0) c m.1 = m.2 tree p n g in
-            let behind : Emits as_it_is (n + blocks_in_process process) ((n + blocks_in_process process) + blocks_in_processes others) (λ w a b. HasParts (p + 1) o.0 w → ProcessesCode tree slots (p + 1) others o.0 w a b) m.1 o.1 =
+            let behind : Emits as_it_is (n + blocks_in_process process)
+            ((n + blocks_in_process process) + blocks_in_processes others)
+            (λ w a b. HasParts (p + 1) o.0 w → ProcessesCode tree slots (p + 1) others o.0 w a b) m.1 o.1 =
             o.2 tree known (n + blocks_in_process process) k in
             let all = both first behind in
             upto (record {
               follows = all.follows;
               stands = λ w i (there, others_there).
-                  let (q, body, rest) = all.stands w i in
-                  (part, o.0, refl, (q, (record { start_is = refl; words_are = refl; channels_are = ap (channels_from p 0) known }, body (ap (λ x. x.procedures) (part_there w p part there))), rest others_there));
+                  let (q, body, rest) = all.stands w i in (
+                    part,
+                    o.0,
+                    refl,
+                    (
+                      q,
+                      (
+                        record { start_is = refl; words_are = refl; channels_are = ap (channels_from p 0) known },
+                        body (ap (λ x. x.procedures) (part_there w p part there)),
+                      ),
+                      rest others_there,
+                    ),
+                  );
             }) (omega arith),
       )
 
@@ -142,9 +166,11 @@ code_exists tree slots resolved numbered =
     } in
     let given : ProcessesGiven tree slots 0 tree.processes = processes_given tree slots 0 0 tree.processes numbered.processes
     (λ i process is. subst (λ (k : ℕ). ProcessInFrames tree slots k process) (omega arith) (resolved.processes i process is)) in
-    let emits : Emits as_it_is 0 (0 + blocks_in_processes tree.processes) (λ w a b. HasParts 0 parts w → ProcessesCode tree slots 0 tree.processes parts w a b) start end =
+    let emits : Emits as_it_is 0 (0 + blocks_in_processes tree.processes)
+    (λ w a b. HasParts 0 parts w → ProcessesCode tree slots 0 tree.processes parts w a b) start end =
     made.2 tree refl 0 given in
-    let many : 0 + blocks_in_processes tree.processes ≡ length start.blocks = omega (arith, numbered.blocks, length-replicate tree.blocks no_block) in (
+    let many : 0 + blocks_in_processes tree.processes ≡ length start.blocks =
+    omega (arith, numbered.blocks, length-replicate tree.blocks no_block) in (
       c,
       record {
         edition_is = refl;

@@ -63,24 +63,31 @@ module _ (slots : List Slot) where
   arguments_made (argument ∷ arguments) = makes_then (expression_made slots argument) (arguments_made arguments)
 
   module _ (words : List ℕ) where
-    call_made : (name : Identifier) (arguments : List Expression) (c : Output) → (d : Output) × ((s : Setting words) (n : ℕ) → Emits (linked s.owner.number) n n (CallCode slots s.owner name arguments) c d)
+    call_made : (name : Identifier) (arguments : List Expression) (c : Output)
+        → (d : Output) × ((s : Setting words) (n : ℕ) → Emits (linked s.owner.number) n n (CallCode slots s.owner name arguments) c d)
     call_made name arguments c =
         let before = makes_then turn_made (arguments_made arguments) c in
         let number = procedure_of slots name.id in
         let d = added (Call number (length arguments) (get_or words number 0)) before.0 in (
           d,
           λ s n.
-              let sized : get_or words number 0 ≡ procedure_words s.owner.procedures number = ap (λ ws. get_or ws number 0) s.sized ∙ words_known s.owner.procedures number in
-              let call : Emits (linked s.owner.number) n n (Called s.owner.number number (length arguments) (procedure_words s.owner.procedures number)) before.0 d =
+              let sized : get_or words number 0 ≡ procedure_words s.owner.procedures number =
+              ap (λ ws. get_or ws number 0) s.sized ∙ words_known s.owner.procedures number in
+              let call : Emits (linked s.owner.number) n n
+              (Called s.owner.number number (length arguments) (procedure_words s.owner.procedures number)) before.0 d =
               subst (λ (k : ℕ). Emits (linked s.owner.number) n n (Called s.owner.number number (length arguments) k) before.0 d) sized
               (one (Call number (length arguments) (get_or words number 0)) before.0 d refl refl refl refl s.owner.number n) in
               as_if (λ w a b (m, (k, first, rest), last). (k, first, (m, rest, last))) (both (before.1 s.owner.number n) call),
         )
 
     -- an `else`, with its address, behind whose jump its block was added
-    else_of : (other : Body) (c : Output) → ((d : Output) × WritesBody slots words other (added (Jump 0) c) d) → (address : ℕ) × (d : Output) × WritesElse slots words address other c d
-    else_of other c b =
-        (length (added (Jump 0) c).instrs, patched b.0 (length c.instrs) (Jump (length b.0.instrs)), else_row slots words other (refl, refl) refl b.1 refl refl)
+    else_of : (other : Body) (c : Output) → ((d : Output) × WritesBody slots words other (added (Jump 0) c) d)
+        → (address : ℕ) × (d : Output) × WritesElse slots words address other c d
+    else_of other c b = (
+      length (added (Jump 0) c).instrs,
+      patched b.0 (length c.instrs) (Jump (length b.0.instrs)),
+      else_row slots words other (refl, refl) refl b.1 refl refl,
+    )
 
     mutual
       pub command_made : (x : Command) (c : Output) → (d : Output) × WritesCommand slots words x c d
@@ -102,8 +109,10 @@ module _ (slots : List Slot) where
           let number = channel_of slots channel.id in
           let turn = added Turn c in
           let m = store_made to (makes_one (Take number) refl (λ j w. refl)) (added (Jump 0) turn) in
-          let e = else_of other m.0 (body_made other (added (Jump 0) m.0)) in
-          (patched e.1 (length turn.instrs) (Absent number e.0), received_else slots words refl refl (add Turn refl (λ j w. refl) c) (refl, refl) m.1 e.2 refl)
+          let e = else_of other m.0 (body_made other (added (Jump 0) m.0)) in (
+            patched e.1 (length turn.instrs) (Absent number e.0),
+            received_else slots words refl refl (add Turn refl (λ j w. refl) c) (refl, refl) m.1 e.2 refl,
+          )
       command_made (Conditional test body NoElse) c =
           let m = makes_then turn_made (expression_made slots test) c in
           let b = body_made body (added (Jump 0) m.0) in
@@ -164,14 +173,17 @@ module _ (slots : List Slot) where
           )
 
       -- Alternates, at these addresses, before an acceptance test at any address; and where they end.
-      alternates_made : (x : Alternates) (c : Output) → (addresses : List ℕ) × (end : ℕ) × ((t : ℕ) → (d : Output) × WritesAlternates slots words x addresses t c d × (length d.instrs ≡ end))
+      alternates_made : (x : Alternates) (c : Output)
+          → (addresses : List ℕ) × (end : ℕ)
+          × ((t : ℕ) → (d : Output) × WritesAlternates slots words x addresses t c d × (length d.instrs ≡ end))
       alternates_made NoAlternate c = ([], length c.instrs, λ t. (c, no_alternate slots words t [] c refl refl, refl))
       alternates_made (Alternate body others) c =
           let b = body_made body c in
           let o = others_made others b.0 in
           (length c.instrs ∷ o.0, o.1, λ t. let d = o.2 t in (d.0, first_alternate slots words t (length c.instrs) o.0 refl refl b.1 d.1, d.2))
 
-      others_made : (x : Alternates) (c : Output) → (addresses : List ℕ) × (end : ℕ) × ((t : ℕ) → (d : Output) × WritesOthers slots words x addresses t c d × (length d.instrs ≡ end))
+      others_made : (x : Alternates) (c : Output)
+          → (addresses : List ℕ) × (end : ℕ) × ((t : ℕ) → (d : Output) × WritesOthers slots words x addresses t c d × (length d.instrs ≡ end))
       others_made NoAlternate c = ([], length c.instrs, λ t. (c, no_other slots words t c refl, refl))
       others_made (Alternate body others) c =
           let jump = added (Jump 0) c in

@@ -56,7 +56,8 @@ linked_step procedures from at x {o = o} {c = c} {d = d} inside there is h =
     y : Instr
     y = linked_to procedures x
 
-pub linked_all : (procedures : List Procedure) (from to : ℕ) {o d : Output} → length o.instrs ≤ to → IsLinkedTo procedures from to o d → IsLinked procedures from o d
+pub linked_all : (procedures : List Procedure) (from to : ℕ) {o d : Output} → length o.instrs ≤ to
+    → IsLinkedTo procedures from to o d → IsLinked procedures from o d
 linked_all procedures from to many h = record {
   long = h.long;
   before = h.before;

@@ -38,12 +38,14 @@ module _ (slots : List Slot) (words : List ℕ) where
   -- whatever stands for the procedures that are left completes those that are there
   abbrev pub CompletesProcedures : List ProcedureDeclaration → List ProcedureDeclaration → List Procedure → Output → Output → Type 0
   CompletesProcedures all rest entries o d =
-      (after : Output) (more : List Procedure) → WritesProcedures slots words rest more d after → WritesProcedures slots words all (entries ++ more) o after
+      (after : Output) (more : List Procedure) → WritesProcedures slots words rest more d after
+      → WritesProcedures slots words all (entries ++ more) o after
 
   pub procedures_step : (all others : List ProcedureDeclaration) (held : Held) {rest : List ProcedureDeclaration} {o d e f : Output} (start : ℕ)
       (entries entries' : List Procedure) → rest ≡ procedure_declaration held ∷ others → start ≡ length d.instrs → WritesCommands slots words
       (plain_commands held.block.body.items) d e → Adds (One Return) e f
-      → entries' ≡ entries ++ (record { name = held.name.text.now; start = start } ∷ []) → CompletesProcedures all rest entries o d → CompletesProcedures all others entries' o f
+      → entries' ≡ entries ++ (record { name = held.name.text.now; start = start } ∷ [])
+      → CompletesProcedures all rest entries o d → CompletesProcedures all others entries' o f
   procedures_step all others held {o = o} {d = d} start entries entries' is here p q these completes = λ after more h.
       let procedure = procedure_declaration held in
       let entry : ℕ → Procedure = λ i. record { name = held.name.text.now; start = i } in
@@ -59,8 +61,10 @@ module _ (slots : List Slot) (words : List ℕ) where
   pub procedures_end : (all : List ProcedureDeclaration) {rest : List ProcedureDeclaration} {o d : Output} (entries : List Procedure) → rest ≡ []
       → CompletesProcedures all rest entries o d → WritesProcedures slots words all entries o d
   procedures_end all {o = o} {d = d} entries is completes =
-      let none : WritesProcedures slots words [] [] d d = λ s n g. upto (record { follows = follows_self n d; stands = λ w i. (refl, refl) }) (omega arith) in
-      subst (λ xs. WritesProcedures slots words all xs o d) (append-none entries) (completes d [] (subst (λ l. WritesProcedures slots words l [] d d) (sym is) none))
+      let none : WritesProcedures slots words [] [] d d =
+      λ s n g. upto (record { follows = follows_self n d; stands = λ w i. (refl, refl) }) (omega arith) in
+      subst (λ xs. WritesProcedures slots words all xs o d) (append-none entries)
+      (completes d [] (subst (λ l. WritesProcedures slots words l [] d d) (sym is) none))
 
 -- a process, whose calls are linked
 linked_process : (p m k : ℕ) (entries : List Procedure) {P : Template} {c d e : Output} → Emits (linked p) m k P c d
@@ -82,7 +86,11 @@ linked_process p m k entries {P = P} {c = c} {d = d} {e = e} emits links = recor
           has = λ j a b. i.instrs.has j a (omega (arith, links.long)) ∙ same (slice_get e.instrs j) ∙ links.behind j a b ∙ ap
               (λ l. option_map (linked_to l) (slice_get d.instrs j)) (sym there);
         };
-        texts = record { has = λ j a b. subst (λ xs. (j < length xs → slice_get w.texts j ≡ option_map (λ t. t) (slice_get xs j))) links.texts (i.texts.has j a) b };
+        texts = record {
+          has =
+              λ j a b. subst (λ xs. (j < length xs → slice_get w.texts j ≡ option_map (λ t. t) (slice_get xs j))) links.texts
+              (i.texts.has j a) b;
+        };
         blocks = subst (λ xs. Settles m k xs w.blocks) links.blocks i.blocks;
       } in
       subst (λ j. P w (length c.instrs) j) (sym links.long) stood;
@@ -92,7 +100,8 @@ linked_process p m k entries {P = P} {c = c} {d = d} {e = e} emits links = recor
 pub same_commands : (slots : List Slot) {words w : List ℕ} {xs ys : List Statement} {c d : Output} → w ≡ words → xs ≡ ys
     → WritesCommands slots w (plain_commands xs) c d → WritesCommands slots words (plain_commands ys) c d
 same_commands slots {words = words} {xs = xs} {c = c} {d = d} e f p =
-    subst (λ (l : List Statement). WritesCommands slots words (plain_commands l) c d) f (subst (λ (l : List ℕ). WritesCommands slots l (plain_commands xs) c d) e p)
+    subst (λ (l : List Statement). WritesCommands slots words (plain_commands l) c d) f
+    (subst (λ (l : List ℕ). WritesCommands slots l (plain_commands xs) c d) e p)
 
 pub same_procedures : (slots : List Slot) (entries : List Procedure) {words w : List ℕ} {xs ys : List Held} {c d : Output} → w ≡ words → xs ≡ ys
     → WritesProcedures slots w (map procedure_declaration xs) entries c d → WritesProcedures slots words (map procedure_declaration ys) entries c d
@@ -109,7 +118,9 @@ pub process_row : (slots : List Slot) (words : List ℕ) (process : ProcessDecla
 process_row slots words process entries sized body done procedures links = λ tree p n (g, h).
     let s : Setting words = record { tree = tree; owner = record { number = p; procedures = process.procedures }; sized = sized } in
     let m = n + blocks_in_procedures process.procedures in
-    upto (linked_process p n (m + blocks_in process.commands) entries (both_back (body s m h) (both_back (done p m) (procedures s n g))) links) (omega arith)
+    upto
+    (linked_process p n (m + blocks_in process.commands) entries (both_back (body s m h) (both_back (done p m) (procedures s n g))) links)
+    (omega arith)
 
 -- the part of a process that the whole code has
 pub part_there : (w : Code) (p : ℕ) (part : Part) → slice_get w.processes p ≡ Some part → part_of w p ≡ part
@@ -121,11 +132,14 @@ module _ (slots : List Slot) (ends : List Ends) where
   CompletesProcesses all p rest parts o d =
       (after : Output) (more : List Part) → WritesProcesses slots ends p rest more d after → WritesProcesses slots ends 0 all (parts ++ more) o after
 
-  pub processes_step : (all others : List ProcessDeclaration) (process : ProcessDeclaration) {rest : List ProcessDeclaration} {o d e : Output} (p q : ℕ) (part : Part) (parts parts' : List Part)
+  pub processes_step : (all others : List ProcessDeclaration)
+      (process : ProcessDeclaration) {rest : List ProcessDeclaration} {o d e : Output} (p q : ℕ) (part : Part)
+      (parts parts' : List Part)
       → rest ≡ process ∷ others → q ≡ p + 1 → part.start ≡ length d.instrs → part.words ≡ frame_words (frame_of process.variables)
       → part.channels ≡ channels_from p 0 ends → WritesProcess slots process part.procedures d e → parts' ≡ parts ++ (part ∷ [])
       → CompletesProcesses all p rest parts o d → CompletesProcesses all q others parts' o e
-  processes_step all others process {o = o} {d = d} {e = e} p q part parts parts' is next start sizes channels inside these completes = λ after more h.
+  processes_step all others process {o = o} {d = d} {e = e} p q part parts parts' is next start sizes channels inside these completes =
+      λ after more h.
       let one : WritesProcesses slots ends p (process ∷ others) (part ∷ more) d after = λ tree known n (g, k).
       let first : Emits as_it_is n (n + blocks_in_process process) (ProcessTemplate tree slots p process part.procedures) d e = inside tree p n g in
       let rest : Emits as_it_is (n + blocks_in_process process) ((n + blocks_in_process process) + blocks_in_processes others)
@@ -158,15 +172,18 @@ module _ (slots : List Slot) (ends : List Ends) where
   pub processes_end : (all : List ProcessDeclaration) {rest : List ProcessDeclaration} {o d : Output} (p : ℕ) (parts : List Part) → rest ≡ []
       → CompletesProcesses all p rest parts o d → WritesProcesses slots ends 0 all parts o d
   processes_end all {o = o} {d = d} p parts is completes =
-      let none : WritesProcesses slots ends p [] [] d d = λ tree known n g. upto (record { follows = follows_self n d; stands = λ w i there. (refl, refl) }) (omega arith) in
-      subst (λ xs. WritesProcesses slots ends 0 all xs o d) (append-none parts) (completes d [] (subst (λ l. WritesProcesses slots ends p l [] d d) (sym is) none))
+      let none : WritesProcesses slots ends p [] [] d d =
+      λ tree known n g. upto (record { follows = follows_self n d; stands = λ w i there. (refl, refl) }) (omega arith) in
+      subst (λ xs. WritesProcesses slots ends 0 all xs o d) (append-none parts)
+      (completes d [] (subst (λ l. WritesProcesses slots ends p l [] d d) (sym is) none))
 
 -- a list has its own elements, from any place on
 has_parts : (w : Code) (before parts : List Part) → w.processes ≡ before ++ parts → HasParts (length before) parts w
 has_parts w before [] is = tt
 has_parts w before (part ∷ parts) is = (
   ap (λ xs. slice_get xs (length before)) is ∙ there before part parts,
-  subst (λ i. HasParts i parts w) (length-append before (part ∷ [])) (has_parts w (before ++ (part ∷ [])) parts (is ∙ sym (append_assoc before (part ∷ []) parts))),
+  subst (λ i. HasParts i parts w) (length-append before (part ∷ []))
+      (has_parts w (before ++ (part ∷ [])) parts (is ∙ sym (append_assoc before (part ∷ []) parts))),
 )
   where
     there : (before : List Part) (part : Part) (parts : List Part) → slice_get (before ++ (part ∷ parts)) (length before) ≡ Some part
@@ -188,14 +205,17 @@ whole_code w to parts {P = P} {c = c} {d = d} emits none many instrs texts block
 -- code of a program is code that stands for it
 pub program_row : (tree : Tree) (slots : List Slot) (w : Code) (ends : List Ends) {c d : Output} → Resolved tree slots → IsNumbered tree
     → WritesProcesses slots ends 0 tree.processes w.processes c d → ends ≡ map (ends_by slots) tree.channels → c.instrs ≡ [] → c.texts ≡ []
-    → length c.blocks ≡ tree.blocks → w.edition ≡ tree.edition → w.names ≡ naming_of tree → w.channels ≡ ends → w.instrs ≡ d.instrs → w.texts ≡ d.texts
+    → length c.blocks ≡ tree.blocks → w.edition ≡ tree.edition → w.names ≡ naming_of tree → w.channels ≡ ends
+    → w.instrs ≡ d.instrs → w.texts ≡ d.texts
     → w.blocks ≡ d.blocks → StandsFor tree slots w
 program_row tree slots w ends {c = c} {d = d} resolved numbered writes by_slots no_instr no_text_yet many edition names channels instrs texts blocks =
     let known : ends ≡ channels_of tree = by_slots ∙ ends_given tree slots tree.channels resolved.channels in
     let given : ProcessesGiven tree slots 0 tree.processes =
-    processes_given tree slots 0 0 tree.processes numbered.processes (λ i process is. subst (λ (k : ℕ). ProcessInFrames tree slots k process) (omega arith) (resolved.processes i process is)) in
+    processes_given tree slots 0 0 tree.processes numbered.processes
+    (λ i process is. subst (λ (k : ℕ). ProcessInFrames tree slots k process) (omega arith) (resolved.processes i process is)) in
     let to = 0 + blocks_in_processes tree.processes in
-    let emits : Emits as_it_is 0 to (λ x a b. HasParts 0 w.processes x → ProcessesCode tree slots 0 tree.processes w.processes x a b) c d = writes tree known 0 given in
+    let emits : Emits as_it_is 0 to (λ x a b. HasParts 0 w.processes x → ProcessesCode tree slots 0 tree.processes w.processes x a b) c d =
+    writes tree known 0 given in
     record {
       edition_is = edition;
       names_are = names;
@@ -203,5 +223,6 @@ program_row tree slots w ends {c = c} {d = d} resolved numbered writes by_slots 
       instrs_are = whole_code w to w.processes emits no_instr (omega (arith, numbered.blocks)) instrs texts blocks refl;
       one_block_each = ap length blocks ∙ emits.follows.blocks.long ∙ many;
       one_text_each =
-          ap text_numbers instrs ∙ emits.follows.numbered (ap text_numbers no_instr ∙ sym (ap (numbers_from 0) no_text_yet)) ∙ ap (numbers_from 0) (sym texts);
+          ap text_numbers instrs ∙ emits.follows.numbered (ap text_numbers no_instr ∙ sym (ap (numbers_from 0) no_text_yet))
+          ∙ ap (numbers_from 0) (sym texts);
     }

@@ -16,8 +16,10 @@ pub every_row : {low high body : Template} (counter : ℕ) {k range again test f
     → Adds (One (Again counter again)) c5 c6 → full ≡ length c6.instrs → Adds (One (Push (pos 1))) c6 c7 → Left skip c7 c8 → gone ≡ length c8.instrs
     → Adds (One (Push (pos 0))) c8 c9 → end ≡ length c9.instrs → d1 ≡ patched c9 skip (Jump end) → d2 ≡ patched d1 test (JumpZero gone)
     → d3 ≡ patched d2 range (Range counter full) → Adds (EveryCode k low high body) c d3
-every_row {low = L} {high = H} {body = B} counter {again = again} {full = full} {gone = gone} {end = end} {c = c} {c3 = c3} {c6 = c6} {c8 = c8} {c9 = c9}
-    {d3 = d3} same low high ranges here body tests goes at_yes one skips at_no zero at_end p1 p2 p3 = subst (λ (i : ℕ). Adds (EveryCode i L H B) c d3) same (λ p n.
+every_row {low = L} {high = H} {body = B} counter {again = again} {full = full} {gone = gone} {end = end} {c = c} {c3 =
+    c3} {c6 = c6} {c8 = c8} {c9 = c9}
+    {d3 = d3} same low high ranges here body tests goes at_yes one skips at_no zero at_end p1 p2 p3 =
+    subst (λ (i : ℕ). Adds (EveryCode i L H B) c d3) same (λ p n.
     labelled again (labelled gone (labelled full (labelled end
     (both (low p n) (both (high p n) (filled (Range counter full) refl ranges p3
     (both (at n c3 here) (both (body p n) (filled (JumpZero gone) refl tests p2
@@ -29,8 +31,10 @@ pub some_row : {low high body : Template} (counter : ℕ) {k range again test sk
     → Adds (One (Push (pos 1))) c5 c6 → Left skip c6 c7 → next ≡ length c7.instrs → Adds (One (Again counter again)) c7 c8 → gone ≡ length c8.instrs
     → Adds (One (Push (pos 0))) c8 c9 → end ≡ length c9.instrs → d1 ≡ patched c9 skip (Jump end) → d2 ≡ patched d1 test (JumpZero next)
     → d3 ≡ patched d2 range (Range counter gone) → Adds (SomeCode k low high body) c d3
-some_row {low = L} {high = H} {body = B} counter {again = again} {next = next} {gone = gone} {end = end} {c = c} {c3 = c3} {c7 = c7} {c8 = c8} {c9 = c9}
-    {d3 = d3} same low high ranges here body tests one skips at_next goes at_no zero at_end p1 p2 p3 = subst (λ (i : ℕ). Adds (SomeCode i L H B) c d3) same (λ p n.
+some_row {low = L} {high = H} {body = B} counter {again = again} {next = next} {gone = gone} {end = end} {c = c} {c3 =
+    c3} {c7 = c7} {c8 = c8} {c9 = c9}
+    {d3 = d3} same low high ranges here body tests one skips at_next goes at_no zero at_end p1 p2 p3 =
+    subst (λ (i : ℕ). Adds (SomeCode i L H B) c d3) same (λ p n.
     labelled again (labelled next (labelled gone (labelled end
     (both (low p n) (both (high p n) (filled (Range counter gone) refl ranges p3
     (both (at n c3 here) (both (body p n) (filled (JumpZero next) refl tests p2

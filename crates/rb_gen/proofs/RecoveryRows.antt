@@ -19,7 +19,8 @@ use Rattle.rb_draft.proofs.Emits.{at, both, filled, filled-last, filled-length, 
 
 module _ (slots : List Slot) (words : List ℕ) where
   -- a recovery block, whose entry is settled behind its code
-  pub recovered : {x : RecoveryBlock} (number : ℕ) (conversation : Option Identifier) (place : Place) (test : Expression) (limit : Number) (alternates : Alternates)
+  pub recovered : {x : RecoveryBlock} (number : ℕ) (conversation : Option Identifier) (place : Place) (test : Expression)
+      (limit : Number) (alternates : Alternates)
       (entry : Block) {c c1 c2 c3 c4 c5 c6 c7 c8 f : Output}
       → x ≡ Recovers number conversation place test limit alternates → entry.line ≡ place.line → entry.conversation ≡ joined_of slots conversation
       → entry.bound ≡ natural limit.value → Adds (One Turn) c c1 → Adds (One (Enter number)) c1 c2 → entry.restart ≡ length c2.instrs
@@ -27,7 +28,8 @@ module _ (slots : List Slot) (words : List ℕ) where
       → entry.test ≡ length c5.instrs → Adds (One Turn) c5 c6 → Adds (ExpressionCode slots test) c6 c7 → Adds (One (Test number)) c7 c8
       → f ≡ settled c8 number entry → WritesRecovery slots words x c f
   unfolding CommandCode BlockCode AlternatesCode
-  recovered number conversation place test limit alternates entry {c = c} {c2 = c2} {c5 = c5} {f = f} is line joined bound turn enter restart turn2 start inside testing turn3 value tests settles =
+  recovered number conversation place test limit alternates entry {c = c} {c2 = c2} {c5 = c5} {f =
+      f} is line joined bound turn enter restart turn2 start inside testing turn3 value tests settles =
       subst (λ x. WritesRecovery slots words x c f) (sym is) (λ s n (numbered, conversation_is, given).
       let p = s.owner.number in
       let m = n + 1 in
@@ -37,9 +39,11 @@ module _ (slots : List Slot) (words : List ℕ) where
       (both (turn p m) (both (enter p m) (both (at m c2 restart) (both (turn2 p m) (both (start p m)
       (both (inside s m given) (both (at k c5 testing) (both (turn3 p k) (both (value p k) (tests p k)))))))))))) (omega arith))
 
-  pub no_alternate : (t : ℕ) {a : Alternates} (addresses : List ℕ) (c : Output) → a ≡ NoAlternate → addresses ≡ [] → WritesAlternates slots words a addresses t c c
+  pub no_alternate : (t : ℕ) {a : Alternates} (addresses : List ℕ) (c : Output) → a ≡ NoAlternate → addresses ≡ []
+      → WritesAlternates slots words a addresses t c c
   unfolding AlternatesCode
-  no_alternate t addresses c is none = subst (λ x. WritesAlternates slots words x addresses t c c) (sym is) (λ s n g. upto (only n c none) (omega arith))
+  no_alternate t addresses c is none =
+      subst (λ x. WritesAlternates slots words x addresses t c c) (sym is) (λ s n g. upto (only n c none) (omega arith))
 
   pub no_other : (t : ℕ) {a : Alternates} (c : Output) → a ≡ NoAlternate → WritesOthers slots words a [] t c c
   unfolding OthersCode AlternatesCode
@@ -50,7 +54,8 @@ module _ (slots : List Slot) (words : List ℕ) where
       → WritesAlternates slots words a (address ∷ more) t c e
   unfolding AlternatesCode OthersCode BodyCode
   first_alternate t address more {b = b} {c = c} {e = e} is here p q =
-      subst (λ x. WritesAlternates slots words x (address ∷ more) t c e) (sym is) (λ s n (g, h). upto (listed here (both (p s n g) (q s (n + blocks_in_body b) h))) (omega arith))
+      subst (λ x. WritesAlternates slots words x (address ∷ more) t c e) (sym is)
+      (λ s n (g, h). upto (listed here (both (p s n g) (q s (n + blocks_in_body b) h))) (omega arith))
 
   -- a further alternate, whose jump is written once the address of the test is known
   pub further : (t address place : ℕ) (more : List ℕ) {a others : Alternates} {b : Body} {c d e f : Output} → a ≡ Alternate b others
@@ -64,7 +69,8 @@ module _ (slots : List Slot) (words : List ℕ) where
   -- Whatever stands for the alternates that are left, at these addresses, completes those that are there, once the jumps are written.
   abbrev pub Completes : Alternates → Alternates → List ℕ → List ℕ → Output → Output → Type 0
   Completes all rest addresses places o d =
-      (after : Output) (t : ℕ) (more : List ℕ) → WritesOthers slots words rest more t d after → WritesAlternates slots words all (addresses ++ more) t o (filled_with places (Jump t) after)
+      (after : Output) (t : ℕ) (more : List ℕ) → WritesOthers slots words rest more t d after
+      → WritesAlternates slots words all (addresses ++ more) t o (filled_with places (Jump t) after)
 
   -- the first alternate
   pub alternates_init : {a : Alternates} (others : Alternates) {b : Body} {c d : Output} (address : ℕ) (addresses places : List ℕ)
@@ -76,19 +82,25 @@ module _ (slots : List Slot) (words : List ℕ) where
       (first_alternate t address more is here p h))
 
   -- one more
-  pub alternates_step : (a : Alternates) {rest others : Alternates} {b : Body} {o d e f : Output} (address place : ℕ) (addresses places addresses' places' : List ℕ)
+  pub alternates_step : (a : Alternates) {rest others : Alternates} {b : Body} {o d e f : Output} (address place : ℕ)
+      (addresses places addresses' places' : List ℕ)
       → rest ≡ Alternate b others → (place ≡ length d.instrs) × (e ≡ added (Jump 0) d) → address ≡ length e.instrs → WritesBody slots words b e f
       → addresses' ≡ addresses ++ (address ∷ []) → places' ≡ places ++ (place ∷ []) → Completes a rest addresses places o d
       → Completes a others addresses' places' o f
   alternates_step a {o = o} address place addresses places addresses' places' is left here p these those completes = λ after t more h.
       let all : WritesAlternates slots words a (addresses ++ (address ∷ more)) t o (filled_with places (Jump t) (patched after place (Jump t))) =
       completes (patched after place (Jump t)) t (address ∷ more) (further t address place more is left here p h) in
-      let one : WritesAlternates slots words a ((addresses ++ (address ∷ [])) ++ more) t o (filled_with places (Jump t) (patched after place (Jump t))) =
-      subst (λ (xs : List ℕ). WritesAlternates slots words a xs t o (filled_with places (Jump t) (patched after place (Jump t)))) (sym (append_assoc addresses (address ∷ []) more)) all in
+      let one : WritesAlternates slots words a ((addresses ++ (address ∷ [])) ++ more) t o
+      (filled_with places (Jump t) (patched after place (Jump t))) =
+      subst
+      (λ (xs : List ℕ). WritesAlternates slots words a xs t o (filled_with places (Jump t) (patched after place (Jump t))))
+      (sym (append_assoc addresses (address ∷ []) more)) all in
       let two : WritesAlternates slots words a ((addresses ++ (address ∷ [])) ++ more) t o (filled_with (places ++ (place ∷ [])) (Jump t) after) =
       subst (λ x. WritesAlternates slots words a ((addresses ++ (address ∷ [])) ++ more) t o x) (sym (filled-last places place (Jump t) after)) one in
       subst (λ (xs : List ℕ). WritesAlternates slots words a (xs ++ more) t o (filled_with places' (Jump t) after)) (sym these)
-      (subst (λ (xs : List ℕ). WritesAlternates slots words a ((addresses ++ (address ∷ [])) ++ more) t o (filled_with xs (Jump t) after)) (sym those) two)
+      (subst
+      (λ (xs : List ℕ). WritesAlternates slots words a ((addresses ++ (address ∷ [])) ++ more) t o (filled_with xs (Jump t) after))
+      (sym those) two)
 
   -- all, with their jumps written
   pub alternates_end : (a : Alternates) {rest : Alternates} {o d f : Output} (t : ℕ) (addresses places : List ℕ) → rest ≡ NoAlternate
@@ -99,4 +111,5 @@ module _ (slots : List Slot) (words : List ℕ) where
       let all : WritesAlternates slots words a (addresses ++ []) t o (filled_with places (Jump t) d) = completes d t [] (no_other t d is) in
       let one : WritesAlternates slots words a addresses t o (filled_with places (Jump t) d) =
       subst (λ (xs : List ℕ). WritesAlternates slots words a xs t o (filled_with places (Jump t) d)) (append-none addresses) all in
-      subst (λ (i : ℕ). WritesAlternates slots words a addresses i o f) same (subst (λ x. WritesAlternates slots words a addresses t o x) (sym end) one)
+      subst (λ (i : ℕ). WritesAlternates slots words a addresses i o f) same
+      (subst (λ x. WritesAlternates slots words a addresses t o x) (sym end) one)

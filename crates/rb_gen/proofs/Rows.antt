@@ -32,7 +32,8 @@ pub then_adds : {P Q : Template} {c d e : Output} → Adds P c d → Adds Q d e 
 then_adds f g = λ p n. both (f p n) (g p n)
 
 -- an expression that is known to be another
-pub same_expression : (slots : List Slot) {t u : Expression} {c d : Output} → t ≡ u → Adds (ExpressionCode slots u) c d → Adds (ExpressionCode slots t) c d
+pub same_expression : (slots : List Slot) {t u : Expression} {c d : Output} → t ≡ u → Adds (ExpressionCode slots u) c d
+    → Adds (ExpressionCode slots t) c d
 same_expression slots {c = c} {d = d} e h = subst (λ x. Adds (ExpressionCode slots x) c d) (sym e) h
 
 pub literal : (slots : List Slot) {t : Expression} {number : Number} {c d : Output} (v : ℤ) → t ≡ Literal number → v ≡ number.value
@@ -41,7 +42,8 @@ unfolding ExpressionCode
 literal slots {c = c} {d = d} v is same p = same_expression slots is (subst (λ x. Adds (One (Push x)) c d) same p)
 
 pub value : (slots : List Slot) {t : Expression} {name : Identifier} {s : Subscript} {c d : Output} → t ≡ Variable (Refer name s)
-    → Adds (SubscriptCode slots (ScalarCode (counter_of slots name.id) (spot_of slots name.id)) (One (LoadAt (spot_of slots name.id))) (elements_of slots name.id) s) c d
+    → Adds (SubscriptCode slots (ScalarCode (counter_of slots name.id) (spot_of slots name.id))
+    (One (LoadAt (spot_of slots name.id))) (elements_of slots name.id) s) c d
     → Adds (ExpressionCode slots t) c d
 unfolding ExpressionCode SubscriptCode
 value slots is p = same_expression slots is p
@@ -52,11 +54,13 @@ pub former : (slots : List Slot) {t : Expression} {place : Place} {name : Identi
 unfolding ExpressionCode SubscriptCode
 former slots is p = same_expression slots is p
 
-pub minus : (slots : List Slot) {t x : Expression} {c d e : Output} → t ≡ Minus x → Adds (ExpressionCode slots x) c d → Adds (One Neg) d e → Adds (ExpressionCode slots t) c e
+pub minus : (slots : List Slot) {t x : Expression} {c d e : Output} → t ≡ Minus x → Adds (ExpressionCode slots x) c d
+    → Adds (One Neg) d e → Adds (ExpressionCode slots t) c e
 unfolding ExpressionCode
 minus slots is p q = same_expression slots is (then_adds p q)
 
-pub negation : (slots : List Slot) {t x : Expression} {c d e : Output} → t ≡ Negation x → Adds (ExpressionCode slots x) c d → Adds (One Not) d e → Adds (ExpressionCode slots t) c e
+pub negation : (slots : List Slot) {t x : Expression} {c d e : Output} → t ≡ Negation x → Adds (ExpressionCode slots x) c d
+    → Adds (One Not) d e → Adds (ExpressionCode slots t) c e
 unfolding ExpressionCode
 negation slots is p q = same_expression slots is (then_adds p q)
 
@@ -65,7 +69,8 @@ pub chained : (slots : List Slot) {t x : Expression} {l : Links} {c d e : Output
 unfolding ExpressionCode LinksCode
 chained slots is p q = same_expression slots is (then_adds p q)
 
-pub quantification : (slots : List Slot) {t : Expression} {kind : Quantifier} {place : Place} {name : Identifier} {low high over : Expression} {c d : Output}
+pub quantification :
+    (slots : List Slot) {t : Expression} {kind : Quantifier} {place : Place} {name : Identifier} {low high over : Expression} {c d : Output}
     → t ≡ Quantification kind place name low high over
     → Adds (QuantifiedCode kind (quantified_of slots name.id) (ExpressionCode slots low) (ExpressionCode slots high) (ExpressionCode slots over)) c d
     → Adds (ExpressionCode slots t) c d
@@ -91,7 +96,8 @@ counted slots element id n {k = k} {v = v} {c = c} {d = d} is same at p =
     scalar slots (ScalarCode (counter_of slots id)) element id n is at (subst (λ x. Adds (ScalarCode x v) c d) same p)
 
 -- a place with an index
-pub element : (slots : List Slot) (one : Template) (reads : Spot → Template) (id : ℕ) {bound : ℕ} {v : Spot} {s : Subscript} {x : Expression} {c d e f : Output}
+pub element : (slots : List Slot) (one : Template) (reads : Spot → Template)
+    (id : ℕ) {bound : ℕ} {v : Spot} {s : Subscript} {x : Expression} {c d e f : Output}
     → s ≡ Element x → bound ≡ elements_of slots id → v ≡ spot_of slots id → Adds (ExpressionCode slots x) c d → Adds (One (Bound bound)) d e
     → Adds (reads v) e f → Adds (SubscriptCode slots one (reads (spot_of slots id)) (elements_of slots id) s) c f
 unfolding ExpressionCode SubscriptCode
@@ -152,12 +158,14 @@ pub store_scalar : (slots : List Slot) (name : Identifier) {s : Subscript} {v : 
 store_scalar slots name {P = P} {c = c} {d = d} {e = e} is at p q =
     subst (λ x. Adds (StoreCode slots (Refer name x) P) c e) (sym is) (then_adds p (subst (λ x. Adds (One (Store x)) d e) at q))
 
-pub store_element : (slots : List Slot) (name : Identifier) {bound : ℕ} {s : Subscript} {x : Expression} {v : Spot} {P : Template} {c d e f g : Output}
+pub store_element : (slots : List Slot)
+    (name : Identifier) {bound : ℕ} {s : Subscript} {x : Expression} {v : Spot} {P : Template} {c d e f g : Output}
     → s ≡ Element x → v ≡ spot_of slots name.id → bound ≡ elements_of slots name.id → Adds (ExpressionCode slots x) c d → Adds (One (Bound bound)) d e
     → Adds P e f → Adds (One (StoreAt v)) f g → Adds (StoreCode slots (Refer name s) P) c g
 store_element slots name {P = P} {c = c} {d = d} {e = e} {f = f} {g = g} is at same p q r t =
     let b : Adds (One (Bound (elements_of slots name.id))) d e = subst (λ (n : ℕ). Adds (One (Bound n)) d e) same q in
-    subst (λ y. Adds (StoreCode slots (Refer name y) P) c g) (sym is) (then_adds p (then_adds b (then_adds r (subst (λ y. Adds (One (StoreAt y)) f g) at t))))
+    subst (λ y. Adds (StoreCode slots (Refer name y) P) c g) (sym is)
+    (then_adds p (then_adds b (then_adds r (subst (λ y. Adds (One (StoreAt y)) f g) at t))))
 
 -- operators that may leave their right operand out
 pub op_and : {o : Op} {P : Template} {c d : Output} → o ≡ op.And → Adds (AndCode P) c d → Adds (OperatorCode o P) c d
@@ -180,7 +188,8 @@ pub of_sum : {kind : Quantifier} {k : ℕ} {low high body : Template} {c d : Out
 of_sum {k = k} {low = low} {high = high} {body = body} {c = c} {d = d} is p = subst (λ q. Adds (QuantifiedCode q k low high body) c d) (sym is) p
 
 -- an item of a `print`
-pub item_text : (slots : List Slot) {what : ItemKind} {text : _} {c d : Output} → what ≡ Text text → Adds (Quoted text.now) c d → Adds (PrintedCode slots (printed what)) c d
+pub item_text : (slots : List Slot) {what : ItemKind} {text : _} {c d : Output} → what ≡ Text text
+    → Adds (Quoted text.now) c d → Adds (PrintedCode slots (printed what)) c d
 item_text slots {c = c} {d = d} is p = subst (λ x. Adds (PrintedCode slots (printed x)) c d) (sym is) p
 
 pub item_value : (slots : List Slot) {what : ItemKind} {value : Expr} {c d e : Output} → what ≡ Value value
@@ -190,7 +199,8 @@ item_value slots {c = c} {e = e} is p q = subst (λ x. Adds (PrintedCode slots (
 -- a `send`, by the channel's number
 pub send_row : {number k : ℕ} {P : Template} {c d e f g : Output} → number ≡ k → Adds (One Turn) c d → Adds (One (Room number)) d e → Adds P e f
     → Adds (One (Put number)) f g → Adds (One Turn ⨾ One (Room k) ⨾ P ⨾ One (Put k)) c g
-send_row {P = P} {c = c} {g = g} same p q r t = subst (λ (i : ℕ). Adds (One Turn ⨾ One (Room i) ⨾ P ⨾ One (Put i)) c g) same (then_adds p (then_adds q (then_adds r t)))
+send_row {P = P} {c = c} {g = g} same p q r t =
+    subst (λ (i : ℕ). Adds (One Turn ⨾ One (Room i) ⨾ P ⨾ One (Put i)) c g) same (then_adds p (then_adds q (then_adds r t)))
 
 -- the call itself, whose numbers are known otherwise
 pub call_row : (p n : ℕ) {number count words k l m : ℕ} {c d : Output} → number ≡ k → count ≡ l → words ≡ m
@@ -203,7 +213,8 @@ call_row p n {count = count} {words = words} {k = k} {l = l} {c = c} {d = d} e f
 pub room_there : (procedures : List ProcedureDeclaration) (words : List ℕ) (number k : ℕ) → words ≡ map room_of procedures → number ≡ k
     → get_or words number 0 ≡ procedure_words procedures k
 room_there procedures words number k sized same =
-    ap (λ xs. get_or xs number 0) sized ∙ ap (λ i. get_or (map room_of procedures) i 0) same ∙ sym (unwrap_or-slice_get (map room_of procedures) k 0) ∙ ap (λ o. unwrap_or o 0)
+    ap (λ xs. get_or xs number 0) sized ∙ ap (λ i. get_or (map room_of procedures) i 0) same
+    ∙ sym (unwrap_or-slice_get (map room_of procedures) k 0) ∙ ap (λ o. unwrap_or o 0)
     (slice_get-map room_of procedures k)
 
 -- a bound that is known otherwise

@@ -37,7 +37,8 @@ module _ (slots : List Slot) (words : List ℕ) where
   sending is p = same_command is (λ s n g. upto (p s.owner.number n) (omega arith))
 
   pub called : {t : Command} {name : Identifier} {arguments : List Expression} {c d : Output} → t ≡ Invocation name arguments
-      → ((s : Setting words) (n : ℕ) → Emits (linked s.owner.number) n n (CallCode slots s.owner name arguments) c d) → WritesCommand slots words t c d
+      → ((s : Setting words) (n : ℕ) → Emits (linked s.owner.number) n n (CallCode slots s.owner name arguments) c d)
+      → WritesCommand slots words t c d
   unfolding CommandCode
   called is p = same_command is (λ s n g. upto (p s n) (omega arith))
 
@@ -57,18 +58,24 @@ module _ (slots : List Slot) (words : List ℕ) where
   -- an `else` behind a receipt; its label comes to the front
   pub received_else : {t : Command} {channel : Identifier} {to : Reference} {other : Body} {number absent none : ℕ} {c d e f g h : Output}
       → t ≡ Receiving channel to (Else other) → number ≡ channel_of slots channel.id → Adds (One Turn) c d
-      → (absent ≡ length d.instrs) × (e ≡ added (Jump 0) d) → Adds (StoreCode slots to (One (Take number))) e f → WritesElse slots words none other f g
+      → (absent ≡ length d.instrs) × (e ≡ added (Jump 0) d) → Adds (StoreCode slots to (One (Take number))) e f
+      → WritesElse slots words none other f g
       → h ≡ patched g absent (Absent number none) → WritesCommand slots words t c h
   unfolding CommandCode ReceiptCode BodyCode
-  received_else {channel = channel} {to = to} {other = other} {number = number} {absent = absent} {none = none} {c = c} {h = h} is same p left q r end =
+  received_else {channel = channel} {to = to} {other = other} {number = number} {absent = absent} {none = none} {c = c} {h =
+      h} is same p left q r end =
       same_command is (λ s n given.
       let all : Emits (linked s.owner.number) n (n + blocks_in_body other)
-      (Label (λ gone. Label (λ end. One Turn ⨾ One (Absent number gone) ⨾ StoreCode slots to (One (Take number)) ⨾ One (Jump end) ⨾ At gone ⨾ BodyCode s.tree slots s.owner other ⨾ At end))) c h =
+      (Label (λ gone. Label
+      (λ end. One Turn ⨾ One (Absent number gone) ⨾ StoreCode slots to (One (Take number)) ⨾ One
+      (Jump end) ⨾ At gone ⨾ BodyCode s.tree slots s.owner other ⨾ At end))) c h =
       as_if (λ w a b (m, turn, (k, jump, (l, taken, (end, rest)))). (none, (end, (m, turn, (k, jump, (l, taken, rest))))))
       (both (p s.owner.number n) (filled (Absent number none) refl left end (both (q s.owner.number n) (r s n given)))) in
       subst
       (λ (k : ℕ). Emits (linked s.owner.number) n (n + blocks_in_body other)
-      (Label (λ gone. Label (λ end. One Turn ⨾ One (Absent k gone) ⨾ StoreCode slots to (One (Take k)) ⨾ One (Jump end) ⨾ At gone ⨾ BodyCode s.tree slots s.owner other ⨾ At end))) c h) same all)
+      (Label (λ gone. Label
+      (λ end. One Turn ⨾ One (Absent k gone) ⨾ StoreCode slots to (One (Take k)) ⨾ One
+      (Jump end) ⨾ At gone ⨾ BodyCode s.tree slots s.owner other ⨾ At end))) c h) same all)
 
   pub conditional : {t : Command} {test : Expression} {then : Body} {over end : ℕ} {c d e f : Output} → t ≡ Conditional test then NoElse
       → LeavesTest slots test over c d → WritesBody slots words then d e → end ≡ length e.instrs → f ≡ patched e over (JumpZero end)
@@ -77,16 +84,20 @@ module _ (slots : List Slot) (words : List ℕ) where
   conditional {then = then} {end = end} {e = e} is (o, tested, left) p here patches =
       same_command is (λ s n (given, unit).
       upto (labelled end (as_if (λ w a b (m, (k, turn, value), rest). (k, turn, (m, value, rest)))
-      (both (tested s.owner.number n) (filled (JumpZero end) refl left patches (both (p s n given) (at (n + blocks_in_body then) e here)))))) (omega arith))
+      (both (tested s.owner.number n) (filled (JumpZero end) refl left patches (both (p s n given) (at (n + blocks_in_body then) e here))))))
+      (omega arith))
 
   pub conditional_else : {t : Command} {test : Expression} {then other : Body} {over gone : ℕ} {c d e f g : Output}
-      → t ≡ Conditional test then (Else other) → LeavesTest slots test over c d → WritesBody slots words then d e → WritesElse slots words gone other e f
+      → t ≡ Conditional test then (Else other) → LeavesTest slots test over c d → WritesBody slots words then d e
+      → WritesElse slots words gone other e f
       → g ≡ patched f over (JumpZero gone) → WritesCommand slots words t c g
   unfolding CommandCode BranchesCode BodyCode
   conditional_else {then = then} {other = other} {gone = gone} is (o, tested, left) p q patches =
       same_command is (λ s n (given, more).
-      upto (as_if (λ w a b (m, (k, turn, value), (l, jump, (i, first, (end, rest)))). (gone, (end, (k, turn, (m, value, (l, jump, (i, first, rest)))))))
-      (both (tested s.owner.number n) (filled (JumpZero gone) refl left patches (both (p s n given) (q s (n + blocks_in_body then) more))))) (omega arith))
+      upto (as_if
+      (λ w a b (m, (k, turn, value), (l, jump, (i, first, (end, rest)))). (gone, (end, (k, turn, (m, value, (l, jump, (i, first, rest)))))))
+      (both (tested s.owner.number n) (filled (JumpZero gone) refl left patches (both (p s n given) (q s (n + blocks_in_body then) more)))))
+      (omega arith))
 
   pub looped : {t : Command} {test : Expression} {over_again : Body} {loop over end : ℕ} {c d e f g : Output} → t ≡ Loop test over_again
       → loop ≡ length c.instrs → LeavesTest slots test over c d → WritesBody slots words over_again d e → Adds (One (Jump loop)) e f
@@ -95,7 +106,9 @@ module _ (slots : List Slot) (words : List ℕ) where
   looped {over_again = x} {loop = loop} {end = end} {c = c} {f = f} is first (o, tested, left) p q here patches =
       same_command is (λ s n given.
       labelled loop (labelled end (both (at n c first) (as_if (λ w a b (m, (k, turn, value), rest). (k, turn, (m, value, rest)))
-      (both (tested s.owner.number n) (filled (JumpZero end) refl left patches (both (p s n given) (both (q s.owner.number (n + blocks_in_body x)) (at (n + blocks_in_body x) f here)))))))))
+      (both (tested s.owner.number n)
+      (filled (JumpZero end) refl left patches
+      (both (p s n given) (both (q s.owner.number (n + blocks_in_body x)) (at (n + blocks_in_body x) f here)))))))))
 
   pub no_command : {l : Commands} (c : Output) → l ≡ NoCommand → WritesCommands slots words l c c
   unfolding CommandsCode

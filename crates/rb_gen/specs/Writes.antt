@@ -79,11 +79,13 @@ WritesProcedures slots words x entries =
 abbrev pub ProcessTemplate : Tree → List Slot → ℕ → ProcessDeclaration → List Procedure → Template
 ProcessTemplate tree slots p process entries w a b =
     let owner : Owner = record { number = p; procedures = process.procedures } in
-    (part_of w p).procedures ≡ entries → (CommandsCode tree slots owner process.commands ⨾ One Done ⨾ ProceduresCode tree slots owner process.procedures entries) w a b
+    (part_of w p).procedures ≡ entries
+    → (CommandsCode tree slots owner process.commands ⨾ One Done ⨾ ProceduresCode tree slots owner process.procedures entries) w a b
 
 abbrev pub WritesProcess : List Slot → ProcessDeclaration → List Procedure → Output → Output → Type 0
 WritesProcess slots process entries old new =
-    (tree : Tree) (p n : ℕ) → ProcessGiven tree slots n process → Emits as_it_is n (n + blocks_in_process process) (ProcessTemplate tree slots p process entries) old new
+    (tree : Tree) (p n : ℕ) → ProcessGiven tree slots n process
+    → Emits as_it_is n (n + blocks_in_process process) (ProcessTemplate tree slots p process entries) old new
 
 -- the whole code has these processes from number p on
 abbrev pub HasParts : ℕ → List Part → Code → Type 0

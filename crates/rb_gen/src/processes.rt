@@ -38,7 +38,9 @@ fn emit_procedures(
     words: &[u32],
     procedures: &[Procedure<'_>],
 ) -> Result<Vec<ProcedureCode>, Memory>
-    ensures { IfOk result (λ entries. WritesProcedures slots.now words.now (map procedure_declaration procedures.now) (map plain_procedure entries.items) (output draft.old) (output draft.new)) }
+    ensures { IfOk result
+        (λ entries. WritesProcedures slots.now words.now (map procedure_declaration procedures.now)
+        (map plain_procedure entries.items) (output draft.old) (output draft.new)) }
 {
     let mut entries = Vec::with_capacity(alloc, procedures.len())?;
     let mut rest = procedures;
@@ -60,7 +62,8 @@ fn emit_process(
     slots: &[Slot],
     process: &Process<'_>,
 ) -> Result<Vec<ProcedureCode>, Memory>
-    ensures { IfOk result (λ entries. WritesProcess slots.now (declared process.now) (map plain_procedure entries.items) (output draft.old) (output draft.new)) }
+    ensures { IfOk result
+        (λ entries. WritesProcess slots.now (declared process.now) (map plain_procedure entries.items) (output draft.old) (output draft.new)) }
 {
     let words = rooms(alloc, &process.procedures)?;
     let from = draft.instrs.len();
@@ -79,7 +82,9 @@ pub(crate) fn emit_processes(
     channels: &[ChannelCode],
     processes: &[Process<'_>],
 ) -> Result<Vec<ProcessCode>, Memory>
-    ensures { IfOk result (λ parts. WritesProcesses slots.now (map plain_channel channels.now) 0 (map declared processes.now) (map plain_part parts.items) (output draft.old) (output draft.new)) }
+    ensures { IfOk result
+        (λ parts. WritesProcesses slots.now (map plain_channel channels.now) 0 (map declared processes.now)
+        (map plain_part parts.items) (output draft.old) (output draft.new)) }
 {
     let mut parts = Vec::with_capacity(alloc, processes.len())?;
     let mut number: u32 = 0;

@@ -26,7 +26,9 @@ pub(crate) fn emit_assignment(
     target: &Target<'_>,
     value: &Expr<'_>,
 ) -> Result<(), Memory>
-    ensures { OnOk result (Adds (One Instr.Turn ⨾ StoreCode slots.now (reference target.now) (ExpressionCode slots.now (plain value.now))) (output draft.old) (output draft.new)) }
+    ensures { OnOk result
+        (Adds (One Instr.Turn ⨾ StoreCode slots.now (reference target.now) (ExpressionCode slots.now (plain value.now)))
+        (output draft.old) (output draft.new)) }
 {
     let spot = spot_of(slots, target.name.id);
     put(draft, Instr::Turn)?;
@@ -79,7 +81,9 @@ pub(crate) fn emit_sending(
     channel: &Name<'_>,
     value: &Expr<'_>,
 ) -> Result<(), Memory>
-    ensures { OnOk result (Adds (SendCode (channel_of slots.now channel.now.id) (ExpressionCode slots.now (plain value.now))) (output draft.old) (output draft.new)) }
+    ensures { OnOk result
+        (Adds (SendCode (channel_of slots.now channel.now.id) (ExpressionCode slots.now (plain value.now)))
+        (output draft.old) (output draft.new)) }
 {
     let number = channel_of(slots, channel.id);
     put(draft, Instr::Turn)?;
@@ -133,7 +137,8 @@ pub(crate) fn emit_printing(
     slots: &[Slot],
     items: &[Item<'_>],
 ) -> Result<(), Memory>
-    ensures { OnOk result (Adds (One Instr.Turn ⨾ ItemsCode slots.now (map print_item items.now) ⨾ One Instr.Print) (output draft.old) (output draft.new)) }
+    ensures { OnOk result
+        (Adds (One Instr.Turn ⨾ ItemsCode slots.now (map print_item items.now) ⨾ One Instr.Print) (output draft.old) (output draft.new)) }
 {
     put(draft, Instr::Turn)?;
     emit_items(alloc, draft, slots, items)?;
@@ -170,7 +175,8 @@ pub(crate) fn emit_call(
     procedure: &Name<'_>,
     arguments: &[Expr<'_>],
 ) -> Result<(), Memory>
-    ensures { OnOk result (WritesCall slots.now words.now (identifier procedure.now) (map plain arguments.now) (output draft.old) (output draft.new)) }
+    ensures { OnOk result
+        (WritesCall slots.now words.now (identifier procedure.now) (map plain arguments.now) (output draft.old) (output draft.new)) }
 {
     let number = procedure_of(slots, procedure.id);
     let count = narrow(arguments.len())?;

@@ -92,7 +92,9 @@ fn emit_receipt(
     channel: &Name<'_>,
     target: &Target<'_>,
 ) -> Result<(), Memory>
-    ensures { OnOk result (WritesCommand slots.now words.now (Receiving (identifier channel.now) (reference target.now) (otherwise other.now)) (output draft.old) (output draft.new)) }
+    ensures { OnOk result
+        (WritesCommand slots.now words.now (Receiving (identifier channel.now) (reference target.now) (otherwise other.now))
+        (output draft.old) (output draft.new)) }
 {
     let number = channel_of(slots, channel.id);
     put(draft, Instr::Turn)?;
@@ -231,7 +233,9 @@ fn emit_alternates(
     words: &[u32],
     alternates: &[Block<'_>],
 ) -> Result<Vec<u32>, Memory>
-    ensures { IfOk result (λ addresses. WritesAlternates slots.now words.now (alternates_of alternates.now) addresses.items (length draft.new.instrs.items) (output draft.old) (output draft.new)) }
+    ensures { IfOk result
+        (λ addresses. WritesAlternates slots.now words.now (alternates_of alternates.now) addresses.items
+        (length draft.new.instrs.items) (output draft.old) (output draft.new)) }
 {
     let mut addresses = Vec::new(alloc);
     let [first, others @ ..] = alternates else {

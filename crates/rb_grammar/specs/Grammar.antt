@@ -10,7 +10,20 @@ use Rattle.rb_grammar.specs.declared.level.Level.{Level}
 use Rattle.rb_grammar.specs.declared.level.Level.TheVariants as levels
 use Rattle.rb_grammar.specs.declared.terminal.Terminal.TheVariants as terminals
 use Rattle.rb_grammar.specs.Parts.{Part}
-pub use Rattle.rb_grammar.specs.Taking.{Point, Takes, TakesAt, TakesName, TakesNumber, between_quotes, TakesText, TakesEnsure, TakesOperator, TakesComparison, TakesQuantifier, StandsAt}
+pub use Rattle.rb_grammar.specs.Taking.{
+  Point,
+  Takes,
+  TakesAt,
+  TakesName,
+  TakesNumber,
+  between_quotes,
+  TakesText,
+  TakesEnsure,
+  TakesOperator,
+  TakesComparison,
+  TakesQuantifier,
+  StandsAt,
+}
 use Rattle.rb_grammar.specs.Values.{Value}
 use Rattle.rb_syntax.specs.declared.expression.Number.{Number}
 use Rattle.rb_syntax.specs.declared.expression.Op.{Op}

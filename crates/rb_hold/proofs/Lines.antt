@@ -54,7 +54,8 @@ begun_are_lines : (byte : ℕ) (lines : List (List ℕ)) → byte ≢ 10 → All
 begun_are_lines byte [] other h = (more_is_line byte [] other none_is_line, tt)
 begun_are_lines byte (line ∷ lines) other h = (more_is_line byte line other h.0, h.1)
 
-by_end : (byte : ℕ) (lines : List (List ℕ)) → AllByRecursion IsLine lines → (b : Bool) → is_end byte ≡ b → AllByRecursion IsLine (cond b ([] ∷ lines) (begun_with byte lines))
+by_end : (byte : ℕ) (lines : List (List ℕ)) → AllByRecursion IsLine lines → (b : Bool) → is_end byte ≡ b
+    → AllByRecursion IsLine (cond b ([] ∷ lines) (begun_with byte lines))
 by_end byte lines h true e = (none_is_line, h)
 by_end byte lines h false e = begun_are_lines byte lines (eqb-false byte 10 e) h
 
@@ -98,7 +99,8 @@ first_end [] h = refl
 first_end (line ∷ lines) h =
     let more = stored lines in
     let at = end_of_first line more h.0 in
-    let within : length line < length ((line ++ 10 ∷ []) ++ more) = omega (arith, length-append (line ++ 10 ∷ []) more, length-append line (10 ∷ [])) in
+    let within : length line < length ((line ++ 10 ∷ []) ++ more) =
+    omega (arith, length-append (line ++ 10 ∷ []) more, length-append line (10 ∷ [])) in
     ap (λ (n : ℕ). cond (nat_lt n (length ((line ++ 10 ∷ []) ++ more))) (Some n) None) at
     ∙ ap (λ (b : Bool). cond b (Some (length line)) None) (lt-ltb _ _ within)
 
@@ -128,7 +130,8 @@ fewer lines k =
     omega (arith, sum_by-append each (take k lines) (drop k lines), ap (sum_by each) (take-append-drop k lines))
 
 -- the first lines of the held ones lie in the first bytes of them
-pub cut_within : (bytes : List ℕ) (held n k : ℕ) → held ≤ length bytes → AreLines (take held bytes) → IsLengthOf n k (lines_in (take held bytes)) → n ≤ held
+pub cut_within : (bytes : List ℕ) (held n k : ℕ) → held ≤ length bytes → AreLines (take held bytes)
+    → IsLengthOf n k (lines_in (take held bytes)) → n ≤ held
 cut_within bytes held n k within h cut =
     omega (arith, fewer (lines_in (take held bytes)) k, length_of (take held bytes) h, cut.1, length-take-le held bytes within)
 
@@ -177,14 +180,16 @@ pub record First (bytes : List ℕ) (n : ℕ) : Type 0 where
   pub within : n + 1 ≤ length bytes
 
 -- the same of the lines that are stored
-first_of_stored : (lines : List (List ℕ)) (n : ℕ) → AllByRecursion IsLine lines → option_map length (slice_get lines 0) ≡ Some n → First (stored lines) n
+first_of_stored : (lines : List (List ℕ)) (n : ℕ) → AllByRecursion IsLine lines
+    → option_map length (slice_get lines 0) ≡ Some n → First (stored lines) n
 first_of_stored [] n h e = cc
 first_of_stored (line ∷ lines) n h e =
     let here : length line ≡ n = cc in
     subst (First (stored (line ∷ lines))) here (record {
       first = ap Some (first_bytes line lines) ∙ ap (λ (all : List (List ℕ)). slice_get all 0) (sym (lines_back (line ∷ lines) h));
       others = ap lines_in (other_bytes line lines) ∙ lines_back lines h.1 ∙ ap (drop 1) (sym (lines_back (line ∷ lines) h));
-      are_lines = ap (λ (rest : List ℕ). stored (lines_in rest)) (other_bytes line lines) ∙ ap stored (lines_back lines h.1) ∙ sym (other_bytes line lines);
+      are_lines = ap (λ (rest : List ℕ). stored (lines_in rest)) (other_bytes line lines) ∙ ap stored (lines_back lines h.1)
+          ∙ sym (other_bytes line lines);
       within = omega (arith, length-append (line ++ 10 ∷ []) (stored lines), length-append line (10 ∷ []));
     })
 
@@ -240,7 +245,8 @@ passed_buffer bytes held waiting n room old first = record {
   waiting_lines = subst AreLines (sym (passed bytes waiting n)) first.are_lines;
 }
 
-pub passed_others : (bytes : List ℕ) (waiting n : ℕ) → First (drop waiting bytes) n → lines_in (drop (waiting + n + 1) bytes) ≡ drop 1 (lines_in (drop waiting bytes))
+pub passed_others : (bytes : List ℕ) (waiting n : ℕ) → First (drop waiting bytes) n
+    → lines_in (drop (waiting + n + 1) bytes) ≡ drop 1 (lines_in (drop waiting bytes))
 passed_others bytes waiting n first = ap lines_in (passed bytes waiting n) ∙ first.others
 
 -- no line end stands in a line

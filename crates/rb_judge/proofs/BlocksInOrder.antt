@@ -88,8 +88,10 @@ mutual
   recovery_splits : (n : ℕ) (block : RecoveryBlock) (rest : List Recovery)
       → Splits n (blocks_in_recovery block) (RecoveryNumbered n block) (recovery_told recoveries_alone block rest) rest
   recovery_splits n (Recovers number conversation place test bound alternates) rest =
-      behind (no_conversation conversation (recovery_at number place ∷ expression_told recoveries_alone test (alternates_told recoveries_alone alternates rest)))
-      (within number place (behind (no_expression test (alternates_told recoveries_alone alternates rest)) (alternates_splits (n + 1) alternates rest)))
+      behind (no_conversation conversation
+      (recovery_at number place ∷ expression_told recoveries_alone test (alternates_told recoveries_alone alternates rest)))
+      (within number place
+      (behind (no_expression test (alternates_told recoveries_alone alternates rest)) (alternates_splits (n + 1) alternates rest)))
 
   alternates_splits : (n : ℕ) (alternates : Alternates) (rest : List Recovery)
       → Splits n (blocks_in_alternates alternates) (AlternatesNumbered n alternates) (alternates_told recoveries_alone alternates rest) rest

@@ -36,13 +36,15 @@ pub nothing : (n : ℕ) (rest : List Identifier) → IsTold n rest [] rest
 nothing n rest = record { as_often = omega arith }
 
 -- two parts
-pub both : {n : ℕ} {told middle rest : List Identifier} {xs ys : List Site} → IsTold n told xs middle → IsTold n middle ys rest → IsTold n told (xs ++ ys) rest
+pub both : {n : ℕ} {told middle rest : List Identifier} {xs ys : List Site} → IsTold n told xs middle
+    → IsTold n middle ys rest → IsTold n told (xs ++ ys) rest
 both {n = n} {xs = xs} {ys = ys} s t = record {
   as_often = let all = at_sites-append n xs ys in let first = s.as_often in let second = t.as_often in omega arith;
 }
 
 -- a name that is used or declared, and then a part
-pub using : {n : ℕ} {told rest : List Identifier} {sites : List Site} (want : Want) (name : Identifier) (scopes : List (List Declared)) → IsTold n told sites rest
+pub using : {n : ℕ} {told rest : List Identifier} {sites : List Site} (want : Want) (name : Identifier) (scopes : List (List Declared))
+    → IsTold n told sites rest
     → IsTold n (name ∷ told) (Uses want name scopes ∷ sites) rest
 using {n = n} want name scopes s = record { as_often = let later = s.as_often in omega arith }
 
@@ -51,7 +53,8 @@ pub declaring : {n : ℕ} {told rest : List Identifier} {sites : List Site} (ear
 declaring {n = n} earlier one s = record { as_often = let later = s.as_often in omega arith }
 
 -- lists and sizes have no names
-pub no_list : {A : Type 0} (n : ℕ) (place : A → Place) (most before : ℕ) (items : List A) (rest : List Identifier) → IsTold n rest (list_sites place most before items) rest
+pub no_list : {A : Type 0} (n : ℕ) (place : A → Place) (most before : ℕ) (items : List A) (rest : List Identifier)
+    → IsTold n rest (list_sites place most before items) rest
 no_list n place most before [] rest = nothing n rest
 no_list n place most before (item ∷ items) rest = record { as_often = (no_list n place most (before + 1) items rest).as_often }
 

@@ -36,7 +36,8 @@ among-take_place n one [] = refl
 among-take_place n one (other ∷ others) =
     let later = among-take_place n one others in
     elim (is_before one.name.place other.name.place)
-    as (λ before. among n (cond before (one ∷ other ∷ others) (other ∷ take_place one others)) ≡ hit n one.name.id + (hit n other.name.id + among n others))
+    as (λ before. among n (cond before (one ∷ other ∷ others) (other ∷ take_place one others))
+    ≡ hit n one.name.id + (hit n other.name.id + among n others))
     [ true ↦ refl | false ↦ omega arith ]
 
 among-in_text_order : (n : ℕ) (ones others : List Declared) → among n (in_text_order ones others) ≡ among n ones + among n others
@@ -55,18 +56,21 @@ parameters_names n at earlier (name ∷ names) told rest ones h =
     declaring earlier _ (parameters_names n (at + 1) (earlier ++ _ ∷ []) names told rest ones h)
 
 procedure_names : (n : ℕ) (spot : Spot) (name : Identifier) (parameters : List Identifier) (body : Body) (rest : List Identifier)
-    → IsTold n (each names_alone.name parameters (body_told names_alone body rest)) (procedure_sites spot (record { name = name; parameters = parameters; body = body })) rest
+    → IsTold n (each names_alone.name parameters (body_told names_alone body rest))
+    (procedure_sites spot (record { name = name; parameters = parameters; body = body })) rest
 procedure_names n spot name parameters (Scope variables commands) rest =
     let told : List Identifier = commands_told names_alone commands rest in
     let own : List Declared = variables_from Local (length parameters) variables in
     both (no_list n (λ one. one.place) most_parameters 0 parameters _)
-    (both (parameters_names n 0 [] parameters (each (declaration_told names_alone) variables told) told own (λ before. variables_names n Local (length parameters) before variables told))
+    (both (parameters_names n 0 [] parameters (each (declaration_told names_alone) variables told) told own
+    (λ before. variables_names n Local (length parameters) before variables told))
     (both (no_sizes n variables told)
     (commands_names n (within (parameters_from 0 parameters ++ own) (length parameters + words_in variables) spot) commands rest)))
 
 -- the names of procedures are declared by their process
 procedures_names : (n k : ℕ) (spot : Spot) (procedures : List ProcedureDeclaration) (rest : List Identifier)
-    → named n (each (procedure_told names_alone) procedures rest) ≡ among n (procedures_from k procedures) + at_sites n (flat_map (procedure_sites spot) procedures) + named n rest
+    → named n (each (procedure_told names_alone) procedures rest)
+    ≡ among n (procedures_from k procedures) + at_sites n (flat_map (procedure_sites spot) procedures) + named n rest
 procedures_names n k spot [] rest = omega arith
 procedures_names n k spot (one ∷ others) rest =
     let told : List Identifier = each (procedure_told names_alone) others rest in
@@ -108,7 +112,8 @@ process_names n edition spot process rest =
 
 -- processes, channels and conversations, whose names the program declares
 processes_names : (n k : ℕ) (edition : Edition) (spot : Spot) (processes : List ProcessDeclaration) (rest : List Identifier)
-    → named n (each (process_told names_alone) processes rest) ≡ among n (processes_from k processes) + at_sites n (flat_map (process_sites edition spot) processes) + named n rest
+    → named n (each (process_told names_alone) processes rest)
+    ≡ among n (processes_from k processes) + at_sites n (flat_map (process_sites edition spot) processes) + named n rest
 processes_names n k edition spot [] rest = omega arith
 processes_names n k edition spot (one ∷ others) rest =
     let here = process_names n edition spot one (each (process_told names_alone) others rest) in
@@ -117,7 +122,8 @@ processes_names n k edition spot (one ∷ others) rest =
     omega arith
 
 channels_names : (n k : ℕ) (spot : Spot) (channels : List ChannelDeclaration) (rest : List Identifier)
-    → named n (each (channel_told names_alone) channels rest) ≡ among n (channels_from k channels) + at_sites n (flat_map (channel_sites spot) channels) + named n rest
+    → named n (each (channel_told names_alone) channels rest)
+    ≡ among n (channels_from k channels) + at_sites n (flat_map (channel_sites spot) channels) + named n rest
 channels_names n k spot [] rest = omega arith
 channels_names n k spot (one ∷ others) rest = let later = channels_names n (k + 1) spot others rest in omega arith
 
@@ -127,7 +133,8 @@ members_names n spot [] rest = nothing n rest
 members_names n spot (name ∷ names) rest = using _ name spot.scopes (members_names n spot names rest)
 
 conversations_names : (n k : ℕ) (spot : Spot) (conversations : List ConversationDeclaration) (rest : List Identifier)
-    → named n (each (conversation_told names_alone) conversations rest) ≡ among n (conversations_from k conversations) + at_sites n (flat_map (conversation_sites spot) conversations) + named n rest
+    → named n (each (conversation_told names_alone) conversations rest)
+    ≡ among n (conversations_from k conversations) + at_sites n (flat_map (conversation_sites spot) conversations) + named n rest
 conversations_names n k spot [] rest = omega arith
 conversations_names n k spot (one ∷ others) rest =
     let here = (members_names n spot one.members (each (conversation_told names_alone) others rest)).as_often in
@@ -165,5 +172,6 @@ tree_names_hit n tree =
     let with_conversations = at_sites-append n (list_sites (λ one. one.name.place) most_connections 0 tree.conversations) fourth in
     let with_processes = at_sites-append n (list_sites (λ one. one.name.place) (most_processes tree.edition) 0 tree.processes) fifth in
     let in_channels = at_sites-append n (flat_map (channel_sites spot) tree.channels) last in
-    let in_conversations = at_sites-append n (flat_map (conversation_sites spot) tree.conversations) (flat_map (process_sites tree.edition spot) tree.processes) in
+    let in_conversations =
+    at_sites-append n (flat_map (conversation_sites spot) tree.conversations) (flat_map (process_sites tree.edition spot) tree.processes) in
     omega arith

@@ -17,7 +17,8 @@ parsed_have_own_numbers source tree h =
     let many : tree.names ≡ length (names_from 0 h.tokens) =
     counted.1 ∙ sym (length_permutation (tree_names tree) (names_from 0 h.tokens) those) in
     record {
-      distinct = distinct (numbers_in tree) (λ n. (let once = named_once n 0 (names_from 0 h.tokens) counted.0 in let same = as_often n in omega arith));
+      distinct = distinct (numbers_in tree)
+          (λ n. (let once = named_once n 0 (names_from 0 h.tokens) counted.0 in let same = as_often n in omega arith));
       within = all_within tree.names (numbers_in tree) (λ n above.
           (let none = none_named_above n 0 (names_from 0 h.tokens) counted.0 (omega arith) in let same = as_often n in omega arith));
     }

@@ -40,7 +40,8 @@ columns_on-none : (p : Place) → p ≡ columns_on p 0
 columns_on-none p = let e : p.column ≡ p.column + 0 = omega arith in ap (λ c. let q : Place = record { line = p.line; column = c } in q) e
 
 columns_on-more : (p : Place) (n : ℕ) → columns_on (columns_on p 1) n ≡ columns_on p (1 + n)
-columns_on-more p n = let e : (p.column + 1) + n ≡ p.column + (1 + n) = omega arith in ap (λ c. let q : Place = record { line = p.line; column = c } in q) e
+columns_on-more p n = let e : (p.column + 1) + n ≡ p.column + (1 + n) =
+    omega arith in ap (λ c. let q : Place = record { line = p.line; column = c } in q) e
 
 -- bytes with no LF stand on one line
 pub place_past-columns : (p : Place) (bytes : List ℕ) → has_no_lf bytes ≡ true → place_past p bytes ≡ columns_on p (length bytes)
@@ -48,7 +49,8 @@ place_past-columns p [] h = columns_on-none p
 place_past-columns p (b ∷ bs) h =
     let both = and_parts (not (b == 10)) (has_no_lf bs) h in
     let here : place_after p b ≡ columns_on p 1 = cond-false (b == 10) _ _ (not-true (b == 10) both.0) in
-    place_past-columns (place_after p b) bs both.1 ∙ ap (λ q. columns_on q (length bs)) here ∙ columns_on-more p (length bs) ∙ ap (columns_on p) (omega arith)
+    place_past-columns (place_after p b) bs both.1 ∙ ap (λ q. columns_on q (length bs)) here ∙ columns_on-more p (length bs)
+    ∙ ap (columns_on p) (omega arith)
 
 -- what stands at a front, cut off there
 cut-stands : (f : Front) (p : Place) (bytes : List ℕ) → FrontStands f bytes → NextStands p bytes (cut f p bytes)
@@ -80,7 +82,9 @@ one_further p b bs (Refused fault) h =
     record { before = b ∷ h.before; byte = h.byte; after = h.after; parts = ap (λ l. b ∷ l) h.parts; stands = h.stands }
 
 -- the step of `next_from-stands`
-step-stands : (s : Step) (edition : Edition) (p : Place) (b : ℕ) (bs : List ℕ) → ((comment : Bool) → NextStands (place_after p b) bs (next_from edition comment (place_after p b) bs)) → NextStands p (b ∷ bs) (next_by s edition p b bs)
+step-stands : (s : Step) (edition : Edition) (p : Place) (b : ℕ) (bs : List ℕ)
+    → ((comment : Bool) → NextStands (place_after p b) bs (next_from edition comment (place_after p b) bs))
+    → NextStands p (b ∷ bs) (next_by s edition p b bs)
 step-stands (Pass comment) edition p b bs h =
     one_further p b bs (next_from edition comment (place_after p b) bs) (h comment)
 step-stands Begin edition p b bs h = cut-stands (front edition (b ∷ bs)) p (b ∷ bs) (front-stands edition b bs)
@@ -91,14 +95,17 @@ step-stands Fault edition p b bs h =
 pub next_from-stands : (edition : Edition) (comment : Bool) (p : Place) (bytes : List ℕ) → NextStands p bytes (next_from edition comment p bytes)
 next_from-stands edition comment p [] = refl
 next_from-stands edition comment p (b ∷ bs) =
-    subst (NextStands p (b ∷ bs)) (sym (by_step edition comment p b bs)) (step-stands (step_of comment b) edition p b bs (λ c. next_from-stands edition c (place_after p b) bs))
+    subst (NextStands p (b ∷ bs)) (sym (by_step edition comment p b bs))
+    (step-stands (step_of comment b) edition p b bs (λ c. next_from-stands edition c (place_after p b) bs))
 
 -- a token that comes next stands behind a gap
-pub found-stands : (edition : Edition) (comment : Bool) (p : Place) (bytes : List ℕ) (token : Lexeme) (at : Place) (left : List ℕ) → next_from edition comment p bytes ≡ Found token at left → FoundStands p bytes token at left
+pub found-stands : (edition : Edition) (comment : Bool) (p : Place) (bytes : List ℕ) (token : Lexeme) (at : Place) (left : List ℕ)
+    → next_from edition comment p bytes ≡ Found token at left → FoundStands p bytes token at left
 found-stands edition comment p bytes token at left e = subst (NextStands p bytes) e (next_from-stands edition comment p bytes)
 
 -- each token leaves fewer bytes
-pub found-progress : (edition : Edition) (comment : Bool) (p : Place) (bytes : List ℕ) (token : Lexeme) (at : Place) (left : List ℕ) → next_from edition comment p bytes ≡ Found token at left → length left < length bytes
+pub found-progress : (edition : Edition) (comment : Bool) (p : Place) (bytes : List ℕ) (token : Lexeme) (at : Place) (left : List ℕ)
+    → next_from edition comment p bytes ≡ Found token at left → length left < length bytes
 found-progress edition comment p bytes token at left e =
     let s = found-stands edition comment p bytes token at left e in
     omega (arith, ap length s.parts, length-append s.gap (token.text ++ left), length-append token.text left, s.some)

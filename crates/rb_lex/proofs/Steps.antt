@@ -18,18 +18,23 @@ next_by Begin edition p b bs = here edition p (b ∷ bs)
 next_by Fault edition p b bs = Refused (record { name = X1; place = p })
 
 -- the two cases of `by_step`, over the tests of the byte
-in_comment : (is_end goes_on : Bool) (edition : Edition) (p : Place) (b : ℕ) (bs : List ℕ) → cond is_end (next_by (Pass false) edition p b bs) (cond goes_on (next_by (Pass true) edition p b bs) (next_by Fault edition p b bs)) ≡ next_by (cond is_end (Pass false) (cond goes_on (Pass true) Fault)) edition p b bs
+in_comment : (is_end goes_on : Bool) (edition : Edition) (p : Place) (b : ℕ) (bs : List ℕ)
+    → cond is_end (next_by (Pass false) edition p b bs) (cond goes_on (next_by (Pass true) edition p b bs) (next_by Fault edition p b bs))
+    ≡ next_by (cond is_end (Pass false) (cond goes_on (Pass true) Fault)) edition p b bs
 in_comment true _ edition p b bs = refl
 in_comment false true edition p b bs = refl
 in_comment false false edition p b bs = refl
 
-outside : (blank begins : Bool) (edition : Edition) (p : Place) (b : ℕ) (bs : List ℕ) → cond blank (next_by (Pass false) edition p b bs) (cond begins (next_by (Pass true) edition p b bs) (next_by Begin edition p b bs)) ≡ next_by (cond blank (Pass false) (cond begins (Pass true) Begin)) edition p b bs
+outside : (blank begins : Bool) (edition : Edition) (p : Place) (b : ℕ) (bs : List ℕ)
+    → cond blank (next_by (Pass false) edition p b bs) (cond begins (next_by (Pass true) edition p b bs) (next_by Begin edition p b bs))
+    ≡ next_by (cond blank (Pass false) (cond begins (Pass true) Begin)) edition p b bs
 outside true _ edition p b bs = refl
 outside false true edition p b bs = refl
 outside false false edition p b bs = refl
 
 -- one step of the definition
-pub by_step : (edition : Edition) (comment : Bool) (p : Place) (b : ℕ) (bs : List ℕ) → next_from edition comment p (b ∷ bs) ≡ next_by (step_of comment b) edition p b bs
+pub by_step : (edition : Edition) (comment : Bool) (p : Place) (b : ℕ) (bs : List ℕ)
+    → next_from edition comment p (b ∷ bs) ≡ next_by (step_of comment b) edition p b bs
 by_step edition true p b bs = in_comment (b == 10) (is_comment_byte b) edition p b bs
 by_step edition false p b bs = outside (is_blank b) (b == 35) edition p b bs
 
@@ -38,16 +43,20 @@ rest_cons : (b : ℕ) (bs : List ℕ) → take (length (b ∷ bs) - 1) (drop 1 (
 rest_cons b bs = grind (arith, common_steps)
 
 -- a byte that is passed changes nothing of what comes next
-pub passed : (edition : Edition) (comment goes_on : Bool) (p : Place) (bytes : List ℕ) → 1 ≤ length bytes → step_of comment (get_or bytes 0 0) ≡ Pass goes_on → next_from edition comment p bytes ≡ next_from edition goes_on (place_after p (get_or bytes 0 0)) (take (length bytes - 1) (drop 1 bytes))
+pub passed : (edition : Edition) (comment goes_on : Bool) (p : Place) (bytes : List ℕ) → 1 ≤ length bytes
+    → step_of comment (get_or bytes 0 0) ≡ Pass goes_on
+    → next_from edition comment p bytes ≡ next_from edition goes_on (place_after p (get_or bytes 0 0)) (take (length bytes - 1) (drop 1 bytes))
 passed edition comment goes_on p [] h e = absurd (omega arith)
 passed edition comment goes_on p (b ∷ bs) h e =
     rw (rest_cons b bs) (by_step edition comment p b bs ∙ ap (λ s. next_by s edition p b bs) e)
 
 -- where a token begins, it comes next
-pub begins : (edition : Edition) (comment : Bool) (p : Place) (bytes : List ℕ) → 1 ≤ length bytes → step_of comment (get_or bytes 0 0) ≡ Begin → next_from edition comment p bytes ≡ here edition p bytes
+pub begins : (edition : Edition) (comment : Bool) (p : Place) (bytes : List ℕ) → 1 ≤ length bytes
+    → step_of comment (get_or bytes 0 0) ≡ Begin → next_from edition comment p bytes ≡ here edition p bytes
 begins edition comment p [] h e = absurd (omega arith)
 begins edition comment p (b ∷ bs) h e = by_step edition comment p b bs ∙ ap (λ s. next_by s edition p b bs) e
 
 -- a byte that is passed leaves room
-pub HasRoom-after : (p : Place) (bytes : List ℕ) → 1 ≤ length bytes → HasRoom p bytes → HasRoom (place_after p (get_or bytes 0 0)) (take (length bytes - 1) (drop 1 bytes))
+pub HasRoom-after : (p : Place) (bytes : List ℕ) → 1 ≤ length bytes → HasRoom p bytes
+    → HasRoom (place_after p (get_or bytes 0 0)) (take (length bytes - 1) (drop 1 bytes))
 HasRoom-after p bytes h e = grind (arith, common_steps, nat_tests)

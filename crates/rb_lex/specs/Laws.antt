@@ -23,7 +23,9 @@ StandsAt source text place = (before : List ℕ) × (after : List ℕ) × (sourc
 
 -- each token's text is the part of the source at its place
 abbrev pub TokensStand : Type 0
-TokensStand = (bytes : List ℕ) (tokens : List Lexeme) (ending : Ending) → Tokens bytes tokens ending → All (λ token. StandsAt bytes token.text token.place) tokens
+TokensStand =
+    (bytes : List ℕ) (tokens : List Lexeme) (ending : Ending) → Tokens bytes tokens ending
+    → All (λ token. StandsAt bytes token.text token.place) tokens
 
 -- one place stands before another: on an earlier line, or on its line at an earlier column
 abbrev pub IsBefore : Place → Place → Type 0
@@ -31,7 +33,8 @@ IsBefore p q = (p.line < q.line) ⊎ ((p.line ≡ q.line) × (p.column < q.colum
 
 -- each token stands before all later ones
 abbrev pub TokensRise : Type 0
-TokensRise = (bytes : List ℕ) (tokens : List Lexeme) (ending : Ending) → Tokens bytes tokens ending → AllPairs (λ t u. IsBefore t.place u.place) tokens
+TokensRise =
+    (bytes : List ℕ) (tokens : List Lexeme) (ending : Ending) → Tokens bytes tokens ending → AllPairs (λ t u. IsBefore t.place u.place) tokens
 
 -- the end stands behind the last byte, and a fault at some byte
 abbrev pub EndingStandsAt : List ℕ → Ending → Type 0
@@ -48,11 +51,13 @@ since_last_lf bytes = suffix_len (λ b. not (b == 10)) bytes
 
 -- a line counts the LF before it, and a column the bytes since the last of them
 abbrev pub PlacesCount : Type 0
-PlacesCount = (before : List ℕ) → place_past first_place before ≡ record { line = 1 + count_by (λ b. b == 10) before; column = 1 + since_last_lf before }
+PlacesCount =
+    (before : List ℕ) → place_past first_place before ≡ record { line = 1 + count_by (λ b. b == 10) before; column = 1 + since_last_lf before }
 
 -- What a lexer answers is the first of the tokens that it has left, or their ending. Each token leaves fewer bytes.
 abbrev pub AnswersFirst : Type 0
-AnswersFirst = (old new : Reader) (token : Token) → Answers old (Ok (Some token)) new → (tokens_left old ≡ lexeme_of token ∷ tokens_left new) × (ending_left old ≡ ending_left new) × (length new.left < length old.left)
+AnswersFirst = (old new : Reader) (token : Token) → Answers old (Ok (Some token)) new
+    → (tokens_left old ≡ lexeme_of token ∷ tokens_left new) × (ending_left old ≡ ending_left new) × (length new.left < length old.left)
 
 -- where a lexer answers that there is no token, it has none left, and the source ends there
 abbrev pub AnswersEnd : Type 0
@@ -64,8 +69,10 @@ AnswersFault = (old new : Reader) (fault : SourceFault) → Answers old (Err fau
 
 -- the end, or a fault, is answered again, and nothing changes
 abbrev pub EndStays : Type 0
-EndStays = (a b c : Reader) (outcome : Result (Option Token) SourceFault) → Answers a (Ok None) b → Answers b outcome c → (outcome ≡ Ok None) × (c ≡ b)
+EndStays = (a b c : Reader) (outcome : Result (Option Token) SourceFault) → Answers a (Ok None) b → Answers b outcome c
+    → (outcome ≡ Ok None) × (c ≡ b)
 
 -- a fault is answered again, and nothing changes
 abbrev pub FaultStays : Type 0
-FaultStays = (a b c : Reader) (fault : SourceFault) (outcome : Result (Option Token) SourceFault) → Answers a (Err fault) b → Answers b outcome c → (outcome ≡ Err fault) × (c ≡ b)
+FaultStays = (a b c : Reader) (fault : SourceFault) (outcome : Result (Option Token) SourceFault) → Answers a (Err fault) b
+    → Answers b outcome c → (outcome ≡ Err fault) × (c ≡ b)

@@ -27,7 +27,11 @@ is_one_of words text = list_any (λ word. pointwise nat_eq word text) words
 
 -- the reserved words of both editions
 abbrev pub common_words : List (List ℕ)
-common_words = codes "all" ∷ codes "and" ∷ codes "by" ∷ codes "call" ∷ codes "channel" ∷ codes "conversation" ∷ codes "converse" ∷ codes "else" ∷ codes "end" ∷ codes "ensure" ∷ codes "error" ∷ codes "fail" ∷ codes "from" ∷ codes "if" ∷ codes "not" ∷ codes "or" ∷ codes "print" ∷ codes "prior" ∷ codes "procedure" ∷ codes "process" ∷ codes "program" ∷ codes "receive" ∷ codes "send" ∷ codes "size" ∷ codes "to" ∷ codes "var" ∷ codes "while" ∷ codes "within" ∷ []
+common_words = codes "all" ∷ codes "and" ∷ codes "by" ∷ codes "call" ∷ codes "channel" ∷ codes "conversation"
+    ∷ codes "converse" ∷ codes "else" ∷ codes "end" ∷ codes "ensure" ∷ codes "error" ∷ codes "fail" ∷ codes "from"
+    ∷ codes "if" ∷ codes "not" ∷ codes "or" ∷ codes "print" ∷ codes "prior" ∷ codes "procedure" ∷ codes "process"
+    ∷ codes "program" ∷ codes "receive" ∷ codes "send" ∷ codes "size" ∷ codes "to" ∷ codes "var" ∷ codes "while"
+    ∷ codes "within" ∷ []
 
 -- the words that an edition reserves beside them
 abbrev pub own_words : Edition → List (List ℕ)
@@ -44,7 +48,8 @@ two_marks = codes ":=" ∷ codes "<>" ∷ codes "<=" ∷ codes ">=" ∷ []
 
 -- the marks of one byte
 abbrev pub one_marks : List (List ℕ)
-one_marks = codes ";" ∷ codes "," ∷ codes "." ∷ codes "(" ∷ codes ")" ∷ codes "{" ∷ codes "}" ∷ codes "[" ∷ codes "]" ∷ codes "=" ∷ codes "<" ∷ codes ">" ∷ codes "+" ∷ codes "-" ∷ codes "*" ∷ codes "/" ∷ codes "%" ∷ []
+one_marks = codes ";" ∷ codes "," ∷ codes "." ∷ codes "(" ∷ codes ")" ∷ codes "{" ∷ codes "}" ∷ codes "[" ∷ codes "]"
+    ∷ codes "=" ∷ codes "<" ∷ codes ">" ∷ codes "+" ∷ codes "-" ∷ codes "*" ∷ codes "/" ∷ codes "%" ∷ []
 
 -- the marks of one byte that an edition has beside them
 abbrev pub own_marks : Edition → List (List ℕ)
@@ -136,8 +141,11 @@ pub data Ending : Type 0 where
 -- The bytes from a place on are these tokens, and then this ending.
 pub data TokensFrom (edition : Edition) : Place → List ℕ → List Lexeme → Ending → Type 0 where
   no_more : (p : Place) (bytes : List ℕ) (at : Place) → next_from edition false p bytes ≡ End at → TokensFrom edition p bytes [] (AtEnd at)
-  one_more : (p : Place) (bytes : List ℕ) (token : Lexeme) (at : Place) (left : List ℕ) (tokens : List Lexeme) (ending : Ending) → next_from edition false p bytes ≡ Found token at left → TokensFrom edition at left tokens ending → TokensFrom edition p bytes (token ∷ tokens) ending
-  a_fault : (p : Place) (bytes : List ℕ) (fault : SourceFault) → next_from edition false p bytes ≡ Refused fault → TokensFrom edition p bytes [] (AtFault fault)
+  one_more : (p : Place) (bytes : List ℕ) (token : Lexeme) (at : Place) (left : List ℕ) (tokens : List Lexeme) (ending : Ending)
+      → next_from edition false p bytes ≡ Found token at left → TokensFrom edition at left tokens ending
+      → TokensFrom edition p bytes (token ∷ tokens) ending
+  a_fault : (p : Place) (bytes : List ℕ) (fault : SourceFault) → next_from edition false p bytes ≡ Refused fault
+      → TokensFrom edition p bytes [] (AtFault fault)
 
 -- the tokens of a whole text
 abbrev pub Tokens : List ℕ → List Lexeme → Ending → Type 0

@@ -67,7 +67,8 @@ module _ {S C M : Type 0} (k : Kind S C M) (t p : ℕ) (before : List (Process S
       either talk.is_broken (undone (with_process p (fallen k Broken) w, [])) (open_at k t p facts talk.alternate q w)
       (undone_so (with_process p (fallen k Broken) w, [])) (open_so facts talk.alternate q w h)
 
-  entered_so : (facts : Facts) (conversation : Option ℕ) (q : Process S C) (w : World S C M) → So w → Alone (enter_either k t p facts conversation q w)
+  entered_so : (facts : Facts) (conversation : Option ℕ) (q : Process S C) (w : World S C M) → So w
+      → Alone (enter_either k t p facts conversation q w)
   entered_so facts None q w h = open_so facts 1 q w h
   entered_so facts (Some c) q w h = join_so facts q w (talk_at w c) h
 

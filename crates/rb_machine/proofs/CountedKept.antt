@@ -78,7 +78,8 @@ module _ (c : Code) (groups : List Membership) (table : Table) (has : HasTable c
     went s m e =
         let kept : Standing = record s { last_kept = n } in
         let rests : Stands c table kept q.levels =
-        stands_like c table s q.levels q.levels s.words n s.held s.touched refl refl refl (subst (StandsAfter c table q.state q.levels) e step_stands) in
+        stands_like c table s q.levels q.levels s.words n s.held s.touched refl refl refl
+        (subst (StandsAfter c table q.state q.levels) e step_stands) in
         let same : settle c (copy_of (last_of q.levels)) kept ≡ kept =
         standing_has_settled c groups kept q.levels (record { table = table; has = has; lists = lists; stands = rests }) in
         let rise : RiseAfter c q.state (Went s m) = subst (RiseAfter c q.state) e step_rises in
@@ -117,7 +118,9 @@ module _ (c : Code) (groups : List Membership) (table : Table) (has : HasTable c
   leaves_below turns messages p d q number stands h true e =
       left_below c groups turns messages p state false (status_at (want c state)) q
       (settled_cursors p messages left (without_last q.levels) number
-      (by q.status (subst (λ line. StandsNow c table q.status line q.state q.levels) (first_holds q.at_line (is_last_of d (last_of q.levels)) e) stands.now))
+      (by q.status
+      (subst (λ line. StandsNow c table q.status line q.state q.levels)
+      (first_holds q.at_line (is_last_of d (last_of q.levels)) e) stands.now))
       h.cursors) h
     where
       left : Standing

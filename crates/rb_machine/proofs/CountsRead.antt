@@ -72,7 +72,8 @@ own_cursor c end p channel words e =
     ∙ ap (λ (b : Bool). cond b (cursor_in c end words (0 + channel)) 0) (eq-eqb end end refl)
     ∙ ap (cursor_in c end words) (zero-add channel)
 
-module _ (c : Code) (procs : List Seen) (counted : AreCounted c procs) (channel : ℕ) (ends : Ends) (at : slice_get c.channels channel ≡ Some ends) where
+module _ (c : Code) (procs : List Seen) (counted : AreCounted c procs) (channel : ℕ) (ends : Ends)
+    (at : slice_get c.channels channel ≡ Some ends) where
   there : (p : ℕ) → p < length c.processes → p < length procs
   there p h = omega (arith, h, counted.numbered.as_many)
 

@@ -34,7 +34,8 @@ use Rattle.rb_machine.proofs.Placed.Wants.{IsEntering, enters_block}
 use Rattle.rb_machine.proofs.SeenWorlds.{processes_at}
 
 -- a move without rejections or a pass has come to the world of these parts
-pub record ComesTo (procs : List Seen) (table : List Conversation) (memory : Common) (turned : TurnKind) (moved : Moved Standing Copy Common) : Type 0 where
+pub record ComesTo (procs : List Seen) (table : List Conversation) (memory : Common) (turned : TurnKind)
+    (moved : Moved Standing Copy Common) : Type 0 where
   pub world : world_of procs table memory ≡ moved.world
   pub kind : turned ≡ moved.kind
   pub rejections : [] ≡ moved.rejections
@@ -122,12 +123,18 @@ module _ (c : Code) (table : List Conversation) (slots : Slots) (links : List Li
       ∙ ap (λ (x : Common). record { processes = change_at p (λ _. later) (processes_of procs); talks = talks table; memory = x }) m)
 
   -- a member has failed
-  pub fallen_world : (procs' : List Seen) (table' : List Conversation) → procs' ≡ change_at p (changed (fallen (kind_of c) Broken)) procs → talks table' ≡ talks table
+  pub fallen_world : (procs' : List Seen) (table' : List Conversation)
+      → procs' ≡ change_at p (changed (fallen (kind_of c) Broken)) procs → talks table' ≡ talks table
       → world_of procs' table' (memory_of slots links) ≡ with_process p (fallen k Broken) before
   fallen_world procs' table' falls same =
       ap (λ (x : List (Process Standing Copy)). record { processes = x; talks = talks table'; memory = memory_of slots links })
       (ap processes_of falls ∙ processes_at p (fallen k Broken) procs)
-      ∙ ap (λ (x : List Talk). record { processes = change_at p (fallen k Broken) (processes_of procs); talks = x; memory = memory_of slots links }) same
+      ∙ ap (λ (x : List Talk). record {
+        processes = change_at p (fallen k Broken) (processes_of procs);
+        talks = x;
+        memory =
+            memory_of slots links;
+      }) same
 
   module _ (q : Process Standing Copy) where
     abbrev Falls : Moved Standing Copy Common
@@ -192,7 +199,8 @@ module _ (c : Code) (t : ℕ) (procs : List Seen) (table : List Conversation) (s
     is_entering : IsEntering c (memberships table) facts
     is_entering =
         let sound = work.loaded.sound in
-        enters_block c (memberships table) sound.table sound.has sound.well.lists p one.process is_placed acts.running acts.away facts sound.well wants
+        enters_block c
+        (memberships table) sound.table sound.has sound.well.lists p one.process is_placed acts.running acts.away facts sound.well wants
 
     block_there : slice_get c.blocks b ≡ Some is_entering.block
     block_there =
@@ -240,7 +248,8 @@ module _ (c : Code) (t : ℕ) (procs : List Seen) (table : List Conversation) (s
             passes = refl;
           })
 
-      pub has_failed : answer ≡ None → procs' ≡ change_at p (changed (fallen (kind_of c) Broken)) procs → ComesTo procs' table' (memory_of slots links) Undone Moves
+      pub has_failed : answer ≡ None → procs' ≡ change_at p (changed (fallen (kind_of c) Broken)) procs
+          → ComesTo procs' table' (memory_of slots links) Undone Moves
       has_failed is falls =
           subst (ComesTo procs' table' (memory_of slots links) Undone)
           (sym (entry_allowed c table slots links turn p procs facts one.process few

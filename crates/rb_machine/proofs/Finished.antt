@@ -140,7 +140,8 @@ module _ (p : ℕ) (running : List Bool) (procs : List Seen) (alone : WasAlone p
 
     -- what is told of it is all that is told
     pub told_here : length running ≡ length procs → (events event : List Event)
-        → event ≡ ended_if ending.Failed p (get_or running p false) read.process.status ++ ended_if ending.Done p (get_or running p false) read.process.status
+        → event ≡ ended_if ending.Failed p (get_or running p false) read.process.status
+        ++ ended_if ending.Done p (get_or running p false) read.process.status
         → events ++ event ≡ events ++ (ended_by ending.Failed 0 running (processes_of procs) ++ ended_by ending.Done 0 running (processes_of procs))
     told_here as_many events event told =
         let ran : Bool = get_or running p false in
@@ -205,7 +206,8 @@ twice_none : (words : List ℤ) → slice_set (slice_set words held_place (pos 0
 twice_none [] = refl
 twice_none (word ∷ words) = refl
 
-one_freed : (c : Code) (groups : List Membership) (levels : List (Level Copy)) (s : Standing) → HoldsNone levels (state_freed (word_kind c groups) s levels)
+one_freed : (c : Code) (groups : List Membership) (levels : List (Level Copy)) (s : Standing)
+    → HoldsNone levels (state_freed (word_kind c groups) s levels)
 one_freed c groups [] s = (ap (λ (words : List ℤ). record s { held = []; words = words }) (twice_none s.words), refl)
 one_freed c groups (level ∷ levels) s = tt
 

@@ -76,10 +76,12 @@ may_after_together table c j levels there at may =
       nested = subst (λ (ms : List Membership). AreNested ms (take (j + 1) levels)) (sym (members_stay table c 0).rejection) alone.nested;
       tries = λ i d outer below.
           let tries : TriesWith table d outer.level = alone.tries i d outer below in
-          let out : IsLevelOf d levels i = record { level = outer.level; there = (get_take (j + 1) levels i outer.level outer.there).1; of_it = outer.of_it } in
+          let out : IsLevelOf d levels i =
+          record { level = outer.level; there = (get_take (j + 1) levels i outer.level outer.there).1; of_it = outer.of_it } in
           let other : d ≢ c = λ (same : d ≡ c).
           let moved : IsLevelOf c levels i = subst (λ (x : ℕ). IsLevelOf x levels i) same out in
           let one : i ≡ j = same_number groups levels levels may.nested may.nested c i j moved at in omega (arith, below, one) in
           tries_alike table (rejected c table) d outer.level (subst (λ (n : ℕ). d < n) (sym (length-rejected table c)) tries.there)
-          (row_beside table c d there tries.there other (not_below groups levels may.nested (length table) c d i j at out (omega (arith, below)))) tries;
+          (row_beside table c d there tries.there other
+          (not_below groups levels may.nested (length table) c d i j at out (omega (arith, below)))) tries;
     }

@@ -232,7 +232,8 @@ module _ (lines : List (List ℕ)) (size : ℤ) where
     comes_held : (a : ℕ) (e : Entry) (xs : List ℤ) (m : Memory) → t a ≡ Some e → Fits c t see levels a e xs m → (rank e.mode ≡ 1 → ⊥)
         → HoldsIn m → Held (execute c see (most_steps c) a xs m)
     comes_held a e xs m q fits clean =
-        from_here c groups t see levels Nothing nothing_keeps has lists exists former (Comes (most_steps c)) (comes (most_steps c)) a e xs m q fits clean
+        from_here c groups t see levels Nothing nothing_keeps has lists exists former (Comes (most_steps c))
+        (comes (most_steps c)) a e xs m q fits clean
 
 -- a process that settles holds what it held
 module _ (c : Code) (groups : List Membership) (t : Table) (has : HasTable c groups t) (lists : ListsChannels c) (s : Standing)
@@ -240,7 +241,8 @@ module _ (c : Code) (groups : List Membership) (t : Table) (has : HasTable c gro
   abbrev see_settling : Sight
   see_settling = sight s 0 (copy_of (last_of levels)) None
 
-  pub settling_holds : Holds s.held (word_at s.words held_place) (settle c (copy_of (last_of levels)) s).held (settle c (copy_of (last_of levels)) s).words
+  pub settling_holds : Holds s.held (word_at s.words held_place) (settle c (copy_of (last_of levels)) s).held
+      (settle c (copy_of (last_of levels)) s).words
   settling_holds =
       by (execute c see_settling (most_steps c) s.at [] (memory_of s []))
       (comes_held s.held (word_at s.words held_place) c groups t see_settling (inside_out levels) has lists settles.exists (former_is levels) s.at

@@ -16,7 +16,8 @@ use Rattle.rb_machine.specs.Stepping.{IsInnermost, tried_by}
 use Rattle.rb_machine.proofs.Changed.{last_there}
 
 -- the level at the last number is the innermost one
-pub innermost_seen : (levels : List (Level Copy)) (n : ℕ) (view : LevelView) → n ≡ length levels → (n ≡ 0 → ⊥) → IsViewOf (slice_get levels (n - 1)) view
+pub innermost_seen : (levels : List (Level Copy)) (n : ℕ) (view : LevelView) → n ≡ length levels → (n ≡ 0 → ⊥)
+    → IsViewOf (slice_get levels (n - 1)) view
     → IsInnermost (last_of levels) (Some view)
 innermost_seen levels n view long some h = by (slice_get levels (n - 1)) refl h
   where

@@ -42,7 +42,8 @@ row_there v (x ∷ xs) zero y e = (omega arith, some_same e)
 row_there v (x ∷ xs) (suc d) y e = let rest = row_there v xs d y e in (omega (arith, rest.0), rest.1)
 
 -- who stands at a line settles once its innermost level is accepted
-line_settles : (c : Code) (t : Table) (status : Status) (at_line : Bool) (s : Standing) (levels : List (Level Copy)) → StandsNow c t status at_line s levels
+line_settles : (c : Code) (t : Table) (status : Status) (at_line : Bool) (s : Standing) (levels : List (Level Copy))
+    → StandsNow c t status at_line s levels
     → at_line ≡ true → Settles c t (record s { touched = accepted s.touched }) (without_last levels)
 line_settles c t (FailedWith cause) at_line s levels h e = absurd (true≢false (sym e ∙ h))
 line_settles c t Running true s levels h e = h
@@ -57,7 +58,8 @@ last_tried (l ∷ []) each = let h = each 0 l refl in (h.first, h.last)
 last_tried (l ∷ m ∷ ls) each = last_tried (m ∷ ls) (λ n. each (suc n))
 
 -- a step gets what it wants
-step_serves : (c : Code) (s : Standing) (slots : Slots) (there : Bool) (levels : List (Level Copy)) (w : Want) → Each (λ _ level. IsTried level) levels
+step_serves : (c : Code) (s : Standing) (slots : Slots) (there : Bool) (levels : List (Level Copy)) (w : Want)
+    → Each (λ _ level. IsTried level) levels
     → IsStep there w → Serves w (alternate_for w levels) (message_for c s slots there w) levels
 step_serves c s slots there levels NothingLeft tried h = h
 step_serves c s slots there levels (SendsOn channel) tried h = tt
@@ -97,7 +99,8 @@ module _ (c : Code) (table : List Conversation) (loaded : IsLoaded c (membership
   pub are_quiet : HasFewAlternates c → NoneWaits procs → AreQuiet procs
   are_quiet few waits = record {
     lines = waits;
-    rise = all_of_each CanRise procs (λ p one e. all_of_each (λ (level : Level Copy). level.alternate < 2 ^ 32 - 1) one.process.levels (λ i level there.
+    rise = all_of_each CanRise procs
+        (λ p one e. all_of_each (λ (level : Level Copy). level.alternate < 2 ^ 32 - 1) one.process.levels (λ i level there.
         let here = process_there procs p one e in
         let block = (known.placed p one.process here).blocks i level there in
         let tried = known.tried p one.process here i level there in
@@ -111,7 +114,8 @@ module _ (c : Code) (table : List Conversation) (loaded : IsLoaded c (membership
   pub is_listed : (p : ℕ) (one : Seen) → slice_get procs p ≡ Some one → IsListed (length table) (conversation_in (last_of one.process.levels))
   is_listed p one e = by (last_of one.process.levels) refl
     where
-      of_level : (level : Level Copy) → last_of one.process.levels ≡ Some level → (o : Option ℕ) → level.facts.conversation ≡ o → IsListed (length table) o
+      of_level : (level : Level Copy) → last_of one.process.levels ≡ Some level → (o : Option ℕ)
+          → level.facts.conversation ≡ o → IsListed (length table) o
       of_level level last None of_it = tt
       of_level level last (Some d) of_it =
           let found = last_found one.process.levels level last in
@@ -153,7 +157,8 @@ module _ (c : Code) (table : List Conversation) (loaded : IsLoaded c (membership
             table = loaded.sound.table;
             has = loaded.sound.has;
             lists = loaded.sound.well.lists;
-            stands = stands_to_step c (memberships table) loaded.sound.table loaded.sound.has loaded.sound.well.lists q placed.stands act.running act.away;
+            stands = stands_to_step c
+                (memberships table) loaded.sound.table loaded.sound.has loaded.sound.well.lists q placed.stands act.running act.away;
           },
         );
         serves = step_serves c q.state slots there q.levels (want c q.state) (known.tried p q here) step;

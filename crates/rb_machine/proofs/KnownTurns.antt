@@ -41,7 +41,8 @@ module _ (c : Code) (groups : List Membership) (counts : List ℕ) (loaded : IsL
   pub known_turn : (t p : ℕ) (w : WordWorld) → IsKnown c groups counts loaded.sound.table t w
       → IsKnown c groups counts loaded.sound.table (t + 1) (turn Words t p w).0
   known_turn t p w known =
-      let fits = word_turn_fits c groups counts loaded loaded.sound.table keeps t p w known.placed (known_fits c groups counts loaded loaded.sound.table t w known) in
+      let fits = word_turn_fits c groups counts loaded loaded.sound.table keeps t p w known.placed
+      (known_fits c groups counts loaded loaded.sound.table t w known) in
       record {
         processes = turn-processes Words t p w ∙ known.processes;
         talks = turn-talks Words t p w ∙ known.talks;

@@ -47,7 +47,8 @@ empty_next (suc n) (suc p) = ap (λ (others : List (List (List ℕ))). [] ∷ ot
 
 still_none : (old new : List Seen) (p : ℕ) → lines_of new ≡ without_next (lines_of old) p → NoneWaits old → NoneWaits new
 still_none old new p lent none =
-    none_wait new (length old) (lent ∙ (ap (λ (lines : List (List (List ℕ))). without_next lines p) (waits_none old none) ∙ empty_next (length old) p))
+    none_wait new (length old)
+    (lent ∙ (ap (λ (lines : List (List (List ℕ))). without_next lines p) (waits_none old none) ∙ empty_next (length old) p))
 
 -- so parts with the same processes, and with all else the same, are tied again
 pub tied_same : {L : Type 0} (c : Code) (old new : Parts L) (running : List Bool) (taken most : ℕ) (before released : Bool)

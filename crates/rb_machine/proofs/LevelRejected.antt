@@ -65,7 +65,8 @@ module _ (procs : List Seen) (table : List Conversation) (p j : ℕ) (d : Seen) 
     same_at c = ap (set procs p) (is_new c) ∙ set-changes (changed (tried_alone (kind_of c) more j)) procs p e within
 
     pub alone_rejected : (cause : Cause) (spent : Bool) (event : Event) (events events' : List Event) → view.conversation ≡ None → spent ≡ not more
-        → event ≡ rejection_of p view cause → events' ≡ events ++ event ∷ [] → HasRejected p j cause spent procs table events (set procs p new) table events'
+        → event ≡ rejection_of p view cause → events' ≡ events ++ event ∷ []
+        → HasRejected p j cause spent procs table events (set procs p new) table events'
     alone_rejected cause spent event events events' alone is_spent is_event added = record {
       event = event;
       told = added;

@@ -73,7 +73,8 @@ module _ (c : Code) (start after : ℕ) where
       where
         at_some : Within (NamedAt (Some d))
         at_some =
-            subst (λ (qs : List (Process Standing Copy)). Within (named_at_line c (memberships table) d (record { processes = qs; talks = talks table; memory = memory })))
+            subst (λ (qs : List (Process Standing Copy)). Within
+            (named_at_line c (memberships table) d (record { processes = qs; talks = talks table; memory = memory })))
             (ap processes_of (stands ∙ change_there p stood one procs there)
             ∙ map_changed (λ (x : Seen). x.process) (λ _. stood one) (λ _. (stood one).process) p procs (λ x e. refl))
             h

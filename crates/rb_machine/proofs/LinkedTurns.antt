@@ -124,7 +124,8 @@ module _ (links : List Link) (t p : ℕ) where
     leaves_linked d q false h = h
     leaves_linked d q true h =
         let left : Standing = record q.state { touched = accepted q.state.touched } in
-        let same : IsSameProcess left (settled Words left (without_last q.levels)).state = settle_same c (copy_of (last_of (without_last q.levels))) left in
+        let same : IsSameProcess left (settled Words left (without_last q.levels)).state =
+        settle_same c (copy_of (last_of (without_last q.levels))) left in
         linked_from q (settled Words left (without_last q.levels)) same.process same.last_kept (from_without_last q.levels) h
 
     -- whoever is inside a conversation is changed
@@ -203,7 +204,8 @@ module _ (c : Code) (groups : List Membership) where
         subst (λ (copy : Copy). IsOwn links_then (n + 1) p copy.last_kept) found.same
         (old_last found.level.copy.last_kept (mine.copied i found.level found.there))
 
-    copied_more : (new : Level Copy) → new.copy.last_kept ≡ n → Each (λ _ level. IsOwn links_then (n + 1) p level.copy.last_kept) (q.levels ++ new ∷ [])
+    copied_more : (new : Level Copy) → new.copy.last_kept ≡ n
+        → Each (λ _ level. IsOwn links_then (n + 1) p level.copy.last_kept) (q.levels ++ new ∷ [])
     copied_more new is i level e = by_place (get_more q.levels new i level e)
       where
         by_place : IsOldOrNew q.levels new i level → IsOwn links_then (n + 1) p level.copy.last_kept
@@ -280,7 +282,8 @@ module _ (c : Code) (groups : List Membership) where
         later_linked t (t + 1) _ (omega arith)
         (with_processes t w h _ _ (one_changed t w h p (fallen TheWords cause) (λ x _ one. fallen_linked w.memory.links t p c groups cause x one)));
     tries_next = λ t past p q w j l h r x y.
-        let back = with_processes t w h _ w.talks (one_changed t w h p (put_back TheWords j) (λ z _ one. put_back_linked w.memory.links t p c groups j z one)) in
+        let back = with_processes t w h _ w.talks
+        (one_changed t w h p (put_back TheWords j) (λ z _ one. put_back_linked w.memory.links t p c groups j z one)) in
         later_linked t (t + 1) _ (omega arith)
         (with_processes t _ back _ _ (one_changed t _ back p (raised j) (λ z _ one. raised_linked w.memory.links t p c groups j z one)));
     is_spent = λ t past p q w j l h r x y.

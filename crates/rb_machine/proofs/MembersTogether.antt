@@ -24,7 +24,8 @@ use Rattle.rb_machine.proofs.OrderedRuns.{runs_ordered}
 among_first : (event : Event) (events others : List Event) → IsAmong event events → IsAmong event (events ++ others)
 among_first event [] others (i, e) = absurd (none_some e)
 among_first event (x ∷ events) others (zero, e) = (0, e)
-among_first event (x ∷ events) others (suc i, e) = let one : IsAmong event (events ++ others) = among_first event events others (i, e) in (suc one.0, one.1)
+among_first event (x ∷ events) others (suc i, e) = let one : IsAmong event (events ++ others) =
+    among_first event events others (i, e) in (suc one.0, one.1)
 
 among_rest : (event : Event) (events others : List Event) → IsAmong event others → IsAmong event (events ++ others)
 among_rest event [] others one = one
@@ -53,7 +54,8 @@ module _ (c : Code) (groups : List Membership) (d p : ℕ) (w : WordWorld) (move
 
   keep_levels : Keeps d w moved.world → KeepTheirLevels d w later
   keep_levels keeps r i q level has =
-      let kept : (now : Process Standing Copy) × (slice_get moved.world.processes r ≡ Some now) × Carries d q.levels now.levels = keeps r q has.there in
+      let kept : (now : Process Standing Copy) × (slice_get moved.world.processes r ≡ Some now) × Carries d q.levels now.levels =
+      keeps r q has.there in
       let one : (l : Level Copy) × (slice_get kept.0.levels i ≡ Some l) × (unused l ≡ unused level) =
       kept.2 i (record { level = level; there = has.level_there; of_it = has.of_it }) in (
         freed Words kept.0,

@@ -70,7 +70,8 @@ module _ (c : Code) (groups : List Membership) (t p : ℕ) (q : Process Standing
     NamesBy there x =
         named_by_acts c groups t p q w x ≡ named_by_steps c groups t p (alternate_for x q.levels) (message_for c q.state slots there x) q w
 
-    pub send_names : (channel : ℕ) → want c q.state ≡ SendsOn channel → has_room (word_kind c groups) w channel ≡ true → NamesBy false (want c q.state)
+    pub send_names : (channel : ℕ) → want c q.state ≡ SendsOn channel → has_room (word_kind c groups) w channel ≡ true
+        → NamesBy false (want c q.state)
     send_names channel wants room =
         subst (NamesBy false) (sym wants) (ap (λ (b : Bool). cond b (named_by_steps c groups t p 0 None q w) 0) room)
 
@@ -159,7 +160,8 @@ module _ (p : ℕ) (processes : List (Process Standing Copy)) where
       ∙ ap (λ (n : ℕ). places_put_back kind (touched_in processes) (touched_in after) + 4 * n) (counted_levels events)
 
 -- the work of a running process is that of its move
-module _ (c : Code) (groups : List Membership) (t p : ℕ) (before : WordWorld) (q : Process Standing Copy) (there : slice_get before.processes p ≡ Some q)
+module _ (c : Code) (groups : List Membership) (t p : ℕ) (before : WordWorld) (q : Process Standing Copy)
+    (there : slice_get before.processes p ≡ Some q)
     (running : q.status ≡ Running) where
   abbrev Costs : TurnKind → Option (Process Standing Copy) → ℕ → List Event → WordWorld → ℕ
   Costs kind o names events after =
@@ -177,4 +179,5 @@ module _ (c : Code) (groups : List Membership) (t p : ℕ) (before : WordWorld) 
       ∙ (ap (λ (o : Option (Process Standing Copy)). Costs moved.kind o names events (world parts)) (sym there)
       ∙ (ap (λ (n : ℕ). Costs moved.kind (slice_get before.processes p) n events (world parts)) named_of_running
       ∙ (ap (λ (es : List Event). Costs moved.kind (slice_get before.processes p) (named_in_turn c groups t p before) es (world parts)) has.rejections
-      ∙ ap (λ (after : WordWorld). Costs moved.kind (slice_get before.processes p) (named_in_turn c groups t p before) moved.rejections after) has.worlds)))
+      ∙ ap (λ (after : WordWorld). Costs moved.kind (slice_get before.processes p)
+      (named_in_turn c groups t p before) moved.rejections after) has.worlds)))

@@ -16,7 +16,8 @@ use Rattle.rb_machine.specs.Rejections.{changed}
 use Rattle.rb_machine.proofs.FurtherOut.{may_after_alone, may_after_together, place_of_level}
 
 module _ (k : Kind Standing Copy Common) (procs : List Seen) (table : List Conversation) (p j : ℕ) (one : Seen) (level : Level Copy)
-    (there : slice_get procs p ≡ Some one) (here : slice_get one.process.levels j ≡ Some level) (may : MayReject table (j + 1) one.process.levels) where
+    (there : slice_get procs p ≡ Some one) (here : slice_get one.process.levels j ≡ Some level)
+    (may : MayReject table (j + 1) one.process.levels) where
   levels_back : (put_back k j one.process).levels ≡ take (j + 1) one.process.levels
   levels_back = ap (λ (o : Option (Level Copy)). (back_to k j one.process o).levels) here
 

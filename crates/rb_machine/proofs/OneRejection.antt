@@ -32,7 +32,8 @@ pub record Viewed (levels : List (Level Copy)) (j : ℕ) (view : LevelView) : Ty
   pub alternates : level.facts.alternates ≡ view.alternates
   pub alternate : level.alternate ≡ view.alternate
 
-viewed_at : (levels : List (Level Copy)) (j : ℕ) (view : LevelView) (o : Option (Level Copy)) → slice_get levels j ≡ o → IsViewOf o view → Viewed levels j view
+viewed_at : (levels : List (Level Copy)) (j : ℕ) (view : LevelView) (o : Option (Level Copy)) → slice_get levels j ≡ o
+    → IsViewOf o view → Viewed levels j view
 viewed_at levels j view None e is = absurd is
 viewed_at levels j view (Some level) e is = record {
   level = level;
@@ -52,7 +53,8 @@ more_seen : (levels : List (Level Copy)) (j : ℕ) (view : LevelView) (seen : Vi
 more_seen levels j view seen =
     ap (λ (n : ℕ). nat_lt n seen.level.facts.alternates) seen.alternate ∙ ap (nat_lt view.alternate) seen.alternates
 
-module _ (procs : List Seen) (table : List Conversation) (p j : ℕ) (cause : Cause) (one : Seen) (view : LevelView) (there : slice_get procs p ≡ Some one)
+module _ (procs : List Seen) (table : List Conversation) (p j : ℕ) (cause : Cause) (one : Seen) (view : LevelView)
+    (there : slice_get procs p ≡ Some one)
     (seen : Viewed one.process.levels j view) (code : Code) (memory : Common) where
   level_seen : slice_get (process_levels (world_of procs table memory) p) j ≡ Some seen.level
   level_seen = ap (λ (levels : List (Level Copy)). slice_get levels j) (levels_there procs table memory p one there) ∙ seen.there

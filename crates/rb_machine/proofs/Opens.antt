@@ -80,7 +80,12 @@ module _ (c : Code) (nested : Nested) (loaded : IsLoaded c (memberships (opening
 
   world_is : world_of firsts table (memory_of (zero_slots c.channels) []) ≡ opening_of c groups
   world_is =
-      ap (λ (processes : List (Process Standing Copy)). record { processes = processes; talks = talks table; memory = memory_of (zero_slots c.channels) [] })
+      ap (λ (processes : List (Process Standing Copy)). record {
+        processes = processes;
+        talks = talks table;
+        memory =
+            memory_of (zero_slots c.channels) [];
+      })
       (first_processes c groups (opening_standings 0 c.processes))
       ∙ ap (λ (ts : List Talk). record (opening_of c groups) { talks = ts }) (talks_are_the_worlds.0 nested)
 

@@ -25,7 +25,8 @@ all_taken P (suc n) [] all = tt
 all_taken P (suc n) (x ∷ xs) all = (all.0, all_taken P n xs all.1)
 
 -- so it is of a level that is there
-pub below_last : (levels : List (Level Copy)) (j : ℕ) → AllByRecursion (λ (level : Level Copy). level.alternate < 2 ^ 32 - 1) levels → j < length levels
+pub below_last : (levels : List (Level Copy)) (j : ℕ)
+    → AllByRecursion (λ (level : Level Copy). level.alternate < 2 ^ 32 - 1) levels → j < length levels
     → IsBelowLast (slice_get levels j)
 below_last [] j rise within = absurd (not-suc-le-zero within)
 below_last (level ∷ levels) zero rise within = rise.0
@@ -59,7 +60,8 @@ pub waits_each : (f : Process Standing Copy → Process Standing Copy) (procs : 
 waits_each f [] waits = tt
 waits_each f (one ∷ procs) waits = (waits.0, waits_each f procs waits.1)
 
-pub waits_at : (p : ℕ) (f : Process Standing Copy → Process Standing Copy) (procs : List Seen) → NoneWaits procs → NoneWaits (change_at p (changed f) procs)
+pub waits_at : (p : ℕ) (f : Process Standing Copy → Process Standing Copy) (procs : List Seen) → NoneWaits procs
+    → NoneWaits (change_at p (changed f) procs)
 waits_at p f [] waits = tt
 waits_at zero f (one ∷ procs) waits = waits
 waits_at (suc p) f (one ∷ procs) waits = (waits.0, waits_at p f procs waits.1)
@@ -81,6 +83,7 @@ rise_at p f still [] rise = tt
 rise_at zero f still (one ∷ procs) rise = (still one.process rise.0, rise.1)
 rise_at (suc p) f still (one ∷ procs) rise = (rise.0, rise_at p f still procs rise.1)
 
-pub quiet_at : (p : ℕ) (f : Process Standing Copy → Process Standing Copy) → ((q : Process Standing Copy) → Rises q → Rises (f q)) → (procs : List Seen)
+pub quiet_at : (p : ℕ) (f : Process Standing Copy → Process Standing Copy)
+    → ((q : Process Standing Copy) → Rises q → Rises (f q)) → (procs : List Seen)
     → AreQuiet procs → AreQuiet (change_at p (changed f) procs)
 quiet_at p f still procs quiet = record { lines = waits_at p f procs quiet.lines; rise = rise_at p f still procs quiet.rise }

@@ -158,7 +158,12 @@ module _ (t : ℕ) where
           let there = wanted_there link links wanted own e in
           let lists : List (List (ℕ × ℕ)) = map (kept_from links) (next_wanted wanted link) in
           let within : suc link.process ≤ length lists =
-          omega (arith, there_within wanted link.process link.turn there, length-map (next_wanted wanted link) (kept_from links), length-set wanted link.process link.before) in
+          omega (
+            arith,
+            there_within wanted link.process link.turn there,
+            length-map (next_wanted wanted link) (kept_from links),
+            length-set wanted link.process link.before,
+          ) in
           ap survivors_of
           (map_set (kept_from (link ∷ links)) (kept_from links) (newest link links wanted own) wanted link.process link.turn link.before there
           (follows link links wanted own) (others link links wanted own))

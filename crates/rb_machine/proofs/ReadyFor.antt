@@ -89,7 +89,8 @@ module _ (c : Code) (procs : List Seen) (p : ℕ) where
     -- a receipt, by whether a message is there
     module _ (wants : (x : Seen) → slice_get procs p ≡ Some x → want c x.process.state ≡ ReceivesOn channel) where
       taken : (there : Bool) → seen ≡ there → (x : Seen) (table : List Conversation) (memory : Common) → slice_get procs p ≡ Some x
-          → message_there (kind_with c table) (world_of procs table memory) channel ≡ message_for c x.process.state memory.slots there (ReceivesOn channel)
+          → message_there (kind_with c table) (world_of procs table memory) channel
+          ≡ message_for c x.process.state memory.slots there (ReceivesOn channel)
       taken there e x table memory here =
           given table memory ∙ (ap (message_given c memory.slots procs p channel) e
           ∙ given_is_taken c procs numbered memory.slots p channel x there here)

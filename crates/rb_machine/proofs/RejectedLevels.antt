@@ -22,7 +22,8 @@ map_twice f g [] = refl
 map_twice {A} f g (x ∷ xs) = ap (λ (ys : List A). f (g x) ∷ ys) (map_twice f g xs)
 
 -- the same rejection, told of equal values
-pub same_rejection : {S C M : Type 0} (k : Kind S C M) (p j : ℕ) (cause : Cause) (w : World S C M) {a b : Bool} {event other : Event} {v u : World S C M}
+pub same_rejection : {S C M : Type 0} (k : Kind S C M) (p j : ℕ) (cause : Cause)
+    (w : World S C M) {a b : Bool} {event other : Event} {v u : World S C M}
     → a ≡ b → event ≡ other → v ≡ u → IsRejection k p j cause a event w v → IsRejection k p j cause b other w u
 same_rejection {S} {C} {M} k p j cause w {b = b} {event = event} {other = other} {v = v} spent told later is =
     is

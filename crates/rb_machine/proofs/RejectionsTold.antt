@@ -28,7 +28,8 @@ private_rejected (Pass d a ∷ events) private = absurd private
 private_rejected (Done p ∷ events) private = absurd private
 
 -- the last conversation that is rejected is the outermost
-last_rejected : (inner : List Event) (last : Event) (d : ℕ) → outermost_rejected (last ∷ []) ≡ Some d → outermost_rejected (inner ++ last ∷ []) ≡ Some d
+last_rejected : (inner : List Event) (last : Event) (d : ℕ) → outermost_rejected (last ∷ []) ≡ Some d
+    → outermost_rejected (inner ++ last ∷ []) ≡ Some d
 last_rejected [] last d is = is
 last_rejected (Reject p line a cause ∷ events) last d is = last_rejected events last d is
 last_rejected (RejectAll e a p cause ∷ events) last d is = ap (further_out (Some e)) (last_rejected events last d is)
@@ -36,7 +37,8 @@ last_rejected (Error p cause ∷ events) last d is = last_rejected events last d
 last_rejected (Pass e a ∷ events) last d is = last_rejected events last d is
 last_rejected (Done p ∷ events) last d is = last_rejected events last d is
 
-pub outermost_is : (p : ℕ) (conversation : Option ℕ) (events : List Event) → IsOutermost p conversation events → outermost_rejected events ≡ conversation
+pub outermost_is : (p : ℕ) (conversation : Option ℕ) (events : List Event) → IsOutermost p conversation events
+    → outermost_rejected events ≡ conversation
 outermost_is p None events private = private_rejected events private
 outermost_is p (Some d) events ends = ap outermost_rejected ends.is ∙ last_rejected ends.inner (RejectAll d ends.alternate p ends.cause) d refl
 
@@ -70,5 +72,6 @@ told_rejects k before moved none =
     let completions : List Event = compared done_at 0 before.processes moved.world.processes in
     rejected_before moved.rejections (errors ++ (moved.passes ++ completions))
     (rejected_before errors (moved.passes ++ completions)
-    (ap (λ (passes : List Event). outermost_rejected (passes ++ completions)) none ∙ compared_reject done_at done_rejects 0 before.processes moved.world.processes)
+    (ap (λ (passes : List Event). outermost_rejected (passes ++ completions)) none
+    ∙ compared_reject done_at done_rejects 0 before.processes moved.world.processes)
     ∙ compared_reject error_at error_rejects 0 before.processes moved.world.processes)

@@ -76,7 +76,8 @@ module _ (c : Code) (procs : List Seen) (numbered : AreNumbered c procs) where
   is_of_code p one there = omega (arith, numbered.numbers p one there, slice_get_within procs p one there, numbered.as_many)
 
   -- the cursor of a process, by its number
-  own_cursor : (p channel : ℕ) (one : Seen) → slice_get procs p ≡ Some one → cursor_at c channel one.process None ≡ cursor_in c p (words_at procs p) channel
+  own_cursor : (p channel : ℕ) (one : Seen) → slice_get procs p ≡ Some one
+      → cursor_at c channel one.process None ≡ cursor_in c p (words_at procs p) channel
   own_cursor p channel one there =
       ap (λ n. cursor_in c n one.process.state.words channel) (numbered.numbers p one there)
       ∙ ap (λ words. cursor_in c p words channel) (sym (words_are procs p one there))
@@ -128,7 +129,8 @@ module _ (c : Code) (groups : List Membership) where
       → has_room_for (word_kind c groups) channel ends (Some q) (Some r)
       ≡ nat_lt (cursor_at c channel q None) (ends.size + cursor_at c channel r (outermost_copy r.levels))
   room_for channel ends q r there sends takes =
-      ap (λ n. nat_lt n (ends.size + room_from (word_kind c groups) r.state r.levels channel)) (sent_is channel ends q.state.process q.state.words there sends)
+      ap (λ n. nat_lt n (ends.size + room_from (word_kind c groups) r.state r.levels channel))
+      (sent_is channel ends q.state.process q.state.words there sends)
       ∙ ap (λ n. nat_lt (cursor_at c channel q None) (ends.size + n)) (from_is channel ends r.state r.levels there takes)
 
   -- the message that the receiver sees of the sender
@@ -173,7 +175,8 @@ module _ (c : Code) (groups : List Membership) where
         ap (message_on k (record { processes = processes_of procs; talks = talks; memory = memory }) channel) there
         ∙ (ap (λ o. message_between k memory channel o (slice_get (processes_of procs) ends.receiver)) (process_at procs ends.sender (Some q) sender)
         ∙ (ap (message_between k memory channel (Some q.process)) (process_at procs ends.receiver (Some r) receiver)
-        ∙ (message_for_both memory channel ends q.process r.process there (numbered.numbers ends.sender q sender) (numbered.numbers ends.receiver r receiver)
+        ∙ (message_for_both memory channel ends q.process r.process there (numbered.numbers ends.sender q sender)
+        (numbered.numbers ends.receiver r receiver)
         ∙ ap (λ n. cond (nat_lt (cursor_at c channel r.process None) (cursor_at c channel q.process (seen_copy q.process.levels r.process.levels)))
         (Some (slot_of c.channels memory.slots channel n)) None) (own_cursor c procs numbered ends.receiver channel r receiver))))
 

@@ -18,7 +18,8 @@ length-rejected table c =
     length-change_at c (put_back (has_next (conversation_at table c))) (emptied_below c table) ∙ length-emptied_below table c
 
 -- a conversation that is neither c nor below it stays as it is
-pub row_beside : (table : List Conversation) (c d : ℕ) → c < length table → d < length table → d ≢ c → is_below (memberships table) (length table) c d ≡ false
+pub row_beside : (table : List Conversation) (c d : ℕ) → c < length table → d < length table → d ≢ c
+    → is_below (memberships table) (length table) c d ≡ false
     → conversation_at (rejected c table) d ≡ conversation_at table d
 row_beside table c d there within other none =
     let f = put_back (has_next (conversation_at table c)) in

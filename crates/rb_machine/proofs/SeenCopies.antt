@@ -20,7 +20,8 @@ passed (l ∷ ls) [] (suc k) e = absurd (shared_none (conversation_in (slice_get
 passed (l ∷ ls) (m ∷ ms) zero e = ap (λ b. cond b (seen_copy ls ms) (Some l.copy)) e
 passed (l ∷ ls) (m ∷ ms) (suc k) e = passed ls ms k e
 
-pub shared_passes : {C : Type 0} (ls ms : List (Level C)) (k : ℕ) → is_shared (conversation_in (slice_get ls k)) (conversation_in (slice_get ms k)) ≡ true
+pub shared_passes : {C : Type 0} (ls ms : List (Level C)) (k : ℕ)
+    → is_shared (conversation_in (slice_get ls k)) (conversation_in (slice_get ms k)) ≡ true
     → seen_copy ls ms ≡ seen_copy (drop k ls) (drop k ms) → seen_copy ls ms ≡ seen_copy (drop (k + 1) ls) (drop (k + 1) ms)
 shared_passes ls ms k e so_far =
     subst (λ n. seen_copy ls ms ≡ seen_copy (drop n ls) (drop n ms)) (sym (add-one k)) (so_far ∙ passed ls ms k e)

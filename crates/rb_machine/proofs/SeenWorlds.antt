@@ -16,7 +16,8 @@ processes_at zero f (one ∷ procs) = refl
 processes_at (suc p) f (one ∷ procs) = ap (λ (qs : List (Process Standing Copy)). one.process ∷ qs) (processes_at p f procs)
 
 -- and each of them
-pub processes_each : (f : Process Standing Copy → Process Standing Copy) (procs : List Seen) → processes_of (map (changed f) procs) ≡ map f (processes_of procs)
+pub processes_each : (f : Process Standing Copy → Process Standing Copy) (procs : List Seen)
+    → processes_of (map (changed f) procs) ≡ map f (processes_of procs)
 processes_each f [] = refl
 processes_each f (one ∷ procs) = ap (λ (qs : List (Process Standing Copy)). f one.process ∷ qs) (processes_each f procs)
 

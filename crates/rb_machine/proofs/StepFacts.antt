@@ -45,7 +45,8 @@ step_relinked c q slots there links =
     (most_steps c) (q.state.at + 1) [] (memory_of q.state slots))
 
 -- a step that went on
-pub record WentOn (c : Code) (q : Process Standing Copy) (stepped : Stepped Standing Common) (r : Process Standing Copy) (after : Slots) : Type 0 where
+pub record WentOn (c : Code) (q : Process Standing Copy) (stepped : Stepped Standing Common) (r : Process Standing Copy)
+    (after : Slots) : Type 0 where
   pub later : Standing
   pub memory : Common
   pub is : stepped ≡ Went later memory
@@ -59,7 +60,8 @@ went_on c q slots (Held later) r after h = absurd h
 went_on c q slots (Trapped cause) r after h = absurd h
 
 -- a step whose acceptance test held
-pub record HeldTest (q : Process Standing Copy) (slots : Slots) (stepped : Stepped Standing Common) (r : Process Standing Copy) (after : Slots) : Type 0 where
+pub record HeldTest (q : Process Standing Copy) (slots : Slots) (stepped : Stepped Standing Common)
+    (r : Process Standing Copy) (after : Slots) : Type 0 where
   pub later : Standing
   pub is : stepped ≡ Held later
   pub process : r ≡ record q { state = later }
@@ -78,7 +80,8 @@ pub record HasTrapped (q : Process Standing Copy) (slots : Slots) (cause : Cause
   pub process : r ≡ q
   pub slots_stay : after ≡ slots
 
-pub has_trapped : (c : Code) (q : Process Standing Copy) (slots : Slots) (cause : Cause) (stepped : Stepped Standing Common) (r : Process Standing Copy)
+pub has_trapped : (c : Code) (q : Process Standing Copy) (slots : Slots) (cause : Cause) (stepped : Stepped Standing Common)
+    (r : Process Standing Copy)
     (after : Slots) → StepsTo c q slots stepped (outcome.Trap cause) r after → HasTrapped q slots cause stepped r after
 has_trapped c q slots cause (Went later memory) r after h = absurd h
 has_trapped c q slots cause (Held later) r after h = absurd h
@@ -136,7 +139,8 @@ module _ (c : Code) (groups : List Membership) (s : Standing) (levels : List (Le
         table = h.table;
         has = h.has;
         lists = h.lists;
-        settles = settles_like c h.table (record later { touched = accepted later.touched }) (without_last levels) (without_last levels) later.words turn
+        settles = settles_like c h.table (record later { touched = accepted later.touched }) (without_last levels)
+            (without_last levels) later.words turn
             later.held (accepted later.touched) refl refl refl h.settles;
       }
 

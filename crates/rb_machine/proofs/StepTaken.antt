@@ -49,7 +49,8 @@ pub read_there : (procs : List Seen) (p : ℕ) (x one : Seen) → x ≡ get_or p
 read_there procs p x one read here = read ∙ get_or_from_slice_get procs p one x here
 
 -- what is known of the parts as process number p takes a step
-pub record AtStep (c : Code) (turn p : ℕ) (there : Bool) (procs : List Seen) (table : List Conversation) (slots : Slots) (links : List Linked) : Type 0 where
+pub record AtStep (c : Code) (turn p : ℕ) (there : Bool) (procs : List Seen) (table : List Conversation) (slots : Slots)
+    (links : List Linked) : Type 0 where
   pub work : IsAtWork c (turn + 1) procs table slots links
   pub waits : NoneWaits procs
   pub acting : MayAct procs p
@@ -59,7 +60,8 @@ module _ {c : Code} {turn p : ℕ} {there : Bool} {procs : List Seen} {table : L
     (at : AtStep c turn p there procs table slots links) where
   pub may : (one : Seen) → slice_get procs p ≡ Some one → MayStep c slots there one
   may one here =
-      may_step c table at.work.loaded (turn + 1) procs (memory_of slots links) at.work.known slots there p one here at.waits (at.acting one here) (at.wants one here)
+      may_step c table at.work.loaded (turn + 1) procs (memory_of slots links) at.work.known slots there p one here at.waits
+      (at.acting one here) (at.wants one here)
       at.work.turns
 
   pub may_from : (procs0 : List Seen) (slots0 : Slots) → procs0 ≡ procs → slots0 ≡ slots → (one : Seen) → slice_get procs0 p ≡ Some one
@@ -116,7 +118,8 @@ module _ {c : Code} {turn p : ℕ} {there : Bool} {procs : List Seen} {table : L
       went_comes procs2 procs' links' events x n none same kept read is linked =
           let found = later_there outcome.Went slots' procs1 stepping in
           let kept1 : procs' ≡ change_at p (turn_kept turn) procs1 = kept ∙ ap (change_at p (turn_kept turn)) same in
-          let last = taken.last_before c table slots links there turn p one procs here (may one here) number slots' procs1 procs' stepping kept1 _ found in
+          let last = taken.last_before c table slots links there turn p one procs here
+          (may one here) number slots' procs1 procs' stepping kept1 _ found in
           taken_comes (memory_of slots' links') procs' table events None _ none
           (taken.went_world c table slots links there turn p one procs here (may one here) number slots' procs1 procs' stepping kept1 links'
           (link_here x n stepping.later.state.last_kept links' read is last
@@ -128,7 +131,8 @@ module _ {c : Code} {turn p : ℕ} {there : Bool} {procs : List Seen} {table : L
           (kept ∙ ap (change_at p (turn_kept turn)) same) at.waits
 
     -- its acceptance test held
-    module _ (slots' : Slots) (procs1 procs2 procs3 procs4 : List Seen) (stepping : HasStepped c there p one outcome.Accepts slots slots' procs procs1)
+    module _ (slots' : Slots) (procs1 procs2 procs3 procs4 : List Seen)
+        (stepping : HasStepped c there p one outcome.Accepts slots slots' procs procs1)
         (same : procs2 ≡ procs1) (kept : procs3 ≡ change_at p (turn_kept turn) procs2) (again : procs4 ≡ procs3) where
       pub kept1 : procs4 ≡ change_at p (turn_kept turn) procs1
       kept1 = again ∙ (kept ∙ ap (change_at p (turn_kept turn)) same)
@@ -153,7 +157,8 @@ module _ {c : Code} {turn p : ℕ} {there : Bool} {procs : List Seen} {table : L
       pub held_listed : (x : Seen) → slice_get procs4 p ≡ Some x → IsListed (length table) (conversation_in (last_of x.process.levels))
       held_listed x e =
           subst (λ (y : Seen). IsListed (length table) (conversation_in (last_of y.process.levels))) (holder_is x e)
-          (taken.holder_listed c table slots links there turn p one procs here (may one here) number slots' procs1 procs4 stepping kept1 (length table)
+          (taken.holder_listed c table slots links there turn p one procs here
+          (may one here) number slots' procs1 procs4 stepping kept1 (length table)
           (is_listed c table at.work.loaded (turn + 1) procs (memory_of slots links) at.work.known p one here))
 
       pub held_leave : Each (MayLeave c) procs4
@@ -170,9 +175,11 @@ module _ {c : Code} {turn p : ℕ} {there : Bool} {procs : List Seen} {table : L
           moves
       held_comes procs' table' links' events pass x n none read is linked comes =
           let found = later_there outcome.Accepts slots' procs1 stepping in
-          let last = taken.last_held c table slots links there turn p one procs here (may one here) number slots' procs1 procs4 stepping kept1 _ found in
+          let last = taken.last_held c table slots links there turn p one procs here
+          (may one here) number slots' procs1 procs4 stepping kept1 _ found in
           taken_comes (memory_of slots' links') procs' table' events pass _ none
-          (taken.held_world c table slots links there turn p one procs here (may one here) number slots' procs1 procs4 stepping kept1 links' procs' table' pass
+          (taken.held_world c table slots links there turn p one procs here
+          (may one here) number slots' procs1 procs4 stepping kept1 links' procs' table' pass
           (link_here x n stepping.later.state.last_kept links' read is last
           (linked _ (ap (λ (xs : List Seen). slice_get xs p) same ∙ found)))
           (comes holder (memory_of slots' links') holder_there))
@@ -201,7 +208,8 @@ module _ {c : Code} {turn p : ℕ} {there : Bool} {procs : List Seen} {table : L
 
       pub trap_quiet : AreQuiet procs2
       trap_quiet =
-          subst AreQuiet (sym unchanged) (are_quiet c table at.work.loaded (turn + 1) procs (memory_of slots links) at.work.known at.work.few at.waits)
+          subst AreQuiet (sym unchanged)
+          (are_quiet c table at.work.loaded (turn + 1) procs (memory_of slots links) at.work.known at.work.few at.waits)
 
       pub trap_comes : (procs' : List Seen) (table' : List Conversation) (events events' : List Event) (left : ℕ) → events ≡ []
           → left ≡ length one.process.levels
@@ -209,6 +217,8 @@ module _ {c : Code} {turn p : ℕ} {there : Bool} {procs : List Seen} {table : L
           → ComesTo procs' table' (memory_of slots' links) Undone events' None
           moves
       trap_comes procs' table' events events' left none long h =
-          let world = taken.trap_world c table slots links there turn p one procs here (may one here) number slots' procs1 cause stepping procs' table' events events' left long
-          (subst (λ (xs : List Seen). HasHappened (reject (kind_with c table) p left cause) (memory_of slots' links) xs table events procs' table' events') again h) in
+          let world = taken.trap_world c table slots links there turn p one procs here
+          (may one here) number slots' procs1 cause stepping procs' table' events events' left long
+          (subst (λ (xs : List Seen). HasHappened (reject (kind_with c table) p left cause)
+          (memory_of slots' links) xs table events procs' table' events') again h) in
           (world.0, sym world.1, world.2 ∙ ap (λ (es : List Event). es ++ moves.rejections) none, sym world.3)

@@ -48,7 +48,8 @@ named_again c table p levels memory s q qs (Some level) = by level.facts.convers
         ≡ named_accepted_at c (memberships table) p levels o (record { processes = qs; talks = talks table; memory = memory }) s
     by None = refl
     by (Some d) =
-        ap (λ (ps : List (Process Standing Copy)). named_at_line c (memberships table) d (record { processes = ps; talks = talks table; memory = memory }))
+        ap (λ (ps : List (Process Standing Copy)). named_at_line c (memberships table) d
+        (record { processes = ps; talks = talks table; memory = memory }))
         (change_twice p (λ _. q) (stands_now s levels) qs)
 
 module _ {c : Code} {turn p : ℕ} {there : Bool} {procs : List Seen} {table : List Conversation} {slots : Slots} {links : List Linked}
@@ -113,7 +114,8 @@ module _ {c : Code} {turn p : ℕ} {there : Bool} {procs : List Seen} {table : L
     holder = turn_kept turn (taken.calm stepping.later)
 
     abbrev held : HeldTest one.process slots (step_of c one.process slots there) stepping.later slots'
-    held = taken.held c table slots links there turn p one procs here (known.may at one here) (known.number at one here) slots' procs1 procs4 stepping kept1
+    held = taken.held c table slots links there turn p one procs here (known.may at one here)
+        (known.number at one here) slots' procs1 procs4 stepping kept1
 
     abbrev at_test : Standing
     at_test = record held.later { last_kept = turn }
@@ -125,7 +127,9 @@ module _ {c : Code} {turn p : ℕ} {there : Bool} {procs : List Seen} {table : L
 
     pub held_work : (procs' : List Seen) (events : List Event) (start stepped after : ℕ) → Counted start stepped
         → ((y : Seen) (memory : Common) → slice_get procs4 p ≡ Some y
-        → after ≤ stepped + 3 * named_accepted c (memberships table) p y.process.levels (last_of y.process.levels) (world_of procs4 table memory) y.process.state)
+        → after ≤ stepped
+        + 3 * named_accepted c (memberships table) p y.process.levels (last_of y.process.levels)
+        (world_of procs4 table memory) y.process.state)
         → after ≤ start + 1 + 3 * Named + undoing Took (processes_of procs) events (processes_of procs')
     held_work procs' events start stepped after counted accepts =
         kept_within start stepped after (named_in_step c one.process slots there)
@@ -137,10 +141,16 @@ module _ {c : Code} {turn p : ℕ} {there : Bool} {procs : List Seen} {table : L
             subst (λ (n : ℕ). after ≤ stepped + 3 * n)
             (ap (λ (qs : List (Process Standing Copy)). named_accepted c (memberships table) p one.process.levels (last_of one.process.levels)
             (record { processes = qs; talks = talks table; memory = before.memory }) at_test)
-            (ap processes_of (taken.put_held c table slots links there turn p one procs here (known.may at one here) (known.number at one here) slots' procs1 procs4 stepping kept1)
+            (ap processes_of
+            (taken.put_held c table slots links there turn p one procs here (known.may at one here)
+            (known.number at one here) slots' procs1 procs4 stepping kept1)
             ∙ taken.processes_put p holder procs)
             ∙ named_again c table p one.process.levels before.memory at_test holder.process (processes_of procs) (last_of one.process.levels))
-            (subst (λ (x : Process Standing Copy). after ≤ stepped + 3 * named_accepted c (memberships table) p x.levels (last_of x.levels) (world_of procs4 table before.memory) x.state)
-            (taken.holder_is c table slots links there turn p one procs here (known.may at one here) (known.number at one here) slots' procs1 procs4 stepping kept1)
+            (subst (λ (x : Process Standing Copy). after
+            ≤ stepped + 3 * named_accepted c (memberships table) p x.levels (last_of x.levels)
+            (world_of procs4 table before.memory) x.state)
+            (taken.holder_is c table slots links there turn p one procs here (known.may at one here)
+            (known.number at one here) slots' procs1 procs4 stepping kept1)
             (accepts holder before.memory
-            (taken.holder_there c table slots links there turn p one procs here (known.may at one here) (known.number at one here) slots' procs1 procs4 stepping kept1)))
+            (taken.holder_there c table slots links there turn p one procs here (known.may at one here)
+            (known.number at one here) slots' procs1 procs4 stepping kept1)))

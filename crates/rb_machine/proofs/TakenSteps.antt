@@ -33,10 +33,12 @@ use Rattle.rb_machine.proofs.StepFacts.{HasTrapped, HeldTest, WentOn, has_trappe
 newest_first : (slots : Slots) (links : List Linked) (link : Linked)
     → memory_of slots (links ++ link ∷ []) ≡ record { slots = slots; links = link_of link ∷ (memory_of slots links).links }
 newest_first slots links link =
-    ap (λ ls. record { slots = slots; links = ls }) (ap reverse (map-append link_of links (link ∷ [])) ∙ reverse-append (map link_of links) (link_of link ∷ []))
+    ap (λ ls. record { slots = slots; links = ls })
+    (ap reverse (map-append link_of links (link ∷ [])) ∙ reverse-append (map link_of links) (link_of link ∷ []))
 
 -- what is seen of processes of which one was put there
-pub processes_put : (p : ℕ) (one : Seen) (procs : List Seen) → processes_of (change_at p (λ _. one) procs) ≡ change_at p (λ _. one.process) (processes_of procs)
+pub processes_put : (p : ℕ) (one : Seen) (procs : List Seen)
+    → processes_of (change_at p (λ _. one) procs) ≡ change_at p (λ _. one.process) (processes_of procs)
 processes_put p one procs = map_changed (λ (x : Seen). x.process) (λ _. one) (λ _. one.process) p procs (λ x e. refl)
 
 -- a process of which no released line waits
@@ -68,10 +70,12 @@ module _ (c : Code) (table : List Conversation) (slots : Slots) (links : List Li
   is_made = ap made (step_relinked c one.process slots there linked)
 
   -- no line waits once the turn was kept
-  pub kept_waits : (answer : Outcome) (slots' : Slots) (procs1 procs' : List Seen) (stepping : HasStepped c there p one answer slots slots' procs procs1)
+  pub kept_waits : (answer : Outcome) (slots' : Slots) (procs1 procs' : List Seen)
+      (stepping : HasStepped c there p one answer slots slots' procs procs1)
       → procs' ≡ change_at p (turn_kept turn) procs1 → NoneWaits procs → NoneWaits procs'
   kept_waits answer slots' procs1 procs' stepping kept h =
-      subst NoneWaits (sym (kept ∙ (ap (change_at p (turn_kept turn)) stepping.processes ∙ change_after p (turn_kept turn) (calm stepping.later) procs)))
+      subst NoneWaits
+      (sym (kept ∙ (ap (change_at p (turn_kept turn)) stepping.processes ∙ change_after p (turn_kept turn) (calm stepping.later) procs)))
       (all_changed (λ (x : Seen). x.waiting ≡ []) p (λ _. turn_kept turn (calm stepping.later)) procs (λ x none. refl) h)
 
   -- it went on
@@ -117,7 +121,11 @@ module _ (c : Code) (table : List Conversation) (slots : Slots) (links : List Li
         let same = same_process c one.process slots there went.later went.memory went.is in
         ap (memory_of slots') e
         ∙ (newest_first slots' links (record { turn = turn; process = p; alternate = alternate; before = one.process.state.last_kept })
-        ∙ (ap (λ (ss : Slots). record { slots = ss; links = record { turn = turn; process = p; alternate = alternate; before = one.process.state.last_kept } ∷ linked }) went.slots
+        ∙ (ap (λ (ss : Slots). record {
+          slots = ss;
+          links =
+              record { turn = turn; process = p; alternate = alternate; before = one.process.state.last_kept } ∷ linked;
+        }) went.slots
         ∙ (ap (λ (n : ℕ). record {
           slots = went.memory.slots;
           links = record { turn = turn; process = n; alternate = alternate; before = one.process.state.last_kept } ∷ linked;
@@ -135,7 +143,13 @@ module _ (c : Code) (table : List Conversation) (slots : Slots) (links : List Li
         subst (HasTaken (memory_of slots' links') procs' table None)
         (sym (is_made ∙ ap (λ (o : Stepped Standing Common). made (relinked linked o)) went.is))
         (record {
-          world = ap (λ (qs : List (Process Standing Copy)). record { processes = qs; talks = talks table; memory = memory_of slots' links' }) went_processes
+          world = ap (λ
+              (qs : List (Process Standing Copy)). record {
+                processes = qs;
+                talks = talks table;
+                memory =
+                    memory_of slots' links';
+              }) went_processes
               ∙ ap (λ (m : Common). record {
                 processes = change_at p (λ _. settled (kind_with c table) now one.process.levels) (processes_of procs);
                 talks = talks table;
@@ -178,7 +192,8 @@ module _ (c : Code) (table : List Conversation) (slots : Slots) (links : List Li
     pub holder_holds : HoldsTest c holder
     holder_holds = record {
       inside = subst (λ (q : Process Standing Copy). 0 < length q.levels) (sym holder_is)
-          (held_inside c may.stands.0 one.process.state one.process.levels alternate message may.stands.1 may.serves (record { slots = slots; links = [] })
+          (held_inside c may.stands.0 one.process.state one.process.levels alternate message may.stands.1 may.serves
+          (record { slots = slots; links = [] })
           held.later held.is);
       settles = subst (SettlesOnceAccepted c) (sym holder_is) (
         may.stands.0,
@@ -187,7 +202,8 @@ module _ (c : Code) (table : List Conversation) (slots : Slots) (links : List Li
       );
     }
 
-    pub holder_listed : (n : ℕ) → IsListed n (conversation_in (last_of one.process.levels)) → IsListed n (conversation_in (last_of holder.process.levels))
+    pub holder_listed : (n : ℕ) → IsListed n (conversation_in (last_of one.process.levels))
+        → IsListed n (conversation_in (last_of holder.process.levels))
     holder_listed n h = subst (λ (q : Process Standing Copy). IsListed n (conversation_in (last_of q.levels))) (sym holder_is) h
 
     -- who stands at a line may still leave it
@@ -216,7 +232,11 @@ module _ (c : Code) (table : List Conversation) (slots : Slots) (links : List Li
     held_memory links' e =
         ap (memory_of slots') e
         ∙ (newest_first slots' links (record { turn = turn; process = p; alternate = alternate; before = one.process.state.last_kept })
-        ∙ (ap (λ (ss : Slots). record { slots = ss; links = record { turn = turn; process = p; alternate = alternate; before = one.process.state.last_kept } ∷ linked }) held.slots_stay
+        ∙ (ap (λ (ss : Slots). record {
+          slots = ss;
+          links =
+              record { turn = turn; process = p; alternate = alternate; before = one.process.state.last_kept } ∷ linked;
+        }) held.slots_stay
         ∙ (ap (λ (n : ℕ). record {
           slots = slots;
           links = record { turn = turn; process = n; alternate = alternate; before = one.process.state.last_kept } ∷ linked;
@@ -235,7 +255,8 @@ module _ (c : Code) (table : List Conversation) (slots : Slots) (links : List Li
         ap (λ (ps : List (Process Standing Copy)). took (record { processes = ps; talks = talks table; memory = later }))
         (change_twice p f (settled (kind_with c table) (record s { touched = accepted_in s.touched }) (without_last levels)) qs)
     accepted_again qs f m m' later s levels (Some d) =
-        ap (λ (ps : List (Process Standing Copy)). at_test_line (kind_with c table) d (record { processes = ps; talks = talks table; memory = later }))
+        ap (λ (ps : List (Process Standing Copy)). at_test_line (kind_with c table) d
+        (record { processes = ps; talks = talks table; memory = later }))
         (change_twice p f (stands_now s levels) qs)
 
     -- the world after it
@@ -248,28 +269,45 @@ module _ (c : Code) (table : List Conversation) (slots : Slots) (links : List Li
         subst (HasTaken (memory_of slots' links') procs' table' pass)
         (sym (is_made ∙ ap (λ (o : Stepped Standing Common). made (relinked linked o)) held.is))
         (by (last_of one.process.levels) refl
-        (subst (λ (x : Process Standing Copy). HasTaken (memory_of slots' links') procs' table' pass (accepted (kind_with c table) p x.levels (last_of x.levels)
+        (subst (λ (x : Process Standing Copy). HasTaken (memory_of slots' links') procs' table' pass
+        (accepted (kind_with c table) p x.levels (last_of x.levels)
         (world_of procs2 table (memory_of slots' links')) (x.state, memory_of slots' links'))) holder_is h))
       where
         on_level : (o : Option ℕ)
             → HasTaken (memory_of slots' links') procs' table' pass (accepted_at (kind_with c table) p one.process.levels o
             (world_of procs2 table (memory_of slots' links')) (at_test, memory_of slots' links'))
-            → HasTaken (memory_of slots' links') procs' table' pass (accepted_at (kind_with c table) p one.process.levels o before
-            (at_test, record { slots = slots; links = record { turn = turn; process = held.later.process; alternate = alternate; before = held.later.last_kept } ∷ linked }))
+            → HasTaken (memory_of slots' links') procs' table' pass (accepted_at (kind_with c table) p one.process.levels o before (
+              at_test,
+              record {
+                slots = slots;
+                links =
+                    record { turn = turn; process = held.later.process; alternate = alternate; before = held.later.last_kept } ∷ linked;
+              },
+            ))
         on_level o k =
-            subst (λ (m : Common). HasTaken (memory_of slots' links') procs' table' pass (accepted_at (kind_with c table) p one.process.levels o before (at_test, m)))
+            subst (λ (m : Common). HasTaken (memory_of slots' links') procs' table' pass
+            (accepted_at (kind_with c table) p one.process.levels o before (at_test, m)))
             (held_memory links' e)
             (subst (HasTaken (memory_of slots' links') procs' table' pass)
-            (accepted_again (processes_of procs) (λ _. holder.process) (memory_of slots' links') (memory_of slots links) (memory_of slots' links') at_test one.process.levels o)
+            (accepted_again (processes_of procs) (λ _. holder.process) (memory_of slots' links') (memory_of slots links)
+            (memory_of slots' links') at_test one.process.levels o)
             (subst (λ (qs : List (Process Standing Copy)). HasTaken (memory_of slots' links') procs' table' pass
-            (accepted_at (kind_with c table) p one.process.levels o (record { processes = qs; talks = talks table; memory = memory_of slots' links' }) (at_test, memory_of slots' links')))
+            (accepted_at (kind_with c table) p one.process.levels o
+            (record { processes = qs; talks = talks table; memory = memory_of slots' links' })
+            (at_test, memory_of slots' links')))
             (ap processes_of put_held ∙ processes_put p holder procs) k))
 
         by : (o : Option (Level Copy)) → last_of one.process.levels ≡ o
             → HasTaken (memory_of slots' links') procs' table' pass (accepted (kind_with c table) p one.process.levels o
             (world_of procs2 table (memory_of slots' links')) (at_test, memory_of slots' links'))
-            → HasTaken (memory_of slots' links') procs' table' pass (accepted (kind_with c table) p one.process.levels o before
-            (at_test, record { slots = slots; links = record { turn = turn; process = held.later.process; alternate = alternate; before = held.later.last_kept } ∷ linked }))
+            → HasTaken (memory_of slots' links') procs' table' pass (accepted (kind_with c table) p one.process.levels o before (
+              at_test,
+              record {
+                slots = slots;
+                links =
+                    record { turn = turn; process = held.later.process; alternate = alternate; before = held.later.last_kept } ∷ linked;
+              },
+            ))
         by None last k =
             absurd (none_last one.process.levels
             (held_inside c may.stands.0 one.process.state one.process.levels alternate message may.stands.1 may.serves
@@ -277,14 +315,16 @@ module _ (c : Code) (table : List Conversation) (slots : Slots) (links : List Li
         by (Some level) last k = on_level level.facts.conversation k
 
   -- it trapped
-  module _ (slots' : Slots) (procs1 : List Seen) (cause : Cause) (stepping : HasStepped c there p one (outcome.Trap cause) slots slots' procs procs1) where
+  module _ (slots' : Slots) (procs1 : List Seen) (cause : Cause)
+      (stepping : HasStepped c there p one (outcome.Trap cause) slots slots' procs procs1) where
     has_fallen : HasTrapped one.process slots cause (step_of c one.process slots there) stepping.later slots'
     has_fallen = has_trapped c one.process slots cause (step_of c one.process slots there) stepping.later slots' stepping.comes
 
     -- nothing has changed
     pub same_processes : procs1 ≡ procs
     same_processes =
-        let same : calm stepping.later ≡ one = ap calm has_fallen.process ∙ ap (λ (ls : List (List ℕ)). record one { waiting = ls }) (sym may.none_waits) in
+        let same : calm stepping.later ≡ one =
+        ap calm has_fallen.process ∙ ap (λ (ls : List (List ℕ)). record one { waiting = ls }) (sym may.none_waits) in
         stepping.processes ∙ (ap (λ (x : Seen). change_at p (λ _. x) procs) same ∙ same_there p one procs here)
 
     pub same_slots : slots' ≡ slots
@@ -293,7 +333,8 @@ module _ (c : Code) (table : List Conversation) (slots : Slots) (links : List Li
     -- the world after the cascade
     pub trap_world : (procs' : List Seen) (table' : List Conversation) (events events' : List Event) (left : ℕ) → left ≡ length one.process.levels
         → HasHappened (reject (kind_with c table) p left cause) (memory_of slots' links) procs1 table events procs' table' events'
-        → (world_of procs' table' (memory_of slots' links) ≡ taken.world) × (taken.kind ≡ Undone) × (events' ≡ events ++ taken.rejections) × (taken.passes ≡ [])
+        → (world_of procs' table' (memory_of slots' links) ≡ taken.world) × (taken.kind ≡ Undone)
+        × (events' ≡ events ++ taken.rejections) × (taken.passes ≡ [])
     trap_world procs' table' events events' left long h =
         let n : length (process_levels before p) ≡ left =
         ap (λ (o : Option (Process Standing Copy)). length (levels_of o)) (process_there procs p one here) ∙ sym long in
@@ -303,7 +344,8 @@ module _ (c : Code) (table : List Conversation) (slots : Slots) (links : List Li
         let start : world_of procs1 table (memory_of slots' links) ≡ before =
         ap (λ (xs : List Seen). world_of xs table (memory_of slots' links)) same_processes
         ∙ ap (λ (ss : Slots). world_of procs table (memory_of ss links)) same_slots in (
-          h.world ∙ (ap (λ (w : WordWorld). (reject (kind_with c table) p left cause w).0) start ∙ ap (λ (x : Moved Standing Copy Common). x.world) (sym is)),
+          h.world ∙ (ap (λ (w : WordWorld). (reject (kind_with c table) p left cause w).0) start
+              ∙ ap (λ (x : Moved Standing Copy Common). x.world) (sym is)),
           ap (λ (x : Moved Standing Copy Common). x.kind) is,
           h.told ∙ (ap (λ (w : WordWorld). events ++ (reject (kind_with c table) p left cause w).1) start
               ∙ ap (λ (x : Moved Standing Copy Common). events ++ x.rejections) (sym is)),

@@ -99,7 +99,8 @@ pub line_passed : (c : Code) (memory : Common) (procs procs' : List Seen) (table
     → HasTaken memory procs' table' (Some (Pass d alternate)) (at_test_line (kind_with c table) d (world_of procs table memory))
 line_passed c memory procs procs' table table' d alternate h e left gone tries =
     let w = world_of procs table memory in
-    let processes : processes_of procs' ≡ map (leaves (kind_with c table) d) (processes_of procs) = ap processes_of left ∙ lines_left c table d procs in
+    let processes : processes_of procs' ≡ map (leaves (kind_with c table) d) (processes_of procs) =
+    ap processes_of left ∙ lines_left c table d procs in
     let talks_after : talks table' ≡ change_at d first_again (talks table) = ap talks gone ∙ (talks_are_the_worlds.1 table d 0).passing in
     subst (λ (b : Bool). HasTaken memory procs' table' (Some (Pass d alternate))
     (cond b (passed (Pass d (alternate_of (talk_at w d))) (all_leave (kind_with c table) d w)) (took w)))
@@ -111,7 +112,8 @@ line_passed c memory procs procs' table table' d alternate h e left gone tries =
       passes = ap (λ n. Pass d n ∷ []) (tries ∙ alternate_there table d h);
     })
 
-module _ (c : Code) (memory : Common) (procs : List Seen) (table : List Conversation) (p : ℕ) (one : Seen) (there : slice_get procs p ≡ Some one) where
+module _ (c : Code) (memory : Common) (procs : List Seen) (table : List Conversation) (p : ℕ) (one : Seen)
+    (there : slice_get procs p ≡ Some one) where
   -- what an acceptance comes to, by the innermost level and by its conversation
   abbrev Comes : Option (Level Copy) → Moved Standing Copy Common
   Comes o = accepted (kind_with c table) p one.process.levels o (world_of procs table memory) (one.process.state, memory)

@@ -38,7 +38,8 @@ none_wait (one ∷ procs) (suc n) e =
     (first, none_wait procs n others)
 
 -- the release of held lines changes nobody's status
-freed_run : {M : Type 0} (k : Kind Standing Copy M) (processes : List (Process Standing Copy)) → running_of (map (freed k) processes) ≡ running_of processes
+freed_run : {M : Type 0} (k : Kind Standing Copy M) (processes : List (Process Standing Copy))
+    → running_of (map (freed k) processes) ≡ running_of processes
 freed_run k [] = refl
 freed_run k (q ∷ processes) = ap (λ (others : List Bool). is_running q.status ∷ others) (freed_run k processes)
 

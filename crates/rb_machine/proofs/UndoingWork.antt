@@ -43,7 +43,8 @@ first_more n procs i d h =
     ∙ sum_by_push n (processes_of (take i procs)) (get_or procs i d).process
 
 -- a change that makes no process's number greater
-module _ (n : Process Standing Copy → ℕ) (f : Process Standing Copy → Process Standing Copy) (fewer : (q : Process Standing Copy) → n (f q) ≤ n q) where
+module _ (n : Process Standing Copy → ℕ) (f : Process Standing Copy → Process Standing Copy)
+    (fewer : (q : Process Standing Copy) → n (f q) ≤ n q) where
   each_fewer : (procs : List Seen) → sum_by n (processes_of (map (changed f) procs)) ≤ sum_by n (processes_of procs)
   each_fewer [] = omega arith
   each_fewer (one ∷ procs) =
@@ -54,7 +55,8 @@ module _ (n : Process Standing Copy → ℕ) (f : Process Standing Copy → Proc
       omega arith
 
   pub all_fewer : (procs procs' : List Seen) → procs' ≡ map (changed f) procs → sum_by n (processes_of procs') ≤ sum_by n (processes_of procs)
-  all_fewer procs procs' same = subst (λ (later : List Seen). sum_by n (processes_of later) ≤ sum_by n (processes_of procs)) (sym same) (each_fewer procs)
+  all_fewer procs procs' same =
+      subst (λ (later : List Seen). sum_by n (processes_of later) ≤ sum_by n (processes_of procs)) (sym same) (each_fewer procs)
 
   pub one_fewer : (procs : List Seen) (p : ℕ) (d new : Seen) → p < length procs → new ≡ changed f (get_or procs p d)
       → sum_by n (processes_of (set procs p new)) ≤ sum_by n (processes_of procs)
@@ -113,12 +115,14 @@ module _ (k : Kind Standing Copy Common) (x : ℕ) where
   inside_put_back : (j : ℕ) (q : Process Standing Copy) → inside_one x (put_back k j q) ≤ inside_one x q
   inside_put_back j q = inside_back j q (slice_get q.levels j)
 
-  inside_at_place : (f : ℕ → Process Standing Copy → Process Standing Copy) → ((j : ℕ) (q : Process Standing Copy) → inside_one x (f j q) ≤ inside_one x q)
+  inside_at_place : (f : ℕ → Process Standing Copy → Process Standing Copy)
+      → ((j : ℕ) (q : Process Standing Copy) → inside_one x (f j q) ≤ inside_one x q)
       → (place : Option ℕ) (q : Process Standing Copy) → inside_one x (at_place f place q) ≤ inside_one x q
   inside_at_place f fewer None q = omega arith
   inside_at_place f fewer (Some j) q = fewer j q
 
-  inside_where : (f : ℕ → Process Standing Copy → Process Standing Copy) → ((j : ℕ) (q : Process Standing Copy) → inside_one x (f j q) ≤ inside_one x q)
+  inside_where : (f : ℕ → Process Standing Copy → Process Standing Copy)
+      → ((j : ℕ) (q : Process Standing Copy) → inside_one x (f j q) ≤ inside_one x q)
       → (c : ℕ) (q : Process Standing Copy) → inside_one x (where_inside f c q) ≤ inside_one x q
   inside_where f fewer c q = inside_at_place f fewer (position (is_of c) q.levels) q
 

@@ -38,7 +38,8 @@ passes_of None = []
 passes_of (Some event) = event ∷ []
 
 -- what a turn of process number p comes to, which is there
-abbrev pub MovesAt : {L : Type 0} → Parts L → ℕ → (Process Standing Copy → WordWorld → Moved Standing Copy Common) → (Moved Standing Copy Common → Type 0) → Type 0
+abbrev pub MovesAt : {L : Type 0} → Parts L → ℕ → (Process Standing Copy → WordWorld → Moved Standing Copy Common)
+    → (Moved Standing Copy Common → Type 0) → Type 0
 MovesAt parts p move Is = (one : Seen) → slice_get parts.procs.items p ≡ Some one → Is (move one.process (world parts))
 
 -- The parts have come to where a move of their world leads, with its rejections as events, its kind and its pass.

@@ -26,7 +26,8 @@ RiseAfter c s (Held later) = later.words ≡ s.words
 
 -- A step of a process that stands raises each of its cursors by at most one.
 abbrev pub SoundStepsRaise : Type 0
-SoundStepsRaise = (c : Code) (groups : List Membership) (s : Standing) (levels : List (Level Copy)) (alternate : ℕ) (message : Option ℤ) (memory : Common)
+SoundStepsRaise =
+    (c : Code) (groups : List Membership) (s : Standing) (levels : List (Level Copy)) (alternate : ℕ) (message : Option ℤ) (memory : Common)
     → StandsSoundly c groups s levels → Serves (want c s) alternate message levels
     → RiseAfter c s (step c alternate (copy_of (last_of levels)) s message memory)
 

@@ -42,7 +42,8 @@ pub record MayStep (c : Code) (slots : Slots) (there : Bool) (one : Seen) : Type
   pub cursors : CursorsRise c one.process.state.process one.process.state.words
 
 -- process number p has taken a step, and no other has changed
-pub record HasStepped (c : Code) (there : Bool) (p : ℕ) (one : Seen) (answer : Outcome) (slots slots' : Slots) (procs procs' : List Seen) : Type 0 where
+pub record HasStepped (c : Code) (there : Bool) (p : ℕ) (one : Seen) (answer : Outcome) (slots slots' : Slots)
+    (procs procs' : List Seen) : Type 0 where
   pub later : Process Standing Copy
   pub comes : StepsTo c one.process slots (step_of c one.process slots there) answer later slots'
   pub processes : procs' ≡ change_at p (λ _. record { process = later; waiting = [] }) procs
@@ -85,7 +86,8 @@ abbrev pub line_left : Code → ℕ → Seen → Seen
 line_left c d one = record one { process = leaves (kind_of c) d one.process }
 
 -- The parts have come to the world of a turn that was taken, with its pass.
-pub record HasTaken (memory : Common) (procs : List Seen) (table : List Conversation) (pass : Option Event) (moved : Moved Standing Copy Common) : Type 0 where
+pub record HasTaken (memory : Common) (procs : List Seen) (table : List Conversation) (pass : Option Event)
+    (moved : Moved Standing Copy Common) : Type 0 where
   pub world : world_of procs table memory ≡ moved.world
   pub kind : moved.kind ≡ Took
   pub rejections : moved.rejections ≡ []

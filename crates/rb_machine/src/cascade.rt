@@ -33,7 +33,9 @@ pub fn reject<L: Ledger>(
     requires may { MayRejectAt procs.old table.old p left }
     requires quiet { AreQuiet procs.old }
     requires room { length events.old.items + left ≤ 96 }
-    ensures happened { (c : Plain) (memory : Common) → HasHappened (reject (kind_with c table.old) p left cause) memory procs.old table.old events.old.items procs.new table.new events.new.items }
+    ensures happened { (c : Plain) (memory : Common)
+        → HasHappened
+        (reject (kind_with c table.old) p left cause) memory procs.old table.old events.old.items procs.new table.new events.new.items }
     ensures waits { NoneWaits procs.new }
     ensures groups { SameGroups table.old table.new }
     ensures few { length events.new.items ≤ length events.old.items + left }
@@ -132,10 +134,13 @@ fn reject_together<L: Ledger>(
 ) -> bool
     requires conversation { conversation < length table.old }
     requires quiet { AreQuiet procs.old }
-    ensures processes { (c : Plain) → procs.new ≡ map (changed (tried_together (kind_of c) (has_next (conversation_at table.old conversation)) (nat_eq inner 0) conversation)) procs.old }
+    ensures processes { (c : Plain)
+        → procs.new ≡ map
+        (changed (tried_together (kind_of c) (has_next (conversation_at table.old conversation)) (nat_eq inner 0) conversation)) procs.old }
     ensures table { table.new ≡ rejected conversation table.old }
     ensures answer { result ≡ (not (has_next (conversation_at table.old conversation)) && not (nat_eq inner 0)) }
-    ensures work { steps.new + touched_in (processes_of procs.new) ≤ steps.old + touched_in (processes_of procs.old) + inside conversation (processes_of procs.old) }
+    ensures work { steps.new + touched_in (processes_of procs.new)
+        ≤ steps.old + touched_in (processes_of procs.old) + inside conversation (processes_of procs.old) }
 {
     put_back_inside(procs, conversation, steps);
     if table.reject(conversation) {
@@ -153,7 +158,8 @@ fn reject_together<L: Ledger>(
 fn put_back_inside<L: Ledger>(procs: &mut [Proc<L>], conversation: u32, steps: &mut Steps<L>)
     requires waits { NoneWaits procs.old }
     ensures back { (c : Plain) → procs.new ≡ map (changed (where_inside (put_back (kind_of c)) conversation)) procs.old }
-    ensures work { steps.new + touched_in (processes_of procs.new) ≤ steps.old + touched_in (processes_of procs.old) + inside conversation (processes_of procs.old) }
+    ensures work { steps.new + touched_in (processes_of procs.new)
+        ≤ steps.old + touched_in (processes_of procs.old) + inside conversation (processes_of procs.old) }
 {
     for proc in procs.iter_mut() {
         put_back_at(proc, conversation, steps);

@@ -25,7 +25,9 @@ pub fn has_room<L: Ledger>(
     steps: &mut Steps<L>,
 ) -> bool
     requires numbered { AreNumbered (plain code.now) procs.now }
-    ensures room { (groups : List Membership) (talks : List Talk) (memory : Common) → result ≡ has_room (word_kind (plain code.now) groups) (record { processes = processes_of procs.now; talks = talks; memory = memory }) channel }
+    ensures room { (groups : List Membership) (talks : List Talk) (memory : Common)
+        → result ≡ has_room (word_kind (plain code.now) groups)
+        (record { processes = processes_of procs.now; talks = talks; memory = memory }) channel }
     ensures ticks { steps.new ≤ steps.old + 2 }
 {
     let Some(ends) = code.channels.get(channel as usize) else {
@@ -54,7 +56,10 @@ pub fn message_there<L: Ledger>(
     requires numbered { AreNumbered (plain code.now) procs.now }
     requires process { p < length procs.now }
     requires receiver { IsReceiver (slice_get (plain code.now).channels channel) p }
-    ensures there { (groups : List Membership) (talks : List Talk) (memory : Common) → message_there (word_kind (plain code.now) groups) (record { processes = processes_of procs.now; talks = talks; memory = memory }) channel ≡ message_given (plain code.now) memory.slots procs.now p channel result }
+    ensures there { (groups : List Membership) (talks : List Talk) (memory : Common)
+        → message_there (word_kind (plain code.now) groups)
+        (record { processes = processes_of procs.now; talks = talks; memory = memory }) channel
+        ≡ message_given (plain code.now) memory.slots procs.now p channel result }
     ensures ticks { steps.new ≤ steps.old + 2 }
 {
     let Some(ends) = code.channels.get(channel as usize) else {
@@ -114,7 +119,8 @@ fn seen_count<L: Ledger>(
     steps: &mut Steps<L>,
 ) -> u64
     requires cursors { HasCursor (plain code.now) channel sender.now }
-    ensures cursor { result ≡ cursor_at (plain code.now) channel sender.now.process (seen_copy sender.now.process.levels receiver.now.process.levels) }
+    ensures cursor { result
+        ≡ cursor_at (plain code.now) channel sender.now.process (seen_copy sender.now.process.levels receiver.now.process.levels) }
     ensures ticks { steps.new ≤ steps.old + 1 }
 {
     match first_own_level(sender, receiver) {

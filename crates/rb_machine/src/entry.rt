@@ -49,11 +49,15 @@ pub fn enter<L: Ledger>(
     requires wants { (one : Seen) → slice_get parts.old.procs.items p ≡ Some one → WantsBlock block (want (plain code.now) one.process.state) }
     requires room { vec_len parts.old.links < vec_capacity parts.old.links }
     requires none { length events.old.items ≡ 0 }
-    ensures moved { (facts : Facts) → MovesAt parts.old p (λ q w. enters (kind_with (plain code.now) parts.old.table) turn p facts q w) (λ moved. ((one : Seen) → slice_get parts.old.procs.items p ≡ Some one → want (plain code.now) one.process.state ≡ Enters facts) → HasMoved parts.new events.new.items result moved) }
+    ensures moved { (facts : Facts)
+        → MovesAt parts.old p (λ q w. enters (kind_with (plain code.now) parts.old.table) turn p facts q w)
+        (λ moved. ((one : Seen) → slice_get parts.old.procs.items p ≡ Some one → want (plain code.now) one.process.state ≡ Enters facts)
+        → HasMoved parts.new events.new.items result moved) }
     ensures left { IsLeft (plain code.now) parts.old parts.new events.new.items result }
     ensures links { vec_len parts.new.links ≤ vec_len parts.old.links + 1 }
     ensures room { vec_capacity parts.old.links ≤ vec_capacity parts.new.links }
-    ensures work { steps.new ≤ steps.old + undoing result.kind (processes_of parts.old.procs.items) events.new.items (processes_of parts.new.procs.items) }
+    ensures work { steps.new
+        ≤ steps.old + undoing result.kind (processes_of parts.old.procs.items) events.new.items (processes_of parts.new.procs.items) }
 {
     let levels = parts.procs[p as usize].levels();
     if levels >= MOST_OPEN_LEVELS {
@@ -114,8 +118,11 @@ fn open<L: Ledger>(
     requires process { p < length procs.old }
     requires shallow { (one : Seen) → slice_get procs.old p ≡ Some one → length one.process.levels < 32 }
     requires room { vec_len links.old < vec_capacity links.old }
-    ensures processes { (one : Seen) (facts : Facts) → slice_get procs.old p ≡ Some one → want (plain code.now) one.process.state ≡ Enters facts → procs.new ≡ change_at p (changed (entered_process (plain code.now) facts alternate turn)) procs.old }
-    ensures links { (one : Seen) → slice_get procs.old p ≡ Some one → links.new.items ≡ links.old.items ++ record { turn = turn; process = p; alternate = 0; before = one.process.state.last_kept } ∷ [] }
+    ensures processes { (one : Seen) (facts : Facts) → slice_get procs.old p ≡ Some one
+        → want (plain code.now) one.process.state ≡ Enters facts
+        → procs.new ≡ change_at p (changed (entered_process (plain code.now) facts alternate turn)) procs.old }
+    ensures links { (one : Seen) → slice_get procs.old p ≡ Some one
+        → links.new.items ≡ links.old.items ++ record { turn = turn; process = p; alternate = 0; before = one.process.state.last_kept } ∷ [] }
     ensures len { vec_len links.new ≡ vec_len links.old + 1 }
     ensures room { vec_capacity links.old ≤ vec_capacity links.new }
 {

@@ -44,8 +44,11 @@ pub fn load_parts<L: Ledger>(
 ) -> Result<Loaded<L>, Memory>
     requires loaded { IsLoaded (plain code.now) (memberships (opening nested.now)) (counts_of (opening nested.now)) }
     requires turns { turns ≤ MOST_TURNS }
-    ensures seen { IfOk result (λ loaded. seen (plain code.now) loaded.parts 0 turns ≡ opening_seen (plain code.now) (memberships (opening nested.now)) turns) }
-    ensures tied { IfOk result (λ loaded. IsTied (plain code.now) loaded.parts loaded.running.items (vec_len loaded.parts.links) (vec_capacity loaded.parts.links) 0 turns false) }
+    ensures seen { IfOk result
+        (λ loaded. seen (plain code.now) loaded.parts 0 turns ≡ opening_seen (plain code.now) (memberships (opening nested.now)) turns) }
+    ensures tied { IfOk result
+        (λ loaded. IsTied (plain code.now) loaded.parts loaded.running.items (vec_len loaded.parts.links)
+        (vec_capacity loaded.parts.links) 0 turns false) }
 {
     if !is_numbered(code) {
         return Err(Memory);

@@ -52,7 +52,8 @@ impl<'a, L: Ledger> Model for Machine<'a, L> {
 
     ghost view = { λ m. seen (plain m.code.now) m.parts m.taken m.most };
 
-    ghost invariant = { λ m. IsTied (plain m.code.now) m.parts m.running.items (vec_len m.parts.links) (vec_capacity m.parts.links) m.taken m.most m.released };
+    ghost invariant = { λ m. IsTied (plain m.code.now) m.parts m.running.items (vec_len m.parts.links)
+        (vec_capacity m.parts.links) m.taken m.most m.released };
 }
 
 impl<'a, L: Ledger> Machine<'a, L> {
@@ -215,7 +216,8 @@ fn turn<L: Ledger>(
     requires room { vec_len parts.old.links < vec_capacity parts.old.links }
     requires few { number ≤ MOST_TURNS }
     requires freed { AreFreed (processes_of parts.old.procs.items) }
-    ensures turned { (world parts.new, told_of report.new.kind report.new.events.items (lines_of parts.new.procs.items)) ≡ turn (kind_with (plain code.now) parts.old.table) number p (world parts.old) }
+    ensures turned { (world parts.new, told_of report.new.kind report.new.events.items (lines_of parts.new.procs.items))
+        ≡ turn (kind_with (plain code.now) parts.old.table) number p (world parts.old) }
     ensures groups { SameGroups parts.old.table parts.new.table }
     ensures at_work { IsAtWork (plain code.now) (number + 1) parts.new.procs.items parts.new.table parts.new.mails.items parts.new.links.items }
     ensures running { running.new ≡ running_of (processes_of parts.new.procs.items) }

@@ -58,11 +58,17 @@ pub fn act<L: Ledger>(
     requires acting { MayAct parts.old.procs.items p }
     requires room { vec_len parts.old.links < vec_capacity parts.old.links }
     requires none { length events.old.items ≡ 0 }
-    ensures moved { MovesAt parts.old p (λ q w. acts (kind_with (plain code.now) parts.old.table) turn p q w (want (plain code.now) q.state)) (HasMoved parts.new events.new.items result) }
+    ensures moved { MovesAt parts.old p
+        (λ q w. acts (kind_with (plain code.now) parts.old.table) turn p q w (want (plain code.now) q.state))
+        (HasMoved parts.new events.new.items result) }
     ensures left { IsLeft (plain code.now) parts.old parts.new events.new.items result }
     ensures links { vec_len parts.new.links ≤ vec_len parts.old.links + 1 }
     ensures room { vec_capacity parts.old.links ≤ vec_capacity parts.new.links }
-    ensures work { (one : Seen) → slice_get parts.old.procs.items p ≡ Some one → steps.new ≤ steps.old + looking (enters_there (plain code.now) result.kind (Some one.process)) + 3 * named_by_acts (plain code.now) (memberships parts.old.table) turn p one.process (world parts.old) (want (plain code.now) one.process.state) + undoing result.kind (processes_of parts.old.procs.items) events.new.items (processes_of parts.new.procs.items) }
+    ensures work { (one : Seen) → slice_get parts.old.procs.items p ≡ Some one
+        → steps.new ≤ steps.old + looking (enters_there (plain code.now) result.kind (Some one.process))
+        + 3 * named_by_acts (plain code.now) (memberships parts.old.table) turn p one.process (world parts.old)
+        (want (plain code.now) one.process.state)
+        + undoing result.kind (processes_of parts.old.procs.items) events.new.items (processes_of parts.new.procs.items) }
 {
     let wanted = parts.procs[p as usize].want(code);
     match ready(code, &parts.procs, p, wanted, steps) {
@@ -177,7 +183,9 @@ pub fn take_turn<L: Ledger>(
     ensures left { IsLeft (plain code.now) parts.old parts.new events.new.items result }
     ensures links { vec_len parts.new.links ≤ vec_len parts.old.links + 1 }
     ensures room { vec_capacity parts.old.links ≤ vec_capacity parts.new.links }
-    ensures work { steps.new ≤ steps.old + move_work (plain code.now) (memberships parts.old.table) turn p (world parts.old) (move (kind_with (plain code.now) parts.old.table) turn p (world parts.old)) }
+    ensures work { steps.new
+        ≤ steps.old + move_work (plain code.now) (memberships parts.old.table) turn p (world parts.old)
+        (move (kind_with (plain code.now) parts.old.table) turn p (world parts.old)) }
 {
     if is_running(&parts.procs, p) {
         run(code, parts, turn, p, events, steps)
@@ -211,11 +219,15 @@ fn run<L: Ledger>(
     requires running { (one : Seen) → slice_get parts.old.procs.items p ≡ Some one → one.process.status ≡ Running }
     requires room { vec_len parts.old.links < vec_capacity parts.old.links }
     requires none { length events.old.items ≡ 0 }
-    ensures moved { MovesAt parts.old p (λ q w. runs (kind_with (plain code.now) parts.old.table) turn p (turn_used q) w) (HasMoved parts.new events.new.items result) }
+    ensures moved { MovesAt parts.old p (λ q w. runs (kind_with (plain code.now) parts.old.table) turn p (turn_used q) w)
+        (HasMoved parts.new events.new.items result) }
     ensures left { IsLeft (plain code.now) parts.old parts.new events.new.items result }
     ensures links { vec_len parts.new.links ≤ vec_len parts.old.links + 1 }
     ensures room { vec_capacity parts.old.links ≤ vec_capacity parts.new.links }
-    ensures work { (one : Seen) → slice_get parts.old.procs.items p ≡ Some one → steps.new ≤ steps.old + looking (enters_there (plain code.now) result.kind (Some one.process)) + 3 * named_running (plain code.now) (memberships parts.old.table) turn p (turn_used one.process) (world parts.old) + undoing result.kind (processes_of parts.old.procs.items) events.new.items (processes_of parts.new.procs.items) }
+    ensures work { (one : Seen) → slice_get parts.old.procs.items p ≡ Some one
+        → steps.new ≤ steps.old + looking (enters_there (plain code.now) result.kind (Some one.process))
+        + 3 * named_running (plain code.now) (memberships parts.old.table) turn p (turn_used one.process) (world parts.old)
+        + undoing result.kind (processes_of parts.old.procs.items) events.new.items (processes_of parts.new.procs.items) }
 {
     let over = count(&mut parts.procs, p);
     go_on(code, parts, turn, p, over, events, steps)
@@ -248,11 +260,17 @@ fn go_on<L: Ledger>(
     requires over { (one : Seen) → slice_get parts.old.procs.items p ≡ Some one → over ≡ position is_over one.process.levels }
     requires room { vec_len parts.old.links < vec_capacity parts.old.links }
     requires none { length events.old.items ≡ 0 }
-    ensures moved { MovesAt parts.old p (λ q w. bounded (kind_with (plain code.now) parts.old.table) turn p q w (position is_over q.levels)) (HasMoved parts.new events.new.items result) }
+    ensures moved { MovesAt parts.old p
+        (λ q w. bounded (kind_with (plain code.now) parts.old.table) turn p q w (position is_over q.levels))
+        (HasMoved parts.new events.new.items result) }
     ensures left { IsLeft (plain code.now) parts.old parts.new events.new.items result }
     ensures links { vec_len parts.new.links ≤ vec_len parts.old.links + 1 }
     ensures room { vec_capacity parts.old.links ≤ vec_capacity parts.new.links }
-    ensures work { (one : Seen) → slice_get parts.old.procs.items p ≡ Some one → steps.new ≤ steps.old + looking (enters_there (plain code.now) result.kind (Some one.process)) + 3 * named_within (plain code.now) (memberships parts.old.table) turn p one.process (world parts.old) (position is_over one.process.levels) + undoing result.kind (processes_of parts.old.procs.items) events.new.items (processes_of parts.new.procs.items) }
+    ensures work { (one : Seen) → slice_get parts.old.procs.items p ≡ Some one
+        → steps.new ≤ steps.old + looking (enters_there (plain code.now) result.kind (Some one.process))
+        + 3 * named_within (plain code.now) (memberships parts.old.table) turn p one.process (world parts.old)
+        (position is_over one.process.levels)
+        + undoing result.kind (processes_of parts.old.procs.items) events.new.items (processes_of parts.new.procs.items) }
 {
     match over {
         Some(level) => undo(parts, p, level + 1, Cause::Overrun, events, steps),

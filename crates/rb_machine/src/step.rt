@@ -44,9 +44,11 @@ fn step_one<L: Ledger>(
     requires may { (one : Seen) → slice_get procs.old p ≡ Some one → MayStep (plain code.now) mails.old there one }
     requires wanted { WantsThere (plain code.now) procs.old p wanted }
     requires sized { AreSized (plain code.now) mails.old }
-    ensures stepped { (one : Seen) → slice_get procs.old p ≡ Some one → HasStepped (plain code.now) there p one result mails.old mails.new procs.old procs.new }
+    ensures stepped { (one : Seen) → slice_get procs.old p ≡ Some one
+        → HasStepped (plain code.now) there p one result mails.old mails.new procs.old procs.new }
     ensures sized { AreSized (plain code.now) mails.new }
-    ensures work { (one : Seen) → slice_get procs.old p ≡ Some one → steps.new ≤ steps.old + 1 + 3 * named_in_step (plain code.now) one.process mails.old there }
+    ensures work { (one : Seen) → slice_get procs.old p ≡ Some one
+        → steps.new ≤ steps.old + 1 + 3 * named_in_step (plain code.now) one.process mails.old there }
 {
     procs[p as usize].step(code, mails, wanted, there, steps)
 }
@@ -62,7 +64,9 @@ fn keep_turn<L: Ledger>(
     requires process { p < length procs.old }
     requires room { vec_len links.old < vec_capacity links.old }
     ensures processes { procs.new ≡ change_at p (turn_kept turn) procs.old }
-    ensures links { (one : Seen) → slice_get procs.old p ≡ Some one → links.new.items ≡ links.old.items ++ record { turn = turn; process = p; alternate = alternate; before = one.process.state.last_kept } ∷ [] }
+    ensures links { (one : Seen) → slice_get procs.old p ≡ Some one
+        → links.new.items
+        ≡ links.old.items ++ record { turn = turn; process = p; alternate = alternate; before = one.process.state.last_kept } ∷ [] }
     ensures len { vec_len links.new ≡ vec_len links.old + 1 }
     ensures room { vec_capacity links.old ≤ vec_capacity links.new }
 {
@@ -99,11 +103,22 @@ pub fn take_step<L: Ledger>(
     requires wanted { WantsThere (plain code.now) parts.old.procs.items p wanted }
     requires room { vec_len parts.old.links < vec_capacity parts.old.links }
     requires none { length events.old.items ≡ 0 }
-    ensures moved { MovesAt parts.old p (λ q w. stepping (kind_with (plain code.now) parts.old.table) turn p (alternate_for (want (plain code.now) q.state) q.levels) (message_for (plain code.now) q.state parts.old.mails.items there (want (plain code.now) q.state)) q w) (HasMoved parts.new events.new.items result) }
+    ensures moved { MovesAt parts.old p
+        (λ q w. stepping (kind_with (plain code.now) parts.old.table) turn p
+        (alternate_for (want (plain code.now) q.state) q.levels)
+        (message_for (plain code.now) q.state parts.old.mails.items there (want (plain code.now) q.state)) q w)
+        (HasMoved parts.new events.new.items result) }
     ensures left { IsLeft (plain code.now) parts.old parts.new events.new.items result }
     ensures links { vec_len parts.new.links ≤ vec_len parts.old.links + 1 }
     ensures room { vec_capacity parts.old.links ≤ vec_capacity parts.new.links }
-    ensures work { (one : Seen) → slice_get parts.old.procs.items p ≡ Some one → steps.new ≤ steps.old + 1 + 3 * named_by_steps (plain code.now) (memberships parts.old.table) turn p (alternate_for (want (plain code.now) one.process.state) one.process.levels) (message_for (plain code.now) one.process.state parts.old.mails.items there (want (plain code.now) one.process.state)) one.process (world parts.old) + undoing result.kind (processes_of parts.old.procs.items) events.new.items (processes_of parts.new.procs.items) }
+    ensures work { (one : Seen) → slice_get parts.old.procs.items p ≡ Some one
+        → steps.new ≤ steps.old + 1
+        + 3 * named_by_steps (plain code.now) (memberships parts.old.table) turn p
+        (alternate_for (want (plain code.now) one.process.state) one.process.levels)
+        (message_for (plain code.now) one.process.state parts.old.mails.items there
+        (want (plain code.now) one.process.state)) one.process
+        (world parts.old)
+        + undoing result.kind (processes_of parts.old.procs.items) events.new.items (processes_of parts.new.procs.items) }
 {
     let alternate = started(wanted, &parts.procs[p as usize]);
     match step_one(

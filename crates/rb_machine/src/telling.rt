@@ -39,7 +39,8 @@ pub fn tell<L: Ledger>(
     requires as_many { length running.old ≡ length procs.now }
     requires numbered { length procs.now < 2 ^ 32 }
     requires room { length events.old.items + (length (passes_of pass) + length procs.now) ≤ 96 }
-    ensures told { (before : List (Process Standing Copy)) → running_of before ≡ running.old → events.new.items ≡ events.old.items ++ ends_told before (processes_of procs.now) pass }
+    ensures told { (before : List (Process Standing Copy)) → running_of before ≡ running.old
+        → events.new.items ≡ events.old.items ++ ends_told before (processes_of procs.now) pass }
     ensures running { running.new ≡ running_of (processes_of procs.now) }
 {
     tell_ended(procs, running, Ending::Failed, events);
@@ -74,10 +75,12 @@ pub fn finish<L: Ledger>(
     requires room { length events.old.items + (length (passes_of pass) + length procs.old) ≤ 96 }
     requires waits { NoneWaits procs.old }
     requires alone { alone ≡ true → (passes_of pass ≡ []) × WasAlone p running.old (processes_of procs.old) }
-    ensures told { (before : List (Process Standing Copy)) → running_of before ≡ running.old → events.new.items ≡ events.old.items ++ ends_told before (processes_of procs.old) pass }
+    ensures told { (before : List (Process Standing Copy)) → running_of before ≡ running.old
+        → events.new.items ≡ events.old.items ++ ends_told before (processes_of procs.old) pass }
     ensures running { running.new ≡ running_of (processes_of procs.old) }
     ensures processes { (c : Plain) (groups : List Membership) → processes_of procs.new ≡ map (freed (word_kind c groups)) (processes_of procs.old) }
-    ensures lines { (c : Plain) (groups : List Membership) → lines_of procs.new ≡ map (λ (q : Process Standing Copy). lines_freed (word_kind c groups) q.state q.levels) (processes_of procs.old) }
+    ensures lines { (c : Plain) (groups : List Membership)
+        → lines_of procs.new ≡ map (λ (q : Process Standing Copy). lines_freed (word_kind c groups) q.state q.levels) (processes_of procs.old) }
     ensures none_waits { result ≡ false → NoneWaits procs.new }
     ensures work { steps.new ≤ steps.old + 2 * releasing (lines_of procs.new) }
 {
@@ -101,7 +104,9 @@ fn finish_one<L: Ledger>(
     requires room { length events.old.items + length procs.old ≤ 96 }
     requires waits { NoneWaits procs.old }
     requires alone { WasAlone p running.old (processes_of procs.old) }
-    ensures told { events.new.items ≡ events.old.items ++ (ended_by Ending.Failed 0 running.old (processes_of procs.old) ++ ended_by Ending.Done 0 running.old (processes_of procs.old)) }
+    ensures told { events.new.items
+        ≡ events.old.items
+        ++ (ended_by Ending.Failed 0 running.old (processes_of procs.old) ++ ended_by Ending.Done 0 running.old (processes_of procs.old)) }
     ensures running { running.new ≡ running_of (processes_of procs.old) }
     ensures freed { (c : Plain) → procs.new ≡ map (freed_one c) procs.old }
     ensures none_waits { result ≡ false → NoneWaits procs.new }
@@ -119,7 +124,8 @@ fn finish_one<L: Ledger>(
 
 // The event of a process that has ended, if it ran.
 fn ending_of(process: u32, ran: bool, status: Status) -> Option<Event>
-    ensures event { option_to_list result ≡ ended_if Ending.Failed process ran (status_of status) ++ ended_if Ending.Done process ran (status_of status) }
+    ensures event { option_to_list result
+        ≡ ended_if Ending.Failed process ran (status_of status) ++ ended_if Ending.Done process ran (status_of status) }
     ensures one { length (option_to_list result) ≤ 1 }
 {
     if !ran {
@@ -211,7 +217,8 @@ fn runs(status: Status) -> bool
 pub fn release_all<L: Ledger>(procs: &mut [Proc<L>], steps: &mut Steps<L>)
     requires waits { NoneWaits procs.old }
     ensures processes { (c : Plain) (groups : List Membership) → processes_of procs.new ≡ map (freed (word_kind c groups)) (processes_of procs.old) }
-    ensures lines { (c : Plain) (groups : List Membership) → lines_of procs.new ≡ map (λ (q : Process Standing Copy). lines_freed (word_kind c groups) q.state q.levels) (processes_of procs.old) }
+    ensures lines { (c : Plain) (groups : List Membership)
+        → lines_of procs.new ≡ map (λ (q : Process Standing Copy). lines_freed (word_kind c groups) q.state q.levels) (processes_of procs.old) }
     ensures work { steps.new ≤ steps.old + 2 * releasing (lines_of procs.new) }
 {
     for proc in procs.iter_mut() {

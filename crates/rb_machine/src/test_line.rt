@@ -38,10 +38,16 @@ pub fn accept<L: Ledger>(
     requires holds { (one : Seen) → slice_get procs.old p ≡ Some one → HoldsTest (plain code.now) one }
     requires listed { (one : Seen) → slice_get procs.old p ≡ Some one → IsListed (length table.old) (conversation_in (last_of one.process.levels)) }
     requires leave { Each (MayLeave (plain code.now)) procs.old }
-    ensures taken { (one : Seen) (memory : Common) → slice_get procs.old p ≡ Some one → HasTaken memory procs.new table.new result (accepted (kind_with (plain code.now) table.old) p one.process.levels (last_of one.process.levels) (world_of procs.old table.old memory) (one.process.state, memory)) }
+    ensures taken { (one : Seen) (memory : Common) → slice_get procs.old p ≡ Some one
+        → HasTaken memory procs.new table.new result
+        (accepted (kind_with (plain code.now) table.old) p one.process.levels (last_of one.process.levels)
+        (world_of procs.old table.old memory) (one.process.state, memory)) }
     ensures waits { NoneWaits procs.new }
     ensures groups { SameGroups table.old table.new }
-    ensures work { (one : Seen) (memory : Common) → slice_get procs.old p ≡ Some one → steps.new ≤ steps.old + 3 * named_accepted (plain code.now) (memberships table.old) p one.process.levels (last_of one.process.levels) (world_of procs.old table.old memory) one.process.state }
+    ensures work { (one : Seen) (memory : Common) → slice_get procs.old p ≡ Some one
+        → steps.new ≤ steps.old
+        + 3 * named_accepted (plain code.now) (memberships table.old) p one.process.levels (last_of one.process.levels)
+        (world_of procs.old table.old memory) one.process.state }
 {
     match conversation_of(&procs[p as usize]) {
         None => {
@@ -72,7 +78,8 @@ fn leave_alone<L: Ledger>(code: &Code, procs: &mut [Proc<L>], p: u32, steps: &mu
     requires waits { NoneWaits procs.old }
     requires holds { (one : Seen) → slice_get procs.old p ≡ Some one → HoldsTest (plain code.now) one }
     ensures gone { procs.new ≡ change_at p (level_gone (plain code.now)) procs.old }
-    ensures work { (one : Seen) → slice_get procs.old p ≡ Some one → steps.new ≤ steps.old + 3 * named_leaving (plain code.now) one.process.state one.process.levels }
+    ensures work { (one : Seen) → slice_get procs.old p ≡ Some one
+        → steps.new ≤ steps.old + 3 * named_leaving (plain code.now) one.process.state one.process.levels }
 {
     procs[p as usize].accept(code, steps);
 }
@@ -97,10 +104,14 @@ fn pass_line<L: Ledger>(
     requires conversation { conversation < length table.old }
     requires waits { NoneWaits procs.old }
     requires leave { Each (MayLeave (plain code.now)) procs.old }
-    ensures taken { (memory : Common) → HasTaken memory procs.new table.new result (at_test_line (kind_with (plain code.now) table.old) conversation (world_of procs.old table.old memory)) }
+    ensures taken { (memory : Common)
+        → HasTaken memory procs.new table.new result
+        (at_test_line (kind_with (plain code.now) table.old) conversation (world_of procs.old table.old memory)) }
     ensures waits { NoneWaits procs.new }
     ensures groups { SameGroups table.old table.new }
-    ensures work { (memory : Common) → steps.new ≤ steps.old + 3 * named_at_line (plain code.now) (memberships table.old) conversation (world_of procs.old table.old memory) }
+    ensures work { (memory : Common)
+        → steps.new
+        ≤ steps.old + 3 * named_at_line (plain code.now) (memberships table.old) conversation (world_of procs.old table.old memory) }
 {
     if !all_stand(procs, table, conversation) {
         return None;

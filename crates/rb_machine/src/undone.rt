@@ -31,10 +31,12 @@ pub fn undo<L: Ledger>(
     requires quiet { AreQuiet parts.old.procs.items }
     requires few { left ≤ 32 }
     requires none { length events.old.items ≡ 0 }
-    ensures moved { (c : Plain) → HasMoved parts.new events.new.items result (undone (reject (kind_with c parts.old.table) p left cause (world parts.old))) }
+    ensures moved { (c : Plain)
+        → HasMoved parts.new events.new.items result (undone (reject (kind_with c parts.old.table) p left cause (world parts.old))) }
     ensures left { (c : Plain) → AreSized c parts.old.mails.items → IsLeft c parts.old parts.new events.new.items result }
     ensures links { parts.new.links ≡ parts.old.links }
-    ensures work { steps.new ≤ steps.old + undoing result.kind (processes_of parts.old.procs.items) events.new.items (processes_of parts.new.procs.items) }
+    ensures work { steps.new
+        ≤ steps.old + undoing result.kind (processes_of parts.old.procs.items) events.new.items (processes_of parts.new.procs.items) }
 {
     reject(
         &mut parts.procs,

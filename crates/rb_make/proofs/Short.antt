@@ -11,7 +11,8 @@ digits : (n : ℕ) → n < 100000 → length (decimal n) ≤ 5
 digits n few = length-decimal-le 5 n (omega arith) (omega arith) (omega arith)
 
 -- texts of numbers, each of which has so many bytes at the most
-lengths : (text_of : ℕ → List ℕ) (most first n : ℕ) → ((j : ℕ) → j < first + n → length (text_of j) ≤ most) → length (flat_map text_of (range_with_len first n)) ≤ most * n
+lengths : (text_of : ℕ → List ℕ) (most first n : ℕ) → ((j : ℕ) → j < first + n → length (text_of j) ≤ most)
+    → length (flat_map text_of (range_with_len first n)) ≤ most * n
 lengths text_of most first zero short = omega arith
 lengths text_of most first (suc n) short =
     let here = short first (omega arith) in
@@ -34,7 +35,8 @@ short_member j few =
 short_conversation : (k : ℕ) → 2 ≤ k → k ≤ 32 → length (conversation_line k) ≤ 400
 unfolding conversation_line
 short_conversation k some few =
-    let members : length (flat_map next_member (range_with_len 2 (k - 1))) ≤ 10 * (k - 1) = lengths next_member 10 2 (k - 1) (λ j within. short_member j (omega arith)) in
+    let members : length (flat_map next_member (range_with_len 2 (k - 1))) ≤ 10 * (k - 1) =
+    lengths next_member 10 2 (k - 1) (λ j within. short_member j (omega arith)) in
     simp length-append (omega arith)
 
 short_beginning : (j w : ℕ) → j < 99 → w < 99 → length (beginning j w) ≤ 150
@@ -109,5 +111,6 @@ few_rounds k w few_processes few =
 pub short_schedule_of : (n : ℕ) → length (schedule_of n) ≤ MOST_BYTES
 unfolding schedule
 short_schedule_of n =
-    let rounds : length (decimal (rounds_of n * (8 * processes_of n + 60))) ≤ 5 = digits (rounds_of n * (8 * processes_of n + 60)) (few_rounds (processes_of n) (rounds_of n) (omega arith) (omega arith)) in
+    let rounds : length (decimal (rounds_of n * (8 * processes_of n + 60))) ≤ 5 =
+    digits (rounds_of n * (8 * processes_of n + 60)) (few_rounds (processes_of n) (rounds_of n) (omega arith) (omega arith)) in
     simp length-append (omega arith)

@@ -22,7 +22,8 @@ put_none text_of text first =
     record { so_far = sym (append-nil text) ∙ ap (λ n. text ++ flat_map text_of (range_with_len first n)) none }
 
 -- one text more
-pub put_more : (text_of : ℕ → List ℕ) (before : List ℕ) (first at : ℕ) (text new : List ℕ) → ArePut text_of before first at text → first ≤ at → new ≡ text ++ text_of at → ArePut text_of before first (at + 1) new
+pub put_more : (text_of : ℕ → List ℕ) (before : List ℕ) (first at : ℕ) (text new : List ℕ)
+    → ArePut text_of before first at text → first ≤ at → new ≡ text ++ text_of at → ArePut text_of before first (at + 1) new
 put_more text_of before first at text new put begun more =
     let count : at - first + 1 ≡ at + 1 - first = omega arith in
     let last : at ≡ first + (at - first) = omega arith in

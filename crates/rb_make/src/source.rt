@@ -122,7 +122,8 @@ fn push_first_process(text: &mut Vec<u8>, sizes: Sizes) -> Result<(), Memory>
 }
 
 fn push_later_processes(text: &mut Vec<u8>, sizes: Sizes) -> Result<(), Memory>
-    ensures { OnOk result (text.new.items ≡ text.old.items ++ flat_map (later_process sizes.processes sizes.rounds) (range_with_len 2 (sizes.processes - 1))) }
+    ensures { OnOk result
+        (text.new.items ≡ text.old.items ++ flat_map (later_process sizes.processes sizes.rounds) (range_with_len 2 (sizes.processes - 1))) }
 {
     for process in 2..sizes.processes + 1 {
         push_later_process(text, process, sizes)?;

@@ -26,7 +26,8 @@ pub tried_together : TriedTogether
 tried_together tree nested turns r i c q level has of_c =
     let at : IsLevelOf c q.levels i = record { level = level; there = has.level_there; of_it = of_c } in
     record {
-      present = run_present (tree_kind tree) (Known tree) (known_ordered tree) (known_kept tree (procedures_kept tree nested)) turns (opening_states tree 0 tree.processes) tt
+      present = run_present (tree_kind tree) (Known tree) (known_ordered tree)
+          (known_kept tree (procedures_kept tree nested)) turns (opening_states tree 0 tree.processes) tt
           (λ n s e. known_opening tree nested n s e) r q has.there i c at;
       as_many = levels_have_as_many tree r q.levels i c (run_known tree nested turns r q has.there).points at;
     }

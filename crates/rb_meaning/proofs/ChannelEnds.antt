@@ -32,7 +32,8 @@ module _ (tree : Tree) (p : ℕ) where
   receipt_is_no_send d c NoElse e = cc
   receipt_is_no_send d c (Else body) e = cc
 
-  command_sends : (c : ℕ) (ends : Ends) (rest : List Item) (command : Command) → IsClear tree p (Perform command) rest → wants tree command ≡ SendsOn c
+  command_sends : (c : ℕ) (ends : Ends) (rest : List Item) (command : Command) → IsClear tree p (Perform command) rest
+      → wants tree command ≡ SendsOn c
       → slice_get (channels_of tree) c ≡ Some ends → ends.sender ≡ p
   command_sends c ends rest (Assignment to e) clear w at = absurd cc
   command_sends c ends rest (Printing items) clear w at = absurd cc

@@ -19,11 +19,14 @@ use Rattle.rb_meaning.proofs.TreeErasure.{erasure}
 abbrev released_line : Naming → Released → List ℕ
 released_line names one = line_of (decimal one.turn ∷ codes "out" ∷ process_word names one.process ∷ one.line ∷ [])
 
-lines_released : (names : Naming) (t p : ℕ) (lists : List (List (List ℕ))) → out_lines names t p lists ≡ flat_map (released_line names) (released_from t p lists)
+lines_released : (names : Naming) (t p : ℕ) (lists : List (List (List ℕ)))
+    → out_lines names t p lists ≡ flat_map (released_line names) (released_from t p lists)
 lines_released names t p [] = refl
 lines_released names t p (lines ∷ others) =
     let first : List Released = map (λ line. record { turn = t; process = p; line = line }) lines in
-    ap₂ (λ (a b : List ℕ). a ++ b) (sym (flat_map-map (released_line names) (λ line. record { turn = t; process = p; line = line }) lines)) (lines_released names t (p + 1) others)
+    ap₂ (λ (a b : List ℕ). a ++ b)
+    (sym (flat_map-map (released_line names) (λ line. record { turn = t; process = p; line = line }) lines))
+    (lines_released names t (p + 1) others)
     ∙ sym (flat_map-append (released_line names) first (released_from t (p + 1) others))
 
 outs_released : (names : Naming) (lines : List (ℕ × Told)) → outs_text names lines ≡ flat_map (released_line names) (released_in lines)
@@ -45,7 +48,8 @@ text_of_erased tree turns erased =
     let names : Naming = naming_of tree in
     ap (plain_text_at tree) erased.ran
     ∙ ap₂ (λ (a b : List ℕ). Ok (a ++ b))
-    (outs_released names erased.lines ∙ ap (flat_map (released_line names)) erased.released ∙ sym (outs_released names (numbered 1 (run_of tree turns).1)))
+    (outs_released names erased.lines ∙ ap (flat_map (released_line names)) erased.released
+    ∙ sym (outs_released names (numbered 1 (run_of tree turns).1)))
     (ap (values_by tree) erased.states)
 
 -- so the text of the plain run is that of what was released, and of the values

@@ -44,7 +44,8 @@ rules_of_use tree one kept =
 abbrev use_of : ℕ → List Item → Identifier → Alternates → Use
 use_of p rest name alternates = record { name = name; deed = Joins (count_alternates alternates); spot = spot_before p rest }
 
-join_kept : (tree : Tree) (p : ℕ) (rest : List Item) (name : Identifier) (alternates : Alternates) → AreKept tree (joined (Some name) alternates (spot_before p rest))
+join_kept : (tree : Tree) (p : ℕ) (rest : List Item) (name : Identifier) (alternates : Alternates)
+    → AreKept tree (joined (Some name) alternates (spot_before p rest))
     → JoinsWell tree p (conversation_number tree name.text) rest
 join_kept tree p rest name alternates kept =
     let rules = rules_of_use tree (use_of p rest name alternates) kept in
@@ -62,7 +63,8 @@ joins_well tree p c rest (Recovers number None place test bound alternates) kept
 joins_well tree p c rest (Recovers number (Some name) place test bound alternates) kept e =
     subst (λ (d : ℕ). JoinsWell tree p d rest) (some_same e)
     (join_kept tree p rest name alternates
-    (kept_first tree (joined (Some name) alternates (spot_before p rest)) (uses_in_alternates (inside (Some name) (spot_before p rest)) alternates) kept))
+    (kept_first tree (joined (Some name) alternates (spot_before p rest))
+    (uses_in_alternates (inside (Some name) (spot_before p rest)) alternates) kept))
 
 -- and it has as many alternates as each block for that conversation
 pub joins_with_as_many : (tree : Tree) (p c : ℕ) (rest : List Item) (block : RecoveryBlock) → AreKept tree (uses_in_block (spot_before p rest) block)
@@ -70,7 +72,8 @@ pub joins_with_as_many : (tree : Tree) (p c : ℕ) (rest : List Item) (block : R
 joins_with_as_many tree p c rest (Recovers number None place test bound alternates) kept e = absurd (none_some e)
 joins_with_as_many tree p c rest (Recovers number (Some name) place test bound alternates) kept e =
     let rules = rules_of_use tree (use_of p rest name alternates)
-    (kept_first tree (joined (Some name) alternates (spot_before p rest)) (uses_in_alternates (inside (Some name) (spot_before p rest)) alternates) kept) in
+    (kept_first tree (joined (Some name) alternates (spot_before p rest))
+    (uses_in_alternates (inside (Some name) (spot_before p rest)) alternates) kept) in
     subst (λ (d : ℕ). alternates_of tree d ≡ Some (count_alternates alternates)) (some_same e)
     (of_number (alternates_of tree (conversation_number tree name.text)) (count_alternates alternates) rules.3)
 
@@ -81,7 +84,8 @@ BeginWith (Some d) [] = ⊥
 BeginWith (Some d) (first ∷ facts) = first.conversation ≡ Some d
 
 begin_with : (tree : Tree) (parent : Option ℕ) (blocks : List RecoveryBlock) → list_all is_converse (map conversation_named blocks) ≡ true
-    → is_same_conversation (conversation_of tree (innermost (map conversation_named blocks))) parent ≡ true → BeginWith parent (map (facts_of tree) blocks)
+    → is_same_conversation (conversation_of tree (innermost (map conversation_named blocks))) parent ≡ true
+    → BeginWith parent (map (facts_of tree) blocks)
 begin_with tree None [] all same = refl
 begin_with tree (Some d) [] all same = absurd (true≢false (sym same))
 begin_with tree parent (Recovers number None place test bound alternates ∷ blocks) all same = absurd (true≢false (sym all))
@@ -96,4 +100,6 @@ around_join tree p c rest well =
     let around = around_all rest well.in_no_call in
     begin_with tree (parent_of (slice_get (groups_of tree) c)) (blocks_left rest)
     (subst (λ (names : List (Option Identifier)). list_all is_converse names ≡ true) around well.converses)
-    (subst (λ (names : List (Option Identifier)). is_same_conversation (conversation_of tree (innermost names)) (parent_of (slice_get (groups_of tree) c)) ≡ true) around well.same)
+    (subst (λ (names : List (Option Identifier)). is_same_conversation (conversation_of tree (innermost names))
+    (parent_of (slice_get (groups_of tree) c))
+    ≡ true) around well.same)

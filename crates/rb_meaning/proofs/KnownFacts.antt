@@ -56,7 +56,8 @@ running_inside [] status j level inside e = absurd (none_some e)
 running_inside (l ∷ levels) status j level inside e = inside
 
 -- who has an innermost level of conversation c runs
-pub running_last : (levels : List (Level State)) (status : Status) (c : ℕ) → RunsInside levels status → is_last_of c (last_of levels) ≡ true → status ≡ Running
+pub running_last : (levels : List (Level State)) (status : Status) (c : ℕ) → RunsInside levels status
+    → is_last_of c (last_of levels) ≡ true → status ≡ Running
 running_last [] status c inside e = absurd (true≢false (sym e))
 running_last (level ∷ levels) status c inside e = inside
 
@@ -131,7 +132,8 @@ module _ (tree : Tree) (p : ℕ) where
   }
 
   -- the block that is entered is left from then on
-  pub left_entered : (items : List Item) (facts : Facts) → IsEntered tree items facts → facts_left tree (entered_items items) ≡ facts ∷ facts_left tree items
+  pub left_entered : (items : List Item) (facts : Facts) → IsEntered tree items facts
+      → facts_left tree (entered_items items) ≡ facts ∷ facts_left tree items
   left_entered items facts entry =
       ap (λ (xs : List Item). facts_left tree (entered_items xs)) entry.is
       ∙ ap (λ f. f ∷ facts_left tree entry.rest) entry.facts_are
@@ -149,6 +151,7 @@ module _ (tree : Tree) (p : ℕ) where
       known_goes (settle s) levels (own_settled s own) points (ap (map (facts_of tree)) (blocks_settled s.items s.environment) ∙ e)
 
   -- who runs away from every line has the levels of what is left
-  pub left_away : (q : Process State State) → Known tree p q → q.status ≡ Running → q.at_line ≡ false → facts_left tree q.state.items ≡ onto [] (facts_in q.levels)
+  pub left_away : (q : Process State State) → Known tree p q → q.status ≡ Running → q.at_line ≡ false
+      → facts_left tree q.state.items ≡ onto [] (facts_in q.levels)
   left_away q known running away =
       known.left (ap is_failed running) ∙ ap (λ line. onto [] (with_test line (facts_in q.levels))) away

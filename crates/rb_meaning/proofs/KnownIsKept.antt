@@ -29,13 +29,15 @@ module _ (tree : Tree) (procedures : (p : ℕ) → HasClearProcedures tree p) wh
       → Continues tree p (blocks_left q.state.items) q.state s
   went p q alternate message s m known e =
       subst (λ (r : Result_of_step). StepsTo (Continues tree p (blocks_left q.state.items) q.state) (Passes tree p q.state) r) e
-      (steps_keep tree p (procedures p) alternate (environment_of (copy_of (last_of q.levels))) message q.state q.state.items known.own.process refl known.own.clear)
+      (steps_keep tree p (procedures p) alternate
+      (environment_of (copy_of (last_of q.levels))) message q.state q.state.items known.own.process refl known.own.clear)
 
   held : (p : ℕ) (q : Process State State) (alternate : ℕ) (message : Option ℤ) (s : State) → Known tree p q
       → step_items tree alternate (environment_of (copy_of (last_of q.levels))) q.state message q.state.items ≡ Held s → Passes tree p q.state s
   held p q alternate message s known e =
       subst (λ (r : Result_of_step). StepsTo (Continues tree p (blocks_left q.state.items) q.state) (Passes tree p q.state) r) e
-      (steps_keep tree p (procedures p) alternate (environment_of (copy_of (last_of q.levels))) message q.state q.state.items known.own.process refl known.own.clear)
+      (steps_keep tree p (procedures p) alternate
+      (environment_of (copy_of (last_of q.levels))) message q.state q.state.items known.own.process refl known.own.clear)
 
   -- after a test that held, the blocks that are left are those of the levels outside
   left_held : (p : ℕ) (q : Process State State) (s : State) → Passes tree p q.state s → facts_left tree q.state.items ≡ onto [] (facts_in q.levels)
@@ -77,12 +79,14 @@ module _ (tree : Tree) (procedures : (p : ℕ) → HasClearProcedures tree p) wh
   items_freed s [] = refl
   items_freed s (level ∷ levels) = refl
 
-  inside_same : (levels levels' : List (Level State)) (status : Status) → facts_in levels ≡ facts_in levels' → RunsInside levels' status → RunsInside levels status
+  inside_same : (levels levels' : List (Level State)) (status : Status) → facts_in levels ≡ facts_in levels'
+      → RunsInside levels' status → RunsInside levels status
   inside_same [] levels' status e inside = tt
   inside_same (level ∷ levels) [] status e inside = absurd cc
   inside_same (level ∷ levels) (l ∷ levels') status e inside = inside
 
-  known_changed : (p : ℕ) (q : Process State State) (levels : List (Level State)) → Known tree p q → ArePoints tree p [] levels → facts_in levels ≡ facts_in q.levels
+  known_changed : (p : ℕ) (q : Process State State) (levels : List (Level State)) → Known tree p q
+      → ArePoints tree p [] levels → facts_in levels ≡ facts_in q.levels
       → Known tree p (record { state = q.state; levels = levels; at_line = q.at_line; status = q.status })
   known_changed p q levels known points e = record {
     own = known.own;
@@ -111,15 +115,18 @@ module _ (tree : Tree) (procedures : (p : ℕ) → HasClearProcedures tree p) wh
     opens = λ t p q w facts alternate known at.
         let entry = entered_block tree q.state.items facts at.wants in
         let kept = (enter q.state).kept ++ (t, 0) ∷ [] in
-        known_opened p q facts alternate (with_kept kept (enter q.state)) (own_kept tree p kept (enter q.state) (own_entered tree p q.state facts known.own entry))
+        known_opened p q facts alternate (with_kept kept (enter q.state))
+        (own_kept tree p kept (enter q.state) (own_entered tree p q.state facts known.own entry))
         (first_entered p q.state facts entry)
-        (left_entered tree p q.state.items facts entry ∙ ap (λ fs. facts ∷ fs) (left_away tree p q known at.acts.runs.running at.acts.away)) known.points;
+        (left_entered tree p q.state.items facts entry
+        ∙ ap (λ fs. facts ∷ fs) (left_away tree p q known at.acts.runs.running at.acts.away)) known.points;
     accepts = λ t p q w alternate message s known at e.
         let passes = held p q alternate message s known e in
         known_settled tree p (with_kept (s.kept ++ (t, alternate) ∷ []) s) (without_last q.levels)
         (own_kept tree p (s.kept ++ (t, alternate) ∷ []) s (own_continues tree p (blocks_left s.items) q.state s known.own passes.continues))
         (points_front tree p [] q.levels known.points)
-        (left_held p q s passes (left_away tree p q known at.acts.runs.running at.acts.away) ∙ ap (onto []) (without_last-map (λ (l : Level State). l.facts) q.levels));
+        (left_held p q s passes (left_away tree p q known at.acts.runs.running at.acts.away)
+        ∙ ap (onto []) (without_last-map (λ (l : Level State). l.facts) q.levels));
     stands = λ t p q w alternate message s known at e.
         let passes = held p q alternate message s known e in
         record {
@@ -128,10 +135,12 @@ module _ (tree : Tree) (procedures : (p : ℕ) → HasClearProcedures tree p) wh
           left = λ _. left_held p q s passes (left_away tree p q known at.acts.runs.running at.acts.away);
           inside = inside_running q.levels Running refl;
         };
-    leaves = λ p c q known e. known_leaves p c q known (first_holds q.at_line (is_last_of c (last_of q.levels)) e) (second_holds q.at_line (is_last_of c (last_of q.levels)) e);
+    leaves = λ p c q known e. known_leaves p c q known (first_holds q.at_line (is_last_of c (last_of q.levels)) e)
+        (second_holds q.at_line (is_last_of c (last_of q.levels)) e);
     falls = λ p q cause known. record { own = known.own; points = tt; left = λ e. absurd (true≢false e); inside = tt };
     goes_back = λ p j q known. known_back p j q (slice_get q.levels j) refl known;
-    rises = λ p j q known. known_changed p q (change_at j next_alternate q.levels) known (points_raised tree p [] j q.levels known.points) (facts_raised j q.levels);
+    rises = λ p j q known. known_changed p q (change_at j next_alternate q.levels) known
+        (points_raised tree p [] j q.levels known.points) (facts_raised j q.levels);
     is_freed = λ p q known. record {
       own = own_freed p q.state q.levels known.own;
       points = known.points;

@@ -49,13 +49,15 @@ module _ (tree : Tree) (p : ℕ) where
         left = tails_same left;
       }
 
-  level_joined : (levels : List (Level State)) (c i : ℕ) → ArePoints tree p [] levels → IsLevelOf c levels i → IsJoined tree p c (onto [] (facts_in (take i levels)))
+  level_joined : (levels : List (Level State)) (c i : ℕ) → ArePoints tree p [] levels → IsLevelOf c levels i
+      → IsJoined tree p c (onto [] (facts_in (take i levels)))
   level_joined levels c i points at =
       point_joined c at.level.facts (onto [] (facts_in (take i levels))) at.level.copy
       (subst (λ (facts : List Facts). IsPoint tree p facts at.level.copy) (facts_at [] levels i at.level at.there)
       (point_at tree p [] i levels at.level points at.there)) at.of_it
 
-  outside_none : (levels : List (Level State)) (i : ℕ) (level : Level State) → slice_get levels i ≡ Some level → onto [] (facts_in (take i levels)) ≡ [] → i ≡ 0
+  outside_none : (levels : List (Level State)) (i : ℕ) (level : Level State) → slice_get levels i ≡ Some level
+      → onto [] (facts_in (take i levels)) ≡ [] → i ≡ 0
   outside_none levels zero level at e = refl
   outside_none [] (suc i) level at e = absurd (none_some at)
   outside_none (l ∷ levels) (suc i) level at e = absurd (onto-some l.facts [] (facts_in (take i levels)) (sym e))

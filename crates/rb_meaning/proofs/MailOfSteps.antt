@@ -10,9 +10,12 @@ use Rattle.rb_meaning.specs.State.{State}
 
 -- what a step that goes on does to mail, by what stood first and the message that it was given
 pub data Posts (want : Want) (message : Option ℤ) (s t : State) : Type 0 where
-  Quiet : t.sent ≡ s.sent → t.taken ≡ s.taken → t.kept ≡ s.kept → ((c : ℕ) → sends_by want c ≡ 0) → ((c : ℕ) → takes_by want message c ≡ 0) → Posts want message s t
-  Posted : (d : ℕ) (v : ℤ) → want ≡ SendsOn d → t.sent ≡ change_at d (λ values. values ++ v ∷ []) s.sent → t.taken ≡ s.taken → t.kept ≡ s.kept → Posts want message s t
-  Collected : (d : ℕ) (v : ℤ) → receives_on want ≡ Some d → message ≡ Some v → t.sent ≡ s.sent → t.taken ≡ change_at d (λ n. n + 1) s.taken → t.kept ≡ s.kept → Posts want message s t
+  Quiet : t.sent ≡ s.sent → t.taken ≡ s.taken → t.kept ≡ s.kept → ((c : ℕ) → sends_by want c ≡ 0)
+      → ((c : ℕ) → takes_by want message c ≡ 0) → Posts want message s t
+  Posted : (d : ℕ) (v : ℤ) → want ≡ SendsOn d → t.sent ≡ change_at d (λ values. values ++ v ∷ []) s.sent → t.taken ≡ s.taken
+      → t.kept ≡ s.kept → Posts want message s t
+  Collected : (d : ℕ) (v : ℤ) → receives_on want ≡ Some d → message ≡ Some v → t.sent ≡ s.sent
+      → t.taken ≡ change_at d (λ n. n + 1) s.taken → t.kept ≡ s.kept → Posts want message s t
 
 -- the list of a channel, in the lists of all channels
 abbrev pub list_on : List (List ℤ) → ℕ → List ℤ
@@ -27,7 +30,8 @@ also_there (b ∷ ys) (x ∷ xs) zero a e at = (x, refl)
 also_there (b ∷ ys) (x ∷ xs) (suc c) a e at = also_there ys xs c a (omega (arith, e)) at
 
 -- a value that is sent joins one list, and the old list is the front of the new
-pub front_of_sent : (d c : ℕ) (v : ℤ) (xs : List (List ℤ)) → (rest : List ℤ) × (list_on (change_at d (λ values. values ++ v ∷ []) xs) c ≡ list_on xs c ++ rest)
+pub front_of_sent : (d c : ℕ) (v : ℤ) (xs : List (List ℤ))
+    → (rest : List ℤ) × (list_on (change_at d (λ values. values ++ v ∷ []) xs) c ≡ list_on xs c ++ rest)
 front_of_sent d c v [] = ([], refl)
 front_of_sent zero zero v (x ∷ xs) = (v ∷ [], refl)
 front_of_sent zero (suc c) v (x ∷ xs) = ([], sym (append-nil (list_on xs c)))

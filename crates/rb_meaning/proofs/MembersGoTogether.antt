@@ -22,14 +22,16 @@ use Rattle.rb_meaning.proofs.WorldsAreOrdered.{runs_ordered}
 among_first : (event : Event) (events others : List Event) → IsAmong event events → IsAmong event (events ++ others)
 among_first event [] others (i, e) = absurd (none_some e)
 among_first event (x ∷ events) others (zero, e) = (0, e)
-among_first event (x ∷ events) others (suc i, e) = let one : IsAmong event (events ++ others) = among_first event events others (i, e) in (suc one.0, one.1)
+among_first event (x ∷ events) others (suc i, e) = let one : IsAmong event (events ++ others) =
+    among_first event events others (i, e) in (suc one.0, one.1)
 
 among_rest : (event : Event) (events others : List Event) → IsAmong event others → IsAmong event (events ++ others)
 among_rest event [] others one = one
 among_rest event (x ∷ events) others one = let more : IsAmong event (events ++ others) = among_rest event events others one in (suc more.0, more.1)
 
 -- a level is there once lines were released, and its state is the same
-state_stays : (tree : Tree) (s : State) (levels : List (Level State)) (i : ℕ) {level : Level State} → slice_get levels i ≡ Some level → state_freed (tree_kind tree) s levels ≡ s
+state_stays : (tree : Tree) (s : State) (levels : List (Level State)) (i : ℕ) {level : Level State}
+    → slice_get levels i ≡ Some level → state_freed (tree_kind tree) s levels ≡ s
 state_stays tree s [] i e = absurd (none_some e)
 state_stays tree s (l ∷ levels) i e = refl
 
@@ -41,7 +43,8 @@ module _ (tree : Tree) (c p : ℕ) (w : TreeWorld) (moved : Moved State State No
   abbrev told_events : List Event
   told_events = (finishes (tree_kind tree) w moved).1.events
 
-  later_there : (r : ℕ) (now : Process State State) → slice_get moved.world.processes r ≡ Some now → slice_get world_after.processes r ≡ Some (freed (tree_kind tree) now)
+  later_there : (r : ℕ) (now : Process State State) → slice_get moved.world.processes r ≡ Some now
+      → slice_get world_after.processes r ≡ Some (freed (tree_kind tree) now)
   later_there r now e = slice_get-map (freed (tree_kind tree)) moved.world.processes r ∙ ap (option_map (freed (tree_kind tree))) e
 
   keep_levels : Keeps c w moved.world → KeepTheirLevels c w world_after

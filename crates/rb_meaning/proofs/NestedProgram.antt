@@ -45,9 +45,12 @@ first_kept : (tree : Tree) (p n : ℕ) (process : ProcessDeclaration) (processes
     → AreKept tree (uses_in_processes p (process ∷ processes)) → IsProcessKept tree n process
 first_kept tree p n process processes e kept =
     subst (λ (m : ℕ). IsProcessKept tree m process) (sym e) (record {
-      procedures = kept_first tree (uses_in_procedures p process.procedures) (uses_in (outside p false) process.commands ++ uses_in_processes (p + 1) processes) kept;
+      procedures =
+          kept_first tree (uses_in_procedures p process.procedures)
+          (uses_in (outside p false) process.commands ++ uses_in_processes (p + 1) processes) kept;
       commands = kept_first tree (uses_in (outside p false) process.commands) (uses_in_processes (p + 1) processes)
-          (kept_second tree (uses_in_procedures p process.procedures) (uses_in (outside p false) process.commands ++ uses_in_processes (p + 1) processes) kept);
+          (kept_second tree (uses_in_procedures p process.procedures)
+          (uses_in (outside p false) process.commands ++ uses_in_processes (p + 1) processes) kept);
     })
 
 processes_kept : (tree : Tree) (p r n : ℕ) (processes : List ProcessDeclaration) (process : ProcessDeclaration) → n ≡ p + r
@@ -61,7 +64,8 @@ processes_kept tree p (suc r) n (one ∷ processes) process e kept at =
     (kept_second tree (uses_in_procedures p one.procedures) (uses_in (outside p false) one.commands ++ uses_in_processes (p + 1) processes) kept)) at
 
 -- each process of a nested program
-pub process_kept : (tree : Tree) → IsNested tree → (n : ℕ) (process : ProcessDeclaration) → slice_get tree.processes n ≡ Some process → IsProcessKept tree n process
+pub process_kept : (tree : Tree) → IsNested tree → (n : ℕ) (process : ProcessDeclaration)
+    → slice_get tree.processes n ≡ Some process → IsProcessKept tree n process
 process_kept tree nested n process at = processes_kept tree 0 n n tree.processes process (omega arith) (uses_kept tree nested) at
 
 -- a procedure that is found by its name
@@ -73,7 +77,8 @@ either_kept tree n true first procedure other kept others e =
 either_kept tree n false first procedure other kept others e = others e
 
 among_kept : (tree : Tree) (n : ℕ) (x : List ℕ) (procedures : List ProcedureDeclaration) (procedure : ProcedureDeclaration)
-    → AreKept tree (uses_in_procedures n procedures) → procedure_among x procedures ≡ Some procedure → AreKept tree (uses_in_body (outside n true) procedure.body)
+    → AreKept tree (uses_in_procedures n procedures) → procedure_among x procedures ≡ Some procedure
+    → AreKept tree (uses_in_body (outside n true) procedure.body)
 among_kept tree n x [] procedure kept e = absurd (none_some e)
 among_kept tree n x (first ∷ procedures) procedure kept e =
     either_kept tree n (same_name first.name.text x) first procedure (procedure_among x procedures)
@@ -81,7 +86,8 @@ among_kept tree n x (first ∷ procedures) procedure kept e =
     (among_kept tree n x procedures procedure (kept_second tree (uses_in_body (outside n true) first.body) (uses_in_procedures n procedures) kept)) e
 
 found_kept : (tree : Tree) → IsNested tree → (n : ℕ) (x : List ℕ) (procedure : ProcedureDeclaration) (o : Option ProcessDeclaration)
-    → slice_get tree.processes n ≡ o → procedure_among x (procedures_of o) ≡ Some procedure → AreKept tree (uses_in_body (outside n true) procedure.body)
+    → slice_get tree.processes n ≡ o → procedure_among x (procedures_of o) ≡ Some procedure
+    → AreKept tree (uses_in_body (outside n true) procedure.body)
 found_kept tree nested n x procedure None at e = absurd (none_some e)
 found_kept tree nested n x procedure (Some process) at e =
     among_kept tree n x process.procedures procedure (process_kept tree nested n process at).procedures e

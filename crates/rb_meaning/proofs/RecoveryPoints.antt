@@ -82,7 +82,8 @@ module _ (tree : Tree) (p : ℕ) where
   points_front outer (level ∷ l ∷ levels) points = (points.0, points_front (level.facts ∷ outer) (l ∷ levels) points.1)
 
   -- only the outer levels stay
-  pub points_taken : (outer : List Facts) (n : ℕ) (levels : List (Level State)) → ArePoints tree p outer levels → ArePoints tree p outer (take n levels)
+  pub points_taken : (outer : List Facts) (n : ℕ) (levels : List (Level State)) → ArePoints tree p outer levels
+      → ArePoints tree p outer (take n levels)
   points_taken outer zero levels points = tt
   points_taken outer (suc n) [] points = tt
   points_taken outer (suc n) (level ∷ levels) points = (points.0, points_taken (level.facts ∷ outer) n levels points.1)

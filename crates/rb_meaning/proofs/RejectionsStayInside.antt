@@ -32,7 +32,8 @@ private_rejected (Pass c a ∷ events) private = absurd private
 private_rejected (Done p ∷ events) private = absurd private
 
 -- the last conversation that is rejected is the outermost
-last_rejected : (inner : List Event) (last : Event) (c : ℕ) → outermost_rejected (last ∷ []) ≡ Some c → outermost_rejected (inner ++ last ∷ []) ≡ Some c
+last_rejected : (inner : List Event) (last : Event) (c : ℕ) → outermost_rejected (last ∷ []) ≡ Some c
+    → outermost_rejected (inner ++ last ∷ []) ≡ Some c
 last_rejected [] last c is = is
 last_rejected (Reject p line a cause ∷ events) last c is = last_rejected events last c is
 last_rejected (RejectAll d a p cause ∷ events) last c is = ap (further_out (Some d)) (last_rejected events last c is)
@@ -74,7 +75,8 @@ told_rejects k before moved none =
     let completions : List Event = compared done_at 0 before.processes moved.world.processes in
     rejected_before moved.rejections (errors ++ (moved.passes ++ completions))
     (rejected_before errors (moved.passes ++ completions)
-    (ap (λ (passes : List Event). outermost_rejected (passes ++ completions)) none ∙ compared_reject done_at done_rejects 0 before.processes moved.world.processes)
+    (ap (λ (passes : List Event). outermost_rejected (passes ++ completions)) none
+    ∙ compared_reject done_at done_rejects 0 before.processes moved.world.processes)
     ∙ compared_reject error_at error_rejects 0 before.processes moved.world.processes)
 
 outside_of : (conversation : Option ℕ) (q : Process State State) → IsOutside conversation q → IsOutsideOf conversation q

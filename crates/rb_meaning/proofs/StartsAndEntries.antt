@@ -46,7 +46,8 @@ start_first tree (EndBlock ∷ rest) w = absurd cc
 start_first tree (EndCall ∷ rest) w = absurd cc
 
 -- an alternate that a block has
-alternate_there : (n : ℕ) (alternates : Alternates) (body : Body) → alternate_number n alternates ≡ Some body → (1 ≤ n) × (n ≤ count_alternates alternates)
+alternate_there : (n : ℕ) (alternates : Alternates) (body : Body) → alternate_number n alternates ≡ Some body
+    → (1 ≤ n) × (n ≤ count_alternates alternates)
 alternate_there n NoAlternate body e = absurd (none_some e)
 alternate_there zero (Alternate first others) body e = absurd (none_some e)
 alternate_there (suc zero) (Alternate first others) body e = (omega arith, omega arith)
@@ -59,7 +60,8 @@ block_there : (tree : Tree) (n : ℕ) (block : RecoveryBlock) (body : Body) → 
 block_there tree n (Recovers number conversation place test bound alternates) body e = alternate_there n alternates body e
 
 -- a start that went on found its alternate
-start_there : (tree : Tree) (n : ℕ) (block : RecoveryBlock) (rest : List Item) (s t : State) (chosen : Option Body) → chosen ≡ alternate_number n (alternates_in block)
+start_there : (tree : Tree) (n : ℕ) (block : RecoveryBlock) (rest : List Item) (s t : State) (chosen : Option Body)
+    → chosen ≡ alternate_number n (alternates_in block)
     → goes (starts_body tree.edition block rest s chosen) ≡ Went t tt → (1 ≤ n) × (n ≤ (facts_of tree block).alternates)
 start_there tree n block rest s t None e went = absurd cc
 start_there tree n block rest s t (Some body) e went = block_there tree n block body (sym e)
@@ -86,14 +88,16 @@ failed_bare (level ∷ levels) status inside failed = absurd (true≢false (sym 
 
 module _ (tree : Tree) (p : ℕ) (q : Process State State) (known : Known tree p q) (away : q.at_line ≡ false) where
   -- the alternate that it starts is one of its level's block
-  pub starts_there : (alternate : ℕ) (prior : Option Environment) (message : Option ℤ) (s : State) → q.status ≡ Running → wants_first tree q.state.items ≡ Starts
+  pub starts_there : (alternate : ℕ) (prior : Option Environment) (message : Option ℤ) (s : State) → q.status ≡ Running
+      → wants_first tree q.state.items ≡ Starts
       → step tree alternate prior q.state message ≡ Went s tt → (1 ≤ alternate) × (alternate ≤ alternates_of (last_of q.levels))
   starts_there alternate prior message s running w went =
       let first = start_first tree q.state.items w in
       let chosen = alternate_number alternate (alternates_in first.block) in
       let left : facts_of tree first.block ∷ facts_left tree first.rest ≡ onto [] (facts_in q.levels) =
       ap (facts_left tree) (sym first.is) ∙ left_away tree p q known running away in
-      subst (λ (n : ℕ). (1 ≤ alternate) × (alternate ≤ n)) (sym (innermost_facts q.levels (facts_of tree first.block) (facts_left tree first.rest) left))
+      subst (λ (n : ℕ). (1 ≤ alternate) × (alternate ≤ n))
+      (sym (innermost_facts q.levels (facts_of tree first.block) (facts_left tree first.rest) left))
       (start_there tree alternate first.block first.rest q.state s chosen refl
       (ap (step_items tree alternate prior q.state message) (sym first.is) ∙ went))
 

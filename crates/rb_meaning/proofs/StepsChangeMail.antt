@@ -44,7 +44,8 @@ module _ (want : Want) (message : Option ℤ) (quiet : IsQuiet want message) whe
       (Ok (with_environment (push_frame (frame_of variables) s.environment) (continue_with (performed commands (EndBlock ∷ rest)) s))) tt
       (Quiet refl refl refl quiet.sends quiet.takes)
 
-  pushes_else_post : (edition : Edition) (otherwise : Otherwise) (rest : List Item) (s : State) → EndsIn (Posts want message s) (pushes_else edition otherwise rest s)
+  pushes_else_post : (edition : Edition) (otherwise : Otherwise) (rest : List Item) (s : State)
+      → EndsIn (Posts want message s) (pushes_else edition otherwise rest s)
   pushes_else_post edition NoElse rest s = Quiet refl refl refl quiet.sends quiet.takes
   pushes_else_post edition (Else body) rest s = pushes_post edition body rest s
 
@@ -70,7 +71,8 @@ receives_post tree channel to otherwise rest s (Some v) =
 receives_post tree channel to otherwise rest s None =
     pushes_else_post (wants_receipt channel otherwise) None (finds_nothing channel otherwise) tree.edition otherwise rest s
 
-prints_post : (message : Option ℤ) (rest : List Item) (s : State) (items : List PrintItem) → EndsIn (Posts Acts message s) (prints (continue_with rest s) items)
+prints_post : (message : Option ℤ) (rest : List Item) (s : State) (items : List PrintItem)
+    → EndsIn (Posts Acts message s) (prints (continue_with rest s) items)
 prints_post message rest s items =
     then_ends (Posts Acts message s) (line_from s.environment true items) _ (λ line.
     either_ends (Posts Acts message s) _ (Err _) (Ok (with_held (s.held ++ line ∷ []) (continue_with rest s))) tt
@@ -103,7 +105,8 @@ performs_post tree message s rest (Invocation procedure arguments) =
 performs_post tree message s rest Failure = tt
 performs_post tree message s rest (Recovering block) = Quiet refl refl refl (λ c. refl) (λ c. refl)
 
-judged_post : (message : Option ℤ) (rest : List Item) (s : State) (outcome : Outcome) → StepsTo (Posts Acts message s) (IsPassed Acts s) (judged rest s outcome)
+judged_post : (message : Option ℤ) (rest : List Item) (s : State) (outcome : Outcome)
+    → StepsTo (Posts Acts message s) (IsPassed Acts s) (judged rest s outcome)
 judged_post message rest s (Err cause) = tt
 judged_post message rest s (Ok v) =
     judged_either (Posts Acts message s) (IsPassed Acts s) (is_zero v) Test (continue_with rest s)

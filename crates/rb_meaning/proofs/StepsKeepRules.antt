@@ -28,7 +28,8 @@ StepsTo P Q (Went s memory) = P s
 StepsTo P Q (Held s) = Q s
 
 -- a step that goes on from a value
-pub then_ends : {A : Type 0} (P : State → Type 0) (r : Result A Cause) (f : A → Result State Cause) → ((a : A) → EndsIn P (f a)) → EndsIn P (and_then r f)
+pub then_ends : {A : Type 0} (P : State → Type 0) (r : Result A Cause) (f : A → Result State Cause)
+    → ((a : A) → EndsIn P (f a)) → EndsIn P (and_then r f)
 then_ends P (Ok a) f each = each a
 then_ends P (Err cause) f each = tt
 
@@ -76,11 +77,13 @@ alternate_kept tree spot (suc zero) (Alternate first others) body kept e =
 alternate_kept tree spot (suc (suc n)) (Alternate first others) body kept e =
     alternate_kept tree spot (suc n) others body (kept_second tree (uses_in_body spot first) (uses_in_alternates spot others) kept) e
 
-block_kept : (tree : Tree) (p : ℕ) (rest : List Item) (n : ℕ) (block : RecoveryBlock) (body : Body) → AreKept tree (uses_in_block (spot_before p rest) block)
+block_kept : (tree : Tree) (p : ℕ) (rest : List Item) (n : ℕ) (block : RecoveryBlock) (body : Body)
+    → AreKept tree (uses_in_block (spot_before p rest) block)
     → alternate_number n (alternates_in block) ≡ Some body → AreKept tree (uses_in_body (spot_before p (TestOf block ∷ rest)) body)
 block_kept tree p rest n (Recovers number conversation place test bound alternates) body kept e =
     alternate_kept tree (inside conversation (spot_before p rest)) n alternates body
-    (kept_second tree (joined conversation alternates (spot_before p rest)) (uses_in_alternates (inside conversation (spot_before p rest)) alternates) kept) e
+    (kept_second tree (joined conversation alternates (spot_before p rest))
+    (uses_in_alternates (inside conversation (spot_before p rest)) alternates) kept) e
 
 commands_kept : (tree : Tree) (spot : Spot) (body : Body) → AreKept tree (uses_in_body spot body) → AreKept tree (uses_in spot (commands_of body))
 commands_kept tree spot (Scope variables commands) kept = kept
@@ -116,7 +119,8 @@ module _ (tree : Tree) (p : ℕ) where
       then_ends (Continues tree p (blocks_left rest) s) (place_in s.environment to) _ (λ place.
       record { process = refl; clear = clear; blocks_are = refl; sent = refl; taken = length-change_at channel _ s.taken })
 
-  pushes_ends : (edition : Edition) (body : Body) (rest : List Item) (s : State) → AreKept tree (uses_in_body (spot_before p rest) body) → AreClear tree p rest
+  pushes_ends : (edition : Edition) (body : Body) (rest : List Item) (s : State)
+      → AreKept tree (uses_in_body (spot_before p rest) body) → AreClear tree p rest
       → EndsIn (Continues tree p (blocks_left rest) s) (pushes edition body rest s)
   pushes_ends edition (Scope variables commands) rest s kept clear =
       either_ends (Continues tree p (blocks_left rest) s) _ (Err _)
@@ -129,7 +133,8 @@ module _ (tree : Tree) (p : ℕ) where
         taken = refl;
       })
 
-  pushes_else_ends : (edition : Edition) (otherwise : Otherwise) (rest : List Item) (s : State) → AreKept tree (uses_in_otherwise (spot_before p rest) otherwise)
+  pushes_else_ends : (edition : Edition) (otherwise : Otherwise) (rest : List Item) (s : State)
+      → AreKept tree (uses_in_otherwise (spot_before p rest) otherwise)
       → AreClear tree p rest → EndsIn (Continues tree p (blocks_left rest) s) (pushes_else edition otherwise rest s)
   pushes_else_ends edition NoElse rest s kept clear = goes_on rest s clear
   pushes_else_ends edition (Else body) rest s kept clear = pushes_ends edition body rest s kept clear
@@ -153,7 +158,8 @@ module _ (tree : Tree) (p : ℕ) where
   repeats_ends : (test : Expression) (body : Body) (rest : List Item) (s : State) (v : ℤ) → AreKept tree (uses_in_body (spot_before p rest) body)
       → AreClear tree p rest → EndsIn (Continues tree p (blocks_left rest) s) (repeats tree.edition test body rest s v)
   repeats_ends test body rest s v kept clear =
-      either_ends (Continues tree p (blocks_left rest) s) (is_zero v) (Ok (continue_with rest s)) (pushes tree.edition body (Perform (Loop test body) ∷ rest) s)
+      either_ends (Continues tree p (blocks_left rest) s) (is_zero v) (Ok (continue_with rest s))
+      (pushes tree.edition body (Perform (Loop test body) ∷ rest) s)
       (goes_on rest s clear) (pushes_ends tree.edition body (Perform (Loop test body) ∷ rest) s kept (kept, clear))
 
   calls_ends : (called : Option ProcedureDeclaration) (rest : List Item) (s : State) (values : List ℤ)
@@ -162,7 +168,8 @@ module _ (tree : Tree) (p : ℕ) where
   calls_ends None rest s values kept clear = goes_on rest s clear
   calls_ends (Some procedure) rest s values kept clear =
       let env = push_call (bound_to procedure.parameters values ++ frame_of (variables_of procedure.body)) s.environment in
-      either_ends (Continues tree p (blocks_left rest) s) _ (Err _) (within_words tree.edition env (continue_with (performed (commands_of procedure.body) (EndCall ∷ rest)) s)) tt
+      either_ends (Continues tree p (blocks_left rest) s) _ (Err _)
+      (within_words tree.edition env (continue_with (performed (commands_of procedure.body) (EndCall ∷ rest)) s)) tt
       (either_ends (Continues tree p (blocks_left rest) s) _ (Err _)
       (Ok (with_environment env (continue_with (performed (commands_of procedure.body) (EndCall ∷ rest)) s))) tt
       (record {
@@ -189,7 +196,8 @@ module _ (tree : Tree) (p : ℕ) where
   performs_ends procedures message s rest (Sending channel e) own kept clear = sends_ends rest s (channel_number tree channel.text) e clear
   performs_ends procedures message s rest (Receiving channel to otherwise) own kept clear =
       receives_ends (channel_number tree channel.text) to otherwise rest s message
-      (kept_second tree (record { name = channel; deed = Receives; spot = spot_before p rest } ∷ []) (uses_in_otherwise (spot_before p rest) otherwise) kept) clear
+      (kept_second tree (record { name = channel; deed = Receives; spot = spot_before p rest } ∷ [])
+      (uses_in_otherwise (spot_before p rest) otherwise) kept) clear
   performs_ends procedures message s rest (Conditional test body otherwise) own kept clear =
       then_ends (Continues tree p (blocks_left rest) s) (present_value s.environment test) _ (λ v. chooses_ends body otherwise rest s v kept clear)
   performs_ends procedures message s rest (Loop test body) own kept clear =
@@ -219,7 +227,8 @@ module _ (tree : Tree) (p : ℕ) where
       (record { block = block; blocks_are = ap blocks_left e; continues = goes_on rest s clear })
 
   -- a step from what is left
-  pub steps_keep : HasClearProcedures tree p → (alternate : ℕ) (prior : Option Environment) (message : Option ℤ) (s : State) (items : List Item) → s.process ≡ p
+  pub steps_keep : HasClearProcedures tree p
+      → (alternate : ℕ) (prior : Option Environment) (message : Option ℤ) (s : State) (items : List Item) → s.process ≡ p
       → s.items ≡ items → AreClear tree p items
       → StepsTo (Continues tree p (blocks_left items) s) (Passes tree p s) (step_items tree alternate prior s message items)
   steps_keep procedures alternate prior message s [] own e clear = stays s [] e clear

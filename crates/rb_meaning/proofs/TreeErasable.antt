@@ -70,8 +70,10 @@ module _ (tree : Tree) where
     releases = λ s. refl;
     releases_none = λ s e. ap (λ lines. with_held lines s) (sym e);
     goes = λ p q w alternate message s known at e.
-        moves_by tree message q.state s known.own.sent known.own.taken (went_posts alternate (environment_of (copy_of (last_of q.levels))) message q.state s e);
-    holds = λ p q w alternate message s known at e. passes_alone q.state s (held_passes alternate (environment_of (copy_of (last_of q.levels))) message q.state s e);
+        moves_by tree message q.state s known.own.sent known.own.taken
+        (went_posts alternate (environment_of (copy_of (last_of q.levels))) message q.state s e);
+    holds = λ p q w alternate message s known at e. passes_alone q.state s
+        (held_passes alternate (environment_of (copy_of (last_of q.levels))) message q.state s e);
     holds_acting = λ p q alternate prior message s known e. (held_passes alternate prior message q.state s e).acts;
     starts = λ p q alternate prior message s known running away wants e. starts_there tree p q known away alternate prior message s running wants e;
     sends = λ p q c ends known wants at. first_sends tree p c ends q.state.items known.own.clear wants at;

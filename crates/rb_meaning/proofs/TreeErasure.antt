@@ -60,7 +60,8 @@ erasure tree nested turns =
     record {
       world = alone.world;
       lines = alone.lines;
-      ran = subst (λ (kept : List _). plain_run (plain_kind tree) kept (opening (plain_kind tree) (opening_states tree 0 tree.processes) tt) ≡ Ended alone.world alone.lines)
+      ran = subst (λ (kept : List _). plain_run (plain_kind tree) kept (opening (plain_kind tree) (opening_states tree 0 tree.processes) tt)
+          ≡ Ended alone.world alone.lines)
           (survivors_are w) alone.ran;
       states = alone.same_states;
       released = alone.released;
@@ -68,7 +69,8 @@ erasure tree nested turns =
     }
 
 -- each channel has two different ends
-channel_kept : (channels : List Ends) (c : ℕ) (ends : Ends) → list_all keeps_n12 channels ≡ true → slice_get channels c ≡ Some ends → keeps_n12 ends ≡ true
+channel_kept : (channels : List Ends) (c : ℕ) (ends : Ends) → list_all keeps_n12 channels ≡ true
+    → slice_get channels c ≡ Some ends → keeps_n12 ends ≡ true
 channel_kept [] c ends all e = absurd (none_some e)
 channel_kept (first ∷ channels) zero ends all e =
     subst (λ (x : Ends). keeps_n12 x ≡ true) (some_same e) (first_holds (keeps_n12 first) (list_all keeps_n12 channels) all)

@@ -82,7 +82,8 @@ module _ (tree : Tree) (message : Option ℤ) (s t : State) where
 
   -- lists that are the same, where nothing is sent or taken
   sent_same : (want : Want) (c : ℕ) → t.sent ≡ s.sent → sends_by want c ≡ 0 → length (list_on t.sent c) ≡ length (list_on s.sent c) + sends_by want c
-  sent_same want c e none = ap (λ xs. length (list_on xs c)) e ∙ sym (add-zero (length (list_on s.sent c))) ∙ ap (λ n. length (list_on s.sent c) + n) (sym none)
+  sent_same want c e none =
+      ap (λ xs. length (list_on xs c)) e ∙ sym (add-zero (length (list_on s.sent c))) ∙ ap (λ n. length (list_on s.sent c) + n) (sym none)
 
   taken_same : (want : Want) (c : ℕ) → t.taken ≡ s.taken → takes_by want message c ≡ 0 → taken_on t c ≡ taken_on s c + takes_by want message c
   taken_same want c e none = ap (λ xs. unwrap_or (slice_get xs c) 0) e ∙ sym (add-zero (taken_on s c)) ∙ ap (λ n. taken_on s c + n) (sym none)

@@ -35,7 +35,8 @@ slots_are_unseen tree turns = slots_unseen (tree_kind tree) turns (opening_state
 
 -- each message that may still be asked for lies in its slot
 pub slots_hold_messages : SlotsHoldMessages
-slots_hold_messages tree nested turns = slots_stand (known_kept tree (procedures_kept tree nested)) (erasable tree) (opens_with_slots tree nested) turns
+slots_hold_messages tree nested turns =
+    slots_stand (known_kept tree (procedures_kept tree nested)) (erasable tree) (opens_with_slots tree nested) turns
 
 -- a run that reads messages from their slots is the same
 pub slots_are_read : SlotsAreRead

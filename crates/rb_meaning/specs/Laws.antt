@@ -176,8 +176,10 @@ pub record AllCome (tree : Tree) (c p : ℕ) (w : TreeWorld) : Type 0 where
 pub data GoTogether (tree : Tree) (c p : ℕ) (w later : TreeWorld) (events : List Event) : Type 0 where
   Stay : KeepTheirLevels c w later → GoTogether tree c p w later events
   PassTogether : (alternate : ℕ) → IsAmong (Pass c alternate) events → AllCome tree c p w → IsEmpty c later → GoTogether tree c p w later events
-  BackTogether : (alternate : ℕ) (cause : Cause) → IsAmong (RejectAll c alternate p cause) events → ArePutBack c w later → GoTogether tree c p w later events
-  OutTogether : (outer alternate : ℕ) (cause : Cause) → IsAmong (RejectAll outer alternate p cause) events → IsEmpty c later → GoTogether tree c p w later events
+  BackTogether : (alternate : ℕ) (cause : Cause) → IsAmong (RejectAll c alternate p cause) events → ArePutBack c w later
+      → GoTogether tree c p w later events
+  OutTogether : (outer alternate : ℕ) (cause : Cause) → IsAmong (RejectAll outer alternate p cause) events → IsEmpty c later
+      → GoTogether tree c p w later events
 
 -- Members pass the test line together, and go back together.
 abbrev pub PassesTogether : Tree → Type 0

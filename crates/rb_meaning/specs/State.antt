@@ -29,27 +29,33 @@ performed (Then first commands) rest = Perform first ∷ performed commands rest
 
 -- the state with other items, another environment, or both
 abbrev pub continue_with : List Item → State → State
-continue_with items s = record { process = s.process; items = items; environment = s.environment; sent = s.sent; taken = s.taken; held = s.held; kept = s.kept }
+continue_with items s =
+    record { process = s.process; items = items; environment = s.environment; sent = s.sent; taken = s.taken; held = s.held; kept = s.kept }
 
 -- the state with another environment
 abbrev pub with_environment : Environment → State → State
-with_environment env s = record { process = s.process; items = s.items; environment = env; sent = s.sent; taken = s.taken; held = s.held; kept = s.kept }
+with_environment env s =
+    record { process = s.process; items = s.items; environment = env; sent = s.sent; taken = s.taken; held = s.held; kept = s.kept }
 
 -- the state with other values sent
 abbrev pub with_sent : List (List ℤ) → State → State
-with_sent sent s = record { process = s.process; items = s.items; environment = s.environment; sent = sent; taken = s.taken; held = s.held; kept = s.kept }
+with_sent sent s =
+    record { process = s.process; items = s.items; environment = s.environment; sent = sent; taken = s.taken; held = s.held; kept = s.kept }
 
 -- the state with other numbers taken
 abbrev pub with_taken : List ℕ → State → State
-with_taken taken s = record { process = s.process; items = s.items; environment = s.environment; sent = s.sent; taken = taken; held = s.held; kept = s.kept }
+with_taken taken s =
+    record { process = s.process; items = s.items; environment = s.environment; sent = s.sent; taken = taken; held = s.held; kept = s.kept }
 
 -- the state with other held lines
 abbrev pub with_held : List (List ℕ) → State → State
-with_held held s = record { process = s.process; items = s.items; environment = s.environment; sent = s.sent; taken = s.taken; held = held; kept = s.kept }
+with_held held s =
+    record { process = s.process; items = s.items; environment = s.environment; sent = s.sent; taken = s.taken; held = held; kept = s.kept }
 
 -- the state with other kept turns
 abbrev pub with_kept : List (ℕ × ℕ) → State → State
-with_kept kept s = record { process = s.process; items = s.items; environment = s.environment; sent = s.sent; taken = s.taken; held = s.held; kept = kept }
+with_kept kept s =
+    record { process = s.process; items = s.items; environment = s.environment; sent = s.sent; taken = s.taken; held = s.held; kept = kept }
 
 -- Ends of blocks and calls that stand first are taken away, each with its frame or its call.
 abbrev pub settle_items : List Item → Environment → List Item × Environment

@@ -27,10 +27,12 @@ is_kept true name place e = refl
 is_kept false name place e = absurd (cc)
 
 -- the first rule of several is kept, and the others give no fault
-kept_before : (keeps : Bool) (name : FaultName) (place : Place) (faults : List SourceFault) → where_broken (not keeps) name place ++ faults ≡ [] → keeps ≡ true
+kept_before : (keeps : Bool) (name : FaultName) (place : Place) (faults : List SourceFault)
+    → where_broken (not keeps) name place ++ faults ≡ [] → keeps ≡ true
 kept_before keeps name place faults e = is_kept keeps name place (left_empty (where_broken (not keeps) name place) faults e)
 
-none_after : (keeps : Bool) (name : FaultName) (place : Place) (faults : List SourceFault) → where_broken (not keeps) name place ++ faults ≡ [] → faults ≡ []
+none_after : (keeps : Bool) (name : FaultName) (place : Place) (faults : List SourceFault)
+    → where_broken (not keeps) name place ++ faults ≡ [] → faults ≡ []
 none_after keeps name place faults e = right_empty (where_broken (not keeps) name place) faults e
 
 -- the rules that a use without a fault keeps
@@ -69,7 +71,8 @@ one_more true b e f = f
 one_more false b e f = e
 
 -- a test of each use that follows from its rules holds of all
-all_kept : (tree : Tree) (test : Use → Bool) (earlier uses : List Use) → ((one : Use) → IsKept tree one → test one ≡ true) → uses_faults tree earlier uses ≡ []
+all_kept : (tree : Tree) (test : Use → Bool) (earlier uses : List Use) → ((one : Use) → IsKept tree one → test one ≡ true)
+    → uses_faults tree earlier uses ≡ []
     → list_all test uses ≡ true
 all_kept tree test earlier [] h e = refl
 all_kept tree test earlier (one ∷ others) h e =
@@ -78,7 +81,8 @@ all_kept tree test earlier (one ∷ others) h e =
     (all_kept tree test (earlier ++ one ∷ []) others h (right_empty (use_faults tree earlier one) (uses_faults tree (earlier ++ one ∷ []) others) e))
 
 -- each channel leads from one process to another
-channels_kept : (tree : Tree) (channels : List ChannelDeclaration) → flat_map (channel_faults tree) channels ≡ [] → list_all keeps_n12 (map (ends_of tree) channels) ≡ true
+channels_kept : (tree : Tree) (channels : List ChannelDeclaration) → flat_map (channel_faults tree) channels ≡ []
+    → list_all keeps_n12 (map (ends_of tree) channels) ≡ true
 channels_kept tree [] e = refl
 channels_kept tree (channel ∷ channels) e =
     one_more (keeps_n12 (ends_of tree channel)) (list_all keeps_n12 (map (ends_of tree) channels))
@@ -87,7 +91,8 @@ channels_kept tree (channel ∷ channels) e =
 
 pub accepted_are_nested : AcceptedAreNested
 accepted_are_nested tree e =
-    let after = right_empty (flat_map (channel_faults tree) tree.channels) (flat_map (conversation_faults tree) tree.conversations ++ uses_faults tree [] (uses_of tree)) e in
+    let after = right_empty (flat_map (channel_faults tree) tree.channels)
+    (flat_map (conversation_faults tree) tree.conversations ++ uses_faults tree [] (uses_of tree)) e in
     let uses = right_empty (flat_map (conversation_faults tree) tree.conversations) (uses_faults tree [] (uses_of tree)) after in
     record {
       n1 = all_kept tree (keeps_n1 tree) [] (uses_of tree) (λ one kept. kept.n1) uses;
@@ -97,5 +102,7 @@ accepted_are_nested tree e =
       n8 = all_kept tree (keeps_n8 tree) [] (uses_of tree) (λ one kept. kept.n8) uses;
       n9 = all_kept tree (keeps_n9 tree) [] (uses_of tree) (λ one kept. kept.n9) uses;
       n10 = all_kept tree (keeps_n10 tree) [] (uses_of tree) (λ one kept. kept.n10) uses;
-      n12 = channels_kept tree tree.channels (left_empty (flat_map (channel_faults tree) tree.channels) (flat_map (conversation_faults tree) tree.conversations ++ uses_faults tree [] (uses_of tree)) e);
+      n12 = channels_kept tree tree.channels
+          (left_empty (flat_map (channel_faults tree) tree.channels)
+          (flat_map (conversation_faults tree) tree.conversations ++ uses_faults tree [] (uses_of tree)) e);
     }

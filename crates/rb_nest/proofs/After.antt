@@ -104,6 +104,7 @@ module _ (tree : Tree) (conversation : List ℕ) (names : List Name) (i : ℕ) (
       ap (λ ns. behind tree conversation after ns others) (ap reverse (take_more names i d h) ∙ reverse-append (take i names) (name ∷ []))
       ∙ ap (λ f. behind tree conversation f (name ∷ earlier) others) a
       ∙ ap (λ b. behind tree conversation (first_after before (told tree conversation name b)) (name ∷ earlier) others) (sym same)
-      ∙ sym (after_append before (told tree conversation name (list_any test (map identifier earlier))) (members_faults tree conversation (map identifier (name ∷ earlier)) (map identifier others)))
+      ∙ sym (after_append before (told tree conversation name (list_any test (map identifier earlier)))
+      (members_faults tree conversation (map identifier (name ∷ earlier)) (map identifier others)))
       ∙ ap (behind tree conversation before earlier) (sym (rest_at names i d h))
       ∙ w

@@ -15,7 +15,8 @@ members-same : (tree : Tree) (around : Option Identifier) → members_within tre
 members-same tree None = refl
 members-same tree (Some name) = refl
 
-speaks-same : (tree : Tree) (around : Option Identifier) (ends : Option Ends) → speaks_within tree (conversation_of tree around) ends ≡ speaks_inside tree around ends
+speaks-same : (tree : Tree) (around : Option Identifier) (ends : Option Ends)
+    → speaks_within tree (conversation_of tree around) ends ≡ speaks_inside tree around ends
 speaks-same tree None ends = refl
 speaks-same tree (Some name) ends = refl
 
@@ -25,17 +26,31 @@ twice-not false = refl
 
 -- the rules of a use
 of-use : (tree : Tree) (earlier : List Use) (name : Identifier) (d : Deed) (spot : Spot)
-    → deed_faults tree (list_any (joins_too (record { name = name; deed = d; spot = spot })) earlier) (summary tree (record { name = name; deed = d; spot = spot })) d ≡ use_faults tree earlier (record { name = name; deed = d; spot = spot })
+    → deed_faults tree (list_any (joins_too (record { name = name; deed = d; spot = spot })) earlier)
+    (summary tree (record { name = name; deed = d; spot = spot })) d
+    ≡ use_faults tree earlier (record { name = name; deed = d; spot = spot })
 of-use tree earlier name (Joins n) spot =
-    rw (members-same tree (innermost spot.around), twice-not (list_any (joins_too (record { name = name; deed = Joins n; spot = spot })) earlier)) refl
+    rw (
+      members-same tree (innermost spot.around),
+      twice-not (list_any (joins_too (record { name = name; deed = Joins n; spot = spot })) earlier),
+    ) refl
 of-use tree earlier name Sends spot =
-    rw (speaks-same tree (innermost spot.around) (slice_get (channels_of tree) (channel_number tree name.text)), twice-not spot.in_procedure, append-nil) refl
+    rw (
+      speaks-same tree (innermost spot.around) (slice_get (channels_of tree) (channel_number tree name.text)),
+      twice-not spot.in_procedure,
+      append-nil,
+    ) refl
 of-use tree earlier name Receives spot =
-    rw (speaks-same tree (innermost spot.around) (slice_get (channels_of tree) (channel_number tree name.text)), twice-not spot.in_procedure, append-nil) refl
+    rw (
+      speaks-same tree (innermost spot.around) (slice_get (channels_of tree) (channel_number tree name.text)),
+      twice-not spot.in_procedure,
+      append-nil,
+    ) refl
 
 -- whether a `converse` for its conversation stands before it
 like-too : (tree : Tree) (one : Use) (name : Identifier) (d : Deed) (spot : Spot)
-    → joins_like (summary tree one) (summary tree (record { name = name; deed = d; spot = spot })) ≡ joins_too one (record { name = name; deed = d; spot = spot })
+    → joins_like (summary tree one) (summary tree (record { name = name; deed = d; spot = spot }))
+    ≡ joins_too one (record { name = name; deed = d; spot = spot })
 like-too tree one name (Joins n) spot = refl
 like-too tree one name Sends spot = refl
 like-too tree one name Receives spot = refl

@@ -62,7 +62,8 @@ named_choice : (b : Bool) (xs ys : List SourceFault) → AreNamed name_of xs →
 named_choice true xs ys a b = a
 named_choice false xs ys a b = b
 
-named_members : (tree : Tree) (conversation : List ℕ) (earlier names : List Identifier) → AreNamed name_of (members_faults tree conversation earlier names)
+named_members : (tree : Tree) (conversation : List ℕ) (earlier names : List Identifier)
+    → AreNamed name_of (members_faults tree conversation earlier names)
 named_members tree conversation earlier [] = tt
 named_members tree conversation earlier (name ∷ names) =
     named_both name_of _ (members_faults tree conversation (name ∷ earlier) names)
@@ -82,7 +83,8 @@ named_channel tree channel = named_where name_of (not (keeps_n12 (ends_of tree c
 
 named_tree : (tree : Tree) → AreNamed name_of (nesting_faults tree)
 named_tree tree =
-    named_both name_of (flat_map (channel_faults tree) tree.channels) (flat_map (conversation_faults tree) tree.conversations ++ uses_faults tree [] (uses_of tree))
+    named_both name_of (flat_map (channel_faults tree) tree.channels)
+    (flat_map (conversation_faults tree) tree.conversations ++ uses_faults tree [] (uses_of tree))
     (named_flat name_of (channel_faults tree) tree.channels (named_channel tree))
     (named_both name_of (flat_map (conversation_faults tree) tree.conversations) (uses_faults tree [] (uses_of tree))
     (named_flat name_of (conversation_faults tree) tree.conversations (named_conversation tree))

@@ -22,7 +22,8 @@ module _ (tree : Tree) (c p : ℕ) (x : List ℕ) (same : (y : List ℕ) → sam
   joined_at : (one : Use) (deed : Deed) → one.deed ≡ deed → joins_in p x one ≡ true
       → IsNumber (joined_with one.deed (nat_eq (conversation_number tree one.name.text) c))
   joined_at one (Joins alternates) e joins =
-      let named = second_holds (nat_eq one.spot.process p) (same_name one.name.text x) (subst (λ deed. joins_in p x (record one { deed = deed }) ≡ true) e joins) in
+      let named = second_holds (nat_eq one.spot.process p) (same_name one.name.text x)
+      (subst (λ deed. joins_in p x (record one { deed = deed }) ≡ true) e joins) in
       let here = eq-eqb (conversation_number tree one.name.text) c (same one.name.text named) in
       (alternates, ap (λ deed. joined_with deed (nat_eq (conversation_number tree one.name.text) c)) e ∙ ap (λ b. when b (Some alternates)) here)
   joined_at one Sends e joins = absurd (let k = subst (λ deed. joins_in p x (record one { deed = deed }) ≡ true) e joins in cc)
@@ -44,7 +45,8 @@ module _ (tree : Tree) (c p : ℕ) (x : List ℕ) (same : (y : List ℕ) → sam
       by : (list_any (joins_in p x) others ≡ true → IsNumber (first_joined tree c others)) → (joins : Bool) → joins_in p x one ≡ joins
           → list_any (joins_in p x) (one ∷ others) ≡ true → IsNumber (first_joined tree c (one ∷ others))
       by rest true e any =
-          found_first (joined_with one.deed (nat_eq (conversation_number tree one.name.text) c)) (first_joined tree c others) (joined_at one one.deed refl e)
+          found_first (joined_with one.deed (nat_eq (conversation_number tree one.name.text) c))
+          (first_joined tree c others) (joined_at one one.deed refl e)
       by rest false e any =
           first_of (joined_with one.deed (nat_eq (conversation_number tree one.name.text) c)) (first_joined tree c others)
           (rest (sym (ap (λ b. b || list_any (joins_in p x) others) e) ∙ any))
@@ -79,14 +81,17 @@ not_broken false one e = refl
 pub conversation_joined : (tree : Tree) (c : ℕ) (one : ConversationDeclaration) → nesting_faults tree ≡ [] → HasDistinctNames tree
     → slice_get tree.conversations c ≡ Some one → IsNumber (alternates_of tree c)
 conversation_joined tree c one none distinct there =
-    let after = right_empty (flat_map (channel_faults tree) tree.channels) (flat_map (conversation_faults tree) tree.conversations ++ uses_faults tree [] (uses_of tree)) none in
+    let after = right_empty (flat_map (channel_faults tree) tree.channels)
+    (flat_map (conversation_faults tree) tree.conversations ++ uses_faults tree [] (uses_of tree)) none in
     let kept = one_kept tree tree.conversations c one there
     (left_empty (flat_map (conversation_faults tree) tree.conversations) (uses_faults tree [] (uses_of tree)) after) in
     let few = where_broken (nat_lt (length one.members) 2) N11 one.name.place in
     let many = not_broken (nat_lt (length one.members) 2) one.name (left_empty few (members_faults tree one.name.text [] one.members) kept) in
     let joins = member_joins tree one.name.text one.members many (right_empty few (members_faults tree one.name.text [] one.members) kept) in
     joined_among tree c joins.0 one.name.text (λ y named. ap number_or_zero (
-    place (λ (conversation : ConversationDeclaration). conversation.name) tree.conversations c one y distinct.conversations there (turned y one.name.text named)))
+    place
+    (λ (conversation : ConversationDeclaration). conversation.name) tree.conversations c one y distinct.conversations there
+    (turned y one.name.text named)))
     (uses_of tree) joins.1
   where
     turned : (y z : List ℕ) → same_name y z ≡ true → same_name z y ≡ true

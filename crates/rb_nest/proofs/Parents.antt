@@ -95,7 +95,8 @@ choice tree false around found first h = h
 
 use-before : (tree : Tree) (x : List ℕ) (name : Identifier) (d : Deed) (spot : Spot) (found : Option (Option ℕ)) (first : Option Around)
     → unwrap_or found None ≡ parent_named tree first
-    → unwrap_or (or_else (within_for x (summary tree (record { name = name; deed = d; spot = spot }))) found) None ≡ parent_named tree (or_else (around_for x (record { name = name; deed = d; spot = spot })) first)
+    → unwrap_or (or_else (within_for x (summary tree (record { name = name; deed = d; spot = spot }))) found) None
+    ≡ parent_named tree (or_else (around_for x (record { name = name; deed = d; spot = spot })) first)
 use-before tree x name (Joins n) spot found first h = choice tree (same_name name.text x) (innermost spot.around) found first h
 use-before tree x name Sends spot found first h = h
 use-before tree x name Receives spot found first h = h
@@ -104,7 +105,8 @@ of_uses : (tree : Tree) (x : List ℕ) (us : List Use)
     → unwrap_or (first_answer (within_for x) (map (summary tree) us)) None ≡ parent_named tree (first_answer (around_for x) us)
 of_uses tree x [] = refl
 of_uses tree x (one ∷ us) =
-    use-before tree x one.name one.deed one.spot (first_answer (within_for x) (map (summary tree) us)) (first_answer (around_for x) us) (of_uses tree x us)
+    use-before tree x one.name one.deed one.spot (first_answer (within_for x) (map (summary tree) us))
+    (first_answer (around_for x) us) (of_uses tree x us)
 
 none-within : (x : List ℕ) (one : Summary) → is_join one.deed ≡ false → within_for x one ≡ None
 none-within x one e = ap (λ b. when (b && same_name one.name.text x) (Some one.within)) e
@@ -121,7 +123,8 @@ abbrev pub alternates_there : Tree → ℕ → Use → Option ℕ
 alternates_there tree c one = joined_with one.deed (nat_eq (conversation_number tree one.name.text) c)
 
 alternates-told : (tree : Tree) (c : ℕ) (name : Identifier) (d : Deed) (spot : Spot)
-    → alternates_for c (summary tree (record { name = name; deed = d; spot = spot })) ≡ alternates_there tree c (record { name = name; deed = d; spot = spot })
+    → alternates_for c (summary tree (record { name = name; deed = d; spot = spot }))
+    ≡ alternates_there tree c (record { name = name; deed = d; spot = spot })
 alternates-told tree c name (Joins n) spot = refl
 alternates-told tree c name Sends spot = refl
 alternates-told tree c name Receives spot = refl

@@ -16,4 +16,5 @@ AreJudged = (tree : Tree) → (nesting_faults tree ≡ []) ⊎ ((fault : SourceF
 
 -- no two faults of a tree are both the first
 abbrev pub HaveOneFirst : Type 0
-HaveOneFirst = (tree : Tree) (fault other : SourceFault) → IsFirstOf (nesting_faults tree) fault → IsFirstOf (nesting_faults tree) other → fault ≡ other
+HaveOneFirst =
+    (tree : Tree) (fault other : SourceFault) → IsFirstOf (nesting_faults tree) fault → IsFirstOf (nesting_faults tree) other → fault ≡ other

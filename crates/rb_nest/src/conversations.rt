@@ -32,8 +32,11 @@ pub(crate) fn facts_of_conversations(
     uses: &Uses<'_, '_>,
     first: &mut Option<SourceFault>,
 ) -> Result<Vec<Facts>, Memory>
-    ensures facts { IfOk result (λ facts. map known facts.items ≡ known_from (tree uses.now.program.now) 0 (tree uses.now.program.now).conversations) }
-    ensures found { OnOk result (first.new ≡ first_after first.old (flat_map (conversation_faults (tree uses.now.program.now)) (tree uses.now.program.now).conversations)) }
+    ensures facts { IfOk result
+        (λ facts. map known facts.items ≡ known_from (tree uses.now.program.now) 0 (tree uses.now.program.now).conversations) }
+    ensures found { OnOk result
+        (first.new ≡ first_after first.old
+        (flat_map (conversation_faults (tree uses.now.program.now)) (tree uses.now.program.now).conversations)) }
 {
     let mut all = Vec::new(alloc);
     for (number, conversation) in uses.program.conversations.iter().enumerate() {
@@ -64,7 +67,8 @@ fn members_once(
     program: &Program<'_>,
     names: &[Name<'_>],
 ) -> Result<Vec<usize>, Memory>
-    ensures { IfOk result (λ members. members.items ≡ with_members [] (map (λ name. process_number (tree program.now) name.text) (map identifier names.now))) }
+    ensures { IfOk result
+        (λ members. members.items ≡ with_members [] (map (λ name. process_number (tree program.now) name.text) (map identifier names.now))) }
 {
     let mut members = Vec::new(alloc);
     let mut rest = names;

@@ -37,7 +37,9 @@ pub(crate) fn ends_of_channels(
     first: &mut Option<SourceFault>,
 ) -> Result<Vec<Ends>, Memory>
     ensures ends { IfOk result (λ ends. ends.items ≡ map ends_alone (channels_of (tree program.now))) }
-    ensures found { OnOk result (first.new ≡ first_after first.old (flat_map (channel_faults (tree program.now)) (map channel_declaration program.now.channels.items))) }
+    ensures found { OnOk result
+        (first.new
+        ≡ first_after first.old (flat_map (channel_faults (tree program.now)) (map channel_declaration program.now.channels.items))) }
 {
     let mut all = Vec::new(alloc);
     let mut rest = program.channels.as_slice();

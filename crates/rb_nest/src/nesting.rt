@@ -69,7 +69,8 @@ fn nested(alloc: Global, uses: &Uses<'_, '_>) -> Result<Nested, Memory>
     requires no_fault { nesting_faults (tree uses.now.program.now) ≡ [] }
     requires distinct { HasDistinctNames (tree uses.now.program.now) }
     ensures groups { IfOk result (λ nested. memberships nested ≡ groups_of (tree uses.now.program.now)) }
-    ensures counts { IfOk result (λ nested. (c n : ℕ) → slice_get (alternates nested) c ≡ Some n → alternates_of (tree uses.now.program.now) c ≡ Some n) }
+    ensures counts { IfOk result
+        (λ nested. (c n : ℕ) → slice_get (alternates nested) c ≡ Some n → alternates_of (tree uses.now.program.now) c ≡ Some n) }
 {
     let mut conversations = Vec::new(alloc);
     for (number, conversation) in uses.program.conversations.iter().enumerate() {
@@ -86,7 +87,8 @@ fn group(
     conversation: &Conversation<'_>,
 ) -> Result<Group, Memory>
     requires { IsNumber (alternates_of (tree uses.now.program.now) number) }
-    ensures membership { IfOk result (λ group. membership group ≡ membership_of (tree uses.now.program.now) (conversation_declaration conversation.now)) }
+    ensures membership { IfOk result
+        (λ group. membership group ≡ membership_of (tree uses.now.program.now) (conversation_declaration conversation.now)) }
     ensures alternates { IfOk result (λ group. alternates_of (tree uses.now.program.now) number ≡ Some group.alternates) }
 {
     let members = numbers(alloc, uses.program, &conversation.members)?;

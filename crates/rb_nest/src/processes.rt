@@ -34,7 +34,8 @@ fn uses_in_process<'a>(
     process: &Process<'a>,
     uses: &mut Vec<Use<'a>>,
 ) -> Result<(), Memory>
-    ensures { OnOk result (AddsTo (tree program.now) uses.old.items uses.new.items (uses_in_processes number (process_declaration process.now ∷ []))) }
+    ensures { OnOk result
+        (AddsTo (tree program.now) uses.old.items uses.new.items (uses_in_processes number (process_declaration process.now ∷ []))) }
 {
     let around = Blocks::None;
     let in_procedures = Spot {
@@ -61,7 +62,8 @@ fn uses_in_procedures<'a>(
     uses: &mut Vec<Use<'a>>,
 ) -> Result<(), Memory>
     requires { spot_of spot.now ≡ outside spot.now.process true }
-    ensures { OnOk result (Adds spot.now uses.old.items uses.new.items (uses_in_procedures spot.now.process (map procedure_declaration procedures.now))) }
+    ensures { OnOk result
+        (Adds spot.now uses.old.items uses.new.items (uses_in_procedures spot.now.process (map procedure_declaration procedures.now))) }
 {
     for procedure in procedures {
         uses_in_block(&procedure.block, spot, uses)?;

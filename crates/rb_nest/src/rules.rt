@@ -45,7 +45,8 @@ impl Rules<'_, '_, '_> {
 
     /// Whether all members of a conversation are members of another, if one is around.
     fn are_among(&self, number: usize, within: Option<usize>) -> bool
-        ensures { result ≡ are_among (members_in (tree self.now.uses.now.program.now) number) (members_within (tree self.now.uses.now.program.now) within) }
+        ensures { result
+            ≡ are_among (members_in (tree self.now.uses.now.program.now) number) (members_within (tree self.now.uses.now.program.now) within) }
     {
         match within {
             None => true,
@@ -54,7 +55,9 @@ impl Rules<'_, '_, '_> {
     }
 
     fn have_members(&self, number: usize, around: usize) -> bool
-        ensures { result ≡ list_all (λ m. is_member m (members_in (tree self.now.uses.now.program.now) around)) (members_in (tree self.now.uses.now.program.now) number) }
+        ensures { result
+            ≡ list_all (λ m. is_member m (members_in (tree self.now.uses.now.program.now) around))
+            (members_in (tree self.now.uses.now.program.now) number) }
     {
         match self.conversations.get(number) {
             None => true,
@@ -104,7 +107,8 @@ impl Rules<'_, '_, '_> {
 
     /// Whether both ends of a channel are members of a conversation, if one is around.
     fn speaks_within(&self, within: Option<usize>, number: usize) -> bool
-        ensures { result ≡ speaks_within (tree self.now.uses.now.program.now) within (slice_get (channels_of (tree self.now.uses.now.program.now)) number) }
+        ensures { result
+            ≡ speaks_within (tree self.now.uses.now.program.now) within (slice_get (channels_of (tree self.now.uses.now.program.now)) number) }
     {
         match within {
             None => true,
@@ -162,7 +166,8 @@ impl Rules<'_, '_, '_> {
         joins: &mut Vec<Use<'a>>,
         first: &mut Option<SourceFault>,
     ) -> Result<(), Memory>
-        ensures found { OnOk result (first.new ≡ first_after first.old (faults_behind (tree self.now.uses.now.program.now) (all_held joins.old.items) (held one.now))) }
+        ensures found { OnOk result
+            (first.new ≡ first_after first.old (faults_behind (tree self.now.uses.now.program.now) (all_held joins.old.items) (held one.now))) }
         ensures joins { OnOk result (all_held joins.new.items ≡ with_join (all_held joins.old.items) (held one.now)) }
     {
         match one.deed {
@@ -189,7 +194,9 @@ impl Rules<'_, '_, '_> {
         alloc: Global,
         first: &mut Option<SourceFault>,
     ) -> Result<(), Memory>
-        ensures { OnOk result (first.new ≡ first_after first.old (uses_faults (tree self.now.uses.now.program.now) [] (uses_of (tree self.now.uses.now.program.now)))) }
+        ensures { OnOk result
+            (first.new ≡ first_after first.old
+            (uses_faults (tree self.now.uses.now.program.now) [] (uses_of (tree self.now.uses.now.program.now)))) }
     {
         let mut joins = Vec::new(alloc);
         for one in self.uses.all() {

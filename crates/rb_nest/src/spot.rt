@@ -28,7 +28,8 @@ impl<'a> Spot<'_, 'a> {
     /// The use of a name, by its number, at this spot.
     pub(crate) fn use_of(&self, name: Name<'a>, number: usize, deed: Deed) -> Use<'a>
         requires { number ≡ number_of_use (tree self.now.program.now) (deed_of deed) name.text.now }
-        ensures { held result ≡ summary (tree self.now.program.now) (record { name = identifier name.entry; deed = deed_of deed; spot = spot_of self.now }) }
+        ensures { held result
+            ≡ summary (tree self.now.program.now) (record { name = identifier name.entry; deed = deed_of deed; spot = spot_of self.now }) }
     {
         Use {
             name,

@@ -149,7 +149,9 @@ fn add_message<'a>(
     uses: &mut Vec<Use<'a>>,
 ) -> Result<(), Memory>
     requires { is_join (deed_of deed) ≡ false }
-    ensures { OnOk result (Adds spot.now uses.old.items uses.new.items (record { name = identifier channel.entry; deed = deed_of deed; spot = spot_of spot.now } ∷ [])) }
+    ensures { OnOk result
+        (Adds spot.now uses.old.items uses.new.items
+        (record { name = identifier channel.entry; deed = deed_of deed; spot = spot_of spot.now } ∷ [])) }
 {
     let number = channel_number(spot.program, channel.text);
     uses.push(spot.use_of(channel, number, deed))?;
@@ -163,9 +165,12 @@ fn add_join<'a>(
     spot: &Spot<'_, 'a>,
     uses: &mut Vec<Use<'a>>,
 ) -> Result<Option<Joined<'a>>, Memory>
-    ensures added { OnOk result (Adds spot.now uses.old.items uses.new.items (joined (option_map identifier conversation.entry) (alternates_of alternates.now) (spot_of spot.now))) }
+    ensures added { OnOk result
+        (Adds spot.now uses.old.items uses.new.items
+        (joined (option_map identifier conversation.entry) (alternates_of alternates.now) (spot_of spot.now))) }
     ensures name { IfOk result (λ one. option_map (λ j. identifier j.name) one ≡ option_map identifier conversation.entry) }
-    ensures number { IfOk result (λ one. option_map (λ j. j.number) one ≡ conversation_of (tree spot.now.program.now) (option_map identifier conversation.entry)) }
+    ensures number { IfOk result
+        (λ one. option_map (λ j. j.number) one ≡ conversation_of (tree spot.now.program.now) (option_map identifier conversation.entry)) }
 {
     match conversation {
         None => Ok(None),

@@ -29,8 +29,12 @@ WrotePart-within w0 w1 a b h =
 -- the first part was written, and then a prefix of the second
 pub WrotePart-after : (w0 w1 w2 : Option (List ℕ)) (a b : List ℕ) → w1 ≡ then_written w0 a → WrotePart w1 w2 b → WrotePart w0 w2 (a ++ b)
 WrotePart-after w0 w1 w2 a b e h =
-    let n = length-append a b in
-    (length a + h.0, omega arith, h.2 ∙ ap (λ w. then_written w (take h.0 b)) e ∙ then_written-append w0 a (take h.0 b) ∙ ap (then_written w0) (sym (take-append-add a b h.0)))
+    let n = length-append a b in (
+      length a + h.0,
+      omega arith,
+      h.2 ∙ ap (λ w. then_written w (take h.0 b)) e ∙ then_written-append w0 a (take h.0 b)
+          ∙ ap (then_written w0) (sym (take-append-add a b h.0)),
+    )
 
 -- what holds holds after an error
 pub OnErr-from : {T E P : Type 0} (r : Result T E) → P → OnErr r P
@@ -48,8 +52,11 @@ cut-after all done rest n e =
     rw (drop-whole rest n, append_assoc, parts) e
 
 -- a sink took the next n bytes of what waits
-pub written-on : (w0 w1 : Option (List ℕ)) (same all : List ℕ) (k n : ℕ) → same ≡ all → w1 ≡ then_written w0 (take n (take (length same - k) (drop k same))) → then_written w1 (drop (k + n) all) ≡ then_written w0 (drop k all)
+pub written-on : (w0 w1 : Option (List ℕ)) (same all : List ℕ) (k n : ℕ) → same ≡ all
+    → w1 ≡ then_written w0 (take n (take (length same - k) (drop k same)))
+    → then_written w1 (drop (k + n) all) ≡ then_written w0 (drop k all)
 written-on w0 w1 same all k n is e =
     let took : w1 ≡ then_written w0 (take n (drop k all)) = e ∙ ap (λ xs. then_written w0 (take n xs)) (drop-whole same k ∙ ap (drop k) is) in
-    let parts : take n (drop k all) ++ drop (k + n) all ≡ drop k all = ap (λ (xs : List ℕ). take n (drop k all) ++ xs) (sym (drop-drop n k all)) ∙ take-append-drop n (drop k all) in
+    let parts : take n (drop k all) ++ drop (k + n) all ≡ drop k all =
+    ap (λ (xs : List ℕ). take n (drop k all) ++ xs) (sym (drop-drop n k all)) ∙ take-append-drop n (drop k all) in
     ap (λ w. then_written w (drop (k + n) all)) took ∙ then_written-append w0 (take n (drop k all)) (drop (k + n) all) ∙ ap (then_written w0) parts

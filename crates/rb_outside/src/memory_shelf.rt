@@ -44,7 +44,14 @@ impl Model for MemoryShelf {
 
     ghost use Rattle.rb_outside.specs.Started.{stored_files, starts_of, AreSound};
 
-    ghost view = { λ s. let files = stored_files s.files.items in record { files = files; calls = s.calls; starts = starts_of files s.newest s.earlier.items; most = s.most } };
+    ghost view = { λ s. let files =
+        stored_files s.files.items in record {
+          files = files;
+          calls = s.calls;
+          starts =
+              starts_of files s.newest s.earlier.items;
+          most = s.most;
+        } };
 
     ghost invariant = { λ s. (0 < s.most) × AreSound (stored_files s.files.items) s.newest s.earlier.items };
 }
@@ -86,8 +93,11 @@ impl Shelf for MemoryShelf {
         ensures files { Some self.new.files ≡ Some self.old.files }
         ensures ok { OnOk result (Starts (Some self.old.files) name.now self.old.starts self.new.starts) }
         ensures quiet { OnOk result (self.new.calls.faults ≡ went_well self.old.calls.faults) }
-        ensures err { OnErr result (FailsToStart (Some self.old.files) name.now self.old.starts self.new.starts self.old.calls.faults self.new.calls.faults) }
-        ensures failed { OnErr result ((self.new.calls.faults ≡ failed_once self.old.calls.faults) ⊎ (IsMissing (Some self.old.files) name.now × (self.new.calls.faults ≡ was_missing self.old.calls.faults))) }
+        ensures err { OnErr result
+            (FailsToStart (Some self.old.files) name.now self.old.starts self.new.starts self.old.calls.faults self.new.calls.faults) }
+        ensures failed { OnErr result
+            ((self.new.calls.faults ≡ failed_once self.old.calls.faults)
+            ⊎ (IsMissing (Some self.old.files) name.now × (self.new.calls.faults ≡ was_missing self.old.calls.faults))) }
     {
         let found = find(self.files.as_slice(), name.as_bytes());
         let cannot = self.calls.next_fails() || self.earlier.is_full();

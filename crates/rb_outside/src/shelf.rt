@@ -25,7 +25,9 @@ pub trait Shelf {
         ensures ok { OnOk result (Starts (files self.old) name.now (starts self.old) (starts self.new)) }
         ensures quiet { OnOk result (faults self.new ≡ went_well (faults self.old)) }
         ensures err { OnErr result (FailsToStart (files self.old) name.now (starts self.old) (starts self.new) (faults self.old) (faults self.new)) }
-        ensures failed { OnErr result ((faults self.new ≡ failed_once (faults self.old)) ⊎ (IsMissing (files self.old) name.now × (faults self.new ≡ was_missing (faults self.old)))) };
+        ensures failed { OnErr result
+            ((faults self.new ≡ failed_once (faults self.old))
+            ⊎ (IsMissing (files self.old) name.now × (faults self.new ≡ was_missing (faults self.old)))) };
 
     /// Puts the next bytes at the front of the buffer, and answers how many; 0 comes only at the end of
     /// the file. After `Failed` no byte was passed over.

@@ -22,7 +22,11 @@ pub(crate) fn read_connections<'a>(
     alloc: Global,
     cursor: &mut Cursor<'a>,
 ) -> Result<Connections<'a>, Stop>
-    ensures ok { IfOk result (λ all. Reads Part.Connections (map channel_declaration all.channels.items, map conversation_declaration all.conversations.items) cursor.old.point cursor.new.point) }
+    ensures ok { IfOk result
+        (λ all. Reads Part.Connections (
+          map channel_declaration all.channels.items,
+          map conversation_declaration all.conversations.items,
+        ) cursor.old.point cursor.new.point) }
     ensures err { IfErr result (IsNotRead Part.Connections cursor.old cursor.new) }
     ensures ending { cursor.new.ending ≡ cursor.old.ending }
     ensures shorter { OnOk result (length cursor.new.point.left ≤ length cursor.old.point.left) }

@@ -63,7 +63,8 @@ fn read_processes<'a>(
     cursor: &mut Cursor<'a>,
     edition: Edition,
 ) -> Result<Vec<Process<'a>>, Stop>
-    ensures ok { IfOk result (λ processes. Reads (Part.Processes edition) (map process_declaration processes.items) cursor.old.point cursor.new.point) }
+    ensures ok { IfOk result
+        (λ processes. Reads (Part.Processes edition) (map process_declaration processes.items) cursor.old.point cursor.new.point) }
     ensures err { IfErr result (IsNotRead (Part.Processes edition) cursor.old cursor.new) }
     ensures ending { cursor.new.ending ≡ cursor.old.ending }
     ensures shorter { OnOk result (length cursor.new.point.left < length cursor.old.point.left) }
@@ -107,7 +108,8 @@ fn read_procedures<'a>(
     cursor: &mut Cursor<'a>,
     edition: Edition,
 ) -> Result<Vec<Procedure<'a>>, Stop>
-    ensures ok { IfOk result (λ procedures. Reads (Part.Procedures edition) (map procedure_declaration procedures.items) cursor.old.point cursor.new.point) }
+    ensures ok { IfOk result
+        (λ procedures. Reads (Part.Procedures edition) (map procedure_declaration procedures.items) cursor.old.point cursor.new.point) }
     ensures err { IfErr result (IsNotRead (Part.Procedures edition) cursor.old cursor.new) }
     ensures ending { cursor.new.ending ≡ cursor.old.ending }
     ensures shorter { OnOk result (length cursor.new.point.left ≤ length cursor.old.point.left) }

@@ -21,7 +21,8 @@ pub(crate) fn read_simple<'a>(alloc: Global, cursor: &mut Cursor<'a>) -> Result<
     requires no_while { fits (look cursor.old.point.left) Terminal.While ≡ false }
     requires no_ensure { fits (look cursor.old.point.left) Terminal.Ensure ≡ false }
     requires no_converse { fits (look cursor.old.point.left) Terminal.Converse ≡ false }
-    ensures ok { (edition : Edition) → IfOk result (λ statement. Reads (Part.Statement edition) (command statement) cursor.old.point cursor.new.point) }
+    ensures ok { (edition : Edition)
+        → IfOk result (λ statement. Reads (Part.Statement edition) (command statement) cursor.old.point cursor.new.point) }
     ensures err { (edition : Edition) → IfErr result (IsNotRead (Part.Statement edition) cursor.old cursor.new) }
     ensures ending { cursor.new.ending ≡ cursor.old.ending }
     ensures shorter { OnOk result (length cursor.new.point.left < length cursor.old.point.left) }
@@ -49,7 +50,8 @@ fn read_assignment<'a>(alloc: Global, cursor: &mut Cursor<'a>) -> Result<Stateme
     requires no_send { fits (look cursor.old.point.left) Terminal.Send ≡ false }
     requires no_call { fits (look cursor.old.point.left) Terminal.Call ≡ false }
     requires no_fail { fits (look cursor.old.point.left) Terminal.Fail ≡ false }
-    ensures ok { (edition : Edition) → IfOk result (λ statement. Reads (Part.Statement edition) (command statement) cursor.old.point cursor.new.point) }
+    ensures ok { (edition : Edition)
+        → IfOk result (λ statement. Reads (Part.Statement edition) (command statement) cursor.old.point cursor.new.point) }
     ensures err { (edition : Edition) → IfErr result (IsNotRead (Part.Statement edition) cursor.old cursor.new) }
     ensures ending { cursor.new.ending ≡ cursor.old.ending }
     ensures shorter { OnOk result (length cursor.new.point.left < length cursor.old.point.left) }
@@ -63,7 +65,8 @@ fn read_assignment<'a>(alloc: Global, cursor: &mut Cursor<'a>) -> Result<Stateme
 
 fn read_print<'a>(alloc: Global, cursor: &mut Cursor<'a>) -> Result<Statement<'a>, Stop>
     requires { fits (look cursor.old.point.left) Terminal.Print ≡ true }
-    ensures ok { (edition : Edition) → IfOk result (λ statement. Reads (Part.Statement edition) (command statement) cursor.old.point cursor.new.point) }
+    ensures ok { (edition : Edition)
+        → IfOk result (λ statement. Reads (Part.Statement edition) (command statement) cursor.old.point cursor.new.point) }
     ensures err { (edition : Edition) → IfErr result (IsNotRead (Part.Statement edition) cursor.old cursor.new) }
     ensures ending { cursor.new.ending ≡ cursor.old.ending }
     ensures shorter { OnOk result (length cursor.new.point.left < length cursor.old.point.left) }
@@ -122,7 +125,8 @@ fn between_quotes(text: &[u8]) -> &[u8]
 
 fn read_send<'a>(alloc: Global, cursor: &mut Cursor<'a>) -> Result<Statement<'a>, Stop>
     requires { fits (look cursor.old.point.left) Terminal.Send ≡ true }
-    ensures ok { (edition : Edition) → IfOk result (λ statement. Reads (Part.Statement edition) (command statement) cursor.old.point cursor.new.point) }
+    ensures ok { (edition : Edition)
+        → IfOk result (λ statement. Reads (Part.Statement edition) (command statement) cursor.old.point cursor.new.point) }
     ensures err { (edition : Edition) → IfErr result (IsNotRead (Part.Statement edition) cursor.old cursor.new) }
     ensures ending { cursor.new.ending ≡ cursor.old.ending }
     ensures shorter { OnOk result (length cursor.new.point.left < length cursor.old.point.left) }
@@ -135,7 +139,8 @@ fn read_send<'a>(alloc: Global, cursor: &mut Cursor<'a>) -> Result<Statement<'a>
 
 fn read_call<'a>(alloc: Global, cursor: &mut Cursor<'a>) -> Result<Statement<'a>, Stop>
     requires { fits (look cursor.old.point.left) Terminal.Call ≡ true }
-    ensures ok { (edition : Edition) → IfOk result (λ statement. Reads (Part.Statement edition) (command statement) cursor.old.point cursor.new.point) }
+    ensures ok { (edition : Edition)
+        → IfOk result (λ statement. Reads (Part.Statement edition) (command statement) cursor.old.point cursor.new.point) }
     ensures err { (edition : Edition) → IfErr result (IsNotRead (Part.Statement edition) cursor.old cursor.new) }
     ensures ending { cursor.new.ending ≡ cursor.old.ending }
     ensures shorter { OnOk result (length cursor.new.point.left < length cursor.old.point.left) }
@@ -206,7 +211,8 @@ fn read_expressions<'a>(alloc: Global, cursor: &mut Cursor<'a>) -> Result<Vec<Ex
 
 fn read_fail<'a>(cursor: &mut Cursor<'a>) -> Result<Statement<'a>, Stop>
     requires { fits (look cursor.old.point.left) Terminal.Fail ≡ true }
-    ensures ok { (edition : Edition) → IfOk result (λ statement. Reads (Part.Statement edition) (command statement) cursor.old.point cursor.new.point) }
+    ensures ok { (edition : Edition)
+        → IfOk result (λ statement. Reads (Part.Statement edition) (command statement) cursor.old.point cursor.new.point) }
     ensures err { (edition : Edition) → IfErr result (IsNotRead (Part.Statement edition) cursor.old cursor.new) }
     ensures ending { cursor.new.ending ≡ cursor.old.ending }
     ensures shorter { OnOk result (length cursor.new.point.left < length cursor.old.point.left) }

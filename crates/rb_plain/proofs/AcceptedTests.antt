@@ -57,7 +57,8 @@ module _ (tree : Tree) (processes : List Process) (p : ℕ) (one : Process) wher
         (skipped (state_of one.state), tt)).world
     alone_gone new private gone =
         alone new (subst (λ (z : Process). conversation_at (last_of (map level_of z.levels.items)) ≡ Some None) read private)
-        (subst (λ (z : Process). process_of new ≡ settled (unkept_kind tree) (skipped (state_of z.state)) (without_last (map level_of z.levels.items))) again gone)
+        (subst (λ (z : Process). process_of new
+        ≡ settled (unkept_kind tree) (skipped (state_of z.state)) (without_last (map level_of z.levels.items))) again gone)
 
     pub together_gone : (new : Process) (after : List Process) (c : ℕ) → conversation_at (last_of (map level_of x.levels.items)) ≡ Some (Some c)
         → process_of new ≡ stands_now (skipped (state_of y.state)) (map level_of y.levels.items)

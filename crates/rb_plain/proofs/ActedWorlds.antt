@@ -75,18 +75,21 @@ module _ (tree : Tree) (kept : Kept) (q : PlainProcess) (w : PlainWorld) where
   -- an alternate is given for something else than a start
   pub stuck_before : (want : Want) → (want ≡ Starts → ⊥) → no_alternate kept ≡ false → CanAct want ≡ None
   stuck_before NothingLeft other e = refl
-  stuck_before (SendsOn c) other e = ap (λ b. option_map (λ m. m.world) (when (b && has_room (unkept_kind tree) w c) (plain_steps (unkept_kind tree) kept None q w))) e
+  stuck_before (SendsOn c) other e =
+      ap (λ b. option_map (λ m. m.world) (when (b && has_room (unkept_kind tree) w c) (plain_steps (unkept_kind tree) kept None q w))) e
   stuck_before (ReceivesOn c) other e =
       ap (λ b. option_map (λ m. m.world) (when b (plain_receives (unkept_kind tree) kept q w (message_there (unkept_kind tree) w c)))) e
   stuck_before (MayReceiveOn c) other e =
       ap (λ b. option_map (λ m. m.world) (when b (plain_steps (unkept_kind tree) kept (message_there (unkept_kind tree) w c) q w))) e
   stuck_before (Enters facts) other e =
-      ap (λ b. option_map (λ m. m.world) (when (b && nat_lt (length q.levels) most_levels) (Some (open_at (unkept_kind tree) kept.turn kept.process facts 0 q w)))) e
+      ap (λ b. option_map (λ m. m.world)
+      (when (b && nat_lt (length q.levels) most_levels) (Some (open_at (unkept_kind tree) kept.turn kept.process facts 0 q w)))) e
   stuck_before Starts other e = absurd (other refl)
   stuck_before Acts other e = ap (λ b. option_map (λ m. m.world) (when b (plain_steps (unkept_kind tree) kept None q w))) e
 
   -- an alternate starts
-  pub starts : (block : RecoveryBlock) → StandsFirst (StartOf block) q.state.items → acted_world tree kept q w ≡ with_moved kept.process w (started_by tree kept block q)
+  pub starts : (block : RecoveryBlock) → StandsFirst (StartOf block) q.state.items
+      → acted_world tree kept q w ≡ with_moved kept.process w (started_by tree kept block q)
   starts block first =
       ap CanAct (ap (wants_first tree) first)
       ∙ when_moved kept.process w (has_alternate kept q) (plain_steps (unkept_kind tree) kept None q w)
@@ -126,21 +129,27 @@ module _ (tree : Tree) (kept : Kept) (q : PlainProcess) (w : PlainWorld) where
           → acted_world tree kept q w ≡ with_moved kept.process w (performed_by tree None command q)
       sends c e room =
           ap CanAct (wanted (SendsOn c) e)
-          ∙ ap (λ b. option_map (λ m. m.world) (when (b && has_room (unkept_kind tree) w c) (plain_steps (unkept_kind tree) kept None q w))) (given_none plain)
+          ∙ ap
+          (λ b. option_map (λ m. m.world) (when (b && has_room (unkept_kind tree) w c) (plain_steps (unkept_kind tree) kept None q w)))
+          (given_none plain)
           ∙ ap (λ b. option_map (λ m. m.world) (when (true && b) (plain_steps (unkept_kind tree) kept None q w))) room
           ∙ performed command None first
 
       -- a receipt whose message is there
       received : (message : Option ℤ) → is_some message ≡ true
-          → option_map (λ m. m.world) (plain_receives (unkept_kind tree) kept q w message) ≡ with_moved kept.process w (performed_by tree message command q)
+          → option_map (λ m. m.world) (plain_receives (unkept_kind tree) kept q w message)
+          ≡ with_moved kept.process w (performed_by tree message command q)
       received None there = cc
       received (Some v) there = performed command (Some v) first
 
-      pub receives : (c : ℕ) (message : Option ℤ) → wants tree command ≡ ReceivesOn c → message ≡ message_there (unkept_kind tree) w c → is_some message ≡ true
+      pub receives : (c : ℕ) (message : Option ℤ) → wants tree command ≡ ReceivesOn c
+          → message ≡ message_there (unkept_kind tree) w c → is_some message ≡ true
           → acted_world tree kept q w ≡ with_moved kept.process w (performed_by tree message command q)
       receives c message e is there =
           ap CanAct (wanted (ReceivesOn c) e)
-          ∙ ap (λ b. option_map (λ m. m.world) (when b (plain_receives (unkept_kind tree) kept q w (message_there (unkept_kind tree) w c)))) (given_none plain)
+          ∙ ap
+          (λ b. option_map (λ m. m.world) (when b (plain_receives (unkept_kind tree) kept q w (message_there (unkept_kind tree) w c))))
+          (given_none plain)
           ∙ ap (λ o. option_map (λ m. m.world) (plain_receives (unkept_kind tree) kept q w o)) (sym is)
           ∙ received message there
 
@@ -149,17 +158,23 @@ module _ (tree : Tree) (kept : Kept) (q : PlainProcess) (w : PlainWorld) where
           → acted_world tree kept q w ≡ with_moved kept.process w (performed_by tree message command q)
       may_receive c message e there =
           ap CanAct (wanted (MayReceiveOn c) e)
-          ∙ ap (λ b. option_map (λ m. m.world) (when b (plain_steps (unkept_kind tree) kept (message_there (unkept_kind tree) w c) q w))) (given_none plain)
+          ∙ ap
+          (λ b. option_map (λ m. m.world) (when b (plain_steps (unkept_kind tree) kept (message_there (unkept_kind tree) w c) q w)))
+          (given_none plain)
           ∙ ap (λ o. option_map (λ m. m.world) (plain_steps (unkept_kind tree) kept o q w)) (sym there)
           ∙ performed command message first
 
       -- the entry of a recovery block
-      pub enters : (block : RecoveryBlock) → command ≡ Recovering block → acted_world tree kept q w ≡ with_moved kept.process w (entered_by tree block q)
+      pub enters : (block : RecoveryBlock) → command ≡ Recovering block
+          → acted_world tree kept q w ≡ with_moved kept.process w (entered_by tree block q)
       enters block e =
           let facts = facts_of tree block in
           let k = unkept_kind tree in
           ap CanAct (wanted (Enters facts) (ap (wants tree) e))
-          ∙ ap (λ b. option_map (λ m. m.world) (when (b && nat_lt (length q.levels) most_levels) (Some (open_at k kept.turn kept.process facts 0 q w)))) (given_none plain)
+          ∙ ap
+          (λ b. option_map (λ m. m.world)
+          (when (b && nat_lt (length q.levels) most_levels) (Some (open_at k kept.turn kept.process facts 0 q w))))
+          (given_none plain)
           ∙ when_moved kept.process w (nat_lt (length q.levels) most_levels) (Some (open_at k kept.turn kept.process facts 0 q w))
           (Some (goes_on k (enter q.state) (q.levels ++ new_level k facts 0 (enter q.state) ∷ []))) refl
 
@@ -182,6 +197,7 @@ module _ (tree : Tree) (kept : Kept) (q : PlainProcess) (w : PlainWorld) where
       by_outcome (Ok v) zero_ = ap (λ b. Comes (cond b (Trapped Test) (Held (skipped q.state)))) (zero_ v refl)
       by_outcome (Err cause) zero_ = refl
 
-      pub fails : (A : Type 0) (halt : Halt) (new : PlainWorld) → Judges {A = A} (tested_in block q) (Err halt) → MovesTo {A = A} (acted_world tree kept q w) new (Err halt)
+      pub fails : (A : Type 0) (halt : Halt) (new : PlainWorld) → Judges {A = A} (tested_in block q) (Err halt)
+          → MovesTo {A = A} (acted_world tree kept q w) new (Err halt)
       fails A Stuck new zero_ = tests ∙ by_outcome (tested_in block q) zero_
       fails A Memory new never = absurd never

@@ -28,12 +28,14 @@ use Rattle.rb_plain.proofs.LentEnds.{LooksUp, process_at, seen_as}
 use Rattle.rb_plain.specs.Worlds.{process_of, world_of}
 
 -- the state of a process that was lent
-state_seen : (found : Option (Bor Process)) → option_map (λ (q : Seen State EntryPoint). q.state) (seen_as found) ≡ option_map (λ one. state_of one.now.state) found
+state_seen : (found : Option (Bor Process))
+    → option_map (λ (q : Seen State EntryPoint). q.state) (seen_as found) ≡ option_map (λ one. state_of one.now.state) found
 state_seen None = refl
 state_seen (Some one) = refl
 
 -- what the state of a process answers that was looked up
-pub state_found : {A : Type 0} (f : State → A) (d : A) (tree : Tree) (processes : List Process) (i : ℕ) (found : Option (Bor Process)) → LooksUp processes i found
+pub state_found : {A : Type 0} (f : State → A) (d : A) (tree : Tree) (processes : List Process) (i : ℕ) (found : Option (Bor Process))
+    → LooksUp processes i found
     → by_state f d (option_map (λ one. state_of one.now.state) found) ≡ by_state f d (slice_get (states_of (world_of tree processes)) i)
 state_found f d tree processes i found there =
     sym (ap (by_state f d) (slice_get-map (λ (q : Seen State EntryPoint). q.state) (map process_of processes) i
@@ -47,7 +49,8 @@ size_same (Some n) = refl
 
 -- one more word of a variable
 pub word_more : (words : List ℤ) (at size k : ℕ) (so_far now : List ℤ) (word : ℤ) → at + size ≤ length words → k < size
-    → so_far ≡ take k (drop at words) → word ≡ unwrap_or (slice_get words (at + k)) (pos 0) → now ≡ so_far ++ word ∷ [] → now ≡ take (k + 1) (drop at words)
+    → so_far ≡ take k (drop at words) → word ≡ unwrap_or (slice_get words (at + k)) (pos 0) → now ≡ so_far ++ word ∷ []
+    → now ≡ take (k + 1) (drop at words)
 word_more words at size k so_far now word within small e is grown =
     let own = drop at words in
     let long : k < length own = omega (arith, length-drop at words, within, small) in
@@ -56,7 +59,8 @@ word_more words at size k so_far now word within small e is grown =
     ∙ sym (take_more own k (pos 0) long)
 
 -- the next of the variables that are left
-pub next_variable : (process : List ℕ) (words : List ℤ) (variables : List Variable) (i : ℕ) (one : Variable) → i < length variables → one ≡ get_or variables i one
+pub next_variable : (process : List ℕ) (words : List ℤ) (variables : List Variable) (i : ℕ) (one : Variable)
+    → i < length variables → one ≡ get_or variables i one
     → flat_map (variable_line process words) (map variable_naming (drop i variables))
     ≡ variable_line process words (variable_naming one) ++ flat_map (variable_line process words) (map variable_naming (drop (i + 1) variables))
 next_variable process words variables i one within is =
@@ -84,16 +88,19 @@ lie_at (first ∷ names) (ws ∷ words) zero one own h within is at = subst₂ V
 lie_at (first ∷ names) (ws ∷ words) (suc i) one own h within is at = lie_at names words i one own h.1 (omega (arith, within)) is at
 
 -- the process of a name is there
-pub is_there : (names : List ProcessNames) (processes : List Process) (i : ℕ) → ProcessesLie names (words_of_all processes) → i < length names → i < length processes
+pub is_there : (names : List ProcessNames) (processes : List Process) (i : ℕ) → ProcessesLie names (words_of_all processes)
+    → i < length names → i < length processes
 is_there names processes i lie within =
     omega (arith, within, lie_length names (words_of_all processes) lie, length-map processes (λ (p : Process). global_words p.state.environment))
 
-module _ (names : List ProcessNames) (processes : List Process) (i : ℕ) (one : ProcessNames) (process : Process) (lie : ProcessesLie names (words_of_all processes))
+module _ (names : List ProcessNames) (processes : List Process) (i : ℕ) (one : ProcessNames) (process : Process)
+    (lie : ProcessesLie names (words_of_all processes))
     (within : i < length names) (is : one ≡ get_or names i one) (at : process ≡ get_or processes i process) where
   own_words_at : global_words process.state.environment ≡ get_or (words_of_all processes) i (global_words process.state.environment)
   own_words_at =
       ap (λ (p : Process). global_words p.state.environment) at
-      ∙ sym (get_or-map (λ (p : Process). global_words p.state.environment) processes i process (global_words process.state.environment) (is_there names processes i lie within))
+      ∙ sym (get_or-map (λ (p : Process). global_words p.state.environment) processes i process
+      (global_words process.state.environment) (is_there names processes i lie within))
 
   -- its variables lie within its words
   pub own_lie : VariablesLie one (global_words process.state.environment)
@@ -119,7 +126,8 @@ pub next_channel : (program : Program) (states : List State) (names : List (List
     → let channels = channels_of (tree program) in
     let ends = ends_of (tree program) (channel_declaration channel) in
     channel_lines (drop i names) (count_sent states i (drop i channels)) (count_taken states i (drop i channels))
-    ≡ channel_line name (by_state (λ s. length (sent_on s i)) 0 (slice_get states ends.sender)) (by_state (λ s. taken_on s i) 0 (slice_get states ends.receiver))
+    ≡ channel_line name (by_state (λ s. length (sent_on s i)) 0 (slice_get states ends.sender))
+    (by_state (λ s. taken_on s i) 0 (slice_get states ends.receiver))
     ++ channel_lines (drop (i + 1) names) (count_sent states (i + 1) (drop (i + 1) channels)) (count_taken states (i + 1) (drop (i + 1) channels))
 next_channel program states names i name channel within is there at =
     let declared = map channel_declaration program.channels.items in
@@ -130,5 +138,6 @@ next_channel program states names i name channel within is there at =
     ap (λ (c : Channel). ends_of (tree program) (channel_declaration c)) at
     ∙ sym (get_or-map (ends_of (tree program)) declared i (channel_declaration channel) ends long
     ∙ ap (ends_of (tree program)) (get_or-map channel_declaration program.channels.items i channel (channel_declaration channel) there)) in
-    ap₂ (λ (ns : List (List ℕ)) (es : List Ends). channel_lines ns (count_sent states i es) (count_taken states i es)) (from_item names i name within is)
+    ap₂ (λ (ns : List (List ℕ)) (es : List Ends). channel_lines ns (count_sent states i es) (count_taken states i es))
+    (from_item names i name within is)
     (from_item channels i ends (omega (arith, long, length-map declared (ends_of (tree program)))) found)

@@ -46,7 +46,8 @@ without_at (level ∷ other ∷ levels) (suc k) e =
     ap (λ outer. level_of level ∷ outer) (without_at (other ∷ levels) k (omega arith))
 
 -- the levels that `pop` leaves
-pub popped_is : (levels left : List Level) (n : ℕ) → length levels ≡ n → left ≡ take (n - 1) levels → map level_of left ≡ without_last (map level_of levels)
+pub popped_is : (levels left : List Level) (n : ℕ) → length levels ≡ n → left ≡ take (n - 1) levels
+    → map level_of left ≡ without_last (map level_of levels)
 popped_is [] left n long e = ap (map level_of) (e ∙ take-nil (n - 1))
 popped_is (level ∷ levels) left n long e = ap (map level_of) e ∙ without_at (level ∷ levels) (n - 1) (omega arith)
 

@@ -34,7 +34,8 @@ viewed f None = refl
 viewed f (Some x) = refl
 
 -- the process of a number, as it was looked up
-pub process_at : (processes : List Process) (p : ℕ) (found : Option (Bor Process)) → LooksUp processes p found → slice_get (map process_of processes) p ≡ seen_as found
+pub process_at : (processes : List Process) (p : ℕ) (found : Option (Bor Process)) → LooksUp processes p found
+    → slice_get (map process_of processes) p ≡ seen_as found
 process_at processes p found there =
     slice_get-map process_of processes p ∙ ap (option_map process_of) (sym (looked_up processes p found there)) ∙ viewed process_of found
 

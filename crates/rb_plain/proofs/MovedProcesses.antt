@@ -14,7 +14,8 @@ use Rattle.rb_plain.specs.Moves.{PlainProcess, acted_world, Becomes, with_moved}
 use Rattle.rb_plain.specs.Worlds.{process_of, world_of, MovesTo}
 
 -- a process that is written at its place
-processes_moved : (processes : List Process) (p : ℕ) (new : Process) → map process_of (set processes p new) ≡ change_at p (λ _. process_of new) (map process_of processes)
+processes_moved : (processes : List Process) (p : ℕ) (new : Process)
+    → map process_of (set processes p new) ≡ change_at p (λ _. process_of new) (map process_of processes)
 processes_moved [] p new = refl
 processes_moved (one ∷ processes) zero new = refl
 processes_moved (one ∷ processes) (suc p) new = ap (λ qs. process_of one ∷ qs) (processes_moved processes p new)
@@ -41,6 +42,7 @@ pub moved_there : {A : Type 0} (tree : Tree) (kept : Kept) (processes : List Pro
 moved_there {A} tree kept processes one d there alone new result acted becomes =
     let w = world_of tree processes in
     let here : Becomes {A = A} (alone (process_of one)) (process_of new) result =
-    subst (λ (x : Process). Becomes {A = A} (alone (process_of x)) (process_of new) result) (get_or_from_slice_get processes kept.process one d there) becomes in
+    subst (λ (x : Process). Becomes {A = A} (alone (process_of x)) (process_of new) result)
+    (get_or_from_slice_get processes kept.process one d there) becomes in
     subst (λ (o : Option PlainWorld). MovesTo {A = A} o (world_of tree (set processes kept.process new)) result) (sym acted)
     (moves_with tree processes kept.process new (alone (process_of one)) result here)

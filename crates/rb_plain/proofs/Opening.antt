@@ -21,15 +21,18 @@ abbrev pub opened_from : Tree → ℕ → List Declaration → List (Seen State 
 opened_from tree i declared = map (λ s. settled (unkept_kind tree) s []) (opening_states tree i (map process_declaration (drop i declared)))
 
 -- one more process was opened
-pub opened_more : (tree : Tree) (declared : List Declaration) (i : ℕ) (one : Declaration) (made : List Process) (process : Process) (whole : List (Seen State EntryPoint))
-    → i < length declared → one ≡ get_or declared i one → process_of process ≡ settled (unkept_kind tree) (opening_state tree i (process_declaration one)) []
+pub opened_more : (tree : Tree) (declared : List Declaration) (i : ℕ) (one : Declaration) (made : List Process)
+    (process : Process) (whole : List (Seen State EntryPoint))
+    → i < length declared → one ≡ get_or declared i one
+    → process_of process ≡ settled (unkept_kind tree) (opening_state tree i (process_declaration one)) []
     → map process_of made ++ opened_from tree i declared ≡ whole
     → map process_of (made ++ process ∷ []) ++ opened_from tree (i + 1) declared ≡ whole
 opened_more tree declared i one made process whole within is new so_far =
     ap (λ (qs : List (Seen State EntryPoint)). qs ++ opened_from tree (i + 1) declared) (map-append process_of made (process ∷ []))
     ∙ append_assoc (map process_of made) (process_of process ∷ []) (opened_from tree (i + 1) declared)
     ∙ ap (λ (q : Seen State EntryPoint). map process_of made ++ q ∷ opened_from tree (i + 1) declared) new
-    ∙ ap (λ (ds : List Declaration). map process_of made ++ map (λ s. settled (unkept_kind tree) s []) (opening_states tree i (map process_declaration ds)))
+    ∙ ap (λ (ds : List Declaration). map process_of made
+    ++ map (λ s. settled (unkept_kind tree) s []) (opening_states tree i (map process_declaration ds)))
     (sym (from_item declared i one within is))
     ∙ so_far
 

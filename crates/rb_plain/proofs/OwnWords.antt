@@ -43,13 +43,16 @@ abbrev AsLong : State → State → Type 0
 AsLong s t = own_length t ≡ own_length s
 
 -- a write changes no length
-stored_either : (test : Bool) (name : List ℕ) (values changed : List ℤ) (frame others : Frame) → length changed ≡ length values → frame_length others ≡ frame_length frame
+stored_either : (test : Bool) (name : List ℕ) (values changed : List ℤ) (frame others : Frame)
+    → length changed ≡ length values → frame_length others ≡ frame_length frame
     → frame_length (cond test (record { name = name; values = changed } ∷ frame) (record { name = name; values = values } ∷ others))
     ≡ frame_length (record { name = name; values = values } ∷ frame)
 stored_either true name values changed frame others e f =
-    length-append changed (flat_map (λ stored. stored.values) frame) ∙ ap (λ n. n + frame_length frame) e ∙ sym (length-append values (flat_map (λ stored. stored.values) frame))
+    length-append changed (flat_map (λ stored. stored.values) frame) ∙ ap (λ n. n + frame_length frame) e
+    ∙ sym (length-append values (flat_map (λ stored. stored.values) frame))
 stored_either false name values changed frame others e f =
-    length-append values (flat_map (λ stored. stored.values) others) ∙ ap (λ n. length values + n) f ∙ sym (length-append values (flat_map (λ stored. stored.values) frame))
+    length-append values (flat_map (λ stored. stored.values) others) ∙ ap (λ n. length values + n) f
+    ∙ sym (length-append values (flat_map (λ stored. stored.values) frame))
 
 stored_long : (x : List ℕ) (i : ℕ) (v : ℤ) (frame : Frame) → frame_length (stored_in x i v frame) ≡ frame_length frame
 stored_long x i v [] = refl
@@ -57,7 +60,8 @@ stored_long x i v (stored ∷ frame) =
     stored_either (same_name stored.name x) stored.name stored.values (slice_set stored.values i v) frame (stored_in x i v frame)
     (length-set stored.values i v) (stored_long x i v frame)
 
-either_long : (test : Bool) (env a b : Environment) → length (global_words a) ≡ length (global_words env) → length (global_words b) ≡ length (global_words env)
+either_long : (test : Bool) (env a b : Environment) → length (global_words a) ≡ length (global_words env)
+    → length (global_words b) ≡ length (global_words env)
     → length (global_words (cond test a b)) ≡ length (global_words env)
 either_long true env a b e f = e
 either_long false env a b e f = f
@@ -87,7 +91,8 @@ pushes_long edition (Scope variables commands) rest s =
     either_ends (AsLong s) _ (Err _)
     (Ok (with_environment (push_frame (frame_of variables) s.environment) (continue_with (performed commands (EndBlock ∷ rest)) s))) tt refl
 
-pushes_else_long : (edition : Edition) (otherwise : Otherwise) (rest : List Item) (s : State) → EndsIn (AsLong s) (pushes_else edition otherwise rest s)
+pushes_else_long : (edition : Edition) (otherwise : Otherwise) (rest : List Item) (s : State)
+    → EndsIn (AsLong s) (pushes_else edition otherwise rest s)
 pushes_else_long edition NoElse rest s = refl
 pushes_else_long edition (Else body) rest s = pushes_long edition body rest s
 
@@ -105,7 +110,8 @@ receives_long : (tree : Tree) (channel : ℕ) (to : Reference) (otherwise : Othe
 receives_long tree channel to otherwise rest s (Some v) = takes_long (continue_with rest s) channel to v
 receives_long tree channel to otherwise rest s None = pushes_else_long tree.edition otherwise rest s
 
-performs_long : (tree : Tree) (message : Option ℤ) (s : State) (rest : List Item) (command : Command) → EndsIn (AsLong s) (performs tree message s rest command)
+performs_long : (tree : Tree) (message : Option ℤ) (s : State) (rest : List Item) (command : Command)
+    → EndsIn (AsLong s) (performs tree message s rest command)
 performs_long tree message s rest (Assignment to e) = assigned_long (continue_with rest s) to e
 performs_long tree message s rest (Printing items) = prints_long (continue_with rest s) items
 performs_long tree message s rest (Sending channel e) = then_ends (AsLong s) (present_value s.environment e) _ (λ v. refl)
@@ -123,7 +129,8 @@ performs_long tree message s rest (Invocation procedure arguments) =
 performs_long tree message s rest Failure = tt
 performs_long tree message s rest (Recovering block) = refl
 
-starts_long : (edition : Edition) (block : RecoveryBlock) (rest : List Item) (s : State) (chosen : Option Body) → EndsIn (AsLong s) (starts_body edition block rest s chosen)
+starts_long : (edition : Edition) (block : RecoveryBlock) (rest : List Item) (s : State) (chosen : Option Body)
+    → EndsIn (AsLong s) (starts_body edition block rest s chosen)
 starts_long edition block rest s None = tt
 starts_long edition block rest s (Some body) = pushes_long edition body (TestOf block ∷ rest) s
 
@@ -139,7 +146,8 @@ steps_long tree alternate prior s message (Perform command ∷ rest) =
 steps_long tree alternate prior s message (StartOf block ∷ rest) =
     let chosen = alternate_number alternate (alternates_in block) in
     step_ends (AsLong s) (AsLong s) (starts_body tree.edition block rest s chosen) (starts_long tree.edition block rest s chosen)
-steps_long tree alternate prior s message (TestOf block ∷ rest) = judged_long rest s (value s.environment (former s.environment prior) [] (test_in block))
+steps_long tree alternate prior s message (TestOf block ∷ rest) =
+    judged_long rest s (value s.environment (former s.environment prior) [] (test_in block))
 steps_long tree alternate prior s message (EndBlock ∷ rest) = refl
 steps_long tree alternate prior s message (EndCall ∷ rest) = refl
 
@@ -160,7 +168,8 @@ abbrev lengths_of : PlainWorld → List ℕ
 lengths_of w = map (λ q. own_length q.state) w.processes
 
 -- one process has changed, and has as many as before
-changed_same : {A : Type 0} (f : A → ℕ) (p : ℕ) (x y : A) (xs : List A) → slice_get xs p ≡ Some x → f y ≡ f x → map f (change_at p (λ _. y) xs) ≡ map f xs
+changed_same : {A : Type 0} (f : A → ℕ) (p : ℕ) (x y : A) (xs : List A) → slice_get xs p ≡ Some x → f y ≡ f x
+    → map f (change_at p (λ _. y) xs) ≡ map f xs
 changed_same f p x y [] e same = refl
 changed_same f zero x y (z ∷ xs) e same = ap (λ n. n ∷ map f xs) (same ∙ ap f (sym (some_same e)))
 changed_same f (suc p) x y (z ∷ xs) e same = ap (λ ns. f z ∷ ns) (changed_same f p x y xs e same)
@@ -186,11 +195,13 @@ module _ (tree : Tree) (lengths : List ℕ) where
 
   went_long : (alternate : ℕ) (point : Option EntryPoint) (s t : State) (message : Option ℤ) (m : Nothing)
       → step tree alternate (environment_at point) s message ≡ Went t m → AsLong s t
-  went_long alternate point s t message m e = subst (StepsTo (AsLong s) (AsLong s)) e (steps_long tree alternate (environment_at point) s message s.items)
+  went_long alternate point s t message m e =
+      subst (StepsTo (AsLong s) (AsLong s)) e (steps_long tree alternate (environment_at point) s message s.items)
 
   held_long : (alternate : ℕ) (point : Option EntryPoint) (s t : State) (message : Option ℤ)
       → step tree alternate (environment_at point) s message ≡ Held t → AsLong s t
-  held_long alternate point s t message e = subst (StepsTo (AsLong s) (AsLong s)) e (steps_long tree alternate (environment_at point) s message s.items)
+  held_long alternate point s t message e =
+      subst (StepsTo (AsLong s) (AsLong s)) e (steps_long tree alternate (environment_at point) s message s.items)
 
   stay_long : IsPlainInvariant (unkept_kind tree) HaveLengths HaveLengths
   stay_long = record {
@@ -242,7 +253,8 @@ ends_long : (tree : Tree) (turns : List Kept) (v : PlainWorld) → world_in (pla
 ends_long tree turns v e =
     let ended = ended_in (played tree turns (unkept_opening tree)) v e in
     lengths_same v.processes
-    ∙ plain_run-keeps (stay_long tree (map declared_words tree.processes)) [] turns (unkept_opening tree) v ended.0 (opening_lengths tree 0 tree.processes) ended.1
+    ∙ plain_run-keeps (stay_long tree (map declared_words tree.processes)) [] turns (unkept_opening tree) v ended.0
+    (opening_lengths tree 0 tree.processes) ended.1
 
 -- a variable is named with as many numbers as it has
 named_size : (size : Option Number) → size_named (option_map (λ (n : Number). size_of (Some n)) size) ≡ size_of size
@@ -275,7 +287,8 @@ processes_lie [] (one ∷ names) words e f = absurd (cc)
 processes_lie (process ∷ processes) [] words e f = absurd (cc)
 processes_lie (process ∷ processes) (one ∷ names) [] e f = absurd (cc)
 processes_lie (process ∷ processes) (one ∷ names) (ws ∷ words) e f =
-    let own : map variable_naming one.variables.items ≡ variables_named 0 process.variables = ap (λ (named : ProcessNaming). named.variables) (heads_same e) in
+    let own : map variable_naming one.variables.items ≡ variables_named 0 process.variables =
+    ap (λ (named : ProcessNaming). named.variables) (heads_same e) in
     let long : length ws ≡ declared_words process = heads_same f in (
       variables_lie 0 process.variables one.variables.items (length ws) own (omega (arith, long)),
       processes_lie processes names words (tails_same e) (tails_same f),

@@ -24,7 +24,8 @@ all_in_front [] others = others
 all_in_front (kept ∷ turns) others = in_front kept (all_in_front turns others)
 
 -- a turn more
-all_in_front-append : (turns : List Kept) (kept : Kept) (others : Result (List Kept) TextFault) → all_in_front turns (in_front kept others) ≡ all_in_front (turns ++ kept ∷ []) others
+all_in_front-append : (turns : List Kept) (kept : Kept) (others : Result (List Kept) TextFault)
+    → all_in_front turns (in_front kept others) ≡ all_in_front (turns ++ kept ∷ []) others
 all_in_front-append [] kept others = refl
 all_in_front-append (one ∷ turns) kept others = ap (in_front one) (all_in_front-append turns kept others)
 
@@ -43,7 +44,8 @@ pub record ReadUpTo (names : List (List ℕ)) (text : List ℕ) (turns : List Ke
   pub goes_on : record_of names text ≡ all_in_front (map plain_turn turns) (lines_kept names last at (lines_of rest))
 
 -- what a text comes to at its next line
-at_line : (names : List (List ℕ)) (text line : List ℕ) (turns : List KeptTurn) (last at : ℕ) (rest after : List ℕ) (answer : Result (Option Kept) FaultName)
+at_line : (names : List (List ℕ)) (text line : List ℕ) (turns : List KeptTurn) (last at : ℕ) (rest after : List ℕ)
+    (answer : Result (Option Kept) FaultName)
     → ReadUpTo names text turns last at rest → lines_of rest ≡ line ∷ lines_of after → line_of_words names last (words_of line) ≡ answer
     → record_of names text ≡ all_in_front (map plain_turn turns) (after_line answer last at (λ n. lines_kept names n (at + 1) (lines_of after)))
 at_line names text line turns last at rest after answer read cut given =
@@ -55,7 +57,8 @@ at_line names text line turns last at rest after answer read cut given =
 pub read_none : (names : List (List ℕ)) (text line : List ℕ) (turns : List KeptTurn) (last at : ℕ) (rest after : List ℕ)
     → ReadUpTo names text turns last at rest → lines_of rest ≡ line ∷ lines_of after → line_of_words names last (words_of line) ≡ Ok None
     → ReadUpTo names text turns last (at + 1) after
-read_none names text line turns last at rest after read cut given = record { goes_on = at_line names text line turns last at rest after (Ok None) read cut given }
+read_none names text line turns last at rest after read cut given =
+    record { goes_on = at_line names text line turns last at rest after (Ok None) read cut given }
 
 -- a turn more is read
 pub read_kept : (names : List (List ℕ)) (text line : List ℕ) (turns : List KeptTurn) (last at : ℕ) (rest after : List ℕ) (kept : KeptTurn)
@@ -107,7 +110,8 @@ counted_few word e =
 -- what is kept of a known process
 kept_after_is : (names : List (List ℕ)) (name : List ℕ) (before turn alternate : ℕ) (kept : Kept) → turn ≤ MOST_TURNS → alternate ≤ MOST_TURNS
     → kept_after before turn (first_named names name) alternate ≡ Ok (Some kept) → IsKept (length names) before kept
-kept_after_is names name before turn alternate kept few_turns few_alternates e = by_place (first_named names name) (λ p found. (position-Some (λ n. pointwise nat_eq n name) names p [] found).0) e
+kept_after_is names name before turn alternate kept few_turns few_alternates e =
+    by_place (first_named names name) (λ p found. (position-Some (λ n. pointwise nat_eq n name) names p [] found).0) e
   where
     by_test : (p : ℕ) (t : Bool) → p < length names → t ≡ nat_lt before turn
         → cond t (Ok (Some (record { turn = turn; process = p; alternate = alternate }))) (Err V3) ≡ Ok (Some kept)
@@ -115,15 +119,18 @@ kept_after_is names name before turn alternate kept few_turns few_alternates e =
     by_test p true known is e =
         let one : Kept = record { turn = turn; process = p; alternate = alternate } in
         let same : one ≡ kept = cc in
-        subst (IsKept (length names) before) same (record { rises = grind (arith, nat_tests); few_turns = few_turns; known = known; few_alternates = few_alternates })
+        subst (IsKept (length names) before) same
+        (record { rises = grind (arith, nat_tests); few_turns = few_turns; known = known; few_alternates = few_alternates })
     by_test p false known is e = absurd (cc)
 
-    by_place : (place : Option ℕ) → ((p : ℕ) → place ≡ Some p → p < length names) → kept_after before turn place alternate ≡ Ok (Some kept) → IsKept (length names) before kept
+    by_place : (place : Option ℕ) → ((p : ℕ) → place ≡ Some p → p < length names)
+        → kept_after before turn place alternate ≡ Ok (Some kept) → IsKept (length names) before kept
     by_place None within e = absurd (cc)
     by_place (Some p) within e = by_test p (nat_lt before turn) (within p refl) refl e
 
 -- what a line keeps
-line_is : (names words : List (List ℕ)) (before : ℕ) (kept : Kept) → line_of_words names before words ≡ Ok (Some kept) → IsKept (length names) before kept
+line_is : (names words : List (List ℕ)) (before : ℕ) (kept : Kept) → line_of_words names before words ≡ Ok (Some kept)
+    → IsKept (length names) before kept
 line_is names [] before kept e = absurd (cc)
 line_is names (turn ∷ []) before kept e = absurd (cc)
 line_is names (turn ∷ name ∷ []) before kept e = by_test (is_counted turn && is_name name) refl e
@@ -145,10 +152,12 @@ line_is names (turn ∷ name ∷ alternate ∷ []) before kept e = by_test (is_c
 line_is names (turn ∷ name ∷ alternate ∷ more ∷ words) before kept e = absurd (cc)
 
 -- what some lines keep
-lines_are : (names lines : List (List ℕ)) (before at : ℕ) (turns : List Kept) → lines_kept names before at lines ≡ Ok turns → AreKept (length names) before turns
+lines_are : (names lines : List (List ℕ)) (before at : ℕ) (turns : List Kept) → lines_kept names before at lines ≡ Ok turns
+    → AreKept (length names) before turns
 lines_are names [] before at turns e = let none : [] ≡ turns = cc in subst (AreKept (length names) before) none tt
 lines_are names (line ∷ lines) before at turns e =
-    by_line (line_of_words names before (words_of line)) (λ n us. lines_are names lines n (at + 1) us) (λ kept. line_is names (words_of line) before kept) e
+    by_line (line_of_words names before (words_of line)) (λ n us. lines_are names lines n (at + 1) us)
+    (λ kept. line_is names (words_of line) before kept) e
   where
     by_others : (kept : Kept) (others : Result (List Kept) TextFault) → IsKept (length names) before kept
         → ((us : List Kept) → others ≡ Ok us → AreKept (length names) kept.turn us) → in_front kept others ≡ Ok turns
@@ -173,11 +182,13 @@ are_few processes before (kept ∷ others) few are =
     omega arith
 
 -- the turns of each record are known, and few
-pub records_rise : (names : List (List ℕ)) (text : List ℕ) (turns : List Kept) → record_of names text ≡ Ok turns → AreKept (length names) 0 turns × (length turns ≤ MOST_TURNS)
+pub records_rise : (names : List (List ℕ)) (text : List ℕ) (turns : List Kept) → record_of names text ≡ Ok turns
+    → AreKept (length names) 0 turns × (length turns ≤ MOST_TURNS)
 records_rise names text turns e =
     let are = lines_are names (lines_of text) 0 1 turns e in
     (are, omega (arith, are_few (length names) 0 turns (omega arith) are))
 
 -- the same of the processes of a program
-pub records_rise_in : (names : Names) (text : List ℕ) (turns : List Kept) → record_of (process_names names) text ≡ Ok turns → AreKept (vec_len names.processes) 0 turns
+pub records_rise_in : (names : Names) (text : List ℕ) (turns : List Kept) → record_of (process_names names) text ≡ Ok turns
+    → AreKept (vec_len names.processes) 0 turns
 records_rise_in names text turns e = subst (λ k. AreKept k 0 turns) (length_process_names names) (records_rise (process_names names) text turns e).0

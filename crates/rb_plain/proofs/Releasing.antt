@@ -35,11 +35,13 @@ abbrev pub lines_of_all : Tree → List Process → List (List (List ℕ))
 lines_of_all tree processes = map (λ (q : Seen State EntryPoint). lines_freed (unkept_kind tree) q.state q.levels) (map process_of processes)
 
 -- those of the next process come first
-pub next_lines : (tree : Tree) (names : Naming) (t i : ℕ) (processes : List Process) (one : Process) (lines : List (Vec ℕ Global)) → i < length processes
+pub next_lines : (tree : Tree) (names : Naming) (t i : ℕ) (processes : List Process) (one : Process) (lines : List (Vec ℕ Global))
+    → i < length processes
     → one ≡ get_or processes i one
     → map (λ (line : Vec ℕ Global). line.items) lines ≡ lines_freed (unkept_kind tree) (state_of one.state) (map level_of one.levels.items)
     → out_lines names t i (drop i (lines_of_all tree processes))
-    ≡ flat_map (λ (line : Vec ℕ Global). out_line names t i line.items) lines ++ out_lines names t (i + 1) (drop (i + 1) (lines_of_all tree processes))
+    ≡ flat_map (λ (line : Vec ℕ Global). out_line names t i line.items) lines
+    ++ out_lines names t (i + 1) (drop (i + 1) (lines_of_all tree processes))
 next_lines tree names t i processes one lines within at is =
     let printed : Seen State EntryPoint → List (List ℕ) = λ (q : Seen State EntryPoint). lines_freed (unkept_kind tree) q.state q.levels in
     let all = lines_of_all tree processes in
@@ -51,4 +53,5 @@ next_lines tree names t i processes one lines within at is =
     ∙ sym (get_or-map printed (map process_of processes) i (process_of one) own seen
     ∙ ap printed (get_or-map process_of processes i one (process_of one) within)) in
     ap (out_lines names t i) (from_item all i own told found)
-    ∙ ap (λ (text : List ℕ). text ++ out_lines names t (i + 1) (drop (i + 1) all)) (flat_map-map (out_line names t i) (λ (line : Vec ℕ Global). line.items) lines)
+    ∙ ap (λ (text : List ℕ). text ++ out_lines names t (i + 1) (drop (i + 1) all))
+    (flat_map-map (out_line names t i) (λ (line : Vec ℕ Global). line.items) lines)

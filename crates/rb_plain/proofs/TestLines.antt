@@ -78,12 +78,14 @@ module _ (tree : Tree) (c : ℕ) (before : List Process) where
       let k = unkept_kind tree in
       let w = world_of tree before in
       ap (λ qs. record { processes = qs; talks = opening_talks (groups_of tree); memory = tt }) left
-      ∙ ap (λ talks. record { processes = map (leaves k c) (map process_of before); talks = talks; memory = tt }) (sym (talks_stay (groups_of tree) c))
+      ∙ ap (λ talks. record { processes = map (leaves k c) (map process_of before); talks = talks; memory = tt })
+      (sym (talks_stay (groups_of tree) c))
       ∙ ap (λ b. (cond b (passed (Pass c (alternate_of (talk_at w c))) (all_leave k c w)) (took w)).world) (sym e)
 
 -- one more process of those that leave in order
 more : (f : Seen State EntryPoint → Seen State EntryPoint) (before so_far : List Process) (i : ℕ) (d new : Process) → i < length before
-    → map process_of so_far ≡ map f (map process_of (take i before)) ++ map process_of (drop i before) → process_of new ≡ f (process_of (get_or so_far i d))
+    → map process_of so_far ≡ map f (map process_of (take i before)) ++ map process_of (drop i before)
+    → process_of new ≡ f (process_of (get_or so_far i d))
     → map process_of (set so_far i new) ≡ map f (map process_of (take (suc i) before)) ++ map process_of (drop (suc i) before)
 more f [] so_far i d new within left wrote = absurd (omega arith)
 more f (x ∷ xs) [] zero d new within left wrote = cc
@@ -95,7 +97,8 @@ more f (x ∷ xs) (y ∷ ys) (suc i) d new within left wrote =
     ∙ ap (λ rest. f (process_of x) ∷ rest) (more f xs ys i d new (omega arith) (tails_same left) wrote)
 
 pub one_more : (f : Seen State EntryPoint → Seen State EntryPoint) (before so_far : List Process) (i : ℕ) (d new : Process) → i < length before
-    → map process_of so_far ≡ map f (map process_of (take i before)) ++ map process_of (drop i before) → process_of new ≡ f (process_of (get_or so_far i d))
+    → map process_of so_far ≡ map f (map process_of (take i before)) ++ map process_of (drop i before)
+    → process_of new ≡ f (process_of (get_or so_far i d))
     → map process_of (set so_far i new) ≡ map f (map process_of (take (i + 1) before)) ++ map process_of (drop (i + 1) before)
 one_more f before so_far i d new within left wrote =
     let next : suc i ≡ i + 1 = omega arith in

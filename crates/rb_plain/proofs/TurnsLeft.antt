@@ -103,7 +103,8 @@ module _ (tree : Tree) (turns : List KeptTurn) (i : ℕ) (d : KeptTurn) (within 
   turn_wanting new Memory e h = refl
 
 -- what is answered for an answer of a part
-pub rehearsed : (stuck : Option ℕ) (answer : PlainAnswer) (r : Result (Unit {0}) PlainAnswer) → IsErrAnd r (λ x. x ≡ answer) → Rehearses stuck (Err answer) → Rehearses stuck r
+pub rehearsed : (stuck : Option ℕ) (answer : PlainAnswer) (r : Result (Unit {0}) PlainAnswer) → IsErrAnd r (λ x. x ≡ answer)
+    → Rehearses stuck (Err answer) → Rehearses stuck r
 rehearsed stuck answer (Ok done) h p = absurd h
 rehearsed stuck answer (Err x) h p = subst (λ y. Rehearses stuck (Err y)) (sym h) p
 
@@ -114,7 +115,8 @@ module _ {tree : Tree} {t : ℕ} {v : PlainWorld} {all others : PlainEnd State E
   pub still_ends : world_in all ≡ world_in others
   still_ends = ap world_in on.is ∙ world_told t on.one others
 
-  pub outs_next : (names : Naming) → stuck_in all ≡ None → outs_in names all ≡ out_lines names t 0 (freed_lines (unkept_kind tree) v) ++ outs_in names others
+  pub outs_next : (names : Naming) → stuck_in all ≡ None
+      → outs_in names all ≡ out_lines names t 0 (freed_lines (unkept_kind tree) v) ++ outs_in names others
   outs_next names e =
       ap (outs_in names) on.is ∙ outs_told names t on.one others (sym still_stuck ∙ e)
       ∙ ap (λ lines. out_lines names t 0 lines ++ outs_in names others) on.lines

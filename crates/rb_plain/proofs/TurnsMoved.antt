@@ -16,7 +16,8 @@ module _ (tree : Tree) (kept : Kept) (processes : List Process) where
   abbrev Moves : Option PlainProcess → Option PlainWorld
   Moves o = option_map (λ m. m.world) (plain_moves (unkept_kind tree) kept (world_of tree processes) o)
 
-  found : (o : Option Process) → slice_get processes kept.process ≡ o → moved_world tree kept (world_of tree processes) ≡ Moves (option_map process_of o)
+  found : (o : Option Process) → slice_get processes kept.process ≡ o
+      → moved_world tree kept (world_of tree processes) ≡ Moves (option_map process_of o)
   found o e = ap Moves (slice_get-map process_of processes kept.process ∙ ap (option_map process_of) e)
 
   -- it runs, away from every test line
@@ -31,11 +32,13 @@ module _ (tree : Tree) (kept : Kept) (processes : List Process) where
       ∙ ap (λ b. option_map (λ m. m.world) (cond b None (plain_acts k kept q w (wants_first tree q.state.items)))) ready.away
 
   pub turned : {A : Type 0} (first : First) (new : PlainWorld) (result : Result A Halt) → IsFirstReady (slice_get processes kept.process) (Some first)
-      → ((one : Process) → slice_get processes kept.process ≡ Some one → MovesTo (acted_world tree kept (process_of one) (world_of tree processes)) new result)
+      → ((one : Process) → slice_get processes kept.process ≡ Some one
+      → MovesTo (acted_world tree kept (process_of one) (world_of tree processes)) new result)
       → MovesTo (moved_world tree kept (world_of tree processes)) new result
   turned {A} first new result ready moves = by (slice_get processes kept.process) refl ready
     where
-      by : (o : Option Process) → slice_get processes kept.process ≡ o → IsFirstReady o (Some first) → MovesTo {A = A} (moved_world tree kept (world_of tree processes)) new result
+      by : (o : Option Process) → slice_get processes kept.process ≡ o → IsFirstReady o (Some first)
+          → MovesTo {A = A} (moved_world tree kept (world_of tree processes)) new result
       by None e ready = absurd ready
       by (Some one) e ready = subst (λ (o : Option PlainWorld). MovesTo {A = A} o new result) (sym (runs one e ready.0)) (moves one e)
 
@@ -50,7 +53,10 @@ module _ (tree : Tree) (kept : Kept) (processes : List Process) where
       by : (b : Bool) → option_map (λ m. m.world) (plain_runs (unkept_kind tree) kept (process_of one) (world_of tree processes) (status_of b)) ≡ None
       by true = refl
       by false =
-          ap (λ b. option_map (λ m. m.world) (cond b None (plain_acts (unkept_kind tree) kept (process_of one) (world_of tree processes) (wants_first tree (process_of one).state.items)))) line
+          ap (λ b. option_map (λ m. m.world)
+          (cond b None
+          (plain_acts (unkept_kind tree) kept (process_of one) (world_of tree processes)
+          (wants_first tree (process_of one).state.items)))) line
 
   pub stuck : IsFirstReady (slice_get processes kept.process) None → moved_world tree kept (world_of tree processes) ≡ None
   stuck ready = by (slice_get processes kept.process) refl ready

@@ -42,7 +42,8 @@ then_unkept (Ok a) f g each = each a
 then_unkept (Err cause) f g each = refl
 
 -- a step that is one of two
-either_unkept : (test : Bool) (r r' x x' : Result State Cause) → x ≡ unkept_result r → x' ≡ unkept_result r' → cond test x x' ≡ unkept_result (cond test r r')
+either_unkept : (test : Bool) (r r' x x' : Result State Cause) → x ≡ unkept_result r → x' ≡ unkept_result r'
+    → cond test x x' ≡ unkept_result (cond test r r')
 either_unkept true r r' x x' e e' = e
 either_unkept false r r' x x' e e' = e'
 
@@ -70,7 +71,8 @@ sends_unkept s channel e = then_unkept (present_value s.environment e) _ _ (λ v
 takes_unkept : (s : State) (channel : ℕ) (to : Reference) (v : ℤ) → takes (unkept s) channel to v ≡ unkept_result (takes s channel to v)
 takes_unkept s channel to v = then_unkept (place_in s.environment to) _ _ (λ place. refl)
 
-pushes_unkept : (edition : Edition) (body : Body) (rest : List Item) (s : State) → pushes edition body rest (unkept s) ≡ unkept_result (pushes edition body rest s)
+pushes_unkept : (edition : Edition) (body : Body) (rest : List Item) (s : State)
+    → pushes edition body rest (unkept s) ≡ unkept_result (pushes edition body rest s)
 pushes_unkept edition (Scope variables commands) rest s =
     within_unkept edition (push_frame (frame_of variables) s.environment) (continue_with (performed commands (EndBlock ∷ rest)) s)
 
@@ -97,7 +99,8 @@ calls_unkept edition None rest s values = refl
 calls_unkept edition (Some procedure) rest s values =
     let env = push_call (bound_to procedure.parameters values ++ frame_of (variables_of procedure.body)) s.environment in
     let called = continue_with (performed (commands_of procedure.body) (EndCall ∷ rest)) s in
-    either_unkept _ (Err _) (within_words edition env called) (Err _) (within_words edition env (unkept called)) refl (within_unkept edition env called)
+    either_unkept _ (Err _) (within_words edition env called) (Err _) (within_words edition env (unkept called)) refl
+    (within_unkept edition env called)
 
 receives_unkept : (tree : Tree) (channel : ℕ) (to : Reference) (otherwise : Otherwise) (rest : List Item) (s : State) (message : Option ℤ)
     → receives tree channel to otherwise rest (unkept s) message ≡ unkept_result (receives tree channel to otherwise rest s message)
@@ -172,9 +175,11 @@ unkept_image tree = record {
 }
 
 -- no turn is kept at the opening
-opening_unkept : (tree : Tree) (p : ℕ) (processes : List ProcessDeclaration) → map unkept (opening_states tree p processes) ≡ opening_states tree p processes
+opening_unkept : (tree : Tree) (p : ℕ) (processes : List ProcessDeclaration)
+    → map unkept (opening_states tree p processes) ≡ opening_states tree p processes
 opening_unkept tree p [] = refl
-opening_unkept tree p (process ∷ processes) = ap (λ (states : List State). opening_state tree p process ∷ states) (opening_unkept tree (p + 1) processes)
+opening_unkept tree p (process ∷ processes) =
+    ap (λ (states : List State). opening_state tree p process ∷ states) (opening_unkept tree (p + 1) processes)
 
 -- the image of a plain run
 abbrev without_kept : PlainEnd State EntryPoint Nothing → PlainEnd State EntryPoint Nothing
@@ -190,7 +195,8 @@ played_unkept tree turns =
     ∙ plain_run-image (unkept_image tree) turns (plain_opening tree)
 
 -- what the ending of a run reads of its states
-states_image : (qs : List (Process State EntryPoint)) → map (λ q. q.state) (map (process_image unkept (λ point. point)) qs) ≡ map unkept (map (λ q. q.state) qs)
+states_image : (qs : List (Process State EntryPoint))
+    → map (λ q. q.state) (map (process_image unkept (λ point. point)) qs) ≡ map unkept (map (λ q. q.state) qs)
 states_image [] = refl
 states_image (q ∷ qs) = ap (λ ss. unkept q.state ∷ ss) (states_image qs)
 
@@ -227,7 +233,8 @@ values_of_states tree names ss =
 states_values_unkept : (tree : Tree) (names : Naming) (ss : List State) → values_of_states tree names (map unkept ss) ≡ values_of_states tree names ss
 states_values_unkept tree names ss =
     ap (λ words. value_lines names.processes words
-    ++ channel_lines names.channels (count_sent (map unkept ss) 0 (channels_of tree)) (count_taken (map unkept ss) 0 (channels_of tree))) (words_unkept ss)
+    ++ channel_lines names.channels (count_sent (map unkept ss) 0 (channels_of tree)) (count_taken (map unkept ss) 0 (channels_of tree)))
+    (words_unkept ss)
     ∙ ap₂ (λ sent taken. value_lines names.processes (map (λ s. global_words s.environment) ss) ++ channel_lines names.channels sent taken)
     (sent_unkept ss 0 (channels_of tree)) (taken_unkept ss 0 (channels_of tree))
 

@@ -43,11 +43,14 @@ stuck_text tree (StuckAt u) t e = ap Err (some_same e)
 -- what is answered where a turn is stuck, or memory was wanting before anything was written
 answered_plays : (tree : Tree) (turns : List Kept) (w : Option (List ℕ)) (f : Faults) (answer : PlainAnswer)
     → Rehearses (stuck_in (played tree turns (unkept_opening tree))) (Err answer) → Plays (plain_text tree turns) w w f f (Err answer)
-answered_plays tree turns w f (Stuck t) e = (sym (unnoted_tell_same tree turns) ∙ stuck_text tree (played tree turns (unkept_opening tree)) t e, refl, refl)
+answered_plays tree turns w f (Stuck t) e =
+    (sym (unnoted_tell_same tree turns) ∙ stuck_text tree (played tree turns (unkept_opening tree)) t e, refl, refl)
 answered_plays tree turns w f WriteFault e = absurd e
 answered_plays tree turns w f Memory e = inl (refl, refl)
 
 pub rehearsed_plays : (tree : Tree) (turns : List Kept) (w : Option (List ℕ)) (f : Faults) (answer : PlainAnswer) (r : Result (Unit {0}) PlainAnswer)
-    → IsErrAnd r (λ x. x ≡ answer) → Rehearses (stuck_in (played tree turns (unkept_opening tree))) (Err answer) → Plays (plain_text tree turns) w w f f r
+    → IsErrAnd r (λ x. x ≡ answer) → Rehearses (stuck_in (played tree turns (unkept_opening tree))) (Err answer)
+    → Plays (plain_text tree turns) w w f f r
 rehearsed_plays tree turns w f answer (Ok done) h p = absurd h
-rehearsed_plays tree turns w f answer (Err x) h p = subst (λ y. Plays (plain_text tree turns) w w f f (Err y)) (sym h) (answered_plays tree turns w f answer p)
+rehearsed_plays tree turns w f answer (Err x) h p =
+    subst (λ y. Plays (plain_text tree turns) w w f f (Err y)) (sym h) (answered_plays tree turns w f answer p)

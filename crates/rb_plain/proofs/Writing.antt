@@ -12,7 +12,8 @@ use Rattle.rb_plain.specs.declared.answer.PlainAnswer.{PlainAnswer}
 use Rattle.rb_plain.specs.declared.answer.PlainAnswer.TheVariants.{Stuck, WriteFault, Memory}
 
 -- another name for the text
-pub writes_same : (a b : List ℕ) (w0 w1 : Option (List ℕ)) (f0 f1 : Faults) (r : Result (Unit {0}) PlainAnswer) → a ≡ b → Writes a w0 w1 f0 f1 r → Writes b w0 w1 f0 f1 r
+pub writes_same : (a b : List ℕ) (w0 w1 : Option (List ℕ)) (f0 f1 : Faults) (r : Result (Unit {0}) PlainAnswer) → a ≡ b
+    → Writes a w0 w1 f0 f1 r → Writes b w0 w1 f0 f1 r
 writes_same a b w0 w1 f0 f1 r e p = subst (λ x. Writes x w0 w1 f0 f1 r) e p
 
 -- a write that went well, whatever else could have failed
@@ -20,18 +21,21 @@ pub puts_well : {E D : Type 0} (a : List ℕ) (w0 w1 : Option (List ℕ)) (f0 f1
     → Puts {T = Unit {0}} {E = E} a w0 w1 f0 f1 (Ok done) → Puts {T = Unit {0}} {E = D} a w0 w1 f0 f1 (Ok tt)
 puts_well a w0 w1 f0 f1 done p = record { ok = p.ok; quiet = p.quiet; err = tt; failed = tt }
 
-pub puts_failed : (a : List ℕ) (w0 w1 : Option (List ℕ)) (f0 f1 : Faults) (failed : Failed) → Puts {T = Unit {0}} {E = Failed} a w0 w1 f0 f1 (Err failed)
+pub puts_failed : (a : List ℕ) (w0 w1 : Option (List ℕ)) (f0 f1 : Faults) (failed : Failed)
+    → Puts {T = Unit {0}} {E = Failed} a w0 w1 f0 f1 (Err failed)
     → Puts {T = Unit {0}} {E = PlainAnswer} a w0 w1 f0 f1 (Err WriteFault)
 puts_failed a w0 w1 f0 f1 failed p = record { ok = tt; quiet = tt; err = p.err; failed = p.failed }
 
-pub writes_failed : (a : List ℕ) (w0 w1 : Option (List ℕ)) (f0 f1 : Faults) (failed : Failed) (r : Result (Unit {0}) PlainAnswer) → IsErrAnd r (λ x. x ≡ WriteFault)
+pub writes_failed : (a : List ℕ) (w0 w1 : Option (List ℕ)) (f0 f1 : Faults) (failed : Failed) (r : Result (Unit {0}) PlainAnswer)
+    → IsErrAnd r (λ x. x ≡ WriteFault)
     → Puts {T = Unit {0}} {E = Failed} a w0 w1 f0 f1 (Err failed) → Writes a w0 w1 f0 f1 r
 writes_failed a w0 w1 f0 f1 failed (Ok done) h p = absurd h
 writes_failed a w0 w1 f0 f1 failed (Err answer) h p =
     subst (λ x. Writes a w0 w1 f0 f1 (Err x)) (sym h) (puts_failed a w0 w1 f0 f1 failed p)
 
 -- what is answered for an answer of a part
-pub writes_answered : (a : List ℕ) (w0 w1 : Option (List ℕ)) (f0 f1 : Faults) (answer : PlainAnswer) (r : Result (Unit {0}) PlainAnswer) → IsErrAnd r (λ x. x ≡ answer)
+pub writes_answered : (a : List ℕ) (w0 w1 : Option (List ℕ)) (f0 f1 : Faults) (answer : PlainAnswer) (r : Result (Unit {0}) PlainAnswer)
+    → IsErrAnd r (λ x. x ≡ answer)
     → Writes a w0 w1 f0 f1 (Err answer) → Writes a w0 w1 f0 f1 r
 writes_answered a w0 w1 f0 f1 answer (Ok done) h p = absurd h
 writes_answered a w0 w1 f0 f1 answer (Err x) h p = subst (λ y. Writes a w0 w1 f0 f1 (Err y)) (sym h) p
@@ -74,8 +78,10 @@ pub next_wanting : (whole rest : List ℕ) (w0 w1 : Option (List ℕ)) (f0 f1 : 
     → Written whole rest w0 w1 f0 f1 → Writes whole w0 w1 f0 f1 (Err answer)
 next_wanting whole rest w0 w1 f0 f1 answer e so_far =
     writes_same (so_far.front ++ rest) whole w0 w1 f0 f1 (Err answer) so_far.splits
-    (writes_both so_far.front rest w0 w1 w1 f0 f1 f1 (Err answer) (puts_well so_far.front w0 w1 f0 f1 tt so_far.puts) (writes_nothing rest w1 f1 answer e))
+    (writes_both so_far.front rest w0 w1 w1 f0 f1 f1 (Err answer) (puts_well so_far.front w0 w1 f0 f1 tt so_far.puts)
+    (writes_nothing rest w1 f1 answer e))
 
 -- nothing is left
-pub all_written : (whole rest : List ℕ) (w0 w1 : Option (List ℕ)) (f0 f1 : Faults) (done : Unit {0}) → Written whole rest w0 w1 f0 f1 → rest ≡ [] → Writes whole w0 w1 f0 f1 (Ok done)
+pub all_written : (whole rest : List ℕ) (w0 w1 : Option (List ℕ)) (f0 f1 : Faults) (done : Unit {0})
+    → Written whole rest w0 w1 f0 f1 → rest ≡ [] → Writes whole w0 w1 f0 f1 (Ok done)
 all_written whole rest w0 w1 f0 f1 done so_far none = puts_well whole w0 w1 f0 f1 tt (written_all whole rest w0 w1 f0 f1 so_far none)

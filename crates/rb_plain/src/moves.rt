@@ -52,7 +52,8 @@ impl<'t, 'a> Process<'t, 'a> {
         kept: Kept,
     ) -> Result<(), Halt>
         requires { StandsFirst (StartOf (recovery_block block.now)) (state_of self.old.state).items }
-        ensures { Becomes (started_by (tree program.now) (plain_turn kept) (recovery_block block.now) (process_of self.old)) (process_of self.new) result }
+        ensures { Becomes (started_by (tree program.now) (plain_turn kept) (recovery_block block.now) (process_of self.old))
+            (process_of self.new) result }
     {
         if !self.has_alternate(kept.alternate) {
             return Err(Halt::Stuck);
@@ -95,7 +96,8 @@ impl<'t, 'a> Process<'t, 'a> {
 
     /// The acceptance test of a private level held, and the level goes.
     pub(crate) fn pass(&mut self, program: &Program<'a>)
-        ensures { process_of self.new ≡ settled (unkept_kind (tree program.now)) (skipped (state_of self.old.state)) (without_last (map level_of self.old.levels.items)) }
+        ensures { process_of self.new
+            ≡ settled (unkept_kind (tree program.now)) (skipped (state_of self.old.state)) (without_last (map level_of self.old.levels.items)) }
     {
         self.state.skip();
         self.leave(program);

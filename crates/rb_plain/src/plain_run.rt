@@ -49,7 +49,8 @@ fn perform<S: Sink>(
     requires named { naming names.now ≡ naming_of (tree program.now) }
     requires members { HasMembers (tree program.now) nested.now }
     requires goes { stuck_in (played (tree program.now) (map plain_turn turns.now) (unkept_opening (tree program.now))) ≡ None }
-    ensures { (text : List ℕ) × (plain_text (tree program.now) (map plain_turn turns.now) ≡ Ok text) × Writes text (S.written out.old) (S.written out.new) (S.faults out.old) (S.faults out.new) result }
+    ensures { (text : List ℕ) × (plain_text (tree program.now) (map plain_turn turns.now) ≡ Ok text)
+        × Writes text (S.written out.old) (S.written out.new) (S.faults out.old) (S.faults out.new) result }
 {
     let mut opened = opening(alloc, program)?;
     let processes = opened.as_mut_slice();

@@ -47,7 +47,9 @@ fn opened<'t, 'a>(
     number: usize,
     declared: &'t Declaration<'a>,
 ) -> Result<Process<'t, 'a>, Memory>
-    ensures { IfOk result (λ process. process_of process ≡ settled (unkept_kind (tree program.now)) (opening_state (tree program.now) number (process_declaration declared.now)) []) }
+    ensures { IfOk result
+        (λ process. process_of process
+        ≡ settled (unkept_kind (tree program.now)) (opening_state (tree program.now) number (process_declaration declared.now)) []) }
 {
     let mut process = Process {
         state: State::new(alloc, program, number, declared)?,
@@ -104,8 +106,12 @@ pub(crate) fn play<'t, 'a, S: Sink>(
     requires members { HasMembers (tree program.now) nested.now }
     requires few { length processes.old ≤ length names.now.processes.items }
     requires goes { stuck_in (played (tree program.now) (map plain_turn turns.now) (world_of (tree program.now) processes.old)) ≡ None }
-    ensures text { Writes (outs_in (naming names.now) (played (tree program.now) (map plain_turn turns.now) (world_of (tree program.now) processes.old))) (S.written out.old) (S.written out.new) (S.faults out.old) (S.faults out.new) result }
-    ensures ends { OnOk result (world_in (played (tree program.now) (map plain_turn turns.now) (world_of (tree program.now) processes.old)) ≡ Some (world_of (tree program.now) processes.new)) }
+    ensures text { Writes
+        (outs_in (naming names.now) (played (tree program.now) (map plain_turn turns.now) (world_of (tree program.now) processes.old)))
+        (S.written out.old) (S.written out.new) (S.faults out.old) (S.faults out.new) result }
+    ensures ends { OnOk result
+        (world_in (played (tree program.now) (map plain_turn turns.now) (world_of (tree program.now) processes.old))
+        ≡ Some (world_of (tree program.now) processes.new)) }
 {
     for kept in turns {
         take(alloc, program, nested, processes, *kept)?;
@@ -124,7 +130,9 @@ fn take<'t, 'a>(
     kept: Kept,
 ) -> Result<(), PlainAnswer>
     requires { HasMembers (tree program.now) nested.now }
-    ensures { TakesTurn kept.turn (moved_world (tree program.now) (plain_turn kept) (world_of (tree program.now) processes.old)) (world_of (tree program.now) processes.new) result }
+    ensures { TakesTurn kept.turn
+        (moved_world (tree program.now) (plain_turn kept) (world_of (tree program.now) processes.old))
+        (world_of (tree program.now) processes.new) result }
 {
     match take_turn(alloc, program, nested, processes, kept) {
         Ok(()) => Ok(()),
@@ -135,7 +143,8 @@ fn take<'t, 'a>(
 
 // No process without an open level holds a line any more.
 fn free_all<'a>(program: &Program<'a>, processes: &mut [Process<'_, 'a>])
-    ensures { world_of (tree program.now) processes.new ≡ with_each (freed (unkept_kind (tree program.now))) (world_of (tree program.now) processes.old) }
+    ensures { world_of (tree program.now) processes.new
+        ≡ with_each (freed (unkept_kind (tree program.now))) (world_of (tree program.now) processes.old) }
 {
     for process in processes {
         process.free(program);
@@ -151,7 +160,9 @@ fn write_freed<'a, S: Sink>(
     out: &mut S,
 ) -> Result<(), Failed>
     requires { length processes.now ≤ length names.now.processes.items }
-    ensures { Puts (out_lines (naming names.now) turn 0 (freed_lines (unkept_kind (tree program.now)) (world_of (tree program.now) processes.now))) (S.written out.old) (S.written out.new) (S.faults out.old) (S.faults out.new) result }
+    ensures { Puts
+        (out_lines (naming names.now) turn 0 (freed_lines (unkept_kind (tree program.now)) (world_of (tree program.now) processes.now)))
+        (S.written out.old) (S.written out.new) (S.faults out.old) (S.faults out.new) result }
 {
     for (p, process) in processes.iter().enumerate() {
         write_lines(out, turn, p as u32, process.freed_lines(program), names)?;
@@ -167,7 +178,8 @@ fn write_lines<S: Sink>(
     lines: &[Vec<u8>],
     names: &Names,
 ) -> Result<(), Failed>
-    ensures { Puts (flat_map (λ line. out_line (naming names.now) turn process line.items) lines.now) (S.written out.old) (S.written out.new) (S.faults out.old) (S.faults out.new) result }
+    ensures { Puts (flat_map (λ line. out_line (naming names.now) turn process line.items) lines.now) (S.written out.old)
+        (S.written out.new) (S.faults out.old) (S.faults out.new) result }
 {
     for line in lines {
         write_out(out, turn, process, line, names)?;

@@ -117,7 +117,8 @@ impl<'t, 'a> Process<'t, 'a> {
 
     /// Its innermost level goes, and it goes on.
     pub(crate) fn leave(&mut self, program: &Program<'a>)
-        ensures { process_of self.new ≡ settled (unkept_kind (tree program.now)) (state_of self.old.state) (without_last (map level_of self.old.levels.items)) }
+        ensures { process_of self.new
+            ≡ settled (unkept_kind (tree program.now)) (state_of self.old.state) (without_last (map level_of self.old.levels.items)) }
     {
         self.levels.pop();
         self.settle(program);
@@ -135,7 +136,8 @@ impl<'t, 'a> Process<'t, 'a> {
 
     /// The lines that it prints at the end of a turn: all that it holds, if no level is open.
     pub(crate) fn freed_lines(&self, program: &Program<'a>) -> &[Vec<u8>]
-        ensures { map (λ line. line.items) result.now ≡ lines_freed (unkept_kind (tree program.now)) (state_of self.now.state) (map level_of self.now.levels.items) }
+        ensures { map (λ line. line.items) result.now
+            ≡ lines_freed (unkept_kind (tree program.now)) (state_of self.now.state) (map level_of self.now.levels.items) }
     {
         let _ = program;
         if self.levels.is_empty() {

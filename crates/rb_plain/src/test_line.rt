@@ -61,7 +61,8 @@ fn pass_line<'a>(
     conversation: usize,
 )
     requires { HasMembers (tree program.now) nested.now }
-    ensures { world_of (tree program.now) processes.new ≡ (at_test_line (unkept_kind (tree program.now)) conversation (world_of (tree program.now) processes.old)).world }
+    ensures { world_of (tree program.now) processes.new
+        ≡ (at_test_line (unkept_kind (tree program.now)) conversation (world_of (tree program.now) processes.old)).world }
 {
     if !do_all_stand(nested, processes, conversation) {
         return;

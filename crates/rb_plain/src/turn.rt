@@ -31,7 +31,8 @@ pub(crate) fn take_turn<'t, 'a>(
     kept: Kept,
 ) -> Result<(), Halt>
     requires { HasMembers (tree program.now) nested.now }
-    ensures { MovesTo (moved_world (tree program.now) (plain_turn kept) (world_of (tree program.now) processes.old)) (world_of (tree program.now) processes.new) result }
+    ensures { MovesTo (moved_world (tree program.now) (plain_turn kept) (world_of (tree program.now) processes.old))
+        (world_of (tree program.now) processes.new) result }
 {
     match first_ready(processes, kept.process as usize) {
         Some(first) => act(alloc, program, nested, processes, kept, first),
@@ -102,7 +103,8 @@ fn perform<'t, 'a>(
 ) -> Result<(), Halt>
     requires alternate { kept.alternate ≡ 0 }
     requires process { kept.process < length processes.old }
-    requires first { (one : Here) → slice_get processes.old kept.process ≡ Some one → IsReady one × StandsFirst (Perform (command statement.now)) (state_of one.state).items }
+    requires first { (one : Here) → slice_get processes.old kept.process ≡ Some one
+        → IsReady one × StandsFirst (Perform (command statement.now)) (state_of one.state).items }
     ensures { (one : Here) → slice_get processes.old kept.process ≡ Some one →
         MovesTo (acted_world (tree program.now) (plain_turn kept) (process_of one) (world_of (tree program.now) processes.old)) (world_of (tree program.now) processes.new) result }
 {
@@ -142,7 +144,8 @@ fn judge<'a>(
     requires members { HasMembers (tree program.now) nested.now }
     requires alternate { kept.alternate ≡ 0 }
     requires process { kept.process < length processes.old }
-    requires first { (one : Here) → slice_get processes.old kept.process ≡ Some one → IsReady one × StandsFirst (TestOf (recovery_block block.now)) (state_of one.state).items }
+    requires first { (one : Here) → slice_get processes.old kept.process ≡ Some one
+        → IsReady one × StandsFirst (TestOf (recovery_block block.now)) (state_of one.state).items }
     ensures { (one : Here) → slice_get processes.old kept.process ≡ Some one →
         MovesTo (acted_world (tree program.now) (plain_turn kept) (process_of one) (world_of (tree program.now) processes.old)) (world_of (tree program.now) processes.new) result }
 {

@@ -34,7 +34,9 @@ pub(crate) fn write_values<'a, S: Sink>(
 ) -> Result<(), PlainAnswer>
     requires named { naming names.now ≡ naming_of (tree program.now) }
     requires lie { ProcessesLie names.now.processes.items (own_words (world_of (tree program.now) processes.now)) }
-    ensures { Writes (values_text (naming names.now) (final_of (tree program.now) (world_of (tree program.now) processes.now))) (S.written out.old) (S.written out.new) (S.faults out.old) (S.faults out.new) result }
+    ensures { Writes
+        (values_text (naming names.now) (final_of (tree program.now) (world_of (tree program.now) processes.now)))
+        (S.written out.old) (S.written out.new) (S.faults out.old) (S.faults out.new) result }
 {
     write_all_variables(alloc, names, processes, out)?;
     write_channels(program, names, processes, out)?;
@@ -49,7 +51,8 @@ fn write_all_variables<S: Sink>(
     out: &mut S,
 ) -> Result<(), PlainAnswer>
     requires { ProcessesLie names.now.processes.items (words_of_all processes.now) }
-    ensures { Writes (value_lines (map process_naming names.now.processes.items) (words_of_all processes.now)) (S.written out.old) (S.written out.new) (S.faults out.old) (S.faults out.new) result }
+    ensures { Writes (value_lines (map process_naming names.now.processes.items) (words_of_all processes.now))
+        (S.written out.old) (S.written out.new) (S.faults out.old) (S.faults out.new) result }
 {
     for (p, process) in names.processes.iter().enumerate() {
         write_variables(alloc, process, &processes[p].state.environment, out)?;
@@ -65,7 +68,8 @@ fn write_variables<S: Sink>(
     out: &mut S,
 ) -> Result<(), PlainAnswer>
     requires { VariablesLie process.now (global_words environment.now) }
-    ensures { Writes (variable_lines (process_naming process.now) (global_words environment.now)) (S.written out.old) (S.written out.new) (S.faults out.old) (S.faults out.new) result }
+    ensures { Writes (variable_lines (process_naming process.now) (global_words environment.now)) (S.written out.old)
+        (S.written out.new) (S.faults out.old) (S.faults out.new) result }
 {
     for variable in &process.variables {
         write_one(alloc, process.name.as_bytes(), variable, environment, out)?;
@@ -82,7 +86,8 @@ fn write_one<S: Sink>(
     out: &mut S,
 ) -> Result<(), PlainAnswer>
     requires { LiesWithin (length (global_words environment.now)) variable.now }
-    ensures { Writes (variable_line process.now (global_words environment.now) (variable_naming variable.now)) (S.written out.old) (S.written out.new) (S.faults out.old) (S.faults out.new) result }
+    ensures { Writes (variable_line process.now (global_words environment.now) (variable_naming variable.now))
+        (S.written out.old) (S.written out.new) (S.faults out.old) (S.faults out.new) result }
 {
     let values = values_of(alloc, variable, environment)?;
     write_variable(out, process, variable.name.as_bytes(), values.as_slice())?;
@@ -134,7 +139,9 @@ fn sent_by<'a>(
     name: &[u8],
     channel: usize,
 ) -> usize
-    ensures { result ≡ by_state (λ s. length (sent_on s channel)) 0 (slice_get (states_of (world_of (tree program.now) processes.now)) (process_number (tree program.now) name.now)) }
+    ensures { result
+        ≡ by_state (λ s. length (sent_on s channel)) 0
+        (slice_get (states_of (world_of (tree program.now) processes.now)) (process_number (tree program.now) name.now)) }
 {
     match processes.get(process_number(program, name)) {
         Some(process) => process.state.sent_on(channel),
@@ -149,7 +156,9 @@ fn taken_by<'a>(
     name: &[u8],
     channel: usize,
 ) -> usize
-    ensures { result ≡ by_state (λ s. taken_on s channel) 0 (slice_get (states_of (world_of (tree program.now) processes.now)) (process_number (tree program.now) name.now)) }
+    ensures { result
+        ≡ by_state (λ s. taken_on s channel) 0
+        (slice_get (states_of (world_of (tree program.now) processes.now)) (process_number (tree program.now) name.now)) }
 {
     match processes.get(process_number(program, name)) {
         Some(process) => process.state.taken_on(channel),
@@ -159,7 +168,8 @@ fn taken_by<'a>(
 
 // The line of a channel.
 fn write_channel<S: Sink>(out: &mut S, name: &[u8], sent: usize, taken: usize) -> Result<(), Failed>
-    ensures { Puts (line_of (name.now ∷ codes "sent" ∷ decimal sent ∷ codes "taken" ∷ decimal taken ∷ [])) (S.written out.old) (S.written out.new) (S.faults out.old) (S.faults out.new) result }
+    ensures { Puts (line_of (name.now ∷ codes "sent" ∷ decimal sent ∷ codes "taken" ∷ decimal taken ∷ []))
+        (S.written out.old) (S.written out.new) (S.faults out.old) (S.faults out.new) result }
 {
     let mut sent_buffer = Buffer::new();
     let mut taken_buffer = Buffer::new();

@@ -61,13 +61,16 @@ module _ (tree : Tree) (slots : List Slot) (c : Code) (code : IsCodeOf tree slot
   -- Its processes, with instructions that are counted by a test, and a table that is sound.
   pub spread_by : (f : Instr → Bool) (w : Weight) (table : Table) → ((x : ℕ) (e : Entry) → table x ≡ Some e → IsSoundAt c (groups_of tree) table x e)
       → ((instr : Instr) → IsPlain instr → f instr ≡ false)
-      → ((number : ℕ) (conversation : Option Identifier) (block : Block) → slice_get c.blocks number ≡ Some block → block.conversation ≡ conversation_of tree conversation
+      → ((number : ℕ) (conversation : Option Identifier) (block : Block) → slice_get c.blocks number ≡ Some block
+      → block.conversation ≡ conversation_of tree conversation
       → one_if (f (Enter number)) + (one_if (f (Start number)) + one_if (f (Test number))) ≡ w number conversation)
       → Spread c tree f w table 0 tree.processes c.processes places 0 (length c.instrs)
   unfolding places
   spread_by f w table sound plain weighs =
-      spread c tree slots f w table sound plain as_many_channels weighs (whole_entrances c tree slots code.stands.instrs_are) 0 tree.processes c.processes 0 (length c.instrs)
-      (λ i n e. let same : n ≡ i = omega (arith, e) in ap (slice_get tree.processes) same) code.resolved limits.processes code.spelled.processes code.alternates
+      spread c tree slots f w table sound plain as_many_channels weighs
+      (whole_entrances c tree slots code.stands.instrs_are) 0 tree.processes c.processes 0 (length c.instrs)
+      (λ i n e. let same : n ≡ i =
+      omega (arith, e) in ap (slice_get tree.processes) same) code.resolved limits.processes code.spelled.processes code.alternates
       is_nested.n5 code.stands.instrs_are
 
   -- a test that nothing passes
@@ -77,5 +80,6 @@ module _ (tree : Tree) (slots : List Slot) (c : Code) (code : IsCodeOf tree slot
   abbrev pub weightless : Weight
   weightless number conversation = 0
 
-  pub plain_spread : (table : Table) → HasTable c (groups_of tree) table → Spread c tree nothing weightless table 0 tree.processes c.processes places 0 (length c.instrs)
+  pub plain_spread : (table : Table) → HasTable c (groups_of tree) table
+      → Spread c tree nothing weightless table 0 tree.processes c.processes places 0 (length c.instrs)
   plain_spread table has = spread_by nothing weightless table has.each (λ instr plain. refl) (λ number conversation block at is. refl)

@@ -27,7 +27,8 @@ pub all_at_place : {A : Type 0} (P : A → Type 0) (xs : List A) (k : ℕ) (x : 
 all_at_place P xs k x all at = recursion_at P xs k x (recursion_from_All P xs all) at
 
 -- one that is mapped comes of one that is there
-pub mapped_from : {A B : Type 0} (g : A → B) (xs : List A) (k : ℕ) (y : B) → slice_get (map g xs) k ≡ Some y → (x : A) × (slice_get xs k ≡ Some x) × (g x ≡ y)
+pub mapped_from : {A B : Type 0} (g : A → B) (xs : List A) (k : ℕ) (y : B) → slice_get (map g xs) k ≡ Some y
+    → (x : A) × (slice_get xs k ≡ Some x) × (g x ≡ y)
 mapped_from g [] k y at = absurd (none_some at)
 mapped_from g (x ∷ xs) zero y at = (x, refl, some_same at)
 mapped_from g (x ∷ xs) (suc k) y at = mapped_from g xs k y at
@@ -64,7 +65,8 @@ module _ (f : Instr → Bool) (instrs : List Instr) where
           let below = h.3 in (h.0, h.1, h.2, omega arith, h.4, h.5)
 
       by : (o : Option Instr) → slice_get instrs q ≡ o → (b : Bool) → nat_eq p (suc q) ≡ b
-          → (p ≤ q → count_to f p instrs < count_to f q instrs → (x : ℕ) × (i : Instr) × (p ≤ x) × (x < q) × (slice_get instrs x ≡ Some i) × (f i ≡ true))
+          → (p ≤ q → count_to f p instrs < count_to f q instrs
+          → (x : ℕ) × (i : Instr) × (p ≤ x) × (x < q) × (slice_get instrs x ≡ Some i) × (f i ≡ true))
           → (x : ℕ) × (i : Instr) × (p ≤ x) × (x < suc q) × (slice_get instrs x ≡ Some i) × (f i ≡ true)
       by o at true e before =
           let same = ap (λ k. count_to f k instrs) (eqb-true p (suc q) e) in absurd (omega (arith, same, more))

@@ -66,7 +66,8 @@ module _ (c : Code) (tree : Tree) (s : Scene c tree) (plain : (instr : Instr) â†
   or_walked : (right : Template) â†’ Walks right â†’ Walks (OperatorCode op.Or right)
   or_walked right walks a b (other, (end, (p, test, (q, push, (r, jump, (u, at_other, (v, code, (x, bool, at_end)))))))) =
       let w = walks u v code in
-      let e0 = test.1 in let e1 = push.1 in let e2 = jump.1 in let e3 = at_other.1 in let o = w.laid.ordered in let e4 = bool.1 in let e5 = at_end.1 in
+      let e0 = test.1 in let e1 = push.1 in let e2 = jump.1 in let e3 = at_other.1 in let o = w.laid.ordered in let e4 =
+      bool.1 in let e5 = at_end.1 in
       let to_other = at_other.0 in let to_end = at_end.0 in
       record {
         laid =
@@ -102,8 +103,35 @@ module _ (c : Code) (tree : Tree) (s : Scene c tree) (plain : (instr : Instr) â†
 
   module _ (k : â„•) (few : k < 2) (low high body : Template) (lows : Walks low) (highs : Walks high) (bodies : Walks body) where
     every_walked : Walks (QuantifiedCode Every k low high body)
-    every_walked a b
-        (loop, (fails, (past, (end, (p, lc, (r, hc, (d, range, (first, at_loop, (d0, bc, (d1, test, (d2, again, (d3, at_yes, (d4, push1, (d5, jump, (d6, at_no, (d7, push0, at_end)))))))))))))))) =
+    every_walked a b (
+      loop,
+      (
+        fails,
+        (
+          past,
+          (
+            end,
+            (
+              p,
+              lc,
+              (
+                r,
+                hc,
+                (
+                  d,
+                  range,
+                  (
+                    first,
+                    at_loop,
+                    (d0, bc, (d1, test, (d2, again, (d3, at_yes, (d4, push1, (d5, jump, (d6, at_no, (d7, push0, at_end)))))))),
+                  ),
+                ),
+              ),
+            ),
+          ),
+        ),
+      ),
+    ) =
         let w = lows a p lc in let h = highs p r hc in let y = bodies first d0 bc in
         let o0 = w.laid.ordered in let o1 = h.laid.ordered in let o2 = y.laid.ordered in
         let e0 = range.1 in let e1 = at_loop.1 in let e2 = test.1 in let e3 = again.1 in let e4 = at_yes.1 in
@@ -140,8 +168,35 @@ module _ (c : Code) (tree : Tree) (s : Scene c tree) (plain : (instr : Instr) â†
         }
 
     some_walked : Walks (QuantifiedCode Any k low high body)
-    some_walked a b
-        (loop, (next, (fails, (end, (p, lc, (r, hc, (d, range, (first, at_loop, (d0, bc, (d1, test, (d2, push1, (d3, jump, (d4, at_next, (d5, again, (d6, at_no, (d7, push0, at_end)))))))))))))))) =
+    some_walked a b (
+      loop,
+      (
+        next,
+        (
+          fails,
+          (
+            end,
+            (
+              p,
+              lc,
+              (
+                r,
+                hc,
+                (
+                  d,
+                  range,
+                  (
+                    first,
+                    at_loop,
+                    (d0, bc, (d1, test, (d2, push1, (d3, jump, (d4, at_next, (d5, again, (d6, at_no, (d7, push0, at_end)))))))),
+                  ),
+                ),
+              ),
+            ),
+          ),
+        ),
+      ),
+    ) =
         let w = lows a p lc in let h = highs p r hc in let y = bodies first d0 bc in
         let o0 = w.laid.ordered in let o1 = h.laid.ordered in let o2 = y.laid.ordered in
         let e0 = range.1 in let e1 = at_loop.1 in let e2 = test.1 in let e3 = push1.1 in let e4 = jump.1 in
@@ -221,12 +276,14 @@ module _ (c : Code) (tree : Tree) (s : Scene c tree) (plain : (instr : Instr) â†
           scalar_walked (counter_of slots name.id) (spot_of slots name.id) a b code
       expression_walked frames (Variable (Refer name (Element index))) names a b (m, code, (r, bound, one)) =
           then_one c tree s plain a r b (LoadAt (spot_of slots name.id))
-          (then_one c tree s plain a m r (Bound (elements_of slots name.id)) (expression_walked frames index names.1 a m code) bound tt tt tt) one tt tt tt
+          (then_one c tree s plain a m r (Bound (elements_of slots name.id))
+          (expression_walked frames index names.1 a m code) bound tt tt tt) one tt tt tt
       expression_walked frames (Former place (Refer name Scalar)) names a b one =
           walked_one c tree s plain a b (Prior (spot_of slots name.id)) one tt tt tt
       expression_walked frames (Former place (Refer name (Element index))) names a b (m, code, (r, bound, one)) =
           then_one c tree s plain a r b (PriorAt (spot_of slots name.id))
-          (then_one c tree s plain a m r (Bound (elements_of slots name.id)) (expression_walked frames index names.1.1 a m code) bound tt tt tt) one tt tt tt
+          (then_one c tree s plain a m r (Bound (elements_of slots name.id))
+          (expression_walked frames index names.1.1 a m code) bound tt tt tt) one tt tt tt
       expression_walked frames (Minus operand) names a b (m, code, one) =
           then_one c tree s plain a m b Neg (expression_walked frames operand names a m code) one tt tt tt
       expression_walked frames (Negation operand) names a b (m, code, one) =

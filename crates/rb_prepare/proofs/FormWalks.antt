@@ -64,7 +64,8 @@ module _ (c : Code) (tree : Tree) (s : Scene c tree) (plain : (instr : Instr) �
       (fails, (end, (m, turn, (r, judged, (q, zero_test, (d, code, (u, jump, (v, at_no, (x, else_code, at_end))))))))) =
       let t = tests m r judged in let y = bodies q d code in let z = others v x else_code in
       let o0 = t.laid.ordered in let o1 = y.laid.ordered in let o2 = z.laid.ordered in
-      let e0 = turn.1 in let e1 = zero_test.1 in let e2 = jump.1 in let e3 = at_no.1 in let e4 = at_end.1 in let to_no = at_no.0 in let to_end = at_end.0 in
+      let e0 = turn.1 in let e1 = zero_test.1 in let e2 = jump.1 in let e3 = at_no.1 in let e4 = at_end.1 in let to_no =
+      at_no.0 in let to_end = at_end.0 in
       record {
         laid =
             part_before a b (n + k) a m b (one' a b a m Turn turn tt tt)
@@ -96,7 +97,8 @@ module _ (c : Code) (tree : Tree) (s : Scene c tree) (plain : (instr : Instr) �
             (part_before a b n m r b (part c tree s a b 0 m r (omega arith) (omega arith) t)
             (part_before a b n r q b (one' a b r q (JumpZero end) zero_test (omega arith, omega arith) tt)
             (part_behind a b n q d b (part c tree s a b n q d (omega arith) (omega arith) y)
-            (part_flat c tree s plain a b d u b (one' a b d u (Jump loop) jump (omega arith, omega arith) tt) (nothing c tree s plain a b u b e3))))));
+            (part_flat c tree s plain a b d u b (one' a b d u (Jump loop) jump (omega arith, omega arith) tt)
+            (nothing c tree s plain a b u b e3))))));
         reached = λ first.
             let begun = moved_to c tree s plain a a0 e first in
             let all0 = t.reached (goes_on c tree s a0 m Turn turn tt begun) in
@@ -119,7 +121,8 @@ module _ (c : Code) (tree : Tree) (s : Scene c tree) (plain : (instr : Instr) �
       (none, (end, (m, turn, (r, absent, (q, code, (u, jump, (v, at_none, (x, else_code, at_end)))))))) =
       let t = takes r q code in let z = others v x else_code in
       let o0 = t.laid.ordered in let o1 = z.laid.ordered in
-      let e0 = turn.1 in let e1 = absent.1 in let e2 = jump.1 in let e3 = at_none.1 in let e4 = at_end.1 in let to_none = at_none.0 in let to_end = at_end.0 in
+      let e0 = turn.1 in let e1 = absent.1 in let e2 = jump.1 in let e3 = at_none.1 in let e4 = at_end.1 in let to_none =
+      at_none.0 in let to_end = at_end.0 in
       record {
         laid =
             part_before a b n a m b (one' a b a m Turn turn tt tt)
@@ -186,8 +189,12 @@ module _ (c : Code) (tree : Tree) (s : Scene c tree) (plain : (instr : Instr) �
       subst (λ xs. Alternatives (n + k) p q (i + 1) xs (Reached c tree s p)) (sym is) record {
         laid =
             part_before p q (n + k) p d q (one' p q p d (Jump test) jump (omega arith, omega arith) tt)
-            (part_then c tree s p q n k d m q (part c tree s p q n d m (omega arith) o1 body) (wider c tree s m q p q k m q (omega arith) (omega arith) others.laid));
-        inside = ((omega arith, omega arith), each_weaker (Inside m q) (Inside p q) (inside_more m q p q (omega arith) (omega arith)) more others.inside);
+            (part_then c tree s p q n k d m q (part c tree s p q n d m (omega arith) o1 body)
+            (wider c tree s m q p q k m q (omega arith) (omega arith) others.laid));
+        inside = (
+          (omega arith, omega arith),
+          each_weaker (Inside m q) (Inside p q) (inside_more m q p q (omega arith) (omega arith)) more others.inside,
+        );
         many = omega (arith, others.many);
         reached = λ first all.
             let there = body.reached all.0 in
@@ -203,11 +210,19 @@ module _ (c : Code) (tree : Tree) (s : Scene c tree) (plain : (instr : Instr) �
       → Inside p q block.restart → Inside p q block.test → Each block.alternates (Inside p q) → BlockLies tree p q block)
       → ((addresses : List ℕ) (to p q : ℕ) → to ≡ q → alternates addresses to c p q → Alternatives n p q k addresses (1 ≤ k))
       → Walks c tree s plain test → WalksBy (w + n) (RecoveryCode number Tells alternates test)
-  recovery_walked number n k w Tells alternates test some weighs lies alternative_walks tests a b
-      (block, at, (a0, tells, (p, turn, (q, enter, (r, at_restart, (u, turn2, (v, start, (x, codes, (y, at_test, (z, turn3, (d, judged, accepts))))))))))) =
+  recovery_walked number n k w Tells alternates test some weighs lies alternative_walks tests a b (
+    block,
+    at,
+    (
+      a0,
+      tells,
+      (p, turn, (q, enter, (r, at_restart, (u, turn2, (v, start, (x, codes, (y, at_test, (z, turn3, (d, judged, accepts))))))))),
+    ),
+  ) =
       let all = alternative_walks block.alternates block.test v x (sym at_test.0) codes in
       let t = tests z d judged in
-      let here = tells.1 in let e0 = turn.1 in let e1 = enter.1 in let e2 = at_restart.1 in let e3 = turn2.1 in let e4 = start.1 in let e5 = at_test.1 in
+      let here = tells.1 in let e0 = turn.1 in let e1 = enter.1 in let e2 = at_restart.1 in let e3 = turn2.1 in let e4 =
+      start.1 in let e5 = at_test.1 in
       let e6 = turn3.1 in let e7 = accepts.1 in let o0 = all.laid.ordered in let o1 = t.laid.ordered in
       let restart_at = at_restart.0 in let test_at = at_test.0 in
       let block_lies : BlockLies tree a b block =
@@ -219,10 +234,12 @@ module _ (c : Code) (tree : Tree) (s : Scene c tree) (plain : (instr : Instr) �
             part_as c tree s a b (i + (j + (n + l))) (w + n) a b (omega (arith, weighs block at tells.0))
             (part_before a b (i + (j + (n + l))) a a0 b (nothing c tree s plain a b a a0 here)
             (part_before a b (i + (j + (n + l))) a0 p b (one' a b a0 p Turn turn tt tt)
-            (part_then c tree s a b i (j + (n + l)) p q b (laid_one c tree s.within.process s.counts a b i p q (Enter number) enter (block, at, block_lies) refl)
+            (part_then c tree s a b i (j + (n + l)) p q b
+            (laid_one c tree s.within.process s.counts a b i p q (Enter number) enter (block, at, block_lies) refl)
             (part_before a b (j + (n + l)) q r b (nothing c tree s plain a b q r e2)
             (part_before a b (j + (n + l)) r u b (one' a b r u Turn turn2 tt tt)
-            (part_then c tree s a b j (n + l) u v b (laid_one c tree s.within.process s.counts a b j u v (Start number) start (block, at, block_lies) refl)
+            (part_then c tree s a b j (n + l) u v b
+            (laid_one c tree s.within.process s.counts a b j u v (Start number) start (block, at, block_lies) refl)
             (part_then c tree s a b n l v x b (wider c tree s v x a b n v x (omega arith) (omega arith) all.laid)
             (part_before a b l x y b (nothing c tree s plain a b x y e5)
             (part_before a b l y z b (one' a b y z Turn turn3 tt tt)
@@ -238,8 +255,10 @@ module _ (c : Code) (tree : Tree) (s : Scene c tree) (plain : (instr : Instr) �
             let r4 = moved_to c tree s plain x y e5 (within x o0 (omega arith)) in
             let judging = t.reached (goes_on c tree s y z Turn turn3 tt r4) in
             let r5 = judging d o1 (omega arith) in
-            and_on c tree s plain a a0 b (omega arith) first (and_on c tree s plain a0 p b (omega arith) r0 (and_on c tree s plain p r b (omega arith) r1
+            and_on c tree s plain a a0 b (omega arith) first
+            (and_on c tree s plain a0 p b (omega arith) r0 (and_on c tree s plain p r b (omega arith) r1
             (and_on c tree s plain r u b (omega arith) r2 (and_on c tree s plain u v b (omega arith) r3 (up_to c tree s v x y b (omega arith) within
             (and_on c tree s plain y z b (omega arith) r4 (up_to c tree s z d d b (omega arith) judging
-            (and_on c tree s plain d b b (omega arith) r5 (at_last c tree s plain b b refl (goes_on c tree s d b (Test number) accepts tt r5))))))))));
+            (and_on c tree s plain d b b (omega arith) r5
+            (at_last c tree s plain b b refl (goes_on c tree s d b (Test number) accepts tt r5))))))))));
       }

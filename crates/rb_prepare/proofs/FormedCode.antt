@@ -214,7 +214,8 @@ module _ (tree : Tree) (slots : List Slot) (c : Code) (code : IsCodeOf tree slot
       let within = slice_get_within c.processes p part at in
       let many = many_processes in
       let process = slice_get-there tree.processes p (omega arith) in
-      let place = place_of c tree none_counted no_weight table 0 tree.processes c.processes ends 0 (length c.instrs) spread p p process.0 (omega arith) process.1 in
+      let place = place_of c tree none_counted no_weight table 0 tree.processes c.processes ends 0
+      (length c.instrs) spread p p process.0 (omega arith) process.1 in
       let same : place.part ≡ part = some_same (sym place.listed ∙ at) in
       let rows = place.rows in let up = rows.upward in let below' = rows.below in let high' = place.high in
       let few = (all_at_place (ProcessWithin tree.edition) tree.processes p process.0 (limits tree slots c code).processes process.1).words in
@@ -234,10 +235,13 @@ module _ (tree : Tree) (slots : List Slot) (c : Code) (code : IsCodeOf tree slot
       let there = ap (λ cs. slice_get cs k) (sym code.stands.channels_are) ∙ at in
       let from = mapped_from (ends_of tree) tree.channels k ends there in
       let known = all_at_place (ChannelInFrames tree slots) tree.channels k from.0 code.resolved.channels from.1 in
-      let size = all_at_place (λ (one : ChannelDeclaration). IsFrom1To most_channel_size one.size) tree.channels k from.0 (limits tree slots c code).channel_sizes from.1 in
+      let size = all_at_place (λ (one : ChannelDeclaration). IsFrom1To most_channel_size one.size) tree.channels k from.0
+      (limits tree slots c code).channel_sizes from.1 in
       let twelfth = passes_at keeps_n12 (channels_of tree) k ends (is_nested tree slots c code).n12 there in
       let sender = known.sender.there in let receiver = known.receiver.there in let many = many_processes in
-      let known_ends = subst (λ (e : ChannelEnds). (e.sender < length c.processes) × (e.receiver < length c.processes) × (1 ≤ e.size) × (e.size ≤ most_channel_size)) from.2
+      let known_ends =
+      subst (λ (e : ChannelEnds). (e.sender < length c.processes) × (e.receiver < length c.processes) × (1 ≤ e.size)
+      × (e.size ≤ most_channel_size)) from.2
       (omega arith, omega arith, size.some, size.few) in record {
         sender = known_ends.0;
         receiver = known_ends.1;
@@ -291,5 +295,6 @@ module _ (tree : Tree) (slots : List Slot) (c : Code) (code : IsCodeOf tree slot
     chains = λ d below.
         let there = slice_get-there tree.conversations d (omega (arith, below, length-map tree.conversations (membership_of tree))) in
         (conversation_formed d there.0 there.1).1;
-    alternates = λ b other d one another at there is are. some_same (sym (alternates_known b d one at is) ∙ alternates_known other d another there are);
+    alternates =
+        λ b other d one another at there is are. some_same (sym (alternates_known b d one at is) ∙ alternates_known other d another there are);
   }

@@ -106,7 +106,8 @@ module _ (tree : Tree) where
       there true named later e = subst (λ (d : Declared). IsTold d × (d.name.text ≡ x)) (some_same e) (told.0, same_text first.name.text x named)
       there false named later e = later e
 
-  means_it : (x : List ℕ) (scopes : List (List Declared)) (one : Declared) → AllTold scopes → meaning_of x scopes ≡ Some one → IsTold one × (one.name.text ≡ x)
+  means_it : (x : List ℕ) (scopes : List (List Declared)) (one : Declared) → AllTold scopes → meaning_of x scopes ≡ Some one
+      → IsTold one × (one.name.text ≡ x)
   means_it x [] one told e = absurd (none_some e)
   means_it x (scope ∷ around) one told e = by (declared_in x scope) refl (means_it x around one told.1) e
     where
@@ -180,13 +181,16 @@ module _ (tree : Tree) where
     commands_named spot at NoCommand told kept = tt
     commands_named spot at (Then first rest) told kept =
         let parts = all_split IsKept _ _ kept in
-        all_append IsNamedUse (uses_in_command at first) (uses_in at rest) (command_named spot at first told parts.0) (commands_named spot at rest told parts.1)
+        all_append IsNamedUse (uses_in_command at first) (uses_in at rest) (command_named spot at first told parts.0)
+        (commands_named spot at rest told parts.1)
 
-    body_named : (spot : Spot) (at : UseSpot) (body : Body) → AllTold spot.scopes → AreKept (body_sites spot body) → AreNamedUses (uses_in_body at body)
+    body_named : (spot : Spot) (at : UseSpot) (body : Body) → AllTold spot.scopes → AreKept (body_sites spot body)
+        → AreNamedUses (uses_in_body at body)
     body_named spot at (Scope variables commands) told kept =
         let parts = all_split IsKept (scope_sites [] (variables_from Local spot.taken variables)) _ kept in
         let rest = all_split IsKept _ _ parts.1 in
-        commands_named (within (variables_from Local spot.taken variables) (words_in variables) spot) at commands (locals_told spot.taken variables, told) rest.1
+        commands_named (within (variables_from Local spot.taken variables) (words_in variables) spot) at commands
+        (locals_told spot.taken variables, told) rest.1
 
     otherwise_named : (spot : Spot) (at : UseSpot) (otherwise : Otherwise) → AllTold spot.scopes → AreKept (otherwise_sites spot otherwise)
         → AreNamedUses (uses_in_otherwise at otherwise)
@@ -232,7 +236,8 @@ module _ (tree : Tree) where
       → AreNamedUses (uses_in_processes q processes)
   processes_named q [] kept = tt
   processes_named q (one ∷ others) kept =
-      let all = all_split IsKept (process_sites tree.edition (in_program tree) one) (flat_map (process_sites tree.edition (in_program tree)) others) kept in
+      let all = all_split IsKept (process_sites tree.edition (in_program tree) one)
+      (flat_map (process_sites tree.edition (in_program tree)) others) kept in
       let parts = process_parts IsKept tree.edition (in_program tree) one all.0 in
       let spot = within_process one (in_program tree) in
       let told : AllTold spot.scopes = (
@@ -245,7 +250,8 @@ module _ (tree : Tree) where
       (all_append IsNamedUse (uses_in (outside q false) one.commands) (uses_in_processes (q + 1) others)
       (commands_named spot (outside q false) one.commands told parts.commands) (processes_named (q + 1) others all.1))
 
-  members_named : (names : List Identifier) → AreKept (member_sites (in_program tree) names) → AllByRecursion (λ (name : Identifier). NamesProcess tree name.text) names
+  members_named : (names : List Identifier) → AreKept (member_sites (in_program tree) names)
+      → AllByRecursion (λ (name : Identifier). NamesProcess tree name.text) names
   members_named [] kept = tt
   members_named (name ∷ names) kept = (process_found name (program_scope tree ∷ []) (program_told, tt) kept.0, members_named names kept.1)
 

@@ -31,7 +31,8 @@ use Rattle.rb_prepare.proofs.NestingKept.{IsOrderly, number_named, number_of}
 use Rattle.rb_prepare.proofs.PlacedUses.{ChainedBy, IsChained, chain_more, same_conversation}
 
 -- where all of a list have no fault, each has none
-pub none_at : {A : Type 0} (faults : A → List SourceFault) (all : List A) (i : ℕ) (x : A) → flat_map faults all ≡ [] → slice_get all i ≡ Some x → faults x ≡ []
+pub none_at : {A : Type 0} (faults : A → List SourceFault) (all : List A) (i : ℕ) (x : A) → flat_map faults all ≡ []
+    → slice_get all i ≡ Some x → faults x ≡ []
 none_at faults [] i x e at = absurd (none_some at)
 none_at faults (y ∷ all) zero x e at = subst (λ z. faults z ≡ []) (some_same at) (left_empty (faults y) (flat_map faults all) e)
 none_at faults (y ∷ all) (suc i) x e at = none_at faults all i x (right_empty (faults y) (flat_map faults all) e) at
@@ -54,7 +55,8 @@ pub record JoinsIn (p : ℕ) (x : List ℕ) (one : Use) : Type 0 where
   pub process : one.spot.process ≡ p
   pub text : one.name.text ≡ x
 
-joins_by : (p : ℕ) (x : List ℕ) (name : Identifier) (deed : Deed) (spot : Spot) → joins_in p x (record { name = name; deed = deed; spot = spot }) ≡ true
+joins_by : (p : ℕ) (x : List ℕ) (name : Identifier) (deed : Deed) (spot : Spot)
+    → joins_in p x (record { name = name; deed = deed; spot = spot }) ≡ true
     → JoinsIn p x (record { name = name; deed = deed; spot = spot })
 joins_by p x name (Joins n) spot e =
     let parts = and_parts (nat_eq spot.process p) (same_name name.text x) e in
@@ -96,7 +98,8 @@ module _ (tree : Tree) where
   abbrev pub AreJoined : List ℕ → List Identifier → Type 0
   AreJoined x names = AllByRecursion (λ (name : Identifier). list_any (joins_in (number name) x) (uses_of tree) ≡ true) names
 
-  broken_not : (b : Bool) (name : FaultName) (place : Place) (faults : List SourceFault) → cond b (where_broken true name place) faults ≡ [] → (b ≡ false) × (faults ≡ [])
+  broken_not : (b : Bool) (name : FaultName) (place : Place) (faults : List SourceFault)
+      → cond b (where_broken true name place) faults ≡ [] → (b ≡ false) × (faults ≡ [])
   broken_not true name place faults e = absurd (cc)
   broken_not false name place faults e = (refl, e)
 
@@ -117,13 +120,15 @@ module _ (tree : Tree) where
     pub differ : Differ names
     pub joined : AreJoined x names
 
-  put_first : (name : Identifier) (names earlier : List Identifier) → AllByRecursion (λ (other : Identifier). same_name other.text name.text ≡ false) earlier
+  put_first : (name : Identifier) (names earlier : List Identifier)
+      → AllByRecursion (λ (other : Identifier). same_name other.text name.text ≡ false) earlier
       → AllByRecursion (λ (other : Identifier). AllByRecursion (λ (each : Identifier). same_name other.text each.text ≡ false) names) earlier
       → AllByRecursion (λ (other : Identifier). AllByRecursion (λ (each : Identifier). same_name other.text each.text ≡ false) (name ∷ names)) earlier
   put_first name names [] p q = tt
   put_first name names (other ∷ earlier) p q = ((p.0, q.0), put_first name names earlier p.1 q.1)
 
-  all_nothing : (earlier : List Identifier) → AllByRecursion (λ (other : Identifier). AllByRecursion (λ (each : Identifier). same_name other.text each.text ≡ false) []) earlier
+  all_nothing : (earlier : List Identifier)
+      → AllByRecursion (λ (other : Identifier). AllByRecursion (λ (each : Identifier). same_name other.text each.text ≡ false) []) earlier
   all_nothing [] = tt
   all_nothing (other ∷ earlier) = (tt, all_nothing earlier)
 
@@ -133,7 +138,8 @@ module _ (tree : Tree) where
       let again = list_any (λ (other : Identifier). same_name other.text name.text) earlier in
       let joins = list_any (joins_in (number name) x) (uses_of tree) in
       let first = cond again (where_broken true N11 name.place) (where_broken (not joins) N6 name.place) in
-      let here = broken_not again N11 name.place (where_broken (not joins) N6 name.place) (left_empty first (members_faults tree x (name ∷ earlier) names) e) in
+      let here = broken_not again N11 name.place (where_broken (not joins) N6 name.place)
+      (left_empty first (members_faults tree x (name ∷ earlier) names) e) in
       let rest = names_kept x (name ∷ earlier) names (right_empty first (members_faults tree x (name ∷ earlier) names) e) in
       record {
         apart = put_first name names earlier (none_same name earlier here.0) rest.apart.1;
@@ -164,7 +170,8 @@ module _ (tree : Tree) where
     row_differs one [] p named h = tt
     row_differs one (other ∷ names) p named h = (numbers_differ one other p named.0 h.0, row_differs one names p named.1 h.1)
 
-    members_differ : (names : List Identifier) → AreNamed names → Differ names → IsDistinct nat_eq (map (λ (name : Identifier). process_number tree name.text) names)
+    members_differ : (names : List Identifier) → AreNamed names → Differ names
+        → IsDistinct nat_eq (map (λ (name : Identifier). process_number tree name.text) names)
     unfolding IsDistinct
     members_differ [] named h = tt
     members_differ (name ∷ names) named h = (row_differs name names named.0 named.1 h.0, members_differ names named.1 h.1)
@@ -197,7 +204,8 @@ module _ (tree : Tree) where
     chain_so deed n name around is h = subst (λ e. ChainedBy tree e name around) is h
 
     -- the members of a conversation are among those of its parent
-    among_parent : (d : ℕ) (members : List ℕ) (inner : Option Identifier) → conversation_of tree inner ≡ Some d → are_among members (members_around tree inner) ≡ true
+    among_parent : (d : ℕ) (members : List ℕ) (inner : Option Identifier) → conversation_of tree inner ≡ Some d
+        → are_among members (members_around tree inner) ≡ true
         → list_all (λ m. is_member m (members_in tree d)) members ≡ true
     among_parent d members None is h = absurd (none_some is)
     among_parent d members (Some name) is h = subst (λ k. list_all (λ m. is_member m (members_in tree k)) members ≡ true) (some_same is) h
@@ -221,9 +229,11 @@ module _ (tree : Tree) where
       record {
         two = omega (arith, two, length-map conversation.members (λ (name : Identifier). process_number tree name.text));
         differ = members_differ conversation.members named kept.differ;
-        processes = All-from_recursion (λ (m : ℕ). m < length c.processes) group.members (members_there (length c.processes) conversation.members many named);
+        processes = All-from_recursion (λ (m : ℕ). m < length c.processes) group.members
+            (members_there (length c.processes) conversation.members many named);
         parent = λ d is.
-            around_by group.members (slice_get (groups_of tree) d) (omega (arith, two, length-map conversation.members (λ (name : Identifier). process_number tree name.text)))
+            around_by group.members (slice_get (groups_of tree) d)
+            (omega (arith, two, length-map conversation.members (λ (name : Identifier). process_number tree name.text)))
             (among_parent d group.members (innermost one.spot.around) (fourth ∙ is) third);
       },
       subst (λ k. IsChain (groups_of tree) most_nested (Some k)) number_is
@@ -240,11 +250,13 @@ module _ (tree : Tree) where
         two : 2 ≤ length conversation.members
         two = ltb-false (length conversation.members) 2
             (unbroken broken N11 conversation.name.place
-            (left_empty (where_broken broken N11 conversation.name.place) (members_faults tree conversation.name.text [] conversation.members) faults))
+            (left_empty (where_broken broken N11 conversation.name.place)
+            (members_faults tree conversation.name.text [] conversation.members) faults))
 
         kept : NamesKept conversation.name.text [] conversation.members
         kept = names_kept conversation.name.text [] conversation.members
-            (right_empty (where_broken broken N11 conversation.name.place) (members_faults tree conversation.name.text [] conversation.members) faults)
+            (right_empty (where_broken broken N11 conversation.name.place)
+            (members_faults tree conversation.name.text [] conversation.members) faults)
 
         found : (one : Use) × IsKnown one × (p : ℕ) × JoinsIn p conversation.name.text one
         found = some_joins conversation.name.text conversation.members two known kept.joined
@@ -263,9 +275,11 @@ module _ (tree : Tree) where
 
         fourth : conversation_of tree (innermost found.0.spot.around) ≡ group.parent
         fourth =
-            same_conversation (conversation_of tree (innermost found.0.spot.around)) (parent_of (slice_get (groups_of tree) (conversation_number tree found.0.name.text)))
+            same_conversation (conversation_of tree (innermost found.0.spot.around))
+            (parent_of (slice_get (groups_of tree) (conversation_number tree found.0.name.text)))
             (if_joins_so found.0.deed joins.alternates
-            (is_same_conversation (conversation_of tree (innermost found.0.spot.around)) (parent_of (slice_get (groups_of tree) (conversation_number tree found.0.name.text))))
+            (is_same_conversation (conversation_of tree (innermost found.0.spot.around))
+            (parent_of (slice_get (groups_of tree) (conversation_number tree found.0.name.text))))
             joins.deed found.1.0.n4)
             ∙ ap parent_of here
 
@@ -273,7 +287,8 @@ module _ (tree : Tree) where
         third =
             subst (λ g. are_among (members_of g) (members_around tree (innermost found.0.spot.around)) ≡ true) here
             (if_joins_so found.0.deed joins.alternates
-            (are_among (members_in tree (conversation_number tree found.0.name.text)) (members_around tree (innermost found.0.spot.around))) joins.deed found.1.0.n3)
+            (are_among (members_in tree (conversation_number tree found.0.name.text))
+            (members_around tree (innermost found.0.spot.around))) joins.deed found.1.0.n3)
 
         few : conversations_around found.0.spot.around + 1 ≤ most_nested
         few =

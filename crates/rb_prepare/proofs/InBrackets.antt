@@ -136,7 +136,8 @@ bounded (processes_row d e) = both (bounded d) (bounded e)
 bounded no_process_row = nothing
 bounded (more_processes_row d e) = both (bounded d) (bounded e)
 bounded (process_row t n u d e f v) =
-    behind (then (past t refl) (past_name n)) (inside (opens u refl) (behind (bounded d) (both (bounded e) (bounded f))) (closes v refl) (omega arith))
+    behind (then (past t refl) (past_name n))
+    (inside (opens u refl) (behind (bounded d) (both (bounded e) (bounded f))) (closes v refl) (omega arith))
 bounded no_procedure_row = nothing
 bounded (procedures_row d e) = both (bounded d) (bounded e)
 bounded (procedure_row t n u d v e) =

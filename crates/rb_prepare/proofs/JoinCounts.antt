@@ -49,16 +49,19 @@ module _ (tree : Tree) (d : ℕ) where
         ∙ ap (λ b. cond (b && number) 1 0 + 0) (eq-eqb spot.process q e) ∙ omega arith
 
     mutual
-      command_joins : (spot : Spot) (command : Command) → spot.process ≡ q → count_joins (uses_in_command spot command) ≡ weight_in_command joins_it command
+      command_joins : (spot : Spot) (command : Command) → spot.process ≡ q
+          → count_joins (uses_in_command spot command) ≡ weight_in_command joins_it command
       command_joins spot (Assignment to value) e = refl
       command_joins spot (Printing items) e = refl
       command_joins spot (Sending channel value) e =
           sum_by-cons (λ (each : Use). cond (is_join each) 1 0) (record { name = channel; deed = Sends; spot = spot }) []
       command_joins spot (Receiving channel to otherwise) e =
-          sum_by-cons (λ (each : Use). cond (is_join each) 1 0) (record { name = channel; deed = Receives; spot = spot }) (uses_in_otherwise spot otherwise)
+          sum_by-cons (λ (each : Use). cond (is_join each) 1 0) (record { name = channel; deed = Receives; spot = spot })
+          (uses_in_otherwise spot otherwise)
           ∙ ap (λ n. 0 + n) (otherwise_joins spot otherwise e) ∙ omega arith
       command_joins spot (Conditional test body otherwise) e =
-          two_parts (uses_in_body spot body) (uses_in_otherwise spot otherwise) (weight_in_body joins_it body) (weight_in_otherwise joins_it otherwise)
+          two_parts (uses_in_body spot body) (uses_in_otherwise spot otherwise) (weight_in_body joins_it body)
+          (weight_in_otherwise joins_it otherwise)
           (body_joins spot body e) (otherwise_joins spot otherwise e)
       command_joins spot (Loop test body) e = body_joins spot body e
       command_joins spot (Invocation procedure arguments) e = refl
@@ -79,7 +82,8 @@ module _ (tree : Tree) (d : ℕ) where
       otherwise_joins spot NoElse e = refl
       otherwise_joins spot (Else body) e = body_joins spot body e
 
-      block_joins : (spot : Spot) (block : RecoveryBlock) → spot.process ≡ q → count_joins (uses_in_block spot block) ≡ weight_in_recovery joins_it block
+      block_joins : (spot : Spot) (block : RecoveryBlock) → spot.process ≡ q
+          → count_joins (uses_in_block spot block) ≡ weight_in_recovery joins_it block
       block_joins spot (Recovers number None place test bound alternates) e =
           two_parts [] (uses_in_alternates (inside None spot) alternates) 0 (weight_in_alternates joins_it alternates) refl
           (alternates_joins (inside None spot) alternates e)
@@ -101,7 +105,8 @@ module _ (tree : Tree) (d : ℕ) where
     procedure_joins : (body : Body) → count_joins (uses_in_body (outside q true) body) ≡ weight_in joins_it (commands_of body)
     procedure_joins (Scope variables commands) = commands_joins (outside q true) commands refl
 
-    pub procedures_joins : (procedures : List ProcedureDeclaration) → count_joins (uses_in_procedures q procedures) ≡ weight_in_procedures joins_it procedures
+    pub procedures_joins : (procedures : List ProcedureDeclaration)
+        → count_joins (uses_in_procedures q procedures) ≡ weight_in_procedures joins_it procedures
     procedures_joins [] = refl
     procedures_joins (one ∷ others) =
         two_parts (uses_in_body (outside q true) one.body) (uses_in_procedures q others) (weight_in joins_it (commands_of one.body))

@@ -26,7 +26,8 @@ any_split : (test : Use → Bool) (xs ys : List Use) → list_any test (xs ++ ys
 any_split test [] ys e = inr e
 any_split test (x ∷ xs) ys e = by (test x) (any_split test xs ys) e
   where
-    by : (b : Bool) → (list_any test (xs ++ ys) ≡ true → (list_any test xs ≡ true) ⊎ (list_any test ys ≡ true)) → (b || list_any test (xs ++ ys)) ≡ true
+    by : (b : Bool) → (list_any test (xs ++ ys) ≡ true → (list_any test xs ≡ true) ⊎ (list_any test ys ≡ true))
+        → (b || list_any test (xs ++ ys)) ≡ true
         → ((b || list_any test xs) ≡ true) ⊎ (list_any test ys ≡ true)
     by true later e = inl refl
     by false later e = later e
@@ -52,7 +53,8 @@ module _ (tree : Tree) (m : ℕ) (x : List ℕ) where
   later q one others (i, process, at, is, joins) = (suc i, process, at, omega (arith, is), joins)
 
   -- none joins in a procedure
-  none_there : (q : ℕ) (uses : List Use) → AllByRecursion (IsPlaced tree q true) uses → AllByRecursion (IsOrderly tree) uses → list_any test uses ≡ true → ⊥
+  none_there : (q : ℕ) (uses : List Use) → AllByRecursion (IsPlaced tree q true) uses → AllByRecursion (IsOrderly tree) uses
+      → list_any test uses ≡ true → ⊥
   none_there q uses placed orderly e =
       let Both : Use → Type 0 = λ one. IsPlaced tree q true one × IsOrderly tree one in
       let found = any_found Both test uses (all_both (IsPlaced tree q true) (IsOrderly tree) uses placed orderly) e in
@@ -80,7 +82,8 @@ module _ (tree : Tree) (m : ℕ) (x : List ℕ) where
       let behind = all_split (IsOrderly tree) main rest parts.1 in
       let fourth' = fourth_second tree procedures (main ++ rest) fourth in
       elim (any_split test procedures (main ++ rest) e) [
-        | inl h ↦ absurd (none_there q procedures (procedures_placed tree q one.procedures (fourth_first tree procedures (main ++ rest) fourth)) parts.0 h)
+        | inl h ↦ absurd
+            (none_there q procedures (procedures_placed tree q one.procedures (fourth_first tree procedures (main ++ rest) fourth)) parts.0 h)
         | inr h ↦ elim (any_split test main rest h) [
           | inl k ↦ here q one others (main_is q main (main_placed tree q one.commands (fourth_first tree main rest fourth')) k) k
           | inr k ↦ later q one others (located (q + 1) others (fourth_second tree main rest fourth') behind.1 k)
@@ -104,11 +107,13 @@ pub plain_enters : (c : Code) (d : ℕ) (instr : Instr) → IsPlain instr → en
 plain_enters c d (Enter b) h = absurd h
 plain_enters c d other h = refl
 
-pub entered : (c : Code) (d : ℕ) (instr : Instr) → enters c d instr ≡ true → (b : ℕ) × (instr ≡ Enter b) × (is_number (conversation_of (slice_get c.blocks b)) d ≡ true)
+pub entered : (c : Code) (d : ℕ) (instr : Instr) → enters c d instr ≡ true
+    → (b : ℕ) × (instr ≡ Enter b) × (is_number (conversation_of (slice_get c.blocks b)) d ≡ true)
 entered c d (Enter b) e = (b, refl, e)
 entered c d other e = absurd (true≢false (sym e))
 
-pub block_of : (d : ℕ) (o : Option Block) → is_number (conversation_of o) d ≡ true → (block : Block) × (o ≡ Some block) × (block.conversation ≡ Some d)
+pub block_of : (d : ℕ) (o : Option Block) → is_number (conversation_of o) d ≡ true
+    → (block : Block) × (o ≡ Some block) × (block.conversation ≡ Some d)
 block_of d None e = absurd (true≢false (sym e))
 block_of d (Some block) e = by block.conversation refl e
   where
@@ -138,7 +143,8 @@ module _ (tree : Tree) (d : ℕ) where
         both true b p q = q
         both false b p q = p
 
-    pub some_counted : (x : List ℕ) (uses : List Use) → conversation_number tree x ≡ d → list_any (joins_in m x) uses ≡ true → 1 ≤ count_joins tree d m uses
+    pub some_counted : (x : List ℕ) (uses : List Use) → conversation_number tree x ≡ d → list_any (joins_in m x) uses ≡ true
+        → 1 ≤ count_joins tree d m uses
     some_counted x [] number e = absurd (true≢false (sym e))
     some_counted x (one ∷ uses) number e =
         by (joins_in m x one) refl (some_counted x uses number) e
@@ -152,7 +158,8 @@ module _ (tree : Tree) (d : ℕ) where
         by false f later g = omega (arith, sum, later g)
 
     -- a process has no more than all
-    pub part_counted : (q i : ℕ) (processes : List ProcessDeclaration) (process : ProcessDeclaration) → slice_get processes i ≡ Some process → q + i ≡ m
+    pub part_counted : (q i : ℕ) (processes : List ProcessDeclaration) (process : ProcessDeclaration)
+        → slice_get processes i ≡ Some process → q + i ≡ m
         → count_joins tree d m (uses_in_procedures m process.procedures) + count_joins tree d m (uses_in (outside m false) process.commands)
         ≤ count_joins tree d m (uses_in_processes q processes)
     part_counted q i [] process at e = absurd (none_some at)
@@ -161,7 +168,8 @@ module _ (tree : Tree) (d : ℕ) where
         let main = uses_in (outside q false) one.commands in
         let rest = uses_in_processes (q + 1) others in
         let same : q ≡ m = omega (arith, e) in
-        subst (λ (p : ProcessDeclaration). count_joins tree d m (uses_in_procedures m p.procedures) + count_joins tree d m (uses_in (outside m false) p.commands)
+        subst (λ (p : ProcessDeclaration). count_joins tree d m (uses_in_procedures m p.procedures)
+        + count_joins tree d m (uses_in (outside m false) p.commands)
         ≤ count_joins tree d m (procedures ++ (main ++ rest))) (some_same at)
         (subst (λ k. count_joins tree d m (uses_in_procedures k one.procedures) + count_joins tree d m (uses_in (outside k false) one.commands)
         ≤ count_joins tree d m (procedures ++ (main ++ rest))) same
@@ -170,4 +178,9 @@ module _ (tree : Tree) (d : ℕ) where
         let procedures = uses_in_procedures q one.procedures in
         let main = uses_in (outside q false) one.commands in
         let rest = uses_in_processes (q + 1) others in
-        omega (arith, part_counted (q + 1) i others process at (omega (arith, e)), count_both tree d m procedures (main ++ rest), count_both tree d m main rest)
+        omega (
+          arith,
+          part_counted (q + 1) i others process at (omega (arith, e)),
+          count_both tree d m procedures (main ++ rest),
+          count_both tree d m main rest,
+        )

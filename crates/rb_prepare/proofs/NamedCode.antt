@@ -29,9 +29,11 @@ use Rattle.rb_prepare.proofs.AcceptedCode.{IsCodeOf, as_many_channels, distinct,
 use Rattle.rb_prepare.proofs.WholeWalk.{spread_long}
 
 -- arrays of a tree have sizes that they may have
-processes_sized : (tree : Tree) → faults_of tree ≡ [] → AllByRecursion (λ (process : ProcessDeclaration). HaveArraySizes process.variables) tree.processes
+processes_sized : (tree : Tree) → faults_of tree ≡ []
+    → AllByRecursion (λ (process : ProcessDeclaration). HaveArraySizes process.variables) tree.processes
 processes_sized tree e =
-    all_parts IsKept (process_sites tree.edition (in_program tree)) (λ (process : ProcessDeclaration). HaveArraySizes process.variables) tree.processes
+    all_parts IsKept (process_sites tree.edition (in_program tree))
+    (λ (process : ProcessDeclaration). HaveArraySizes process.variables) tree.processes
     (λ process kept. all_sized process.variables (process_parts IsKept tree.edition (in_program tree) process kept).sizes)
     (tree_parts IsKept tree (all_kept tree e)).processes
 
@@ -48,14 +50,16 @@ variables_spelled at (one ∷ others) names sizes =
     (record { name = names.0; size = λ n e. size_few one.size n sizes.0 e }, variables_spelled (at + size_of one.size) others names.1 sizes.1)
 
 processes_spelled : (processes : List ProcessDeclaration) → AllByRecursion ProcessSpelled processes
-    → AllByRecursion (λ (process : ProcessDeclaration). HaveArraySizes process.variables) processes → AllByRecursion NamesProcess (map process_named processes)
+    → AllByRecursion (λ (process : ProcessDeclaration). HaveArraySizes process.variables) processes
+    → AllByRecursion NamesProcess (map process_named processes)
 processes_spelled [] names sizes = tt
 processes_spelled (one ∷ others) names sizes = (
   record {
     name = names.0.name;
     variables =
         All-from_recursion NamesVariable (variables_named 0 one.variables)
-        (variables_spelled 0 one.variables (recursion_from_All (λ (variable : Declaration). IsNaming variable.name.text) one.variables names.0.variables) sizes.0);
+        (variables_spelled 0 one.variables
+        (recursion_from_All (λ (variable : Declaration). IsNaming variable.name.text) one.variables names.0.variables) sizes.0);
   },
   processes_spelled others names.1 sizes.1,
 )
@@ -66,13 +70,16 @@ texts_spelled text [] names = tt
 texts_spelled text (a ∷ all) names = (names.0, texts_spelled text all names.1)
 
 names_again : (processes : List ProcessDeclaration)
-    → map (λ (process : ProcessNaming). process.name) (map process_named processes) ≡ map (λ (process : ProcessDeclaration). process.name.text) processes
+    → map (λ (process : ProcessNaming). process.name) (map process_named processes)
+    ≡ map (λ (process : ProcessDeclaration). process.name.text) processes
 names_again [] = refl
 names_again (one ∷ others) = ap (λ names. one.name.text ∷ names) (names_again others)
 
 -- procedures are listed under their names
-entries_named : (c : Code) (tree : Tree) (slots : List Slot) (owner : Owner) (procedures : List ProcedureDeclaration) (entries : List Procedure) (p q : ℕ)
-    → AllByRecursion ProcedureSpelled procedures → ProceduresCode tree slots owner procedures entries c p q → AllByRecursion (λ (one : Procedure). IsNaming one.name) entries
+entries_named : (c : Code) (tree : Tree) (slots : List Slot) (owner : Owner) (procedures : List ProcedureDeclaration)
+    (entries : List Procedure) (p q : ℕ)
+    → AllByRecursion ProcedureSpelled procedures → ProceduresCode tree slots owner procedures entries c p q
+    → AllByRecursion (λ (one : Procedure). IsNaming one.name) entries
 entries_named c tree slots owner [] entries p q names (none, here) = subst (AllByRecursion (λ (one : Procedure). IsNaming one.name)) (sym none) tt
 entries_named c tree slots owner (one ∷ others) entries p q names (more, is, (m, body, (r, back, rest))) =
     subst (AllByRecursion (λ (entry : Procedure). IsNaming entry.name)) (sym is)
@@ -87,21 +94,24 @@ parts_named c tree slots p [] parts a b names (none, here) = subst (AllByRecursi
 parts_named c tree slots p (one ∷ others) parts a b names (part, more, is, (m, (tells, (r, body, (q, done, code))), rest)) =
     subst (AllByRecursion ListsNames) (sym is) (
       All-from_recursion (λ (entry : Procedure). IsNaming entry.name) part.procedures
-          (entries_named c tree slots (owner_by p one) one.procedures part.procedures q m (recursion_from_All ProcedureSpelled one.procedures names.0.procedures) code),
+          (entries_named c tree slots (owner_by p one) one.procedures part.procedures q m
+          (recursion_from_All ProcedureSpelled one.procedures names.0.procedures) code),
       parts_named c tree slots (p + 1) others more m b names.1 rest,
     )
 
 pub code_is_named : (tree : Tree) (slots : List Slot) (c : Code) → IsCodeOf tree slots c → IsNamed c (groups_of tree)
 code_is_named tree slots c code = record {
   processes_each = ap (λ (n : Naming). length n.processes) names ∙ length-map tree.processes process_named ∙ sym long;
-  channels_each = ap (λ (n : Naming). length n.channels) names ∙ length-map tree.channels (λ (one : ChannelDeclaration). one.name.text) ∙ sym channels;
+  channels_each =
+      ap (λ (n : Naming). length n.channels) names ∙ length-map tree.channels (λ (one : ChannelDeclaration). one.name.text) ∙ sym channels;
   conversations_each =
       ap (λ (n : Naming). length n.conversations) names ∙ length-map tree.conversations (λ (one : ConversationDeclaration). one.name.text)
       ∙ sym (length-map tree.conversations (membership_of tree));
   processes =
       subst (λ (n : Naming). All NamesProcess n.processes) (sym names)
       (All-from_recursion NamesProcess (map process_named tree.processes)
-      (processes_spelled tree.processes (recursion_from_All ProcessSpelled tree.processes code.spelled.processes) (processes_sized tree code.scoped)));
+      (processes_spelled tree.processes (recursion_from_All ProcessSpelled tree.processes code.spelled.processes)
+      (processes_sized tree code.scoped)));
   channels =
       subst (λ (n : Naming). All IsNaming n.channels) (sym names)
       (All-from_recursion IsNaming (map (λ (one : ChannelDeclaration). one.name.text) tree.channels)
@@ -114,7 +124,8 @@ code_is_named tree slots c code = record {
       (recursion_from_All (λ (one : ConversationDeclaration). IsNaming one.name.text) tree.conversations code.spelled.conversations)));
   procedures =
       All-from_recursion ListsNames c.processes
-      (parts_named c tree slots 0 tree.processes c.processes 0 (length c.instrs) (recursion_from_All ProcessSpelled tree.processes code.spelled.processes) code.stands.instrs_are);
+      (parts_named c tree slots 0 tree.processes c.processes 0 (length c.instrs)
+      (recursion_from_All ProcessSpelled tree.processes code.spelled.processes) code.stands.instrs_are);
   processes_differ =
       subst (λ (n : Naming). AreDistinct (map (λ (process : ProcessNaming). process.name) n.processes)) (sym names)
       (subst AreDistinct (sym (names_again tree.processes)) (distinct tree slots c code).processes);
@@ -128,7 +139,8 @@ code_is_named tree slots c code = record {
     long : length c.processes ≡ length tree.processes
     long =
         let known = some_table tree slots c code in
-        spread_long c tree (nothing tree slots c code) (weightless tree slots c code) known.0 0 tree.processes c.processes (places tree slots c code) 0 (length c.instrs)
+        spread_long c tree (nothing tree slots c code) (weightless tree slots c code) known.0 0 tree.processes c.processes
+        (places tree slots c code) 0 (length c.instrs)
         (plain_spread tree slots c code known.0 known.1)
 
     channels : length c.channels ≡ length tree.channels

@@ -53,10 +53,12 @@ module _ {A : Type 0} (name : A → Identifier) where
       (position_first (λ b. same_name (name b).text x) all k a at (ap (λ y. same_name y x) is ∙ same_itself x)
       (λ i b below there. subst (λ y. same_name (name b).text y ≡ false) is (differ all i k b a distinct below there at)))
 
-kept_before : (keeps : Bool) (name : FaultName) (place : Place) (faults : List SourceFault) → where_broken (not keeps) name place ++ faults ≡ [] → keeps ≡ true
+kept_before : (keeps : Bool) (name : FaultName) (place : Place) (faults : List SourceFault)
+    → where_broken (not keeps) name place ++ faults ≡ [] → keeps ≡ true
 kept_before keeps name place faults e = is_kept keeps name place (left_empty (where_broken (not keeps) name place) faults e)
 
-none_after : (keeps : Bool) (name : FaultName) (place : Place) (faults : List SourceFault) → where_broken (not keeps) name place ++ faults ≡ [] → faults ≡ []
+none_after : (keeps : Bool) (name : FaultName) (place : Place) (faults : List SourceFault)
+    → where_broken (not keeps) name place ++ faults ≡ [] → faults ≡ []
 none_after keeps name place faults e = right_empty (where_broken (not keeps) name place) faults e
 
 module _ (tree : Tree) where
@@ -100,13 +102,15 @@ module _ (tree : Tree) where
   )
 
   -- a conversation by its number, and the names that stand for it
-  module _ (distinct : HasDistinctNames tree) (d : ℕ) (conversation : ConversationDeclaration) (there : slice_get tree.conversations d ≡ Some conversation) where
+  module _ (distinct : HasDistinctNames tree) (d : ℕ) (conversation : ConversationDeclaration)
+      (there : slice_get tree.conversations d ≡ Some conversation) where
     pub number_named : (x : List ℕ) → x ≡ conversation.name.text → conversation_number tree x ≡ d
     number_named x is = number_of (λ (c : ConversationDeclaration). c.name) tree.conversations d conversation x distinct.conversations there (sym is)
 
     pub named_by_number : (x : List ℕ) → NamesConversation tree x → conversation_number tree x ≡ d → x ≡ conversation.name.text
     named_by_number x (i, one, at, is) number =
-        let same : i ≡ d = sym (number_of (λ (c : ConversationDeclaration). c.name) tree.conversations i one x distinct.conversations at is) ∙ number in
+        let same : i ≡ d =
+        sym (number_of (λ (c : ConversationDeclaration). c.name) tree.conversations i one x distinct.conversations at is) ∙ number in
         sym is ∙ ap (λ (c : ConversationDeclaration). c.name.text) (some_same (sym at ∙ ap (slice_get tree.conversations) same ∙ there))
 
     module _ (q : ℕ) where
@@ -145,7 +149,8 @@ module _ (tree : Tree) where
       too one name Receives spot named named' e f = absurd (true≢false (sym f))
 
       -- before one that joins it none does
-      none_before : (one : Use) (earlier : List Use) → JoinsNamed tree one.deed one.name.text → is_join tree d q one ≡ true → AreNamedUses tree earlier
+      none_before : (one : Use) (earlier : List Use) → JoinsNamed tree one.deed one.name.text → is_join tree d q one ≡ true
+          → AreNamedUses tree earlier
           → list_any (joins_too one) earlier ≡ false → count_joins tree d q earlier ≡ 0
       none_before one [] named e all none = refl
       none_before one (other ∷ earlier) named e all none =
@@ -158,7 +163,8 @@ module _ (tree : Tree) where
           by true f rest apart' = absurd (true≢false (sym (too one other.name other.deed other.spot named all.0 e f) ∙ apart'))
           by false f rest apart' = ap (λ n. 0 + n) rest ∙ omega arith
 
-      if_kept : (one : Use) (earlier : List Use) → is_join tree d q one ≡ true → keeps_n7 earlier one ≡ true → list_any (joins_too one) earlier ≡ false
+      if_kept : (one : Use) (earlier : List Use) → is_join tree d q one ≡ true → keeps_n7 earlier one ≡ true
+          → list_any (joins_too one) earlier ≡ false
       if_kept one earlier e kept = by one.deed e kept
         where
           by : (deed : Deed) → if_join deed (nat_eq one.spot.process q && nat_eq (conversation_number tree one.name.text) d) ≡ true
@@ -198,12 +204,14 @@ module _ (tree : Tree) where
   pub no_use_faults : nesting_faults tree ≡ [] → uses_faults tree [] (uses_of tree) ≡ []
   no_use_faults e =
       right_empty (flat_map (conversation_faults tree) tree.conversations) (uses_faults tree [] (uses_of tree))
-      (right_empty (flat_map (channel_faults tree) tree.channels) (flat_map (conversation_faults tree) tree.conversations ++ uses_faults tree [] (uses_of tree)) e)
+      (right_empty (flat_map (channel_faults tree) tree.channels)
+      (flat_map (conversation_faults tree) tree.conversations ++ uses_faults tree [] (uses_of tree)) e)
 
   pub no_conversation_faults : nesting_faults tree ≡ [] → flat_map (conversation_faults tree) tree.conversations ≡ []
   no_conversation_faults e =
       left_empty (flat_map (conversation_faults tree) tree.conversations) (uses_faults tree [] (uses_of tree))
-      (right_empty (flat_map (channel_faults tree) tree.channels) (flat_map (conversation_faults tree) tree.conversations ++ uses_faults tree [] (uses_of tree)) e)
+      (right_empty (flat_map (channel_faults tree) tree.channels)
+      (flat_map (conversation_faults tree) tree.conversations ++ uses_faults tree [] (uses_of tree)) e)
 
   pub all_orderly : nesting_faults tree ≡ [] → AllByRecursion IsOrderly (uses_of tree)
   all_orderly e = uses_orderly [] (uses_of tree) (no_use_faults e)

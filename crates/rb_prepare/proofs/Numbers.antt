@@ -37,7 +37,8 @@ module _ (b : ℕ) where
       by false f false g false h = refl
 
   mutual
-    command_numbered : (n : ℕ) (command : Command) → CommandNumbered n command → Tells (weight_in_command has_number command) n (blocks_in_command command)
+    command_numbered : (n : ℕ) (command : Command) → CommandNumbered n command
+        → Tells (weight_in_command has_number command) n (blocks_in_command command)
     command_numbered n (Assignment to value) h = none n
     command_numbered n (Printing items) h = none n
     command_numbered n (Sending channel value) h = none n
@@ -64,7 +65,8 @@ module _ (b : ℕ) where
     otherwise_numbered n NoElse h = none n
     otherwise_numbered n (Else body) h = body_numbered n body h
 
-    recovery_numbered : (n : ℕ) (block : RecoveryBlock) → RecoveryNumbered n block → Tells (weight_in_recovery has_number block) n (blocks_in_recovery block)
+    recovery_numbered : (n : ℕ) (block : RecoveryBlock) → RecoveryNumbered n block
+        → Tells (weight_in_recovery has_number block) n (blocks_in_recovery block)
     recovery_numbered n (Recovers number conversation place test bound alternates) h =
         both (has_number number conversation) (weight_in_alternates has_number alternates) n 1 (blocks_in_alternates alternates)
         (single number n h.0) (alternates_numbered (n + 1) alternates h.1)
@@ -83,10 +85,12 @@ module _ (b : ℕ) where
       → Tells (weight_in_procedures has_number procedures) n (blocks_in_procedures procedures)
   procedures_numbered n [] h = none n
   procedures_numbered n (one ∷ others) h =
-      both (weight_in has_number (commands_of one.body)) (weight_in_procedures has_number others) n (blocks_in_body one.body) (blocks_in_procedures others)
+      both (weight_in has_number (commands_of one.body)) (weight_in_procedures has_number others) n
+      (blocks_in_body one.body) (blocks_in_procedures others)
       (procedure_numbered n one.body h.0) (procedures_numbered (n + blocks_in_body one.body) others h.1)
 
-  process_numbered : (n : ℕ) (process : ProcessDeclaration) → ProcessNumbered n process → Tells (weight_in_process has_number process) n (blocks_in_process process)
+  process_numbered : (n : ℕ) (process : ProcessDeclaration) → ProcessNumbered n process
+      → Tells (weight_in_process has_number process) n (blocks_in_process process)
   process_numbered n process h =
       let x = weight_in_procedures has_number process.procedures in let y = weight_in has_number process.commands in
       let e : x + y ≡ y + x = omega arith in

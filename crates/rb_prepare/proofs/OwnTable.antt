@@ -77,7 +77,8 @@ module _ (c : Code) (tree : Tree) (f : Instr → Bool) (w : Weight) (t : Table) 
       let found = found_at c tree f w t 0 tree.processes c.processes ends 0 (length c.instrs) spread x (omega arith) below in (
         found.index,
         found.process,
-        place_of c tree f w t 0 tree.processes c.processes ends 0 (length c.instrs) spread found.index found.index found.process (omega arith) found.there,
+        place_of c tree f w t 0 tree.processes c.processes ends 0
+            (length c.instrs) spread found.index found.index found.process (omega arith) found.there,
         found.low,
         found.high,
       )
@@ -92,7 +93,8 @@ module _ (c : Code) (tree : Tree) (f : Instr → Bool) (w : Weight) (t : Table) 
             subst (λ o. BeginsAs o n words) (sym (kept_entry (owner 0 ends b) (t b) g at (ap (λ (x : Entry). x.within.process) h ∙ sym is))) h
 
     module _ (a : ℕ) (e : Entry) (at : t a ≡ Some e) (of : e.within.process ≡ owner 0 ends a) (n : ℕ) (process : ProcessDeclaration)
-        (place : Place c tree f w t c.processes ends 0 n n process 0 (length c.instrs)) (low : begin_at 0 ends n ≤ a) (high : a < end_at 0 ends n) where
+        (place : Place c tree f w t c.processes ends 0 n n process 0 (length c.instrs)) (low : begin_at 0 ends n ≤ a)
+        (high : a < end_at 0 ends n) where
       abbrev first : ℕ
       first = begin_at 0 ends n
 

@@ -56,14 +56,16 @@ module _ (tree : Tree) where
 
   -- a chain one longer
   longer : (name : Identifier) (around : List (Option Identifier)) → Chained around
-      → is_same_conversation (conversation_of tree (innermost around)) (parent_of (slice_get (groups_of tree) (conversation_number tree name.text))) ≡ true
+      → is_same_conversation (conversation_of tree (innermost around))
+      (parent_of (slice_get (groups_of tree) (conversation_number tree name.text))) ≡ true
       → IsChain (groups_of tree) (conversations_around around + 1) (Some (conversation_number tree name.text))
   longer name around chain same =
       let k = conversations_around around in
       let e : suc k ≡ k + 1 = omega arith in
       subst (λ n. IsChain (groups_of tree) n (Some (conversation_number tree name.text))) e
       (subst (IsChain (groups_of tree) k)
-      (same_conversation (conversation_of tree (innermost around)) (parent_of (slice_get (groups_of tree) (conversation_number tree name.text))) same) chain)
+      (same_conversation (conversation_of tree (innermost around))
+      (parent_of (slice_get (groups_of tree) (conversation_number tree name.text))) same) chain)
 
   module _ (q : ℕ) (r : Bool) where
     abbrev ArePlaced : List Use → Type 0
@@ -78,7 +80,8 @@ module _ (tree : Tree) where
     both xs ys first second = all_append (IsPlaced q r) xs ys first second
 
     mutual
-      command_placed : (spot : Spot) (command : Command) → IsAt spot → AreFourth (uses_in_command spot command) → ArePlaced (uses_in_command spot command)
+      command_placed : (spot : Spot) (command : Command) → IsAt spot → AreFourth (uses_in_command spot command)
+          → ArePlaced (uses_in_command spot command)
       command_placed spot (Assignment to value) at h = tt
       command_placed spot (Printing items) at h = tt
       command_placed spot (Sending channel value) at h = (record { process = at.process; body = at.body; chained = tt }, tt)
@@ -143,7 +146,8 @@ module _ (tree : Tree) where
   procedures_placed q (one ∷ others) h =
       let uses = uses_in_body (outside q true) one.body in
       all_append (IsPlaced q true) uses (uses_in_procedures q others)
-      (body_placed q true (outside q true) one.body (record { process = refl; body = refl; chained = tt }) (fourth_first uses (uses_in_procedures q others) h))
+      (body_placed q true (outside q true) one.body (record { process = refl; body = refl; chained = tt })
+      (fourth_first uses (uses_in_procedures q others) h))
       (procedures_placed q others (fourth_second uses (uses_in_procedures q others) h))
 
   -- each `converse` of the processes from number q on stands in a chain

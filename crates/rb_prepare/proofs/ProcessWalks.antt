@@ -108,7 +108,8 @@ first_or x r y to low high later (inl e) = (omega arith, omega arith)
 first_or x r y to low high later (inr h) = let k = later h in (omega (arith, k.0), k.1)
 
 -- where procedures begin
-pub procedures_forward : (c : Code) (tree : Tree) (slots : List Slot) (owner : Owner) → ((procedures : List ProcedureDeclaration) (entries : List Procedure) (p q : ℕ)
+pub procedures_forward : (c : Code) (tree : Tree) (slots : List Slot) (owner : Owner)
+    → ((procedures : List ProcedureDeclaration) (entries : List Procedure) (p q : ℕ)
     → ProceduresCode tree slots owner procedures entries c p q → (number : ℕ) (procedure : ProcedureDeclaration)
     → slice_get procedures number ≡ Some procedure → IsProcedureAt entries (start_in entries number))
 procedures_forward c tree slots owner [] entries p q code number procedure at = absurd (none_some at)
@@ -120,7 +121,8 @@ procedures_forward c tree slots owner (one ∷ others) entries p q (more, is, (m
 
 -- A process from a up to b: its main body ends at some address, which a table that reaches the first address reaches from there; its
 -- procedures begin there; and each instruction is one of the process.
-pub record ProcessRows (c : Code) (tree : Tree) (f : Instr → Bool) (w : Weight) (table : Table) (p : ℕ) (process : ProcessDeclaration) (part : Part) (a b : ℕ) : Type 0 where
+pub record ProcessRows (c : Code) (tree : Tree) (f : Instr → Bool) (w : Weight) (table : Table) (p : ℕ)
+    (process : ProcessDeclaration) (part : Part) (a b : ℕ) : Type 0 where
   pub start : part.start ≡ a
   pub words : part.words ≡ frame_words (frame_of process.variables)
   pub channels : part.channels ≡ channels_from p 0 (channels_of tree)
@@ -154,7 +156,8 @@ module _ (c : Code) (tree : Tree) (slots : List Slot) (p : ℕ) (process : Proce
       (rows_none c tree p f a b x y here, λ to at. absurd (subst (λ es. IsProcedureAt es to) none at))
   procedures_rows a b (one ∷ others) entries x y low high names limits spelled some many (more, is, (m, code, (r, back, rest))) =
       let uses = uses_in_body (outside p true) one.body in
-      let body = commands_walked c tree (scene_in (in_procedure p)) plain slots p (owner_by p process) w channels entrances weighs (procedure_frames process one)
+      let body = commands_walked c tree (scene_in (in_procedure p)) plain slots p
+      (owner_by p process) w channels entrances weighs (procedure_frames process one)
       (outside p true) (commands_of one.body) (All-head (ProcedureInFrames tree slots p process) one others names)
       (All-head ProcedureWithin one others limits).commands (All-head ProcedureSpelled one others spelled).commands
       (some_of_body one.body (All-head HasAlternatesIn one others some))
@@ -167,17 +170,21 @@ module _ (c : Code) (tree : Tree) (slots : List Slot) (p : ℕ) (process : Proce
       let first = weight_in w (commands_of one.body) in let later = weight_in_procedures w others in (
         rows_then c tree p f a b first later x m y (rows_laid c tree p f a b first x m low (omega arith) body.laid)
             (rows_before c tree p f a b later m r y (rows_end c tree p f a b m r Return back tt tt (plain Return tt)) next.0),
-        λ to at. first_or x r y to (let o = body.laid.ordered in let e = back.1 in omega arith) (omega arith) (next.1 to) (subst (λ es. IsProcedureAt es to) is at),
+        λ to at. first_or x r y to (let o = body.laid.ordered in let e = back.1 in omega arith) (omega arith) (next.1 to)
+            (subst (λ es. IsProcedureAt es to) is at),
       )
 
   pub process_rows : (part : Part) (a b : ℕ) → ProcessInFrames tree slots p process → ProcessWithin tree.edition process → ProcessSpelled process
-      → ProcessHasAlternates process → AsMany tree (uses_in_procedures p process.procedures) → AsMany tree (uses_in (outside p false) process.commands)
+      → ProcessHasAlternates process → AsMany tree (uses_in_procedures p process.procedures)
+      → AsMany tree (uses_in (outside p false) process.commands)
       → ProcessCode tree slots p process part c a b → ProcessRows c tree f w table p process part a b
   process_rows part a b names limits spelled some many mains (tells, (m, code, (r, done, rest))) =
       let main = commands_walked c tree (scene_in (in_main p)) plain slots p (owner_by p process) w channels entrances weighs (main_frames process)
       (outside p false) process.commands names.commands limits.commands spelled.commands some.commands mains a m code in
       let o = main.laid.ordered in let e = done.1 in
-      let procedures = procedures_rows a b process.procedures part.procedures r b (omega arith) (omega arith) names.procedures limits.procedures spelled.procedures
+      let procedures =
+      procedures_rows a b process.procedures part.procedures r b (omega arith)
+      (omega arith) names.procedures limits.procedures spelled.procedures
       some.procedures many rest in
       let up = procedures.0.ordered in
       let first = weight_in w process.commands in let later = weight_in_procedures w process.procedures in

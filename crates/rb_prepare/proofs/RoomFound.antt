@@ -138,7 +138,8 @@ process_fits edition spot process scopes kept limits few =
     let parts = neither_above (deepest procedure_operands process.procedures) (commands_operands process.commands) most_needed few in
     let sites = process_parts IsKept edition spot process kept in
     let inside = within_process process spot in
-    let around : ScopesTakeFew inside.scopes = (process_few process (recursion_from_All ProcedureWithin process.procedures limits.procedures), scopes) in
+    let around : ScopesTakeFew inside.scopes =
+    (process_few process (recursion_from_All ProcedureWithin process.procedures limits.procedures), scopes) in
     record {
       procedures =
           All-from_recursion (λ (procedure : ProcedureDeclaration). CommandsHaveRoom (commands_of procedure.body)) process.procedures

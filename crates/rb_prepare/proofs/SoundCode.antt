@@ -75,7 +75,8 @@ module _ (tree : Tree) (slots : List Slot) (c : Code) (code : IsCodeOf tree slot
     -- a process that is a member
     module _ (m : ℕ) (process : ProcessDeclaration) (is_process : slice_get tree.processes m ≡ Some process) where
       place : Place c tree test (joins_it tree d) table c.processes ends 0 m m process 0 (length c.instrs)
-      place = place_of c tree test (joins_it tree d) table 0 tree.processes c.processes ends 0 (length c.instrs) spread m m process (omega arith) is_process
+      place = place_of c tree test (joins_it tree d) table 0 tree.processes c.processes ends 0
+          (length c.instrs) spread m m process (omega arith) is_process
 
       abbrev first : ℕ
       first = begin_at 0 ends m
@@ -127,7 +128,10 @@ module _ (tree : Tree) (slots : List Slot) (c : Code) (code : IsCodeOf tree slot
           let found = place_at c tree test (joins_it tree d) table ends spread y (slice_get_within c.instrs y (Enter other) enter) in
           let owned = found.2.owned y found.3 found.4 in
           let same : found.0 ≡ m =
-          sym owned ∙ sym (own_process c tree none_counted no_weight (some_table tree slots c code).0 ends plain (some_table tree slots c code).1 y e entry) ∙ of in
+          sym owned
+          ∙ sym (own_process c tree none_counted no_weight (some_table tree slots c code).0 ends plain
+          (some_table tree slots c code).1 y e entry)
+          ∙ of in
           record {
             at = y;
             up = subst (λ n. begin_at 0 ends n ≤ y) same found.3;
@@ -138,7 +142,8 @@ module _ (tree : Tree) (slots : List Slot) (c : Code) (code : IsCodeOf tree slot
 
       few : count_to test last c.instrs ≤ count_to test first c.instrs + 1
       few =
-          let once = all_joined_once tree (distinct tree slots c code) d conversation there m (no_use_faults tree code.nested) (uses_named tree code.scoped) in
+          let once = all_joined_once tree (distinct tree slots c code) d conversation there m
+          (no_use_faults tree code.nested) (uses_named tree code.scoped) in
           let mine = part_counted tree d m 0 m tree.processes process is_process (omega arith) in
           omega (arith, place.rows.rows.counted, once, mine, main_joins tree d m process.commands, procedures_joins tree d m process.procedures)
 
@@ -152,10 +157,12 @@ module _ (tree : Tree) (slots : List Slot) (c : Code) (code : IsCodeOf tree slot
 
           by : (p : Bool) → nat_lt one.at second.at ≡ p → (q : Bool) → nat_lt second.at one.at ≡ q → other ≡ one.number
           by true e q g =
-              absurd (counted_once test c.instrs first last one.at second.at (Enter one.number) (Enter other) few one.up (ltb-true one.at second.at e) second.below
+              absurd (counted_once test c.instrs first last one.at second.at (Enter one.number) (Enter other) few one.up
+              (ltb-true one.at second.at e) second.below
               one.instr second.instr passes second.passes)
           by false e true g =
-              absurd (counted_once test c.instrs first last second.at one.at (Enter other) (Enter one.number) few second.up (ltb-true second.at one.at g) one.below
+              absurd (counted_once test c.instrs first last second.at one.at (Enter other) (Enter one.number) few second.up
+              (ltb-true second.at one.at g) one.below
               second.instr one.instr second.passes passes)
           by false e false g =
               let over = ltb-false one.at second.at e in let under = ltb-false second.at one.at g in
@@ -170,7 +177,8 @@ module _ (tree : Tree) (slots : List Slot) (c : Code) (code : IsCodeOf tree slot
       let named = recursion_at (MembersNamed tree) tree.conversations d conversation (all_members_named tree code.scoped) from.1 in
       let faults = none_at (conversation_faults tree) tree.conversations d conversation (no_conversation_faults tree code.nested) from.1 in
       let kept = names_kept tree x [] conversation.members
-      (right_empty (where_broken (nat_lt (length conversation.members) 2) N11 conversation.name.place) (members_faults tree x [] conversation.members) faults) in
+      (right_empty (where_broken (nat_lt (length conversation.members) 2) N11 conversation.name.place)
+      (members_faults tree x [] conversation.members) faults) in
       let one = member_named tree m x conversation.members named kept.joined
       (subst (λ (g : Membership). IsMember m g.members) (sym from.2) member) in
       let number : one.2.0 ≡ m = sym (process_named tree (distinct tree slots c code) one.0 one.2) ∙ one.1 in
@@ -181,8 +189,12 @@ module _ (tree : Tree) (slots : List Slot) (c : Code) (code : IsCodeOf tree slot
       let same : place.1 ≡ process = some_same (sym place.2 ∙ ap (slice_get tree.processes) index ∙ is_process) in
       let joins = subst (λ (p : ProcessDeclaration). list_any (joins_in m x) (uses_in (outside m false) p.commands) ≡ true) same place.4 in
       let some = some_counted tree d m x (uses_in (outside m false) process.commands) (number_is d conversation from.1) joins in
-      let entered = joins_there d conversation from.1 m process is_process (omega (arith, some, main_joins tree d m process.commands)) in
-      (entered.number, entered.joins, λ other h. same_block d conversation from.1 m process is_process entered other (other_there d conversation from.1 m process is_process other h))
+      let entered = joins_there d conversation from.1 m process is_process (omega (arith, some, main_joins tree d m process.commands)) in (
+        entered.number,
+        entered.joins,
+        λ other h. same_block d conversation from.1 m process is_process entered other
+            (other_there d conversation from.1 m process is_process other h),
+      )
 
   pub code_is_sound : IsSound c (groups_of tree)
   code_is_sound = record { well = code_is_well_formed tree slots c code; table = table; has = has; joins = joins_once }

@@ -50,7 +50,8 @@ is_some (Some m) n h = ap Some (eqb-true m n h)
 
 module _ (c : Code) (tree : Tree) where
   -- what the list of blocks tells of a recovery block, with its place in the code
-  block_lies : (slots : List Slot) (conversation : Option Identifier) (line : ℕ) (bound : Number) (alternates : Alternates) (spot : Spot) → JoinedInFrames tree slots conversation
+  block_lies : (slots : List Slot) (conversation : Option Identifier) (line : ℕ) (bound : Number) (alternates : Alternates) (spot : Spot)
+      → JoinedInFrames tree slots conversation
       → IsFrom1To MOST_TURNS bound → 1 ≤ count_alternates alternates → AsMany tree (joined conversation alternates spot)
       → (block : Block) (p q : ℕ) → TellsOf tree conversation line (natural bound.value) block → length block.alternates ≡ count_alternates alternates
       → Inside p q block.restart → Inside p q block.test → Each block.alternates (Inside p q) → BlockLies tree p q block
@@ -92,7 +93,8 @@ module _ (c : Code) (tree : Tree) where
     store_walked frames (Refer name (Element index)) value names walks a b (m, code, (r, bound, (q, valued, one))) =
         then_one c tree s plain a q b (StoreAt (spot_of slots name.id))
         (flat_then c tree s plain a r q
-        (then_one c tree s plain a m r (Bound (elements_of slots name.id)) (expression frames index names.1 a m code) bound tt tt tt) (walks r q valued))
+        (then_one c tree s plain a m r (Bound (elements_of slots name.id)) (expression frames index names.1 a m code) bound tt tt tt)
+        (walks r q valued))
         one tt tt tt
 
     printed_walked : (frames : Frames) (printed : Printed) → PrintedInFrames slots frames printed → PrintedSpelled printed
@@ -144,7 +146,8 @@ module _ (c : Code) (tree : Tree) where
           flat_then c tree s plain a m b (walked_one c tree s plain a m Turn turn tt tt tt)
           (flat_then c tree s plain m r b
           (walked_one c tree s plain m r (Room (channel_of slots channel.id)) room (channel_there channel names.0) tt tt)
-          (then_one c tree s plain r q b (Put (channel_of slots channel.id)) (expression frames value names.1 r q code) put (channel_there channel names.0) tt tt))
+          (then_one c tree s plain r q b (Put (channel_of slots channel.id)) (expression frames value names.1 r q code) put
+          (channel_there channel names.0) tt tt))
       command_walked frames spot (Receiving channel to NoElse) names limits spelled some many a b code =
           receive_walked c tree s plain (channel_of slots channel.id) (StoreCode slots to (One (Take (channel_of slots channel.id))))
           (channel_there channel names.0) (taken_walked frames channel to names.0 names.1) a b code
@@ -161,11 +164,14 @@ module _ (c : Code) (tree : Tree) where
       command_walked frames spot (Conditional test body (Else other)) names limits spelled some many a b code =
           if_else_walked c tree s plain (weight_in_body w body) (weight_in_body w other) (ExpressionCode slots test) (BodyCode tree slots owner body)
           (BodyCode tree slots owner other) (expression frames test names.0)
-          (λ x y q. body_walked frames spot body names.1 limits.0 spelled.0 some.0 (many_first tree (uses_in_body spot body) (uses_in_body spot other) many) x y q)
-          (λ x y q. body_walked frames spot other names.2 limits.1 spelled.1 some.1 (many_second tree (uses_in_body spot body) (uses_in_body spot other) many) x y q)
+          (λ x y q. body_walked frames spot body names.1 limits.0 spelled.0 some.0
+          (many_first tree (uses_in_body spot body) (uses_in_body spot other) many) x y q)
+          (λ x y q. body_walked frames spot other names.2 limits.1 spelled.1 some.1
+          (many_second tree (uses_in_body spot body) (uses_in_body spot other) many) x y q)
           a b code
       command_walked frames spot (Loop test body) names limits spelled some many a b code =
-          while_walked c tree s plain (weight_in_body w body) (ExpressionCode slots test) (BodyCode tree slots owner body) (expression frames test names.0)
+          while_walked c tree s plain (weight_in_body w body) (ExpressionCode slots test) (BodyCode tree slots owner body)
+          (expression frames test names.0)
           (λ x y q. body_walked frames spot body names.1 limits spelled some many x y q) a b code
       command_walked frames spot (Invocation procedure arguments) names limits spelled some many a b (m, turn, (r, code, call)) =
           let number = procedure_of slots procedure.id in
@@ -184,19 +190,24 @@ module _ (c : Code) (tree : Tree) where
           (TellsOf tree conversation place.line (natural bound.value)) (AlternatesCode tree slots owner alternates) (ExpressionCode slots test) some.0
           (λ block at tells. weighs number conversation block at tells.conversation_is)
           (λ block x y at tells long up restart_at test_at all.
-          block_lies slots conversation place.line bound alternates spot names.0 limits.0 some.0 (many_first tree joins others many) block x y tells long restart_at test_at all)
+          block_lies slots conversation place.line bound alternates spot names.0 limits.0 some.0
+          (many_first tree joins others many) block x y tells long restart_at test_at all)
           (λ addresses to x y at q.
-          alternates_walked frames (inside conversation spot) alternates addresses to x y at names.2 limits.1 spelled some.1 (many_second tree joins others many) q)
+          alternates_walked frames (inside conversation spot) alternates addresses to x y at names.2 limits.1 spelled some.1
+          (many_second tree joins others many) q)
           (expression (in_acceptance frames) test names.1) a b code
 
-      pub commands_walked : (frames : Frames) (spot : Spot) (commands : Commands) → CommandsInFrames tree slots p frames commands → CommandsWithin commands
+      pub commands_walked : (frames : Frames) (spot : Spot) (commands : Commands)
+          → CommandsInFrames tree slots p frames commands → CommandsWithin commands
           → CommandsSpelled commands → CommandsHaveAlternates commands → AsMany tree (uses_in spot commands)
           → WalksBy c tree s plain (weight_in w commands) (CommandsCode tree slots owner commands)
       commands_walked frames spot NoCommand names limits spelled some many a b e = walked_none c tree s a b e
       commands_walked frames spot (Then first rest) names limits spelled some many a b (m, code, more) =
           walked_then c tree s (weight_in_command w first) (weight_in w rest) a m b
-          (command_walked frames spot first names.0 limits.0 spelled.0 some.0 (many_first tree (uses_in_command spot first) (uses_in spot rest) many) a m code)
-          (commands_walked frames spot rest names.1 limits.1 spelled.1 some.1 (many_second tree (uses_in_command spot first) (uses_in spot rest) many) m b more)
+          (command_walked frames spot first names.0 limits.0 spelled.0 some.0
+          (many_first tree (uses_in_command spot first) (uses_in spot rest) many) a m code)
+          (commands_walked frames spot rest names.1 limits.1 spelled.1 some.1
+          (many_second tree (uses_in_command spot first) (uses_in spot rest) many) m b more)
 
       body_walked : (frames : Frames) (spot : Spot) (body : Body) → BodyInFrames tree slots p frames body → BodyWithin body
           → BodySpelled body → BodyHasAlternates body → AsMany tree (uses_in_body spot body)
@@ -211,12 +222,14 @@ module _ (c : Code) (tree : Tree) where
           → AlternatesInFrames tree slots p frames alternates → AlternatesWithin alternates → AlternatesSpelled alternates
           → AlternatesHaveAlternates alternates → AsMany tree (uses_in_alternates spot alternates)
           → AlternatesCode tree slots owner alternates addresses to c a b
-          → Alternatives c tree s plain (weight_in_alternates w alternates) a b (count_alternates alternates) addresses (1 ≤ count_alternates alternates)
+          → Alternatives c tree s plain (weight_in_alternates w alternates) a b (count_alternates alternates) addresses
+          (1 ≤ count_alternates alternates)
       alternates_walked frames spot NoAlternate addresses to a b at names limits spelled some many (none, here) =
           no_alternative c tree s plain a b addresses none here
       alternates_walked frames spot (Alternate body others) addresses to a b at names limits spelled some many (more, is, (m, code, rest)) =
           alternative c tree s plain (weight_in_body w body) (weight_in_alternates w others) a m b (count_alternates others) addresses more is
-          (body_walked frames spot body names.0 limits.0 spelled.0 some.0 (many_first tree (uses_in_body spot body) (uses_in_alternates spot others) many) a m code)
+          (body_walked frames spot body names.0 limits.0 spelled.0 some.0
+          (many_first tree (uses_in_body spot body) (uses_in_alternates spot others) many) a m code)
           (others_walked frames spot others more to m b at names.1 limits.1 spelled.1 some.1
           (many_second tree (uses_in_body spot body) (uses_in_alternates spot others) many) rest)
 
@@ -228,7 +241,9 @@ module _ (c : Code) (tree : Tree) where
       others_walked frames spot NoAlternate addresses to a b at names limits spelled some many (none, here) =
           no_other c tree s plain a b addresses none here
       others_walked frames spot (Alternate body others) addresses to a b at names limits spelled some many (d, jump, (more, is, (m, code, rest))) =
-          other_alternative c tree s plain (weight_in_body w body) (weight_in_alternates w others) a d m b (count_alternates others) to addresses more at jump is
-          (body_walked frames spot body names.0 limits.0 spelled.0 some.0 (many_first tree (uses_in_body spot body) (uses_in_alternates spot others) many) d m code)
+          other_alternative c tree s plain (weight_in_body w body) (weight_in_alternates w others) a d m b
+          (count_alternates others) to addresses more at jump is
+          (body_walked frames spot body names.0 limits.0 spelled.0 some.0
+          (many_first tree (uses_in_body spot body) (uses_in_alternates spot others) many) d m code)
           (others_walked frames spot others more to m b at names.1 limits.1 spelled.1 some.1
           (many_second tree (uses_in_body spot body) (uses_in_alternates spot others) many) rest)

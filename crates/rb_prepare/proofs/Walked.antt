@@ -118,7 +118,8 @@ module _ (c : Code) (tree : Tree) (s : Scene c tree) where
     pub part_one : (a b p q : ℕ) (instr : Instr) → One instr c p q → Right c tree s.within.process a b instr → IsPlain instr → Part a b 0 p q
     part_one a b p q instr one right is = laid_one c tree s.within.process s.counts a b 0 p q instr one right (ap one_if (plain instr is))
 
-    pub walked_one : (a b : ℕ) (instr : Instr) → One instr c a b → Right c tree s.within.process a b instr → IsPlain instr → GoesOn instr → Walked 0 a b
+    pub walked_one : (a b : ℕ) (instr : Instr) → One instr c a b → Right c tree s.within.process a b instr → IsPlain instr
+        → GoesOn instr → Walked 0 a b
     walked_one a b instr one right is goes = record {
       laid = part_one a b a b instr one right is;
       reached = λ r. up_to a a b b (let i = one.1 in omega arith) (only a r) (only b (goes_on a b instr one goes r));
@@ -128,7 +129,8 @@ module _ (c : Code) (tree : Tree) (s : Scene c tree) where
     pub flat_then : (a m b : ℕ) → Walked 0 a m → Walked 0 m b → Walked 0 a b
     flat_then a m b first next = walked_as (0 + 0) 0 a b (omega arith) (walked_then 0 0 a m b first next)
 
-    pub then_one : (a m b : ℕ) (instr : Instr) → Walked 0 a m → One instr c m b → Right c tree s.within.process m b instr → IsPlain instr → GoesOn instr
+    pub then_one : (a m b : ℕ) (instr : Instr) → Walked 0 a m → One instr c m b → Right c tree s.within.process m b instr
+        → IsPlain instr → GoesOn instr
         → Walked 0 a b
     then_one a m b instr first one right is goes = flat_then a m b first (walked_one m b instr one right is goes)
 

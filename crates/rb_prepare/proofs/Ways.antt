@@ -23,7 +23,8 @@ abbrev Operand : Type 0
 Operand = Option ℕ
 
 -- what is known of the top operand, or of the innermost block, with another conclusion
-top_more : (os : List Operand) (P Q : Operand → List Operand → Type 0) → ((o : Operand) (ps : List Operand) → P o ps → Q o ps) → TopIs os P → TopIs os Q
+top_more : (os : List Operand) (P Q : Operand → List Operand → Type 0)
+    → ((o : Operand) (ps : List Operand) → P o ps → Q o ps) → TopIs os P → TopIs os Q
 top_more [] P Q h f = absurd f
 top_more (o ∷ os) P Q h f = h o os f
 
@@ -195,13 +196,21 @@ module _ (c : Code) (groups : List Membership) (t : Table) where
       fine_same Fail s calls f = (f.0, moved (a + 1) _ s.0 f.1)
       fine_same (Enter b) s calls f = (f.0, f.1, f.2, f.3, f.4, moved (a + 1) _ s.0 f.5)
       fine_same (Start b) s calls f = (f.0, f.1, f.2, each_more (alternates_at (slice_get c.blocks b)) _ _ _ (λ x p q. (p.0, moved x _ q p.1)) f.3 s)
-      fine_same (Test b) s calls f = (f.0, f.1, f.2, top_more e.operands _ _ (λ o os q. (q.0, inner_more e.blocks _ _ (λ block around r. (r.0, r.1, moved (a + 1) _ s.0 r.2)) q.1)) f.3)
+      fine_same (Test b) s calls f = (
+        f.0,
+        f.1,
+        f.2,
+        top_more e.operands _ _
+            (λ o os q. (q.0, inner_more e.blocks _ _ (λ block around r. (r.0, r.1, moved (a + 1) _ s.0 r.2)) q.1)) f.3,
+      )
       fine_same Done s calls f = f
       fine_same (Range k b) s calls f = (
         f.0,
         f.1,
         f.2,
-        top_more e.operands _ _ (λ o os q. top_more os _ _ (λ p ps r. (r.0, moved b _ s.0 r.1, (r.2.0, r.2.1, r.2.2, moved (a + 1) (in_loop a e k r.2.0 ps) s.1.0 r.2.3))) q) f.3,
+        top_more e.operands _ _
+            (λ o os q. top_more os _ _
+            (λ p ps r. (r.0, moved b _ s.0 r.1, (r.2.0, r.2.1, r.2.2, moved (a + 1) (in_loop a e k r.2.0 ps) s.1.0 r.2.3))) q) f.3,
       )
       fine_same (Again k b) s calls f = (f.0, f.1, moved b _ s.0 f.2, moved (a + 1) _ s.1.0 f.3)
       fine_same (Counter k) s calls f = (f.0, (f.1.0, moved (a + 1) _ s.0 f.1.1))

@@ -54,9 +54,11 @@ module _ (c : Code) (tree : Tree) (f : Instr → Bool) (w : Weight) (table : Tab
   Spread p [] parts ends a b = (parts ≡ []) × (b ≡ a)
   Spread p (process ∷ others) parts [] a b = ⊥
   Spread p (process ∷ others) parts (m ∷ ends) a b =
-      (part : Part) × (more : List Part) × (parts ≡ part ∷ more) × ProcessRows c tree f w table p process part a m × Spread (p + 1) others more ends m b
+      (part : Part) × (more : List Part) × (parts ≡ part ∷ more) × ProcessRows c tree f w table p process part a m
+      × Spread (p + 1) others more ends m b
 
-  pub spread_up : (p : ℕ) (processes : List ProcessDeclaration) (parts : List Part) (ends : List ℕ) (a b : ℕ) → Spread p processes parts ends a b → a ≤ b
+  pub spread_up : (p : ℕ) (processes : List ProcessDeclaration) (parts : List Part) (ends : List ℕ) (a b : ℕ)
+      → Spread p processes parts ends a b → a ≤ b
   spread_up p [] parts ends a b s = let e = s.1 in omega arith
   spread_up p (process ∷ others) parts [] a b s = absurd s
   spread_up p (process ∷ others) parts (m ∷ ends) a b (part, more, is, rows, rest) =
@@ -157,12 +159,19 @@ entrances_of : (c : Code) (tree : Tree) (slots : List Slot) (p : ℕ) (processes
     → slice_get processes i ≡ Some process → slice_get process.procedures number ≡ Some procedure
     → IsProcedureAt (unwrap_or (slice_get parts i) no_part).procedures (start_in (unwrap_or (slice_get parts i) no_part).procedures number)
 entrances_of c tree slots p [] parts a b code i number process procedure at there = absurd (none_some at)
-entrances_of c tree slots p (one ∷ others) parts a b (part, more, is, (m, (tells, (r, body, (q, done, code))), rest)) zero number process procedure at there =
-    subst (λ ps. IsProcedureAt (unwrap_or (slice_get ps zero) no_part).procedures (start_in (unwrap_or (slice_get ps zero) no_part).procedures number)) (sym is)
+entrances_of c tree slots p (one ∷ others) parts a b
+    (part, more, is, (m, (tells, (r, body, (q, done, code))), rest)) zero number process procedure at there =
+    subst
+    (λ ps. IsProcedureAt (unwrap_or (slice_get ps zero) no_part).procedures
+    (start_in (unwrap_or (slice_get ps zero) no_part).procedures number))
+    (sym is)
     (procedures_forward c tree slots (owner_by p one) one.procedures part.procedures q m code number procedure
     (subst (λ (x : ProcessDeclaration). slice_get x.procedures number ≡ Some procedure) (sym (some_same at)) there))
 entrances_of c tree slots p (one ∷ others) parts a b (part, more, is, (m, code, rest)) (suc i) number process procedure at there =
-    subst (λ ps. IsProcedureAt (unwrap_or (slice_get ps (suc i)) no_part).procedures (start_in (unwrap_or (slice_get ps (suc i)) no_part).procedures number)) (sym is)
+    subst
+    (λ ps. IsProcedureAt (unwrap_or (slice_get ps (suc i)) no_part).procedures
+    (start_in (unwrap_or (slice_get ps (suc i)) no_part).procedures number))
+    (sym is)
     (entrances_of c tree slots (p + 1) others more m b rest i number process procedure at there)
 
 pub whole_entrances : (c : Code) (tree : Tree) (slots : List Slot) → ProcessesCode tree slots 0 tree.processes c.processes c 0 (length c.instrs)
@@ -203,7 +212,9 @@ module _ (c : Code) (tree : Tree) (slots : List Slot) (f : Instr → Bool) (w : 
         is,
         process_rows c tree slots p process f w table sound plain channels weighs (entrances p) part a m (resolved.processes p process there)
             (All-head (ProcessWithin tree.edition) process others limits) (All-head ProcessSpelled process others spelled)
-            (All-head ProcessHasAlternates process others some) (many_first tree procedures (main ++ later) many) (many_first tree main later behind) code,
+            (All-head ProcessHasAlternates process others some) (many_first tree procedures (main ++ later) many)
+            (many_first tree main later behind) code,
         spread (p + 1) others more m b (λ i n e. texts (suc i) n (omega arith)) resolved (All-tail (ProcessWithin tree.edition) process others limits)
-            (All-tail ProcessSpelled process others spelled) (All-tail ProcessHasAlternates process others some) (many_second tree main later behind) rest,
+            (All-tail ProcessSpelled process others spelled) (All-tail ProcessHasAlternates process others some)
+            (many_second tree main later behind) rest,
       )

@@ -61,7 +61,8 @@ last_or-take xs k d h =
 module _ (first : List Touched) (all : List (List ℤ)) (n : ℕ) (words later : List ℤ) (cache back out : RecoveryCache)
     (n_is : n ≡ length (open_levels cache)) (open_is : open_levels cache ≡ take n first) (copies_is : copies words cache ≡ take n all)
     (cleared : open_levels back ≡ change_last clear (open_levels cache)) (kept : copies later back ≡ copies words cache)
-    (accept : open_levels out ≡ accepted (open_levels back)) (fewer : copies later out ≡ take (length (open_levels back) - 1) (copies later back)) where
+    (accept : open_levels out ≡ accepted (open_levels back))
+    (fewer : copies later out ≡ take (length (open_levels back) - 1) (copies later back)) where
   back_long : length (open_levels back) ≡ n
   back_long = ap length cleared ∙ length-cleared (open_levels cache) ∙ sym n_is
 
@@ -156,7 +157,8 @@ module _ (store : Store) (cache : RecoveryCache) (calls : List Held) (room : ℕ
   front_length = cut_length lines.held (told copy) (sym (ap natural front.0.bytes))
 
   pub few_bytes : told copy ≤ held_bytes lines.held
-  few_bytes = subst (λ n. n ≤ held_bytes lines.held) (front_length.1) (sum_by-take-le (λ (line : List ℕ). length line + 1) lines.held (length lines_then))
+  few_bytes = subst (λ n. n ≤ held_bytes lines.held) (front_length.1)
+      (sum_by-take-le (λ (line : List ℕ). length line + 1) lines.held (length lines_then))
 
   pub lines_taken : take (length lines_then) lines.held ≡ lines_then
   lines_taken = cut_take lines.held (told copy)
@@ -165,7 +167,8 @@ module _ (store : Store) (cache : RecoveryCache) (calls : List Held) (room : ℕ
   calls_then = pick_map calls_at marks k mark 0 within ∙ ap calls_at (mark_is mark)
 
   few_then : mark.calls ≤ length calls
-  few_then = subst (λ n. n ≤ length calls) calls_then (rise_below (map calls_at marks) k (length calls) (let e = length-map marks calls_at in omega arith) tied.entries)
+  few_then = subst (λ n. n ≤ length calls) calls_then
+      (rise_below (map calls_at marks) k (length calls) (let e = length-map marks calls_at in omega arith) tied.entries)
 
   calls_kept : length (take mark.calls calls) ≡ mark.calls
   calls_kept = length-take-le mark.calls calls few_then
@@ -190,13 +193,15 @@ module _ (store : Store) (cache : RecoveryCache) (calls : List Held) (room : ℕ
 
     copy_few : length copy ≤ most_places
     copy_few =
-        let low = rise_below (map length copied_now) k (length store.words) (let e = length-map copied_now length in let t = there in omega arith) tied.heights in
+        let low = rise_below (map length copied_now) k (length store.words)
+        (let e = length-map copied_now length in let t = there in omega arith) tied.heights in
         let same = pick_map length copied_now k [] 0 there in
         let few = tied.few_words in
         omega arith
 
     pub tied_then : (room_after marks_after : ℕ) → room ≤ room_after → marks_room ≤ marks_after → Fits later.words after → after.limits ≡ cache.limits
-        → IsTied later after (take mark.calls calls) room_after (take (k + 1) marks) marks_after (record { held = lines_then; released = lines.released })
+        → IsTied later after (take mark.calls calls) room_after (take (k + 1) marks) marks_after
+        (record { held = lines_then; released = lines.released })
     tied_then room_after marks_after calls_room levels_room fits limits = record {
       limit_is = ap (λ (s : Store). s.limit) stored ∙ tied.limit_is;
       few_words = subst (λ (ws : List ℤ). length ws ≤ most_places) (sym words_then) copy_few;
@@ -230,7 +235,8 @@ module _ (store : Store) (cache : RecoveryCache) (calls : List Held) (room : ℕ
         let found : slice_get before.levels k ≡ Some (level_of mark copy calls) =
         pick marks copied_now calls k mark within (marks_copied _ _ _ _ _ _ _ tied)
         ∙ ap (λ (m : LevelMark). Some (level_of m copy calls)) (mark_is mark) in
-        subst (λ (o : Option (Level Copy)). PutBack k before o (contents later.words after (take mark.calls calls) (take (k + 1) marks) (record { held = lines_then; released = lines.released })))
+        subst (λ (o : Option (Level Copy)). PutBack k before o
+        (contents later.words after (take mark.calls calls) (take (k + 1) marks) (record { held = lines_then; released = lines.released })))
         (sym found) whole
       where
         levels_then : levels_of (take (k + 1) marks) (copies later.words after) (take mark.calls calls) ≡ take (k + 1) before.levels
@@ -242,12 +248,38 @@ module _ (store : Store) (cache : RecoveryCache) (calls : List Held) (room : ℕ
         whole : contents later.words after (take mark.calls calls) (take (k + 1) marks) (record { held = lines_then; released = lines.released })
             ≡ back_at k before (level_of mark copy calls)
         whole =
-            ap (λ (ls : List (Level Copy)). record { words = later.words; calls = calls_of (take mark.calls calls); held = lines_then; touched = open_levels after; levels = ls; waiting = lines.released }) levels_then
-            ∙ ap (λ (ws : List ℤ). record { words = ws; calls = calls_of (take mark.calls calls); held = lines_then; touched = open_levels after; levels = take (k + 1) before.levels; waiting = lines.released }) words_then
-            ∙ ap (λ (ts : List Touched). record { words = copy; calls = calls_of (take mark.calls calls); held = lines_then; touched = ts; levels = take (k + 1) before.levels; waiting = lines.released }) open_are
+            ap (λ (ls : List (Level Copy)). record {
+              words = later.words;
+              calls = calls_of (take mark.calls calls);
+              held =
+                  lines_then;
+              touched = open_levels after;
+              levels = ls;
+              waiting = lines.released;
+            }) levels_then
+            ∙ ap (λ (ws : List ℤ). record {
+              words = ws;
+              calls = calls_of (take mark.calls calls);
+              held =
+                  lines_then;
+              touched = open_levels after;
+              levels = take (k + 1) before.levels;
+              waiting =
+                  lines.released;
+            }) words_then
+            ∙ ap (λ (ts : List Touched). record {
+              words = copy;
+              calls = calls_of (take mark.calls calls);
+              held =
+                  lines_then;
+              touched = ts;
+              levels = take (k + 1) before.levels;
+              waiting = lines.released;
+            }) open_are
 
   pub mark_of : IsMarkOf (slice_get before.levels k) mark
   mark_of =
       let found : slice_get before.levels k ≡ Some (level_of mark copy calls) =
-      pick marks copied_now calls k mark within (marks_copied _ _ _ _ _ _ _ tied) ∙ ap (λ (m : LevelMark). Some (level_of m copy calls)) (mark_is mark) in
+      pick marks copied_now calls k mark within (marks_copied _ _ _ _ _ _ _ tied)
+      ∙ ap (λ (m : LevelMark). Some (level_of m copy calls)) (mark_is mark) in
       subst (λ (o : Option (Level Copy)). IsMarkOf o mark) (sym found) (refl, refl)

@@ -25,7 +25,8 @@ position_push p xs y =
     let n = position_or_len p xs in
     let k = length xs in
     ap (λ i. cond (nat_lt i (length (xs ++ y ∷ []))) (Some i) None) (position_or_len_push p xs y)
-    ∙ ap (λ j. cond (nat_lt (cond (eqb n k) (k + cond (p y) 0 1) n) j) (Some (cond (eqb n k) (k + cond (p y) 0 1) n)) None) (length-append xs (y ∷ []))
+    ∙ ap (λ j. cond (nat_lt (cond (eqb n k) (k + cond (p y) 0 1) n) j) (Some (cond (eqb n k) (k + cond (p y) 0 1) n)) None)
+    (length-append xs (y ∷ []))
     ∙ by (p y) n k (prefix_len-le-length (λ x. not (p x)) xs)
   where
     by : (b : Bool) (n k : ℕ) → n ≤ k → cond (nat_lt (cond (eqb n k) (k + cond b 0 1) n) (k + 1)) (Some (cond (eqb n k) (k + cond b 0 1) n)) None

@@ -97,13 +97,15 @@ fronts_out lines words outer h =
 pub front_new : (lines : List (List ℕ)) (words : List ℤ) → 0 < length words → word_at words held_place ≡ pos (held_bytes lines) → IsFront lines words
 front_new lines words some e = record {
   some = some;
-  bytes = e ∙ ap (λ (ls : List (List ℕ)). pos (held_bytes ls)) (sym (ap (λ n. cut_held n lines) (told_is words (held_bytes lines) e) ∙ cut_all lines));
+  bytes = e ∙ ap (λ (ls : List (List ℕ)). pos (held_bytes ls))
+      (sym (ap (λ n. cut_held n lines) (told_is words (held_bytes lines) e) ∙ cut_all lines));
 }
 
 pub cut_to_all : (lines : List (List ℕ)) (words : List ℤ) → word_at words held_place ≡ pos (held_bytes lines) → cut_held (told words) lines ≡ lines
 cut_to_all lines words e = ap (λ n. cut_held n lines) (told_is words (held_bytes lines) e) ∙ cut_all lines
 
-pub fronts_open : (lines : List (List ℕ)) (words : List ℤ) (copied : List (List ℤ)) → 0 < length words → word_at words held_place ≡ pos (held_bytes lines)
+pub fronts_open : (lines : List (List ℕ)) (words : List ℤ) (copied : List (List ℤ)) → 0 < length words
+    → word_at words held_place ≡ pos (held_bytes lines)
     → Fronts lines (reverse copied) → Fronts lines (reverse (copied ++ words ∷ []))
 fronts_open lines words copied some e h =
     subst (Fronts lines) (sym (reverse-append copied (words ∷ []))) (

@@ -35,7 +35,8 @@ levels_set (n ∷ marks) (ws ∷ copied) calls zero m h e =
 levels_set (n ∷ marks) (ws ∷ copied) calls (suc k) m h e =
     ap (λ (ls : List (Level Copy)). level_of n ws calls ∷ ls) (levels_set marks copied calls k m (omega arith) e)
 
-calls_set : (marks : List LevelMark) (k : ℕ) (m : LevelMark) → k < length marks → get_or marks k m ≡ m → map calls_at (slice_set marks k (next_of m)) ≡ map calls_at marks
+calls_set : (marks : List LevelMark) (k : ℕ) (m : LevelMark) → k < length marks → get_or marks k m ≡ m
+    → map calls_at (slice_set marks k (next_of m)) ≡ map calls_at marks
 calls_set [] k m h e = absurd (omega arith)
 calls_set (n ∷ marks) zero m h e = ap (λ (x : LevelMark). x.calls ∷ map calls_at marks) (sym e)
 calls_set (n ∷ marks) (suc k) m h e = ap (λ (ns : List ℕ). n.calls ∷ ns) (calls_set marks k m (omega arith) e)
@@ -73,7 +74,8 @@ module _ (store : Store) (cache : RecoveryCache) (calls : List Held) (room : ℕ
       bases = tied.bases;
     }
 
-    pub seen_raise : contents store.words cache calls (slice_set marks k (next_of m)) lines ≡ record before { levels = change_at k next_alternate before.levels }
+    pub seen_raise : contents store.words cache calls (slice_set marks k (next_of m)) lines
+        ≡ record before { levels = change_at k next_alternate before.levels }
     seen_raise = ap (λ (ls : List (Level Copy)). record before { levels = ls }) (levels_set marks (copies store.words cache) calls k m within e)
 
     pub can_rise : IsBelowLast (slice_get before.levels k) → m.alternate < 2 ^ 32 - 1
@@ -110,8 +112,10 @@ module _ (store : Store) (cache : RecoveryCache) (calls : List Held) (room : ℕ
     pub seen_forget : contents store.words after calls [] lines ≡ record before { touched = []; levels = [] }
     seen_forget = ap (λ (ts : List Touched). record before { touched = ts; levels = [] }) (none_there (open_levels after) none)
 
-  module _ (none : length before.levels ≡ 0) (later : Store) (after : RecoveryCache) (stored : later ≡ record { words = slice_set store.words 0 (pos 0); limit = store.limit })
-      (copies_are : copies later.words after ≡ copies store.words cache) (open_are : open_levels after ≡ change_last (joined (0 ∷ [])) (open_levels cache)) where
+  module _ (none : length before.levels ≡ 0) (later : Store) (after : RecoveryCache)
+      (stored : later ≡ record { words = slice_set store.words 0 (pos 0); limit = store.limit })
+      (copies_are : copies later.words after ≡ copies store.words cache)
+      (open_are : open_levels after ≡ change_last (joined (0 ∷ [])) (open_levels cache)) where
     no_marks : length marks ≡ 0
     no_marks = sym (marks_levels _ _ _ _ _ _ _ tied) ∙ none
 
@@ -130,9 +134,24 @@ module _ (store : Store) (cache : RecoveryCache) (calls : List Held) (room : ℕ
     pub seen_release : contents later.words after calls marks (record { held = []; released = lines.held })
         ≡ record before { words = slice_set store.words held_place (pos 0); held = []; waiting = before.held }
     seen_release =
-        ap (λ (r : Contents). record r { held = []; waiting = before.held }) (seen_store _ _ _ _ _ _ _ tied after later 0 (pos 0) stored copies_are open_are)
-        ∙ ap (λ (ts : List Touched). record before { words = slice_set store.words held_place (pos 0); touched = change_last (joined (0 ∷ [])) ts; held = []; waiting = before.held }) no_open
-        ∙ ap (λ (ts : List Touched). record before { words = slice_set store.words held_place (pos 0); touched = ts; held = []; waiting = before.held }) (sym no_open)
+        ap (λ (r : Contents). record r { held = []; waiting = before.held })
+        (seen_store _ _ _ _ _ _ _ tied after later 0 (pos 0) stored copies_are open_are)
+        ∙ ap (λ (ts : List Touched). record before {
+          words = slice_set store.words held_place (pos 0);
+          touched =
+              change_last (joined (0 ∷ [])) ts;
+          held = [];
+          waiting = before.held;
+        }) no_open
+        ∙ ap
+        (λ (ts : List Touched). record before {
+          words = slice_set store.words held_place (pos 0);
+          touched = ts;
+          held =
+              [];
+          waiting = before.held;
+        })
+        (sym no_open)
 
 -- where lines are held the held bytes are some, and where none is the held length is 0 as it stands
 kept_zero : (words : List ℤ) → 0 < length words → word_at words held_place ≡ pos 0 → slice_set words held_place (pos 0) ≡ words

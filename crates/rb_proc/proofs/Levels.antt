@@ -26,7 +26,8 @@ levels_more (mark ∷ marks) (words ∷ copied) calls more h =
     let below = rise_first (map calls_at marks) (length calls) h.1 in
     let first = h.0 in
     let same = take-append-le mark.calls calls more (omega arith) in
-    ap (λ (cs : List Held). record (level_of mark words calls) { copy = record { at = mark.at; words = words; calls = calls_of cs; last_kept = mark.last_kept } }
+    ap (λ (cs : List Held). record
+    (level_of mark words calls) { copy = record { at = mark.at; words = words; calls = calls_of cs; last_kept = mark.last_kept } }
     ∷ levels_of marks copied (calls ++ more)) same
     ∙ ap (λ (ls : List (Level Copy)). level_of mark words calls ∷ ls) (levels_more marks copied calls more h.1)
 
@@ -39,13 +40,15 @@ levels_fewer (mark ∷ marks) (words ∷ copied) calls k h =
     let below = rise_first (map calls_at marks) k h.1 in
     let first = h.0 in
     let same = take-take mark.calls k calls (omega arith) in
-    ap (λ (cs : List Held). record (level_of mark words calls) { copy = record { at = mark.at; words = words; calls = calls_of cs; last_kept = mark.last_kept } }
+    ap (λ (cs : List Held). record
+    (level_of mark words calls) { copy = record { at = mark.at; words = words; calls = calls_of cs; last_kept = mark.last_kept } }
     ∷ levels_of marks copied (take k calls)) same
     ∙ ap (λ (ls : List (Level Copy)). level_of mark words calls ∷ ls) (levels_fewer marks copied calls k h.1)
 
 -- one level more
 pub levels_push : (marks : List LevelMark) (copied : List (List ℤ)) (calls : List Held) (mark : LevelMark) (words : List ℤ)
-    → length marks ≡ length copied → levels_of (marks ++ mark ∷ []) (copied ++ words ∷ []) calls ≡ levels_of marks copied calls ++ level_of mark words calls ∷ []
+    → length marks ≡ length copied
+    → levels_of (marks ++ mark ∷ []) (copied ++ words ∷ []) calls ≡ levels_of marks copied calls ++ level_of mark words calls ∷ []
 levels_push [] [] calls mark words e = refl
 levels_push [] (ws ∷ copied) calls mark words e = absurd (omega arith)
 levels_push (m ∷ marks) [] calls mark words e = absurd (omega arith)
@@ -96,7 +99,8 @@ last_or-low (ws ∷ vs ∷ copied) n h =
     subst (λ i. length (get_or (ws ∷ vs ∷ copied) i []) ≤ n) (sym k) (last_or-low (vs ∷ copied) n h.1)
 
 -- the alternate of the innermost level
-pub last_tried : (marks : List LevelMark) (copied : List (List ℤ)) (calls : List Held) (m : LevelMark) → length marks ≡ length copied → 0 < length marks
+pub last_tried : (marks : List LevelMark) (copied : List (List ℤ)) (calls : List Held) (m : LevelMark)
+    → length marks ≡ length copied → 0 < length marks
     → (get_or marks (length marks - 1) m).alternate ≡ tried_at (last_of (levels_of marks copied calls))
 last_tried [] copied calls m e h = absurd (omega arith)
 last_tried (n ∷ marks) [] calls m e h = absurd (omega arith)
@@ -107,6 +111,7 @@ last_tried (n ∷ o ∷ marks) (ws ∷ vs ∷ copied) calls m e h =
     let k : length (n ∷ o ∷ marks) - 1 ≡ suc (length (o ∷ marks) - 1) = omega arith in
     ap (λ i. (get_or (n ∷ o ∷ marks) i m).alternate) k ∙ last_tried (o ∷ marks) (vs ∷ copied) calls m (omega arith) (omega arith)
 
-pub none_tried : (marks : List LevelMark) (copied : List (List ℤ)) (calls : List Held) → length marks ≡ 0 → 0 ≡ tried_at (last_of (levels_of marks copied calls))
+pub none_tried : (marks : List LevelMark) (copied : List (List ℤ)) (calls : List Held) → length marks ≡ 0
+    → 0 ≡ tried_at (last_of (levels_of marks copied calls))
 none_tried [] copied calls e = refl
 none_tried (m ∷ marks) copied calls e = absurd (omega arith)

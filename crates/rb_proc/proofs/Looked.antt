@@ -101,8 +101,10 @@ pub marks_few : (n : ℕ) (marks : List LevelMark) (copied : List (List ℤ)) (c
     → Each (λ _ (level : Level Copy). level.used < n) (levels_of marks copied calls) → Each (λ _ (mark : LevelMark). mark.used < n) marks
 marks_few n [] copied calls e few r m h = absurd (none-some m h)
 marks_few n (m ∷ marks) [] calls e few r x h = absurd (omega arith)
-marks_few n (m ∷ marks) (ws ∷ copied) calls e few zero x h = subst (λ (y : LevelMark). y.used < n) (same_Some m x h) (few zero (level_of m ws calls) refl)
-marks_few n (m ∷ marks) (ws ∷ copied) calls e few (suc r) x h = marks_few n marks copied calls (omega arith) (λ k level there. few (suc k) level there) r x h
+marks_few n (m ∷ marks) (ws ∷ copied) calls e few zero x h =
+    subst (λ (y : LevelMark). y.used < n) (same_Some m x h) (few zero (level_of m ws calls) refl)
+marks_few n (m ∷ marks) (ws ∷ copied) calls e few (suc r) x h =
+    marks_few n marks copied calls (omega arith) (λ k level there. few (suc k) level there) r x h
 
 -- the copies of levels are those of the cache
 copies_there : (marks : List LevelMark) (copied : List (List ℤ)) (calls : List Held) (k : ℕ) → k < length marks → length marks ≡ length copied

@@ -36,7 +36,8 @@ sized_change (values ∷ slots) (ends ∷ channels) (suc k) n v e =
     ap (λ (s : Slots). values ∷ s) (sized_change slots channels k n v e.1)
 
 -- a slot that is written leaves each channel as many
-pub lengths_kept : (k : ℕ) (n : List ℤ → ℕ) (v : ℤ) (slots : Slots) → map length (change_at k (λ (values : List ℤ). slice_set values (n values) v) slots) ≡ map length slots
+pub lengths_kept : (k : ℕ) (n : List ℤ → ℕ) (v : ℤ) (slots : Slots)
+    → map length (change_at k (λ (values : List ℤ). slice_set values (n values) v) slots) ≡ map length slots
 lengths_kept k n v [] = refl
 lengths_kept zero n v (values ∷ slots) = ap (λ l. l ∷ map length slots) (length-set values (n values) v)
 lengths_kept (suc k) n v (values ∷ slots) = ap (λ (ls : List ℕ). length values ∷ ls) (lengths_kept k n v slots)
@@ -50,7 +51,8 @@ pub put_comes : (c : Code) (see : Sight) (p channel at place : ℕ) (ops rest : 
     → Going (at + 1) rest (mem new pieces counters after)
     ≡ on_top ops (λ w others. Going (at + 1) others (put c see channel w (mem old pieces counters before)))
 put_comes c see p channel at place ops rest v cursor next old new before after pieces counters process_is ops_are place_is cursor_is next_is new_is after_is =
-    let changed : ℕ → ℤ → Contents = λ (k : ℕ) (z : ℤ). record old { words = slice_set old.words k z; touched = change_last (joined (k ∷ [])) old.touched } in
+    let changed : ℕ → ℤ → Contents =
+    λ (k : ℕ) (z : ℤ). record old { words = slice_set old.words k z; touched = change_last (joined (k ∷ [])) old.touched } in
     let goes : Contents → Slots → Outcome = λ (r : Contents) (s : Slots). Going (at + 1) rest (mem r pieces counters s) in
     let slots : ℤ → Slots = λ (z : ℤ). put_slot c.channels channel (natural z) v before in
     ap (λ (r : Contents). goes r after) new_is

@@ -86,7 +86,16 @@ module _ (store : Store) (cache : RecoveryCache) (calls : List Held) (call : Hel
 
       pub seen_back : contents later.words cache calls marks lines ≡ record before { words = take call.base store.words; calls = calls_of calls }
       seen_back =
-          ap (λ (ls : List (Level Copy)). record { words = later.words; calls = calls_of calls; held = lines.held; touched = open_levels cache; levels = ls; waiting = lines.released })
-          (ap (levels_of marks (copies later.words cache)) (sym first_calls) ∙ levels_fewer marks (copies later.words cache) (calls ++ call ∷ []) (length calls) entries)
+          ap (λ (ls : List (Level Copy)). record {
+            words = later.words;
+            calls = calls_of calls;
+            held = lines.held;
+            touched =
+                open_levels cache;
+            levels = ls;
+            waiting = lines.released;
+          })
+          (ap (levels_of marks (copies later.words cache)) (sym first_calls)
+          ∙ levels_fewer marks (copies later.words cache) (calls ++ call ∷ []) (length calls) entries)
           ∙ ap (λ (r : Contents). record r { calls = calls_of calls })
           (seen_cut _ _ _ _ _ _ _ tied later call.base stored here.0 (bases_last calls call tied.bases) here.1)

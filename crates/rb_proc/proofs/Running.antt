@@ -80,11 +80,14 @@ module _ (c : Code) (see : Sight) (P : Memory → Type 0) (calls : ℕ) (start :
       rises low = by i cursor_here
         where
           by : (i : Instr) → CursorStays c see calls start (Some i) m.words → CursorRises c see m.words i
-          by (Put channel) s = subst (λ (ws : List ℤ). natural (word_at ws (cursor_place (here c see) channel)) < 2 ^ 32 - 1) (sym s.1) (low channel s.0)
-          by (Take channel) s = subst (λ (ws : List ℤ). natural (word_at ws (cursor_place (here c see) channel)) < 2 ^ 32 - 1) (sym s.1) (low channel s.0)
+          by (Put channel) s =
+              subst (λ (ws : List ℤ). natural (word_at ws (cursor_place (here c see) channel)) < 2 ^ 32 - 1) (sym s.1) (low channel s.0)
+          by (Take channel) s =
+              subst (λ (ws : List ℤ). natural (word_at ws (cursor_place (here c see) channel)) < 2 ^ 32 - 1) (sym s.1) (low channel s.0)
           by i s = tt
 
-      stays_on : (o : Outcome) → o ≡ act c see i a xs m → (n : ℕ) → Stays c see calls start (suc n) a xs m → StaysOn c see calls start o (Stays c see calls start n)
+      stays_on : (o : Outcome) → o ≡ act c see i a xs m → (n : ℕ) → Stays c see calls start (suc n) a xs m
+          → StaysOn c see calls start o (Stays c see calls start n)
       stays_on o e n s =
           subst (λ x. StaysOn c see calls start x (Stays c see calls start n)) (sym e)
           (subst (λ x. StaysOn c see calls start (act_at c see x a xs m) (Stays c see calls start n)) q s.1)
@@ -117,7 +120,8 @@ module _ (c : Code) (see : Sight) (P : Memory → Type 0) (calls : ℕ) (start :
       -- what is named from here on
       names : (o : Outcome) → o ≡ act c see i a xs m → (n : ℕ) → named_along c see (suc n) a xs m ≡ named i + named_from o (named_along c see n)
       names o e n =
-          ap (λ x. named_at x + named_from (act_at c see x a xs m) (named_along c see n)) q ∙ ap (λ x. named i + named_from x (named_along c see n)) (sym e)
+          ap (λ x. named_at x + named_from (act_at c see x a xs m) (named_along c see n)) q
+          ∙ ap (λ x. named i + named_from x (named_along c see n)) (sym e)
 
       pub names_here : named i ≤ named_along c see runs.n a xs m
       names_here = at runs.n runs.safe
@@ -197,13 +201,23 @@ module _ (c : Code) (see : Sight) (P : Memory → Type 0) (calls : ℕ) (start :
           at (suc n) safe = on o (Safe c see P n) h (safe_on o e n safe)
 
 -- where a memory is unchanged, so is what the process can recover
-pub same_contents : (old new : Contents) (pieces later_pieces : List (List ℕ)) (counters later_counters : List (Option Counting)) (slots later_slots : Slots)
-    → IsUnchanged (mem old pieces counters slots) (mem new later_pieces later_counters later_slots) → new.levels ≡ old.levels → new.waiting ≡ old.waiting
+pub same_contents : (old new : Contents) (pieces later_pieces : List (List ℕ))
+    (counters later_counters : List (Option Counting)) (slots later_slots : Slots)
+    → IsUnchanged (mem old pieces counters slots) (mem new later_pieces later_counters later_slots)
+    → new.levels ≡ old.levels → new.waiting ≡ old.waiting
     → new ≡ old
 same_contents old new pieces later_pieces counters later_counters slots later_slots h levels waiting =
     ap (λ (ws : List ℤ). record new { words = ws }) h.words
     ∙ ap (λ (cs : List OpenCall). record new { words = old.words; calls = cs }) h.calls
     ∙ ap (λ (hs : List (List ℕ)). record new { words = old.words; calls = old.calls; held = hs }) h.held
     ∙ ap (λ (ts : List Touched). record new { words = old.words; calls = old.calls; held = old.held; touched = ts }) h.touched
-    ∙ ap (λ (ls : List (Level Copy)). record { words = old.words; calls = old.calls; held = old.held; touched = old.touched; levels = ls; waiting = new.waiting }) levels
+    ∙ ap (λ (ls : List (Level Copy)). record {
+      words = old.words;
+      calls = old.calls;
+      held = old.held;
+      touched =
+          old.touched;
+      levels = ls;
+      waiting = new.waiting;
+    }) levels
     ∙ ap (λ (ws : List (List ℕ)). record old { waiting = ws }) waiting

@@ -45,7 +45,8 @@ alternate_is (Enters facts) levels = refl
 alternate_is Starts levels = refl
 alternate_is Acts levels = refl
 
-pub message_is : (c : Code) (s : Standing) (slots : Slots) (there : Bool) (w : Want) → message_by c s.process s.words slots there (wanted_by w) ≡ message_for c s slots there w
+pub message_is : (c : Code) (s : Standing) (slots : Slots) (there : Bool) (w : Want)
+    → message_by c s.process s.words slots there (wanted_by w) ≡ message_for c s slots there w
 message_is c s slots there NothingLeft = refl
 message_is c s slots there (SendsOn channel) = refl
 message_is c s slots there (ReceivesOn channel) = refl
@@ -77,7 +78,8 @@ module _ (c : Code) (q : Process Standing Copy) (slots : Slots) (there : Bool) w
   -- what the instructions of a step come to
   abbrev pub whole_step : Came
   whole_step =
-      execute c (sight q.state (alternate_for (want c q.state) q.levels) (copy_of (last_of q.levels)) (message_for c q.state slots there (want c q.state)))
+      execute c (sight q.state (alternate_for (want c q.state) q.levels) (copy_of (last_of q.levels))
+      (message_for c q.state slots there (want c q.state)))
       (most_steps c) (q.state.at + 1) [] (memory_of q.state slots)
 
   pub stop_comes : (at : ℕ) (w : Memory) (r : Process Standing Copy) (after : Slots) → Stopped at w ≡ whole_step
@@ -95,13 +97,17 @@ module _ (c : Code) (q : Process Standing Copy) (slots : Slots) (there : Bool) w
   pub trap_comes : (cause : Cause) (r : Process Standing Copy) (after : Slots) → Trapped cause ≡ whole_step → r ≡ q → after ≡ slots
       → StepsTo c q slots (step_of c q slots there) (outcome.Trap cause) r after
   trap_comes cause r after e r_is after_is =
-      subst (λ (o : Came). StepsTo c q slots (came_to q.state (record { slots = slots; links = [] }) o) (outcome.Trap cause) r after) e (refl, r_is, after_is)
+      subst
+      (λ (o : Came). StepsTo c q slots (came_to q.state (record { slots = slots; links = [] }) o) (outcome.Trap cause) r after) e
+      (refl, r_is, after_is)
 
 -- A step of a process by its parts: what it is given is what the word machine is given.
-module _ (c : Code) (r : Contents) (process at kept : ℕ) (at_line : Bool) (status : Status) (slots : Slots) (there : Bool) (bench : Bench) (sg : Sight)
+module _ (c : Code) (r : Contents) (process at kept : ℕ) (at_line : Bool) (status : Status) (slots : Slots) (there : Bool)
+    (bench : Bench) (sg : Sight)
     (w : Wanted) (alt : ℕ) (msg : Option ℤ) (want_ok : w ≡ wanted_by (want c (standing r process at kept))) (alt_ok : alt ≡ alternate_by w r.levels)
     (msg_ok : msg ≡ message_by c process r.words slots there w) (process_ok : sg.process ≡ process) (message_ok : sg.message ≡ msg)
-    (alternate_ok : sg.alternate ≡ alt) (operands_ok : bench.operands ≡ []) (pieces_ok : bench.line.pieces ≡ []) (counters_ok : bench.counters ≡ no_counters) where
+    (alternate_ok : sg.alternate ≡ alt) (operands_ok : bench.operands ≡ []) (pieces_ok : bench.line.pieces ≡ [])
+    (counters_ok : bench.counters ≡ no_counters) where
   abbrev pub now : Process Standing Copy
   now = (seen r process at kept at_line status).process
 
@@ -113,9 +119,16 @@ module _ (c : Code) (r : Contents) (process at kept : ℕ) (at_line : Bool) (sta
 
   sight_is : see_of sg r.levels ≡ sight now.state alternate_now (copy_of (last_of now.levels)) message_now
   sight_is =
-      ap (λ (p : ℕ). record { process = p; prior = prior_words (copy_of (last_of r.levels)); message = sg.message; alternate = sg.alternate }) process_ok
+      ap (λ (p : ℕ). record {
+        process = p;
+        prior = prior_words (copy_of (last_of r.levels));
+        message =
+            sg.message;
+        alternate = sg.alternate;
+      }) process_ok
       ∙ ap (λ (m : Option ℤ). record { process = process; prior = prior_words (copy_of (last_of r.levels)); message = m; alternate = sg.alternate })
-      (message_ok ∙ msg_ok ∙ ap (λ (x : Wanted). message_by c process r.words slots there x) want_ok ∙ message_is c now.state slots there (want c now.state))
+      (message_ok ∙ msg_ok ∙ ap (λ (x : Wanted). message_by c process r.words slots there x) want_ok
+      ∙ message_is c now.state slots there (want c now.state))
       ∙ ap (λ (a : ℕ). record { process = process; prior = prior_words (copy_of (last_of r.levels)); message = message_now; alternate = a })
       (alternate_ok ∙ alt_ok ∙ ap (λ (x : Wanted). alternate_by x r.levels) want_ok ∙ alternate_is (want c now.state) r.levels)
 
@@ -124,20 +137,41 @@ module _ (c : Code) (r : Contents) (process at kept : ℕ) (at_line : Bool) (sta
       ap (λ (ps : List Piece). mem r (map (piece_text c.texts) ps) bench.counters slots) pieces_ok
       ∙ ap (λ (cs : List (Option Counting)). mem r [] cs slots) counters_ok
 
-  pub step_safe : (groups : List Membership) → StandsSoundly c groups now.state now.levels → Serves (want c now.state) alternate_now message_now now.levels
+  pub step_safe : (groups : List Membership) → StandsSoundly c groups now.state now.levels
+      → Serves (want c now.state) alternate_now message_now now.levels
       → Safe c (see_of sg r.levels) (IsUnchanged (whole c.texts bench r slots)) (most_steps c) (at + 1) bench.operands (whole c.texts bench r slots)
   step_safe groups stands serves =
-      subst (λ (see : Seen). Safe c see (IsUnchanged (whole c.texts bench r slots)) (most_steps c) (at + 1) bench.operands (whole c.texts bench r slots)) (sym sight_is)
-      (subst (λ (m : Memory). Safe c (sight now.state alternate_now (copy_of (last_of now.levels)) message_now) (IsUnchanged m) (most_steps c) (at + 1) bench.operands m) (sym memory_is)
-      (subst (λ (xs : List ℤ). Safe c (sight now.state alternate_now (copy_of (last_of now.levels)) message_now) (IsUnchanged (memory_of now.state slots)) (most_steps c) (at + 1) xs (memory_of now.state slots)) (sym operands_ok)
+      subst
+      (λ (see : Seen). Safe c see (IsUnchanged (whole c.texts bench r slots)) (most_steps c) (at + 1) bench.operands
+      (whole c.texts bench r slots))
+      (sym sight_is)
+      (subst
+      (λ (m : Memory). Safe c (sight now.state alternate_now (copy_of (last_of now.levels)) message_now) (IsUnchanged m)
+      (most_steps c) (at + 1) bench.operands m)
+      (sym memory_is)
+      (subst
+      (λ (xs : List ℤ). Safe c (sight now.state alternate_now (copy_of (last_of now.levels)) message_now)
+      (IsUnchanged (memory_of now.state slots)) (most_steps c) (at + 1) xs (memory_of now.state slots))
+      (sym operands_ok)
       (steps_are_safe c groups now.state now.levels alternate_now message_now slots stands serves)))
 
-  pub step_stays : (groups : List Membership) → StandsSoundly c groups now.state now.levels → Serves (want c now.state) alternate_now message_now now.levels
-      → Stays c (see_of sg r.levels) (entry_calls (copy_of (last_of r.levels))) r.words (most_steps c) (at + 1) bench.operands (whole c.texts bench r slots)
+  pub step_stays : (groups : List Membership) → StandsSoundly c groups now.state now.levels
+      → Serves (want c now.state) alternate_now message_now now.levels
+      → Stays c (see_of sg r.levels) (entry_calls (copy_of (last_of r.levels))) r.words (most_steps c)
+      (at + 1) bench.operands (whole c.texts bench r slots)
   step_stays groups stands serves =
-      subst (λ (see : Seen). Stays c see (entry_calls (copy_of (last_of r.levels))) r.words (most_steps c) (at + 1) bench.operands (whole c.texts bench r slots)) (sym sight_is)
-      (subst (λ (m : Memory). Stays c (sight now.state alternate_now (copy_of (last_of now.levels)) message_now) (entry_calls (copy_of (last_of r.levels))) r.words (most_steps c) (at + 1) bench.operands m) (sym memory_is)
-      (subst (λ (xs : List ℤ). Stays c (sight now.state alternate_now (copy_of (last_of now.levels)) message_now) (entry_calls (copy_of (last_of r.levels))) r.words (most_steps c) (at + 1) xs (memory_of now.state slots)) (sym operands_ok)
+      subst
+      (λ (see : Seen). Stays c see (entry_calls (copy_of (last_of r.levels))) r.words (most_steps c)
+      (at + 1) bench.operands (whole c.texts bench r slots))
+      (sym sight_is)
+      (subst
+      (λ (m : Memory). Stays c (sight now.state alternate_now (copy_of (last_of now.levels)) message_now)
+      (entry_calls (copy_of (last_of r.levels))) r.words (most_steps c) (at + 1) bench.operands m)
+      (sym memory_is)
+      (subst
+      (λ (xs : List ℤ). Stays c (sight now.state alternate_now (copy_of (last_of now.levels)) message_now)
+      (entry_calls (copy_of (last_of r.levels))) r.words (most_steps c) (at + 1) xs (memory_of now.state slots))
+      (sym operands_ok)
       (steps_stay c groups now.state now.levels alternate_now message_now slots stands serves)))
 
   -- so whatever is made of it is what is made of that
@@ -151,11 +185,13 @@ module _ (c : Code) (r : Contents) (process at kept : ℕ) (at_line : Bool) (sta
   pub executes : execute c (see_of sg r.levels) (most_steps c) (at + 1) bench.operands (whole c.texts bench r slots) ≡ whole_step c now slots there
   executes = as_given (λ see m xs. execute c see (most_steps c) (at + 1) xs m)
 
-  pub step_named : named_along c (see_of sg r.levels) (most_steps c) (at + 1) bench.operands (whole c.texts bench r slots) ≡ named_in_step c now slots there
+  pub step_named : named_along c (see_of sg r.levels) (most_steps c) (at + 1) bench.operands (whole c.texts bench r slots)
+      ≡ named_in_step c now slots there
   step_named = as_given (λ see m xs. named_along c see (most_steps c) (at + 1) xs m)
 
 -- what is safe stays so where less is asked
-safe_weaker : (c : Code) (see : Seen) (P Q : Memory → Type 0) → ((m : Memory) → P m → Q m) → (n a : ℕ) (xs : List ℤ) (m : Memory) → Safe c see P n a xs m
+safe_weaker : (c : Code) (see : Seen) (P Q : Memory → Type 0) → ((m : Memory) → P m → Q m)
+    → (n a : ℕ) (xs : List ℤ) (m : Memory) → Safe c see P n a xs m
     → Safe c see Q n a xs m
 safe_weaker c see P Q f zero a xs m s = absurd s
 safe_weaker c see P Q f (suc n) a xs m s = (s.0, on (λ b ys later k. safe_weaker c see P Q f n b ys later k) (move c see a xs m) s.1)
@@ -169,8 +205,10 @@ safe_weaker c see P Q f (suc n) a xs m s = (s.0, on (λ b ys later k. safe_weake
     on next Unfinished k = absurd k
 
 -- Settling by its parts.
-module _ (c : Code) (r : Contents) (process at kept : ℕ) (bench : Bench) (sg : Sight) (process_ok : sg.process ≡ process) (message_ok : sg.message ≡ None)
-    (alternate_ok : sg.alternate ≡ 0) (operands_ok : bench.operands ≡ []) (pieces_ok : bench.line.pieces ≡ []) (counters_ok : bench.counters ≡ no_counters) where
+module _ (c : Code) (r : Contents) (process at kept : ℕ) (bench : Bench) (sg : Sight) (process_ok : sg.process ≡ process)
+    (message_ok : sg.message ≡ None)
+    (alternate_ok : sg.alternate ≡ 0) (operands_ok : bench.operands ≡ []) (pieces_ok : bench.line.pieces ≡ [])
+    (counters_ok : bench.counters ≡ no_counters) where
   abbrev pub state_now : Standing
   state_now = standing r process at kept
 
@@ -179,8 +217,20 @@ module _ (c : Code) (r : Contents) (process at kept : ℕ) (bench : Bench) (sg :
 
   settling_sight : see_of sg r.levels ≡ sees
   settling_sight =
-      ap (λ (p : ℕ). record { process = p; prior = prior_words (copy_of (last_of r.levels)); message = sg.message; alternate = sg.alternate }) process_ok
-      ∙ ap (λ (m : Option ℤ). record { process = process; prior = prior_words (copy_of (last_of r.levels)); message = m; alternate = sg.alternate }) message_ok
+      ap (λ (p : ℕ). record {
+        process = p;
+        prior = prior_words (copy_of (last_of r.levels));
+        message =
+            sg.message;
+        alternate = sg.alternate;
+      }) process_ok
+      ∙ ap (λ (m : Option ℤ). record {
+        process = process;
+        prior = prior_words (copy_of (last_of r.levels));
+        message =
+            m;
+        alternate = sg.alternate;
+      }) message_ok
       ∙ ap (λ (a : ℕ). record { process = process; prior = prior_words (copy_of (last_of r.levels)); message = None; alternate = a }) alternate_ok
 
   settling_memory : whole c.texts bench r [] ≡ memory_of state_now []
@@ -194,13 +244,16 @@ module _ (c : Code) (r : Contents) (process at kept : ℕ) (bench : Bench) (sg :
       ap (λ (see : Seen). f see (whole c.texts bench r []) bench.operands) settling_sight
       ∙ ap (λ (m : Memory). f sees m bench.operands) settling_memory ∙ ap (λ (xs : List ℤ). f sees (memory_of state_now []) xs) operands_ok
 
-  pub settle_named : named_along c (see_of sg r.levels) (most_steps c) at bench.operands (whole c.texts bench r []) ≡ named_settling c state_now r.levels
+  pub settle_named : named_along c (see_of sg r.levels) (most_steps c) at bench.operands (whole c.texts bench r [])
+      ≡ named_settling c state_now r.levels
   settle_named = settling_given (λ see m xs. named_along c see (most_steps c) at xs m)
 
   pub settle_safe : (groups : List Membership) → SettlesSoundly c groups state_now r.levels
       → Safe c (see_of sg r.levels) (IsUnchanged (whole c.texts bench r [])) (most_steps c) at bench.operands (whole c.texts bench r [])
   settle_safe groups settles =
-      subst (λ (see : Seen). Safe c see (IsUnchanged (whole c.texts bench r [])) (most_steps c) at bench.operands (whole c.texts bench r [])) (sym settling_sight)
+      subst
+      (λ (see : Seen). Safe c see (IsUnchanged (whole c.texts bench r [])) (most_steps c) at bench.operands (whole c.texts bench r []))
+      (sym settling_sight)
       (subst (λ (m : Memory). Safe c sees (IsUnchanged m) (most_steps c) at bench.operands m) (sym settling_memory)
       (subst (λ (xs : List ℤ). Safe c sees (IsUnchanged (memory_of state_now [])) (most_steps c) at xs (memory_of state_now [])) (sym operands_ok)
       (safe_weaker c sees (λ m. ⊥) (IsUnchanged (memory_of state_now [])) (λ m k. absurd k) (most_steps c) at [] (memory_of state_now [])
@@ -209,12 +262,18 @@ module _ (c : Code) (r : Contents) (process at kept : ℕ) (bench : Bench) (sg :
   pub settle_stays : (groups : List Membership) → SettlesSoundly c groups state_now r.levels
       → Stays c (see_of sg r.levels) (entry_calls (copy_of (last_of r.levels))) [] (most_steps c) at bench.operands (whole c.texts bench r [])
   settle_stays groups settles =
-      subst (λ (see : Seen). Stays c see (entry_calls (copy_of (last_of r.levels))) [] (most_steps c) at bench.operands (whole c.texts bench r [])) (sym settling_sight)
+      subst
+      (λ (see : Seen). Stays c see (entry_calls (copy_of (last_of r.levels))) [] (most_steps c) at bench.operands
+      (whole c.texts bench r []))
+      (sym settling_sight)
       (subst (λ (m : Memory). Stays c sees (entry_calls (copy_of (last_of r.levels))) [] (most_steps c) at bench.operands m) (sym settling_memory)
-      (subst (λ (xs : List ℤ). Stays c sees (entry_calls (copy_of (last_of r.levels))) [] (most_steps c) at xs (memory_of state_now [])) (sym operands_ok)
+      (subst
+      (λ (xs : List ℤ). Stays c sees (entry_calls (copy_of (last_of r.levels))) [] (most_steps c) at xs (memory_of state_now []))
+      (sym operands_ok)
       (settling_stays c groups state_now r.levels [] settles)))
 
-  pub settle_comes : (came : Ended) (after : Contents) (pieces : List (List ℕ)) (counters : List (Option Counting)) (slots : Slots) (st : Status) (waiting : List (List ℕ))
+  pub settle_comes : (came : Ended) (after : Contents) (pieces : List (List ℕ)) (counters : List (Option Counting))
+      (slots : Slots) (st : Status) (waiting : List (List ℕ))
       → ended_of came (mem after pieces counters slots) ≡ execute c (see_of sg r.levels) (most_steps c) at bench.operands (whole c.texts bench r [])
       → KeepsEnded came r after [] slots
       → status_of st ≡ status_at (wants_there c (slice_get c.instrs (stop_at came at)) (slice_get c.instrs (stop_at came at + 1)))
@@ -226,7 +285,8 @@ module _ (c : Code) (r : Contents) (process at kept : ℕ) (bench : Bench) (sg :
       (e ∙ settling_given (λ see m xs. execute c see (most_steps c) at xs m))
     where
       same : (to : ℕ) → after ≡ r → status_of st ≡ status_at (wants_there c (slice_get c.instrs at) (slice_get c.instrs (at + 1)))
-          → record { state = standing after process at kept; levels = after.levels; at_line = false; status = status_of st } ≡ goes_on (kind_of c) state_now r.levels
+          → record { state = standing after process at kept; levels = after.levels; at_line = false; status = status_of st }
+          ≡ goes_on (kind_of c) state_now r.levels
       same to k q =
           ap (λ (x : Contents). record { state = standing x process at kept; levels = x.levels; at_line = false; status = status_of st }) k
           ∙ ap (λ (x : Stands). record { state = state_now; levels = r.levels; at_line = false; status = x }) q
@@ -241,7 +301,8 @@ module _ (c : Code) (r : Contents) (process at kept : ℕ) (bench : Bench) (sg :
       by (ended.Accepts a) k q = same a k.0 q
       by (ended.Trap cause) k q = same 0 k.0 q
 
-  pub settle_seen : (came : Ended) (after : Contents) (pieces : List (List ℕ)) (counters : List (Option Counting)) (slots : Slots) (st : Status) (to : ℕ)
+  pub settle_seen : (came : Ended) (after : Contents) (pieces : List (List ℕ)) (counters : List (Option Counting))
+      (slots : Slots) (st : Status) (to : ℕ)
       → ended_of came (mem after pieces counters slots) ≡ execute c (see_of sg r.levels) (most_steps c) at bench.operands (whole c.texts bench r [])
       → KeepsEnded came r after [] slots → to ≡ stop_at came at
       → status_of st ≡ status_at (wants_there c (slice_get c.instrs to) (slice_get c.instrs (to + 1)))

@@ -13,7 +13,8 @@ use Rattle.rb_proc.specs.Contents.{Contents}
 use Rattle.rb_proc.specs.Outcomes.{mem}
 
 -- a text joins the line
-there_is : (texts : List (List ℕ)) (k : ℕ) (go : List ℕ → Outcome) → k < length texts → if_there (slice_get texts k) go ≡ go (unwrap_or (slice_get texts k) [])
+there_is : (texts : List (List ℕ)) (k : ℕ) (go : List ℕ → Outcome) → k < length texts
+    → if_there (slice_get texts k) go ≡ go (unwrap_or (slice_get texts k) [])
 there_is [] k go h = absurd (omega arith)
 there_is (text ∷ texts) zero go h = refl
 there_is (text ∷ texts) (suc k) go h = there_is texts k go (omega arith)
@@ -21,8 +22,11 @@ there_is (text ∷ texts) (suc k) go h = there_is texts k go (omega arith)
 pub text_comes : (texts : List (List ℕ)) (bench : Bench) (r : Contents) (slots : Slots) (at k : ℕ) (after : LineSeen)
     → after ≡ record { pieces = bench.line.pieces ++ Text k ∷ []; bytes = bench.line.bytes } → k < length texts
     → Going (at + 1) bench.operands (mem r (map (piece_text texts) after.pieces) bench.counters slots)
-    ≡ if_there (slice_get texts k) (λ text. Going (at + 1) bench.operands (mem r (map (piece_text texts) bench.line.pieces ++ text ∷ []) bench.counters slots))
+    ≡ if_there (slice_get texts k)
+    (λ text. Going (at + 1) bench.operands (mem r (map (piece_text texts) bench.line.pieces ++ text ∷ []) bench.counters slots))
 text_comes texts bench r slots at k after e h =
     ap (λ (l : LineSeen). Going (at + 1) bench.operands (mem r (map (piece_text texts) l.pieces) bench.counters slots)) e
-    ∙ ap (λ (ps : List (List ℕ)). Going (at + 1) bench.operands (mem r ps bench.counters slots)) (map-append (piece_text texts) bench.line.pieces (Text k ∷ []))
-    ∙ sym (there_is texts k (λ text. Going (at + 1) bench.operands (mem r (map (piece_text texts) bench.line.pieces ++ text ∷ []) bench.counters slots)) h)
+    ∙ ap (λ (ps : List (List ℕ)). Going (at + 1) bench.operands (mem r ps bench.counters slots))
+    (map-append (piece_text texts) bench.line.pieces (Text k ∷ []))
+    ∙ sym (there_is texts k
+    (λ text. Going (at + 1) bench.operands (mem r (map (piece_text texts) bench.line.pieces ++ text ∷ []) bench.counters slots)) h)

@@ -77,7 +77,9 @@ module _ (store : Store) (cache : RecoveryCache) (calls : List Held) (room : ℕ
   prior_there at h = by marks refl
     where
       by : (ms : List LevelMark) → marks ≡ ms → 0 < length (open_levels cache)
-      by [] e = absurd (let none : 0 ≡ length (prior_words (copy_of (last_of seen.levels))) = sym (ap (λ ms. length (prior_words (copy_of (last_of (levels_of ms copied calls))))) e) in omega arith)
+      by [] e = absurd
+          (let none : 0 ≡ length (prior_words (copy_of (last_of seen.levels))) =
+          sym (ap (λ ms. length (prior_words (copy_of (last_of (levels_of ms copied calls))))) e) in omega arith)
       by (m ∷ ms) e = let k = marks_open in let n = ap length e in omega arith
 
   -- a level is opened
@@ -117,15 +119,39 @@ module _ (store : Store) (cache : RecoveryCache) (calls : List Held) (room : ℕ
     pub seen_open : contents store.words after calls (marks ++ mark ∷ []) lines
         ≡ record seen {
           touched = seen.touched ++ entered (length store.words) ∷ [];
-          levels = seen.levels ++ record (level_of mark store.words calls) { copy = record { at = mark.at; words = store.words; calls = calls_of calls; last_kept = mark.last_kept } } ∷ [];
+          levels = seen.levels
+              ++ record (level_of mark store.words calls) {
+                copy =
+                    record { at = mark.at; words = store.words; calls = calls_of calls; last_kept = mark.last_kept };
+              }
+              ∷ [];
         }
     seen_open =
-        ap (λ (ts : List Touched). record { words = store.words; calls = calls_of calls; held = lines.held; touched = ts; levels = levels_of (marks ++ mark ∷ []) (copies store.words after) calls; waiting = lines.released }) opened
-        ∙ ap (λ (cs : List (List ℤ)). record seen { touched = seen.touched ++ entered (length store.words) ∷ []; levels = levels_of (marks ++ mark ∷ []) cs calls }) copies_are
-        ∙ ap (λ (ls : List (Level Copy)). record seen { touched = seen.touched ++ entered (length store.words) ∷ []; levels = ls }) (levels_push marks copied calls mark store.words marks_copied)
+        ap (λ (ts : List Touched). record {
+          words = store.words;
+          calls = calls_of calls;
+          held = lines.held;
+          touched =
+              ts;
+          levels = levels_of (marks ++ mark ∷ []) (copies store.words after) calls;
+          waiting = lines.released;
+        }) opened
+        ∙ ap (λ (cs : List (List ℤ)). record seen {
+          touched = seen.touched ++ entered (length store.words) ∷ [];
+          levels =
+              levels_of (marks ++ mark ∷ []) cs calls;
+        }) copies_are
+        ∙ ap
+        (λ (ls : List (Level Copy)). record seen { touched = seen.touched ++ entered (length store.words) ∷ []; levels = ls })
+        (levels_push marks copied calls mark store.words marks_copied)
         ∙ ap (λ (cs : List Held). record seen {
           touched = seen.touched ++ entered (length store.words) ∷ [];
-          levels = seen.levels ++ record (level_of mark store.words calls) { copy = record { at = mark.at; words = store.words; calls = calls_of cs; last_kept = mark.last_kept } } ∷ [];
+          levels = seen.levels
+              ++ record (level_of mark store.words calls) {
+                copy =
+                    record { at = mark.at; words = store.words; calls = calls_of cs; last_kept = mark.last_kept };
+              }
+              ∷ [];
         })
         (take_all mark.calls calls (omega (arith, calls_are)))
 
@@ -169,13 +195,29 @@ module _ (store : Store) (cache : RecoveryCache) (calls : List Held) (room : ℕ
     pub seen_accept : contents store.words after calls (take (length marks - 1) marks) lines
         ≡ record seen { touched = accepted seen.touched; levels = without_last seen.levels }
     seen_accept =
-        ap (λ (ts : List Touched). record { words = store.words; calls = calls_of calls; held = lines.held; touched = ts; levels = levels_of (take (length marks - 1) marks) (copies store.words after) calls; waiting = lines.released }) open_are
-        ∙ ap (λ (cs : List (List ℤ)). record seen { touched = accepted seen.touched; levels = levels_of (take (length marks - 1) marks) cs calls }) (copies_are ∙ fewer)
+        ap (λ (ts : List Touched). record {
+          words = store.words;
+          calls = calls_of calls;
+          held = lines.held;
+          touched =
+              ts;
+          levels = levels_of (take (length marks - 1) marks) (copies store.words after) calls;
+          waiting =
+              lines.released;
+        }) open_are
+        ∙ ap
+        (λ (cs : List (List ℤ)). record seen {
+          touched = accepted seen.touched;
+          levels =
+              levels_of (take (length marks - 1) marks) cs calls;
+        })
+        (copies_are ∙ fewer)
         ∙ ap (λ (ls : List (Level Copy)). record seen { touched = accepted seen.touched; levels = ls })
         (levels_take (length marks - 1) marks copied calls ∙ ap (λ n. take (n - 1) seen.levels) (sym marks_levels) ∙ without_last_is seen.levels)
 
   -- a word is written
-  module _ (after : RecoveryCache) (later : Store) (at : ℕ) (value : ℤ) (stored : later ≡ record { words = slice_set store.words at value; limit = store.limit })
+  module _ (after : RecoveryCache) (later : Store) (at : ℕ) (value : ℤ)
+      (stored : later ≡ record { words = slice_set store.words at value; limit = store.limit })
       (copies_are : copies later.words after ≡ copied) (open_are : open_levels after ≡ change_last (joined (at ∷ [])) (open_levels cache)) where
     words_are : later.words ≡ slice_set store.words at value
     words_are = ap (λ (s : Store). s.words) stored
@@ -213,13 +255,22 @@ module _ (store : Store) (cache : RecoveryCache) (calls : List Held) (room : ℕ
     pub seen_store : contents later.words after calls marks lines
         ≡ record seen { words = slice_set store.words at value; touched = change_last (joined (at ∷ [])) seen.touched }
     seen_store =
-        ap (λ (cs : List (List ℤ)). record { words = later.words; calls = calls_of calls; held = lines.held; touched = open_levels after; levels = levels_of marks cs calls; waiting = lines.released }) copies_are
+        ap (λ (cs : List (List ℤ)). record {
+          words = later.words;
+          calls = calls_of calls;
+          held = lines.held;
+          touched =
+              open_levels after;
+          levels = levels_of marks cs calls;
+          waiting = lines.released;
+        }) copies_are
         ∙ ap (λ (ws : List ℤ). record seen { words = ws; touched = open_levels after }) words_are
         ∙ ap (λ (ts : List Touched). record seen { words = slice_set store.words at value; touched = ts }) open_are
 
   -- words come above all copies
   module _ (later : Store) (more : List ℤ) (stored : later ≡ record { words = store.words ++ more; limit = store.limit })
-      (copies_are : copies later.words cache ≡ copied) (fits_are : Fits later.words cache) (few : length store.words + length more ≤ most_places) where
+      (copies_are : copies later.words cache ≡ copied) (fits_are : Fits later.words cache)
+      (few : length store.words + length more ≤ most_places) where
     more_long : length later.words ≡ length store.words + length more
     more_long = ap (λ (s : Store). length s.words) stored ∙ length-append store.words more
 
@@ -247,7 +298,15 @@ module _ (store : Store) (cache : RecoveryCache) (calls : List Held) (room : ℕ
 
     pub seen_more : contents later.words cache calls marks lines ≡ record seen { words = store.words ++ more }
     seen_more =
-        ap (λ (cs : List (List ℤ)). record { words = later.words; calls = calls_of calls; held = lines.held; touched = open_levels cache; levels = levels_of marks cs calls; waiting = lines.released }) copies_are
+        ap (λ (cs : List (List ℤ)). record {
+          words = later.words;
+          calls = calls_of calls;
+          held = lines.held;
+          touched =
+              open_levels cache;
+          levels = levels_of marks cs calls;
+          waiting = lines.released;
+        }) copies_are
         ∙ ap (λ (s : Store). record seen { words = s.words }) stored
 
   -- words above all copies go
@@ -293,7 +352,15 @@ module _ (store : Store) (cache : RecoveryCache) (calls : List Held) (room : ℕ
 
     pub seen_cut : contents later.words cache calls marks lines ≡ record seen { words = take h store.words }
     seen_cut =
-        ap (λ (cs : List (List ℤ)). record { words = later.words; calls = calls_of calls; held = lines.held; touched = open_levels cache; levels = levels_of marks cs calls; waiting = lines.released }) kept.0
+        ap (λ (cs : List (List ℤ)). record {
+          words = later.words;
+          calls = calls_of calls;
+          held = lines.held;
+          touched =
+              open_levels cache;
+          levels = levels_of marks cs calls;
+          waiting = lines.released;
+        }) kept.0
         ∙ ap (λ (s : Store). record seen { words = s.words }) stored
 
   -- words of any kind come above all copies
@@ -321,7 +388,8 @@ module _ (store : Store) (cache : RecoveryCache) (calls : List Held) (room : ℕ
       fits = tied.fits;
       heights = tied.heights;
       tall = tied.tall;
-      entries = rise_more (map calls_at marks) (length calls) (length (calls ++ call ∷ [])) (omega (arith, length-append calls (call ∷ []))) tied.entries;
+      entries = rise_more (map calls_at marks) (length calls) (length (calls ++ call ∷ []))
+          (omega (arith, length-append calls (call ∷ []))) tied.entries;
       some = tied.some;
       held = tied.held;
       fronts = tied.fronts;
@@ -330,18 +398,29 @@ module _ (store : Store) (cache : RecoveryCache) (calls : List Held) (room : ℕ
 
     pub seen_called : contents store.words cache (calls ++ call ∷ []) marks lines ≡ record seen { calls = call_of call ∷ seen.calls }
     seen_called =
-        ap (λ (cs : List OpenCall). record { words = store.words; calls = cs; held = lines.held; touched = open_levels cache; levels = levels_of marks copied (calls ++ call ∷ []); waiting = lines.released })
+        ap (λ (cs : List OpenCall). record {
+          words = store.words;
+          calls = cs;
+          held = lines.held;
+          touched =
+              open_levels cache;
+          levels = levels_of marks copied (calls ++ call ∷ []);
+          waiting = lines.released;
+        })
         (ap reverse (map-append call_of calls (call ∷ [])) ∙ reverse-append (map call_of calls) (call_of call ∷ []))
-        ∙ ap (λ (ls : List (Level Copy)). record seen { calls = call_of call ∷ seen.calls; levels = ls }) (levels_more marks copied calls (call ∷ []) tied.entries)
+        ∙ ap (λ (ls : List (Level Copy)). record seen { calls = call_of call ∷ seen.calls; levels = ls })
+        (levels_more marks copied calls (call ∷ []) tied.entries)
 
   -- the innermost copy is no longer than the words
   pub prior_long : length (prior_words (copy_of (last_of seen.levels))) ≤ length store.words
-  prior_long = subst (λ (ws : List ℤ). length ws ≤ length store.words) (sym (last_is marks copied calls marks_copied)) (last_or-low copied (length store.words) tied.heights)
+  prior_long = subst (λ (ws : List ℤ). length ws ≤ length store.words) (sym (last_is marks copied calls marks_copied))
+      (last_or-low copied (length store.words) tied.heights)
 
 -- no call, no level, no line, and so many words that are 0
 module _ (n : ℕ) (some : 0 < n) (few : n ≤ most_places) where
   tied_first : (room marks_room : ℕ) → MOST_OPEN_CALLS ≤ room → MOST_OPEN_LEVELS ≤ marks_room
-      → IsTied (record { words = replicate n (pos 0); limit = most_places }) (record { regions = []; limits = record { levels = MOST_OPEN_LEVELS; words = most_places } })
+      → IsTied (record { words = replicate n (pos 0); limit = most_places })
+      (record { regions = []; limits = record { levels = MOST_OPEN_LEVELS; words = most_places } })
       [] room [] marks_room (record { held = []; released = [] })
   tied_first room marks_room many much = record {
     limit_is = refl;

@@ -45,7 +45,8 @@ back_pays cache back cleared =
     omega arith
 
 -- also where it goes then
-pub going_pays : (cache back out : RecoveryCache) → open_levels back ≡ change_last clear (open_levels cache) → open_levels out ≡ accepted (open_levels back)
+pub going_pays : (cache back out : RecoveryCache) → open_levels back ≡ change_last clear (open_levels cache)
+    → open_levels out ≡ accepted (open_levels back)
     → length (last_touched cache) + places_touched (open_levels out) ≤ places_touched (open_levels cache)
 going_pays cache back out cleared accept =
     let same = ap places_touched (accept ∙ ap accepted cleared) in

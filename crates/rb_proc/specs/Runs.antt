@@ -11,7 +11,8 @@ use Rattle.rb_bench.specs.declared.next.Ended.TheVariants as ended
 
 -- the cursors of a process can rise
 abbrev pub CursorsRise : Code → ℕ → List ℤ → Type 0
-CursorsRise c p words = (channel : ℕ) → IsAmong channel (part_of c p).channels → natural (word_at words (cursor_place (part_of c p) channel)) < 2 ^ 32 - 1
+CursorsRise c p words =
+    (channel : ℕ) → IsAmong channel (part_of c p).channels → natural (word_at words (cursor_place (part_of c p) channel)) < 2 ^ 32 - 1
 
 -- levels and released lines stay, and all stays unless the turn is over
 abbrev pub KeepsEnded : Ended → Contents → Contents → Slots → Slots → Type 0

@@ -55,7 +55,8 @@ named_by_step c alternate copy s message slots =
 -- the words that the step of a process names, for which a message is there or is not
 abbrev pub named_in_step : Code → Process Standing Copy → Slots → Bool → ℕ
 named_in_step c q slots there =
-    named_by_step c (alternate_for (want c q.state) q.levels) (copy_of (last_of q.levels)) q.state (message_for c q.state slots there (want c q.state)) slots
+    named_by_step c (alternate_for (want c q.state) q.levels) (copy_of (last_of q.levels)) q.state
+    (message_for c q.state slots there (want c q.state)) slots
 
 -- the words that are named on the way to the next turn, with these levels open
 abbrev pub named_settling : Code → Standing → List (Level Copy) → ℕ

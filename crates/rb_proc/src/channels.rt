@@ -86,7 +86,10 @@ pub fn put_value<L: Ledger>(
     requires there { cursor_place (part_of (plain code.now) process) channel < length memory.old.words }
     requires low { count (word_at memory.old.words (cursor_place (part_of (plain code.now) process) channel)) < 2 ^ 32 - 1 }
     requires sized { AreSized (plain code.now) mails.old }
-    ensures moved { (see : Seen) (pieces : List (List ℕ)) (counters : List (Option Counts)) → see.process ≡ process → outcome_of result at operands.new (mem memory.new pieces counters mails.new) ≡ on_top operands.old (λ v rest. Going (at + 1) rest (put (plain code.now) see channel v (mem memory.old pieces counters mails.old))) }
+    ensures moved { (see : Seen) (pieces : List (List ℕ)) (counters : List (Option Counts)) → see.process ≡ process
+        → outcome_of result at operands.new (mem memory.new pieces counters mails.new)
+        ≡ on_top operands.old
+        (λ v rest. Going (at + 1) rest (put (plain code.now) see channel v (mem memory.old pieces counters mails.old))) }
     ensures kept { Keeps result memory.old memory.new mails.old mails.new }
     ensures sized { map length mails.new ≡ map length mails.old }
     ensures ticks { steps.new ≤ steps.old + 3 }
@@ -115,7 +118,11 @@ pub fn take_message<L: Ledger>(
     requires room { length operands.old < 512 }
     requires there { cursor_place (part_of (plain code.now) process) channel < length memory.old.words }
     requires low { count (word_at memory.old.words (cursor_place (part_of (plain code.now) process) channel)) < 2 ^ 32 - 1 }
-    ensures moved { (see : Seen) (pieces : List (List ℕ)) (counters : List (Option Counts)) (slots : Slots) → see.process ≡ process → outcome_of result at operands.new (mem memory.new pieces counters slots) ≡ if_there message (λ v. Going (at + 1) (v ∷ operands.old) (risen (plain code.now) see channel (mem memory.old pieces counters slots))) }
+    ensures moved { (see : Seen) (pieces : List (List ℕ)) (counters : List (Option Counts)) (slots : Slots)
+        → see.process ≡ process
+        → outcome_of result at operands.new (mem memory.new pieces counters slots)
+        ≡ if_there message
+        (λ v. Going (at + 1) (v ∷ operands.old) (risen (plain code.now) see channel (mem memory.old pieces counters slots))) }
     ensures kept { (slots : Slots) → Keeps result memory.old memory.new slots slots }
     ensures ticks { steps.new ≤ steps.old + 3 }
 {
@@ -140,7 +147,13 @@ pub fn print<L: Ledger>(
     requires at { at + 1 < 2 ^ 32 }
     requires texts { AreTexts texts.now }
     requires none_waits { memory.old.waiting ≡ [] }
-    ensures moved { (operands : List ℤ) (counters : List (Option Counts)) (slots : Slots) → outcome_of result at operands (mem memory.new (map (piece_text texts.now) line.new.pieces) counters slots) ≡ printed (count (word_at memory.old.words held_place) + (length (joined_pieces (map (piece_text texts.now) line.old.pieces)) + 1)) (joined_pieces (map (piece_text texts.now) line.old.pieces)) (mem memory.old (map (piece_text texts.now) line.old.pieces) counters slots) (λ later. Going (at + 1) operands later) }
+    ensures moved { (operands : List ℤ) (counters : List (Option Counts)) (slots : Slots)
+        → outcome_of result at operands (mem memory.new (map (piece_text texts.now) line.new.pieces) counters slots)
+        ≡ printed
+        (count (word_at memory.old.words held_place) + (length (joined_pieces (map (piece_text texts.now) line.old.pieces)) + 1))
+        (joined_pieces (map (piece_text texts.now) line.old.pieces))
+        (mem memory.old (map (piece_text texts.now) line.old.pieces) counters slots)
+        (λ later. Going (at + 1) operands later) }
     ensures kept { (slots : Slots) → Keeps result memory.old memory.new slots slots }
     ensures ticks { steps.new ≤ steps.old + 2 }
 {

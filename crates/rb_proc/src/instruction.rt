@@ -33,7 +33,9 @@ use std::sync::ledger::Ledger;
 
 /// Goes to an alternate of a recovery block, counted from 1.
 fn start(code: &Code, block: u32, alternate: u32) -> Next
-    ensures { (a : ℕ) (operands : List ℤ) (m : Memory) → outcome_of result a operands m ≡ if_there (alternate_address (slice_get (plain code.now).blocks block) alternate) (λ to. Going to operands m) }
+    ensures { (a : ℕ) (operands : List ℤ) (m : Memory)
+        → outcome_of result a operands m
+        ≡ if_there (alternate_address (slice_get (plain code.now).blocks block) alternate) (λ to. Going to operands m) }
 {
     match code.blocks.get(block as usize) {
         Some(one) if alternate > 0 => match one.alternates.get(alternate as usize - 1) {
@@ -60,10 +62,15 @@ pub fn act<L: Ledger>(
     requires turn { IsTurnOf (plain code.now) sight.now }
     requires none_waits { memory.old.waiting ≡ [] }
     requires sized { AreSized (plain code.now) mails.old }
-    requires ready { Ready (plain code.now) (see_of sight.now memory.old.levels) instr bench.old.operands (whole (plain code.now).texts bench.old memory.old mails.old) }
+    requires ready { Ready (plain code.now) (see_of sight.now memory.old.levels) instr bench.old.operands
+        (whole (plain code.now).texts bench.old memory.old mails.old) }
     requires cursor { CursorRises (plain code.now) (see_of sight.now memory.old.levels) memory.old.words instr }
-    requires stays { LeavesEnough (entry_calls (copy_of (last_of memory.old.levels))) (acted (plain code.now) (see_of sight.now memory.old.levels) instr at bench.old.operands (whole (plain code.now).texts bench.old memory.old mails.old)) }
-    ensures moved { outcome_of result at bench.new.operands (whole (plain code.now).texts bench.new memory.new mails.new) ≡ acted (plain code.now) (see_of sight.now memory.old.levels) instr at bench.old.operands (whole (plain code.now).texts bench.old memory.old mails.old) }
+    requires stays { LeavesEnough (entry_calls (copy_of (last_of memory.old.levels)))
+        (acted (plain code.now) (see_of sight.now memory.old.levels) instr at bench.old.operands
+        (whole (plain code.now).texts bench.old memory.old mails.old)) }
+    ensures moved { outcome_of result at bench.new.operands (whole (plain code.now).texts bench.new memory.new mails.new)
+        ≡ acted (plain code.now) (see_of sight.now memory.old.levels) instr at bench.old.operands
+        (whole (plain code.now).texts bench.old memory.old mails.old) }
     ensures kept { Keeps result memory.old memory.new mails.old mails.new }
     ensures sized { map length mails.new ≡ map length mails.old }
     ensures work { steps.new ≤ steps.old + 3 * named instr }

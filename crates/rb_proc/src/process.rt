@@ -76,8 +76,15 @@ impl<L: Ledger> Proc<L> {
     ) -> Result<Self, Memory>
         requires code { IsExecutable (plain code.now) }
         requires process { process < length (plain code.now).processes }
-        requires settles { (groups : List Membership) × SettlesSoundly (plain code.now) groups (opening_standing process (part_of (plain code.now) process)) [] }
-        ensures { IfOk result (λ p. p ≡ record { process = settled (kind_of (plain code.now)) (opening_standing process (part_of (plain code.now) process)) []; waiting = [] }) }
+        requires settles { (groups : List Membership)
+            × SettlesSoundly (plain code.now) groups (opening_standing process (part_of (plain code.now) process)) [] }
+        ensures { IfOk result
+            (λ p. p ≡ record {
+              process =
+                  settled (kind_of (plain code.now)) (opening_standing process (part_of (plain code.now) process)) [];
+              waiting =
+                  [];
+            }) }
     {
         let sight = Sight::new(code, process, None, 0);
         let memory = Recoverable::new(alloc, sight.body, steps)?;
@@ -177,10 +184,14 @@ impl<L: Ledger> Proc<L> {
         requires none_waits { self.old.waiting ≡ [] }
         requires wanted { wanted ≡ wanted_by (wanted_in (plain code.now) self.old.process.state) }
         requires stands { (groups : List Membership) × StandsSoundly (plain code.now) groups self.old.process.state self.old.process.levels }
-        requires serves { Serves (wanted_in (plain code.now) self.old.process.state) (alternate_for (wanted_in (plain code.now) self.old.process.state) self.old.process.levels) (message_for (plain code.now) self.old.process.state mails.old there (wanted_in (plain code.now) self.old.process.state)) self.old.process.levels }
+        requires serves { Serves (wanted_in (plain code.now) self.old.process.state)
+            (alternate_for (wanted_in (plain code.now) self.old.process.state) self.old.process.levels)
+            (message_for (plain code.now) self.old.process.state mails.old there
+            (wanted_in (plain code.now) self.old.process.state)) self.old.process.levels }
         requires sized { AreSized (plain code.now) mails.old }
         requires cursors { CursorsRise (plain code.now) self.old.process.state.process self.old.process.state.words }
-        ensures came { StepsTo (plain code.now) self.old.process mails.old (step_of (plain code.now) self.old.process mails.old there) result self.new.process mails.new }
+        ensures came { StepsTo (plain code.now) self.old.process mails.old
+            (step_of (plain code.now) self.old.process mails.old there) result self.new.process mails.new }
         ensures sized { AreSized (plain code.now) mails.new }
         ensures waiting { self.new.waiting ≡ self.old.waiting }
         ensures work { steps.new ≤ steps.old + 1 + 3 * named_in_step (plain code.now) self.old.process mails.old there }
@@ -229,9 +240,21 @@ impl<L: Ledger> Proc<L> {
         requires code { IsExecutable (plain code.now) }
         requires none_waits { self.old.waiting ≡ [] }
         requires open { 0 < length self.old.process.levels }
-        requires settles { (groups : List Membership) × SettlesSoundly (plain code.now) groups (record self.old.process.state { touched = accepted self.old.process.state.touched }) (without_last self.old.process.levels) }
-        ensures settled { self.new ≡ record self.old { process = settled (kind_of (plain code.now)) (record self.old.process.state { touched = accepted self.old.process.state.touched }) (without_last self.old.process.levels) } }
-        ensures work { steps.new ≤ steps.old + 3 * named_settling (plain code.now) (record self.old.process.state { touched = accepted self.old.process.state.touched }) (without_last self.old.process.levels) }
+        requires settles { (groups : List Membership)
+            × SettlesSoundly (plain code.now) groups
+            (record self.old.process.state { touched = accepted self.old.process.state.touched })
+            (without_last self.old.process.levels) }
+        ensures settled { self.new
+            ≡ record self.old {
+              process =
+                  settled (kind_of (plain code.now))
+                  (record self.old.process.state { touched = accepted self.old.process.state.touched })
+                  (without_last self.old.process.levels);
+            } }
+        ensures work { steps.new
+            ≤ steps.old + 3 * named_settling (plain code.now)
+            (record self.old.process.state { touched = accepted self.old.process.state.touched })
+            (without_last self.old.process.levels) }
     {
         self.memory.accept();
         self.settle(code, steps);
@@ -291,7 +314,8 @@ impl<L: Ledger> Proc<L> {
     pub fn enter(&mut self, code: &Code, alternate: u32, turn: u32)
         requires code { IsExecutable (plain code.now) }
         requires room { length self.old.process.levels < 32 }
-        ensures process { EntersAs (plain code.now) (wanted_in (plain code.now) self.old.process.state) alternate turn self.old.process self.new.process }
+        ensures process { EntersAs (plain code.now)
+            (wanted_in (plain code.now) self.old.process.state) alternate turn self.old.process self.new.process }
         ensures waiting { self.new.waiting ≡ self.old.waiting }
     {
         if let Some(facts) = entry_at(code, self.at) {
@@ -338,7 +362,12 @@ impl<L: Ledger> Proc<L> {
     /// Its held lines are released if no level is open. Where one is, or no line is held, nothing is touched.
     pub fn release_if_free(&mut self, steps: &mut Steps<L>)
         requires none_waits { self.old.waiting ≡ [] }
-        ensures freed { (c : Plain) → self.new ≡ record { process = freed (kind_of c) self.old.process; waiting = lines_freed (kind_of c) self.old.process.state self.old.process.levels } }
+        ensures freed { (c : Plain)
+            → self.new ≡ record {
+              process = freed (kind_of c) self.old.process;
+              waiting =
+                  lines_freed (kind_of c) self.old.process.state self.old.process.levels;
+            } }
         ensures ticks { steps.new ≤ steps.old + 2 }
         ensures quiet { self.old.process.state.held ≡ [] → steps.new ≡ steps.old }
         ensures within { 0 < length self.old.process.levels → steps.new ≡ steps.old }

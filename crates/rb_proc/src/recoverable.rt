@@ -118,7 +118,10 @@ impl<L: Ledger> Recoverable<L> {
     /// Opens a level.
     pub fn open(&mut self, facts: BlockFacts, alternate: u32, at: u32, last_kept: u32)
         requires { length self.old.levels < 32 }
-        ensures { self.new ≡ record self.old { touched = self.old.touched ++ entered (length self.old.words) ∷ []; levels = self.old.levels ++ record { facts = facts_of facts; alternate = alternate; used = 0; copy = record { at = at; words = self.old.words; calls = self.old.calls; last_kept = last_kept } } ∷ [] } }
+        ensures { self.new ≡ record self.old {
+          touched = self.old.touched ++ entered (length self.old.words) ∷ [];
+          levels = self.old.levels ++ record { facts = facts_of facts; alternate = alternate; used = 0; copy = record { at = at; words = self.old.words; calls = self.old.calls; last_kept = last_kept } } ∷ [];
+        } }
     {
         self.cache.open(&self.cells);
         let mark = LevelMark {
@@ -230,7 +233,8 @@ impl<L: Ledger> Recoverable<L> {
 
     /// Whether a release would tell lines: some are held, and no level is open.
     pub fn may_release(&self) -> bool
-        ensures { MatchBool result ((length self.now.levels ≡ 0) × (0 < length self.now.held)) (released_by self.now.levels self.now ≡ record self.now { waiting = [] }) }
+        ensures { MatchBool result ((length self.now.levels ≡ 0) × (0 < length self.now.held))
+            (released_by self.now.levels self.now ≡ record self.now { waiting = [] }) }
     {
         self.levels() == 0 && self.holds()
     }
@@ -358,7 +362,10 @@ impl<L: Ledger> Recoverable<L> {
     pub fn open_call(&mut self, back: u32, arguments: &[i64], zeros: u32, steps: &mut Steps<L>)
         requires calls { length self.old.calls < 256 }
         requires words { length self.old.words + (length arguments.now + zeros) ≤ most_places }
-        ensures call { self.new ≡ record self.old { words = self.old.words ++ (arguments.now ++ replicate zeros (pos 0)); calls = record { back = back; base = length self.old.words } ∷ self.old.calls } }
+        ensures call { self.new ≡ record self.old {
+          words = self.old.words ++ (arguments.now ++ replicate zeros (pos 0));
+          calls = record { back = back; base = length self.old.words } ∷ self.old.calls;
+        } }
         ensures ticks { steps.new ≤ steps.old + (2 * length arguments.now + zeros) }
     {
         let base = self.cells.height();
@@ -371,7 +378,8 @@ impl<L: Ledger> Recoverable<L> {
     pub fn go_back(&mut self) -> u32
         requires call { HasCall self.old.calls (λ call. (call.base ≤ length self.old.words) × StayAbove self.old.touched call.base) }
         requires levels { entry_calls (copy_of (last_of self.old.levels)) < length self.old.calls }
-        ensures { (call : Opened) × (calls : List Opened) × (self.old.calls ≡ call ∷ calls) × (result ≡ call.back) × (self.new ≡ record self.old { words = take call.base self.old.words; calls = calls }) }
+        ensures { (call : Opened) × (calls : List Opened) × (self.old.calls ≡ call ∷ calls) × (result ≡ call.back)
+            × (self.new ≡ record self.old { words = take call.base self.old.words; calls = calls }) }
     {
         let last = self.calls.pop().unwrap();
         self.cells.drop_to(last.base);
@@ -383,7 +391,8 @@ impl<L: Ledger> Recoverable<L> {
         requires none_waits { self.old.waiting ≡ [] }
         requires line { IsLine line.now }
         ensures room { result ≡ not (nat_lt most_held (natural (word_at self.old.words held_place) + (length line.now + 1))) }
-        ensures after { self.new ≡ cond result (line_added (natural (word_at self.old.words held_place) + (length line.now + 1)) line.now self.old) self.old }
+        ensures after { self.new
+            ≡ cond result (line_added (natural (word_at self.old.words held_place) + (length line.now + 1)) line.now self.old) self.old }
         ensures ticks { steps.new ≤ steps.old + 2 }
     {
         let fits = self.hold.add(line);

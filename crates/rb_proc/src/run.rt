@@ -38,12 +38,24 @@ pub fn run<L: Ledger>(
     requires turn { IsTurnOf (plain code.now) sight.now }
     requires none_waits { memory.old.waiting ≡ [] }
     requires sized { AreSized (plain code.now) mails.old }
-    requires safe { Safe (plain code.now) (see_of sight.now memory.old.levels) (IsUnchanged (whole (plain code.now).texts bench.old memory.old mails.old)) (most_steps (plain code.now)) from bench.old.operands (whole (plain code.now).texts bench.old memory.old mails.old) }
-    requires stays { (start : List ℤ) × CursorsRise (plain code.now) sight.now.process start × Stays (plain code.now) (see_of sight.now memory.old.levels) (entry_calls (copy_of (last_of memory.old.levels))) start (most_steps (plain code.now)) from bench.old.operands (whole (plain code.now).texts bench.old memory.old mails.old) }
-    ensures ended { ended_of result (whole (plain code.now).texts bench.new memory.new mails.new) ≡ execute (plain code.now) (see_of sight.now memory.old.levels) (most_steps (plain code.now)) from bench.old.operands (whole (plain code.now).texts bench.old memory.old mails.old) }
+    requires safe { Safe (plain code.now) (see_of sight.now memory.old.levels)
+        (IsUnchanged (whole (plain code.now).texts bench.old memory.old mails.old))
+        (most_steps (plain code.now)) from bench.old.operands
+        (whole (plain code.now).texts bench.old memory.old mails.old) }
+    requires stays { (start : List ℤ) × CursorsRise (plain code.now) sight.now.process start
+        × Stays (plain code.now) (see_of sight.now memory.old.levels)
+        (entry_calls (copy_of (last_of memory.old.levels))) start (most_steps (plain code.now)) from bench.old.operands
+        (whole (plain code.now).texts bench.old memory.old mails.old) }
+    ensures ended { ended_of result (whole (plain code.now).texts bench.new memory.new mails.new)
+        ≡ execute (plain code.now) (see_of sight.now memory.old.levels)
+        (most_steps (plain code.now)) from bench.old.operands
+        (whole (plain code.now).texts bench.old memory.old mails.old) }
     ensures kept { KeepsEnded result memory.old memory.new mails.old mails.new }
     ensures sized { AreSized (plain code.now) mails.new }
-    ensures work { steps.new ≤ steps.old + 3 * named_along (plain code.now) (see_of sight.now memory.old.levels) (most_steps (plain code.now)) from bench.old.operands (whole (plain code.now).texts bench.old memory.old mails.old) }
+    ensures work { steps.new
+        ≤ steps.old + 3 * named_along (plain code.now) (see_of sight.now memory.old.levels)
+        (most_steps (plain code.now)) from bench.old.operands
+        (whole (plain code.now).texts bench.old memory.old mails.old) }
 {
     let mut at = from;
     'turn: loop {

@@ -52,7 +52,8 @@ fn want_of(code: &Code, instr: Instr) -> Wanted
 
 /// Whether a process that stands at an address is done.
 pub fn status_here(code: &Code, at: u32) -> Status
-    ensures { status_of result ≡ status_at (wants_there (plain code.now) (slice_get (plain code.now).instrs at) (slice_get (plain code.now).instrs (at + 1))) }
+    ensures { status_of result
+        ≡ status_at (wants_there (plain code.now) (slice_get (plain code.now).instrs at) (slice_get (plain code.now).instrs (at + 1))) }
 {
     match code.instrs.get(at as usize) {
         Some(Instr::Done) => Status::Finished,
@@ -139,7 +140,8 @@ pub fn cursor_of<L: Ledger>(
 /// The recovery block that a process at an address enters, if it does.
 pub fn entry_at(code: &Code, at: u32) -> Option<BlockFacts>
     requires { IsExecutable (plain code.now) }
-    ensures entry { EntryIs (wants_there (plain code.now) (slice_get (plain code.now).instrs at) (slice_get (plain code.now).instrs (at + 1))) result }
+    ensures entry { EntryIs
+        (wants_there (plain code.now) (slice_get (plain code.now).instrs at) (slice_get (plain code.now).instrs (at + 1))) result }
     ensures within { IfSome result (λ facts. at + 1 < length code.now.instrs.items) }
 {
     match code.instrs.get(at as usize) {

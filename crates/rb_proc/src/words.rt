@@ -52,7 +52,9 @@ pub fn prior<L: Ledger>(
     requires at { at + 1 < 2 ^ 32 }
     requires room { length operands.old < 512 }
     requires there { from < length (prior_words (copy_of (last_of memory.now.levels))) }
-    ensures moved { (m : Memory) → outcome_of result at operands.new m ≡ Going (at + 1) (word_at (prior_words (copy_of (last_of memory.now.levels))) from ∷ operands.old) m }
+    ensures moved { (m : Memory)
+        → outcome_of result at operands.new m
+        ≡ Going (at + 1) (word_at (prior_words (copy_of (last_of memory.now.levels))) from ∷ operands.old) m }
     ensures ticks { steps.new ≤ steps.old + 1 }
 {
     let word = memory.prior(from, steps);
@@ -71,7 +73,9 @@ pub fn load_at<L: Ledger>(
     requires at { at + 1 < 2 ^ 32 }
     requires small { first < 2 ^ 33 }
     requires there { HasTop operands.old (λ i rest. (k : ℕ) × (i ≡ pos k) × (first + k < length memory.now.words)) }
-    ensures moved { (m : Memory) → outcome_of result at operands.new m ≡ on_top operands.old (λ i rest. Going (at + 1) (word_at memory.now.words (first + natural i) ∷ rest) m) }
+    ensures moved { (m : Memory)
+        → outcome_of result at operands.new m
+        ≡ on_top operands.old (λ i rest. Going (at + 1) (word_at memory.now.words (first + natural i) ∷ rest) m) }
     ensures ticks { steps.new ≤ steps.old + 1 }
 {
     let index = operands.pop();
@@ -90,8 +94,12 @@ pub fn prior_at<L: Ledger>(
 ) -> Next
     requires at { at + 1 < 2 ^ 32 }
     requires small { first < 2 ^ 33 }
-    requires there { HasTop operands.old (λ i rest. (k : ℕ) × (i ≡ pos k) × (first + k < length (prior_words (copy_of (last_of memory.now.levels))))) }
-    ensures moved { (m : Memory) → outcome_of result at operands.new m ≡ on_top operands.old (λ i rest. Going (at + 1) (word_at (prior_words (copy_of (last_of memory.now.levels))) (first + natural i) ∷ rest) m) }
+    requires there { HasTop operands.old
+        (λ i rest. (k : ℕ) × (i ≡ pos k) × (first + k < length (prior_words (copy_of (last_of memory.now.levels))))) }
+    ensures moved { (m : Memory)
+        → outcome_of result at operands.new m
+        ≡ on_top operands.old
+        (λ i rest. Going (at + 1) (word_at (prior_words (copy_of (last_of memory.now.levels))) (first + natural i) ∷ rest) m) }
     ensures ticks { steps.new ≤ steps.old + 1 }
 {
     let index = operands.pop();
@@ -112,7 +120,9 @@ pub fn store<L: Ledger>(
     requires one { 0 < length operands.old }
     requires some { 0 < to }
     requires there { to < length memory.old.words }
-    ensures moved { (pieces : List (List ℕ)) (counters : List (Option Counts)) (slots : Slots) → outcome_of result at operands.new (mem memory.new pieces counters slots) ≡ on_top operands.old (λ x rest. Going (at + 1) rest (written to x (mem memory.old pieces counters slots))) }
+    ensures moved { (pieces : List (List ℕ)) (counters : List (Option Counts)) (slots : Slots)
+        → outcome_of result at operands.new (mem memory.new pieces counters slots)
+        ≡ on_top operands.old (λ x rest. Going (at + 1) rest (written to x (mem memory.old pieces counters slots))) }
     ensures kept { (slots : Slots) → Keeps result memory.old memory.new slots slots }
     ensures ticks { steps.new ≤ steps.old + 2 }
 {
@@ -133,7 +143,11 @@ pub fn store_at<L: Ledger>(
     requires small { first < 2 ^ 33 }
     requires some { 0 < first }
     requires there { HasTop operands.old (λ x st. HasTop st (λ i rest. (k : ℕ) × (i ≡ pos k) × (first + k < length memory.old.words))) }
-    ensures moved { (pieces : List (List ℕ)) (counters : List (Option Counts)) (slots : Slots) → outcome_of result at operands.new (mem memory.new pieces counters slots) ≡ on_top operands.old (λ x rest. on_top rest (λ i others. Going (at + 1) others (written (first + natural i) x (mem memory.old pieces counters slots)))) }
+    ensures moved { (pieces : List (List ℕ)) (counters : List (Option Counts)) (slots : Slots)
+        → outcome_of result at operands.new (mem memory.new pieces counters slots)
+        ≡ on_top operands.old
+        (λ x rest. on_top rest
+        (λ i others. Going (at + 1) others (written (first + natural i) x (mem memory.old pieces counters slots)))) }
     ensures kept { (slots : Slots) → Keeps result memory.old memory.new slots slots }
     ensures ticks { steps.new ≤ steps.old + 2 }
 {
@@ -153,7 +167,10 @@ pub fn frame<L: Ledger>(
 ) -> Next
     requires at { at + 1 < 2 ^ 32 }
     requires few { most ≤ most_places }
-    ensures moved { (operands : List ℤ) (pieces : List (List ℕ)) (counters : List (Option Counts)) (slots : Slots) → outcome_of result at operands (mem memory.new pieces counters slots) ≡ cond (nat_le (length memory.old.words + n) most) (Going (at + 1) operands (framed n (mem memory.old pieces counters slots))) (Trapped Stack) }
+    ensures moved { (operands : List ℤ) (pieces : List (List ℕ)) (counters : List (Option Counts)) (slots : Slots)
+        → outcome_of result at operands (mem memory.new pieces counters slots)
+        ≡ cond (nat_le (length memory.old.words + n) most)
+        (Going (at + 1) operands (framed n (mem memory.old pieces counters slots))) (Trapped Stack) }
     ensures kept { (slots : Slots) → Keeps result memory.old memory.new slots slots }
     ensures ticks { steps.new ≤ steps.old + n }
 {
@@ -170,7 +187,9 @@ pub fn drop_words<L: Ledger>(n: u32, at: u32, memory: &mut Recoverable<L>) -> Ne
     requires at { at + 1 < 2 ^ 32 }
     requires words { n < length memory.old.words }
     requires copies { StayAbove memory.old.touched (length memory.old.words - n) }
-    ensures moved { (operands : List ℤ) (pieces : List (List ℕ)) (counters : List (Option Counts)) (slots : Slots) → outcome_of result at operands (mem memory.new pieces counters slots) ≡ Going (at + 1) operands (dropped n (mem memory.old pieces counters slots)) }
+    ensures moved { (operands : List ℤ) (pieces : List (List ℕ)) (counters : List (Option Counts)) (slots : Slots)
+        → outcome_of result at operands (mem memory.new pieces counters slots)
+        ≡ Going (at + 1) operands (dropped n (mem memory.old pieces counters slots)) }
     ensures kept { (slots : Slots) → Keeps result memory.old memory.new slots slots }
 {
     memory.drop_frame(n);
@@ -191,7 +210,13 @@ pub fn call<L: Ledger>(
     requires at { at + 1 < 2 ^ 32 }
     requires few { most ≤ most_places }
     requires enough { count ≤ length operands.old }
-    ensures moved { (pieces : List (List ℕ)) (counters : List (Option Counts)) (slots : Slots) → outcome_of result at operands.new (mem memory.new pieces counters slots) ≡ cond (nat_le most_calls (length memory.old.calls)) (Trapped Calls) (cond (nat_le (length memory.old.words + (count + zeros)) most) (Going to (below count operands.old) (called (at + 1) (arguments count operands.old) zeros (mem memory.old pieces counters slots))) (Trapped Stack)) }
+    ensures moved { (pieces : List (List ℕ)) (counters : List (Option Counts)) (slots : Slots)
+        → outcome_of result at operands.new (mem memory.new pieces counters slots)
+        ≡ cond (nat_le most_calls (length memory.old.calls)) (Trapped Calls)
+        (cond (nat_le (length memory.old.words + (count + zeros)) most)
+        (Going to (below count operands.old)
+        (called (at + 1) (arguments count operands.old) zeros (mem memory.old pieces counters slots)))
+        (Trapped Stack)) }
     ensures kept { (slots : Slots) → Keeps result memory.old memory.new slots slots }
     ensures ticks { steps.new ≤ steps.old + 2 * (count + zeros) }
 {
@@ -210,7 +235,9 @@ pub fn call<L: Ledger>(
 pub fn go_back<L: Ledger>(at: u32, memory: &mut Recoverable<L>) -> Next
     requires call { HasCall memory.old.calls (λ call. (call.base ≤ length memory.old.words) × StayAbove memory.old.touched call.base) }
     requires levels { entry_calls (copy_of (last_of memory.old.levels)) < length memory.old.calls }
-    ensures moved { (c : Plain) (see : Seen) (operands : List ℤ) (pieces : List (List ℕ)) (counters : List (Option Counts)) (slots : Slots) → outcome_of result at operands (mem memory.new pieces counters slots) ≡ returned c see memory.old.calls operands (mem memory.old pieces counters slots) }
+    ensures moved { (c : Plain) (see : Seen) (operands : List ℤ) (pieces : List (List ℕ)) (counters : List (Option Counts)) (slots : Slots)
+        → outcome_of result at operands (mem memory.new pieces counters slots)
+        ≡ returned c see memory.old.calls operands (mem memory.old pieces counters slots) }
     ensures kept { (slots : Slots) → Keeps result memory.old memory.new slots slots }
 {
     Next::Go(memory.go_back())

@@ -26,11 +26,13 @@ remains_less a rest whole w0 w1 w2 f0 f1 f2 r p = record {
 }
 
 -- nothing is left
-pub remains_none : (whole : List ℕ) (w0 w1 : Option (List ℕ)) (f0 f1 : Faults) → Remains [] whole w0 w1 f0 f1 → Puts {T = Unit {0}} {E = Failed} whole w0 w1 f0 f1 (Ok tt)
+pub remains_none : (whole : List ℕ) (w0 w1 : Option (List ℕ)) (f0 f1 : Faults) → Remains [] whole w0 w1 f0 f1
+    → Puts {T = Unit {0}} {E = Failed} whole w0 w1 f0 f1 (Ok tt)
 remains_none whole w0 w1 f0 f1 r = puts_same r.done whole w0 w1 f0 f1 (Ok tt) (sym (append-nil r.done) ∙ r.parts) r.wrote
 
 -- the next part stopped, and so does all
-pub remains_stopped : {D : Type 0} (a rest whole : List ℕ) (w0 w1 w2 : Option (List ℕ)) (f0 f1 f2 : Faults) (e : Failed) (r : Result (Unit {0}) D) → IsErr r →
+pub remains_stopped : {D : Type 0} (a rest whole : List ℕ) (w0 w1 w2 : Option (List ℕ)) (f0 f1 f2 : Faults) (e : Failed)
+    (r : Result (Unit {0}) D) → IsErr r →
     Remains (a ++ rest) whole w0 w1 f0 f1 → Puts {T = Unit {0}} {E = Failed} a w1 w2 f1 f2 (Err e) → Puts whole w0 w2 f0 f2 r
 remains_stopped a rest whole w0 w1 w2 f0 f1 f2 e r h s p =
     puts_same (s.done ++ (a ++ rest)) whole w0 w2 f0 f2 r s.parts

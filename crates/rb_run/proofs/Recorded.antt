@@ -17,7 +17,8 @@ lines_of_kept names kept = sym (flat_map-map (λ (one : Kept). line_of (kept_wor
 
 -- that line in pieces, as they are added
 pub line_in_pieces : (names : Naming) (one : Held)
-    → decimal one.turn ++ 32 ∷ (process_word names one.process ++ (cond (nat_eq one.alternate 0) [] (32 ∷ decimal one.alternate) ++ 10 ∷ [])) ≡ line_of_kept names one
+    → decimal one.turn ++ 32 ∷ (process_word names one.process ++ (cond (nat_eq one.alternate 0) [] (32 ∷ decimal one.alternate) ++ 10 ∷ []))
+    ≡ line_of_kept names one
 line_in_pieces names one = pieces (nat_eq one.alternate 0)
   where
     pieces : (b : Bool) → decimal one.turn ++ 32 ∷ (process_word names one.process ++ (cond b [] (32 ∷ decimal one.alternate) ++ 10 ∷ []))

@@ -100,7 +100,8 @@ module _ (old : Seen) (fresh : old ≡ opening_seen old.code old.groups old.most
 
     module _ (all left : List ℕ) (whole : left ≡ all) where
       -- what is told of all turns
-      pub turns_text : naming names ≡ old.code.names → turns_left (naming names) now left ≡ all_told old.code.names 1 (word_run old.code old.groups all).1
+      pub turns_text : naming names ≡ old.code.names
+          → turns_left (naming names) now left ≡ all_told old.code.names 1 (word_run old.code old.groups all).1
       turns_text named =
           ap (λ one. turns_left one now left) named ∙ ap (λ (m : Seen). turns_left old.code.names m left) (is_old ∙ fresh)
           ∙ ap (turns_left old.code.names (opening_seen old.code old.groups old.most)) whole

@@ -24,11 +24,13 @@ use Rattle.rb_run.specs.Surviving.{IsErasedOver, Survives}
 use Rattle.rb_run.specs.declared.surviving.Ended.TheVariants.{WriteFault}
 
 -- a text that was written, or not to its end
-pub survives_written : (text : List ℕ) (w0 w1 : Option (List ℕ)) (f0 f1 : Faults) (done : Unit {0}) → Puts {T = Unit {0}} {E = Failed} text w0 w1 f0 f1 (Ok done)
+pub survives_written : (text : List ℕ) (w0 w1 : Option (List ℕ)) (f0 f1 : Faults) (done : Unit {0})
+    → Puts {T = Unit {0}} {E = Failed} text w0 w1 f0 f1 (Ok done)
     → Survives text w0 w1 f0 f1 (Ok tt)
 survives_written text w0 w1 f0 f1 done p = record { ok = p.ok; quiet = p.quiet; err = p.err; failed = p.failed }
 
-pub survives_stopped : (text : List ℕ) (w0 w1 : Option (List ℕ)) (f0 f1 : Faults) (e : Failed) → Puts {T = Unit {0}} {E = Failed} text w0 w1 f0 f1 (Err e)
+pub survives_stopped : (text : List ℕ) (w0 w1 : Option (List ℕ)) (f0 f1 : Faults) (e : Failed)
+    → Puts {T = Unit {0}} {E = Failed} text w0 w1 f0 f1 (Err e)
     → Survives text w0 w1 f0 f1 (Err WriteFault)
 survives_stopped text w0 w1 f0 f1 e p = record { ok = p.ok; quiet = p.quiet; err = p.err; failed = p.failed }
 

@@ -94,13 +94,15 @@ module _ (m turning now : Seen) (p : ℕ) (told : Told) (h : HasTurned m p turni
 
   -- counts that have risen by the turn
   pub counted_on : (left later : List ℕ) → left ≡ p ∷ later → (old new : Counts) (n : ℕ) → IsMore old n told.events new
-      → n ≡ sum_by length told.released → both_counted (counts new) (told_counts (told_left now later)) ≡ both_counted (counts old) (told_counts (told_left m left))
+      → n ≡ sum_by length told.released
+      → both_counted (counts new) (told_counts (told_left now later)) ≡ both_counted (counts old) (told_counts (told_left m left))
   counted_on left later parts old new n more lines =
       counted_with old new n told (told_left now later) more lines
       ∙ ap (λ (all : List Told). both_counted (counts old) (told_counts all)) (sym (told_on left later parts))
 
 -- no turn is left to count
-pub counted_all : (m : Seen) (left : List ℕ) → left ≡ [] → (c : Counts) (whole : Counted) → both_counted (counts c) (told_counts (told_left m left)) ≡ whole
+pub counted_all : (m : Seen) (left : List ℕ) → left ≡ [] → (c : Counts) (whole : Counted)
+    → both_counted (counts c) (told_counts (told_left m left)) ≡ whole
     → counts c ≡ whole
 counted_all m left none c whole so_far =
     sym (counted_alone (counts c))

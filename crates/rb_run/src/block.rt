@@ -27,7 +27,8 @@ impl Block {
 
     /// Adds bytes to those that wait. Where there is no room for them, all that wait are put first.
     pub fn add<S: Sink>(&mut self, out: &mut S, bytes: &[u8]) -> Result<(), Failed>
-        ensures { Gathers bytes.now self.old.bytes.items self.new.bytes.items (S.written out.old) (S.written out.new) (S.faults out.old) (S.faults out.new) result }
+        ensures { Gathers bytes.now self.old.bytes.items self.new.bytes.items (S.written out.old) (S.written out.new)
+            (S.faults out.old) (S.faults out.new) result }
     {
         if self.bytes.remaining_capacity() < bytes.len() {
             self.put(out)?;
@@ -39,7 +40,8 @@ impl Block {
 
     /// Puts all that wait.
     pub fn put<S: Sink>(&mut self, out: &mut S) -> Result<(), Failed>
-        ensures gathers { Gathers [] self.old.bytes.items self.new.bytes.items (S.written out.old) (S.written out.new) (S.faults out.old) (S.faults out.new) result }
+        ensures gathers { Gathers [] self.old.bytes.items self.new.bytes.items (S.written out.old) (S.written out.new)
+            (S.faults out.old) (S.faults out.new) result }
         ensures none { OnOk result (self.new.bytes.items ≡ []) }
     {
         put_all(out, self.bytes.as_slice())?;

@@ -35,7 +35,10 @@ pub fn count<L: Ledger>(
     requires fresh { machine.old ≡ opening_seen machine.old.code machine.old.groups machine.old.most }
     requires whole { schedule.left ≡ schedule.all }
     requires turns { length schedule.left ≤ machine.old.most }
-    ensures counts { counts result ≡ told_counts (told_at_opening (opening_of machine.old.code machine.old.groups) ∷ (word_run machine.old.code machine.old.groups schedule.entry.all).1) }
+    ensures counts { counts result
+        ≡ told_counts
+        (told_at_opening (opening_of machine.old.code machine.old.groups)
+        ∷ (word_run machine.old.code machine.old.groups schedule.entry.all).1) }
     ensures machine { machine.new ≡ ran machine.old schedule.entry.all }
     ensures work { steps.new ≤ steps.old + turns_work machine.old.code machine.old.groups 1 schedule.entry.all machine.old.world }
 {
@@ -58,9 +61,13 @@ fn count_turns<L: Ledger>(
     requires turns { machine.old.taken + length schedule.left ≤ machine.old.most }
     requires few { machine.old.most ≤ MOST_TURNS }
     requires room { AreBelow (2 ^ 32) tally.old }
-    ensures counts { counts tally.new ≡ both_counted (counts tally.old) (told_counts (run_from (word_kind machine.old.code machine.old.groups) (machine.old.taken + 1) schedule.entry.left machine.old.world).1) }
+    ensures counts { counts tally.new
+        ≡ both_counted (counts tally.old)
+        (told_counts
+        (run_from (word_kind machine.old.code machine.old.groups) (machine.old.taken + 1) schedule.entry.left machine.old.world).1) }
     ensures machine { machine.new ≡ ran machine.old schedule.entry.left }
-    ensures work { steps.new ≤ steps.old + turns_work machine.old.code machine.old.groups (machine.old.taken + 1) schedule.entry.left machine.old.world }
+    ensures work { steps.new
+        ≤ steps.old + turns_work machine.old.code machine.old.groups (machine.old.taken + 1) schedule.entry.left machine.old.world }
 {
     'turns: while let Some(p) = schedule.next() {
         machine.turn(p, report, steps);

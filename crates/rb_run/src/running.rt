@@ -35,8 +35,11 @@ pub fn run<S: Sink, L: Ledger>(
     requires fit { NamesFit machine.old.code names.now }
     requires whole { schedule.left ≡ schedule.all }
     requires turns { length schedule.left ≤ machine.old.most }
-    ensures text { Puts (word_text machine.old.code machine.old.groups schedule.entry.all) (S.written out.old) (S.written out.new) (S.faults out.old) (S.faults out.new) result }
-    ensures work { steps.new ≤ steps.old + turns_work machine.old.code machine.old.groups 1 schedule.entry.all machine.old.world + numbers_printed (naming names.now) }
+    ensures text { Puts (word_text machine.old.code machine.old.groups schedule.entry.all) (S.written out.old)
+        (S.written out.new) (S.faults out.old) (S.faults out.new) result }
+    ensures work { steps.new
+        ≤ steps.old + turns_work machine.old.code machine.old.groups 1 schedule.entry.all machine.old.world
+        + numbers_printed (naming names.now) }
 {
     let turns = schedule.turns();
     let mut report = machine.opening();
@@ -57,9 +60,13 @@ fn take_turns<S: Sink, L: Ledger>(
     requires named { length names.now.processes.items ≡ length machine.old.world.processes }
     requires waits { NoneWaits machine.old }
     requires turns { machine.old.taken + length schedule.left ≤ machine.old.most }
-    ensures text { Puts (all_told (naming names.now) (machine.old.taken + 1) (run_from (word_kind machine.old.code machine.old.groups) (machine.old.taken + 1) schedule.entry.left machine.old.world).1) (S.written out.old) (S.written out.new) (S.faults out.old) (S.faults out.new) result }
+    ensures text { Puts
+        (all_told (naming names.now) (machine.old.taken + 1)
+        (run_from (word_kind machine.old.code machine.old.groups) (machine.old.taken + 1) schedule.entry.left machine.old.world).1)
+        (S.written out.old) (S.written out.new) (S.faults out.old) (S.faults out.new) result }
     ensures ran { OnOk result (machine.new ≡ ran machine.old schedule.entry.left) }
-    ensures work { steps.new ≤ steps.old + turns_work machine.old.code machine.old.groups (machine.old.taken + 1) schedule.entry.left machine.old.world }
+    ensures work { steps.new
+        ≤ steps.old + turns_work machine.old.code machine.old.groups (machine.old.taken + 1) schedule.entry.left machine.old.world }
 {
     'turns: while let Some(p) = schedule.next() {
         machine.turn(p, report, steps);
@@ -77,7 +84,9 @@ fn write_turn<S: Sink, L: Ledger>(
 ) -> Result<(), Failed>
     requires fit { length machine.old.waiting ≡ length names.now.processes.items }
     requires processes { length machine.old.waiting ≡ length machine.old.world.processes }
-    ensures text { Puts (told_text (naming names.now) machine.old.taken (told_of report.now.kind report.now.events.items machine.old.waiting)) (S.written out.old) (S.written out.new) (S.faults out.old) (S.faults out.new) result }
+    ensures text { Puts
+        (told_text (naming names.now) machine.old.taken (told_of report.now.kind report.now.events.items machine.old.waiting))
+        (S.written out.old) (S.written out.new) (S.faults out.old) (S.faults out.new) result }
     ensures none_waits { OnOk result (machine.new.waiting ≡ replicate (length machine.old.waiting) []) }
     ensures rest { record machine.new { waiting = [] } ≡ record machine.old { waiting = [] } }
 {

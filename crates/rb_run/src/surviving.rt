@@ -42,7 +42,9 @@ pub fn survive<S: Sink, L: Ledger>(
     requires named { naming names.now ≡ machine.old.code.names }
     requires whole { schedule.left ≡ schedule.all }
     requires turns { length schedule.left ≤ machine.old.most }
-    ensures text { Survives (record_text machine.old.code.names (word_survivors (word_run machine.old.code machine.old.groups schedule.entry.all).0)) (S.written out.old) (S.written out.new) (S.faults out.old) (S.faults out.new) result }
+    ensures text { Survives
+        (record_text machine.old.code.names (word_survivors (word_run machine.old.code machine.old.groups schedule.entry.all).0))
+        (S.written out.old) (S.written out.new) (S.faults out.old) (S.faults out.new) result }
     ensures erased { IsErasedOver machine.old.code machine.old.groups schedule.entry.all }
     ensures work { steps.new ≤ steps.old + turns_work machine.old.code machine.old.groups 1 schedule.entry.all machine.old.world }
 {
@@ -64,7 +66,8 @@ fn take_unseen<L: Ledger>(
     requires waits { NoneWaits machine.old }
     requires turns { machine.old.taken + length schedule.left ≤ machine.old.most }
     ensures machine { machine.new ≡ ran machine.old schedule.entry.left }
-    ensures work { steps.new ≤ steps.old + turns_work machine.old.code machine.old.groups (machine.old.taken + 1) schedule.entry.left machine.old.world }
+    ensures work { steps.new
+        ≤ steps.old + turns_work machine.old.code machine.old.groups (machine.old.taken + 1) schedule.entry.left machine.old.world }
 {
     'turns: while let Some(p) = schedule.next() {
         machine.turn(p, report, steps);
@@ -74,7 +77,8 @@ fn take_unseen<L: Ledger>(
 
 // Writes survivors as a record.
 fn write_survivors<S: Sink>(out: &mut S, kept: &[Kept], names: &Names) -> Result<(), Ended>
-    ensures { Survives (record_text (naming names.now) (map kept_of kept.now)) (S.written out.old) (S.written out.new) (S.faults out.old) (S.faults out.new) result }
+    ensures { Survives (record_text (naming names.now) (map kept_of kept.now)) (S.written out.old) (S.written out.new)
+        (S.faults out.old) (S.faults out.new) result }
 {
     match write_record(out, kept, names) {
         Ok(()) => Ok(()),

@@ -97,14 +97,19 @@ length-turns_of k (One p) n = length-replicate n p
 length-turns_of k Everyone n = length_rounds k n
 
 -- a line with a name and a count
-counted_gives : (names : List (List ℕ)) (who : Option Whose) (n : ℕ) → IsWhose (length names) who → Gives (length names) (λ before. counted_line names before who n)
+counted_gives : (names : List (List ℕ)) (who : Option Whose) (n : ℕ) → IsWhose (length names) who
+    → Gives (length names) (λ before. counted_line names before who n)
 counted_gives names None n known = Fault T2 (λ before. refl)
 counted_gives names (Some who) n known = by_test (n == 0 || nat_lt MOST_TURNS n)
   where
-    by_test : (t : Bool) → Gives (length names) (λ before. cond t (Err T3) (cond (nat_lt MOST_TURNS (before + count_of (length names) who n)) (Err T4) (Ok (turns_of (length names) who n))))
+    by_test : (t : Bool)
+        → Gives (length names)
+        (λ before. cond t (Err T3)
+        (cond (nat_lt MOST_TURNS (before + count_of (length names) who n)) (Err T4) (Ok (turns_of (length names) who n))))
     by_test true = Fault T3 (λ before. refl)
     by_test false = Turns (turns_of (length names) who n) (turns_of_known (length names) who n known)
-        (λ before few. ap (λ m. cond (nat_lt MOST_TURNS (before + m)) (Err T4) (Ok (turns_of (length names) who n))) (sym (length-turns_of (length names) who n)))
+        (λ before few. ap (λ m. cond (nat_lt MOST_TURNS (before + m)) (Err T4) (Ok (turns_of (length names) who n)))
+        (sym (length-turns_of (length names) who n)))
 
 -- the same, judged for its form first
 formed_gives : (k : ℕ) (formed : Bool) (line : ℕ → Result (List ℕ) FaultName) → Gives k line → Gives k (λ before. cond formed (line before) (Err T1))
@@ -127,7 +132,8 @@ pub record IsLine (names : List (List ℕ)) (line : List ℕ) (before : ℕ) (tu
   pub earlier : (fewer : ℕ) → fewer ≤ before → line_turns names fewer line ≡ Ok turns
 
 -- what is known of a line that has no fault
-pub line_known : (names : List (List ℕ)) (line : List ℕ) (before : ℕ) (turns : List ℕ) → before ≤ MOST_TURNS → line_turns names before line ≡ Ok turns → IsLine names line before turns
+pub line_known : (names : List (List ℕ)) (line : List ℕ) (before : ℕ) (turns : List ℕ) → before ≤ MOST_TURNS
+    → line_turns names before line ≡ Ok turns → IsLine names line before turns
 line_known names line before turns few e = by_gives (words_give names (words_of line))
   where
     by_gives : Gives (length names) (λ b. line_of_words names b (words_of line)) → IsLine names line before turns

@@ -50,7 +50,8 @@ numbers_from-more : (at n m : ℕ) → n ≡ suc m → numbers_from at n ≡ at 
 numbers_from-more at n m e = ap (numbers_from at) e
 
 -- a turn inside a round
-pub turns_left_inside : (first end at n : ℕ) → ¬ (n ≡ 0) → at < end → ¬ (at + 1 ≡ end) → turns_left first end at n ≡ at ∷ turns_left first end (at + 1) n
+pub turns_left_inside : (first end at n : ℕ) → ¬ (n ≡ 0) → at < end → ¬ (at + 1 ≡ end)
+    → turns_left first end at n ≡ at ∷ turns_left first end (at + 1) n
 turns_left_inside first end at zero some inside more = absurd (some refl)
 turns_left_inside first end at (suc n) some inside more =
     let one : end - at ≡ suc (end - (at + 1)) = omega arith in
@@ -81,7 +82,8 @@ turns_left_some first end at (suc n) inside e =
 pub length_turns_left : (first end at n : ℕ) → ¬ (n ≡ 0) → length (turns_left first end at n) ≡ end - at + (n - 1) * (end - first)
 length_turns_left first end at zero some = absurd (some refl)
 length_turns_left first end at (suc n) some =
-    let parts : length (turns_left first end at (suc n)) ≡ length (numbers_from at (end - at)) + length (rounds_over first (end - first) n) = length-append (numbers_from at (end - at)) (rounds_over first (end - first) n) in
+    let parts : length (turns_left first end at (suc n)) ≡ length (numbers_from at (end - at)) + length (rounds_over first (end - first) n) =
+    length-append (numbers_from at (end - at)) (rounds_over first (end - first) n) in
     let fewer : suc n - 1 ≡ n = omega arith in
     parts
     ∙ ap (λ m. m + length (rounds_over first (end - first) n)) (length-numbers_from at (end - at))

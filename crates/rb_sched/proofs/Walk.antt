@@ -22,7 +22,8 @@ record Splits (first : Result (List ℕ) FaultName) (others : ℕ → Result (Li
   joined : front ++ later ≡ turns
 
 -- where a text has no fault, its first line has none, nor have the others
-after_line-Ok : (first : Result (List ℕ) FaultName) (at : ℕ) (others : ℕ → Result (List ℕ) TextFault) (turns : List ℕ) → after_line first at others ≡ Ok turns → Splits first others turns
+after_line-Ok : (first : Result (List ℕ) FaultName) (at : ℕ) (others : ℕ → Result (List ℕ) TextFault) (turns : List ℕ)
+    → after_line first at others ≡ Ok turns → Splits first others turns
 after_line-Ok (Ok front) at others turns e = by_others (others (length front)) refl e
   where
     by_others : (o : Result (List ℕ) TextFault) → others (length front) ≡ o → in_front front o ≡ Ok turns → Splits (Ok front) others turns
@@ -37,7 +38,8 @@ pub record AreLines (names : List (List ℕ)) (lines : List (List ℕ)) (before 
   pub earlier : (fewer at : ℕ) → fewer ≤ before → lines_turns names fewer at lines ≡ Ok turns
 
 -- where some lines have no fault, each turn is known, and fewer before leave them as they are
-pub lines_known : (names : List (List ℕ)) (lines : List (List ℕ)) (before at : ℕ) (turns : List ℕ) → before ≤ MOST_TURNS → lines_turns names before at lines ≡ Ok turns → AreLines names lines before turns
+pub lines_known : (names : List (List ℕ)) (lines : List (List ℕ)) (before at : ℕ) (turns : List ℕ) → before ≤ MOST_TURNS
+    → lines_turns names before at lines ≡ Ok turns → AreLines names lines before turns
 lines_known names [] before at turns few e =
     let none : [] ≡ turns = cc in
     subst (AreLines names [] before) none (record { known = tt; few = omega arith; earlier = λ fewer n less. refl })
@@ -54,7 +56,8 @@ lines_known names (line ∷ lines) before at turns few e =
     })
 
 -- each turn of a schedule is that of a process, and there are not too many
-pub turns_known : (names : List (List ℕ)) (text turns : List ℕ) → schedule_of names text ≡ Ok turns → AllByRecursion (λ p. p < length names) turns × (length turns ≤ MOST_TURNS)
+pub turns_known : (names : List (List ℕ)) (text turns : List ℕ) → schedule_of names text ≡ Ok turns
+    → AllByRecursion (λ p. p < length names) turns × (length turns ≤ MOST_TURNS)
 turns_known names text turns e =
     let ls = lines_known names (lines_of text) 0 1 turns (omega arith) e in
     (ls.known, omega (arith, ls.few))
@@ -72,7 +75,9 @@ in_front_twice front turns (Ok later) = ap (λ xs. Ok xs) (sym (append_assoc fro
 in_front_twice front turns (Err fault) = refl
 
 -- a line more is read
-pub read_more : (names : List (List ℕ)) (text line : List ℕ) (total at : ℕ) (rest after turns : List ℕ) (sum : ℕ) → ReadUpTo names text total at rest → lines_of rest ≡ line ∷ lines_of after → line_turns names total line ≡ Ok turns → sum ≡ total + length turns → sum ≤ MOST_TURNS → ReadUpTo names text sum (at + 1) after
+pub read_more : (names : List (List ℕ)) (text line : List ℕ) (total at : ℕ) (rest after turns : List ℕ) (sum : ℕ)
+    → ReadUpTo names text total at rest → lines_of rest ≡ line ∷ lines_of after → line_turns names total line ≡ Ok turns
+    → sum ≡ total + length turns → sum ≤ MOST_TURNS → ReadUpTo names text sum (at + 1) after
 read_more names text line total at rest after turns sum read cut given sum_is few = record {
   front = read.front ++ turns;
   goes_on =
@@ -86,7 +91,9 @@ read_more names text line total at rest after turns sum read cut given sum_is fe
 }
 
 -- a text without a fault has none after its first line, whose turns come first
-line_first : (names : List (List ℕ)) (text line after turns : List ℕ) → lines_of text ≡ line ∷ lines_of after → ((before : ℕ) → before ≤ MOST_TURNS → line_turns names before line ≡ fitting before turns) → IsOk (schedule_of names text) → GoesOn names text turns after
+line_first : (names : List (List ℕ)) (text line after turns : List ℕ) → lines_of text ≡ line ∷ lines_of after
+    → ((before : ℕ) → before ≤ MOST_TURNS → line_turns names before line ≡ fitting before turns)
+    → IsOk (schedule_of names text) → GoesOn names text turns after
 line_first names text line after turns cut given sound = by_turns (schedule_of names text) refl sound
   where
     by_turns : (r : Result (List ℕ) TextFault) → schedule_of names text ≡ r → IsOk r → GoesOn names text turns after
@@ -105,18 +112,24 @@ line_first names text line after turns cut given sound = by_turns (schedule_of n
         }
 
 -- a line more is read off
-pub goes_on_with : (names : List (List ℕ)) (text rest line after turns : List ℕ) → GoesOn names text [] rest → lines_of rest ≡ line ∷ lines_of after → ((before : ℕ) → before ≤ MOST_TURNS → line_turns names before line ≡ fitting before turns) → GoesOn names text turns after
+pub goes_on_with : (names : List (List ℕ)) (text rest line after turns : List ℕ) → GoesOn names text [] rest
+    → lines_of rest ≡ line ∷ lines_of after
+    → ((before : ℕ) → before ≤ MOST_TURNS → line_turns names before line ≡ fitting before turns)
+    → GoesOn names text turns after
 goes_on_with names text rest line after turns so_far cut given =
     let next = line_first names rest line after turns cut given so_far.sound in
     record { sound = next.sound; joined = so_far.joined ∙ next.joined }
 
 -- the same of the processes of a program
-pub turns_known_in : (names : Names) (text turns none : List ℕ) → none ≡ [] → schedule_of (process_names names) text ≡ Ok turns → AllByRecursion (λ p. p < vec_len names.processes) (none ++ turns_in (schedule_of (process_names names) text))
+pub turns_known_in : (names : Names) (text turns none : List ℕ) → none ≡ []
+    → schedule_of (process_names names) text ≡ Ok turns
+    → AllByRecursion (λ p. p < vec_len names.processes) (none ++ turns_in (schedule_of (process_names names) text))
 turns_known_in names text turns none is_none sound =
     let all : none ++ turns_in (schedule_of (process_names names) text) ≡ turns = λ i. is_none i ++ turns_in (sound i) in
     subst (λ k. Known k (none ++ turns_in (schedule_of (process_names names) text))) (length_process_names names)
     (subst (Known (length (process_names names))) (sym all) (turns_known (process_names names) text turns sound).0)
 
 -- a turn that is taken is known, and so are those left
-pub next_known : (P : ℕ → Type 0) (old : Plan) (p : ℕ) (new : Plan) → TakesTurn old (Some p) new → AllByRecursion P old.left → P p × AllByRecursion P new.left
+pub next_known : (P : ℕ → Type 0) (old : Plan) (p : ℕ) (new : Plan) → TakesTurn old (Some p) new → AllByRecursion P old.left
+    → P p × AllByRecursion P new.left
 next_known P old p new takes known = subst (AllByRecursion P) takes.0 known

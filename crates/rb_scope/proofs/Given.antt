@@ -172,7 +172,8 @@ have_slots found (site ∷ sites) a b = (
 )
 
 -- the same by index
-pub slot_at : (slots : List Slot) (sites : List Site) (k : ℕ) (d : Site) → HaveSlots slots sites → k < length sites → HasItsSlot slots (get_or sites k d)
+pub slot_at : (slots : List Slot) (sites : List Site) (k : ℕ) (d : Site) → HaveSlots slots sites → k < length sites
+    → HasItsSlot slots (get_or sites k d)
 slot_at slots [] k d h l = absurd (omega arith)
 slot_at slots (site ∷ sites) zero d h l = h.0
 slot_at slots (site ∷ sites) (suc k) d h l = slot_at slots sites k d h.1 (omega arith)

@@ -32,7 +32,8 @@ too_many (Some place) = where_broken true S7 place
 abbrev pub with_extra : Found → Option Place → Found
 with_extra found extra = record found { first = first_after found.first (too_many extra) }
 
-here : (found : Found) (most before : ℕ) (place : Place) → nat_eq before most ≡ true → visit found (Lists most before place) ≡ with_extra found (Some place)
+here : (found : Found) (most before : ℕ) (place : Place) → nat_eq before most ≡ true
+    → visit found (Lists most before place) ≡ with_extra found (Some place)
 unfolding visit
 here found most before place e = rw e refl
 
@@ -97,5 +98,6 @@ same_entry (y ∷ ys) (suc k) d e h = same_entry ys k d e (omega arith)
 
 -- the same where the entry is a copy
 pub long_copy : {A B : Type 0} (f : A → B) (place : B → Place) (most : ℕ) (found : Found) (xs : List A) (d : A) → most < length xs
-    → visited found (list_sites place most 0 (map f xs)) ≡ record found { first = first_after found.first (where_broken true S7 (place (f (get_or xs most d)))) }
+    → visited found (list_sites place most 0 (map f xs))
+    ≡ record found { first = first_after found.first (where_broken true S7 (place (f (get_or xs most d)))) }
 long_copy f place most found xs d h = long f place most found xs (get_or xs most d) h (same_entry xs most d (get_or xs most d) h)

@@ -63,7 +63,8 @@ same-columns l c n l' c' n' h i = grind (arith, nat_tests)
 same-numbers : (l c n l' c' n' : ℕ) → earlier l c n l' c' n' ≡ false → earlier l' c' n' l c n ≡ false → n ≡ n'
 same-numbers l c n l' c' n' h i = grind (arith, nat_tests)
 
-same-fault : (names : ℕ → FaultName) (a b : SourceFault) → comes_before a b ≡ false → comes_before b a ≡ false → IsNamed names a → IsNamed names b → a ≡ b
+same-fault : (names : ℕ → FaultName) (a b : SourceFault) → comes_before a b ≡ false → comes_before b a ≡ false
+    → IsNamed names a → IsNamed names b → a ≡ b
 same-fault names a b h i s t =
     let line = same-lines a.place.line a.place.column (number_of a.name) b.place.line b.place.column (number_of b.name) h i in
     let column = same-columns a.place.line a.place.column (number_of a.name) b.place.line b.place.column (number_of b.name) h i in

@@ -8,7 +8,8 @@ use Rattle.rb_scope.specs.Finding.{first_with, first_after}
 
 -- three numbers before three others: the first that differ decide
 abbrev pub earlier : ℕ → ℕ → ℕ → ℕ → ℕ → ℕ → Bool
-earlier l c n l' c' n' = cond (cond (nat_eq l l') (nat_lt c c') (nat_lt l l')) true (cond (cond (nat_eq l' l) (nat_lt c' c) (nat_lt l' l)) false (nat_lt n n'))
+earlier l c n l' c' n' =
+    cond (cond (nat_eq l l') (nat_lt c c') (nat_lt l l')) true (cond (cond (nat_eq l' l) (nat_lt c' c) (nat_lt l' l)) false (nat_lt n n'))
 
 -- none of the three is earlier than itself
 earlier-self : (l c n : ℕ) → earlier l c n l c n ≡ false
@@ -54,7 +55,8 @@ comes_before-once a b h =
 
 pub comes_before-along : (a b d : SourceFault) → comes_before b a ≡ false → comes_before d b ≡ false → comes_before d a ≡ false
 comes_before-along a b d h i =
-    earlier-along a.place.line a.place.column (number_of a.name) b.place.line b.place.column (number_of b.name) d.place.line d.place.column (number_of d.name) h i
+    earlier-along a.place.line a.place.column (number_of a.name) b.place.line b.place.column
+    (number_of b.name) d.place.line d.place.column (number_of d.name) h i
 
 -- no fault of a list comes before this one
 abbrev pub NoneBefore : SourceFault → List SourceFault → Type 0

@@ -42,7 +42,8 @@ absent-step false n rest one found e f = f e
 absent-from : (x : List ℕ) (ds : List Declared) (n : ℕ) → place_from n x ds ≡ None → None ≡ declared_in x (all_held ds)
 absent-from x [] n e = refl
 absent-from x (one ∷ others) n e =
-    absent-step (same_name one.name.text.now x) n (place_from (n + 1) x others) (held one) (declared_in x (all_held others)) e (absent-from x others (n + 1))
+    absent-step (same_name one.name.text.now x) n (place_from (n + 1) x others) (held one)
+    (declared_in x (all_held others)) e (absent-from x others (n + 1))
 
 pub absent : (x : List ℕ) (ds : List Declared) → place_from 0 x ds ≡ None → None ≡ declared_in x (all_held ds)
 absent x ds e = absent-from x ds 0 e
@@ -62,12 +63,15 @@ read : (x : List ℕ) (ds : List Declared) (n k i : ℕ) (d : Declared) → plac
     → Some (held (get_or ds i d)) ≡ declared_in x (all_held ds)
 read x [] n k i d e h = absurd (cc)
 read x (one ∷ others) n k zero d e h =
-    here-step (same_name one.name.text.now x) n k (place_from (n + 1) x others) (held one) (declared_in x (all_held others)) e (omega arith) (place-le x others (n + 1) k)
+    here-step (same_name one.name.text.now x) n k (place_from (n + 1) x others) (held one)
+    (declared_in x (all_held others)) e (omega arith) (place-le x others (n + 1) k)
 read x (one ∷ others) n k (suc j) d e h =
-    later-step (same_name one.name.text.now x) n k j (place_from (n + 1) x others) (held one) (held (get_or others j d)) (declared_in x (all_held others)) e h
+    later-step (same_name one.name.text.now x) n k j (place_from (n + 1) x others) (held one) (held (get_or others j d))
+    (declared_in x (all_held others)) e h
     (λ g. read x others (n + 1) k j d g (omega arith))
 
-pub found : (x : List ℕ) (ds : List Declared) (k : ℕ) (d : Declared) → place_from 0 x ds ≡ Some k → Some (held (get_or ds k d)) ≡ declared_in x (all_held ds)
+pub found : (x : List ℕ) (ds : List Declared) (k : ℕ) (d : Declared) → place_from 0 x ds ≡ Some k
+    → Some (held (get_or ds k d)) ≡ declared_in x (all_held ds)
 found x ds k d e = read x ds 0 k k d e (omega arith)
 
 -- whether a declaration is one of this name
@@ -83,7 +87,8 @@ any-step false n k m rest any e f = let same : n + suc m ≡ n + 1 + m = omega a
 not-before : (n k : ℕ) → n ≤ k → nat_lt k (n + 0) ≡ false
 not-before n k h = grind (arith, nat_tests)
 
-before-from : (x : List ℕ) (ds : List Declared) (n k p : ℕ) → place_from n x ds ≡ Some k → nat_lt k (n + p) ≡ list_any (has_name x) (take p (all_held ds))
+before-from : (x : List ℕ) (ds : List Declared) (n k p : ℕ) → place_from n x ds ≡ Some k
+    → nat_lt k (n + p) ≡ list_any (has_name x) (take p (all_held ds))
 before-from x [] n k p e = absurd (cc)
 before-from x (one ∷ others) n k zero e = not-before n k (place-le x (one ∷ others) n k e)
 before-from x (one ∷ others) n k (suc m) e =
@@ -102,7 +107,8 @@ never-from x [] n zero e = refl
 never-from x [] n (suc m) e = refl
 never-from x (one ∷ others) n zero e = refl
 never-from x (one ∷ others) n (suc m) e =
-    never-step (same_name one.name.text.now x) n (place_from (n + 1) x others) (list_any (has_name x) (take m (all_held others))) e (never-from x others (n + 1) m)
+    never-step (same_name one.name.text.now x) n (place_from (n + 1) x others)
+    (list_any (has_name x) (take m (all_held others))) e (never-from x others (n + 1) m)
 
 pub never : (x : List ℕ) (ds : List Declared) (p : ℕ) → place_from 0 x ds ≡ None → false ≡ list_any (has_name x) (take p (all_held ds))
 never x ds p e = never-from x ds 0 p e

@@ -41,7 +41,8 @@ AgreeAt slots others (Quantifies around place) = Unit {0}
 
 -- Two lists of slots of one tree agree at each name of it.
 abbrev pub SlotsAreDetermined : Type 0
-SlotsAreDetermined = (tree : Tree) (slots others : List Slot) → AreSlots tree slots → AreSlots tree others → All (AgreeAt slots others) (tree_sites tree)
+SlotsAreDetermined =
+    (tree : Tree) (slots others : List Slot) → AreSlots tree slots → AreSlots tree others → All (AgreeAt slots others) (tree_sites tree)
 
 -- In a tree that is resolved each name stands for what the meaning finds under it.
 abbrev pub ResolvedInFrames : Type 0

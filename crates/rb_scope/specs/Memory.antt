@@ -50,4 +50,6 @@ slot_in OfCall = Local
 -- the sites of a quantified expression in memory
 abbrev pub quantified_sites : PlainSpot → Quantified → List Site
 quantified_sites spot over =
-    expression_sites spot (Quantification over.kind over.place (identifier over.name) (expression over.low.value) (expression over.high.value) (expression over.body.value))
+    expression_sites spot
+    (Quantification over.kind over.place (identifier over.name) (expression over.low.value) (expression over.high.value)
+    (expression over.body.value))

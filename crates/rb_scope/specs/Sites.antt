@@ -181,7 +181,9 @@ procedure_sites spot procedure =
     list_sites (λ name. name.place) most_parameters 0 procedure.parameters
     ++ (scope_sites [] (procedure_scope procedure)
     ++ (flat_map (λ one. size_sites one.size) (variables_in procedure.body)
-    ++ commands_sites (within (procedure_scope procedure) (length procedure.parameters + words_in (variables_in procedure.body)) spot) (commands_in procedure.body)))
+    ++ commands_sites
+    (within (procedure_scope procedure) (length procedure.parameters + words_in (variables_in procedure.body)) spot)
+    (commands_in procedure.body)))
 
 -- the words that the variables of a process take, one after another
 abbrev pub words_sites : ℕ → ℕ → List Declaration → List Site

@@ -46,7 +46,8 @@ pub(crate) fn add_variables<'a>(
     first: u32,
     variables: &[Var<'a>],
 ) -> Result<(), Memory>
-    ensures { OnOk result (all_held declared.new.items ≡ all_held declared.old.items ++ variables_from (slot_in kind) first (map declaration variables.now)) }
+    ensures { OnOk result
+        (all_held declared.new.items ≡ all_held declared.old.items ++ variables_from (slot_in kind) first (map declaration variables.now)) }
 {
     let mut at = first;
     let mut rest = variables;
@@ -88,7 +89,8 @@ pub(crate) fn add_procedures<'a>(
     declared: &mut Vec<Declared<'a>>,
     procedures: &[Procedure<'a>],
 ) -> Result<(), Memory>
-    ensures { OnOk result (all_held declared.new.items ≡ all_held declared.old.items ++ procedures_from 0 (map procedure_declaration procedures.now)) }
+    ensures { OnOk result
+        (all_held declared.new.items ≡ all_held declared.old.items ++ procedures_from 0 (map procedure_declaration procedures.now)) }
 {
     let mut number = 0;
     let mut rest = procedures;
@@ -151,7 +153,9 @@ pub(crate) fn place_conversations<'a>(
     declared: &mut Vec<Declared<'a>>,
     conversations: &[Conversation<'a>],
 ) -> Result<(), Memory>
-    ensures { OnOk result (all_held declared.new.items ≡ in_text_order (conversations_from 0 (map conversation_declaration conversations.now)) (all_held declared.old.items)) }
+    ensures { OnOk result
+        (all_held declared.new.items
+        ≡ in_text_order (conversations_from 0 (map conversation_declaration conversations.now)) (all_held declared.old.items)) }
 {
     let mut number = 0;
     let mut rest = conversations;

@@ -52,7 +52,8 @@ pub(crate) fn count_channels(channels: &[Channel<'_>], finder: &mut Finder)
 /// Visits the conversations of a program as a list.
 #[tactic(auto, using(crate::proofs::Long::short))]
 pub(crate) fn count_conversations(conversations: &[Conversation<'_>], finder: &mut Finder)
-    ensures { finder.new ≡ visited finder.old (list_sites (λ one. one.name.place) most_connections 0 (map conversation_declaration conversations.now)) }
+    ensures { finder.new
+        ≡ visited finder.old (list_sites (λ one. one.name.place) most_connections 0 (map conversation_declaration conversations.now)) }
 {
     if conversations.len() > MOST_CONNECTIONS {
         finder.note(
@@ -66,7 +67,8 @@ pub(crate) fn count_conversations(conversations: &[Conversation<'_>], finder: &m
 /// Visits the processes of a program as a list.
 #[tactic(auto, using(crate::proofs::Long::short))]
 pub(crate) fn count_processes(edition: Edition, processes: &[Process<'_>], finder: &mut Finder)
-    ensures { finder.new ≡ visited finder.old (list_sites (λ one. one.name.place) (most_processes edition) 0 (map process_declaration processes.now)) }
+    ensures { finder.new
+        ≡ visited finder.old (list_sites (λ one. one.name.place) (most_processes edition) 0 (map process_declaration processes.now)) }
 {
     let most = most_processes(edition);
     if processes.len() > most {

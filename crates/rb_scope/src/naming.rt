@@ -67,7 +67,9 @@ fn named_variables(alloc: Global, variables: &[Var<'_>]) -> Result<Vec<Variable>
 }
 
 fn named_variable(alloc: Global, at: u32, variable: &Var<'_>) -> Result<Variable, Memory>
-    ensures { IfOk result (λ named. variable_naming named ≡ record { name = variable.now.name.text.now; at = at; size = option_map (λ n. size_of (Some n)) variable.now.size }) }
+    ensures { IfOk result
+        (λ named. variable_naming named
+        ≡ record { name = variable.now.name.text.now; at = at; size = option_map (λ n. size_of (Some n)) variable.now.size }) }
 {
     let name = Text::from_slice(alloc, variable.name.text)?;
     let size = array_size(variable.size)?;

@@ -57,7 +57,8 @@ fn visit_items<'a>(
     spot: &Spot<'_, 'a>,
     finder: &mut Finder,
 ) -> Result<(), Memory>
-    ensures { OnOk result (finder.new ≡ visited finder.old (flat_map (λ item. printed_sites (spot_of spot.now) item.what) (map print_item items.now))) }
+    ensures { OnOk result
+        (finder.new ≡ visited finder.old (flat_map (λ item. printed_sites (spot_of spot.now) item.what) (map print_item items.now))) }
 {
     for item in items {
         visit_printed(alloc, &item.what, spot, finder)?;
@@ -105,7 +106,8 @@ pub(crate) fn visit_sending<'a>(
     spot: &Spot<'_, 'a>,
     finder: &mut Finder,
 ) -> Result<(), Memory>
-    ensures { OnOk result (finder.new ≡ visited finder.old (command_sites (spot_of spot.now) (Sending (identifier channel.entry) (plain value.now)))) }
+    ensures { OnOk result
+        (finder.new ≡ visited finder.old (command_sites (spot_of spot.now) (Sending (identifier channel.entry) (plain value.now)))) }
 {
     uses(finder, Want::AChannel, channel, spot.scopes);
     visit_expression(alloc, value, spot, finder)?;
@@ -121,7 +123,10 @@ pub(crate) fn visit_receipt<'a>(
     spot: &Spot<'_, 'a>,
     finder: &mut Finder,
 ) -> Result<(), Memory>
-    ensures { OnOk result (finder.new ≡ visited finder.old (Uses Want.AChannel (identifier channel.entry) (spot_of spot.now).scopes ∷ reference_sites (spot_of spot.now) Want.AScalar (reference target.now))) }
+    ensures { OnOk result
+        (finder.new ≡ visited finder.old
+        (Uses Want.AChannel (identifier channel.entry) (spot_of spot.now).scopes
+        ∷ reference_sites (spot_of spot.now) Want.AScalar (reference target.now))) }
 {
     uses(finder, Want::AChannel, channel, spot.scopes);
     visit_reference(alloc, target, Want::AScalar, spot, finder)?;
@@ -137,7 +142,9 @@ pub(crate) fn visit_call<'a>(
     spot: &Spot<'_, 'a>,
     finder: &mut Finder,
 ) -> Result<(), Memory>
-    ensures { OnOk result (finder.new ≡ visited finder.old (command_sites (spot_of spot.now) (Invocation (identifier procedure.entry) (map plain arguments.now)))) }
+    ensures { OnOk result
+        (finder.new
+        ≡ visited finder.old (command_sites (spot_of spot.now) (Invocation (identifier procedure.entry) (map plain arguments.now)))) }
 {
     uses(finder, Want::AProcedure, procedure, spot.scopes);
     calls(finder, procedure, arguments.len(), spot.scopes);

@@ -33,7 +33,10 @@ fn procedure_scope<'a>(
     finder: &mut Finder,
 ) -> Result<Scope<'a>, Memory>
     ensures scope { IfOk result (λ scope. scope ≡ procedure_scope (procedure_declaration procedure.now)) }
-    ensures found { OnOk result (finder.new ≡ visited finder.old (scope_sites [] (procedure_scope (procedure_declaration procedure.now)) ++ flat_map (λ one. size_sites one.size) (map declaration procedure.now.block.vars.items))) }
+    ensures found { OnOk result
+        (finder.new ≡ visited finder.old
+        (scope_sites [] (procedure_scope (procedure_declaration procedure.now))
+        ++ flat_map (λ one. size_sites one.size) (map declaration procedure.now.block.vars.items))) }
 {
     let mut declared = Vec::new(alloc);
     add_parameters(&mut declared, &procedure.params)?;
@@ -77,7 +80,8 @@ fn visit_procedures<'a>(
     spot: &Spot<'_, 'a>,
     finder: &mut Finder,
 ) -> Result<(), Memory>
-    ensures { OnOk result (finder.new ≡ visited finder.old (flat_map (procedure_sites (spot_of spot.now)) (map procedure_declaration procedures.now))) }
+    ensures { OnOk result
+        (finder.new ≡ visited finder.old (flat_map (procedure_sites (spot_of spot.now)) (map procedure_declaration procedures.now))) }
 {
     for procedure in procedures {
         visit_procedure(alloc, procedure, spot, finder)?;
@@ -93,7 +97,10 @@ fn process_scope<'a>(
     finder: &mut Finder,
 ) -> Result<Scope<'a>, Memory>
     ensures scope { IfOk result (λ scope. scope ≡ process_scope (process_declaration process.now)) }
-    ensures found { OnOk result (finder.new ≡ visited finder.old (scope_sites [] (process_scope (process_declaration process.now)) ++ flat_map (λ one. size_sites one.size) (map declaration process.now.vars.items))) }
+    ensures found { OnOk result
+        (finder.new ≡ visited finder.old
+        (scope_sites [] (process_scope (process_declaration process.now))
+        ++ flat_map (λ one. size_sites one.size) (map declaration process.now.vars.items))) }
 {
     let mut declared = Vec::new(alloc);
     add_variables(&mut declared, Kind::OfProcess, 0, &process.vars)?;
@@ -136,7 +143,8 @@ fn visit_processes<'a>(
     spot: &Spot<'_, 'a>,
     finder: &mut Finder,
 ) -> Result<(), Memory>
-    ensures { OnOk result (finder.new ≡ visited finder.old (flat_map (process_sites edition (spot_of spot.now)) (map process_declaration processes.now))) }
+    ensures { OnOk result
+        (finder.new ≡ visited finder.old (flat_map (process_sites edition (spot_of spot.now)) (map process_declaration processes.now))) }
 {
     for process in processes {
         visit_process(alloc, edition, process, spot, finder)?;

@@ -50,7 +50,10 @@ pub(crate) fn block_scope<'a>(
     finder: &mut Finder,
 ) -> Result<Scope<'a>, Memory>
     ensures scope { IfOk result (λ scope. scope ≡ variables_from Slot.Local first (map declaration variables.now)) }
-    ensures found { OnOk result (finder.new ≡ visited finder.old (scope_sites [] (variables_from Slot.Local first (map declaration variables.now)) ++ flat_map (λ one. size_sites one.size) (map declaration variables.now))) }
+    ensures found { OnOk result
+        (finder.new ≡ visited finder.old
+        (scope_sites [] (variables_from Slot.Local first (map declaration variables.now))
+        ++ flat_map (λ one. size_sites one.size) (map declaration variables.now))) }
 {
     let mut declared = Vec::new(alloc);
     add_variables(&mut declared, Kind::OfCall, first, variables)?;

@@ -26,11 +26,13 @@ links_append_assoc NoLink b c = refl
 links_append_assoc (Linked op right links) b c = ap (Linked op right) (links_append_assoc links b c)
 
 -- a row that gained its last, with what is still to come
-pub links_append_one : (a : Links) (op : Op) (right : Expression) (after : Links) → links_append (links_append a (Linked op right NoLink)) after ≡ links_append a (Linked op right after)
+pub links_append_one : (a : Links) (op : Op) (right : Expression) (after : Links)
+    → links_append (links_append a (Linked op right NoLink)) after ≡ links_append a (Linked op right after)
 links_append_one a op right after = links_append_assoc a (Linked op right NoLink) after
 
 -- one more link, with what is still to come
-pub links_push : (xs : List Link) (x : Link) (after : Links) → links_append (links_of (xs ++ (x ∷ []))) after ≡ links_append (links_of xs) (Linked x.op (expression x.right) after)
+pub links_push : (xs : List Link) (x : Link) (after : Links)
+    → links_append (links_of (xs ++ (x ∷ []))) after ≡ links_append (links_of xs) (Linked x.op (expression x.right) after)
 links_push [] x after = refl
 links_push (y ∷ xs) x after = ap (Linked y.op (expression y.right)) (links_push xs x after)
 
@@ -55,11 +57,13 @@ commands_append_assoc NoCommand b c = refl
 commands_append_assoc (Then first rest) b c = ap (Then first) (commands_append_assoc rest b c)
 
 -- a row that gained its last, with what is still to come
-pub commands_append_one : (a : Commands) (next : Command) (after : Commands) → commands_append (commands_append a (Then next NoCommand)) after ≡ commands_append a (Then next after)
+pub commands_append_one : (a : Commands) (next : Command) (after : Commands)
+    → commands_append (commands_append a (Then next NoCommand)) after ≡ commands_append a (Then next after)
 commands_append_one a next after = commands_append_assoc a (Then next NoCommand) after
 
 -- one more statement, with what is still to come
-pub commands_push : (xs : List Statement) (x : Statement) (after : Commands) → commands_append (commands_of (xs ++ (x ∷ []))) after ≡ commands_append (commands_of xs) (Then (command x) after)
+pub commands_push : (xs : List Statement) (x : Statement) (after : Commands)
+    → commands_append (commands_of (xs ++ (x ∷ []))) after ≡ commands_append (commands_of xs) (Then (command x) after)
 commands_push [] x after = refl
 commands_push (y ∷ xs) x after = ap (Then (command y)) (commands_push xs x after)
 
@@ -84,11 +88,13 @@ alternates_append_assoc NoAlternate b c = refl
 alternates_append_assoc (Alternate body others) b c = ap (Alternate body) (alternates_append_assoc others b c)
 
 -- a row that gained its last, with what is still to come
-pub alternates_append_one : (a : Alternates) (next : Body) (after : Alternates) → alternates_append (alternates_append a (Alternate next NoAlternate)) after ≡ alternates_append a (Alternate next after)
+pub alternates_append_one : (a : Alternates) (next : Body) (after : Alternates)
+    → alternates_append (alternates_append a (Alternate next NoAlternate)) after ≡ alternates_append a (Alternate next after)
 alternates_append_one a next after = alternates_append_assoc a (Alternate next NoAlternate) after
 
 -- one more alternate, with what is still to come
-pub alternates_push : (xs : List Block) (x : Block) (after : Alternates) → alternates_append (alternates_of (xs ++ (x ∷ []))) after ≡ alternates_append (alternates_of xs) (Alternate (body x) after)
+pub alternates_push : (xs : List Block) (x : Block) (after : Alternates)
+    → alternates_append (alternates_of (xs ++ (x ∷ []))) after ≡ alternates_append (alternates_of xs) (Alternate (body x) after)
 alternates_push [] x after = refl
 alternates_push (y ∷ xs) x after = ap (Alternate (body y)) (alternates_push xs x after)
 

@@ -86,7 +86,9 @@ commands_row _ end_of-Statement = refl
 commands_row _ (more_of-Statement first rest) = ap (Then (command first)) (commands_row _ rest)
 
 -- the statements of a row, as those of the vector that it is seen as
-commands_shown : (shape : (vector.the_former (this {0}) Global).Shape) (row : Row_of-Statement (arity (vector.the_former (this {0}) Global) shape)) → commands row ≡ commands_of (shown-the_row-Statement-0 shape row).items
+commands_shown : (shape : (vector.the_former (this {0}) Global).Shape)
+    (row : Row_of-Statement (arity (vector.the_former (this {0}) Global) shape))
+    → commands row ≡ commands_of (shown-the_row-Statement-0 shape row).items
 commands_shown shape row = commands_row _ row ∙ ap commands_of (sym (items_shown-the_row-Statement-0 shape row))
 
 -- the other block behind a statement, as the option that it is seen as
@@ -121,7 +123,8 @@ command_out (Recover recovery) = refl
 pub recovery_out : (r : Recovery) → recovery_block r ≡ recovery_layer (out-Recovery r)
 unfolding recovery_block out-Recovery out
 recovery_out (Recovery' number conversation place test bound shape row) =
-    ap (Recovers number (option_map identifier conversation) place (expression test) bound) (alternates_row _ row ∙ ap alternates_of (sym (items_shown-the_row-Block-1 shape row)))
+    ap (Recovers number (option_map identifier conversation) place (expression test) bound)
+    (alternates_row _ row ∙ ap alternates_of (sym (items_shown-the_row-Block-1 shape row)))
 
 -- One equation for each variant of an expression, over its parts as code has them.
 pub expression_number : (number : Numeral) → expression (Number number) ≡ Literal number
@@ -135,7 +138,8 @@ pub expression_scalar : (name : Name) → expression (Value' name None') ≡ Var
 expression_scalar name = expression_value record { name = name; index = None }
 
 -- the same where the target is written out with its index
-pub expression_element : (name : Name) (index : Box Expr Global) → expression (Value record { name = name; index = Some index }) ≡ Variable (Refer (identifier name) (Element (expression index.value)))
+pub expression_element : (name : Name) (index : Box Expr Global)
+    → expression (Value record { name = name; index = Some index }) ≡ Variable (Refer (identifier name) (Element (expression index.value)))
 expression_element name index = expression_value record { name = name; index = Some index }
 
 pub expression_prior : (place : Place) (target : Target) → expression (Prior place target) ≡ Former place (reference target)
@@ -144,7 +148,9 @@ expression_prior place target = expression_out (Prior place target) ∙ ap expre
 pub expression_prior_scalar : (place : Place) (name : Name) → expression (Prior' place name None') ≡ Former place (Refer (identifier name) Scalar)
 expression_prior_scalar place name = expression_prior place record { name = name; index = None }
 
-pub expression_prior_element : (place : Place) (name : Name) (index : Box Expr Global) → expression (Prior place record { name = name; index = Some index }) ≡ Former place (Refer (identifier name) (Element (expression index.value)))
+pub expression_prior_element : (place : Place) (name : Name) (index : Box Expr Global)
+    → expression (Prior place record { name = name; index = Some index })
+    ≡ Former place (Refer (identifier name) (Element (expression index.value)))
 expression_prior_element place name index = expression_prior place record { name = name; index = Some index }
 
 pub expression_neg : (operand : Box Expr Global) → expression (Neg operand) ≡ Minus (expression operand.value)
@@ -153,10 +159,13 @@ expression_neg operand = expression_out (Neg operand) ∙ ap expression_layer (o
 pub expression_not : (operand : Box Expr Global) → expression (Not operand) ≡ Negation (expression operand.value)
 expression_not operand = expression_out (Not operand) ∙ ap expression_layer (outs-Not operand)
 
-pub expression_chain : (first : Box Expr Global) (held : Vec Link Global) → expression (Chain first held) ≡ Chained (expression first.value) (links_of held.items)
+pub expression_chain : (first : Box Expr Global) (held : Vec Link Global)
+    → expression (Chain first held) ≡ Chained (expression first.value) (links_of held.items)
 expression_chain first held = expression_out (Chain first held) ∙ ap expression_layer (outs-Chain first held)
 
-pub expression_quantified : (kind : Quantifier) (place : Place) (name : Name) (low high over : Box Expr Global) → expression (quantified record { kind = kind; place = place; name = name; low = low; high = high; body = over }) ≡ Quantification kind place (identifier name) (expression low.value) (expression high.value) (expression over.value)
+pub expression_quantified : (kind : Quantifier) (place : Place) (name : Name) (low high over : Box Expr Global)
+    → expression (quantified record { kind = kind; place = place; name = name; low = low; high = high; body = over })
+    ≡ Quantification kind place (identifier name) (expression low.value) (expression high.value) (expression over.value)
 expression_quantified kind place name low high over =
     let q : Quantified = record { kind = kind; place = place; name = name; low = low; high = high; body = over } in
     expression_out (quantified q) ∙ ap expression_layer (outs-Quantified q)
@@ -171,34 +180,49 @@ command_print items = command_out (Print items) ∙ ap command_layer (outs-Print
 pub command_send : (channel : Name) (value : Expr) → command (Send channel value) ≡ Sending (identifier channel) (expression value)
 command_send channel value = command_out (Send channel value) ∙ ap command_layer (outs-Send channel value)
 
-pub command_receive : (channel : Name) (target : Target) (block : Option Block) → command (Receive channel target block) ≡ Receiving (identifier channel) (reference target) (otherwise block)
+pub command_receive : (channel : Name) (target : Target) (block : Option Block)
+    → command (Receive channel target block) ≡ Receiving (identifier channel) (reference target) (otherwise block)
 command_receive channel target block = command_out (Receive channel target block) ∙ ap command_layer (outs-Receive channel target block)
 
 -- the same where there is no block
-pub command_receive_none : (channel : Name) (target : Target) → command (Receive channel target None) ≡ Receiving (identifier channel) (reference target) NoElse
+pub command_receive_none : (channel : Name) (target : Target)
+    → command (Receive channel target None) ≡ Receiving (identifier channel) (reference target) NoElse
 command_receive_none channel target = command_receive channel target None
 
 -- the same where the block is there
-pub command_receive_some : (channel : Name) (target : Target) (vars : Vec Var Global) (rest : Vec Statement Global) → command (Receive channel target (Some record { vars = vars; body = rest })) ≡ Receiving (identifier channel) (reference target) (Else (Scope (map declaration vars.items) (commands_of rest.items)))
+pub command_receive_some : (channel : Name) (target : Target) (vars : Vec Var Global) (rest : Vec Statement Global)
+    → command (Receive channel target (Some record { vars = vars; body = rest }))
+    ≡ Receiving (identifier channel) (reference target) (Else (Scope (map declaration vars.items) (commands_of rest.items)))
 command_receive_some channel target vars rest = command_receive channel target (Some record { vars = vars; body = rest })
 
-pub command_if : (test : Expr) (vars : Vec Var Global) (rest : Vec Statement Global) (other : Option Block) → command (If test record { vars = vars; body = rest } other) ≡ Conditional (expression test) (Scope (map declaration vars.items) (commands_of rest.items)) (otherwise other)
+pub command_if : (test : Expr) (vars : Vec Var Global) (rest : Vec Statement Global) (other : Option Block)
+    → command (If test record { vars = vars; body = rest } other)
+    ≡ Conditional (expression test) (Scope (map declaration vars.items) (commands_of rest.items)) (otherwise other)
 command_if test vars rest other =
     let block : Block = record { vars = vars; body = rest } in
     command_out (If test block other) ∙ ap command_layer (outs-If test block other)
 
-pub command_if_none : (test : Expr) (vars : Vec Var Global) (rest : Vec Statement Global) → command (If test record { vars = vars; body = rest } None) ≡ Conditional (expression test) (Scope (map declaration vars.items) (commands_of rest.items)) NoElse
+pub command_if_none : (test : Expr) (vars : Vec Var Global) (rest : Vec Statement Global)
+    → command (If test record { vars = vars; body = rest } None)
+    ≡ Conditional (expression test) (Scope (map declaration vars.items) (commands_of rest.items)) NoElse
 command_if_none test vars rest = command_if test vars rest None
 
-pub command_if_some : (test : Expr) (vars : Vec Var Global) (rest : Vec Statement Global) (vars_else : Vec Var Global) (rest_else : Vec Statement Global) → command (If test record { vars = vars; body = rest } (Some record { vars = vars_else; body = rest_else })) ≡ Conditional (expression test) (Scope (map declaration vars.items) (commands_of rest.items)) (Else (Scope (map declaration vars_else.items) (commands_of rest_else.items)))
+pub command_if_some : (test : Expr) (vars : Vec Var Global) (rest : Vec Statement Global) (vars_else : Vec Var Global)
+    (rest_else : Vec Statement Global)
+    → command (If test record { vars = vars; body = rest } (Some record { vars = vars_else; body = rest_else }))
+    ≡ Conditional (expression test) (Scope (map declaration vars.items) (commands_of rest.items))
+    (Else (Scope (map declaration vars_else.items) (commands_of rest_else.items)))
 command_if_some test vars rest vars_else rest_else = command_if test vars rest (Some record { vars = vars_else; body = rest_else })
 
-pub command_while : (test : Expr) (vars : Vec Var Global) (rest : Vec Statement Global) → command (While test record { vars = vars; body = rest }) ≡ Loop (expression test) (Scope (map declaration vars.items) (commands_of rest.items))
+pub command_while : (test : Expr) (vars : Vec Var Global) (rest : Vec Statement Global)
+    → command (While test record { vars = vars; body = rest })
+    ≡ Loop (expression test) (Scope (map declaration vars.items) (commands_of rest.items))
 command_while test vars rest =
     let block : Block = record { vars = vars; body = rest } in
     command_out (While test block) ∙ ap command_layer (outs-While test block)
 
-pub command_call : (procedure : Name) (arguments : Vec Expr Global) → command (Call procedure arguments) ≡ Invocation (identifier procedure) (map expression arguments.items)
+pub command_call : (procedure : Name) (arguments : Vec Expr Global)
+    → command (Call procedure arguments) ≡ Invocation (identifier procedure) (map expression arguments.items)
 command_call procedure arguments = command_out (Call procedure arguments) ∙ ap command_layer (outs-Call procedure arguments)
 
 pub command_fail : command Fail ≡ Failure

@@ -85,7 +85,8 @@ mutual
   -- its acceptance test, its turn bound and its alternates.
   -- (1974, for conversations Randell 1975)
   pub data RecoveryBlock : Type 0 where
-    Recovers : (number : ℕ) (conversation : Option Identifier) (place : Place) (test : Expression) (bound : Number) (alternates : Alternates) → RecoveryBlock
+    Recovers : (number : ℕ) (conversation : Option Identifier) (place : Place) (test : Expression) (bound : Number) (alternates : Alternates)
+        → RecoveryBlock
 
   -- the alternates of a recovery block, in the order in which they are tried (1974)
   pub data Alternates : Type 0 where

@@ -37,7 +37,8 @@ use Rattle.rb_gen.proofs.ExistsProcesses.{code_exists}
 abbrev Sourced : List ℕ → Type 0
 Sourced source = ((line : List ℕ) × SourceRefused source line) ⊎ ((tree : Tree) × Accepted source tree)
 
-by_verdict : (source : List ℕ) → length source ≤ MOST_BYTES → ((tree : Tree) × IsAccepted source tree) ⊎ ((fault : SourceFault) × IsRefusedFor source fault) →
+by_verdict : (source : List ℕ) → length source ≤ MOST_BYTES
+    → ((tree : Tree) × IsAccepted source tree) ⊎ ((fault : SourceFault) × IsRefusedFor source fault) →
     Sourced source
 by_verdict source short (inl (tree, accepted)) = inr (tree, record { short = short; accepted = accepted })
 by_verdict source short (inr (fault, bad)) = inl (source_line fault, bad_source fault short bad refl)
@@ -61,7 +62,10 @@ module _ (text_of : Tree → List ℕ → List ℕ) (source schedule : List ℕ)
 
   module _ (tree : Tree) (accepted : Accepted source tree) where
     refuses : (line : List ℕ) → ScheduleRefused tree schedule line → Scheduled
-    refuses line refused = (RefusedWith line, second_refused (OverSchedule text_of) source schedule tree accepted reads_schedule line (schedule_refused schedule line refused))
+    refuses line refused = (
+      RefusedWith line,
+      second_refused (OverSchedule text_of) source schedule tree accepted reads_schedule line (schedule_refused schedule line refused),
+    )
 
     -- it is a list of turns, or has a first fault
     listed : (read : Result (List ℕ) TextFault) → length schedule ≤ MOST_BYTES → schedule_of (names_of tree) schedule ≡ read → Scheduled
@@ -88,7 +92,8 @@ module _ (source kept : List ℕ) where
 
   module _ (tree : Tree) (accepted : Accepted source tree) where
     refuses_record : (line : List ℕ) → RecordRefused tree kept line → Recorded
-    refuses_record line refused = (RefusedWith line, second_refused PlainGoesOn source kept tree accepted reads_record line (record_refused kept line refused))
+    refuses_record line refused =
+        (RefusedWith line, second_refused PlainGoesOn source kept tree accepted reads_record line (record_refused kept line refused))
 
     module _ (short : length kept ≤ MOST_BYTES) where
       -- its plain run has a text, or is stuck
@@ -114,7 +119,8 @@ module _ (source kept : List ℕ) where
 
 -- ---- commands that read two texts
 
-module _ (goes_on : Tree → List (List ℕ) → Judgement → Type 0) (judged : (source second : List ℕ) → Sourced source → Judged goes_on source second) where
+module _ (goes_on : Tree → List (List ℕ) → Judgement → Type 0)
+    (judged : (source second : List ℕ) → Sourced source → Judged goes_on source second) where
   two_judged : (texts : List (List ℕ)) → length texts ≡ 2 → (v : Judgement) × EndsBy (JudgesSource goes_on) [] texts v
   two_judged [] two = absurd (omega (arith, two))
   two_judged (source ∷ []) two = absurd (omega (arith, two))
@@ -124,7 +130,8 @@ module _ (goes_on : Tree → List (List ℕ) → Judgement → Type 0) (judged :
 -- ---- `trial`
 
 -- whoever ends does not read on
-no_end_reads_on : (judges : List (List ℕ) → Judgement → Type 0) (read left : List (List ℕ)) (v : Judgement) → EndsBy judges read left v → v ≡ ReadsOn → ⊥
+no_end_reads_on : (judges : List (List ℕ) → Judgement → Type 0) (read left : List (List ℕ)) (v : Judgement)
+    → EndsBy judges read left v → v ≡ ReadsOn → ⊥
 no_end_reads_on judges read left v (refused_here a b line h) e = cc
 no_end_reads_on judges read left v (written_here a b text h) e = cc
 no_end_reads_on judges read left v (later a next rest j h ends) e = no_end_reads_on judges (read ++ next ∷ []) rest v ends e
@@ -142,7 +149,8 @@ module _ (n : ℕ) where
 
 -- it reads none, and the two texts that are made for it are judged
 trial_judged : (n : ℕ) (texts : List (List ℕ)) → length texts ≡ 0 → (v : Judgement) × EndsWith (Trial n) [] texts v
-trial_judged n [] none = let made = over_schedule (summary_text n) (source_of n) (made_schedule n) (sourced (source_of n)) in (made.0, trial_ended n made.0 made.1)
+trial_judged n [] none = let made =
+    over_schedule (summary_text n) (source_of n) (made_schedule n) (sourced (source_of n)) in (made.0, trial_ended n made.0 made.1)
 trial_judged n (text ∷ more) none = absurd (omega (arith, none))
 
 -- ---- `check`
@@ -176,10 +184,12 @@ has_code source tree accepted =
     let made = code_exists tree slots frames (parsed_are_numbered source tree accepted.accepted.derived) in
     (listing_text made.0, record { slots = slots; listed = made.0; resolved = resolved; frames = frames; stands = made.1; is = refl })
 
-code_written : (source : List ℕ) (tree : Tree) → Accepted source tree → (text : List ℕ) × ListsCodeOf tree text → (v : Judgement) × EndsWith Compile [] (source ∷ []) v
+code_written : (source : List ℕ) (tree : Tree) → Accepted source tree → (text : List ℕ) × ListsCodeOf tree text
+    → (v : Judgement) × EndsWith Compile [] (source ∷ []) v
 code_written source tree accepted (text, listed) = (
   Writes text,
-  later [] source [] (Writes text) at_first (written_here (source ∷ []) [] text (source_accepted source tree [] (Writes text) accepted (lists text listed))),
+  later [] source [] (Writes text) at_first
+      (written_here (source ∷ []) [] text (source_accepted source tree [] (Writes text) accepted (lists text listed))),
 )
 
 listed_code : (source : List ℕ) → Sourced source → (v : Judgement) × EndsWith Compile [] (source ∷ []) v

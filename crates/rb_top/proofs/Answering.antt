@@ -26,22 +26,28 @@ use Rattle.rb_top.specs.Stages.{HasReadSince, HasReadIn, StageEnds, WritingStage
 -- ---- what was written
 
 -- a stage that wrote the line of a refusal
-pub line_ends : (judged : Judgement → Type 0) (r : Result (Unit {0}) Failed) (status : Status) (line : List ℕ) (w0 w1 : Option (List ℕ)) (f0 f1 : Faults) →
-    Puts line w0 w1 f0 f1 r → MatchResult r (λ _. status ≡ Refused) (λ _. status ≡ WriteFault) → judged (RefusedWith line) → StageEnds judged w0 w1 f0 f1 status
+pub line_ends : (judged : Judgement → Type 0) (r : Result (Unit {0}) Failed) (status : Status) (line : List ℕ)
+    (w0 w1 : Option (List ℕ)) (f0 f1 : Faults) →
+    Puts line w0 w1 f0 f1 r → MatchResult r (λ _. status ≡ Refused) (λ _. status ≡ WriteFault) → judged (RefusedWith line)
+    → StageEnds judged w0 w1 f0 f1 status
 line_ends judged (Ok done) status line w0 w1 f0 f1 p e refused = subst (StageEnds judged w0 w1 f0 f1) (sym e) (line, refused, p.ok, p.quiet)
 line_ends judged (Err failed) status line w0 w1 f0 f1 p e refused = subst (StageEnds judged w0 w1 f0 f1) (sym e) (line, inr refused, p.err, p.failed)
 
 -- a stage that wrote its text
-pub text_ends : (judged : Judgement → Type 0) (r : Result (Unit {0}) Failed) (status : Status) (text : List ℕ) (w0 w1 : Option (List ℕ)) (f0 f1 : Faults) →
-    Puts text w0 w1 f0 f1 r → MatchResult r (λ _. status ≡ Done) (λ _. status ≡ WriteFault) → judged (Writes text) → StageEnds judged w0 w1 f0 f1 status
+pub text_ends : (judged : Judgement → Type 0) (r : Result (Unit {0}) Failed) (status : Status) (text : List ℕ)
+    (w0 w1 : Option (List ℕ)) (f0 f1 : Faults) →
+    Puts text w0 w1 f0 f1 r → MatchResult r (λ _. status ≡ Done) (λ _. status ≡ WriteFault) → judged (Writes text)
+    → StageEnds judged w0 w1 f0 f1 status
 text_ends judged (Ok done) status text w0 w1 f0 f1 p e written = subst (StageEnds judged w0 w1 f0 f1) (sym e) (text, written, p.ok, p.quiet)
 text_ends judged (Err failed) status text w0 w1 f0 f1 p e written = subst (StageEnds judged w0 w1 f0 f1) (sym e) (text, inl written, p.err, p.failed)
 
 -- a stage that wrote the survivors of a run
-pub survival_ends : (judged : Judgement → Type 0) (r : Result (Unit {0}) Survival) (status : Status) (text : List ℕ) (w0 w1 : Option (List ℕ)) (f0 f1 : Faults) →
+pub survival_ends : (judged : Judgement → Type 0) (r : Result (Unit {0}) Survival) (status : Status) (text : List ℕ)
+    (w0 w1 : Option (List ℕ)) (f0 f1 : Faults) →
     Survives text w0 w1 f0 f1 r → status ≡ status_of_survival r → judged (Writes text) → StageEnds judged w0 w1 f0 f1 status
 survival_ends judged (Ok done) status text w0 w1 f0 f1 p e written = subst (StageEnds judged w0 w1 f0 f1) (sym e) (text, written, p.ok, p.quiet)
-survival_ends judged (Err survival.WriteFault) status text w0 w1 f0 f1 p e written = subst (StageEnds judged w0 w1 f0 f1) (sym e) (text, inl written, p.err, p.failed)
+survival_ends judged (Err survival.WriteFault) status text w0 w1 f0 f1 p e written =
+    subst (StageEnds judged w0 w1 f0 f1) (sym e) (text, inl written, p.err, p.failed)
 survival_ends judged (Err survival.Memory) status text w0 w1 f0 f1 p e written = subst (StageEnds judged w0 w1 f0 f1) (sym e) p
 
 -- ---- what was read of a file
@@ -80,7 +86,8 @@ module _ (files : List File) (request : Request) (texts : List (List ℕ)) (next
   }
 
   -- the command stopped at its next file
-  stopped_at : (last : Start) → last.file ≡ named files next.name → last.passed ≤ next.most + piece_bytes → now ≡ last ∷ mid → StoppedAt files request old now next last
+  stopped_at : (last : Start) → last.file ≡ named files next.name → last.passed ≤ next.most + piece_bytes → now ≡ last ∷ mid
+      → StoppedAt files request old now next last
   stopped_at last is_of near started = record {
     texts = texts;
     rest = rest;
@@ -115,8 +122,10 @@ module _ (files : List File) (request : Request) (texts : List (List ℕ)) (next
       within next last (stopped_at last refl at.not_far at.started) refl
 
 -- a file that is not too long is the next of the texts
-pub reads_text : (files : Option (List File)) (request : Request) (texts : List (List ℕ)) (next : Wanted) (rest : List Wanted) (old mid now : List Start) (bytes : List ℕ) →
-    HasReadIn files request texts (next ∷ rest) old mid → Judges request.command texts ReadsOn → WasReadIn files next.name next.most bytes mid now → length bytes ≤ next.most →
+pub reads_text : (files : Option (List File)) (request : Request) (texts : List (List ℕ)) (next : Wanted)
+    (rest : List Wanted) (old mid now : List Start) (bytes : List ℕ) →
+    HasReadIn files request texts (next ∷ rest) old mid → Judges request.command texts ReadsOn
+    → WasReadIn files next.name next.most bytes mid now → length bytes ≤ next.most →
     HasReadIn files request (texts ++ bytes ∷ []) rest old now
 reads_text None request texts next rest old mid now bytes since goes_on was short = tt
 reads_text (Some files) request texts next rest old mid now bytes since goes_on was short =
@@ -124,8 +133,10 @@ reads_text (Some files) request texts next rest old mid now bytes since goes_on 
     read_more files request texts next rest old mid now since goes_on bytes (length bytes) whole.0 whole.1 was.started
 
 -- and so is one that is too long
-reads_long : (files : Option (List File)) (request : Request) (texts : List (List ℕ)) (next : Wanted) (rest : List Wanted) (old mid now : List Start) (bytes : List ℕ) →
-    HasReadIn files request texts (next ∷ rest) old mid → Judges request.command texts ReadsOn → WasReadIn files next.name next.most bytes mid now → next.most < length bytes →
+reads_long : (files : Option (List File)) (request : Request) (texts : List (List ℕ)) (next : Wanted) (rest : List Wanted)
+    (old mid now : List Start) (bytes : List ℕ) →
+    HasReadIn files request texts (next ∷ rest) old mid → Judges request.command texts ReadsOn
+    → WasReadIn files next.name next.most bytes mid now → next.most < length bytes →
     (text : List ℕ) × (next.most < length text) × HasReadIn files request (texts ++ text ∷ []) rest old now
 reads_long None request texts next rest old mid now bytes since goes_on was long = (bytes, long, tt)
 reads_long (Some files) request texts next rest old mid now bytes since goes_on was long = (
@@ -135,7 +146,8 @@ reads_long (Some files) request texts next rest old mid now bytes since goes_on 
 )
 
 -- a stop for a fault as the answer says it
-fault_answer : (files : List File) (request : Request) (others : Option (List File)) (old new : List Start) (r0 r1 f0 f1 : Faults) (w0 w1 : Option (List ℕ)) →
+fault_answer : (files : List File) (request : Request) (others : Option (List File)) (old new : List Start)
+    (r0 r1 f0 f1 : Faults) (w0 w1 : Option (List ℕ)) →
     ((r1 ≡ failed_once r0) × StoppedByFault files request old new) ⊎ ((r1 ≡ was_missing r0) × StoppedByMissing files request old new) →
     ReadFails request (record { files = Some files; starts = old; read_faults = r0; written = w0; write_faults = f0 })
     (record { files = others; starts = new; read_faults = r1; written = w1; write_faults = f1 })
@@ -143,9 +155,11 @@ fault_answer files request others old new r0 r1 f0 f1 w0 w1 (inl (failed, stoppe
 fault_answer files request others old new r0 r1 f0 f1 w0 w1 (inr (was, stopped)) = by_missing was stopped
 
 -- the next file was not read, for a fault
-pub read_fails : (files : Option (List File)) (request : Request) (texts : List (List ℕ)) (next : Wanted) (rest : List Wanted) (old mid now : List Start) (others : Option (List File))
+pub read_fails : (files : Option (List File)) (request : Request) (texts : List (List ℕ)) (next : Wanted)
+    (rest : List Wanted) (old mid now : List Start) (others : Option (List File))
     (r0 r1 f0 f1 : Faults) (w0 w1 : Option (List ℕ)) →
-    HasReadIn files request texts (next ∷ rest) old mid → Judges request.command texts ReadsOn → StopsForFaultIn files next.name next.most mid now r0 r1 →
+    HasReadIn files request texts (next ∷ rest) old mid → Judges request.command texts ReadsOn
+    → StopsForFaultIn files next.name next.most mid now r0 r1 →
     ReadFails request (record { files = files; starts = old; read_faults = r0; written = w0; write_faults = f0 })
     (record { files = others; starts = now; read_faults = r1; written = w1; write_faults = f1 })
 read_fails None request texts next rest old mid now others r0 r1 f0 f1 w0 w1 since goes_on failed = by_fault failed tt
@@ -153,16 +167,20 @@ read_fails (Some files) request texts next rest old mid now others r0 r1 f0 f1 w
     fault_answer files request others old now r0 r1 f0 f1 w0 w1 (stops_by_fault files request texts next rest old mid now since goes_on r0 r1 stops)
 
 -- or for want of memory
-pub read_runs_out : (files : Option (List File)) (request : Request) (texts : List (List ℕ)) (next : Wanted) (rest : List Wanted) (old mid now : List Start) →
-    HasReadIn files request texts (next ∷ rest) old mid → Judges request.command texts ReadsOn → StandsAtIn files next.name (next.most + piece_bytes) mid now →
+pub read_runs_out : (files : Option (List File)) (request : Request) (texts : List (List ℕ)) (next : Wanted)
+    (rest : List Wanted) (old mid now : List Start) →
+    HasReadIn files request texts (next ∷ rest) old mid → Judges request.command texts ReadsOn
+    → StandsAtIn files next.name (next.most + piece_bytes) mid now →
     RanOutIn files request old now
 read_runs_out None request texts next rest old mid now since goes_on at = tt
-read_runs_out (Some files) request texts next rest old mid now since goes_on at = stops_by_memory files request texts next rest old mid now since goes_on at
+read_runs_out (Some files) request texts next rest old mid now since goes_on at =
+    stops_by_memory files request texts next rest old mid now since goes_on at
 
 -- ---- the end
 
 -- the command ended with these texts
-ends_with : (files : Option (List File)) (request : Request) (texts : List (List ℕ)) (rest : List Wanted) (old now : List Start) (judgement : Judgement) →
+ends_with : (files : Option (List File)) (request : Request) (texts : List (List ℕ)) (rest : List Wanted)
+    (old now : List Start) (judgement : Judgement) →
     HasReadIn files request texts rest old now → Judges request.command texts judgement → EndedIn files request old now judgement
 ends_with None request texts rest old now judgement since judged = tt
 ends_with (Some files) request texts rest old now judgement since judged = record {
@@ -189,7 +207,8 @@ nothing_by_then request Check old new nothing = nothing
 nothing_by_then request Compile old new nothing = nothing
 nothing_by_then request (Trial number) old new nothing = nothing
 
-module _ (files others : Option (List File)) (request : Request) (texts : List (List ℕ)) (rest : List Wanted) (old now : List Start) (r0 r1 f0 f1 : Faults) (w0 w1 : Option (List ℕ))
+module _ (files others : Option (List File)) (request : Request) (texts : List (List ℕ)) (rest : List Wanted)
+    (old now : List Start) (r0 r1 f0 f1 : Faults) (w0 w1 : Option (List ℕ))
     (since : HasReadIn files request texts rest old now) (well : r1.count ≡ r0.count) (judged : Judgement → Type 0)
     (judges : (j : Judgement) → judged j → Judges request.command texts j) where
   abbrev before : Scene
@@ -207,19 +226,26 @@ module _ (files others : Option (List File)) (request : Request) (texts : List (
   stage_ended Refused (line, judged, e, quiet) = (line, ended (RefusedWith line) judged, well, record { written = e; well = quiet })
   stage_ended Usage h = absurd h
   stage_ended ReadFault h = absurd h
-  stage_ended WriteFault (bytes, inl judged, part, failed) = (bytes, inl (ended (Writes bytes) judged), well, record { written = part; failed = failed })
-  stage_ended WriteFault (bytes, inr judged, part, failed) = (bytes, inr (ended (RefusedWith bytes) judged), well, record { written = part; failed = failed })
-  stage_ended Memory (e, same) =
-      (ends_short files request texts rest old now since, well, nothing_by_then request request.command before after (record { written = e; faults = same }))
+  stage_ended WriteFault (bytes, inl judged, part, failed) =
+      (bytes, inl (ended (Writes bytes) judged), well, record { written = part; failed = failed })
+  stage_ended WriteFault (bytes, inr judged, part, failed) =
+      (bytes, inr (ended (RefusedWith bytes) judged), well, record { written = part; failed = failed })
+  stage_ended Memory (e, same) = (
+    ends_short files request texts rest old now since,
+    well,
+    nothing_by_then request request.command before after (record { written = e; faults = same }),
+  )
 
   -- a front of the text was written by then
-  front_by_then : request.command ≡ Replay → (text : List ℕ) → judged (Writes text) → WrotePart w0 w1 text → f1.count ≡ f0.count → WritesByThen request request.command before after
+  front_by_then : request.command ≡ Replay → (text : List ℕ) → judged (Writes text) → WrotePart w0 w1 text
+      → f1.count ≡ f0.count → WritesByThen request request.command before after
   front_by_then is_plain text judged part quiet =
       let front : WritesFront request before after = record { text = text; ended = ended (Writes text) judged; front = part; well = quiet } in
       subst (λ (command : Command). WritesByThen request command before after) (sym is_plain) (inr front)
 
   -- each answer of one that takes memory while it writes
-  writing_stage_ended : request.command ≡ Replay → (status : Status) → WritingStageEnds judged w0 w1 f0 f1 status → WithRequest request before after status
+  writing_stage_ended : request.command ≡ Replay → (status : Status) → WritingStageEnds judged w0 w1 f0 f1 status
+      → WithRequest request before after status
   writing_stage_ended is_plain Done h = stage_ended Done h
   writing_stage_ended is_plain Refused h = stage_ended Refused h
   writing_stage_ended is_plain Usage h = absurd h
@@ -231,12 +257,15 @@ module _ (files others : Option (List File)) (request : Request) (texts : List (
 
 -- What was read of the next file, all of it or as much as shows that it is too long, is one of the texts, and what a stage judges of it is
 -- judged of that text.
-next_text : (files : Option (List File)) (request : Request) (texts : List (List ℕ)) (next : Wanted) (rest : List Wanted) (old mid now : List Start) (bytes : List ℕ)
+next_text : (files : Option (List File)) (request : Request) (texts : List (List ℕ)) (next : Wanted) (rest : List Wanted)
+    (old mid now : List Start) (bytes : List ℕ)
     (judged : Judgement → Type 0) (answer : Type 0) →
     HasReadIn files request texts (next ∷ rest) old mid → Judges request.command texts ReadsOn → WasReadIn files next.name next.most bytes mid now →
     (length bytes ≤ next.most → (j : Judgement) → judged j → Judges request.command (texts ++ bytes ∷ []) j) →
-    (next.most < length bytes → (text : List ℕ) → next.most < length text → (j : Judgement) → judged j → Judges request.command (texts ++ text ∷ []) j) →
-    ((read : List (List ℕ)) → HasReadIn files request read rest old now → ((j : Judgement) → judged j → Judges request.command read j) → answer) → answer
+    (next.most < length bytes → (text : List ℕ) → next.most < length text → (j : Judgement) → judged j
+    → Judges request.command (texts ++ text ∷ []) j) →
+    ((read : List (List ℕ)) → HasReadIn files request read rest old now
+    → ((j : Judgement) → judged j → Judges request.command read j) → answer) → answer
 next_text files request texts next rest old mid now bytes judged answer since goes_on was short long ends = elim (cases_lt next.most (length bytes)) [
   | inl many ↦
       let read = reads_long files request texts next rest old mid now bytes since goes_on was many in
@@ -244,12 +273,14 @@ next_text files request texts next rest old mid now bytes judged answer since go
   | inr few ↦ ends (texts ++ bytes ∷ []) (reads_text files request texts next rest old mid now bytes since goes_on was few) (short few)
 ]
 
-module _ (files others : Option (List File)) (request : Request) (texts : List (List ℕ)) (next : Wanted) (rest : List Wanted) (old mid now : List Start) (bytes : List ℕ)
+module _ (files others : Option (List File)) (request : Request) (texts : List (List ℕ)) (next : Wanted)
+    (rest : List Wanted) (old mid now : List Start) (bytes : List ℕ)
     (r0 r1 f0 f1 : Faults) (w0 w1 : Option (List ℕ)) (status : Status) (judged : Judgement → Type 0)
     (since : HasReadIn files request texts (next ∷ rest) old mid) (goes_on : Judges request.command texts ReadsOn)
     (was : WasReadIn files next.name next.most bytes mid now) (well : r1.count ≡ r0.count)
     (short : length bytes ≤ next.most → (j : Judgement) → judged j → Judges request.command (texts ++ bytes ∷ []) j)
-    (long : next.most < length bytes → (text : List ℕ) → next.most < length text → (j : Judgement) → judged j → Judges request.command (texts ++ text ∷ []) j) where
+    (long : next.most < length bytes → (text : List ℕ) → next.most < length text → (j : Judgement) → judged j
+    → Judges request.command (texts ++ text ∷ []) j) where
   -- what a stage answers that judges the next file
   abbrev pub NextAnswer : Type 0
   NextAnswer =
@@ -269,18 +300,23 @@ module _ (files others : Option (List File)) (request : Request) (texts : List (
       (λ read has judges. writing_stage_ended files others request read rest old now r0 r1 f0 f1 w0 w1 has well judged judges is_plain status ends)
 
 -- The answer of a command that reads no file.
-pub no_file_judged : (files : Option (List File)) (command : Command) (starts : List Start) (r f0 f1 : Faults) (w0 w1 : Option (List ℕ)) (status : Status) →
+pub no_file_judged : (files : Option (List File)) (command : Command) (starts : List Start) (r f0 f1 : Faults)
+    (w0 w1 : Option (List ℕ)) (status : Status) →
     StageEnds (Judges command []) w0 w1 f0 f1 status →
-    WithRequest (record { command = command; files = [] }) (record { files = files; starts = starts; read_faults = r; written = w0; write_faults = f0 })
+    WithRequest (record { command = command; files = [] })
+    (record { files = files; starts = starts; read_faults = r; written = w0; write_faults = f0 })
     (record { files = files; starts = starts; read_faults = r; written = w1; write_faults = f1 }) status
 no_file_judged files command starts r f0 f1 w0 w1 status ends =
     let request : Request = record { command = command; files = [] } in
-    stage_ended files files request [] [] starts starts r r f0 f1 w0 w1 (nothing_read files request starts) refl (Judges command []) (λ j h. h) status ends
+    stage_ended files files request [] [] starts starts r r f0 f1 w0 w1 (nothing_read files request starts) refl
+    (Judges command []) (λ j h. h) status ends
 
 -- the next file was not read
-pub unread_ends : (files others : Option (List File)) (request : Request) (texts : List (List ℕ)) (next : Wanted) (rest : List Wanted) (old mid now : List Start) (error : Unread)
+pub unread_ends : (files others : Option (List File)) (request : Request) (texts : List (List ℕ)) (next : Wanted)
+    (rest : List Wanted) (old mid now : List Start) (error : Unread)
     (r0 r1 f : Faults) (w : Option (List ℕ)) → HasReadIn files request texts (next ∷ rest) old mid → Judges request.command texts ReadsOn →
-    OnUnread {T = Unit {0}} (Err error) (StopsForFaultIn files next.name next.most mid now r0 r1) (StopsForMemory files next.name next.most mid now r0 r1) →
+    OnUnread {T = Unit {0}} (Err error) (StopsForFaultIn files next.name next.most mid now r0 r1)
+    (StopsForMemory files next.name next.most mid now r0 r1) →
     WithRequest request (record { files = files; starts = old; read_faults = r0; written = w; write_faults = f })
     (record { files = others; starts = now; read_faults = r1; written = w; write_faults = f }) (status_of_unread error)
 unread_ends files others request texts next rest old mid now Fault r0 r1 f w since goes_on stops =
@@ -307,11 +343,13 @@ abbrev pub AreStarts : Option (List File) → List Start → List Start → Type
 AreStarts None a b = Unit {0}
 AreStarts (Some files) a b = a ≡ b
 
-pub read_others : (files : Option (List File)) (name bytes : List ℕ) (most : ℕ) (old mid : List Start) → WasReadIn files name most bytes old mid → AreStarts files (drop 1 mid) old
+pub read_others : (files : Option (List File)) (name bytes : List ℕ) (most : ℕ) (old mid : List Start)
+    → WasReadIn files name most bytes old mid → AreStarts files (drop 1 mid) old
 read_others None name bytes most old mid was = tt
 read_others (Some files) name bytes most old mid was = ap (drop 1) was.started
 
-pub read_again : (files : Option (List File)) (name bytes : List ℕ) (most : ℕ) (old mid : List Start) → WasReadIn files name most bytes old mid → WasReadIn files name most bytes (drop 1 mid) mid
+pub read_again : (files : Option (List File)) (name bytes : List ℕ) (most : ℕ) (old mid : List Start)
+    → WasReadIn files name most bytes old mid → WasReadIn files name most bytes (drop 1 mid) mid
 read_again None name bytes most old mid was = tt
 read_again (Some files) name bytes most old mid was =
     subst (λ (others : List Start). WasRead files name most bytes others mid) (sym (ap (drop 1) was.started)) was
@@ -321,15 +359,18 @@ ended_of : (files : Option (List File)) (request : Request) (a b new : List Star
 ended_of None request a b new judgement same h = tt
 ended_of (Some files) request a b new judgement same h = subst (λ (st : List Start). Ended files request st new judgement) same h
 
-fault_of : (files : Option (List File)) (request : Request) (a b new : List Start) → AreStarts files a b → StoppedByFaultIn files request a new → StoppedByFaultIn files request b new
+fault_of : (files : Option (List File)) (request : Request) (a b new : List Start) → AreStarts files a b
+    → StoppedByFaultIn files request a new → StoppedByFaultIn files request b new
 fault_of None request a b new same h = tt
 fault_of (Some files) request a b new same h = subst (λ (st : List Start). StoppedByFault files request st new) same h
 
-missing_of : (files : Option (List File)) (request : Request) (a b new : List Start) → AreStarts files a b → StoppedByMissingIn files request a new → StoppedByMissingIn files request b new
+missing_of : (files : Option (List File)) (request : Request) (a b new : List Start) → AreStarts files a b
+    → StoppedByMissingIn files request a new → StoppedByMissingIn files request b new
 missing_of None request a b new same h = h
 missing_of (Some files) request a b new same h = subst (λ (st : List Start). StoppedByMissing files request st new) same h
 
-ran_out_of : (files : Option (List File)) (request : Request) (a b new : List Start) → AreStarts files a b → RanOutIn files request a new → RanOutIn files request b new
+ran_out_of : (files : Option (List File)) (request : Request) (a b new : List Start) → AreStarts files a b
+    → RanOutIn files request a new → RanOutIn files request b new
 ran_out_of None request a b new same h = tt
 ran_out_of (Some files) request a b new same h = subst (λ (st : List Start). RanOut files request st new) same h
 
@@ -337,20 +378,30 @@ missing_after : (r0 r1 r2 : Faults) → r1.count ≡ r0.count → r2 ≡ was_mis
 missing_after r0 r1 r2 same was = was ∙ ap (λ n. record { count = n; failed_last = true }) same
 
 -- what was written by then is the same, whatever was read before
-still_by_then : (files : Option (List File)) (request : Request) (command : Command) (a b : List Start) (r0 r1 f0 : Faults) (w0 : Option (List ℕ)) (new : Scene) → AreStarts files a b →
+still_by_then : (files : Option (List File)) (request : Request) (command : Command) (a b : List Start) (r0 r1 f0 : Faults)
+    (w0 : Option (List ℕ)) (new : Scene)
+    → AreStarts files a b →
     WritesByThen request command (record { files = files; starts = a; read_faults = r1; written = w0; write_faults = f0 }) new →
     WritesByThen request command (record { files = files; starts = b; read_faults = r0; written = w0; write_faults = f0 }) new
 still_by_then files request Run a b r0 r1 f0 w0 new same nothing = record { written = nothing.written; faults = nothing.faults }
 still_by_then files request Survive a b r0 r1 f0 w0 new same nothing = record { written = nothing.written; faults = nothing.faults }
 still_by_then files request Replay a b r0 r1 f0 w0 new same (inl nothing) = inl (record { written = nothing.written; faults = nothing.faults })
 still_by_then files request Replay a b r0 r1 f0 w0 new same (inr front) =
-    inr (record { text = front.text; ended = ended_of files request a b new.starts (Writes front.text) same front.ended; front = front.front; well = front.well })
+    inr (record {
+      text = front.text;
+      ended =
+          ended_of files request a b new.starts (Writes front.text) same front.ended;
+      front = front.front;
+      well =
+          front.well;
+    })
 still_by_then files request Check a b r0 r1 f0 w0 new same nothing = record { written = nothing.written; faults = nothing.faults }
 still_by_then files request Compile a b r0 r1 f0 w0 new same nothing = record { written = nothing.written; faults = nothing.faults }
 still_by_then files request (Trial number) a b r0 r1 f0 w0 new same nothing = record { written = nothing.written; faults = nothing.faults }
 
 -- an answer of the later stages is one of the whole, in which nothing but reads without faults came before
-pub resumed : (files : Option (List File)) (request : Request) (a b : List Start) (r0 r1 f0 : Faults) (w0 : Option (List ℕ)) (new : Scene) (status : Status) →
+pub resumed : (files : Option (List File)) (request : Request) (a b : List Start) (r0 r1 f0 : Faults) (w0 : Option (List ℕ))
+    (new : Scene) (status : Status) →
     AreStarts files a b → r1.count ≡ r0.count →
     WithRequest request (record { files = files; starts = a; read_faults = r1; written = w0; write_faults = f0 }) new status →
     WithRequest request (record { files = files; starts = b; read_faults = r0; written = w0; write_faults = f0 }) new status
@@ -367,9 +418,17 @@ resumed files request a b r0 r1 f0 w0 new ReadFault same count (by_missing was s
   by_missing (missing_after r0 r1 new.read_faults count was) (missing_of files request a b new.starts same stopped),
   record { written = nothing.written; faults = nothing.faults },
 )
-resumed files request a b r0 r1 f0 w0 new WriteFault same count (bytes, inl ended, well, part) =
-    (bytes, inl (ended_of files request a b new.starts (Writes bytes) same ended), well ∙ count, record { written = part.written; failed = part.failed })
-resumed files request a b r0 r1 f0 w0 new WriteFault same count (bytes, inr ended, well, part) =
-    (bytes, inr (ended_of files request a b new.starts (RefusedWith bytes) same ended), well ∙ count, record { written = part.written; failed = part.failed })
+resumed files request a b r0 r1 f0 w0 new WriteFault same count (bytes, inl ended, well, part) = (
+  bytes,
+  inl (ended_of files request a b new.starts (Writes bytes) same ended),
+  well ∙ count,
+  record { written = part.written; failed = part.failed },
+)
+resumed files request a b r0 r1 f0 w0 new WriteFault same count (bytes, inr ended, well, part) = (
+  bytes,
+  inr (ended_of files request a b new.starts (RefusedWith bytes) same ended),
+  well ∙ count,
+  record { written = part.written; failed = part.failed },
+)
 resumed files request a b r0 r1 f0 w0 new Memory same count (out, well, by_then) =
     (ran_out_of files request a b new.starts same out, well ∙ count, still_by_then files request request.command a b r0 r1 f0 w0 new same by_then)

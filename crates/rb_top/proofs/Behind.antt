@@ -22,7 +22,8 @@ take-take (suc a) (suc b) [] le = refl
 take-take (suc a) (suc b) (x ∷ xs) le = ap (λ (ys : List ℕ). x ∷ ys) (take-take a b xs (omega (arith, le)))
 
 -- a text whose end still waits is a front of what was written
-front_written : (w rest bytes : List ℕ) (k : ℕ) → k ≤ length bytes → w ++ rest ≡ take k bytes → (length w ≤ length bytes) × (w ≡ take (length w) bytes)
+front_written : (w rest bytes : List ℕ) (k : ℕ) → k ≤ length bytes → w ++ rest ≡ take k bytes
+    → (length w ≤ length bytes) × (w ≡ take (length w) bytes)
 front_written w rest bytes k few e =
     let both : length w + length rest ≡ length (take k bytes) = sym (length-append w rest) ∙ ap length e in
     let size = length-take k bytes in
@@ -35,7 +36,8 @@ none_some : (x : List ℕ) (P : Type 0) → None ≡ Some x → P
 none_some x P e = absurd (cc)
 
 -- where a front of these bytes was written to the buffer, a front of them reached the sink
-part_behind : (w0 told w : Option (List ℕ)) (rest bytes : List ℕ) → IsUnwritten w0 → WrotePart w0 told bytes → told ≡ then_written w rest → WrotePart w0 w bytes
+part_behind : (w0 told w : Option (List ℕ)) (rest bytes : List ℕ) → IsUnwritten w0 → WrotePart w0 told bytes
+    → told ≡ then_written w rest → WrotePart w0 w bytes
 part_behind None told None rest bytes none part waits = (0, omega arith, refl)
 part_behind None told (Some w) rest bytes none (k, few, e) waits = none_some (w ++ rest) (WrotePart None (Some w) bytes) (sym e ∙ waits)
 part_behind (Some x) told None rest bytes none (k, few, e) waits = none_some (x ++ take k bytes) (WrotePart (Some x) None bytes) (sym waits ∙ e)
@@ -68,7 +70,8 @@ both_true true b e = e
 both_true false b e = absurd (cc)
 
 -- the call as a whole ends as judged where it is seen to end so
-pub complete_behind : (request : Option Request) (old told new : Scene) (status : Status) → WhereRequested request old told status → SeenBehind told new → IsComplete request old new status
+pub complete_behind : (request : Option Request) (old told new : Scene) (status : Status)
+    → WhereRequested request old told status → SeenBehind told new → IsComplete request old new status
 complete_behind None old told new status answers seen = tt
 complete_behind (Some request) old told new status answers seen = λ files before texts free.
     let same : told.write_faults.count ≡ new.write_faults.count = sym seen.write_faults in
@@ -82,12 +85,25 @@ complete_behind (Some request) old told new status answers seen = λ files befor
     } in
     elim (completed request old told status answers files before texts inside) [
       | inl wanting ↦ inl wanting
-      | inr ends ↦ inr (record { judgement = ends.judgement; judged = ends.judged; ended = subst (λ w. EndsAs ends.judgement before w status) (sym seen.written) ends.ended })
+      | inr ends ↦ inr
+          (record {
+            judgement = ends.judgement;
+            judged = ends.judged;
+            ended =
+                subst (λ w. EndsAs ends.judgement before w status) (sym seen.written) ends.ended;
+          })
     ]
 
 -- the scene at the sink behind the buffer, where the buffer's own is this
 seen_last : (files : Option (List File)) (starts : List Start) (reads : Faults) (w : Option (List ℕ)) (failed : Bool) (f : Faults) →
-    SeenBehind (record { files = files; starts = starts; read_faults = reads; written = w; write_faults = record { count = f.count; failed_last = failed && f.failed_last } })
+    SeenBehind (record {
+      files = files;
+      starts = starts;
+      read_faults = reads;
+      written = w;
+      write_faults =
+          record { count = f.count; failed_last = failed && f.failed_last };
+    })
     (record { files = files; starts = starts; read_faults = reads; written = w; write_faults = f })
 seen_last files starts reads w failed f = record {
   files = refl;
@@ -126,13 +142,21 @@ abbrev pub Seen : Option Request → Scene → Scene → Status → Type 0
 Seen request old new status = (told : Scene) × WhereRequested request old told status × SeenBehind told new
 
 module _ (files0 : Option (List File)) (starts0 : List Start) (r0 : Faults) (w0 : Option (List ℕ)) (f0 : Faults) (unwritten : IsUnwritten w0)
-    (files1 : Option (List File)) (starts1 : List Start) (r1 : Faults) (told w1 w2 : Option (List ℕ)) (rest1 rest2 : List ℕ) (failed : Bool) (s1 s2 : Faults)
+    (files1 : Option (List File)) (starts1 : List Start) (r1 : Faults) (told w1 w2 : Option (List ℕ)) (rest1 rest2 : List ℕ)
+    (failed : Bool) (s1 s2 : Faults)
     (before : told ≡ then_written w1 rest1) (after : told ≡ then_written w2 rest2) where
   abbrev old : Scene
   old = record { files = files0; starts = starts0; read_faults = r0; written = w0; write_faults = went_well f0 }
 
   abbrev mid : Scene
-  mid = record { files = files1; starts = starts1; read_faults = r1; written = told; write_faults = record { count = s1.count; failed_last = failed && s1.failed_last } }
+  mid = record {
+    files = files1;
+    starts = starts1;
+    read_faults = r1;
+    written = told;
+    write_faults =
+        record { count = s1.count; failed_last = failed && s1.failed_last };
+  }
 
   abbrev new : Scene
   new = record { files = files1; starts = starts1; read_faults = r1; written = w2; write_faults = s2 }
@@ -172,8 +196,11 @@ module _ (files0 : Option (List File)) (starts0 : List Start) (r0 : Faults) (w0 
   -- whatever the words ask for
   behind_none : (s t : Status) → WithoutRequest old mid s → Finishes s t told w1 w2 s1 s2 → Seen None old new t
   behind_none Usage t (reads, all) (inl (is, same, count)) =
-      subst (Seen None old new) (sym is)
-      (at_sink well, (record { starts = reads.starts; faults = reads.faults }, passed_all usage_line all same), seen_well files1 starts1 r1 w2 s1.count s2 count)
+      subst (Seen None old new) (sym is) (
+        at_sink well,
+        (record { starts = reads.starts; faults = reads.faults }, passed_all usage_line all same),
+        seen_well files1 starts1 r1 w2 s1.count s2 count,
+      )
   behind_none Usage t (reads, all) (inr (is, fault)) =
       subst (Seen None old new) (sym is)
       (new, (record { starts = reads.starts; faults = reads.faults }, passed_part usage_line all fault), seen_same new)
@@ -201,7 +228,8 @@ module _ (files0 : Option (List File)) (starts0 : List Start) (r0 : Faults) (w0 
     well = front.well;
   }
 
-  writes_by_then : (request : Request) (command : Command) → WritesByThen request command old mid → WritesByThen request command old (at_sink mid.write_faults)
+  writes_by_then : (request : Request) (command : Command) → WritesByThen request command old mid
+      → WritesByThen request command old (at_sink mid.write_faults)
   writes_by_then request Run none = passed_none none
   writes_by_then request Survive none = passed_none none
   writes_by_then request Replay (inl none) = inl (passed_none none)
@@ -238,7 +266,8 @@ module _ (files0 : Option (List File)) (starts0 : List Start) (r0 : Faults) (w0 
   behind None s t h f = behind_none s t h f
   behind (Some request) s t h f = behind_some request s t h f
 
-  pub ends_behind : (request : Option Request) (s t : Status) (number : ℕ) → number ≡ status_number t → WhereRequested request old mid s → Finishes s t told w1 w2 s1 s2 →
+  pub ends_behind : (request : Option Request) (s t : Status) (number : ℕ) → number ≡ status_number t
+      → WhereRequested request old mid s → Finishes s t told w1 w2 s1 s2 →
       EndsWithNumber request old new number
   ends_behind request s t number is h f =
       let seen = behind request s t h f in
@@ -252,27 +281,37 @@ module _ (files0 : Option (List File)) (starts0 : List Start) (r0 : Faults) (w0 
       }
 
 -- memory was wanting before anything was done
-pub ends_without_memory : (request : Option Request) (files now : Option (List File)) (starts : List Start) (r f : Faults) (w : Option (List ℕ)) (number : ℕ) → number ≡ 5 → now ≡ files →
+pub ends_without_memory : (request : Option Request) (files now : Option (List File)) (starts : List Start) (r f : Faults)
+    (w : Option (List ℕ)) (number : ℕ)
+    → number ≡ 5 → now ≡ files →
     EndsWithNumber request (record { files = files; starts = starts; read_faults = r; written = w; write_faults = went_well f })
     (record { files = now; starts = starts; read_faults = r; written = w; write_faults = f }) number
 ends_without_memory request files now starts r f w number five same =
     let old : Scene = record { files = files; starts = starts; read_faults = r; written = w; write_faults = went_well f } in
-    let seen : SeenBehind old (record { files = files; starts = starts; read_faults = r; written = w; write_faults = f }) = seen_well files starts r w f.count f refl in
+    let seen : SeenBehind old (record { files = files; starts = starts; read_faults = r; written = w; write_faults = f }) =
+    seen_well files starts r w f.count f refl in
     let answers = memory_at_once request old in
-    subst (λ (told : Option (List File)). EndsWithNumber request old (record { files = told; starts = starts; read_faults = r; written = w; write_faults = f }) number) (sym same)
+    subst
+    (λ (told : Option (List File)). EndsWithNumber request old
+    (record { files = told; starts = starts; read_faults = r; written = w; write_faults = f }) number)
+    (sym same)
     (record {
       status = Memory;
       is = five;
       told = old;
       answers = answers;
       seen = seen;
-      complete = complete_behind request old old (record { files = files; starts = starts; read_faults = r; written = w; write_faults = f }) Memory answers seen;
+      complete = complete_behind request old old
+          (record { files = files; starts = starts; read_faults = r; written = w; write_faults = f }) Memory answers seen;
     })
 
 -- a call that begins with an empty buffer begins with its sink
-pub begins_empty : (request : Option Request) (files : Option (List File)) (starts : List Start) (r fb f0 : Faults) (wb w0 : Option (List ℕ)) (mid : Scene) (s : Status) → wb ≡ w0 → fb ≡ went_well f0 →
+pub begins_empty : (request : Option Request) (files : Option (List File)) (starts : List Start) (r fb f0 : Faults)
+    (wb w0 : Option (List ℕ)) (mid : Scene) (s : Status)
+    → wb ≡ w0 → fb ≡ went_well f0 →
     WhereRequested request (record { files = files; starts = starts; read_faults = r; written = wb; write_faults = fb }) mid s →
     WhereRequested request (record { files = files; starts = starts; read_faults = r; written = w0; write_faults = went_well f0 }) mid s
 begins_empty request files starts r fb f0 wb w0 mid s bytes faults h =
-    subst (λ w. WhereRequested request (record { files = files; starts = starts; read_faults = r; written = w; write_faults = went_well f0 }) mid s) bytes
+    subst (λ w. WhereRequested request
+    (record { files = files; starts = starts; read_faults = r; written = w; write_faults = went_well f0 }) mid s) bytes
     (subst (λ f. WhereRequested request (record { files = files; starts = starts; read_faults = r; written = wb; write_faults = f }) mid s) faults h)

@@ -17,14 +17,17 @@ module _ (goes_on : Tree → List (List ℕ) → Judgement → Type 0) (source s
     -- it is accepted, and the second text is read
     second_read : (judgement : Judgement) → EndsBy (JudgesSource goes_on) (source ∷ second ∷ []) [] judgement → BothEnd judgement
     second_read judgement ends =
-        later [] source (second ∷ []) judgement at_first (later (source ∷ []) second [] judgement (source_accepted source tree [] ReadsOn accepted reads) ends)
+        later [] source (second ∷ []) judgement at_first
+        (later (source ∷ []) second [] judgement (source_accepted source tree [] ReadsOn accepted reads) ends)
 
     -- which is refused
     pub second_refused : (line : List ℕ) → goes_on tree (second ∷ []) (RefusedWith line) → BothEnd (RefusedWith line)
     second_refused line refused =
-        second_read (RefusedWith line) (refused_here (source ∷ second ∷ []) [] line (source_accepted source tree (second ∷ []) (RefusedWith line) accepted refused))
+        second_read (RefusedWith line)
+        (refused_here (source ∷ second ∷ []) [] line (source_accepted source tree (second ∷ []) (RefusedWith line) accepted refused))
 
     -- or the command has its text
     pub second_writes : (text : List ℕ) → goes_on tree (second ∷ []) (Writes text) → BothEnd (Writes text)
     second_writes text written =
-        second_read (Writes text) (written_here (source ∷ second ∷ []) [] text (source_accepted source tree (second ∷ []) (Writes text) accepted written))
+        second_read (Writes text)
+        (written_here (source ∷ second ∷ []) [] text (source_accepted source tree (second ∷ []) (Writes text) accepted written))

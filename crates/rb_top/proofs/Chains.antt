@@ -20,7 +20,8 @@ pub record Next (files : List File) (left : List (List ℕ)) (name : List ℕ) (
   pub stored : bytes_of files name ≡ Some text
   pub after : AreStored files rest others
 
-pub next_stored : (files : List File) (left : List (List ℕ)) (wanted : Wanted) (rest : List Wanted) → AreStored files (wanted ∷ rest) left → Next files left wanted.name rest
+pub next_stored : (files : List File) (left : List (List ℕ)) (wanted : Wanted) (rest : List Wanted)
+    → AreStored files (wanted ∷ rest) left → Next files left wanted.name rest
 next_stored files [] wanted rest stored = absurd stored
 next_stored files (text ∷ others) wanted rest stored = record { text = text; others = others; is = refl; stored = stored.0; after = stored.1 }
 
@@ -43,7 +44,8 @@ left_of files request read rest starts texts (one_more earlier wanted others bef
     }
 
 -- a command that has read these texts ends from there as it ends from the start
-pub ends_from : (files : List File) (request : Request) (read : List (List ℕ)) (rest : List Wanted) (starts : List Start) (left : List (List ℕ)) (judgement : Judgement) →
+pub ends_from : (files : List File) (request : Request) (read : List (List ℕ)) (rest : List Wanted) (starts : List Start)
+    (left : List (List ℕ)) (judgement : Judgement) →
     HasRead files request read rest starts → EndsWith request.command read left judgement → EndsWith request.command [] (read ++ left) judgement
 ends_from files request read rest starts left judgement nothing_yet ends = ends
 ends_from files request read rest starts left judgement (one_more earlier wanted others before bytes passed has goes here is) ends =

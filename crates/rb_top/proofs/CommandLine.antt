@@ -57,7 +57,8 @@ no_short (b ∷ bs) plain = let other = not-true _ plain in rw other refl
 abbrev standing : Held → ℕ → Walk
 standing h position = record { held = h; waiting = idle; position = position; is_trailing = false; stopped = None }
 
-module _ (names : Names) (h : Held) (position : ℕ) (word : Text) (plain : is_plain_word word ≡ true) (none : subcommand_met names idle word ≡ None) where
+module _ (names : Names) (h : Held) (position : ℕ) (word : Text) (plain : is_plain_word word ≡ true)
+    (none : subcommand_met names idle word ≡ None) where
   -- a plain word that names no command is a value
   met : (c : List Rule) → word_met c names false idle position word h ≡ (h, value)
   met c = rw (none, no_dashes word plain, no_long word plain, no_short word plain) refl
@@ -112,25 +113,31 @@ module _ (name i : Text) (same : bytes_eq i i ≡ true) where
   unfolding walk_fault defaults_fault
   one-takes a plain = rw (turn [] nothing_held 1 a plain refl one, first_of_one a plain) (simp same)
 
-  one-many : (a b : Text) (more : List Text) → is_plain_word a ≡ true → is_plain_word b ≡ true → fault_at name (i ∷ []) (a ∷ b ∷ more) ≡ UnknownArgument ∷ []
+  one-many : (a b : Text) (more : List Text) → is_plain_word a ≡ true → is_plain_word b ≡ true
+      → fault_at name (i ∷ []) (a ∷ b ∷ more) ≡ UnknownArgument ∷ []
   unfolding walk_fault
-  one-many a b more plain plain' = rw (turn [] nothing_held 1 a plain refl one, first_of_one a plain, turn [] (held_at [] i a) 2 b plain' refl one) refl
+  one-many a b more plain plain' =
+      rw (turn [] nothing_held 1 a plain refl one, first_of_one a plain, turn [] (held_at [] i a) 2 b plain' refl one) refl
 
 -- one that takes two
-module _ (name i j : Text) (first : bytes_eq i i ≡ true) (second : bytes_eq j j ≡ true) (ahead : bytes_eq i j ≡ false) (behind : bytes_eq j i ≡ false) where
+module _ (name i j : Text) (first : bytes_eq i i ≡ true) (second : bytes_eq j j ≡ true) (ahead : bytes_eq i j ≡ false)
+    (behind : bytes_eq j i ≡ false) where
   abbrev two : Shape
   two = leaf name (i ∷ j ∷ [])
 
   first_of_two : (a : Text) → is_plain_word a ≡ true → walked two.rules [] (standing nothing_held 1) a ≡ standing (held_at [] i a) 2
   first_of_two a plain = next [] nothing_held 1 a plain refl two.rules
 
-  second_of_two : (a b : Text) → is_plain_word b ≡ true → walked two.rules [] (standing (held_at [] i a) 2) b ≡ standing (held_at (row_of i a ∷ []) j b) 3
+  second_of_two : (a b : Text) → is_plain_word b ≡ true
+      → walked two.rules [] (standing (held_at [] i a) 2) b ≡ standing (held_at (row_of i a ∷ []) j b) 3
   second_of_two a b plain = next [] (held_at [] i a) 2 b plain refl two.rules ∙ simp (first, ahead)
 
   two-values : (a b : Text) → is_plain_word a ≡ true → is_plain_word b ≡ true →
       (first_of i (rows_after two.rules [] (a ∷ b ∷ [])) ≡ Some a) × (first_of j (rows_after two.rules [] (a ∷ b ∷ [])) ≡ Some b)
-  two-values a b plain plain' =
-      (rw (first_of_two a plain, second_of_two a b plain') (simp (first, second, ahead, behind)), rw (first_of_two a plain, second_of_two a b plain') (simp (first, second, ahead, behind)))
+  two-values a b plain plain' = (
+    rw (first_of_two a plain, second_of_two a b plain') (simp (first, second, ahead, behind)),
+    rw (first_of_two a plain, second_of_two a b plain') (simp (first, second, ahead, behind)),
+  )
 
   two-none : fault_at name (i ∷ j ∷ []) [] ≡ MissingRequiredArgument ∷ []
   unfolding clap_on_literals
@@ -225,7 +232,8 @@ asks : (name : Text) (words : List Text) → list_all is_plain_word words ≡ tr
 asks name words plain = cond-true (list_all is_plain_word words) (named_in forms name words) None plain
 
 -- a command that takes two words
-module _ (name i j : Text) (of : Text → Text → Request) (first : bytes_eq i i ≡ true) (second : bytes_eq j j ≡ true) (ahead : bytes_eq i j ≡ false) (behind : bytes_eq j i ≡ false)
+module _ (name i j : Text) (of : Text → Text → Request) (first : bytes_eq i i ≡ true) (second : bytes_eq j j ≡ true)
+    (ahead : bytes_eq i j ≡ false) (behind : bytes_eq j i ≡ false)
     (fault : (words : List Text) → fault_of program (name ∷ words) ≡ or_else (fault_at name (i ∷ j ∷ []) words) [])
     (values : (words : List Text) → subcommand_of program (name ∷ words) ≡ Some (name, rows_after (leaf name (i ∷ j ∷ [])).rules [] words))
     (gives : (given : Text → Option Text) → request_given name given ≡ two_given of (given i) (given j))
@@ -256,19 +264,22 @@ run_agrees : (words : List Text) → list_all is_plain_word words ≡ true → A
 run_agrees =
     two_agrees (codes "run") (codes "SOURCE") (codes "SCHEDULE") run_of refl refl refl refl
     (λ words. fault-name (codes "run") words (leaf (codes "run") (codes "SOURCE" ∷ codes "SCHEDULE" ∷ [])) refl refl refl)
-    (λ words. subcommand-name (codes "run") words (leaf (codes "run") (codes "SOURCE" ∷ codes "SCHEDULE" ∷ [])) refl refl refl) (λ given. refl) (λ words. refl)
+    (λ words. subcommand-name (codes "run") words (leaf (codes "run") (codes "SOURCE" ∷ codes "SCHEDULE" ∷ [])) refl refl refl)
+    (λ given. refl) (λ words. refl)
 
 survive_agrees : (words : List Text) → list_all is_plain_word words ≡ true → Agrees (codes "survive" ∷ words)
 survive_agrees =
     two_agrees (codes "survive") (codes "SOURCE") (codes "SCHEDULE") survive_of refl refl refl refl
     (λ words. fault-name (codes "survive") words (leaf (codes "survive") (codes "SOURCE" ∷ codes "SCHEDULE" ∷ [])) refl refl refl)
-    (λ words. subcommand-name (codes "survive") words (leaf (codes "survive") (codes "SOURCE" ∷ codes "SCHEDULE" ∷ [])) refl refl refl) (λ given. refl) (λ words. refl)
+    (λ words. subcommand-name (codes "survive") words (leaf (codes "survive") (codes "SOURCE" ∷ codes "SCHEDULE" ∷ [])) refl refl refl)
+    (λ given. refl) (λ words. refl)
 
 plain_agrees : (words : List Text) → list_all is_plain_word words ≡ true → Agrees (codes "plain" ∷ words)
 plain_agrees =
     two_agrees (codes "plain") (codes "SOURCE") (codes "RECORD") plain_of refl refl refl refl
     (λ words. fault-name (codes "plain") words (leaf (codes "plain") (codes "SOURCE" ∷ codes "RECORD" ∷ [])) refl refl refl)
-    (λ words. subcommand-name (codes "plain") words (leaf (codes "plain") (codes "SOURCE" ∷ codes "RECORD" ∷ [])) refl refl refl) (λ given. refl) (λ words. refl)
+    (λ words. subcommand-name (codes "plain") words (leaf (codes "plain") (codes "SOURCE" ∷ codes "RECORD" ∷ [])) refl refl refl)
+    (λ given. refl) (λ words. refl)
 
 -- a command that takes one word, of which it makes something to ask for, or nothing
 module _ (name i : Text) (of : Text → Option Request) (same : bytes_eq i i ≡ true)
@@ -282,12 +293,14 @@ module _ (name i : Text) (of : Text → Option Request) (same : bytes_eq i i ≡
   one_agrees (a ∷ []) plain =
       let first = and_parts _ _ plain in
       let found : found_in (subcommand_of program (name ∷ a ∷ [])) ≡ of a =
-      ap found_in (values (a ∷ [])) ∙ gives (λ id. first_of id (rows_after (leaf name (i ∷ [])).rules [] (a ∷ []))) a (one-value name i same a first.0) in
+      ap found_in (values (a ∷ []))
+      ∙ gives (λ id. first_of id (rows_after (leaf name (i ∷ [])).rules [] (a ∷ []))) a (one-value name i same a first.0) in
       taken (no_fault _ _ (fault (a ∷ [])) (one-takes name i same a first.0)) (found ∙ sym (asks name (a ∷ []) plain ∙ form a))
   one_agrees (a ∷ b ∷ more) plain =
       let first = and_parts _ _ plain in
       let second = and_parts _ _ first.1 in
-      refused (some_fault _ _ _ _ (fault (a ∷ b ∷ more)) (one-many name i same a b more first.0 second.0)) (asks name (a ∷ b ∷ more) plain ∙ beyond a b more)
+      refused (some_fault _ _ _ _ (fault (a ∷ b ∷ more)) (one-many name i same a b more first.0 second.0))
+      (asks name (a ∷ b ∷ more) plain ∙ beyond a b more)
 
 -- `check`, `code` and `trial` take one
 check_agrees : (words : List Text) → list_all is_plain_word words ≡ true → Agrees (codes "check" ∷ words)
@@ -334,7 +347,8 @@ module _ (name : Text) (words : List Text) (plain : list_all is_plain_word (name
       (asks name words parts.1 ∙ rw (are.run, are.survive, are.plain, are.check, are.code, are.trial) refl)
 
   -- the first word is a command's name, or none
-  named : (is_run is_survive is_plain is_check is_code is_trial : Bool) → AreNamed name is_run is_survive is_plain is_check is_code is_trial → Agrees (name ∷ words)
+  named : (is_run is_survive is_plain is_check is_code is_trial : Bool)
+      → AreNamed name is_run is_survive is_plain is_check is_code is_trial → Agrees (name ∷ words)
   named true b c d e f are = of_named (codes "run") (run_agrees words) are.run
   named false true c d e f are = of_named (codes "survive") (survive_agrees words) are.survive
   named false false true d e f are = of_named (codes "plain") (plain_agrees words) are.plain
@@ -346,7 +360,8 @@ module _ (name : Text) (words : List Text) (plain : list_all is_plain_word (name
 pub agrees : (words : List Text) → list_all is_plain_word words ≡ true → Agrees words
 agrees [] plain = refused (λ none. let both : [] ≡ MissingSubcommand ∷ [] = sym none ∙ no_words in cc) refl
 agrees (name ∷ words) plain =
-    named name words plain (bytes_eq (codes "run") name) (bytes_eq (codes "survive") name) (bytes_eq (codes "plain") name) (bytes_eq (codes "check") name)
+    named name words plain (bytes_eq (codes "run") name) (bytes_eq (codes "survive") name) (bytes_eq (codes "plain") name)
+    (bytes_eq (codes "check") name)
     (bytes_eq (codes "code") name) (bytes_eq (codes "trial") name)
     (record { run = refl; survive = refl; plain = refl; check = refl; code = refl; trial = refl })
 
@@ -399,6 +414,7 @@ pub command_more : (name : Text) (ids : List (Bor Text)) (i : ℕ) (id : Bor Tex
     ≡ record { top = command_with name (map (λ w. w.now) (take (i + 1) ids)); subs = [] }
 command_more name ids i id lt at =
     let more : take (i + 1) ids ≡ take i ids ++ id ∷ [] = take_more ids i id lt ∙ ap (λ x. take i ids ++ x ∷ []) (sym at) in
-    let rules : map required_word (map (λ w. w.now) (take (i + 1) ids)) ≡ map required_word (map (λ w. w.now) (take i ids)) ++ required_word id.now ∷ [] =
+    let rules : map required_word (map (λ w. w.now) (take (i + 1) ids))
+    ≡ map required_word (map (λ w. w.now) (take i ids)) ++ required_word id.now ∷ [] =
     ap (λ xs. map required_word (map (λ w. w.now) xs)) more ∙ simp map-append in
     ap (λ rs. record { top = record (command_with name []) { rules = rs }; subs = [] }) (sym rules)

@@ -29,14 +29,16 @@ module _ (request : Request) (files : List File) (old new : List Start) (texts :
   writes_judged : (text : List ℕ) → Ended files request old new (Writes text) → EndsWith request.command [] texts (Writes text)
   writes_judged text ended =
       let left = left_of files request ended.texts ended.rest ended.starts texts ended.read stored in
-      let ends = ends_from files request ended.texts ended.rest ended.starts left.left (Writes text) ended.read (written_here ended.texts left.left text ended.judged) in
+      let ends = ends_from files request ended.texts ended.rest ended.starts left.left (Writes text) ended.read
+      (written_here ended.texts left.left text ended.judged) in
       subst (λ (ts : List (List ℕ)). EndsWith request.command [] ts (Writes text)) (sym left.parts) ends
 
   -- a refusal is one of the texts on the shelf
   refuses_judged : (line : List ℕ) → Ended files request old new (RefusedWith line) → EndsWith request.command [] texts (RefusedWith line)
   refuses_judged line ended =
       let left = left_of files request ended.texts ended.rest ended.starts texts ended.read stored in
-      let ends = ends_from files request ended.texts ended.rest ended.starts left.left (RefusedWith line) ended.read (refused_here ended.texts left.left line ended.judged) in
+      let ends = ends_from files request ended.texts ended.rest ended.starts left.left (RefusedWith line) ended.read
+      (refused_here ended.texts left.left line ended.judged) in
       subst (λ (ts : List (List ℕ)). EndsWith request.command [] ts (RefusedWith line)) (sym left.parts) ends
 
   -- no file is missing
@@ -55,19 +57,24 @@ completed request old new Usage h files before texts free = absurd h
 completed request old new Done (text, ended, well, all) files before texts free =
     inr (record {
       judgement = Writes text;
-      judged = writes_judged request files old.starts new.starts texts free.stored text (subst (λ told. EndedIn told request old.starts new.starts (Writes text)) free.files_told ended);
+      judged = writes_judged request files old.starts new.starts texts free.stored text
+          (subst (λ told. EndedIn told request old.starts new.starts (Writes text)) free.files_told ended);
       ended = (refl, told_after old.written new.written before text free.bytes_told all.written);
     })
 completed request old new Refused (line, ended, well, all) files before texts free =
     inr (record {
       judgement = RefusedWith line;
-      judged = refuses_judged request files old.starts new.starts texts free.stored line (subst (λ told. EndedIn told request old.starts new.starts (RefusedWith line)) free.files_told ended);
+      judged = refuses_judged request files old.starts new.starts texts free.stored line
+          (subst (λ told. EndedIn told request old.starts new.starts (RefusedWith line)) free.files_told ended);
       ended = (refl, told_after old.written new.written before line free.bytes_told all.written);
     })
-completed request old new ReadFault (by_fault failed stopped, nothing) files before texts free = absurd (free.no_read_fault (rose old.read_faults new.read_faults failed))
+completed request old new ReadFault (by_fault failed stopped, nothing) files before texts free =
+    absurd (free.no_read_fault (rose old.read_faults new.read_faults failed))
 completed request old new ReadFault (by_missing was stopped, nothing) files before texts free =
-    absurd (none_missing request files old.starts new.starts texts free.stored (subst (λ told. StoppedByMissingIn told request old.starts new.starts) free.files_told stopped))
-completed request old new WriteFault (bytes, ended, well, part) files before texts free = absurd (free.no_write_fault (rose old.write_faults new.write_faults part.failed))
+    absurd (none_missing request files old.starts new.starts texts free.stored
+    (subst (λ told. StoppedByMissingIn told request old.starts new.starts) free.files_told stopped))
+completed request old new WriteFault (bytes, ended, well, part) files before texts free =
+    absurd (free.no_write_fault (rose old.write_faults new.write_faults part.failed))
 completed request old new Memory h files before texts free = inl refl
 
 -- memory was wanting before anything was done

@@ -17,7 +17,8 @@ above : (n m : ℕ) → n ≤ m → in_64_bits n ≡ None → in_64_bits m ≡ N
 above n m h e = grind (arith, nat_tests)
 
 -- once the value has more than 64 bits, the whole has
-pub above_stays : (n : ℕ) (rest digits : List ℕ) → 1 ≤ length rest → digits_value n rest ≡ digits_value 0 digits → in_64_bits (10 * n + (get_or rest 0 0 - 48)) ≡ None →
+pub above_stays : (n : ℕ) (rest digits : List ℕ) → 1 ≤ length rest → digits_value n rest ≡ digits_value 0 digits
+    → in_64_bits (10 * n + (get_or rest 0 0 - 48)) ≡ None →
     in_64_bits (digits_value 0 digits) ≡ None
 above_stays n [] digits h e f = absurd (omega arith)
 above_stays n (d ∷ ds) digits h e f =

@@ -49,20 +49,23 @@ schedule_once tree text line other (bad_schedule fault short bad a) (bad_schedul
     let same : fault ≡ second = cc (bad, worse) in a ∙ ap text_line same ∙ sym b
 
 -- a schedule that lists turns is not refused
-listed_stands : (tree : Tree) (text line : List ℕ) (turns : List ℕ) → length text ≤ MOST_BYTES → schedule_of (names_of tree) text ≡ Ok turns → ScheduleRefused tree text line → ⊥
+listed_stands : (tree : Tree) (text line : List ℕ) (turns : List ℕ) → length text ≤ MOST_BYTES
+    → schedule_of (names_of tree) text ≡ Ok turns → ScheduleRefused tree text line → ⊥
 listed_stands tree text line turns short listed (long_schedule long e) = not_both_lengths text long short
 listed_stands tree text line turns short listed (bad_schedule fault again bad e) = cc (listed, bad)
 
 -- a command goes on in one way from an accepted source
 abbrev GoesOnOnce : (Tree → List (List ℕ) → Judgement → Type 0) → Type 0
 GoesOnOnce goes_on =
-    (source : List ℕ) (tree : Tree) (texts : List (List ℕ)) (v w : Judgement) → Accepted source tree → goes_on tree texts v → goes_on tree texts w → v ≡ w
+    (source : List ℕ) (tree : Tree) (texts : List (List ℕ)) (v w : Judgement) → Accepted source tree → goes_on tree texts v
+    → goes_on tree texts w → v ≡ w
 
 -- ---- over a schedule
 
 module _ (text_of : Tree → List ℕ → List ℕ) where
   -- one text
-  run_once : (tree : Tree) (schedule text other : List ℕ) → ScheduleRuns text_of tree schedule text → ScheduleRuns text_of tree schedule other → text ≡ other
+  run_once : (tree : Tree) (schedule text other : List ℕ) → ScheduleRuns text_of tree schedule text
+      → ScheduleRuns text_of tree schedule other → text ≡ other
   run_once tree schedule text other r s =
       let turned : r.turns ≡ s.turns = cc (r.listed, s.listed) in
       r.is ∙ ap (text_of tree) turned ∙ sym s.is
@@ -74,7 +77,8 @@ module _ (text_of : Tree → List ℕ → List ℕ) where
   -- so `run`, `survive` and `trial` go on in one way
   runs_once : GoesOnOnce (OverSchedule text_of)
   runs_once source tree texts v w accepted reads_schedule reads_schedule = refl
-  runs_once source tree texts v w accepted (schedule_refused schedule line r) (schedule_refused again other s) = ap RefusedWith (schedule_once tree schedule line other r s)
+  runs_once source tree texts v w accepted (schedule_refused schedule line r) (schedule_refused again other s) =
+      ap RefusedWith (schedule_once tree schedule line other r s)
   runs_once source tree texts v w accepted (schedule_refused schedule line r) (runs again text s) = absurd (run_stands tree schedule text line s r)
   runs_once source tree texts v w accepted (runs schedule text r) (schedule_refused again line s) = absurd (run_stands tree schedule text line r s)
   runs_once source tree texts v w accepted (runs schedule text r) (runs again other s) = ap Writes (run_once tree schedule text other r s)
@@ -105,7 +109,8 @@ plays_once tree kept text other r s =
     cc (played, s.is)
 
 -- a plain run that has a text is not stuck
-not_stuck : (tree : Tree) (turns others : List Kept) (kept text : List ℕ) (turn : ℕ) → record_of (names_of tree) kept ≡ Ok turns → plain_text tree turns ≡ Ok text →
+not_stuck : (tree : Tree) (turns others : List Kept) (kept text : List ℕ) (turn : ℕ)
+    → record_of (names_of tree) kept ≡ Ok turns → plain_text tree turns ≡ Ok text →
     record_of (names_of tree) kept ≡ Ok others → plain_text tree others ≡ Err turn → ⊥
 not_stuck tree turns others kept text turn listed played told stuck =
     let same : turns ≡ others = cc (listed, told) in
@@ -116,12 +121,14 @@ not_stuck tree turns others kept text turn listed played told stuck =
 plays_stand : (tree : Tree) (kept text line : List ℕ) → RecordPlays tree kept text → RecordRefused tree kept line → ⊥
 plays_stand tree kept text line r (long_record long e) = not_both_lengths kept long r.short
 plays_stand tree kept text line r (bad_record fault short bad e) = let listed = r.listed in cc (listed, bad)
-plays_stand tree kept text line r (stuck_record turns turn short listed stuck e) = not_stuck tree r.turns turns kept text turn r.listed r.is listed stuck
+plays_stand tree kept text line r (stuck_record turns turn short listed stuck e) =
+    not_stuck tree r.turns turns kept text turn r.listed r.is listed stuck
 
 -- so `plain` goes on in one way
 plain_once : GoesOnOnce PlainGoesOn
 plain_once source tree texts v w accepted reads_record reads_record = refl
-plain_once source tree texts v w accepted (record_refused kept line r) (record_refused again other s) = ap RefusedWith (record_once tree kept line other r s)
+plain_once source tree texts v w accepted (record_refused kept line r) (record_refused again other s) =
+    ap RefusedWith (record_once tree kept line other r s)
 plain_once source tree texts v w accepted (record_refused kept line r) (plays again text s) = absurd (plays_stand tree kept text line s r)
 plain_once source tree texts v w accepted (plays kept text r) (record_refused again line s) = absurd (plays_stand tree kept text line r s)
 plain_once source tree texts v w accepted (plays kept text r) (plays again other s) = ap Writes (plays_once tree kept text other r s)
@@ -160,16 +167,21 @@ written_goes_on : (text : List ℕ) → Writes text ≡ ReadsOn → ⊥
 written_goes_on text e = cc
 
 -- whoever makes one thing of what is read ends in one way
-module _ (judges : List (List ℕ) → Judgement → Type 0) (once : (texts : List (List ℕ)) (v w : Judgement) → judges texts v → judges texts w → v ≡ w) where
+module _ (judges : List (List ℕ) → Judgement → Type 0)
+    (once : (texts : List (List ℕ)) (v w : Judgement) → judges texts v → judges texts w → v ≡ w) where
   ends_once : (read left : List (List ℕ)) (v w : Judgement) → EndsBy judges read left v → EndsBy judges read left w → v ≡ w
   ends_once read left v w (refused_here a b line r) (refused_here c d other s) = once read (RefusedWith line) (RefusedWith other) r s
   ends_once read left v w (refused_here a b line r) (written_here c d text s) = once read (RefusedWith line) (Writes text) r s
-  ends_once read left v w (refused_here a b line r) (later c next rest j goes ends) = absurd (refused_goes_on line (once read (RefusedWith line) ReadsOn r goes))
+  ends_once read left v w (refused_here a b line r) (later c next rest j goes ends) =
+      absurd (refused_goes_on line (once read (RefusedWith line) ReadsOn r goes))
   ends_once read left v w (written_here a b text r) (refused_here c d line s) = once read (Writes text) (RefusedWith line) r s
   ends_once read left v w (written_here a b text r) (written_here c d other s) = once read (Writes text) (Writes other) r s
-  ends_once read left v w (written_here a b text r) (later c next rest j goes ends) = absurd (written_goes_on text (once read (Writes text) ReadsOn r goes))
-  ends_once read left v w (later a next rest i goes ends) (refused_here c d line s) = absurd (refused_goes_on line (once read (RefusedWith line) ReadsOn s goes))
-  ends_once read left v w (later a next rest i goes ends) (written_here c d text s) = absurd (written_goes_on text (once read (Writes text) ReadsOn s goes))
+  ends_once read left v w (written_here a b text r) (later c next rest j goes ends) =
+      absurd (written_goes_on text (once read (Writes text) ReadsOn r goes))
+  ends_once read left v w (later a next rest i goes ends) (refused_here c d line s) =
+      absurd (refused_goes_on line (once read (RefusedWith line) ReadsOn s goes))
+  ends_once read left v w (later a next rest i goes ends) (written_here c d text s) =
+      absurd (written_goes_on text (once read (Writes text) ReadsOn s goes))
   ends_once read left v w (later a next rest i goes ends) (later c again others j on more) = ends_once (read ++ next ∷ []) rest v w ends more
 
 -- each command makes one thing of what it has read

@@ -110,14 +110,16 @@ alternate_few t Acts levels h = omega arith
 module _ (t : ℕ) where
   used_before : (q : Process State State) → ProcessBefore t q → ProcessBefore t (turn_used q)
   used_before q h = record {
-    levels = Each-map (λ _ level. LevelBefore t level) one_used q.levels h.levels (λ i level e one. record { alternate = one.alternate; kept = one.kept });
+    levels = Each-map (λ _ level. LevelBefore t level) one_used q.levels h.levels
+        (λ i level e one. record { alternate = one.alternate; kept = one.kept });
     kept = h.kept;
   }
 
   raised_before : (j : ℕ) (q : Process State State) → ProcessBefore t q → ProcessBefore (t + 1) (raised j q)
   raised_before j q h = record {
     levels = Each-change_at (λ _ level. LevelBefore (t + 1) level) j next_alternate q.levels (λ i level e. level_later t level (h.levels i level e))
-        (λ level e. let one = h.levels j level e in record { alternate = omega (arith, one.alternate); kept = turns_later t level.copy.kept one.kept });
+        (λ level e. let one =
+        h.levels j level e in record { alternate = omega (arith, one.alternate); kept = turns_later t level.copy.kept one.kept });
     kept = turns_later t q.state.kept h.kept;
   }
 
@@ -134,7 +136,8 @@ module _ (tree : Tree) where
     fallen_before : (cause : Cause) (q : Process State State) → ProcessBefore t q → ProcessBefore t (fallen Trees cause q)
     fallen_before cause q h = record { levels = λ i level e. absurd (none_some e); kept = h.kept }
 
-    back_before : (j : ℕ) (q : Process State State) (o : Option (Level State)) → slice_get q.levels j ≡ o → ProcessBefore t q → ProcessBefore t (back_to Trees j q o)
+    back_before : (j : ℕ) (q : Process State State) (o : Option (Level State)) → slice_get q.levels j ≡ o
+        → ProcessBefore t q → ProcessBefore t (back_to Trees j q o)
     back_before j q None e h = h
     back_before j q (Some level) e h = record {
       levels = λ i other at. h.levels i other (get_take (j + 1) q.levels i other at).1;
@@ -151,7 +154,8 @@ module _ (tree : Tree) where
     freed_before : (q : Process State State) → ProcessBefore t q → ProcessBefore t (freed Trees q)
     freed_before q h = record { levels = h.levels; kept = subst (AreTurns t) (sym (freed_kept q.state q.levels)) h.kept }
 
-    leaves_before : (q : Process State State) (there : Bool) → ProcessBefore t q → ProcessBefore t (cond there (settled Trees q.state (without_last q.levels)) q)
+    leaves_before : (q : Process State State) (there : Bool) → ProcessBefore t q
+        → ProcessBefore t (cond there (settled Trees q.state (without_last q.levels)) q)
     leaves_before q false h = h
     leaves_before q true h = record { levels = without_before t q.levels h.levels; kept = h.kept }
 
@@ -166,7 +170,8 @@ module _ (tree : Tree) where
   placed_before t u f (Some j) q one h = one j
 
   -- a step changes no kept turn
-  went_kept : (a : ℕ) (prior : Option Environment) (s : State) (message : Option ℤ) (later : State) → step tree a prior s message ≡ Went later tt → later.kept ≡ s.kept
+  went_kept : (a : ℕ) (prior : Option Environment) (s : State) (message : Option ℤ) (later : State)
+      → step tree a prior s message ≡ Went later tt → later.kept ≡ s.kept
   went_kept a prior s message later e =
       posted (subst (λ (r : Result_of_step). StepsTo (Posts (wants_first tree s.items) message s) (IsPassed (wants_first tree s.items) s) r) e
       (steps_post tree a prior s message s.items))
@@ -176,7 +181,8 @@ module _ (tree : Tree) where
       posted (Posted d v wants sent taken kept) = kept
       posted (Collected d v receives given sent taken kept) = kept
 
-  held_kept : (a : ℕ) (prior : Option Environment) (s : State) (message : Option ℤ) (later : State) → step tree a prior s message ≡ Held later → later.kept ≡ s.kept
+  held_kept : (a : ℕ) (prior : Option Environment) (s : State) (message : Option ℤ) (later : State)
+      → step tree a prior s message ≡ Held later → later.kept ≡ s.kept
   held_kept a prior s message later e =
       (subst (λ (r : Result_of_step). StepsTo (Posts (wants_first tree s.items) message s) (IsPassed (wants_first tree s.items) s) r) e
       (steps_post tree a prior s message s.items)).kept
@@ -267,7 +273,8 @@ module _ (tree : Tree) where
         let back = all_back_before c w h in
         record {
           some = omega (arith, h.some);
-          processes = Each-map (λ _ q. ProcessBefore (t + 1) q) (where_inside raised c) (all_back Trees c w).processes (world_later t (all_back Trees c w) back).processes
+          processes = Each-map (λ _ q. ProcessBefore (t + 1) q) (where_inside raised c) (all_back Trees c w).processes
+              (world_later t (all_back Trees c w) back).processes
               (λ r q e one. placed_before t (t + 1) raised (position (is_of c) q.levels) q (λ j. raised_before t j q (back.processes r q e)) one);
           talks = next_before c (all_back Trees c w).talks back.talks;
         }
@@ -308,7 +315,8 @@ module _ (tree : Tree) where
     next_alternate_before : (p j : ℕ) (w : TreeWorld) → WorldBefore t w → WorldBefore (t + 1) (with_process p (raised j) w)
     next_alternate_before p j w h = record {
       some = omega (arith, h.some);
-      processes = Each-change_at (λ _ q. ProcessBefore (t + 1) q) p (raised j) w.processes (world_later t w h).processes (λ q e. raised_before t j q (h.processes p q e));
+      processes = Each-change_at (λ _ q. ProcessBefore (t + 1) q) p (raised j) w.processes (world_later t w h).processes
+          (λ q e. raised_before t j q (h.processes p q e));
       talks = talks_later t w.talks h.talks;
     }
 
@@ -332,7 +340,8 @@ module _ (tree : Tree) where
         kept_before t p w q h there (settled Trees (with_kept (s.kept ++ (t, a) ∷ []) s) (without_last q.levels))
         (without_before (t + 1) q.levels (levels_then t p w q h there)) (turns_then t p w q h there a s few same);
     stands = λ t past p q w a v s l d h at e _ _ _. stood t p a w q v s h at e;
-    leaves = λ t past p q w a v s l d h at e _ _ _. all_leave_before (t + 1) d (come_to_stand p q.levels w (Trees.keep t a s w.memory)) (stood t p a w q v s h at e);
+    leaves = λ t past p q w a v s l d h at e _ _ _. all_leave_before (t + 1) d
+        (come_to_stand p q.levels w (Trees.keep t a s w.memory)) (stood t p a w q v s h at e);
     falls = λ t past p q w left cause h r why. world_later t _ (one_before t p (fallen Trees cause) w h (fallen_before t cause));
     tries_next = λ t past p q w j l h r x y. next_alternate_before t p j _ (one_before t p (put_back Trees j) w h (put_back_before t j));
     is_spent = λ t past p q w j l h r x y. one_before t p (put_back Trees j) w h (put_back_before t j);
@@ -349,7 +358,8 @@ module _ (tree : Tree) where
     where
       -- who came to a test line
       stood : (t p a : ℕ) (w : TreeWorld) (q : Process State State) (v : Option ℤ) (s : State) → WorldBefore t w → StepsAt Trees p q w a v
-          → step tree a (environment_of (copy_of (last_of q.levels))) q.state v ≡ Held s → WorldBefore (t + 1) (come_to_stand p q.levels w (Trees.keep t a s w.memory))
+          → step tree a (environment_of (copy_of (last_of q.levels))) q.state v ≡ Held s
+          → WorldBefore (t + 1) (come_to_stand p q.levels w (Trees.keep t a s w.memory))
       stood t p a w q v s h at e =
           let there = at.acts.runs.there in
           stood_before t p w q h there a s (step_few t p w q h there a v at) (held_kept a (environment_of (copy_of (last_of q.levels))) q.state v s e)

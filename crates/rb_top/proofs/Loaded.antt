@@ -53,7 +53,8 @@ opened_counts nested = map-map (λ (one : Conversation). one.alternates) opened 
 
 -- processes of the same statuses are told alike before the first turn
 same_finished : {S C T D : Type 0} (p : ℕ) (qs : List (Process S C)) (rs : List (Process T D)) → length rs ≡ length qs
-    → ((i : ℕ) (q : Process S C) (r : Process T D) → slice_get qs i ≡ Some q → slice_get rs i ≡ Some r → r.status ≡ q.status) → finished_at p rs ≡ finished_at p qs
+    → ((i : ℕ) (q : Process S C) (r : Process T D) → slice_get qs i ≡ Some q → slice_get rs i ≡ Some r → r.status ≡ q.status)
+    → finished_at p rs ≡ finished_at p qs
 same_finished p [] [] as_many same = refl
 same_finished p [] (r ∷ rs) as_many same = absurd (cc)
 same_finished p (q ∷ qs) [] as_many same = absurd (cc)
@@ -71,7 +72,8 @@ module _ (source : List ℕ) (prepared : Prepared) (accepted : IsPrepared source
         length-map (opening prepared.nested) (λ (one : Conversation). one.alternates) ∙ sym (length-map (opening prepared.nested) membership);
     counted =
         subst (HasCounts (code prepared.code)) (sym (opened_counts prepared.nested))
-        (accepted_code_has_counts source accepted.tree accepted.slots (code prepared.code) accepted.accepted accepted.is_code.frames accepted.is_code.stands
+        (accepted_code_has_counts source accepted.tree accepted.slots
+        (code prepared.code) accepted.accepted accepted.is_code.frames accepted.is_code.stands
         prepared.nested accepted.conversations);
   }
 
@@ -81,10 +83,12 @@ module _ (source : List ℕ) (prepared : Prepared) (accepted : IsPrepared source
   pub runs_as_meant : (turns : List ℕ) → word_text (code prepared.code) (memberships (opening prepared.nested)) turns ≡ run_text accepted.tree turns
   runs_as_meant turns =
       ap (λ (groups : List Membership). word_text (code prepared.code) groups turns) groups_are
-      ∙ (accepted_code_agrees source accepted.tree accepted.slots (code prepared.code) accepted.accepted accepted.is_code.frames accepted.is_code.stands turns).text
+      ∙ (accepted_code_agrees source accepted.tree accepted.slots
+      (code prepared.code) accepted.accepted accepted.is_code.frames accepted.is_code.stands turns).text
 
   -- its survivors are those of the tree
-  survivors_as_meant : (turns : List ℕ) → word_text_for Survivors (code prepared.code) (memberships (opening prepared.nested)) turns ≡ survivors_text accepted.tree turns
+  survivors_as_meant : (turns : List ℕ)
+      → word_text_for Survivors (code prepared.code) (memberships (opening prepared.nested)) turns ≡ survivors_text accepted.tree turns
   survivors_as_meant turns =
       let c = code prepared.code in
       let groups = memberships (opening prepared.nested) in
@@ -99,7 +103,8 @@ module _ (source : List ℕ) (prepared : Prepared) (accepted : IsPrepared source
   texts_as_meant Survivors turns = survivors_as_meant turns
 
   -- and it prints as many lines of each kind
-  pub counts_as_meant : (turns : List ℕ) → word_counts (code prepared.code) (memberships (opening prepared.nested)) turns ≡ run_counts accepted.tree turns
+  pub counts_as_meant : (turns : List ℕ)
+      → word_counts (code prepared.code) (memberships (opening prepared.nested)) turns ≡ run_counts accepted.tree turns
   counts_as_meant turns =
       let c = code prepared.code in
       let tree = accepted.tree in

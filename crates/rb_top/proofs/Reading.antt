@@ -22,7 +22,8 @@ pub front_grows : (all before piece after : List ℕ) (n : ℕ) → before ≡ t
 front_grows all before piece after n front inside same size is =
     let m = length before in
     let many : length after ≡ m + n = ap length is ∙ length-append before piece ∙ ap (λ k. m + k) size in
-    is ∙ ap (λ (x : List ℕ). x ++ piece) front ∙ ap (λ (x : List ℕ). take m all ++ x) same ∙ sym (take-plus all m n (omega arith)) ∙ ap (λ k. take k all) (sym many)
+    is ∙ ap (λ (x : List ℕ). x ++ piece) front ∙ ap (λ (x : List ℕ). take m all ++ x) same
+    ∙ sym (take-plus all m n (omega arith)) ∙ ap (λ k. take k all) (sym many)
 
 -- a piece of the file at whose front the shelf stands
 piece_of_front : (files : List File) (name : List ℕ) (old : Start) (earlier others new : List Start) (buffer before : List ℕ) (n : ℕ) →
@@ -92,7 +93,9 @@ passed_on (Some files) (old ∷ earlier) new buffer before n p small = λ name o
     record {
       passed = length before + n;
       not_far = omega arith;
-      started = piece.2 ∙ ap (λ (f : Option (List ℕ)). record { file = f; passed = length before + n; went = true } ∷ others) (sym (named_stored files name has.all has.stored));
+      started = piece.2
+          ∙ ap (λ (f : Option (List ℕ)). record { file = f; passed = length before + n; went = true } ∷ others)
+          (sym (named_stored files name has.all has.stored));
     }
 
 -- the front grows by a piece

@@ -29,7 +29,8 @@ module _ (source : List ℕ) (judged : Judged) (is : IsJudged source judged) whe
   meant = tree_of judged.checked.program
 
   -- a record that was read with its names was read with those of its tree
-  pub listed_of : (bytes : List ℕ) (read : Result (List Kept) TextFault) → record_of (process_names judged.names) bytes ≡ read → record_of (names_of meant) bytes ≡ read
+  pub listed_of : (bytes : List ℕ) (read : Result (List Kept) TextFault)
+      → record_of (process_names judged.names) bytes ≡ read → record_of (names_of meant) bytes ≡ read
   listed_of bytes read e = ap (λ (names : List (List ℕ)). record_of names bytes) (sym (scheduled_names judged.names meant is.names)) ∙ e
 
   -- so it was refused with them
@@ -53,7 +54,8 @@ ends_for_fault tree bytes fault short bad = record_refused bytes (text_line faul
 pub ends_for_length : (tree : Tree) (bytes : List ℕ) → MOST_BYTES < length bytes → PlainGoesOn tree (bytes ∷ []) (RefusedWith too_long_line)
 ends_for_length tree bytes long = record_refused bytes too_long_line (long_record long refl)
 
-module _ (tree : Tree) (bytes : List ℕ) (turns : List Kept) (short : length bytes ≤ MOST_BYTES) (listed : record_of (names_of tree) bytes ≡ Ok turns) where
+module _ (tree : Tree) (bytes : List ℕ) (turns : List Kept) (short : length bytes ≤ MOST_BYTES)
+    (listed : record_of (names_of tree) bytes ≡ Ok turns) where
   -- a plain run that is stuck refuses its record
   pub ends_stuck : (turn : ℕ) → plain_text tree turns ≡ Err turn → PlainGoesOn tree (bytes ∷ []) (RefusedWith (stuck_line turn))
   ends_stuck turn stuck = record_refused bytes (stuck_line turn) (stuck_record turns turn short listed stuck refl)

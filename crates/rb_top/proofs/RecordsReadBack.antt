@@ -135,10 +135,12 @@ joined (word ∷ other ∷ words) = word ++ 32 ∷ joined (other ∷ words)
 line_is : (words : List (List ℕ)) → line_of words ≡ joined words ++ 10 ∷ []
 line_is [] = refl
 line_is (word ∷ []) = refl
-line_is (word ∷ other ∷ words) = ap (λ (rest : List ℕ). word ++ 32 ∷ rest) (line_is (other ∷ words)) ∙ sym (append_assoc word (32 ∷ joined (other ∷ words)) (10 ∷ []))
+line_is (word ∷ other ∷ words) =
+    ap (λ (rest : List ℕ). word ++ 32 ∷ rest) (line_is (other ∷ words)) ∙ sym (append_assoc word (32 ∷ joined (other ∷ words)) (10 ∷ []))
 
 -- what stands in no name and is no blank stands in no line
-joined_without : (c : ℕ) (words : List (List ℕ)) → is_name_byte c ≡ false → nat_eq 32 c ≡ false → AllByRecursion IsWord words → Without c (joined words)
+joined_without : (c : ℕ) (words : List (List ℕ)) → is_name_byte c ≡ false → nat_eq 32 c ≡ false
+    → AllByRecursion IsWord words → Without c (joined words)
 joined_without c [] other blank h = refl
 joined_without c (word ∷ []) other blank h = names_without c word other h.0.bytes
 joined_without c (word ∷ second ∷ words) other blank h =
@@ -156,7 +158,8 @@ no_comment : (bytes : List ℕ) → Without 35 bytes → without_comment bytes �
 no_comment [] h = refl
 no_comment (b ∷ bytes) h =
     let parts = and_parts (not (nat_eq b 35)) (list_all (λ x. not (nat_eq x 35)) bytes) h in
-    cond-false (nat_eq b 35) [] (b ∷ without_comment bytes) (not_this (nat_eq b 35) parts.0) ∙ ap (λ (rest : List ℕ). b ∷ rest) (no_comment bytes parts.1)
+    cond-false (nat_eq b 35) [] (b ∷ without_comment bytes) (not_this (nat_eq b 35) parts.0)
+    ∙ ap (λ (rest : List ℕ). b ∷ rest) (no_comment bytes parts.1)
 
 -- bytes of a word are passed
 no_space : (b : ℕ) → is_name_byte b ≡ true → is_space b ≡ false
@@ -218,12 +221,14 @@ has_name names p h known =
     record { at = at; is = name_is (names_in names) p (process_word names p) h at }
 
 -- names that differ lead back to their places
-apart : (x : List ℕ) (names : List (List ℕ)) (k : ℕ) (name : List ℕ) → AllByRecursion (λ y. same_name x y ≡ false) names → slice_get names k ≡ Some name → same_name x name ≡ false
+apart : (x : List ℕ) (names : List (List ℕ)) (k : ℕ) (name : List ℕ) → AllByRecursion (λ y. same_name x y ≡ false) names
+    → slice_get names k ≡ Some name → same_name x name ≡ false
 apart x [] k name h e = absurd (none_some e)
 apart x (first ∷ names) zero name h e = subst (λ y. same_name x y ≡ false) (some_same e) h.0
 apart x (first ∷ names) (suc k) name h e = apart x names k name h.1 e
 
-differ : (names : List (List ℕ)) (i k : ℕ) (a b : List ℕ) → AreDistinct names → i < k → slice_get names i ≡ Some a → slice_get names k ≡ Some b → same_name a b ≡ false
+differ : (names : List (List ℕ)) (i k : ℕ) (a b : List ℕ) → AreDistinct names → i < k → slice_get names i ≡ Some a
+    → slice_get names k ≡ Some b → same_name a b ≡ false
 differ [] i k a b distinct below e f = absurd (none_some e)
 differ (c ∷ names) i zero a b distinct below e f = absurd (omega arith)
 differ (c ∷ names) zero (suc k) a b distinct below e f =
@@ -233,7 +238,8 @@ differ (c ∷ names) (suc i) (suc k) a b distinct below e f =
 
 found : (names : List (List ℕ)) (p : ℕ) (name : List ℕ) → AreDistinct names → slice_get names p ≡ Some name → first_named names name ≡ Some p
 found names p name distinct at =
-    position_first (λ other. same_name other name) names p name at (same_itself name) (λ i other below there. differ names i p other name distinct below there at)
+    position_first (λ other. same_name other name) names p name at (same_itself name)
+    (λ i other below there. differ names i p other name distinct below there at)
 
 -- ---- kept turns
 
@@ -257,7 +263,8 @@ module _ (names : Naming) (are : AreNames (names_in names)) (distinct : AreDisti
 
   -- it comes after the turn before it, of its process
   comes_after : (alternate : ℕ) → alternate ≡ kept.alternate
-      → kept_after before (digits_value 0 (decimal kept.turn)) (first_named (names_in names) (process_word names kept.process)) alternate ≡ Ok (Some kept)
+      → kept_after before (digits_value 0 (decimal kept.turn)) (first_named (names_in names) (process_word names kept.process)) alternate
+      ≡ Ok (Some kept)
   comes_after alternate same =
       ap₂ (λ (turn : ℕ) (place : Option ℕ). kept_after before turn place alternate) turn_reads.value
       (found (names_in names) kept.process (process_word names kept.process) distinct named.at)
@@ -268,7 +275,8 @@ module _ (names : Naming) (are : AreNames (names_in names)) (distinct : AreDisti
   -- without an alternate, and with one
   two_words : 0 ≡ kept.alternate → line_of_words (names_in names) before (decimal kept.turn ∷ process_word names kept.process ∷ []) ≡ Ok (Some kept)
   two_words none =
-      cond-true (is_counted (decimal kept.turn) && is_name (process_word names kept.process)) _ (Err V1) (ap₂ ◌&&◌ turn_counted named.is) ∙ comes_after 0 none
+      cond-true (is_counted (decimal kept.turn) && is_name (process_word names kept.process)) _ (Err V1) (ap₂ ◌&&◌ turn_counted named.is)
+      ∙ comes_after 0 none
 
   three_words : 0 < kept.alternate
       → line_of_words (names_in names) before (decimal kept.turn ∷ process_word names kept.process ∷ decimal kept.alternate ∷ []) ≡ Ok (Some kept)
@@ -280,7 +288,8 @@ module _ (names : Naming) (are : AreNames (names_in names)) (distinct : AreDisti
 
   -- the words of its line stand for it, and are words
   words_stand : (none : Bool) → nat_eq kept.alternate 0 ≡ none
-      → line_of_words (names_in names) before (decimal kept.turn ∷ process_word names kept.process ∷ cond none [] (decimal kept.alternate ∷ [])) ≡ Ok (Some kept)
+      → line_of_words (names_in names) before (decimal kept.turn ∷ process_word names kept.process ∷ cond none [] (decimal kept.alternate ∷ []))
+      ≡ Ok (Some kept)
   words_stand true e = two_words (sym (eqb-true kept.alternate 0 e))
   words_stand false e = three_words (let some = eqb-false kept.alternate 0 e in omega (arith, some))
 
@@ -308,7 +317,8 @@ module _ (names : Naming) (are : AreNames (names_in names)) (distinct : AreDisti
   line_for kept = joined (kept_words names kept)
 
   -- the lines of a record are those of its turns
-  lines_back : (before : ℕ) (turns : List Kept) → AreKept (length (names_in names)) before turns → lines_of (record_text names turns) ≡ map line_for turns
+  lines_back : (before : ℕ) (turns : List Kept) → AreKept (length (names_in names)) before turns
+      → lines_of (record_text names turns) ≡ map line_for turns
   lines_back before [] h = refl
   lines_back before (kept ∷ turns) h =
       let rest = record_text names turns in
@@ -318,12 +328,15 @@ module _ (names : Naming) (are : AreNames (names_in names)) (distinct : AreDisti
       ∙ ap (λ (lines : List (List ℕ)). line_for kept ∷ lines) (lines_back kept.turn turns h.1)
 
   -- and these stand for the turns
-  turns_back : (before at : ℕ) (turns : List Kept) → AreKept (length (names_in names)) before turns → lines_kept (names_in names) before at (map line_for turns) ≡ Ok turns
+  turns_back : (before at : ℕ) (turns : List Kept) → AreKept (length (names_in names)) before turns
+      → lines_kept (names_in names) before at (map line_for turns) ≡ Ok turns
   turns_back before at [] h = refl
   turns_back before at (kept ∷ turns) h =
-      ap (λ (line : Result (Option Kept) FaultName). after_line line before at (λ last. lines_kept (names_in names) last (at + 1) (map line_for turns)))
+      ap (λ (line : Result (Option Kept) FaultName). after_line line before at
+      (λ last. lines_kept (names_in names) last (at + 1) (map line_for turns)))
       (line_back names are distinct before kept h.0)
       ∙ ap (in_front kept) (turns_back kept.turn (at + 1) turns h.1)
 
-  pub records_read_back : (turns : List Kept) → AreKept (length (names_in names)) 0 turns → record_of (names_in names) (record_text names turns) ≡ Ok turns
+  pub records_read_back : (turns : List Kept) → AreKept (length (names_in names)) 0 turns
+      → record_of (names_in names) (record_text names turns) ≡ Ok turns
   records_read_back turns h = ap (lines_kept (names_in names) 0 1) (lines_back 0 turns h) ∙ turns_back 0 1 turns h

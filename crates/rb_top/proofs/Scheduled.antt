@@ -17,10 +17,12 @@ use Rattle.rb_top.specs.Stages.{EndsForSchedule}
 -- the names that lines speak of tell those of the processes
 pub scheduled_names : (names : Names) (t : Tree) → naming names ≡ naming_of t → process_names names ≡ names_of t
 scheduled_names names t printed =
-    sym (map-map (λ p. p.name) process_naming names.processes.items) ∙ ap (λ n. map (λ p. p.name) n.processes) printed ∙ map-map (λ p. p.name) process_named t.processes
+    sym (map-map (λ p. p.name) process_naming names.processes.items) ∙ ap (λ n. map (λ p. p.name) n.processes) printed
+    ∙ map-map (λ p. p.name) process_named t.processes
 
 -- those of code that was made of a source are those of its tree
-names_are : (source : List ℕ) (prepared : Prepared) (accepted : IsPrepared source prepared) → process_names prepared.code.names ≡ names_of accepted.tree
+names_are : (source : List ℕ) (prepared : Prepared) (accepted : IsPrepared source prepared)
+    → process_names prepared.code.names ≡ names_of accepted.tree
 names_are source prepared accepted = scheduled_names prepared.code.names accepted.tree accepted.is_code.stands.names_are
 
 module _ (text_of : Tree → List ℕ → List ℕ) (prepared : Prepared) (schedule : List ℕ) where

@@ -33,7 +33,8 @@ stage_as P Q w0 w1 f0 f1 WriteFault so (bytes, inr judged, part, failed) = (byte
 stage_as P Q w0 w1 f0 f1 Memory so h = h
 
 -- and a stage that takes memory while it writes
-pub writing_stage : (P : Judgement → Type 0) (w0 w1 : Option (List ℕ)) (f0 f1 : Faults) (status : Status) → StageEnds P w0 w1 f0 f1 status → WritingStageEnds P w0 w1 f0 f1 status
+pub writing_stage : (P : Judgement → Type 0) (w0 w1 : Option (List ℕ)) (f0 f1 : Faults) (status : Status)
+    → StageEnds P w0 w1 f0 f1 status → WritingStageEnds P w0 w1 f0 f1 status
 writing_stage P w0 w1 f0 f1 Done h = h
 writing_stage P w0 w1 f0 f1 Refused h = h
 writing_stage P w0 w1 f0 f1 Usage h = h
@@ -51,16 +52,19 @@ module _ (goes_on : Tree → List (List ℕ) → Judgement → Type 0) where
   source_ends source (Writes text) h = absurd h
 
   -- what shows that a source is too long shows it of all of it
-  still_long : (bytes text : List ℕ) → MOST_BYTES < length bytes → MOST_BYTES < length text → (j : Judgement) → JudgesSource goes_on (bytes ∷ []) j → JudgesSource goes_on (text ∷ []) j
+  still_long : (bytes text : List ℕ) → MOST_BYTES < length bytes → MOST_BYTES < length text → (j : Judgement)
+      → JudgesSource goes_on (bytes ∷ []) j → JudgesSource goes_on (text ∷ []) j
   still_long bytes text long longer j (source_refused source line (long_source many e)) = source_refused text line (long_source longer e)
   still_long bytes text long longer j (source_refused source line (bad_source fault short bad e)) = absurd (omega (arith, long, short))
   still_long bytes text long longer j (source_accepted source tree more judgement accepted on) = absurd (omega (arith, long, accepted.short))
 
   -- each answer of a stage that judges the source by what was read of it
   pub source_judged : (command : Command) → ((texts : List (List ℕ)) (j : Judgement) → JudgesSource goes_on texts j → Judges command texts j) →
-      (files others : Option (List File)) (name : List ℕ) (rest : List Wanted) (old now : List Start) (bytes : List ℕ) (r0 r1 f0 f1 : Faults) (w0 w1 : Option (List ℕ)) (status : Status) →
+      (files others : Option (List File)) (name : List ℕ) (rest : List Wanted) (old now : List Start) (bytes : List ℕ)
+      (r0 r1 f0 f1 : Faults) (w0 w1 : Option (List ℕ)) (status : Status) →
       WasReadIn files name MOST_BYTES bytes old now → r1.count ≡ r0.count → StageEnds (JudgesSource goes_on (bytes ∷ [])) w0 w1 f0 f1 status →
-      WithRequest (record { command = command; files = text_named name ∷ rest }) (record { files = files; starts = old; read_faults = r0; written = w0; write_faults = f0 })
+      WithRequest (record { command = command; files = text_named name ∷ rest })
+      (record { files = files; starts = old; read_faults = r0; written = w0; write_faults = f0 })
       (record { files = others; starts = now; read_faults = r1; written = w1; write_faults = f1 }) status
   source_judged command judges files others name rest old now bytes r0 r1 f0 f1 w0 w1 status was well ends =
       let request : Request = record { command = command; files = text_named name ∷ rest } in
@@ -70,7 +74,8 @@ module _ (goes_on : Tree → List (List ℕ) → Judgement → Type 0) where
       (λ long text longer j h. judges (text ∷ []) j (still_long bytes text long longer j h)) ends
 
 -- a source was read, of which this was found
-pub source_read : (files : Option (List File)) (request : Request) (found : List ℕ → Type 0) (name : List ℕ) (rest : List Wanted) (old now : List Start) (bytes : List ℕ) →
+pub source_read : (files : Option (List File)) (request : Request) (found : List ℕ → Type 0) (name : List ℕ)
+    (rest : List Wanted) (old now : List Start) (bytes : List ℕ) →
     HasReadIn files request [] (text_named name ∷ rest) old old → Judges request.command [] ReadsOn → WasReadIn files name MOST_BYTES bytes old now →
     length bytes ≤ MOST_BYTES → found bytes → HasSource files request found rest old now
 source_read files request found name rest old now bytes since goes_on was short here = record {
@@ -82,16 +87,20 @@ source_read files request found name rest old now bytes since goes_on was short 
 
 -- ---- the text after an accepted source
 
-module _ (goes_on : Tree → List (List ℕ) → Judgement → Type 0) (command : Command) (judges : (texts : List (List ℕ)) (j : Judgement) → JudgesSource goes_on texts j → Judges command texts j)
+module _ (goes_on : Tree → List (List ℕ) → Judgement → Type 0) (command : Command)
+    (judges : (texts : List (List ℕ)) (j : Judgement) → JudgesSource goes_on texts j → Judges command texts j)
     (source : List ℕ) (tree : Tree) (accepted : Accepted source tree) (reads : goes_on tree [] ReadsOn) where
   -- it is wanted
   pub second_wanted : Judges command (source ∷ []) ReadsOn
   second_wanted = judges (source ∷ []) ReadsOn (source_accepted source tree [] ReadsOn accepted reads)
 
-  module _ (files others : Option (List File)) (name second : List ℕ) (old mid now : List Start) (bytes : List ℕ) (r0 r1 f0 f1 : Faults) (w0 w1 : Option (List ℕ)) (status : Status)
-      (since : HasReadIn files (record { command = command; files = text_named name ∷ text_named second ∷ [] }) (source ∷ []) (text_named second ∷ []) old mid)
+  module _ (files others : Option (List File)) (name second : List ℕ) (old mid now : List Start) (bytes : List ℕ)
+      (r0 r1 f0 f1 : Faults) (w0 w1 : Option (List ℕ)) (status : Status)
+      (since : HasReadIn files (record { command = command; files = text_named name ∷ text_named second ∷ [] })
+      (source ∷ []) (text_named second ∷ []) old mid)
       (was : WasReadIn files second MOST_BYTES bytes mid now) (well : r1.count ≡ r0.count)
-      (still : (text : List ℕ) → MOST_BYTES < length bytes → MOST_BYTES < length text → (j : Judgement) → goes_on tree (bytes ∷ []) j → goes_on tree (text ∷ []) j) where
+      (still : (text : List ℕ) → MOST_BYTES < length bytes → MOST_BYTES < length text → (j : Judgement)
+      → goes_on tree (bytes ∷ []) j → goes_on tree (text ∷ []) j) where
     abbrev pub SecondAnswer : Type 0
     SecondAnswer =
         WithRequest (record { command = command; files = text_named name ∷ text_named second ∷ [] })
@@ -104,14 +113,16 @@ module _ (goes_on : Tree → List (List ℕ) → Judgement → Type 0) (command 
     -- each answer of a stage that judges it by what was read of it
     pub second_judged : StageEnds (goes_on tree (bytes ∷ [])) w0 w1 f0 f1 status → SecondAnswer
     second_judged =
-        next_judged files others (record { command = command; files = text_named name ∷ text_named second ∷ [] }) (source ∷ []) (text_named second) [] old mid now bytes
+        next_judged files others (record { command = command; files = text_named name ∷ text_named second ∷ [] })
+        (source ∷ []) (text_named second) [] old mid now bytes
         r0 r1 f0 f1 w0 w1 status (goes_on tree (bytes ∷ [])) since second_wanted was well
         (λ short j h. judges_second bytes j h) (λ long text longer j h. judges_second text j (still text long longer j h))
 
     -- and of one that takes memory while it writes
     pub second_written : command ≡ Replay → WritingStageEnds (goes_on tree (bytes ∷ [])) w0 w1 f0 f1 status → SecondAnswer
     second_written =
-        next_written files others (record { command = command; files = text_named name ∷ text_named second ∷ [] }) (source ∷ []) (text_named second) [] old mid now bytes
+        next_written files others (record { command = command; files = text_named name ∷ text_named second ∷ [] })
+        (source ∷ []) (text_named second) [] old mid now bytes
         r0 r1 f0 f1 w0 w1 status (goes_on tree (bytes ∷ [])) since second_wanted was well
         (λ short j h. judges_second bytes j h) (λ long text longer j h. judges_second text j (still text long longer j h))
 
@@ -120,12 +131,15 @@ module _ (goes_on : Tree → List (List ℕ) → Judgement → Type 0) (command 
 -- what shows that a schedule is too long shows it of all of it
 long_schedules : (text_of : Tree → List ℕ → List ℕ) (tree : Tree) (bytes text : List ℕ) → MOST_BYTES < length bytes → MOST_BYTES < length text →
     (j : Judgement) → OverSchedule text_of tree (bytes ∷ []) j → OverSchedule text_of tree (text ∷ []) j
-long_schedules text_of tree bytes text long longer j (schedule_refused schedule line (long_schedule many e)) = schedule_refused text line (long_schedule longer e)
-long_schedules text_of tree bytes text long longer j (schedule_refused schedule line (bad_schedule fault short bad e)) = absurd (omega (arith, long, short))
+long_schedules text_of tree bytes text long longer j (schedule_refused schedule line (long_schedule many e)) =
+    schedule_refused text line (long_schedule longer e)
+long_schedules text_of tree bytes text long longer j (schedule_refused schedule line (bad_schedule fault short bad e)) =
+    absurd (omega (arith, long, short))
 long_schedules text_of tree bytes text long longer j (runs schedule written ran) = absurd (omega (arith, long, ran.short))
 
 -- what a command over a schedule makes of texts
-pub judges_for : (product : Product) (texts : List (List ℕ)) (j : Judgement) → JudgesSource (OverSchedule (text_for product)) texts j → Judges (command_for product) texts j
+pub judges_for : (product : Product) (texts : List (List ℕ)) (j : Judgement)
+    → JudgesSource (OverSchedule (text_for product)) texts j → Judges (command_for product) texts j
 judges_for Text texts j h = h
 judges_for Survivors texts j h = h
 
@@ -136,18 +150,23 @@ module _ (product : Product) (files : Option (List File)) (source schedule : Lis
 
   -- the schedule of an accepted source is wanted
   pub schedule_wanted : Judges (command_for product) (has.source ∷ []) ReadsOn
-  schedule_wanted = second_wanted (OverSchedule (text_for product)) (command_for product) (judges_for product) has.source has.accepted.tree accepted_source reads_schedule
+  schedule_wanted =
+      second_wanted (OverSchedule (text_for product)) (command_for product)
+      (judges_for product) has.source has.accepted.tree accepted_source reads_schedule
 
   -- each answer of a stage that judges it by what was read of it
-  pub schedule_judged : (others : Option (List File)) (now : List Start) (bytes : List ℕ) (r0 r1 f0 f1 : Faults) (w0 w1 : Option (List ℕ)) (status : Status) →
-      WasReadIn files schedule MOST_BYTES bytes mid now → r1.count ≡ r0.count → StageEnds (EndsForSchedule (text_for product) prepared bytes) w0 w1 f0 f1 status →
+  pub schedule_judged : (others : Option (List File)) (now : List Start) (bytes : List ℕ) (r0 r1 f0 f1 : Faults)
+      (w0 w1 : Option (List ℕ)) (status : Status) →
+      WasReadIn files schedule MOST_BYTES bytes mid now → r1.count ≡ r0.count
+      → StageEnds (EndsForSchedule (text_for product) prepared bytes) w0 w1 f0 f1 status →
       WithRequest (request_for product source schedule) (record { files = files; starts = old; read_faults = r0; written = w0; write_faults = f0 })
       (record { files = others; starts = now; read_faults = r1; written = w1; write_faults = f1 }) status
   schedule_judged others now bytes r0 r1 f0 f1 w0 w1 status was well ends =
       let tree = has.accepted.tree in
       second_judged (OverSchedule (text_for product)) (command_for product) (judges_for product) has.source tree accepted_source reads_schedule
       files others source schedule old mid now bytes r0 r1 f0 f1 w0 w1 status has.read was well (long_schedules (text_for product) tree bytes)
-      (stage_as (EndsForSchedule (text_for product) prepared bytes) (OverSchedule (text_for product) tree (bytes ∷ [])) w0 w1 f0 f1 status (λ j h. h has.source has.accepted) ends)
+      (stage_as (EndsForSchedule (text_for product) prepared bytes)
+      (OverSchedule (text_for product) tree (bytes ∷ [])) w0 w1 f0 f1 status (λ j h. h has.source has.accepted) ends)
 
 -- ---- a record
 
@@ -156,7 +175,8 @@ long_records : (tree : Tree) (bytes text : List ℕ) → MOST_BYTES < length byt
     (j : Judgement) → PlainGoesOn tree (bytes ∷ []) j → PlainGoesOn tree (text ∷ []) j
 long_records tree bytes text long longer j (record_refused kept line (long_record many e)) = record_refused text line (long_record longer e)
 long_records tree bytes text long longer j (record_refused kept line (bad_record fault short bad e)) = absurd (omega (arith, long, short))
-long_records tree bytes text long longer j (record_refused kept line (stuck_record turns turn short listed stuck e)) = absurd (omega (arith, long, short))
+long_records tree bytes text long longer j (record_refused kept line (stuck_record turns turn short listed stuck e)) =
+    absurd (omega (arith, long, short))
 long_records tree bytes text long longer j (plays kept written ran) = absurd (omega (arith, long, ran.short))
 
 module _ (files : Option (List File)) (source kept : List ℕ) (judged : Judged) (old mid : List Start)
@@ -169,8 +189,10 @@ module _ (files : Option (List File)) (source kept : List ℕ) (judged : Judged)
   record_wanted = second_wanted PlainGoesOn Replay (λ texts j h. h) has.source (tree_of judged.checked.program) accepted_with reads_record
 
   -- each answer of a stage that judges it by what was read of it
-  pub record_judged : (others : Option (List File)) (now : List Start) (bytes : List ℕ) (r0 r1 f0 f1 : Faults) (w0 w1 : Option (List ℕ)) (status : Status) →
-      WasReadIn files kept MOST_BYTES bytes mid now → r1.count ≡ r0.count → WritingStageEnds (PlainGoesOn (tree_of judged.checked.program) (bytes ∷ [])) w0 w1 f0 f1 status →
+  pub record_judged : (others : Option (List File)) (now : List Start) (bytes : List ℕ) (r0 r1 f0 f1 : Faults)
+      (w0 w1 : Option (List ℕ)) (status : Status) →
+      WasReadIn files kept MOST_BYTES bytes mid now → r1.count ≡ r0.count
+      → WritingStageEnds (PlainGoesOn (tree_of judged.checked.program) (bytes ∷ [])) w0 w1 f0 f1 status →
       WithRequest (plain_of source kept) (record { files = files; starts = old; read_faults = r0; written = w0; write_faults = f0 })
       (record { files = others; starts = now; read_faults = r1; written = w1; write_faults = f1 }) status
   record_judged others now bytes r0 r1 f0 f1 w0 w1 status was well =

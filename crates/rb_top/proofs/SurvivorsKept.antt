@@ -43,12 +43,14 @@ module _ (t n : ℕ) where
   one_more one [] is all = (is, tt)
   one_more one (other ∷ others) is all = placed (one_more one others is all.1) (nat_lt one.turn other.turn)
     where
-      placed : AreSurvivors (insert_kept one others) → (first : Bool) → AreSurvivors (cond first (one ∷ other ∷ others) (other ∷ insert_kept one others))
+      placed : AreSurvivors (insert_kept one others) → (first : Bool)
+          → AreSurvivors (cond first (one ∷ other ∷ others) (other ∷ insert_kept one others))
       placed later true = (is, all)
       placed later false = (all.0, later)
 
   -- and so do all of a process
-  of_process : (p : ℕ) (kept : List (ℕ × ℕ)) (others : List Kept) → p < n → AreTurns t kept → AreSurvivors others → AreSurvivors (insert_all p kept others)
+  of_process : (p : ℕ) (kept : List (ℕ × ℕ)) (others : List Kept) → p < n → AreTurns t kept → AreSurvivors others
+      → AreSurvivors (insert_all p kept others)
   of_process p [] others here before all = all
   of_process p ((turn, alternate) ∷ kept) others here before all =
       let first = before zero (turn, alternate) refl in
@@ -59,7 +61,8 @@ module _ (t n : ℕ) where
       → AreSurvivors (survivors_from p (map (λ s. s.kept) (map (λ q. q.state) processes)))
   of_processes p [] few before = tt
   of_processes p (q ∷ processes) few before =
-      of_process p q.state.kept (survivors_from (p + 1) (map (λ s. s.kept) (map (λ r. r.state) processes))) (omega (arith, few)) (before zero q refl).kept
+      of_process p q.state.kept (survivors_from (p + 1) (map (λ s. s.kept) (map (λ r. r.state) processes)))
+      (omega (arith, few)) (before zero q refl).kept
       (of_processes (p + 1) processes (omega (arith, few)) (λ i. before (suc i)))
 
   -- where they rise they are kept turns of a record
@@ -99,12 +102,14 @@ module _ (source : List ℕ) (tree : Tree) (accepted : IsAccepted source tree) (
   -- as many processes as it declares
   as_many : length last.processes ≡ length tree.processes
   as_many =
-      let stands : IsStanding (tree_kind tree) (opening_states tree 0 tree.processes) last = standing (tree_kind tree) turns (opening_states tree 0 tree.processes) tt in
+      let stands : IsStanding (tree_kind tree) (opening_states tree 0 tree.processes) last =
+      standing (tree_kind tree) turns (opening_states tree 0 tree.processes) tt in
       stands.size.of_processes ∙ length-opening 0 tree.processes
 
   survivors_are_kept : AreKept (length tree.processes) 0 (survivors last)
   survivors_are_kept =
-      are_kept (1 + length turns) (length tree.processes) 0 (survivors last) (omega (arith, few)) (of_accepted IsAlwaysErased erasure source tree accepted turns).rises
+      are_kept (1 + length turns) (length tree.processes) 0 (survivors last) (omega (arith, few))
+      (of_accepted IsAlwaysErased erasure source tree accepted turns).rises
       (of_processes (1 + length turns) (length tree.processes) 0 last.processes (omega (arith, as_many)) (run_before tree turns))
 
   -- so they are read back
@@ -113,6 +118,7 @@ module _ (source : List ℕ) (tree : Tree) (accepted : IsAccepted source tree) (
       let many : length tree.processes ≡ length (names_in (naming_of tree)) =
       sym (ap (λ (names : List (List ℕ)). length names) (names_again tree) ∙ length-map tree.processes (λ process. process.name.text)) in
       ap (λ (names : List (List ℕ)). record_of names (survivors_text tree turns)) (sym (names_again tree))
-      ∙ records_read_back (naming_of tree) (subst AreNames (sym (names_again tree)) (spelled_names tree.processes (accepted_are_spelled source tree accepted).processes))
+      ∙ records_read_back (naming_of tree)
+      (subst AreNames (sym (names_again tree)) (spelled_names tree.processes (accepted_are_spelled source tree accepted).processes))
       (subst AreDistinct (sym (names_again tree)) (accepted_have_distinct_names source tree accepted).processes)
       (survivors last) (subst (λ (n : ℕ). AreKept n 0 (survivors last)) many survivors_are_kept)

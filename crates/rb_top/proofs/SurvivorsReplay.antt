@@ -26,22 +26,27 @@ module _ (text_of : Tree → List ℕ → List ℕ) (source schedule kept : List
   written_same : (text : List ℕ) → Writes text ≡ Writes kept → text ≡ kept
   written_same text e = cc
 
-  over_wrote : (tree : Tree) (more left : List (List ℕ)) (j : Judgement) (first : List ℕ) → OverSchedule text_of tree more j → j ≡ Writes kept → Accepted first tree
+  over_wrote : (tree : Tree) (more left : List (List ℕ)) (j : Judgement) (first : List ℕ) → OverSchedule text_of tree more j
+      → j ≡ Writes kept → Accepted first tree
       → first ∷ (more ++ left) ≡ source ∷ schedule ∷ [] → Wrote
   over_wrote tree more left j first reads_schedule e accepted same = absurd (cc)
   over_wrote tree more left j first (schedule_refused second line refused) e accepted same = absurd (cc)
   over_wrote tree more left j first (runs second text ran) e accepted same = record {
     tree = tree;
     accepted = subst (λ (s : List ℕ). Accepted s tree) (heads_same same) accepted;
-    ran = subst (λ (s : List ℕ). ScheduleRuns text_of tree s kept) (heads_same (tails_same same)) (subst (ScheduleRuns text_of tree second) (written_same text e) ran);
+    ran = subst (λ (s : List ℕ). ScheduleRuns text_of tree s kept) (heads_same (tails_same same))
+        (subst (ScheduleRuns text_of tree second) (written_same text e) ran);
   }
 
-  source_wrote : (read left : List (List ℕ)) (j : Judgement) → JudgesSource (OverSchedule text_of) read j → j ≡ Writes kept → read ++ left ≡ source ∷ schedule ∷ [] → Wrote
+  source_wrote : (read left : List (List ℕ)) (j : Judgement) → JudgesSource (OverSchedule text_of) read j → j ≡ Writes kept
+      → read ++ left ≡ source ∷ schedule ∷ [] → Wrote
   source_wrote read left j at_first e same = absurd (cc)
   source_wrote read left j (source_refused first line refused) e same = absurd (cc)
-  source_wrote read left j (source_accepted first tree more judgement accepted on) e same = over_wrote tree more left judgement first on e accepted same
+  source_wrote read left j (source_accepted first tree more judgement accepted on) e same =
+      over_wrote tree more left judgement first on e accepted same
 
-  wrote : (read left : List (List ℕ)) (j : Judgement) → EndsBy (JudgesSource (OverSchedule text_of)) read left j → j ≡ Writes kept → read ++ left ≡ source ∷ schedule ∷ [] → Wrote
+  wrote : (read left : List (List ℕ)) (j : Judgement) → EndsBy (JudgesSource (OverSchedule text_of)) read left j
+      → j ≡ Writes kept → read ++ left ≡ source ∷ schedule ∷ [] → Wrote
   wrote read left j (refused_here a b line h) e same = absurd (cc)
   wrote read left j (written_here a b text h) e same = source_wrote read left (Writes text) h e same
   wrote read left j (later a next rest i h ends) e same = wrote (read ++ next ∷ []) rest j ends e (append_assoc read (next ∷ []) rest ∙ same)

@@ -14,7 +14,8 @@ use Rattle.rb_top.proofs.BothTexts.{BothEnd, first_refused, second_refused, seco
 use Rattle.rb_top.proofs.Sources.{stage_as}
 
 -- with its schedule, a command reads no more
-none_reads_on : (text_of : Tree → List ℕ → List ℕ) (tree : Tree) (texts : List (List ℕ)) (j : Judgement) (schedule : List ℕ) → OverSchedule text_of tree texts j
+none_reads_on : (text_of : Tree → List ℕ → List ℕ) (tree : Tree) (texts : List (List ℕ)) (j : Judgement) (schedule : List ℕ)
+    → OverSchedule text_of tree texts j
     → texts ≡ schedule ∷ [] → j ≡ ReadsOn → ⊥
 none_reads_on text_of tree texts j schedule reads_schedule one e = cc
 none_reads_on text_of tree texts j schedule (schedule_refused again line r) one e = cc
@@ -28,7 +29,8 @@ module _ (text_of : Tree → List ℕ → List ℕ) (source schedule : List ℕ)
   ends_for_source (Writes text) h = absurd h
 
   -- and so does what the schedule of an accepted one comes to
-  ends_for_schedule : (tree : Tree) → Accepted source tree → (j : Judgement) → OverSchedule text_of tree (schedule ∷ []) j → BothEnd (OverSchedule text_of) source schedule j
+  ends_for_schedule : (tree : Tree) → Accepted source tree → (j : Judgement) → OverSchedule text_of tree (schedule ∷ []) j
+      → BothEnd (OverSchedule text_of) source schedule j
   ends_for_schedule tree accepted ReadsOn h = absurd (none_reads_on text_of tree (schedule ∷ []) ReadsOn schedule h refl refl)
   ends_for_schedule tree accepted (RefusedWith line) h = second_refused (OverSchedule text_of) source schedule tree accepted reads_schedule line h
   ends_for_schedule tree accepted (Writes text) h = second_writes (OverSchedule text_of) source schedule tree accepted reads_schedule text h
@@ -41,7 +43,8 @@ module _ (n : ℕ) (source : List ℕ) (made : source ≡ source_of n) (w0 w1 : 
       (λ j h. (refl, ends_for_source (summary_text n) (source_of n) (made_schedule n) j (subst (λ (text : List ℕ). EndsForSource text j) made h)))
 
   -- or accepted, and its schedule was judged
-  pub trial_judged : (prepared : Prepared) → length source ≤ MOST_BYTES → IsPrepared source prepared → (schedule : List ℕ) → schedule ≡ made_schedule n
+  pub trial_judged : (prepared : Prepared) → length source ≤ MOST_BYTES → IsPrepared source prepared → (schedule : List ℕ)
+      → schedule ≡ made_schedule n
       → StageEnds (EndsForSchedule (summary_text n) prepared schedule) w0 w1 f0 f1 status → StageEnds (Judges (Trial n) []) w0 w1 f0 f1 status
   trial_judged prepared short accepted schedule scheduled =
       let tree = accepted.tree in

@@ -161,9 +161,11 @@ WithRequest request old new Refused =
     (line : List ℕ) × EndedIn old.files request old.starts new.starts (RefusedWith line) × ReadsWell old new × WritesAll line old new
 WithRequest request old new ReadFault = ReadFails request old new × WritesNothing old new
 WithRequest request old new WriteFault =
-    (bytes : List ℕ) × (EndedIn old.files request old.starts new.starts (Writes bytes) ⊎ EndedIn old.files request old.starts new.starts (RefusedWith bytes))
+    (bytes : List ℕ)
+    × (EndedIn old.files request old.starts new.starts (Writes bytes) ⊎ EndedIn old.files request old.starts new.starts (RefusedWith bytes))
     × ReadsWell old new × WritesPart bytes old new
-WithRequest request old new Memory = RanOutIn old.files request old.starts new.starts × ReadsWell old new × WritesByThen request request.command old new
+WithRequest request old new Memory =
+    RanOutIn old.files request old.starts new.starts × ReadsWell old new × WritesByThen request request.command old new
 
 -- each answer, whether the words ask for something or not
 abbrev pub WhereRequested : Option Request → Scene → Scene → Status → Type 0

@@ -30,7 +30,8 @@ too_long_line = codes "refused L0\n"
 -- the line for a fault of the source: its name and its place
 abbrev pub source_line : SourceFault → List ℕ
 source_line fault =
-    codes "refused " ++ (fault_word fault.name ++ (codes " at " ++ (decimal fault.place.line ++ (codes ":" ++ (decimal fault.place.column ++ codes "\n")))))
+    codes "refused "
+    ++ (fault_word fault.name ++ (codes " at " ++ (decimal fault.place.line ++ (codes ":" ++ (decimal fault.place.column ++ codes "\n")))))
 
 -- the line for a fault of a schedule or a record: its name and the number of the line that has it
 abbrev pub text_line : TextFault → List ℕ
@@ -65,7 +66,8 @@ names_of tree = map (λ process. process.name.text) tree.processes
 -- The verdict on a schedule for an accepted source.
 pub data ScheduleRefused (tree : Tree) (text : List ℕ) (line : List ℕ) : Type 0 where
   long_schedule : MOST_BYTES < length text → line ≡ too_long_line → ScheduleRefused tree text line
-  bad_schedule : (fault : TextFault) → length text ≤ MOST_BYTES → schedule_of (names_of tree) text ≡ Err fault → line ≡ text_line fault → ScheduleRefused tree text line
+  bad_schedule : (fault : TextFault) → length text ≤ MOST_BYTES → schedule_of (names_of tree) text ≡ Err fault
+      → line ≡ text_line fault → ScheduleRefused tree text line
 
 -- The schedule of an accepted source is accepted, and this is the text of the source's tree over its turns.
 pub record ScheduleRuns (text_of : Tree → List ℕ → List ℕ) (tree : Tree) (schedule text : List ℕ) : Type 0 where
@@ -104,8 +106,10 @@ summary_text n tree turns = summary_of n (length turns) (run_counts tree turns)
 -- The verdict on a record for an accepted source: too long, its first fault, or the turn at which its plain run is stuck.
 pub data RecordRefused (tree : Tree) (text : List ℕ) (line : List ℕ) : Type 0 where
   long_record : MOST_BYTES < length text → line ≡ too_long_line → RecordRefused tree text line
-  bad_record : (fault : TextFault) → length text ≤ MOST_BYTES → record_of (names_of tree) text ≡ Err fault → line ≡ text_line fault → RecordRefused tree text line
-  stuck_record : (turns : List Kept) (turn : ℕ) → length text ≤ MOST_BYTES → record_of (names_of tree) text ≡ Ok turns → plain_text tree turns ≡ Err turn →
+  bad_record : (fault : TextFault) → length text ≤ MOST_BYTES → record_of (names_of tree) text ≡ Err fault
+      → line ≡ text_line fault → RecordRefused tree text line
+  stuck_record : (turns : List Kept) (turn : ℕ) → length text ≤ MOST_BYTES → record_of (names_of tree) text ≡ Ok turns
+      → plain_text tree turns ≡ Err turn →
       line ≡ stuck_line turn → RecordRefused tree text line
 
 -- The record of an accepted source is one, and the plain run of the source's tree over its turns has this text.
@@ -126,7 +130,8 @@ pub data Judgement : Type 0 where
 pub data JudgesSource (goes_on : Tree → List (List ℕ) → Judgement → Type 0) : List (List ℕ) → Judgement → Type 0 where
   at_first : JudgesSource goes_on [] ReadsOn
   source_refused : (source line : List ℕ) → SourceRefused source line → JudgesSource goes_on (source ∷ []) (RefusedWith line)
-  source_accepted : (source : List ℕ) (tree : Tree) (more : List (List ℕ)) (judgement : Judgement) → Accepted source tree → goes_on tree more judgement →
+  source_accepted : (source : List ℕ) (tree : Tree) (more : List (List ℕ)) (judgement : Judgement) → Accepted source tree
+      → goes_on tree more judgement →
       JudgesSource goes_on (source ∷ more) judgement
 
 -- A command over a schedule, with an accepted source: the schedule is read, and then it is refused, or the command has its text of the
@@ -173,7 +178,8 @@ Judges Survive texts judgement = JudgesSource (OverSchedule survivors_text) text
 Judges Replay texts judgement = JudgesSource PlainGoesOn texts judgement
 Judges Check texts judgement = JudgesSource CheckGoesOn texts judgement
 Judges Compile texts judgement = JudgesSource CodeGoesOn texts judgement
-Judges (Trial n) texts judgement = (texts ≡ []) × EndsBy (JudgesSource (OverSchedule (summary_text n))) [] (source_of n ∷ made_schedule n ∷ []) judgement
+Judges (Trial n) texts judgement =
+    (texts ≡ []) × EndsBy (JudgesSource (OverSchedule (summary_text n))) [] (source_of n ∷ made_schedule n ∷ []) judgement
 
 -- the judgement with which a command ends
 abbrev pub EndsWith : Command → List (List ℕ) → List (List ℕ) → Judgement → Type 0

@@ -20,7 +20,8 @@ AreJudged = (command : Command) (texts : List (List ℕ)) → length texts ≡ f
 
 -- the `out` lines of a run, in their order, and the values in which it ends
 abbrev pub replayed_text : Tree → List ℕ → List ℕ
-replayed_text tree turns = outs_text (naming_of tree) (numbered 1 (run_of tree turns).1) ++ values_text (naming_of tree) (final_of tree (run_of tree turns).0)
+replayed_text tree turns =
+    outs_text (naming_of tree) (numbered 1 (run_of tree turns).1) ++ values_text (naming_of tree) (final_of tree (run_of tree turns).0)
 
 -- A source is accepted with a tree, and its schedule lists turns; `run` writes the text of their run, and `plain` of this record has the
 -- run's `out` lines and its values.
@@ -35,7 +36,8 @@ pub record Replays (source schedule kept : List ℕ) : Type 0 where
 -- What `survive` wrote, if it is not too long to be read, `plain` replays.
 abbrev pub SurvivorsReplay : Type 0
 SurvivorsReplay =
-    (source schedule kept : List ℕ) → EndsWith Survive [] (source ∷ schedule ∷ []) (Writes kept) → length kept ≤ MOST_BYTES → Replays source schedule kept
+    (source schedule kept : List ℕ) → EndsWith Survive [] (source ∷ schedule ∷ []) (Writes kept) → length kept ≤ MOST_BYTES
+    → Replays source schedule kept
 
 -- Of an accepted source, whatever the turns: the plain run of the survivors is not stuck, ends in the states in which the run ended, and
 -- releases the same lines in the same turns.

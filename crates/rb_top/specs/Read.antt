@@ -39,7 +39,8 @@ StandsAtIn (Some files) name furthest others now = StandsAt files name furthest 
 abbrev pub ReadOn : Option (List File) → List Start → List Start → List ℕ → List ℕ → ℕ → Type 0
 ReadOn None old new before after n = IsOpen new
 ReadOn (Some files) old new before after n =
-    (name : List ℕ) (others : List Start) → HasFront files name before others old → HasFront files name after others new × (n ≡ 0 → IsWhole files name after)
+    (name : List ℕ) (others : List Start) → HasFront files name before others old
+    → HasFront files name after others new × (n ≡ 0 → IsWhole files name after)
   where
     IsWhole : List File → List ℕ → List ℕ → Type 0
     IsWhole files name bytes = (all : List ℕ) → bytes_of files name ≡ Some all → length bytes ≡ length all
@@ -67,7 +68,8 @@ WasReadIn (Some files) name most bytes others now = WasRead files name most byte
 pub data StopsForFault (files : List File) (name : List ℕ) (most : ℕ) (old new : List Start) (before after : Faults) : Type 0 where
   at_start : after ≡ failed_once before → new ≡ begun files name false ∷ old → StopsForFault files name most old new before after
   untold : IsUntold old new before after → StopsForFault files name most old new before after
-  missing : after ≡ was_missing before → bytes_of files name ≡ None → new ≡ begun files name false ∷ old → StopsForFault files name most old new before after
+  missing : after ≡ was_missing before → bytes_of files name ≡ None → new ≡ begun files name false ∷ old
+      → StopsForFault files name most old new before after
   within : after ≡ failed_once before → StandsAt files name (most + piece_bytes) old new → StopsForFault files name most old new before after
 
 -- a fault stopped the reading of a file: where no files are told, it was counted

@@ -27,7 +27,8 @@ HasReadIn None request texts rest old now = Unit {0}
 HasReadIn (Some files) request texts rest old now = HasReadSince files request texts rest old now
 
 -- The command has read a source of at most as many bytes as a text may have, and of it this was found; these files are left.
-pub record HasSource (files : Option (List File)) (request : Request) (found : List ℕ → Type 0) (rest : List Wanted) (old now : List Start) : Type 0 where
+pub record HasSource (files : Option (List File)) (request : Request) (found : List ℕ → Type 0) (rest : List Wanted)
+    (old now : List Start) : Type 0 where
   pub source : List ℕ
   pub short : length source ≤ MOST_BYTES
   pub accepted : found source

@@ -33,7 +33,8 @@ pub fn check_file<F: Shelf, S: Sink>(
 }
 
 fn check_source<S: Sink>(alloc: Global, bytes: &[u8], out: &mut S) -> Status
-    ensures { StageEnds (JudgesSource CheckGoesOn (bytes.now ∷ [])) (S.written out.old) (S.written out.new) (S.faults out.old) (S.faults out.new) result }
+    ensures { StageEnds (JudgesSource CheckGoesOn (bytes.now ∷ [])) (S.written out.old) (S.written out.new)
+        (S.faults out.old) (S.faults out.new) result }
 {
     if let Err(status) = judged_source(alloc, bytes, out) {
         return status;

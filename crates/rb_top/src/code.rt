@@ -33,7 +33,8 @@ pub fn code_file<F: Shelf, S: Sink>(
 }
 
 fn code_source<S: Sink>(alloc: Global, bytes: &[u8], out: &mut S) -> Status
-    ensures { StageEnds (JudgesSource CodeGoesOn (bytes.now ∷ [])) (S.written out.old) (S.written out.new) (S.faults out.old) (S.faults out.new) result }
+    ensures { StageEnds (JudgesSource CodeGoesOn (bytes.now ∷ [])) (S.written out.old) (S.written out.new)
+        (S.faults out.old) (S.faults out.new) result }
 {
     match prepared_source(alloc, bytes, out) {
         Ok(prepared) => status_after(listing(&prepared.code, out), Status::Done),

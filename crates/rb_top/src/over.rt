@@ -96,7 +96,9 @@ fn read_schedule<F: Shelf, S: Sink>(
     shelf: &mut F,
     out: &mut S,
 ) -> Status
-    requires { HasSource (F.files shelf.old) (request_for product source.now schedule.now) (λ bytes. IsPrepared bytes prepared.now) (text_named schedule.now ∷ []) (drop 1 (F.starts shelf.old)) (F.starts shelf.old) }
+    requires { HasSource (F.files shelf.old) (request_for product source.now schedule.now)
+        (λ bytes. IsPrepared bytes prepared.now) (text_named schedule.now ∷ []) (drop 1 (F.starts shelf.old))
+        (F.starts shelf.old) }
     ensures files { F.files shelf.new ≡ F.files shelf.old }
     ensures answers { WithRequest (request_for product source.now schedule.now)
         (record { files = F.files shelf.old; starts = drop 1 (F.starts shelf.old); read_faults = F.faults shelf.old; written = S.written out.old; write_faults = S.faults out.old })
@@ -119,7 +121,8 @@ fn over_schedule<S: Sink>(
     out: &mut S,
 ) -> Status
     requires { (source : List ℕ) × IsPrepared source prepared.now }
-    ensures { StageEnds (EndsForSchedule (text_for product) prepared.now bytes.now) (S.written out.old) (S.written out.new) (S.faults out.old) (S.faults out.new) result }
+    ensures { StageEnds (EndsForSchedule (text_for product) prepared.now bytes.now) (S.written out.old) (S.written out.new)
+        (S.faults out.old) (S.faults out.new) result }
 {
     if bytes.len() > MOST_BYTES {
         return status_after(refuse_long(out), Status::Refused);
@@ -141,7 +144,9 @@ fn over_turns<S: Sink>(
     requires prepared { (source : List ℕ) × IsPrepared source prepared.now }
     requires whole { schedule.left ≡ schedule.all }
     requires turns { length schedule.left ≤ MOST_TURNS }
-    ensures { StageEnds (λ judgement. judgement ≡ Writes (word_text_for product (plain prepared.now.code) (memberships (opening prepared.now.nested)) schedule.entry.all))
+    ensures { StageEnds
+        (λ judgement. judgement
+        ≡ Writes (word_text_for product (plain prepared.now.code) (memberships (opening prepared.now.nested)) schedule.entry.all))
         (S.written out.old) (S.written out.new) (S.faults out.old) (S.faults out.new) result }
 {
     match product {

@@ -73,7 +73,8 @@ fn read_record<F: Shelf, S: Sink>(
     shelf: &mut F,
     out: &mut S,
 ) -> Status
-    requires { HasSource (F.files shelf.old) (plain_of source.now kept.now) (λ bytes. IsJudged bytes judged.now) (text_named kept.now ∷ []) (drop 1 (F.starts shelf.old)) (F.starts shelf.old) }
+    requires { HasSource (F.files shelf.old) (plain_of source.now kept.now) (λ bytes. IsJudged bytes judged.now)
+        (text_named kept.now ∷ []) (drop 1 (F.starts shelf.old)) (F.starts shelf.old) }
     ensures files { F.files shelf.new ≡ F.files shelf.old }
     ensures answers { WithRequest (plain_of source.now kept.now)
         (record { files = F.files shelf.old; starts = drop 1 (F.starts shelf.old); read_faults = F.faults shelf.old; written = S.written out.old; write_faults = S.faults out.old })
@@ -90,7 +91,8 @@ fn read_record<F: Shelf, S: Sink>(
 // The record was read.
 fn play_record<S: Sink>(alloc: Global, judged: &Judged<'_>, bytes: &[u8], out: &mut S) -> Status
     requires { (source : List ℕ) × IsJudged source judged.now }
-    ensures { WritingStageEnds (PlainGoesOn (tree judged.now.checked.program) (bytes.now ∷ [])) (S.written out.old) (S.written out.new) (S.faults out.old) (S.faults out.new) result }
+    ensures { WritingStageEnds (PlainGoesOn (tree judged.now.checked.program) (bytes.now ∷ [])) (S.written out.old)
+        (S.written out.new) (S.faults out.old) (S.faults out.new) result }
 {
     if bytes.len() > MOST_BYTES {
         return status_after(refuse_long(out), Status::Refused);
@@ -110,7 +112,8 @@ fn refused_record<S: Sink>(
 ) -> Status
     requires short { length bytes.now ≤ MOST_BYTES }
     requires refused { IsRefusedFor (record_of (names_of (tree judged.now.checked.program)) bytes.now) refusal }
-    ensures { WritingStageEnds (PlainGoesOn (tree judged.now.checked.program) (bytes.now ∷ [])) (S.written out.old) (S.written out.new) (S.faults out.old) (S.faults out.new) result }
+    ensures { WritingStageEnds (PlainGoesOn (tree judged.now.checked.program) (bytes.now ∷ [])) (S.written out.old)
+        (S.written out.new) (S.faults out.old) (S.faults out.new) result }
 {
     let _ = judged;
     let _ = bytes;
@@ -131,7 +134,8 @@ fn play_turns<S: Sink>(
     requires judged { (source : List ℕ) × IsJudged source judged.now }
     requires short { length bytes.now ≤ MOST_BYTES }
     requires listed { record_of (names_of (tree judged.now.checked.program)) bytes.now ≡ Ok turns.now }
-    ensures { WritingStageEnds (PlainGoesOn (tree judged.now.checked.program) (bytes.now ∷ [])) (S.written out.old) (S.written out.new) (S.faults out.old) (S.faults out.new) result }
+    ensures { WritingStageEnds (PlainGoesOn (tree judged.now.checked.program) (bytes.now ∷ [])) (S.written out.old)
+        (S.written out.new) (S.faults out.old) (S.faults out.new) result }
 {
     let _ = bytes;
     let program = &judged.checked.program;

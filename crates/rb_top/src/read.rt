@@ -64,7 +64,8 @@ fn read_started<F: Shelf>(
     ensures ok { IfOk result (λ bytes. WasReadIn (F.files shelf.old) _name.now most bytes.items (drop 1 (F.starts shelf.old)) (F.starts shelf.new)) }
     ensures quiet { OnOk result ((F.faults shelf.new).count ≡ (F.faults shelf.old).count) }
     ensures err { OnErr result (StandsAtIn (F.files shelf.old) _name.now (most + piece_bytes) (drop 1 (F.starts shelf.old)) (F.starts shelf.new)) }
-    ensures failed { OnUnread result (F.faults shelf.new ≡ failed_once (F.faults shelf.old)) ((F.faults shelf.new).count ≡ (F.faults shelf.old).count) }
+    ensures failed { OnUnread result (F.faults shelf.new ≡ failed_once (F.faults shelf.old))
+        ((F.faults shelf.new).count ≡ (F.faults shelf.old).count) }
 {
     let mut bytes = Vec::new(alloc);
     while bytes.len() <= most {
@@ -84,8 +85,10 @@ fn read_piece<F: Shelf>(shelf: &mut F, bytes: &mut Vec<u8>) -> Result<usize, Unr
     ensures short { IfOk result (λ n. n ≤ piece_bytes) }
     ensures ok { IfOk result (λ n. ReadOn (F.files shelf.old) (F.starts shelf.old) (F.starts shelf.new) bytes.old.items bytes.new.items n) }
     ensures quiet { OnOk result ((F.faults shelf.new).count ≡ (F.faults shelf.old).count) }
-    ensures failed { OnUnread result (F.faults shelf.new ≡ failed_once (F.faults shelf.old)) ((F.faults shelf.new).count ≡ (F.faults shelf.old).count) }
-    ensures stays { OnUnread result (F.starts shelf.new ≡ F.starts shelf.old) (PassedOn (F.files shelf.old) (F.starts shelf.old) (F.starts shelf.new) bytes.old.items) }
+    ensures failed { OnUnread result (F.faults shelf.new ≡ failed_once (F.faults shelf.old))
+        ((F.faults shelf.new).count ≡ (F.faults shelf.old).count) }
+    ensures stays { OnUnread result (F.starts shelf.new ≡ F.starts shelf.old)
+        (PassedOn (F.files shelf.old) (F.starts shelf.old) (F.starts shelf.new) bytes.old.items) }
 {
     let mut buffer = [0u8; PIECE];
     let n = match shelf.piece(&mut buffer) {

@@ -26,7 +26,9 @@ fn put_place<'w, S: Sink>(
     line: &'w [u8],
     column: &'w [u8],
 ) -> Result<(), Failed>
-    ensures { Puts (codes "refused " ++ (name.now ++ (codes " at " ++ (line.now ++ (codes ":" ++ (column.now ++ codes "\n")))))) (S.written out.old) (S.written out.new) (S.faults out.old) (S.faults out.new) result }
+    ensures { Puts
+        (codes "refused " ++ (name.now ++ (codes " at " ++ (line.now ++ (codes ":" ++ (column.now ++ codes "\n"))))))
+        (S.written out.old) (S.written out.new) (S.faults out.old) (S.faults out.new) result }
 {
     put_pieces(
         out,
@@ -43,7 +45,8 @@ pub fn refuse_text<S: Sink>(out: &mut S, fault: TextFault) -> Result<(), Failed>
 }
 
 fn put_at<'w, S: Sink>(out: &mut S, name: &'w [u8], line: &'w [u8]) -> Result<(), Failed>
-    ensures { Puts (codes "refused " ++ (name.now ++ (codes " at " ++ (line.now ++ codes "\n")))) (S.written out.old) (S.written out.new) (S.faults out.old) (S.faults out.new) result }
+    ensures { Puts (codes "refused " ++ (name.now ++ (codes " at " ++ (line.now ++ codes "\n")))) (S.written out.old)
+        (S.written out.new) (S.faults out.old) (S.faults out.new) result }
 {
     put_pieces(out, &[b"refused ", name, b" at ", line, b"\n"])
 }
@@ -57,7 +60,8 @@ pub fn refuse_stuck<S: Sink>(out: &mut S, turn: u32) -> Result<(), Failed>
 }
 
 fn put_stuck<S: Sink>(out: &mut S, turn: &[u8]) -> Result<(), Failed>
-    ensures { Puts (codes "refused V4 at " ++ (turn.now ++ codes "\n")) (S.written out.old) (S.written out.new) (S.faults out.old) (S.faults out.new) result }
+    ensures { Puts (codes "refused V4 at " ++ (turn.now ++ codes "\n")) (S.written out.old) (S.written out.new)
+        (S.faults out.old) (S.faults out.new) result }
 {
     put_pieces(out, &[b"refused V4 at ", turn, b"\n"])
 }

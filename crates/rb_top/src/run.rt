@@ -32,7 +32,8 @@ pub fn run_turns<S: Sink, L: Ledger>(
     requires prepared { (source : List ℕ) × IsPrepared source prepared.now }
     requires whole { schedule.left ≡ schedule.all }
     requires turns { length schedule.left ≤ MOST_TURNS }
-    ensures { StageEnds (λ judgement. judgement ≡ Writes (word_text (plain prepared.now.code) (memberships (opening prepared.now.nested)) schedule.entry.all))
+    ensures { StageEnds
+        (λ judgement. judgement ≡ Writes (word_text (plain prepared.now.code) (memberships (opening prepared.now.nested)) schedule.entry.all))
         (S.written out.old) (S.written out.new) (S.faults out.old) (S.faults out.new) result }
 {
     let mut steps = Steps::<L>::start(blank);

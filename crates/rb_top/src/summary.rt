@@ -38,14 +38,16 @@ fn put_number<S: Sink>(out: &mut S, word: &[u8], number: u64) -> Result<(), Fail
 
 // The line of the processes.
 fn put_processes<S: Sink>(out: &mut S, number: u64) -> Result<(), Failed>
-    ensures { Puts (line_of (codes "processes" ∷ decimal (processes_of number) ∷ [])) (S.written out.old) (S.written out.new) (S.faults out.old) (S.faults out.new) result }
+    ensures { Puts (line_of (codes "processes" ∷ decimal (processes_of number) ∷ [])) (S.written out.old)
+        (S.written out.new) (S.faults out.old) (S.faults out.new) result }
 {
     put_number(out, b"processes", process_count(number))
 }
 
 // The line of the turns.
 fn put_turns<S: Sink>(out: &mut S, turns: u32) -> Result<(), Failed>
-    ensures { Puts (line_of (codes "turns" ∷ decimal turns ∷ [])) (S.written out.old) (S.written out.new) (S.faults out.old) (S.faults out.new) result }
+    ensures { Puts (line_of (codes "turns" ∷ decimal turns ∷ [])) (S.written out.old) (S.written out.new) (S.faults out.old)
+        (S.faults out.new) result }
 {
     put_number(out, b"turns", u64::from(turns))
 }

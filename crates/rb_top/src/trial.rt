@@ -71,7 +71,8 @@ fn try_schedule<S: Sink>(
 ) -> Status
     requires prepared { (source : List ℕ) × IsPrepared source prepared.now }
     requires short { length bytes.now ≤ MOST_BYTES }
-    ensures { StageEnds (EndsForSchedule (summary_text number) prepared.now bytes.now) (S.written out.old) (S.written out.new) (S.faults out.old) (S.faults out.new) result }
+    ensures { StageEnds (EndsForSchedule (summary_text number) prepared.now bytes.now) (S.written out.old)
+        (S.written out.new) (S.faults out.old) (S.faults out.new) result }
 {
     match Schedule::read(bytes, &prepared.code.names) {
         Ok(schedule) => {
@@ -96,7 +97,10 @@ fn try_turns<S: Sink, L: Ledger>(
     requires prepared { (source : List ℕ) × IsPrepared source prepared.now }
     requires whole { schedule.left ≡ schedule.all }
     requires turns { length schedule.left ≤ MOST_TURNS }
-    ensures { StageEnds (λ judgement. judgement ≡ Writes (summary_of number (length schedule.entry.all) (word_counts (plain prepared.now.code) (memberships (opening prepared.now.nested)) schedule.entry.all)))
+    ensures { StageEnds
+        (λ judgement. judgement
+        ≡ Writes (summary_of number (length schedule.entry.all)
+        (word_counts (plain prepared.now.code) (memberships (opening prepared.now.nested)) schedule.entry.all)))
         (S.written out.old) (S.written out.new) (S.faults out.old) (S.faults out.new) result }
 {
     let mut steps = Steps::<L>::start(blank);

@@ -20,7 +20,13 @@ counted_more {X} f g xs i x within is =
 pub counted_part : {X Y : Type 0} (f : Y → ℕ) (g : X → Y) (xs : List X) (i : ℕ) (x : X) → i < length xs → x ≡ get_or xs i x →
     sum_by f (map g (take i xs)) + f (g x) ≤ sum_by f (map g xs)
 counted_part {X} f g xs i x within is =
-    omega (arith, sum_by-map f g xs, sum_by-map f g (take i xs), sum_by_more_le (λ (one : X). f (g one)) xs i x within, ap (λ (one : X). f (g one)) is)
+    omega (
+      arith,
+      sum_by-map f g xs,
+      sum_by-map f g (take i xs),
+      sum_by_more_le (λ (one : X). f (g one)) xs i x within,
+      ap (λ (one : X). f (g one)) is,
+    )
 
 pub counted_all : {X Y : Type 0} (f : Y → ℕ) (g : X → Y) (xs : List X) (i : ℕ) → sum_by f (map g (take i xs)) ≤ sum_by f (map g xs)
 counted_all {X} f g xs i = omega (arith, sum_by-map f g xs, sum_by-map f g (take i xs), sum_by-take-le (λ (one : X). f (g one)) xs i)

@@ -22,7 +22,8 @@ use Rattle.rb_trace.specs.Ended.{state_of, IsEndOf, process_text, processes_text
 pub from_found : {X : Type 0} (xs : List X) (i : ℕ) (x : X) → slice_get xs i ≡ Some x → drop i xs ≡ x ∷ drop (i + 1) xs
 from_found {X} [] i x e = cc
 from_found {X} (one ∷ xs) zero x e = let same : one ≡ x = cc in ap (λ (y : X). y ∷ xs) same
-from_found {X} (one ∷ xs) (suc i) x e = from_found xs i x e ∙ ap (λ (n : ℕ). x ∷ drop n xs) (add-one i) ∙ ap (λ (n : ℕ). x ∷ drop n (one ∷ xs)) (sym (add-one (suc i)))
+from_found {X} (one ∷ xs) (suc i) x e =
+    from_found xs i x e ∙ ap (λ (n : ℕ). x ∷ drop n xs) (add-one i) ∙ ap (λ (n : ℕ). x ∷ drop n (one ∷ xs)) (sym (add-one (suc i)))
 
 -- a status is printed as its state
 words_same : (status : Status × ℕ) → state_words (state_of status) ≡ status_words status
@@ -49,11 +50,15 @@ from_item xs i x within is =
 pub process_next : (processes : List ProcessNames) (states : List State) (words : List (List ℤ)) (i : ℕ) (process : ProcessNames) (state : State) →
     i < length processes → process ≡ get_or processes i process → slice_get states i ≡ Some state → i < length words →
     processes_text (map process_naming (drop i processes)) (drop i states) (drop i words)
-    ≡ process_text (process_naming process) state (belonging words i) ++ processes_text (map process_naming (drop (i + 1) processes)) (drop (i + 1) states) (drop (i + 1) words)
+    ≡ process_text (process_naming process) state (belonging words i)
+    ++ processes_text (map process_naming (drop (i + 1) processes)) (drop (i + 1) states) (drop (i + 1) words)
 process_next processes states words i process state within is known long =
     ap (λ (ps : List ProcessNames). processes_text (map process_naming ps) (drop i states) (drop i words)) (from_item processes i process within is)
-    ∙ ap (λ (ss : List State). processes_text (map process_naming (process ∷ drop (i + 1) processes)) ss (drop i words)) (from_found states i state known)
-    ∙ ap (λ (wss : List (List ℤ)). processes_text (map process_naming (process ∷ drop (i + 1) processes)) (state ∷ drop (i + 1) states) wss) (from_own i words long)
+    ∙ ap (λ (ss : List State). processes_text (map process_naming (process ∷ drop (i + 1) processes)) ss (drop i words))
+    (from_found states i state known)
+    ∙ ap
+    (λ (wss : List (List ℤ)). processes_text (map process_naming (process ∷ drop (i + 1) processes)) (state ∷ drop (i + 1) states) wss)
+    (from_own i words long)
 
 -- and of those whose variables alone are written
 pub values_next : (processes : List ProcessNames) (words : List (List ℤ)) (i : ℕ) (process : ProcessNames) →
@@ -90,16 +95,19 @@ word_next words at size k value within small found =
     let own = take size (drop at words) in
     let long : k < length own = omega (arith, length-take-le size (drop at words) (omega (arith, length-drop at words)), small) in
     let is : value ≡ get_or own k value =
-    sym (get_or-take size (drop at words) k value small ∙ get_or-drop at words k value ∙ sym (unwrap_or-slice_get words (at + k) value) ∙ ap (λ o. unwrap_or o value) found) in
+    sym (get_or-take size (drop at words) k value small ∙ get_or-drop at words k value
+    ∙ sym (unwrap_or-slice_get words (at + k) value) ∙ ap (λ o. unwrap_or o value) found) in
     ap (λ (values : List ℤ). spaced (map signed_decimal values)) (from_item own k value long is)
 
 -- none is left
 pub no_word : (words : List ℤ) (at size k : ℕ) → size ≤ k → spaced (map signed_decimal (drop k (take size (drop at words)))) ≡ []
 no_word words at size k past =
-    ap (λ (values : List ℤ). spaced (map signed_decimal values)) (drop_of_length-le (take size (drop at words)) (omega (arith, past, length-take size (drop at words))))
+    ap (λ (values : List ℤ). spaced (map signed_decimal values))
+    (drop_of_length-le (take size (drop at words)) (omega (arith, past, length-take size (drop at words))))
 
 -- the words of a process whose variables fit
-pub fits_at : (processes : List ProcessNames) (words : List (List ℤ)) (i : ℕ) (process : ProcessNames) → AllZip ProcessFits processes words → i < length processes
+pub fits_at : (processes : List ProcessNames) (words : List (List ℤ)) (i : ℕ) (process : ProcessNames)
+    → AllZip ProcessFits processes words → i < length processes
     → process ≡ get_or processes i process → ProcessFits process (belonging words i)
 fits_at [] words i process h within is = absurd (omega (arith, within))
 fits_at (p ∷ ps) [] i process h within is = absurd h
@@ -119,7 +127,8 @@ each_at P (one ∷ xs) zero x h within is = subst P (sym is) h.0
 each_at P (one ∷ xs) (suc i) x h within is = each_at P xs i x h.1 (omega (arith, within)) is
 
 -- the texts of an ending, for each way to tell it
-pub ended_is : (names : Names) (states : List State) (words : List (List ℤ)) (sent taken : List ℕ) (final : Final) (turns : ℕ) → IsEndOf states words sent taken final →
+pub ended_is : (names : Names) (states : List State) (words : List (List ℤ)) (sent taken : List ℕ) (final : Final) (turns : ℕ)
+    → IsEndOf states words sent taken final →
     line_of (codes "end" ∷ decimal turns ∷ []) ++ ended_text (naming names) states words sent taken ≡ end_text (naming names) turns final
 ended_is names states words sent taken final turns ended =
     let processes = map process_naming names.processes.items in
@@ -133,7 +142,8 @@ ended_is names states words sent taken final turns ended =
     ∙ ap (λ (ss : List ℕ). line ++ (process_lines processes final.statuses final.words ++ channel_lines channels ss taken)) (sym ended.sent)
     ∙ ap (λ (ts : List ℕ). line ++ (process_lines processes final.statuses final.words ++ channel_lines channels final.sent ts)) (sym ended.taken)
 
-pub values_are : (names : Names) (states : List State) (words : List (List ℤ)) (sent taken : List ℕ) (final : Final) → IsEndOf states words sent taken final →
+pub values_are : (names : Names) (states : List State) (words : List (List ℤ)) (sent taken : List ℕ) (final : Final)
+    → IsEndOf states words sent taken final →
     value_lines (map process_naming names.processes.items) words ++ channel_lines names.channels.items sent taken ≡ values_text (naming names) final
 values_are names states words sent taken final ended =
     let processes = map process_naming names.processes.items in

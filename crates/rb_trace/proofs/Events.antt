@@ -18,13 +18,15 @@ other_choice false true line h = refl
 other_choice false false line h = absurd (h refl)
 
 -- an event that is wanted
-pub wanted : (names : Naming) (t : ℕ) (done told : Bool) (event : Event) → told ≡ is_done event → told ≡ done → event_line names t event ≡ event_if names t done event
+pub wanted : (names : Naming) (t : ℕ) (done told : Bool) (event : Event) → told ≡ is_done event → told ≡ done
+    → event_line names t event ≡ event_if names t done event
 wanted names t done told event is same =
     sym (same_choice done (event_line names t event))
     ∙ ap (λ (b : Bool). cond done (cond b (event_line names t event) []) (cond b [] (event_line names t event))) (sym same ∙ is)
 
 -- and one that is not
-pub unwanted : (names : Naming) (t : ℕ) (done told : Bool) (event : Event) → told ≡ is_done event → (told ≡ done → ⊥) → [] ≡ event_if names t done event
+pub unwanted : (names : Naming) (t : ℕ) (done told : Bool) (event : Event) → told ≡ is_done event → (told ≡ done → ⊥)
+    → [] ≡ event_if names t done event
 unwanted names t done told event is other =
     sym (other_choice done told (event_line names t event) other)
     ∙ ap (λ (b : Bool). cond done (cond b (event_line names t event) []) (cond b [] (event_line names t event))) is
@@ -42,20 +44,25 @@ kept_after names t event events true = refl
 kept_after names t event events false = refl
 
 -- all but the `done` lines
-pub before_lines : (names : Naming) (t : ℕ) (events : List Event) → flat_map (event_if names t false) events ≡ flat_map (event_line names t) (filter (λ e. not (is_done e)) events)
+pub before_lines : (names : Naming) (t : ℕ) (events : List Event)
+    → flat_map (event_if names t false) events ≡ flat_map (event_line names t) (filter (λ e. not (is_done e)) events)
 before_lines names t [] = refl
 before_lines names t (event ∷ events) =
     ap (λ (x : List ℕ). event_if names t false event ++ x) (before_lines names t events) ∙ kept_before names t event events (is_done event)
 
 -- the `done` lines
-pub after_lines : (names : Naming) (t : ℕ) (events : List Event) → flat_map (event_if names t true) events ≡ flat_map (event_line names t) (filter is_done events)
+pub after_lines : (names : Naming) (t : ℕ) (events : List Event)
+    → flat_map (event_if names t true) events ≡ flat_map (event_line names t) (filter is_done events)
 after_lines names t [] = refl
 after_lines names t (event ∷ events) =
     ap (λ (x : List ℕ). event_if names t true event ++ x) (after_lines names t events) ∙ kept_after names t event events (is_done event)
 
 -- the parts of what a turn tells
 pub parts_told : (names : Naming) (t : ℕ) (kind : TurnKind) (events : List Event) (waiting : List (List (List ℕ))) →
-    flat_map (event_if names t false) events ++ (out_lines names t 0 waiting ++ flat_map (event_if names t true) events) ≡ told_text names t (told_of kind events waiting)
+    flat_map (event_if names t false) events ++ (out_lines names t 0 waiting ++ flat_map (event_if names t true) events)
+    ≡ told_text names t (told_of kind events waiting)
 parts_told names t kind events waiting =
     ap (λ (x : List ℕ). x ++ (out_lines names t 0 waiting ++ flat_map (event_if names t true) events)) (before_lines names t events)
-    ∙ ap (λ (x : List ℕ). flat_map (event_line names t) (filter (λ e. not (is_done e)) events) ++ (out_lines names t 0 waiting ++ x)) (after_lines names t events)
+    ∙ ap
+    (λ (x : List ℕ). flat_map (event_line names t) (filter (λ e. not (is_done e)) events) ++ (out_lines names t 0 waiting ++ x))
+    (after_lines names t events)

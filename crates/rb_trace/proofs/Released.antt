@@ -15,6 +15,7 @@ own_lines names t i first now within is =
     ∙ ap (λ (lines : List (List ℕ)). flat_map (out_line names t i) lines ++ out_lines names t (i + 1) (drop (i + 1) first)) own
 
 -- one process more has none left
-pub one_cleared : (i : ℕ) (first before now : List (List (List ℕ))) → before ≡ cleared i first → now ≡ slice_set before i [] → now ≡ cleared (i + 1) first
+pub one_cleared : (i : ℕ) (first before now : List (List (List ℕ))) → before ≡ cleared i first → now ≡ slice_set before i []
+    → now ≡ cleared (i + 1) first
 one_cleared i first before now is next =
     next ∙ ap (λ (lists : List (List (List ℕ))). slice_set lists i []) is ∙ cleared_next i first ∙ ap (λ (n : ℕ). cleared n first) (sym (add-one i))

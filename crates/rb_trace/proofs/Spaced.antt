@@ -18,10 +18,12 @@ line_of-spaced first (word ∷ words) =
 -- one element more of a list was written, each by a function
 pub puts_next : {X T U E D : Type 0} (f : X → List ℕ) (xs : List X) (i : ℕ) (d : X) → i < length xs →
     (w0 w1 w2 : Option (List ℕ)) (f0 f1 f2 : Faults) (v : T) (r : Result U E) →
-    Puts {T = T} {E = D} (flat_map f (take i xs)) w0 w1 f0 f1 (Ok v) → Puts (f (get_or xs i d)) w1 w2 f1 f2 r → Puts (flat_map f (take (i + 1) xs)) w0 w2 f0 f2 r
+    Puts {T = T} {E = D} (flat_map f (take i xs)) w0 w1 f0 f1 (Ok v) → Puts (f (get_or xs i d)) w1 w2 f1 f2 r
+    → Puts (flat_map f (take (i + 1) xs)) w0 w2 f0 f2 r
 puts_next f xs i d h w0 w1 w2 f0 f1 f2 v r p q =
     let grown : flat_map f (take (i + 1) xs) ≡ flat_map f (take i xs) ++ f (get_or xs i d) =
-    ap (flat_map f) (take_more xs i d h) ∙ flat_map-append f (take i xs) (get_or xs i d ∷ []) ∙ ap (λ (x : List ℕ). flat_map f (take i xs) ++ x) (append-nil (f (get_or xs i d))) in
+    ap (flat_map f) (take_more xs i d h) ∙ flat_map-append f (take i xs) (get_or xs i d ∷ [])
+    ∙ ap (λ (x : List ℕ). flat_map f (take i xs) ++ x) (append-nil (f (get_or xs i d))) in
     puts_same _ _ w0 w2 f0 f2 r (sym grown) (puts_both _ _ w0 w1 w2 f0 f1 f2 v r p q)
 
 -- a write stopped within a list

@@ -22,7 +22,8 @@ none_of [] e = refl
 none_of (one ∷ lines) e = cc
 
 -- the line that is next, and the others
-pub next_first : (waiting : List (List (List ℕ))) (p : ℕ) (line : List ℕ) → next_line waiting p ≡ Some line → belonging waiting p ≡ line ∷ drop 1 (belonging waiting p)
+pub next_first : (waiting : List (List (List ℕ))) (p : ℕ) (line : List ℕ) → next_line waiting p ≡ Some line
+    → belonging waiting p ≡ line ∷ drop 1 (belonging waiting p)
 next_first waiting p line e = first_of (belonging waiting p) line e
 
 pub next_none : (waiting : List (List (List ℕ))) (p : ℕ) → next_line waiting p ≡ None → belonging waiting p ≡ []
@@ -34,19 +35,22 @@ pub record Taken (first before now : List (List (List ℕ))) (p : ℕ) : Type 0 
   pub within : p < length now
   pub left : belonging now p ≡ drop 1 (belonging before p)
 
-pub taken : (first before now : List (List (List ℕ))) (p : ℕ) → before ≡ slice_set first p (belonging before p) → p < length before → now ≡ without_next before p
+pub taken : (first before now : List (List (List ℕ))) (p : ℕ) → before ≡ slice_set first p (belonging before p)
+    → p < length before → now ≡ without_next before p
     → Taken first before now p
 taken first before now p others within is =
     let own = drop 1 (belonging before p) in
     let left : belonging now p ≡ own = ap (λ (lists : List (List (List ℕ))). belonging lists p) is ∙ belonging-set before p own within in
     record {
-      others = is ∙ ap (λ (lists : List (List (List ℕ))). slice_set lists p own) others ∙ set-set first p (belonging before p) own ∙ ap (slice_set first p) (sym left);
+      others = is ∙ ap (λ (lists : List (List (List ℕ))). slice_set lists p own) others
+          ∙ set-set first p (belonging before p) own ∙ ap (slice_set first p) (sym left);
       within = subst (λ (n : ℕ). p < n) (sym (ap length is ∙ length-set before p own)) within;
       left = left;
     }
 
 -- no line of p is left
-pub all_taken : (first before now : List (List (List ℕ))) (p : ℕ) → before ≡ slice_set first p (belonging before p) → p < length before → now ≡ without_next before p
+pub all_taken : (first before now : List (List (List ℕ))) (p : ℕ) → before ≡ slice_set first p (belonging before p)
+    → p < length before → now ≡ without_next before p
     → next_line before p ≡ None → now ≡ slice_set first p []
 all_taken first before now p others within is none =
     let one = taken first before now p others within is in

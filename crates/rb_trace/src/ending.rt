@@ -41,7 +41,8 @@ pub fn write_variable<S: Sink>(
     variable: &[u8],
     values: &[i64],
 ) -> Result<(), Failed>
-    ensures { Puts (line_of ((process.now ++ 46 ∷ variable.now) ∷ codes "=" ∷ map signed_decimal values.now)) (S.written out.old) (S.written out.new) (S.faults out.old) (S.faults out.new) result }
+    ensures { Puts (line_of ((process.now ++ 46 ∷ variable.now) ∷ codes "=" ∷ map signed_decimal values.now))
+        (S.written out.old) (S.written out.new) (S.faults out.old) (S.faults out.new) result }
 {
     put_name(out, process, variable)?;
     put_numbers(out, values)
@@ -63,14 +64,16 @@ fn put_after<S: Sink>(out: &mut S, before: &[u8], bytes: &[u8]) -> Result<(), Fa
 }
 
 fn put_numbers<S: Sink>(out: &mut S, values: &[i64]) -> Result<(), Failed>
-    ensures { Puts (codes " =" ++ (spaced (map signed_decimal values.now) ++ 10 ∷ [])) (S.written out.old) (S.written out.new) (S.faults out.old) (S.faults out.new) result }
+    ensures { Puts (codes " =" ++ (spaced (map signed_decimal values.now) ++ 10 ∷ [])) (S.written out.old)
+        (S.written out.new) (S.faults out.old) (S.faults out.new) result }
 {
     put(out, b" =")?;
     put_values_line(out, values)
 }
 
 fn put_values_line<S: Sink>(out: &mut S, values: &[i64]) -> Result<(), Failed>
-    ensures { Puts (spaced (map signed_decimal values.now) ++ 10 ∷ []) (S.written out.old) (S.written out.new) (S.faults out.old) (S.faults out.new) result }
+    ensures { Puts (spaced (map signed_decimal values.now) ++ 10 ∷ []) (S.written out.old) (S.written out.new)
+        (S.faults out.old) (S.faults out.new) result }
 {
     put_values(out, values)?;
     put(out, b"\n")

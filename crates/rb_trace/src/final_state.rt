@@ -28,7 +28,8 @@ pub fn write_end<S: Sink, M: Final>(
 ) -> Result<(), Failed>
     requires states { length (M.states end.now) ≡ length names.now.processes.items }
     requires fit { Fits names.now (M.words end.now) (M.sent end.now) (M.taken end.now) }
-    ensures text { (final : Final) → IsEndOf (M.states end.now) (M.words end.now) (M.sent end.now) (M.taken end.now) final → Puts (end_text (naming names.now) turns final) (S.written out.old) (S.written out.new) (S.faults out.old) (S.faults out.new) result }
+    ensures text { (final : Final) → IsEndOf (M.states end.now) (M.words end.now) (M.sent end.now) (M.taken end.now) final
+        → Puts (end_text (naming names.now) turns final) (S.written out.old) (S.written out.new) (S.faults out.old) (S.faults out.new) result }
     ensures work { steps.new ≤ steps.old + numbers_printed (naming names.now) }
 {
     write_end_line(out, turns)?;
@@ -43,7 +44,9 @@ fn write_ended<S: Sink, M: Final>(
 ) -> Result<(), Failed>
     requires states { length (M.states end.now) ≡ length names.now.processes.items }
     requires fit { Fits names.now (M.words end.now) (M.sent end.now) (M.taken end.now) }
-    ensures text { Puts (ended_text (naming names.now) (M.states end.now) (M.words end.now) (M.sent end.now) (M.taken end.now)) (S.written out.old) (S.written out.new) (S.faults out.old) (S.faults out.new) result }
+    ensures text { Puts
+        (ended_text (naming names.now) (M.states end.now) (M.words end.now) (M.sent end.now) (M.taken end.now))
+        (S.written out.old) (S.written out.new) (S.faults out.old) (S.faults out.new) result }
     ensures work { steps.new ≤ steps.old + numbers_printed (naming names.now) }
 {
     write_processes(out, names, end, steps)?;
@@ -58,7 +61,8 @@ pub fn write_values<S: Sink, M: Final>(
     steps: &mut Steps<M::Ledger>,
 ) -> Result<(), Failed>
     requires fit { Fits names.now (M.words end.now) (M.sent end.now) (M.taken end.now) }
-    ensures text { (final : Final) → IsEndOf (M.states end.now) (M.words end.now) (M.sent end.now) (M.taken end.now) final → Puts (values_text (naming names.now) final) (S.written out.old) (S.written out.new) (S.faults out.old) (S.faults out.new) result }
+    ensures text { (final : Final) → IsEndOf (M.states end.now) (M.words end.now) (M.sent end.now) (M.taken end.now) final
+        → Puts (values_text (naming names.now) final) (S.written out.old) (S.written out.new) (S.faults out.old) (S.faults out.new) result }
     ensures work { steps.new ≤ steps.old + numbers_printed (naming names.now) }
 {
     write_all_variables(out, names, end, steps)?;
@@ -73,7 +77,8 @@ fn write_processes<S: Sink, M: Final>(
 ) -> Result<(), Failed>
     requires states { length (M.states end.now) ≡ length names.now.processes.items }
     requires fit { Fits names.now (M.words end.now) (M.sent end.now) (M.taken end.now) }
-    ensures text { Puts (processes_text (map process_naming names.now.processes.items) (M.states end.now) (M.words end.now)) (S.written out.old) (S.written out.new) (S.faults out.old) (S.faults out.new) result }
+    ensures text { Puts (processes_text (map process_naming names.now.processes.items) (M.states end.now) (M.words end.now))
+        (S.written out.old) (S.written out.new) (S.faults out.old) (S.faults out.new) result }
     ensures work { steps.new ≤ steps.old + sum_by words_printed (map process_naming names.now.processes.items) }
 {
     for (p, process) in names.processes.iter().enumerate() {
@@ -93,7 +98,8 @@ fn write_process<S: Sink, M: Final>(
     steps: &mut Steps<M::Ledger>,
 ) -> Result<(), Failed>
     requires { ProcessFits process.now (belonging (M.words end.now) p) }
-    ensures text { Puts (process_text (process_naming process.now) state (belonging (M.words end.now) p)) (S.written out.old) (S.written out.new) (S.faults out.old) (S.faults out.new) result }
+    ensures text { Puts (process_text (process_naming process.now) state (belonging (M.words end.now) p))
+        (S.written out.old) (S.written out.new) (S.faults out.old) (S.faults out.new) result }
     ensures work { steps.new ≤ steps.old + words_printed (process_naming process.now) }
 {
     write_status(out, process.name.as_bytes(), state)?;
@@ -107,7 +113,8 @@ fn write_all_variables<S: Sink, M: Final>(
     steps: &mut Steps<M::Ledger>,
 ) -> Result<(), Failed>
     requires fit { Fits names.now (M.words end.now) (M.sent end.now) (M.taken end.now) }
-    ensures text { Puts (value_lines (map process_naming names.now.processes.items) (M.words end.now)) (S.written out.old) (S.written out.new) (S.faults out.old) (S.faults out.new) result }
+    ensures text { Puts (value_lines (map process_naming names.now.processes.items) (M.words end.now)) (S.written out.old)
+        (S.written out.new) (S.faults out.old) (S.faults out.new) result }
     ensures work { steps.new ≤ steps.old + sum_by words_printed (map process_naming names.now.processes.items) }
 {
     for (p, process) in names.processes.iter().enumerate() {
@@ -124,7 +131,8 @@ fn write_variables<S: Sink, M: Final>(
     steps: &mut Steps<M::Ledger>,
 ) -> Result<(), Failed>
     requires { ProcessFits process.now (belonging (M.words end.now) p) }
-    ensures text { Puts (variable_lines (process_naming process.now) (belonging (M.words end.now) p)) (S.written out.old) (S.written out.new) (S.faults out.old) (S.faults out.new) result }
+    ensures text { Puts (variable_lines (process_naming process.now) (belonging (M.words end.now) p)) (S.written out.old)
+        (S.written out.new) (S.faults out.old) (S.faults out.new) result }
     ensures work { steps.new ≤ steps.old + words_printed (process_naming process.now) }
 {
     for variable in &process.variables {
@@ -144,7 +152,8 @@ fn write_words<S: Sink, M: Final>(
 ) -> Result<(), Failed>
     requires few { length (belonging (M.words end.now) p) < 2 ^ 32 }
     requires within { LiesWithin (length (belonging (M.words end.now) p)) variable.now }
-    ensures text { Puts (variable_line process.now (belonging (M.words end.now) p) (variable_naming variable.now)) (S.written out.old) (S.written out.new) (S.faults out.old) (S.faults out.new) result }
+    ensures text { Puts (variable_line process.now (belonging (M.words end.now) p) (variable_naming variable.now))
+        (S.written out.old) (S.written out.new) (S.faults out.old) (S.faults out.new) result }
     ensures work { steps.new ≤ steps.old + words_in (variable_naming variable.now) }
 {
     put_name(out, process, variable.name.as_bytes())?;
@@ -171,7 +180,9 @@ fn put_words<S: Sink, M: Final>(
 ) -> Result<(), Failed>
     requires few { length (belonging (M.words end.now) p) < 2 ^ 32 }
     requires within { at + size ≤ length (belonging (M.words end.now) p) }
-    ensures text { Puts (codes " =" ++ (spaced (map signed_decimal (take size (drop at (belonging (M.words end.now) p)))) ++ 10 ∷ [])) (S.written out.old) (S.written out.new) (S.faults out.old) (S.faults out.new) result }
+    ensures text { Puts
+        (codes " =" ++ (spaced (map signed_decimal (take size (drop at (belonging (M.words end.now) p)))) ++ 10 ∷ []))
+        (S.written out.old) (S.written out.new) (S.faults out.old) (S.faults out.new) result }
     ensures work { steps.new ≤ steps.old + size }
 {
     put(out, b" =")?;
@@ -188,7 +199,8 @@ fn put_words_line<S: Sink, M: Final>(
 ) -> Result<(), Failed>
     requires few { length (belonging (M.words end.now) p) < 2 ^ 32 }
     requires within { at + size ≤ length (belonging (M.words end.now) p) }
-    ensures text { Puts (spaced (map signed_decimal (take size (drop at (belonging (M.words end.now) p)))) ++ 10 ∷ []) (S.written out.old) (S.written out.new) (S.faults out.old) (S.faults out.new) result }
+    ensures text { Puts (spaced (map signed_decimal (take size (drop at (belonging (M.words end.now) p)))) ++ 10 ∷ [])
+        (S.written out.old) (S.written out.new) (S.faults out.old) (S.faults out.new) result }
     ensures work { steps.new ≤ steps.old + size }
 {
     put_each_word(out, p, at, size, end, steps)?;
@@ -206,7 +218,8 @@ fn put_each_word<S: Sink, M: Final>(
 ) -> Result<(), Failed>
     requires few { length (belonging (M.words end.now) p) < 2 ^ 32 }
     requires within { at + size ≤ length (belonging (M.words end.now) p) }
-    ensures text { Puts (spaced (map signed_decimal (take size (drop at (belonging (M.words end.now) p))))) (S.written out.old) (S.written out.new) (S.faults out.old) (S.faults out.new) result }
+    ensures text { Puts (spaced (map signed_decimal (take size (drop at (belonging (M.words end.now) p)))))
+        (S.written out.old) (S.written out.new) (S.faults out.old) (S.faults out.new) result }
     ensures work { steps.new ≤ steps.old + size }
 {
     for k in 0..size {
@@ -222,7 +235,8 @@ fn write_channels<S: Sink, M: Final>(
     steps: &mut Steps<M::Ledger>,
 ) -> Result<(), Failed>
     requires fit { Fits names.now (M.words end.now) (M.sent end.now) (M.taken end.now) }
-    ensures text { Puts (channel_lines names.now.channels.items (M.sent end.now) (M.taken end.now)) (S.written out.old) (S.written out.new) (S.faults out.old) (S.faults out.new) result }
+    ensures text { Puts (channel_lines names.now.channels.items (M.sent end.now) (M.taken end.now)) (S.written out.old)
+        (S.written out.new) (S.faults out.old) (S.faults out.new) result }
     ensures work { steps.new ≤ steps.old + 2 * length names.now.channels.items }
 {
     for (c, name) in names.channels.iter().enumerate() {
@@ -240,7 +254,10 @@ fn write_channel<S: Sink, M: Final>(
 ) -> Result<(), Failed>
     requires sent { c < length (M.sent end.now) }
     requires taken { c < length (M.taken end.now) }
-    ensures text { Puts (line_of (name.now ∷ codes "sent" ∷ decimal (slice_index (M.sent end.now) c) ∷ codes "taken" ∷ decimal (slice_index (M.taken end.now) c) ∷ [])) (S.written out.old) (S.written out.new) (S.faults out.old) (S.faults out.new) result }
+    ensures text { Puts
+        (line_of (name.now ∷ codes "sent" ∷ decimal (slice_index (M.sent end.now) c) ∷ codes "taken"
+        ∷ decimal (slice_index (M.taken end.now) c) ∷ []))
+        (S.written out.old) (S.written out.new) (S.faults out.old) (S.faults out.new) result }
     ensures work { steps.new ≤ steps.old + 2 }
 {
     let mut sent = Buffer::new();

@@ -20,14 +20,16 @@ pub fn put_line<S: Sink>(out: &mut S, words: &[&[u8]]) -> Result<(), Failed>
 }
 
 fn put_first<S: Sink>(out: &mut S, first: &[u8], others: &[&[u8]]) -> Result<(), Failed>
-    ensures { Puts (first.now ++ (spaced (map (λ word. word.now) others.now) ++ 10 ∷ [])) (S.written out.old) (S.written out.new) (S.faults out.old) (S.faults out.new) result }
+    ensures { Puts (first.now ++ (spaced (map (λ word. word.now) others.now) ++ 10 ∷ [])) (S.written out.old)
+        (S.written out.new) (S.faults out.old) (S.faults out.new) result }
 {
     put(out, first)?;
     put_rest(out, others)
 }
 
 fn put_rest<S: Sink>(out: &mut S, others: &[&[u8]]) -> Result<(), Failed>
-    ensures { Puts (spaced (map (λ word. word.now) others.now) ++ 10 ∷ []) (S.written out.old) (S.written out.new) (S.faults out.old) (S.faults out.new) result }
+    ensures { Puts (spaced (map (λ word. word.now) others.now) ++ 10 ∷ []) (S.written out.old) (S.written out.new)
+        (S.faults out.old) (S.faults out.new) result }
 {
     put_others(out, others)?;
     put(out, b"\n")

@@ -22,7 +22,9 @@ pub fn write_report<S: Sink, M: Lines>(
     lines: &mut M,
 ) -> Result<(), Failed>
     requires fit { length (M.waiting lines.old) ≡ length names.now.processes.items }
-    ensures text { Puts (told_text (naming names.now) turn (told_of report.now.kind report.now.events.items (M.waiting lines.old))) (S.written out.old) (S.written out.new) (S.faults out.old) (S.faults out.new) result }
+    ensures text { Puts
+        (told_text (naming names.now) turn (told_of report.now.kind report.now.events.items (M.waiting lines.old)))
+        (S.written out.old) (S.written out.new) (S.faults out.old) (S.faults out.new) result }
     ensures none_waits { OnOk result (M.waiting lines.new ≡ replicate (length (M.waiting lines.old)) []) }
     ensures rest { M.rest lines.new ≡ M.rest lines.old }
 {
@@ -39,7 +41,8 @@ fn write_events<S: Sink>(
     names: &Names,
     done: bool,
 ) -> Result<(), Failed>
-    ensures { Puts (flat_map (event_if (naming names.now) turn done) events.now) (S.written out.old) (S.written out.new) (S.faults out.old) (S.faults out.new) result }
+    ensures { Puts (flat_map (event_if (naming names.now) turn done) events.now) (S.written out.old) (S.written out.new)
+        (S.faults out.old) (S.faults out.new) result }
 {
     for event in events {
         write_event_if(out, turn, event, names, done)?;
@@ -54,7 +57,8 @@ fn write_event_if<S: Sink>(
     names: &Names,
     done: bool,
 ) -> Result<(), Failed>
-    ensures { Puts (event_if (naming names.now) turn done event.now) (S.written out.old) (S.written out.new) (S.faults out.old) (S.faults out.new) result }
+    ensures { Puts (event_if (naming names.now) turn done event.now) (S.written out.old) (S.written out.new)
+        (S.faults out.old) (S.faults out.new) result }
 {
     if tells_done(event) == done {
         write_event(out, turn, event, names)
@@ -81,7 +85,8 @@ fn write_all_released<S: Sink, M: Lines>(
     lines: &mut M,
 ) -> Result<(), Failed>
     requires fit { length (M.waiting lines.old) ≡ length names.now.processes.items }
-    ensures text { Puts (out_lines (naming names.now) turn 0 (M.waiting lines.old)) (S.written out.old) (S.written out.new) (S.faults out.old) (S.faults out.new) result }
+    ensures text { Puts (out_lines (naming names.now) turn 0 (M.waiting lines.old)) (S.written out.old) (S.written out.new)
+        (S.faults out.old) (S.faults out.new) result }
     ensures none_waits { OnOk result (M.waiting lines.new ≡ replicate (length (M.waiting lines.old)) []) }
     ensures rest { M.rest lines.new ≡ M.rest lines.old }
 {
@@ -101,7 +106,8 @@ fn write_released<S: Sink, M: Lines>(
     lines: &mut M,
 ) -> Result<(), Failed>
     requires { process < length (M.waiting lines.old) }
-    ensures text { Puts (flat_map (out_line (naming names.now) turn process) (belonging (M.waiting lines.old) process)) (S.written out.old) (S.written out.new) (S.faults out.old) (S.faults out.new) result }
+    ensures text { Puts (flat_map (out_line (naming names.now) turn process) (belonging (M.waiting lines.old) process))
+        (S.written out.old) (S.written out.new) (S.faults out.old) (S.faults out.new) result }
     ensures none_waits { OnOk result (M.waiting lines.new ≡ slice_set (M.waiting lines.old) process []) }
     ensures rest { M.rest lines.new ≡ M.rest lines.old }
 {

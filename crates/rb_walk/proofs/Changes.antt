@@ -3,7 +3,8 @@ use Rattle.std.proofs.Common.{◌≡◌, ◌<◌, ◌≤◌, ℕ, zero, suc, Lis
 use Rattle.rb_world.specs.World.{change_at}
 
 -- a write of what the change makes of the element that is there
-pub change_at-set : {A : Type 0} (f : A → A) (xs : List A) (i : ℕ) (d y : A) → i < length xs → y ≡ f (get_or xs i d) → change_at i f xs ≡ slice_set xs i y
+pub change_at-set : {A : Type 0} (f : A → A) (xs : List A) (i : ℕ) (d y : A) → i < length xs → y ≡ f (get_or xs i d)
+    → change_at i f xs ≡ slice_set xs i y
 change_at-set f [] i d y h e = absurd (omega arith)
 change_at-set f (x ∷ xs) zero d y h e = ap (λ z. z ∷ xs) (cc)
 change_at-set f (x ∷ xs) (suc i) d y h e = ap (λ zs. x ∷ zs) (change_at-set f xs i d y (omega arith) e)

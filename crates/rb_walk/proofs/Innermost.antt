@@ -25,7 +25,8 @@ reverse-drop : {A : Type 0} (xs : List A) (k : ℕ) (d : A) → k < length xs �
 reverse-drop xs k d h = ap reverse (drop_more xs k d h) ∙ reverse-cons (get_or xs k d) (drop (k + 1) xs)
 
 -- a list that is changed at one number
-pub reverse-set : {A : Type 0} (xs : List A) (k : ℕ) (x : A) → k < length xs → reverse (set xs k x) ≡ reverse (drop (k + 1) xs) ++ x ∷ reverse (take k xs)
+pub reverse-set : {A : Type 0} (xs : List A) (k : ℕ) (x : A) → k < length xs
+    → reverse (set xs k x) ≡ reverse (drop (k + 1) xs) ++ x ∷ reverse (take k xs)
 reverse-set xs k x h =
     ap reverse (set_split xs k x h)
     ∙ reverse-append (take k xs) (x ∷ drop (suc k) xs)
@@ -68,7 +69,8 @@ one_further x fs k d out none =
     }
 
 -- the innermost frame that has it is there
-pub innermost_found : (x : List ℕ) (fs : List Frame) (k : ℕ) (d : Frame) → IsFurtherOut x fs (k + 1) → has x (get_or fs k d) ≡ true → list_any (has x) (reverse fs) ≡ true
+pub innermost_found : (x : List ℕ) (fs : List Frame) (k : ℕ) (d : Frame) → IsFurtherOut x fs (k + 1)
+    → has x (get_or fs k d) ≡ true → list_any (has x) (reverse fs) ≡ true
 innermost_found x fs k d out one =
     out.any ∙ ap (list_any (has x)) (reverse-more fs k d (omega (arith, out.within))) ∙ ap (λ b. b || list_any (has x) (reverse (take k fs))) one
 
@@ -80,21 +82,24 @@ innermost_stored x i v fs k d out one =
     reverse-set fs k (stored_in x i v (get_or fs k d)) here
     ∙ sym (out.among i v
     ∙ ap (λ (gs : List Frame). reverse (drop (k + 1) fs) ++ stored_among x i v gs) (reverse-more fs k d here)
-    ∙ ap (λ b. reverse (drop (k + 1) fs) ++ cond b (stored_in x i v (get_or fs k d) ∷ reverse (take k fs)) (get_or fs k d ∷ stored_among x i v (reverse (take k fs)))) one)
+    ∙ ap (λ b. reverse (drop (k + 1) fs)
+    ++ cond b (stored_in x i v (get_or fs k d) ∷ reverse (take k fs)) (get_or fs k d ∷ stored_among x i v (reverse (take k fs)))) one)
 
 -- a frame in memory
 abbrev pub frame_in : Vec Slot Global → Frame
 frame_in slots = frame slots.items
 
 -- what is known before the next frame in memory
-next_out : (x : List ℕ) (xs ys : List (Vec Slot Global)) (left : ℕ) → map frame_in xs ≡ map frame_in ys → IsFurtherOut x (map frame_in ys) left → 0 < left
+next_out : (x : List ℕ) (xs ys : List (Vec Slot Global)) (left : ℕ) → map frame_in xs ≡ map frame_in ys
+    → IsFurtherOut x (map frame_in ys) left → 0 < left
     → IsFurtherOut x (map frame_in xs) (left - 1 + 1)
 next_out x xs ys left same out some =
     let e : left ≡ left - 1 + 1 = omega arith in
     subst (λ (fs : List Frame). IsFurtherOut x fs (left - 1 + 1)) (sym same) (subst (IsFurtherOut x (map frame_in ys)) e out)
 
 -- the next frame in memory
-next_frame : (x : List ℕ) (xs ys : List (Vec Slot Global)) (left : ℕ) (d : Vec Slot Global) → map frame_in xs ≡ map frame_in ys → IsFurtherOut x (map frame_in ys) left → 0 < left
+next_frame : (x : List ℕ) (xs ys : List (Vec Slot Global)) (left : ℕ) (d : Vec Slot Global)
+    → map frame_in xs ≡ map frame_in ys → IsFurtherOut x (map frame_in ys) left → 0 < left
     → get_or (map frame_in xs) (left - 1) (frame_in d) ≡ frame_in (get_or xs (left - 1) d)
 next_frame x xs ys left d same out some =
     get_or-map frame_in xs (left - 1) d (frame_in d)
@@ -128,7 +133,8 @@ module _ (x : List ℕ) (xs ys : List (Vec Slot Global)) (left : ℕ) (d : Vec S
 
   -- and this one is changed
   pub next_stored : (i : ℕ) (v : ℤ) (new : Vec Slot Global) → has x (frame_in (get_or xs (left - 1) d)) ≡ true
-      → frame_in new ≡ stored_in x i v (frame_in (get_or xs (left - 1) d)) → reverse (map frame_in (set xs (left - 1) new)) ≡ stored_among x i v (reverse (map frame_in ys))
+      → frame_in new ≡ stored_in x i v (frame_in (get_or xs (left - 1) d))
+      → reverse (map frame_in (set xs (left - 1) new)) ≡ stored_among x i v (reverse (map frame_in ys))
   next_stored i v new one e =
       let f : get_or (map frame_in xs) (left - 1) (frame_in d) ≡ frame_in (get_or xs (left - 1) d) = next_frame x xs ys left d same out some in
       ap reverse

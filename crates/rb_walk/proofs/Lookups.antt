@@ -16,7 +16,8 @@ use Rattle.rb_meaning.specs.Groups.{procedure_among, procedure_named, procedures
 use Rattle.rb_meaning.specs.Step.{alternate_number, alternates_in, test_in}
 
 -- the element that a look-up in a slice lends
-pub looked_up : {A : Type 0} (xs : List A) (k : ℕ) (r : Option (Bor A)) → MatchOption r (length xs ≤ k) (λ x. (k < length xs) × HoldsAt (λ y. x.now ≡ y) xs k)
+pub looked_up : {A : Type 0} (xs : List A) (k : ℕ) (r : Option (Bor A))
+    → MatchOption r (length xs ≤ k) (λ x. (k < length xs) × HoldsAt (λ y. x.now ≡ y) xs k)
     → option_map (λ x. x.now) r ≡ slice_get xs k
 looked_up xs k None e = sym (slice_get_past xs k e)
 looked_up xs k (Some x) e = sym (slice_get_read xs (length xs) k x.now refl e.0 (e.1 x.now))
@@ -61,14 +62,16 @@ chosen f false a rest other e = e
 
 -- the first procedure of a name, before and after the map to the plain tree
 procedure_found : (x : List ℕ) (procedures : List Procedure)
-    → option_map procedure_declaration (find (λ one. same_name one.name.text.now x) procedures) ≡ procedure_among x (map procedure_declaration procedures)
+    → option_map procedure_declaration (find (λ one. same_name one.name.text.now x) procedures)
+    ≡ procedure_among x (map procedure_declaration procedures)
 procedure_found x [] = refl
 procedure_found x (procedure ∷ procedures) =
     chosen procedure_declaration (same_name procedure.name.text.now x) procedure
     (find (λ one. same_name one.name.text.now x) procedures) (procedure_among x (map procedure_declaration procedures)) (procedure_found x procedures)
 
 -- the procedure that is lent, of a process that is there
-pub procedure_there : (program : Program) (k : ℕ) (x : List ℕ) (xs : List Process) (process : Process) (procedures : List Procedure) (r : Option (Bor Procedure))
+pub procedure_there : (program : Program) (k : ℕ) (x : List ℕ) (xs : List Process) (process : Process)
+    (procedures : List Procedure) (r : Option (Bor Procedure))
     → xs ≡ program.processes.items → slice_get xs k ≡ Some process → procedures ≡ process.procedures.items
     → option_map (λ procedure. procedure.now) r ≡ find (λ one. same_name one.name.text.now x) procedures
     → option_map (λ procedure. procedure_declaration procedure.now) r ≡ procedure_named (tree program) k x

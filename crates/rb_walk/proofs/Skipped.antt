@@ -42,7 +42,8 @@ performs_skipped tree message s rest (Printing items) = refl
 performs_skipped tree message s rest (Sending channel e) = refl
 performs_skipped tree message s rest (Receiving channel to other) = received tree (channel_number tree channel.text) to other rest s message
 performs_skipped tree message s rest (Conditional test (Scope variables commands) other) =
-    λ j. and_then (present_value s.environment test) (λ v. cond (is_zero v) (pushed_else tree.edition other rest s j) (pushes tree.edition (Scope variables commands) rest s))
+    λ j. and_then (present_value s.environment test)
+    (λ v. cond (is_zero v) (pushed_else tree.edition other rest s j) (pushes tree.edition (Scope variables commands) rest s))
 performs_skipped tree message s rest (Loop test (Scope variables commands)) = refl
 performs_skipped tree message s rest (Invocation procedure arguments) =
     λ j. and_then (values_in s.environment arguments) (λ values. called tree.edition (procedure_named tree s.process procedure.text) rest s values j)
@@ -56,4 +57,5 @@ pub comes_first : {A : Type 0} (tree : Tree) (message : Option ℤ) (s skipped n
 comes_first tree message s skipped new command form result left is came =
     let rest = rest_of s.items in
     let Came : Result State Cause → Type 0 = λ outcome. Comes outcome new result in
-    subst Came (ap (λ m. performs tree message m m.items form) left ∙ performs_skipped tree message s rest form ∙ ap (performs tree message s rest) (sym is)) came
+    subst Came (ap (λ m. performs tree message m m.items form) left ∙ performs_skipped tree message s rest form
+    ∙ ap (performs tree message s rest) (sym is)) came

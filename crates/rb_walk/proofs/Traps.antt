@@ -49,7 +49,8 @@ call_pushed names values vars env = push_call (bound_to (map identifier names) v
 pub call_full : (edition : Edition) (procedure : Procedure) (rest : List Item) (s : State) (values : List ℤ)
     → most_calls ≤ open_calls s.environment → IsTrap (calls_with edition (Some (procedure_declaration procedure)) rest s values)
 call_full edition procedure rest s values full =
-    let there : Result State Cause = within_words edition (call_pushed procedure.params.items values procedure.block.vars.items s.environment) (called procedure rest s) in
+    let there : Result State Cause =
+    within_words edition (call_pushed procedure.params.items values procedure.block.vars.items s.environment) (called procedure rest s) in
     (Calls, ap (λ b. cond b (Err Calls) there) (is_within most_calls (open_calls s.environment) full))
 
 -- one of two traps
@@ -58,12 +59,15 @@ either_trap true cause rest t = (cause, refl)
 either_trap false cause rest t = t
 
 -- a call whose parameters and variables would be too many words
-pub call_overflows : (edition : Edition) (procedure : Procedure) (rest : List Item) (s : State) (values : List ℤ) (most : ℕ) (names : List Name) (vars : List Var)
+pub call_overflows : (edition : Edition) (procedure : Procedure) (rest : List Item) (s : State) (values : List ℤ) (most : ℕ)
+    (names : List Name) (vars : List Var)
     → most ≡ most_words edition → names ≡ procedure.params.items → vars ≡ procedure.block.vars.items
-    → true ≡ nat_lt most (words (call_pushed names values vars s.environment)) → IsTrap (calls_with edition (Some (procedure_declaration procedure)) rest s values)
+    → true ≡ nat_lt most (words (call_pushed names values vars s.environment))
+    → IsTrap (calls_with edition (Some (procedure_declaration procedure)) rest s values)
 call_overflows edition procedure rest s values most names vars limit own declared over =
     let pushed : List Name → List Var → Environment = λ those these. call_pushed those values these s.environment in
     let there : Result State Cause = within_words edition (pushed procedure.params.items procedure.block.vars.items) (called procedure rest s) in
     either_trap (nat_le most_calls (open_calls s.environment)) Calls there
     (words_overflow edition (pushed procedure.params.items procedure.block.vars.items) (called procedure rest s) most limit
-    (over ∙ ap (λ those. nat_lt most (words (pushed those vars))) own ∙ ap (λ these. nat_lt most (words (pushed procedure.params.items these))) declared))
+    (over ∙ ap (λ those. nat_lt most (words (pushed those vars))) own
+    ∙ ap (λ these. nat_lt most (words (pushed procedure.params.items these))) declared))

@@ -46,7 +46,8 @@ left_not left w e h = none_left left w (nat_le w left) refl e h
 item_at : {A B : Type 0} (g : A → B) (xs : List A) (k : ℕ) (x : A) → k < length xs → x ≡ get_or xs k x → g x ≡ get_or (map g xs) k (g x)
 item_at g xs k x here is = ap g is ∙ sym (get_or-map g xs k x (g x) here)
 
-module _ {A B : Type 0} (g : A → B) (f : B → ℕ) (xs : List A) (k left w : ℕ) (x : A) (here : k < length xs) (is : x ≡ get_or xs k x) (words : w ≡ f (g x)) where
+module _ {A B : Type 0} (g : A → B) (f : B → ℕ) (xs : List A) (k left w : ℕ) (x : A) (here : k < length xs)
+    (is : x ≡ get_or xs k x) (words : w ≡ f (g x)) where
   -- one part more
   one_part : (n : ℕ) → n ≡ w + sum_by f (drop (k + 1) (map g xs)) → left_of left n ≡ left_of left (sum_by f (drop k (map g xs)))
   one_part n e =
@@ -74,7 +75,8 @@ pub sum_by-reverse : {A : Type 0} (f : A → ℕ) (xs : List A) → sum_by f (re
 sum_by-reverse f xs = sum_by-IsPermutation f xs (reverse xs) (IsPermutation-reverse xs)
 
 -- a declaration in memory stands for one of the list
-pub declared_at : (vs : List Var) (k : ℕ) (d : Var) → k < length vs → declaration (get_or vs k d) ≡ get_or (map declaration vs) k (declaration (get_or vs k d))
+pub declared_at : (vs : List Var) (k : ℕ) (d : Var) → k < length vs
+    → declaration (get_or vs k d) ≡ get_or (map declaration vs) k (declaration (get_or vs k d))
 declared_at vs k d here = item_at declaration vs k (get_or vs k d) here (get_or_default vs k d (get_or vs k d) here)
 
 -- and has as many words as its size
@@ -104,7 +106,8 @@ bound_words ps vs f = bound_words-each (map identifier ps) vs f ∙ ap (λ n. n 
 -- a call adds the words of its frame
 pushed_words : (f : Frame) (env : Environment) → words (push_call f env) ≡ words env + frame_words f
 pushed_words f env =
-    let call : sum_by frames_words ((f ∷ []) ∷ env.calls) ≡ frames_words (f ∷ []) + sum_by frames_words env.calls = sum_by-cons frames_words (f ∷ []) env.calls in
+    let call : sum_by frames_words ((f ∷ []) ∷ env.calls) ≡ frames_words (f ∷ []) + sum_by frames_words env.calls =
+    sum_by-cons frames_words (f ∷ []) env.calls in
     omega (arith, call)
 
 -- a call adds a word for each parameter, and the words of its block
@@ -117,7 +120,8 @@ next_numbers : (slots : List Slot) (k : ℕ) (slot : Slot) → k < length slots 
     → flat_map (λ stored. stored.values) (drop k (frame slots)) ≡ slot.values.items ++ flat_map (λ stored. stored.values) (drop (k + 1) (frame slots))
 next_numbers slots k slot here is =
     ap (flat_map (λ (s : Stored). s.values))
-    (drop_more (frame slots) k (stored slot) (omega (arith, length-map slots stored)) ∙ ap (λ s. s ∷ drop (k + 1) (frame slots)) (sym (item_at stored slots k slot here is)))
+    (drop_more (frame slots) k (stored slot) (omega (arith, length-map slots stored))
+    ∙ ap (λ s. s ∷ drop (k + 1) (frame slots)) (sym (item_at stored slots k slot here is)))
 
 -- a number of the next variable
 pub number_here : (slots : List Slot) (k i : ℕ) (slot : Slot) (v : ℤ) → k < length slots → slot ≡ get_or slots k slot → i < length slot.values.items
@@ -128,13 +132,17 @@ number_here slots k i slot v here is within e =
     ∙ ap (λ ns. get_or ns i (pos 0)) (sym (next_numbers slots k slot here is))
 
 -- a number of the others
-pub number_later : (slots : List Slot) (k i w : ℕ) (slot : Slot) → k < length slots → slot ≡ get_or slots k slot → length slot.values.items ≡ w → w ≤ i
-    → get_or (flat_map (λ stored. stored.values) (drop (k + 1) (frame slots))) (i - w) (pos 0) ≡ get_or (flat_map (λ stored. stored.values) (drop k (frame slots))) i (pos 0)
+pub number_later : (slots : List Slot) (k i w : ℕ) (slot : Slot) → k < length slots → slot ≡ get_or slots k slot
+    → length slot.values.items ≡ w → w ≤ i
+    → get_or (flat_map (λ stored. stored.values) (drop (k + 1) (frame slots))) (i - w) (pos 0)
+    ≡ get_or (flat_map (λ stored. stored.values) (drop k (frame slots))) i (pos 0)
 number_later slots k i w slot here is many beyond =
     sym (get_or-append_right slot.values.items (flat_map (λ (s : Stored). s.values) (drop (k + 1) (frame slots))) w i (pos 0) many beyond)
     ∙ ap (λ ns. get_or ns i (pos 0)) (sym (next_numbers slots k slot here is))
 
 -- no variable is left
-pub number_beyond : (slots : List Slot) (k i : ℕ) → length slots ≤ k → pos 0 ≡ get_or (flat_map (λ stored. stored.values) (drop k (frame slots))) i (pos 0)
+pub number_beyond : (slots : List Slot) (k i : ℕ) → length slots ≤ k
+    → pos 0 ≡ get_or (flat_map (λ stored. stored.values) (drop k (frame slots))) i (pos 0)
 number_beyond slots k i h =
-    ap (λ (fs : Frame). get_or (flat_map (λ (s : Stored). s.values) fs) i (pos 0)) (sym (drop_all k (frame slots) (omega (arith, length-map slots stored))))
+    ap (λ (fs : Frame). get_or (flat_map (λ (s : Stored). s.values) fs) i (pos 0))
+    (sym (drop_all k (frame slots) (omega (arith, length-map slots stored))))

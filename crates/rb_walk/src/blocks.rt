@@ -108,7 +108,9 @@ impl<'t, 'a> State<'t, 'a> {
         name: &Name<'a>,
         arguments: &[Expr<'a>],
     ) -> Result<(), Halt>
-        ensures { Comes (invokes (tree program.now) (identifier name.now) (map expression arguments.now) (state_of self.old).items (state_of self.old)) (state_of self.new) result }
+        ensures { Comes
+            (invokes (tree program.now) (identifier name.now) (map expression arguments.now) (state_of self.old).items (state_of self.old))
+            (state_of self.new) result }
     {
         let values = values_of(alloc, &self.environment, arguments)?;
         match procedure_named(program, self.number, name.text) {
@@ -125,7 +127,9 @@ impl<'t, 'a> State<'t, 'a> {
         procedure: &'t Procedure<'a>,
         values: &[i64],
     ) -> Result<(), Halt>
-        ensures { Comes (calls_with edition (Some (procedure_declaration procedure.now)) (state_of self.old).items (state_of self.old) values.now) (state_of self.new) result }
+        ensures { Comes
+            (calls_with edition (Some (procedure_declaration procedure.now)) (state_of self.old).items (state_of self.old) values.now)
+            (state_of self.new) result }
     {
         if self.environment.open_calls() >= MOST_OPEN_CALLS as usize {
             return Err(Halt::Stuck);
@@ -168,7 +172,10 @@ impl<'t, 'a> State<'t, 'a> {
     /// The acceptance test of a recovery block, given the variables at the innermost recovery point, if there is one: it holds, or the run
     /// is stuck.
     pub fn judge(&self, block: &Recovery<'a>, prior: Option<&Environment<'a>>) -> Result<(), Halt>
-        ensures { Judges (value (state_of self.now).environment (former (state_of self.now).environment (option_map (λ e. e.now) prior.entry)) [] (test_in (recovery_block block.now))) result }
+        ensures { Judges
+            (value (state_of self.now).environment
+            (former (state_of self.now).environment (option_map (λ e. e.now) prior.entry)) []
+            (test_in (recovery_block block.now))) result }
     {
         match tested(&self.environment, prior, &block.test) {
             Err(_) => Err(Halt::Stuck),

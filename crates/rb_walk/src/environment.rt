@@ -93,7 +93,8 @@ impl<'a> Environment<'a> {
         values: &[i64],
         variables: &[Var<'a>],
     ) -> Result<(), Memory>
-        ensures { OnOk result (self.new ≡ push_call (bound_to (map identifier parameters.now) values.now ++ frame_of (map declaration variables.now)) self.old) }
+        ensures { OnOk result
+            (self.new ≡ push_call (bound_to (map identifier parameters.now) values.now ++ frame_of (map declaration variables.now)) self.old) }
     {
         let slots = call_frame(alloc, parameters, values, variables)?;
         let mut frames = Vec::new(alloc);
@@ -142,7 +143,9 @@ impl<'a> Environment<'a> {
         variables: &[Var<'a>],
         most: usize,
     ) -> bool
-        ensures { result ≡ nat_lt most (words (push_call (bound_to (map identifier parameters.now) values.now ++ frame_of (map declaration variables.now)) self.now)) }
+        ensures { result
+            ≡ nat_lt most
+            (words (push_call (bound_to (map identifier parameters.now) values.now ++ frame_of (map declaration variables.now)) self.now)) }
     {
         match self.room(most) {
             None => true,
@@ -225,7 +228,8 @@ fn set(slots: &mut [Slot<'_>], name: &[u8], index: usize, value: i64) -> bool
 /// Replaces a number in the innermost frame of the running call that has the variable, and tells whether one has it.
 fn set_running(calls: &mut Vec<Call<'_>>, name: &[u8], index: usize, value: i64) -> bool
     ensures found { result ≡ list_any (has name.now) (running_frames (calls_of calls.old.items)) }
-    ensures after { calls_of calls.new.items ≡ cond result (in_running (stored_among name.now index value) (calls_of calls.old.items)) (calls_of calls.old.items) }
+    ensures after { calls_of calls.new.items
+        ≡ cond result (in_running (stored_among name.now index value) (calls_of calls.old.items)) (calls_of calls.old.items) }
 {
     match calls.last_mut() {
         Some(call) => set_among(&mut call.frames, name, index, value),
@@ -236,7 +240,8 @@ fn set_running(calls: &mut Vec<Call<'_>>, name: &[u8], index: usize, value: i64)
 /// The same among these frames, the innermost last.
 fn set_among(frames: &mut [Vec<Slot<'_>>], name: &[u8], index: usize, value: i64) -> bool
     ensures found { result ≡ list_any (has name.now) (reverse (map (λ slots. frame slots.items) frames.old)) }
-    ensures after { reverse (map (λ slots. frame slots.items) frames.new) ≡ stored_among name.now index value (reverse (map (λ slots. frame slots.items) frames.old)) }
+    ensures after { reverse (map (λ slots. frame slots.items) frames.new)
+        ≡ stored_among name.now index value (reverse (map (λ slots. frame slots.items) frames.old)) }
 {
     let mut left = frames.len();
     while left > 0 {

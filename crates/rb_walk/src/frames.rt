@@ -144,7 +144,8 @@ pub fn call_frame<'a>(
     values: &[i64],
     variables: &[Var<'a>],
 ) -> Result<Vec<Slot<'a>>, Memory>
-    ensures { IfOk result (λ slots. frame slots.items ≡ bound_to (map identifier parameters.now) values.now ++ frame_of (map declaration variables.now)) }
+    ensures { IfOk result
+        (λ slots. frame slots.items ≡ bound_to (map identifier parameters.now) values.now ++ frame_of (map declaration variables.now)) }
 {
     let mut slots = bound(alloc, parameters, values)?;
     push_zeros(&mut slots, alloc, variables)?;

@@ -25,7 +25,9 @@ impl<'t, 'a> State<'t, 'a> {
         statement: &'t Statement<'a>,
     ) -> Result<(), Halt>
         requires { StandsFirst (Perform (command statement.now)) (state_of self.old).items }
-        ensures { Comes (performs (tree program.now) message (state_of self.old) (rest_of (state_of self.old).items) (command statement.now)) (state_of self.new) result }
+        ensures { Comes
+            (performs (tree program.now) message (state_of self.old) (rest_of (state_of self.old).items) (command statement.now))
+            (state_of self.new) result }
     {
         match statement {
             Statement::Assign(to, value) => {

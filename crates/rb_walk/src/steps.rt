@@ -89,7 +89,8 @@ impl<'t, 'a> State<'t, 'a> {
 // A value joins those that were sent on a channel.
 #[tactic(auto, using(crate::proofs::Changes::changes))]
 fn add_sent(sent: &mut [Vec<i64>], channel: usize, value: i64) -> Result<(), Memory>
-    ensures { OnOk result (map (λ values. values.items) sent.new ≡ change_at channel (λ values. values ++ value ∷ []) (map (λ values. values.items) sent.old)) }
+    ensures { OnOk result
+        (map (λ values. values.items) sent.new ≡ change_at channel (λ values. values ++ value ∷ []) (map (λ values. values.items) sent.old)) }
 {
     if channel < sent.len() {
         sent[channel].push(value)?;

@@ -118,7 +118,10 @@ fn over_span(
     counters: &Counters<'_>,
     over: &Quantified<'_>,
 ) -> Result<i64, Cause>
-    ensures { result ≡ over_span over.now.kind (value environment.now prior.now (counted counters.now) (plain over.now.low.value)) (value environment.now prior.now (counted counters.now) (plain over.now.high.value)) (body_values environment.now prior.now counters.now over.now) }
+    ensures { result ≡ over_span over.now.kind
+        (value environment.now prior.now (counted counters.now) (plain over.now.low.value))
+        (value environment.now prior.now (counted counters.now) (plain over.now.high.value))
+        (body_values environment.now prior.now counters.now over.now) }
 {
     let first = value_of(environment, prior, counters, &over.low)?;
     let last = value_of(environment, prior, counters, &over.high)?;

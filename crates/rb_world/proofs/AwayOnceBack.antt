@@ -26,13 +26,15 @@ module _ {S C M : Type 0} (k : Kind S C M) where
   put_back_away j q level e = back_to_away j q level (slice_get q.levels j) e
 
   -- who has a level of the conversation
-  inside_away : (c : ℕ) (q : Process S C) (place : Option ℕ) → position (is_of c) q.levels ≡ place → is_inside c q ≡ true → (at_place (put_back k) place q).at_line ≡ false
+  inside_away : (c : ℕ) (q : Process S C) (place : Option ℕ) → position (is_of c) q.levels ≡ place → is_inside c q ≡ true
+      → (at_place (put_back k) place q).at_line ≡ false
   inside_away c q None e inside = absurd (no_place (is_of c) q.levels inside e)
   inside_away c q (Some j) e inside =
       let at : IsLevelOf c q.levels j = level_at_place c j q.levels e in
       put_back_away j q at.level at.there
 
-  still_inside : (c : ℕ) (q : Process S C) (place : Option ℕ) → position (is_of c) q.levels ≡ place → is_inside c (at_place (put_back k) place q) ≡ true
+  still_inside : (c : ℕ) (q : Process S C) (place : Option ℕ) → position (is_of c) q.levels ≡ place
+      → is_inside c (at_place (put_back k) place q) ≡ true
       → (at_place (put_back k) place q).at_line ≡ false
   still_inside c q None e inside = absurd (no_place (is_of c) q.levels inside e)
   still_inside c q (Some j) e inside =
@@ -46,7 +48,8 @@ module _ {S C M : Type 0} (k : Kind S C M) where
   level_there (Some q) j level e = (q, refl, e)
 
   -- the process whose private level is rejected
-  pub away_alone : (p j : ℕ) (w : World S C M) (level : Level C) → slice_get (process_levels w p) j ≡ Some level → StandsAway p (with_process p (put_back k j) w)
+  pub away_alone : (p j : ℕ) (w : World S C M) (level : Level C) → slice_get (process_levels w p) j ≡ Some level
+      → StandsAway p (with_process p (put_back k j) w)
   away_alone p j w level there q' e =
       let found = level_there (slice_get w.processes p) j level there in
       subst (λ (z : Process S C). z.at_line ≡ false)
@@ -54,7 +57,8 @@ module _ {S C M : Type 0} (k : Kind S C M) where
       (put_back_away j found.0 level found.2)
 
   -- the process whose level of a conversation is rejected
-  pub away_together : (p j c : ℕ) (w : World S C M) (level : Level C) → slice_get (process_levels w p) j ≡ Some level → level.facts.conversation ≡ Some c
+  pub away_together : (p j c : ℕ) (w : World S C M) (level : Level C) → slice_get (process_levels w p) j ≡ Some level
+      → level.facts.conversation ≡ Some c
       → StandsAway p (all_back k c w)
   away_together p j c w level there of_c q' e =
       let found = level_there (slice_get w.processes p) j level there in
@@ -63,7 +67,8 @@ module _ {S C M : Type 0} (k : Kind S C M) where
       (inside_away c found.0 (position (is_of c) found.0.levels) refl
       (any_level c j found.0.levels (record { level = level; there = found.2; of_it = of_c })))
 
-  back_inside : (c : ℕ) (o : Option (Process S C)) (q' : Process S C) → option_map (where_inside (put_back k) c) o ≡ Some q' → is_inside c q' ≡ true → q'.at_line ≡ false
+  back_inside : (c : ℕ) (o : Option (Process S C)) (q' : Process S C) → option_map (where_inside (put_back k) c) o ≡ Some q'
+      → is_inside c q' ≡ true → q'.at_line ≡ false
   back_inside c None q' e inside = absurd (none_some e)
   back_inside c (Some q) q' e inside =
       subst (λ (z : Process S C). z.at_line ≡ false) (some_same e)

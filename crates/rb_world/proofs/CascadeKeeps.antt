@@ -24,24 +24,28 @@ at_place-status k None q = refl
 at_place-status k (Some j) q = put_back-status k j q
 
 -- who is process p runs on in the world after a put-back
-pub runs_put_back : {S C M : Type 0} (k : Kind S C M) {p : ℕ} {q : Process S C} {w : World S C M} (j : ℕ) → RunsAt p q w → RunsAt p (put_back k j q) (with_process p (put_back k j) w)
+pub runs_put_back : {S C M : Type 0} (k : Kind S C M) {p : ℕ} {q : Process S C} {w : World S C M} (j : ℕ) → RunsAt p q w
+    → RunsAt p (put_back k j q) (with_process p (put_back k j) w)
 runs_put_back k {p} {q} {w} j runs = record {
   there = slice_get-change_at p (put_back k j) w.processes ∙ ap (option_map (put_back k j)) runs.there;
   running = put_back-status k j q ∙ runs.running;
 }
 
-pub runs_all_back : {S C M : Type 0} (k : Kind S C M) {p : ℕ} {q : Process S C} {w : World S C M} (c : ℕ) → RunsAt p q w → RunsAt p (where_inside (put_back k) c q) (all_back k c w)
+pub runs_all_back : {S C M : Type 0} (k : Kind S C M) {p : ℕ} {q : Process S C} {w : World S C M} (c : ℕ) → RunsAt p q w
+    → RunsAt p (where_inside (put_back k) c q) (all_back k c w)
 runs_all_back k {p} {q} {w} c runs = record {
   there = slice_get-map (where_inside (put_back k) c) w.processes p ∙ ap (option_map (where_inside (put_back k) c)) runs.there;
   running = at_place-status k (position (is_of c) q.levels) q ∙ runs.running;
 }
 
-module _ {S C M : Type 0} {k : Kind S C M} {before : Between S C M} {during : Within S C M} {after : Between S C M} (laws : IsInvariant k before during after) where
+module _ {S C M : Type 0} {k : Kind S C M} {before : Between S C M} {during : Within S C M} {after : Between S C M}
+    (laws : IsInvariant k before during after) where
   -- the rest of a cascade, from the next level out
   abbrev Rest : ℕ → List Told → ℕ → ℕ → (World S C M → Happened S C M) → Type 0
   Rest t past p left outer = (q : Process S C) (w : World S C M) → during t past p left w → RunsAt p q w → after t past (outer w).0
 
-  private_next-keeps : (t : ℕ) (past : List Told) (p : ℕ) (q : Process S C) (w : World S C M) (j : ℕ) (level : Level C) (outer : World S C M → Happened S C M)
+  private_next-keeps : (t : ℕ) (past : List Told) (p : ℕ) (q : Process S C) (w : World S C M) (j : ℕ) (level : Level C)
+      (outer : World S C M → Happened S C M)
       → during t past p (suc j) w → RejectsAt p q w j level → level.facts.conversation ≡ None → Rest t past p j outer
       → (more : Bool) → nat_lt level.alternate level.facts.alternates ≡ more
       → after t past (private_next more p j (with_process p (put_back k j) w) outer).0
@@ -52,8 +56,10 @@ module _ {S C M : Type 0} {k : Kind S C M} {before : Between S C M} {during : Wi
       (laws.is_spent t past p q w j level holds rejects alone (ltb-false level.alternate level.facts.alternates e))
       (runs_put_back k j rejects.runs)
 
-  exhausted_next-keeps : (t : ℕ) (past : List Told) (p : ℕ) (q : Process S C) (w : World S C M) (j : ℕ) (level : Level C) (c : ℕ) (outer : World S C M → Happened S C M)
-      → during t past p (suc j) w → RejectsAt p q w j level → level.facts.conversation ≡ Some c → nat_lt level.alternate level.facts.alternates ≡ false
+  exhausted_next-keeps : (t : ℕ) (past : List Told) (p : ℕ) (q : Process S C) (w : World S C M) (j : ℕ) (level : Level C)
+      (c : ℕ) (outer : World S C M → Happened S C M)
+      → during t past p (suc j) w → RejectsAt p q w j level → level.facts.conversation ≡ Some c
+      → nat_lt level.alternate level.facts.alternates ≡ false
       → Rest t past p j outer → (parent : Option ℕ) → parent_of (slice_get k.groups c) ≡ parent
       → after t past (exhausted_next k parent c (all_back k c w) outer).0
   exhausted_next-keeps t past p q w j level c outer holds rejects of_c spent rest None e =
@@ -63,7 +69,8 @@ module _ {S C M : Type 0} {k : Kind S C M} {before : Between S C M} {during : Wi
       (laws.all_are_spent t past p q w j level c parent holds rejects of_c (ltb-false level.alternate level.facts.alternates spent) e)
       (record { there = (runs_all_back k c rejects.runs).there; running = (runs_all_back k c rejects.runs).running })
 
-  together_next-keeps : (t : ℕ) (past : List Told) (p : ℕ) (q : Process S C) (w : World S C M) (j : ℕ) (level : Level C) (c : ℕ) (outer : World S C M → Happened S C M)
+  together_next-keeps : (t : ℕ) (past : List Told) (p : ℕ) (q : Process S C) (w : World S C M) (j : ℕ) (level : Level C)
+      (c : ℕ) (outer : World S C M → Happened S C M)
       → during t past p (suc j) w → RejectsAt p q w j level → level.facts.conversation ≡ Some c → Rest t past p j outer
       → (more : Bool) → nat_lt level.alternate level.facts.alternates ≡ more
       → after t past (together_next k more c (all_back k c w) outer).0
@@ -72,7 +79,8 @@ module _ {S C M : Type 0} {k : Kind S C M} {before : Between S C M} {during : Wi
   together_next-keeps t past p q w j level c outer holds rejects of_c rest false e =
       exhausted_next-keeps t past p q w j level c outer holds rejects of_c e rest (parent_of (slice_get k.groups c)) refl
 
-  reject_either-keeps : (t : ℕ) (past : List Told) (p : ℕ) (q : Process S C) (w : World S C M) (j : ℕ) (cause : Cause) (level : Level C) (outer : World S C M → Happened S C M)
+  reject_either-keeps : (t : ℕ) (past : List Told) (p : ℕ) (q : Process S C) (w : World S C M) (j : ℕ) (cause : Cause)
+      (level : Level C) (outer : World S C M → Happened S C M)
       → during t past p (suc j) w → RejectsAt p q w j level → Rest t past p j outer
       → (conversation : Option ℕ) → level.facts.conversation ≡ conversation
       → after t past (reject_either k p j cause level conversation w outer).0
@@ -81,7 +89,8 @@ module _ {S C M : Type 0} {k : Kind S C M} {before : Between S C M} {during : Wi
   reject_either-keeps t past p q w j cause level outer holds rejects rest (Some c) e =
       together_next-keeps t past p q w j level c outer holds rejects e rest (nat_lt level.alternate level.facts.alternates) refl
 
-  reject_at-keeps : (t : ℕ) (past : List Told) (p : ℕ) (q : Process S C) (w : World S C M) (j : ℕ) (cause : Cause) (outer : World S C M → Happened S C M)
+  reject_at-keeps : (t : ℕ) (past : List Told) (p : ℕ) (q : Process S C) (w : World S C M) (j : ℕ) (cause : Cause)
+      (outer : World S C M → Happened S C M)
       → during t past p (suc j) w → RunsAt p q w → Rest t past p j outer
       → (level : Option (Level C)) → slice_get q.levels j ≡ level
       → after t past (reject_at k p j cause level w outer).0

@@ -13,7 +13,8 @@ use Rattle.rb_world.proofs.AwayOnceBack.{StandsAway, AllAway, away_alone, away_t
 use Rattle.rb_world.proofs.ProcessesMeet.{ProcessesMeet, WorldsMeet, get_meets, map_meets, change_meets, fallen_meets, fallen_inside_meets, put_back_meets, raised_meets, where_inside_meets}
 
 -- related worlds, and the same events
-pub record HappenedMeet {S C M T D N : Type 0} (shared : Shared M N) (related : Related S C M T D N) (x : Happened S C M) (y : Happened T D N) : Type 0 where
+pub record HappenedMeet {S C M T D N : Type 0} (shared : Shared M N) (related : Related S C M T D N) (x : Happened S C M)
+    (y : Happened T D N) : Type 0 where
   pub worlds : WorldsMeet shared related x.0 y.0
   pub events : x.1 ≡ y.1
 
@@ -38,7 +39,8 @@ module _ {S C M T D N : Type 0} {shared : Shared M N} {related : Related S C M T
       → WorldsMeet shared related w v → WorldsMeet shared related (with_process p f w) (with_process p g v)
   with_process_meets w v p f g one meets = record {
     memories = meets.memories;
-    processes = change_meets related w.memory v.memory w.memory v.memory p f g w.processes v.processes (λ i q r _ _ e. e) (λ q r _ _. one q r) meets.processes;
+    processes = change_meets related w.memory v.memory w.memory v.memory p f g w.processes v.processes (λ i q r _ _ e. e)
+        (λ q r _ _. one q r) meets.processes;
     talks = meets.talks;
   }
 
@@ -52,16 +54,20 @@ module _ {S C M T D N : Type 0} {shared : Shared M N} {related : Related S C M T
   }
 
   -- whoever falls stands at no line
-  pub falls_meets : {k : Kind S C M} {l : Kind T D N} {known : Knowing S C M} → IsSimulation k l shared related known → (p : ℕ) (cause : Cause) (w : World S C M) (v : World T D N)
-      → StandsAway p w → WorldsMeet shared related w v → WorldsMeet shared related (with_process p (fallen k cause) w) (with_process p (fallen l cause) v)
+  pub falls_meets : {k : Kind S C M} {l : Kind T D N} {known : Knowing S C M} → IsSimulation k l shared related known
+      → (p : ℕ) (cause : Cause) (w : World S C M) (v : World T D N)
+      → StandsAway p w → WorldsMeet shared related w v
+      → WorldsMeet shared related (with_process p (fallen k cause) w) (with_process p (fallen l cause) v)
   falls_meets {k} {l} laws p cause w v away meets = record {
     memories = meets.memories;
-    processes = change_meets related w.memory v.memory w.memory v.memory p (fallen k cause) (fallen l cause) w.processes v.processes (λ i q r _ _ e. e)
+    processes =
+        change_meets related w.memory v.memory w.memory v.memory p (fallen k cause) (fallen l cause) w.processes v.processes (λ i q r _ _ e. e)
         (λ q r there _. fallen_meets laws w.memory v.memory cause q r (away q there)) meets.processes;
     talks = meets.talks;
   }
 
-  all_fall_meets : {k : Kind S C M} {l : Kind T D N} {known : Knowing S C M} → IsSimulation k l shared related known → (c : ℕ) (w : World S C M) (v : World T D N)
+  all_fall_meets : {k : Kind S C M} {l : Kind T D N} {known : Knowing S C M} → IsSimulation k l shared related known
+      → (c : ℕ) (w : World S C M) (v : World T D N)
       → AllAway c w → WorldsMeet shared related w v → WorldsMeet shared related (with_each (fallen_inside k c) w) (with_each (fallen_inside l c) v)
   all_fall_meets {k} {l} laws c w v away meets = record {
     memories = meets.memories;
@@ -79,12 +85,15 @@ module _ {S C M T D N : Type 0} {shared : Shared M N} {related : Related S C M T
   after_event_meets event event' x y e meets = record { worlds = meets.worlds; events = ap₂ ◌∷◌ e meets.events }
 
 -- the rest of a cascade does the same on both sides, where process p stands at no line
-abbrev RestMeets : {S C M T D N : Type 0} → Shared M N → Related S C M T D N → ℕ → (World S C M → Happened S C M) → (World T D N → Happened T D N) → Type 0
+abbrev RestMeets : {S C M T D N : Type 0} → Shared M N → Related S C M T D N → ℕ → (World S C M → Happened S C M)
+    → (World T D N → Happened T D N) → Type 0
 RestMeets {S} {C} {M} {T} {D} {N} shared related p outer outer' =
     (w : World S C M) (v : World T D N) → StandsAway p w → WorldsMeet shared related w v → HappenedMeet shared related (outer w) (outer' v)
 
-module _ {S C M T D N : Type 0} {k : Kind S C M} {l : Kind T D N} {shared : Shared M N} {related : Related S C M T D N} {known : Knowing S C M} (laws : IsSimulation k l shared related known) where
-  private_next_meets : (more more' : Bool) → more ≡ more' → (p j : ℕ) (w : World S C M) (v : World T D N) (outer : World S C M → Happened S C M) (outer' : World T D N → Happened T D N)
+module _ {S C M T D N : Type 0} {k : Kind S C M} {l : Kind T D N} {shared : Shared M N} {related : Related S C M T D N} {known : Knowing S C M}
+    (laws : IsSimulation k l shared related known) where
+  private_next_meets : (more more' : Bool) → more ≡ more'
+      → (p j : ℕ) (w : World S C M) (v : World T D N) (outer : World S C M → Happened S C M) (outer' : World T D N → Happened T D N)
       → StandsAway p w → WorldsMeet shared related w v → RestMeets shared related p outer outer'
       → HappenedMeet shared related (private_next more p j w outer) (private_next more' p j v outer')
   private_next_meets more more' e p j w v outer outer' away meets rest =
@@ -94,7 +103,8 @@ module _ {S C M T D N : Type 0} {k : Kind S C M} {l : Kind T D N} {shared : Shar
       go true = record { worlds = with_process_meets w v p (raised j) (raised j) (raised_meets related w.memory v.memory j) meets; events = refl }
       go false = rest w v away meets
 
-  reject_private_meets : (p j : ℕ) (cause : Cause) (x : Level C) (y : Level D) (w : World S C M) (v : World T D N) (outer : World S C M → Happened S C M) (outer' : World T D N → Happened T D N)
+  reject_private_meets : (p j : ℕ) (cause : Cause) (x : Level C) (y : Level D) (w : World S C M) (v : World T D N)
+      (outer : World S C M → Happened S C M) (outer' : World T D N → Happened T D N)
       → SameMark x y → slice_get (process_levels w p) j ≡ Some x → WorldsMeet shared related w v → RestMeets shared related p outer outer'
       → HappenedMeet shared related (reject_private k p j cause x w outer) (reject_private l p j cause y v outer')
   reject_private_meets p j cause x y w v outer outer' same there meets rest =
@@ -104,15 +114,18 @@ module _ {S C M T D N : Type 0} {k : Kind S C M} {l : Kind T D N} {shared : Shar
       p j (with_process p (put_back k j) w) (with_process p (put_back l j) v) outer outer' (away_alone k p j w x there)
       (with_process_meets w v p (put_back k j) (put_back l j) (put_back_meets laws w.memory v.memory j) meets) rest)
 
-  all_back_meets : (c : ℕ) (w : World S C M) (v : World T D N) → WorldsMeet shared related w v → WorldsMeet shared related (all_back k c w) (all_back l c v)
+  all_back_meets : (c : ℕ) (w : World S C M) (v : World T D N) → WorldsMeet shared related w v
+      → WorldsMeet shared related (all_back k c w) (all_back l c v)
   all_back_meets c w v meets =
-      subst (λ (groups : List Membership). WorldsMeet shared related (all_back k c w) (with_talks (reset_below groups c) (with_each (where_inside (put_back l) c) v)))
+      subst (λ (groups : List Membership). WorldsMeet shared related (all_back k c w)
+      (with_talks (reset_below groups c) (with_each (where_inside (put_back l) c) v)))
       laws.groups
       (with_talks_meets (with_each (where_inside (put_back k) c) w) (with_each (where_inside (put_back l) c) v) (reset_below k.groups c)
       (with_each_meets w v (where_inside (put_back k) c) (where_inside (put_back l) c)
       (where_inside_meets related w.memory v.memory (put_back k) (put_back l) (put_back_meets laws w.memory v.memory) c) meets))
 
-  exhausted_next_meets : (parent parent' : Option ℕ) → parent ≡ parent' → (p c : ℕ) (w : World S C M) (v : World T D N) (outer : World S C M → Happened S C M) (outer' : World T D N → Happened T D N)
+  exhausted_next_meets : (parent parent' : Option ℕ) → parent ≡ parent'
+      → (p c : ℕ) (w : World S C M) (v : World T D N) (outer : World S C M → Happened S C M) (outer' : World T D N → Happened T D N)
       → StandsAway p w → AllAway c w → WorldsMeet shared related w v → RestMeets shared related p outer outer'
       → HappenedMeet shared related (exhausted_next k parent c w outer) (exhausted_next l parent' c v outer')
   exhausted_next_meets parent parent' e p c w v outer outer' away all meets rest =
@@ -127,7 +140,8 @@ module _ {S C M T D N : Type 0} {k : Kind S C M} {l : Kind T D N} {shared : Shar
       go (Some d) = rest (with_talks (change_at c first_again) w) (with_talks (change_at c first_again) v) away
           (with_talks_meets w v (change_at c first_again) meets)
 
-  together_next_meets : (more more' : Bool) → more ≡ more' → (p c : ℕ) (w : World S C M) (v : World T D N) (outer : World S C M → Happened S C M) (outer' : World T D N → Happened T D N)
+  together_next_meets : (more more' : Bool) → more ≡ more'
+      → (p c : ℕ) (w : World S C M) (v : World T D N) (outer : World S C M → Happened S C M) (outer' : World T D N → Happened T D N)
       → StandsAway p w → AllAway c w → WorldsMeet shared related w v → RestMeets shared related p outer outer'
       → HappenedMeet shared related (together_next k more c w outer) (together_next l more' c v outer')
   together_next_meets more more' e p c w v outer outer' away all meets rest =
@@ -143,7 +157,8 @@ module _ {S C M T D N : Type 0} {k : Kind S C M} {l : Kind T D N} {shared : Shar
       go false = exhausted_next_meets (parent_of (slice_get k.groups c)) (parent_of (slice_get l.groups c))
           (ap (λ (groups : List Membership). parent_of (slice_get groups c)) laws.groups) p c w v outer outer' away all meets rest
 
-  reject_together_meets : (p c : ℕ) (cause : Cause) (x : Level C) (y : Level D) (w : World S C M) (v : World T D N) (outer : World S C M → Happened S C M) (outer' : World T D N → Happened T D N)
+  reject_together_meets : (p c : ℕ) (cause : Cause) (x : Level C) (y : Level D) (w : World S C M) (v : World T D N)
+      (outer : World S C M → Happened S C M) (outer' : World T D N → Happened T D N)
       → SameMark x y → StandsAway p (all_back k c w) → WorldsMeet shared related w v → RestMeets shared related p outer outer'
       → HappenedMeet shared related (reject_together k p c cause x w outer) (reject_together l p c cause y v outer')
   reject_together_meets p c cause x y w v outer outer' same away meets rest =
@@ -152,21 +167,26 @@ module _ {S C M T D N : Type 0} {k : Kind S C M} {l : Kind T D N} {shared : Shar
       (ap₂ (λ (facts : Facts) (a : ℕ). nat_lt a facts.alternates) same.facts same.alternate)
       p c (all_back k c w) (all_back l c v) outer outer' away (away_inside k c w) (all_back_meets c w v meets) rest)
 
-  reject_either_meets : (p j : ℕ) (cause : Cause) (x : Level C) (y : Level D) (conversation : Option ℕ) (w : World S C M) (v : World T D N) (outer : World S C M → Happened S C M) (outer' : World T D N → Happened T D N)
-      → SameMark x y → slice_get (process_levels w p) j ≡ Some x → x.facts.conversation ≡ conversation → WorldsMeet shared related w v → RestMeets shared related p outer outer'
+  reject_either_meets : (p j : ℕ) (cause : Cause) (x : Level C) (y : Level D) (conversation : Option ℕ) (w : World S C M)
+      (v : World T D N) (outer : World S C M → Happened S C M) (outer' : World T D N → Happened T D N)
+      → SameMark x y → slice_get (process_levels w p) j ≡ Some x → x.facts.conversation ≡ conversation
+      → WorldsMeet shared related w v → RestMeets shared related p outer outer'
       → HappenedMeet shared related (reject_either k p j cause x conversation w outer) (reject_either l p j cause y conversation v outer')
-  reject_either_meets p j cause x y None w v outer outer' same there of_c meets rest = reject_private_meets p j cause x y w v outer outer' same there meets rest
+  reject_either_meets p j cause x y None w v outer outer' same there of_c meets rest =
+      reject_private_meets p j cause x y w v outer outer' same there meets rest
   reject_either_meets p j cause x y (Some c) w v outer outer' same there of_c meets rest =
       reject_together_meets p c cause x y w v outer outer' same (away_together k p j c w x there of_c) meets rest
 
-  reject_at_meets : (p j : ℕ) (cause : Cause) (x : Option (Level C)) (y : Option (Level D)) (w : World S C M) (v : World T D N) (outer : World S C M → Happened S C M) (outer' : World T D N → Happened T D N)
+  reject_at_meets : (p j : ℕ) (cause : Cause) (x : Option (Level C)) (y : Option (Level D)) (w : World S C M)
+      (v : World T D N) (outer : World S C M → Happened S C M) (outer' : World T D N → Happened T D N)
       → OptionsMeet SameMark x y → slice_get (process_levels w p) j ≡ x → WorldsMeet shared related w v → RestMeets shared related p outer outer'
       → HappenedMeet shared related (reject_at k p j cause x w outer) (reject_at l p j cause y v outer')
   reject_at_meets p j cause None None w v outer outer' same there meets rest = record { worlds = meets; events = refl }
   reject_at_meets p j cause None (Some y) w v outer outer' same there meets rest = absurd same
   reject_at_meets p j cause (Some x) None w v outer outer' same there meets rest = absurd same
   reject_at_meets p j cause (Some x) (Some y) w v outer outer' same there meets rest =
-      subst (λ (conversation : Option ℕ). HappenedMeet shared related (reject_at k p j cause (Some x) w outer) (reject_either l p j cause y conversation v outer'))
+      subst (λ (conversation : Option ℕ). HappenedMeet shared related (reject_at k p j cause (Some x) w outer)
+      (reject_either l p j cause y conversation v outer'))
       (ap (λ (facts : Facts). facts.conversation) same.facts)
       (reject_either_meets p j cause x y x.facts.conversation w v outer outer' same there refl meets rest)
 

@@ -14,13 +14,15 @@ CopiesMeet cs ds None (Some y) = ⊥
 CopiesMeet cs ds (Some x) None = ⊥
 CopiesMeet cs ds (Some x) (Some y) = (j : ℕ) × (slice_get cs j ≡ Some x) × (slice_get ds j ≡ Some y)
 
-further_in : {C D : Type 0} (c : C) (cs : List C) (d : D) (ds : List D) (x : Option C) (y : Option D) → CopiesMeet cs ds x y → CopiesMeet (c ∷ cs) (d ∷ ds) x y
+further_in : {C D : Type 0} (c : C) (cs : List C) (d : D) (ds : List D) (x : Option C) (y : Option D) → CopiesMeet cs ds x y
+    → CopiesMeet (c ∷ cs) (d ∷ ds) x y
 further_in c cs d ds None None e = tt
 further_in c cs d ds None (Some y) e = absurd e
 further_in c cs d ds (Some x) None e = absurd e
 further_in c cs d ds (Some x) (Some y) e = (suc e.0, e.1, e.2)
 
-seen_copies : {C D : Type 0} (ls : List (Level C)) (ms : List (Level D)) (ls' : List (Level C)) (ms' : List (Level D)) → SameMarks ls ms → SameMarks ls' ms'
+seen_copies : {C D : Type 0} (ls : List (Level C)) (ms : List (Level D)) (ls' : List (Level C)) (ms' : List (Level D))
+    → SameMarks ls ms → SameMarks ls' ms'
     → CopiesMeet (copies_of ls) (copies_of ms) (seen_copy ls ls') (seen_copy ms ms')
 seen_copies [] [] ls' ms' e f = tt
 seen_copies [] (m ∷ ms) ls' ms' e f = absurd e
@@ -35,7 +37,8 @@ seen_copies (l ∷ ls) (m ∷ ms) (l' ∷ ls') (m' ∷ ms') e f =
     (λ _. further_in l.copy (copies_of ls) m.copy (copies_of ms) (seen_copy ls ls') (seen_copy ms ms') (seen_copies ls ms ls' ms' e.1 f.1))
     (λ _. (0, refl, refl))
 
-module _ {S C M T D N : Type 0} {k : Kind S C M} {l : Kind T D N} {shared : Shared M N} {related : Related S C M T D N} {known : Knowing S C M} (laws : IsPlainSimulation k l shared related known) where
+module _ {S C M T D N : Type 0} {k : Kind S C M} {l : Kind T D N} {shared : Shared M N} {related : Related S C M T D N} {known : Knowing S C M}
+    (laws : IsPlainSimulation k l shared related known) where
   room_from-same : (line : Bool) (m : M) (n : N) (c : ℕ) (s : S) (ls : List (Level C)) (u : T) (ms : List (Level D)) → SameMarks ls ms
       → related line m n (copies_of ls) s (copies_of ms) u → room_from k s ls c ≡ room_from l u ms c
   room_from-same line m n c s [] u [] e meets = laws.taken line m n [] s [] u c meets
@@ -44,7 +47,8 @@ module _ {S C M T D N : Type 0} {k : Kind S C M} {l : Kind T D N} {shared : Shar
   room_from-same line m n c s (x ∷ ls) u (y ∷ ms) e meets =
       laws.taken_then line m n x.copy (copies_of ls) s y.copy (copies_of ms) u c meets
 
-  has_room_for-same : (m : M) (n : N) (c : ℕ) (ends : Ends) (p : Option (Process S C)) (p' : Option (Process T D)) (q : Option (Process S C)) (q' : Option (Process T D))
+  has_room_for-same : (m : M) (n : N) (c : ℕ) (ends : Ends) (p : Option (Process S C)) (p' : Option (Process T D))
+      (q : Option (Process S C)) (q' : Option (Process T D))
       → OptionsMeet (ProcessesMeet related m n) p p' → OptionsMeet (ProcessesMeet related m n) q q'
       → has_room_for k c ends p q ≡ has_room_for l c ends p' q'
   has_room_for-same m n c ends None None q q' e f = refl
@@ -63,7 +67,8 @@ module _ {S C M T D N : Type 0} {k : Kind S C M} {l : Kind T D N} {shared : Shar
   has_room_on-same w v c None meets = refl
   has_room_on-same w v c (Some ends) meets =
       has_room_for-same w.memory v.memory c ends
-      (slice_get w.processes ends.sender) (slice_get v.processes ends.sender) (slice_get w.processes ends.receiver) (slice_get v.processes ends.receiver)
+      (slice_get w.processes ends.sender) (slice_get v.processes ends.sender) (slice_get w.processes ends.receiver)
+      (slice_get v.processes ends.receiver)
       (get_meets related w.memory v.memory w.processes v.processes ends.sender meets.processes)
       (get_meets related w.memory v.memory w.processes v.processes ends.receiver meets.processes)
 
@@ -80,7 +85,8 @@ module _ {S C M T D N : Type 0} {k : Kind S C M} {l : Kind T D N} {shared : Shar
   seen_count-same line m n c cs s ds u (Some x) (Some y) meets e = laws.sent_then line m n cs s ds u c e.0 x y meets e.1 e.2
 
   -- the receiver q of channel c, which acts
-  module _ (t p : ℕ) (q : Process S C) (w : World S C M) (c : ℕ) (acts : IsActing known t p q w) (wants : (k.want q.state ≡ ReceivesOn c) ⊎ (k.want q.state ≡ MayReceiveOn c)) where
+  module _ (t p : ℕ) (q : Process S C) (w : World S C M) (c : ℕ) (acts : IsActing known t p q w)
+      (wants : (k.want q.state ≡ ReceivesOn c) ⊎ (k.want q.state ≡ MayReceiveOn c)) where
     seen_message-same : (n : N) (sender receiver : Process S C) (r : Process T D) → IsReceipt k q w c sender receiver → shared w.memory n
         → ProcessesMeet related w.memory n sender r → (x : Option C) (y : Option D) → seen_copy sender.levels receiver.levels ≡ x
         → CopiesMeet (copies_of sender.levels) (copies_of r.levels) x y
@@ -104,7 +110,9 @@ module _ {S C M T D N : Type 0} {k : Kind S C M} {l : Kind T D N} {shared : Shar
         let x = seen_copy sender.levels receiver.levels in
         let i = k.taken receiver.state c in
         cond_meets (λ (v v' : Option ℤ). v ≡ v') (nat_lt i (seen_count k sender.state x c)) (nat_lt i (seen_count l r.state y c))
-        (ap (nat_lt i) (seen_count-same sender.at_line w.memory n c (copies_of sender.levels) sender.state (copies_of r.levels) r.state x y meets.states copies))
+        (ap (nat_lt i)
+        (seen_count-same sender.at_line w.memory n c (copies_of sender.levels) sender.state
+        (copies_of r.levels) r.state x y meets.states copies))
         (λ more. ap Some (seen_message-same n sender receiver r receipt memories meets x y refl copies more))
         (λ _. refl)
 
@@ -130,7 +138,8 @@ module _ {S C M T D N : Type 0} {k : Kind S C M} {l : Kind T D N} {shared : Shar
     message_on-same v meets None channel = refl
     message_on-same v meets (Some ends) channel =
         message_between-same v.memory ends channel meets.memories
-        (slice_get w.processes ends.sender) (slice_get v.processes ends.sender) (slice_get w.processes ends.receiver) (slice_get v.processes ends.receiver)
+        (slice_get w.processes ends.sender) (slice_get v.processes ends.sender) (slice_get w.processes ends.receiver)
+        (slice_get v.processes ends.receiver)
         refl refl
         (get_meets related w.memory v.memory w.processes v.processes ends.sender meets.processes)
         (get_meets related w.memory v.memory w.processes v.processes ends.receiver meets.processes)

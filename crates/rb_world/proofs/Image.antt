@@ -10,7 +10,8 @@ stepped_image on_state on_memory (Went s m) = Went (on_state s) (on_memory m)
 stepped_image on_state on_memory (Held s) = Held (on_state s)
 
 -- what a plain run needs, in which nothing is put back
-pub record IsPlainImage {S C M T D N : Type 0} (k : Kind S C M) (l : Kind T D N) (on_state : S → T) (on_copy : C → D) (on_memory : M → N) : Type 0 where
+pub record IsPlainImage {S C M T D N : Type 0} (k : Kind S C M) (l : Kind T D N) (on_state : S → T) (on_copy : C → D)
+    (on_memory : M → N) : Type 0 where
   pub channels : k.channels ≡ l.channels
   pub groups : k.groups ≡ l.groups
   pub want : (s : S) → l.want (on_state s) ≡ k.want s

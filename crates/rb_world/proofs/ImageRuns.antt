@@ -18,7 +18,8 @@ use Rattle.rb_world.proofs.PlainRunsMeet.{EndsMeet, keeps_nothing_plain, plain_r
 use Rattle.rb_world.proofs.Image.{IsPlainImage, IsImage, stepped_image, level_image, process_image, world_image, turn_image, end_image}
 
 -- the right side is the image
-pub record IsImageOf {S C M T D N : Type 0} (on_state : S → T) (on_copy : C → D) (on_memory : M → N) (m : M) (n : N) (cs : List C) (s : S) (ds : List D) (u : T) : Type 0 where
+pub record IsImageOf {S C M T D N : Type 0} (on_state : S → T) (on_copy : C → D) (on_memory : M → N) (m : M) (n : N)
+    (cs : List C) (s : S) (ds : List D) (u : T) : Type 0 where
   pub memory : on_memory m ≡ n
   pub copies : map on_copy cs ≡ ds
   pub state : on_state s ≡ u
@@ -34,7 +35,8 @@ more-map f [] c = refl
 more-map f (d ∷ cs) c = ap (λ x. f d ∷ x) (more-map f cs c)
 
 -- a copy by its number, on both sides
-pub copy_there : {C D : Type 0} (f : C → D) (cs : List C) (j : ℕ) (x : C) (y : D) → slice_get cs j ≡ Some x → slice_get (map f cs) j ≡ Some y → f x ≡ y
+pub copy_there : {C D : Type 0} (f : C → D) (cs : List C) (j : ℕ) (x : C) (y : D) → slice_get cs j ≡ Some x
+    → slice_get (map f cs) j ≡ Some y → f x ≡ y
 copy_there f cs j x y e e' = some_same (sym (ap (option_map f) e) ∙ sym (slice_get-map f cs j) ∙ e')
 
 -- the right side is the image, in the form that a relation of kinds has
@@ -51,7 +53,8 @@ module _ {S C M T D N : Type 0} (on_state : S → T) (on_copy : C → D) (on_mem
   at_image P e h = subst₃ P e.memory e.copies e.state h
 
   still_meets : (p : ℕ) (w : World S C M) (old : N) (line : Bool) (m : M) (n : N) (cs : List C) (s : S) (ds : List D) (u : T)
-      → on_memory m ≡ n → map on_copy cs ≡ ds → on_state s ≡ u → StillMeets (Memories on_memory) (Imaged on_state on_copy on_memory) p w old line m n cs s ds u
+      → on_memory m ≡ n → map on_copy cs ≡ ds → on_state s ≡ u
+      → StillMeets (Memories on_memory) (Imaged on_state on_copy on_memory) p w old line m n cs s ds u
   still_meets p w old line m n cs s ds u e f g = record {
     memories = e;
     states = record { memory = e; copies = f; state = g };
@@ -67,7 +70,8 @@ module _ {S C M T D N : Type 0} (on_state : S → T) (on_copy : C → D) (on_mem
   copies_image [] = refl
   copies_image (x ∷ ls) = ap (λ ds. on_copy x.copy ∷ ds) (copies_image ls)
 
-  processes_image : (m : M) (qs : List (Process S C)) → AllMeet (Imaged on_state on_copy on_memory) m (on_memory m) qs (map (process_image on_state on_copy) qs)
+  processes_image : (m : M) (qs : List (Process S C))
+      → AllMeet (Imaged on_state on_copy on_memory) m (on_memory m) qs (map (process_image on_state on_copy) qs)
   processes_image m [] = tt
   processes_image m (q ∷ qs) = (
     record {
@@ -79,10 +83,12 @@ module _ {S C M T D N : Type 0} (on_state : S → T) (on_copy : C → D) (on_mem
     processes_image m qs,
   )
 
-  pub meets_image : (w : World S C M) → WorldsMeet (Memories on_memory) (Imaged on_state on_copy on_memory) w (world_image on_state on_copy on_memory w)
+  pub meets_image : (w : World S C M)
+      → WorldsMeet (Memories on_memory) (Imaged on_state on_copy on_memory) w (world_image on_state on_copy on_memory w)
   meets_image w = record { memories = refl; processes = processes_image w.memory w.processes; talks = refl }
 
-  same_levels : (ls : List (Level C)) (ms : List (Level D)) → SameMarks ls ms → map on_copy (copies_of ls) ≡ copies_of ms → map (level_image on_copy) ls ≡ ms
+  same_levels : (ls : List (Level C)) (ms : List (Level D)) → SameMarks ls ms → map on_copy (copies_of ls) ≡ copies_of ms
+      → map (level_image on_copy) ls ≡ ms
   same_levels [] [] e f = refl
   same_levels [] (y ∷ ms) e f = absurd e
   same_levels (x ∷ ls) [] e f = absurd e
@@ -90,7 +96,8 @@ module _ {S C M T D N : Type 0} (on_state : S → T) (on_copy : C → D) (on_mem
       ap₂ ◌∷◌ (λ i. record { facts = e.0.facts i; alternate = e.0.alternate i; used = e.0.used i; copy = heads_same f i })
       (same_levels ls ms e.1 (tails_same f))
 
-  same_process : (m : M) (n : N) (q : Process S C) (r : Process T D) → ProcessesMeet (Imaged on_state on_copy on_memory) m n q r → process_image on_state on_copy q ≡ r
+  same_process : (m : M) (n : N) (q : Process S C) (r : Process T D)
+      → ProcessesMeet (Imaged on_state on_copy on_memory) m n q r → process_image on_state on_copy q ≡ r
   same_process m n q r e = λ i. record {
     state = e.states.state i;
     levels = same_levels q.levels r.levels e.marks e.states.copies i;
@@ -98,13 +105,16 @@ module _ {S C M T D N : Type 0} (on_state : S → T) (on_copy : C → D) (on_mem
     status = e.statuses i;
   }
 
-  same_processes : (m : M) (n : N) (qs : List (Process S C)) (rs : List (Process T D)) → AllMeet (Imaged on_state on_copy on_memory) m n qs rs → map (process_image on_state on_copy) qs ≡ rs
+  same_processes : (m : M) (n : N) (qs : List (Process S C)) (rs : List (Process T D))
+      → AllMeet (Imaged on_state on_copy on_memory) m n qs rs → map (process_image on_state on_copy) qs ≡ rs
   same_processes m n [] [] e = refl
   same_processes m n [] (r ∷ rs) e = absurd e
   same_processes m n (q ∷ qs) [] e = absurd e
   same_processes m n (q ∷ qs) (r ∷ rs) e = ap₂ ◌∷◌ (same_process m n q r e.0) (same_processes m n qs rs e.1)
 
-  pub is_world_image : (w : World S C M) (v : World T D N) → WorldsMeet (Memories on_memory) (Imaged on_state on_copy on_memory) w v → v ≡ world_image on_state on_copy on_memory w
+  pub is_world_image : (w : World S C M) (v : World T D N)
+      → WorldsMeet (Memories on_memory) (Imaged on_state on_copy on_memory) w v
+      → v ≡ world_image on_state on_copy on_memory w
   is_world_image w v meets = sym (λ i. record {
     processes = same_processes w.memory v.memory w.processes v.processes meets.processes i;
     talks = meets.talks i;
@@ -112,9 +122,11 @@ module _ {S C M T D N : Type 0} (on_state : S → T) (on_copy : C → D) (on_mem
   })
 
 -- plain runs
-module _ {S C M T D N : Type 0} {k : Kind S C M} {l : Kind T D N} {on_state : S → T} {on_copy : C → D} {on_memory : M → N} (image : IsPlainImage k l on_state on_copy on_memory) where
+module _ {S C M T D N : Type 0} {k : Kind S C M} {l : Kind T D N} {on_state : S → T} {on_copy : C → D} {on_memory : M → N}
+    (image : IsPlainImage k l on_state on_copy on_memory) where
   steps_meet_image : (t p alternate : ℕ) (w : World S C M) (cs : List C) (x : Stepped S M)
-      → StepsMeet k l (Memories on_memory) (Imaged on_state on_copy on_memory) t p alternate w (on_memory w.memory) cs (map on_copy cs) x (stepped_image on_state on_memory x)
+      → StepsMeet k l (Memories on_memory) (Imaged on_state on_copy on_memory) t p alternate w (on_memory w.memory) cs
+      (map on_copy cs) x (stepped_image on_state on_memory x)
   steps_meet_image t p alternate w cs (Trapped cause) = refl
   steps_meet_image t p alternate w cs (Went s m) =
       let e = image.keep t alternate s m in
@@ -130,7 +142,8 @@ module _ {S C M T D N : Type 0} {k : Kind S C M} {l : Kind T D N} {on_state : S 
       → StepsMeet k l (Memories on_memory) (Imaged on_state on_copy on_memory) t p alternate w (on_memory w.memory) cs (map on_copy cs)
       (k.step alternate (last_of cs) s message w.memory) (l.step alternate (last_of (map on_copy cs)) (on_state s) message (on_memory w.memory))
   step_meets_image t p alternate message w cs s =
-      subst (StepsMeet k l (Memories on_memory) (Imaged on_state on_copy on_memory) t p alternate w (on_memory w.memory) cs (map on_copy cs) (k.step alternate (last_of cs) s message w.memory))
+      subst (StepsMeet k l (Memories on_memory) (Imaged on_state on_copy on_memory) t p alternate w (on_memory w.memory) cs
+      (map on_copy cs) (k.step alternate (last_of cs) s message w.memory))
       (sym (ap (λ (c : Option D). l.step alternate c (on_state s) message (on_memory w.memory)) (last_of-map on_copy cs)
       ∙ image.step alternate (last_of cs) s message w.memory))
       (steps_meet_image t p alternate w cs (k.step alternate (last_of cs) s message w.memory))
@@ -138,7 +151,8 @@ module _ {S C M T D N : Type 0} {k : Kind S C M} {l : Kind T D N} {on_state : S 
   enter_meets_image : (t p : ℕ) (w : World S C M) (cs : List C) (s : S)
       → let x = k.keep t 0 (k.enter s) w.memory in
       let y = l.keep t 0 (l.enter (on_state s)) (on_memory w.memory) in
-      StillMeets (Memories on_memory) (Imaged on_state on_copy on_memory) p w (on_memory w.memory) false x.1 y.1 (cs ++ k.copy x.0 ∷ []) x.0 (map on_copy cs ++ l.copy y.0 ∷ []) y.0
+      StillMeets (Memories on_memory) (Imaged on_state on_copy on_memory) p w (on_memory w.memory) false x.1 y.1
+      (cs ++ k.copy x.0 ∷ []) x.0 (map on_copy cs ++ l.copy y.0 ∷ []) y.0
   enter_meets_image t p w cs s =
       let x = k.keep t 0 (k.enter s) w.memory in
       let e = ap (λ (u : T). l.keep t 0 u (on_memory w.memory)) (image.enter s) ∙ image.keep t 0 (k.enter s) w.memory in
@@ -169,12 +183,14 @@ module _ {S C M T D N : Type 0} {k : Kind S C M} {l : Kind T D N} {on_state : S 
         ∙ ap (λ (d : D). l.message_then n u d c i)
         (copy_there on_copy (copies_of sender.levels) j x y at (ap (λ (es : List D). slice_get es j) e.copies ∙ at'));
     step = λ t p q w alternate message n ds u acts ready at memories e.
-        at_image on_state on_copy on_memory (λ n ds u. StepsMeet k l (Memories on_memory) (Imaged on_state on_copy on_memory) t p alternate w n (copies_of q.levels) ds
+        at_image on_state on_copy on_memory
+        (λ n ds u. StepsMeet k l (Memories on_memory) (Imaged on_state on_copy on_memory) t p alternate w n (copies_of q.levels) ds
         (k.step alternate (last_of (copies_of q.levels)) q.state message w.memory) (l.step alternate (last_of ds) u message n)) e
         (step_meets_image t p alternate message w (copies_of q.levels) q.state);
     enter = λ t p q w facts n ds u acts wants memories e.
         at_image on_state on_copy on_memory (λ n ds u. let x = k.keep t 0 (k.enter q.state) w.memory in let y = l.keep t 0 (l.enter u) n in
-        StillMeets (Memories on_memory) (Imaged on_state on_copy on_memory) p w n false x.1 y.1 (copies_of q.levels ++ k.copy x.0 ∷ []) x.0 (ds ++ l.copy y.0 ∷ []) y.0) e
+        StillMeets (Memories on_memory) (Imaged on_state on_copy on_memory) p w n false x.1 y.1
+        (copies_of q.levels ++ k.copy x.0 ∷ []) x.0 (ds ++ l.copy y.0 ∷ []) y.0) e
         (enter_meets_image t p w (copies_of q.levels) q.state);
     leave = λ m n cs s ds u e. record {
       memory = e.memory;
@@ -192,35 +208,44 @@ module _ {S C M T D N : Type 0} {k : Kind S C M} {l : Kind T D N} {on_state : S 
   openings_image m [] = tt
   openings_image m (s ∷ states) = (record { memory = refl; copies = refl; state = sym (image.settle None s) }, openings_image m states)
 
-  pub opening-image : (states : List S) (m : M) → opening l (map on_state states) (on_memory m) ≡ world_image on_state on_copy on_memory (opening k states m)
+  pub opening-image : (states : List S) (m : M)
+      → opening l (map on_state states) (on_memory m) ≡ world_image on_state on_copy on_memory (opening k states m)
   opening-image states m =
-      is_world_image on_state on_copy on_memory _ _ (opening_meets plain_image_simulates m (on_memory m) states (map on_state states) refl (openings_image m states))
+      is_world_image on_state on_copy on_memory _ _
+      (opening_meets plain_image_simulates m (on_memory m) states (map on_state states) refl (openings_image m states))
 
   -- a turn of a record, and its plain run
-  kept_turn_same : (x : Option (World S C M × Told)) (y : Option (World T D N × Told)) → OptionsMeet (TurnsMeet (Memories on_memory) (Imaged on_state on_copy on_memory)) x y
+  kept_turn_same : (x : Option (World S C M × Told)) (y : Option (World T D N × Told))
+      → OptionsMeet (TurnsMeet (Memories on_memory) (Imaged on_state on_copy on_memory)) x y
       → y ≡ option_map (turn_image on_state on_copy on_memory) x
   kept_turn_same None None e = refl
   kept_turn_same None (Some y) e = absurd e
   kept_turn_same (Some x) None e = absurd e
   kept_turn_same (Some x) (Some y) e = λ i. Some (is_world_image on_state on_copy on_memory x.0 y.0 e.worlds i, sym e.same_told i)
 
-  pub plain_turn-image : (kept : Kept) (w : World S C M) → plain_turn l kept (world_image on_state on_copy on_memory w) ≡ option_map (turn_image on_state on_copy on_memory) (plain_turn k kept w)
+  pub plain_turn-image : (kept : Kept) (w : World S C M)
+      → plain_turn l kept (world_image on_state on_copy on_memory w) ≡ option_map (turn_image on_state on_copy on_memory) (plain_turn k kept w)
   plain_turn-image kept w =
-      kept_turn_same _ _ (plain_turn_meets plain_image_simulates kept w (world_image on_state on_copy on_memory w) (λ q _ _. tt) (meets_image on_state on_copy on_memory w))
+      kept_turn_same _ _
+      (plain_turn_meets plain_image_simulates kept w (world_image on_state on_copy on_memory w) (λ q _ _. tt)
+      (meets_image on_state on_copy on_memory w))
 
-  end_same : (x : PlainEnd S C M) (y : PlainEnd T D N) → EndsMeet (Memories on_memory) (Imaged on_state on_copy on_memory) x y → y ≡ end_image on_state on_copy on_memory x
+  end_same : (x : PlainEnd S C M) (y : PlainEnd T D N)
+      → EndsMeet (Memories on_memory) (Imaged on_state on_copy on_memory) x y → y ≡ end_image on_state on_copy on_memory x
   end_same (Ended w lines) (Ended v lines') e = λ i. Ended (is_world_image on_state on_copy on_memory w v e.0 i) (sym e.1 i)
   end_same (Ended w lines) (StuckAt t) e = absurd e
   end_same (StuckAt t) (Ended v lines) e = absurd e
   end_same (StuckAt t) (StuckAt t') e = ap StuckAt (sym e)
 
-  pub plain_run-image : (turns : List Kept) (w : World S C M) → plain_run l turns (world_image on_state on_copy on_memory w) ≡ end_image on_state on_copy on_memory (plain_run k turns w)
+  pub plain_run-image : (turns : List Kept) (w : World S C M)
+      → plain_run l turns (world_image on_state on_copy on_memory w) ≡ end_image on_state on_copy on_memory (plain_run k turns w)
   plain_run-image turns w =
       end_same _ _ (plain_run_meets plain_image_simulates (keeps_nothing_plain k) turns w
       (world_image on_state on_copy on_memory w) tt (meets_image on_state on_copy on_memory w))
 
 -- runs
-module _ {S C M T D N : Type 0} {k : Kind S C M} {l : Kind T D N} {on_state : S → T} {on_copy : C → D} {on_memory : M → N} (image : IsImage k l on_state on_copy on_memory) where
+module _ {S C M T D N : Type 0} {k : Kind S C M} {l : Kind T D N} {on_state : S → T} {on_copy : C → D} {on_memory : M → N}
+    (image : IsImage k l on_state on_copy on_memory) where
   pub image_simulates : IsSimulation k l (Memories on_memory) (Imaged on_state on_copy on_memory) nothing_known
   image_simulates = record {
     plain = plain_image_simulates image.plain;
@@ -235,14 +260,18 @@ module _ {S C M T D N : Type 0} {k : Kind S C M} {l : Kind T D N} {on_state : S 
   }
 
   -- one turn, and a whole run
-  pub turn-image : (t p : ℕ) (w : World S C M) → turn l t p (world_image on_state on_copy on_memory w) ≡ turn_image on_state on_copy on_memory (turn k t p w)
+  pub turn-image : (t p : ℕ) (w : World S C M)
+      → turn l t p (world_image on_state on_copy on_memory w) ≡ turn_image on_state on_copy on_memory (turn k t p w)
   turn-image t p w =
-      let both = turn_meets image_simulates t p w (world_image on_state on_copy on_memory w) (λ q _ _. tt) (meets_image on_state on_copy on_memory w) in
+      let both = turn_meets image_simulates t p w (world_image on_state on_copy on_memory w) (λ q _ _. tt)
+      (meets_image on_state on_copy on_memory w) in
       λ i. (is_world_image on_state on_copy on_memory _ _ both.worlds i, sym both.same_told i)
 
-  pub run-image : (t : ℕ) (turns : List ℕ) (w : World S C M) → run l t turns (world_image on_state on_copy on_memory w) ≡ turn_image on_state on_copy on_memory (run k t turns w)
+  pub run-image : (t : ℕ) (turns : List ℕ) (w : World S C M)
+      → run l t turns (world_image on_state on_copy on_memory w) ≡ turn_image on_state on_copy on_memory (run k t turns w)
   run-image t turns w =
-      let both = run_meets image_simulates (keeps_nothing k) t turns w (world_image on_state on_copy on_memory w) tt (meets_image on_state on_copy on_memory w) in
+      let both = run_meets image_simulates (keeps_nothing k) t turns w (world_image on_state on_copy on_memory w) tt
+      (meets_image on_state on_copy on_memory w) in
       λ i. (is_world_image on_state on_copy on_memory _ _ both.worlds i, sym both.same_told i)
 
   pub opening_run-image : (turns : List ℕ) (states : List S) (m : M)

@@ -14,7 +14,8 @@ use Rattle.rb_world.proofs.Invariant.{Between, Within, IsInvariant}
 use Rattle.rb_world.proofs.ListFacts.{slice_get-change_at}
 use Rattle.rb_world.proofs.CascadeKeeps.{reject-keeps}
 
-module _ {S C M : Type 0} {k : Kind S C M} {before : Between S C M} {during : Within S C M} {after : Between S C M} (laws : IsInvariant k before during after) where
+module _ {S C M : Type 0} {k : Kind S C M} {before : Between S C M} {during : Within S C M} {after : Between S C M}
+    (laws : IsInvariant k before during after) where
   -- a trap rejects from the innermost level
   trapped-keeps : (t : ℕ) (past : List Told) (p : ℕ) (q : Process S C) (w : World S C M) (cause : Cause)
       → during t past p (length q.levels) w → RunsAt p q w → after t past (trapped k p cause w).world
@@ -23,7 +24,8 @@ module _ {S C M : Type 0} {k : Kind S C M} {before : Between S C M} {during : Wi
       (reject-keeps laws t past p (length q.levels) cause q w holds runs)
 
   -- the line of a conversation, once a member has come to it
-  at_test_line-keeps : (t : ℕ) (past : List Told) (p : ℕ) (q : Process S C) (w : World S C M) (alternate : ℕ) (message : Option ℤ) (s : S) (level : Level C) (c : ℕ)
+  at_test_line-keeps : (t : ℕ) (past : List Told) (p : ℕ) (q : Process S C) (w : World S C M) (alternate : ℕ)
+      (message : Option ℤ) (s : S) (level : Level C) (c : ℕ)
       → during t past p (length q.levels) w → StepsAt k p q w alternate message
       → k.step alternate (copy_of (last_of q.levels)) q.state message w.memory ≡ Held s
       → last_of q.levels ≡ Some level → level.facts.conversation ≡ Some c
@@ -35,7 +37,8 @@ module _ {S C M : Type 0} {k : Kind S C M} {before : Between S C M} {during : Wi
   at_test_line-keeps t past p q w alternate message s level c holds at went last of_c false e =
       laws.stands t past p q w alternate message s level c holds at went last of_c e
 
-  accepted_at-keeps : (t : ℕ) (past : List Told) (p : ℕ) (q : Process S C) (w : World S C M) (alternate : ℕ) (message : Option ℤ) (s : S) (level : Level C)
+  accepted_at-keeps : (t : ℕ) (past : List Told) (p : ℕ) (q : Process S C) (w : World S C M) (alternate : ℕ)
+      (message : Option ℤ) (s : S) (level : Level C)
       → during t past p (length q.levels) w → StepsAt k p q w alternate message
       → k.step alternate (copy_of (last_of q.levels)) q.state message w.memory ≡ Held s
       → last_of q.levels ≡ Some level → (conversation : Option ℕ) → level.facts.conversation ≡ conversation

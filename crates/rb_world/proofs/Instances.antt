@@ -130,10 +130,12 @@ Marking line m n cs s ds u = IsMarked cs s ds u
 abbrev NoMemory : Shared (Unit {0}) (Unit {0})
 NoMemory m n = Unit {0}
 
-at_marks : (P : List Marked → Doing → Type 0) {cs : List Doing} {s : Doing} {ds : List Marked} {u : Doing} → IsMarked cs s ds u → P (map marked cs) s → P ds u
+at_marks : (P : List Marked → Doing → Type 0) {cs : List Doing} {s : Doing} {ds : List Marked} {u : Doing}
+    → IsMarked cs s ds u → P (map marked cs) s → P ds u
 at_marks P e h = subst₂ P e.marks e.same h
 
-mark_there : (cs : List Doing) (ds : List Marked) (j : ℕ) (x : Doing) (y : Marked) → map marked cs ≡ ds → slice_get cs j ≡ Some x → slice_get ds j ≡ Some y → marked x ≡ y
+mark_there : (cs : List Doing) (ds : List Marked) (j : ℕ) (x : Doing) (y : Marked) → map marked cs ≡ ds
+    → slice_get cs j ≡ Some x → slice_get ds j ≡ Some y → marked x ≡ y
 mark_there cs ds j x y e at at' =
     copy_there marked cs j x y at (ap (λ (es : List Marked). slice_get es j) e ∙ at')
 
@@ -147,7 +149,8 @@ module _ (groups : List Membership) where
   }
 
   step_marked : (t p alternate : ℕ) (w : World Doing Doing (Unit {0})) (cs : List Doing) (deeds : List Deed) (s : Doing) → IsChain cs s.lines
-      → StepsMeet (copies_whole groups) (copies_marks groups) NoMemory Marking t p alternate w tt cs (map marked cs) (do_first deeds s tt) (do_first deeds s tt)
+      → StepsMeet (copies_whole groups) (copies_marks groups) NoMemory Marking t p alternate w tt cs (map marked cs)
+      (do_first deeds s tt) (do_first deeds s tt)
   step_marked t p alternate w cs [] s chain = still_marked p w false cs s chain
   step_marked t p alternate w cs (Prints line ∷ deeds) s chain =
       still_marked p w false cs (print_line line deeds s) (chain_longer cs s.lines (s.lines ++ line ∷ []) (line ∷ [], refl) chain)
@@ -194,7 +197,8 @@ module _ (groups : List Membership) where
     };
     back = λ line m n cs s ds u j x y e at at'. record {
       marks = sym (take-map marked (suc j) cs) ∙ ap (take (suc j)) e.marks;
-      same = sym (ap (λ (lines : Lines). record { deeds = x.deeds; lines = lines }) (take_front x.lines s.lines (chain_get cs s.lines j x e.chain at)))
+      same = sym (ap (λ (lines : Lines). record { deeds = x.deeds; lines = lines })
+          (take_front x.lines s.lines (chain_get cs s.lines j x e.chain at)))
           ∙ ap₂ back_to_mark e.same (mark_there cs ds j x y e.marks at at');
       chain = chain_take cs s.lines j x e.chain at;
     };
@@ -207,9 +211,11 @@ module _ (groups : List Membership) where
 
 pub marks_tell_same : MarksAreUnseen
 marks_tell_same groups turns states =
-    (opening_run_meets (marks_simulate groups) (keeps_nothing (copies_whole groups)) turns tt tt states states tt tt (openings_marked groups states)).same_told
+    (opening_run_meets (marks_simulate groups) (keeps_nothing (copies_whole groups)) turns tt tt states states tt tt
+    (openings_marked groups states)).same_told
 
-ends_tell_same : (groups : List Membership) (x : PlainEnd Doing Doing (Unit {0})) (y : PlainEnd Doing Marked (Unit {0})) → EndsMeet NoMemory Marking x y → told_of_end x ≡ told_of_end y
+ends_tell_same : (groups : List Membership) (x : PlainEnd Doing Doing (Unit {0})) (y : PlainEnd Doing Marked (Unit {0}))
+    → EndsMeet NoMemory Marking x y → told_of_end x ≡ told_of_end y
 ends_tell_same groups (Ended w lines) (Ended v lines') e = ap Some e.1
 ends_tell_same groups (Ended w lines) (StuckAt t) e = absurd e
 ends_tell_same groups (StuckAt t) (Ended v lines) e = absurd e
@@ -236,7 +242,8 @@ Levels = List (Level Doing)
 first_over : (outside : Levels) (over : Level Doing) (inside : Levels) → Each HasTurnLeft outside → over.facts.bound ≤ over.used
     → position_or_len is_over (map one_used (outside ++ over ∷ inside)) ≡ length outside
 first_over [] over inside left spent =
-    ap (λ (b : Bool). cond (not b) (1 + position_or_len is_over (map one_used inside)) 0) (lt-ltb over.facts.bound (over.used + 1) (omega (arith, spent)))
+    ap (λ (b : Bool). cond (not b) (1 + position_or_len is_over (map one_used inside)) 0)
+    (lt-ltb over.facts.bound (over.used + 1) (omega (arith, spent)))
 first_over (level ∷ outside) over inside left spent =
     let rest : ℕ = position_or_len is_over (map one_used (outside ++ over ∷ inside)) in
     ap (λ (b : Bool). cond (not b) (1 + rest) 0) (le-ltb level.facts.bound (level.used + 1) (omega (arith, left 0 level refl)))

@@ -145,7 +145,8 @@ Releases {S} {C} {M} k after before =
     → before (t + 1) (past ++ one ∷ []) (with_each (freed k) w)
 
 -- Where the first three predicates hold before a change, the last three hold after it.
-pub record Carries {S C M : Type 0} (k : Kind S C M) (before : Between S C M) (during : Within S C M) (after : Between S C M) (before' : Between S C M) (during' : Within S C M) (after' : Between S C M) : Type 0 where
+pub record Carries {S C M : Type 0} (k : Kind S C M) (before : Between S C M) (during : Within S C M)
+    (after : Between S C M) (before' : Between S C M) (during' : Within S C M) (after' : Between S C M) : Type 0 where
   pub rests : Rests before after'
   pub uses : Uses before during'
   pub overruns : Overruns during during'
@@ -175,7 +176,8 @@ BothBetween one other t past w = one t past w × other t past w
 abbrev pub BothWithin : {S C M : Type 0} → Within S C M → Within S C M → Within S C M
 BothWithin one other t past p left w = one t past p left w × other t past p left w
 
-abbrev pub IsInvariantUnder : {S C M : Type 0} → Kind S C M → Between S C M → Within S C M → Between S C M → Between S C M → Within S C M → Between S C M → Type 0
+abbrev pub IsInvariantUnder : {S C M : Type 0} → Kind S C M → Between S C M → Within S C M → Between S C M → Between S C M
+    → Within S C M → Between S C M → Type 0
 IsInvariantUnder k before during after before' during' after' =
     Carries k (BothBetween before before') (BothWithin during during') (BothBetween after after') before' during' after'
 
@@ -190,13 +192,17 @@ both_kept one other = record {
   goes = λ t past p q w a v s m h at e. (one.goes t past p q w a v s m h.0 at e, other.goes t past p q w a v s m h at e);
   opens = λ t past p q w f a h at. (one.opens t past p q w f a h.0 at, other.opens t past p q w f a h at);
   accepts = λ t past p q w a v s l h at e x y. (one.accepts t past p q w a v s l h.0 at e x y, other.accepts t past p q w a v s l h at e x y);
-  stands = λ t past p q w a v s l c h at e x y z. (one.stands t past p q w a v s l c h.0 at e x y z, other.stands t past p q w a v s l c h at e x y z);
-  leaves = λ t past p q w a v s l c h at e x y z. (one.leaves t past p q w a v s l c h.0 at e x y z, other.leaves t past p q w a v s l c h at e x y z);
+  stands = λ t past p q w a v s l c h at e x y z.
+      (one.stands t past p q w a v s l c h.0 at e x y z, other.stands t past p q w a v s l c h at e x y z);
+  leaves = λ t past p q w a v s l c h at e x y z.
+      (one.leaves t past p q w a v s l c h.0 at e x y z, other.leaves t past p q w a v s l c h at e x y z);
   falls = λ t past p q w n c h r why. (one.falls t past p q w n c h.0 r why, other.falls t past p q w n c h r why);
   tries_next = λ t past p q w j l h r x y. (one.tries_next t past p q w j l h.0 r x y, other.tries_next t past p q w j l h r x y);
   is_spent = λ t past p q w j l h r x y. (one.is_spent t past p q w j l h.0 r x y, other.is_spent t past p q w j l h r x y);
   all_try_next = λ t past p q w j l c h r x y. (one.all_try_next t past p q w j l c h.0 r x y, other.all_try_next t past p q w j l c h r x y);
-  all_are_spent = λ t past p q w j l c d h r x y z. (one.all_are_spent t past p q w j l c d h.0 r x y z, other.all_are_spent t past p q w j l c d h r x y z);
+  all_are_spent =
+      λ t past p q w j l c d h r x y z.
+      (one.all_are_spent t past p q w j l c d h.0 r x y z, other.all_are_spent t past p q w j l c d h r x y z);
   breaks = λ t past p q w j l c h r x y z. (one.breaks t past p q w j l c h.0 r x y z, other.breaks t past p q w j l c h r x y z);
   is_gone = λ t past p q w j h r e. (one.is_gone t past p q w j h.0 r e, other.is_gone t past p q w j h r e);
   releases = λ t past w o h e. (one.releases t past w o h.0 e, other.releases t past w o h e);

@@ -44,8 +44,15 @@ last_or_before c i levels last e l true h = inr (record {
   of_it = l.of_it;
 })
 last_or_before {S} c i levels last e l false h =
-    let at : i ≡ length (without_last levels) = omega (arith, slice_get_within levels i l.level l.there, length-with_last levels last e, ltb-false i (length (without_last levels)) h) in
+    let at : i ≡ length (without_last levels) =
+    omega (
+      arith,
+      slice_get_within levels i l.level l.there,
+      length-with_last levels last e,
+      ltb-false i (length (without_last levels)) h,
+    ) in
     inl (
       at,
-      ap (λ (a : Level S). a.facts.conversation) (some_same (sym (slice_get-last levels last e) ∙ ap (slice_get levels) (sym at) ∙ l.there)) ∙ l.of_it,
+      ap (λ (a : Level S). a.facts.conversation)
+          (some_same (sym (slice_get-last levels last e) ∙ ap (slice_get levels) (sym at) ∙ l.there)) ∙ l.of_it,
     )

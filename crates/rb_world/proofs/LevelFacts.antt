@@ -58,7 +58,8 @@ any_below test (x ∷ xs) e =
 pub no_place : {A : Type 0} (test : A → Bool) (xs : List A) → list_any test xs ≡ true → position test xs ≡ None → ⊥
 no_place test xs any none =
     some_none
-    (sym (ap (λ (b : Bool). cond b (Some (position_or_len test xs)) None) (lt-ltb (position_or_len test xs) (length xs) (any_below test xs any))) ∙ none)
+    (sym (ap (λ (b : Bool). cond b (Some (position_or_len test xs)) None)
+    (lt-ltb (position_or_len test xs) (length xs) (any_below test xs any))) ∙ none)
 
 -- a list that begins, and its first element
 pub take_first : {A : Type 0} (xs : List A) (y : A) → slice_get xs 0 ≡ Some y → take 1 xs ≡ y ∷ []

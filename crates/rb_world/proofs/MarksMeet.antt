@@ -58,7 +58,8 @@ module _ {C D : Type 0} (f : Level C → Bool) (g : Level D → Bool) (same : (l
   same_any (l ∷ ls) (m ∷ ms) e = ap₂ ◌||◌ (same l m e.0) (same_any ls ms e.1)
 
 -- levels by their numbers, and the last
-pub get_marks : {C D : Type 0} (ls : List (Level C)) (ms : List (Level D)) (j : ℕ) → SameMarks ls ms → OptionsMeet SameMark (slice_get ls j) (slice_get ms j)
+pub get_marks : {C D : Type 0} (ls : List (Level C)) (ms : List (Level D)) (j : ℕ) → SameMarks ls ms
+    → OptionsMeet SameMark (slice_get ls j) (slice_get ms j)
 get_marks [] [] j e = tt
 get_marks [] (m ∷ ms) j e = absurd e
 get_marks (l ∷ ls) [] j e = absurd e
@@ -94,7 +95,8 @@ used_marks (l ∷ ls) [] e = absurd e
 used_marks (l ∷ ls) (m ∷ ms) e =
     (record { facts = e.0.facts; alternate = e.0.alternate; used = ap (λ n. n + 1) e.0.used }, used_marks ls ms e.1)
 
-pub next_marks : {C D : Type 0} (j : ℕ) (ls : List (Level C)) (ms : List (Level D)) → SameMarks ls ms → SameMarks (change_at j next_alternate ls) (change_at j next_alternate ms)
+pub next_marks : {C D : Type 0} (j : ℕ) (ls : List (Level C)) (ms : List (Level D)) → SameMarks ls ms
+    → SameMarks (change_at j next_alternate ls) (change_at j next_alternate ms)
 next_marks j [] [] e = tt
 next_marks j [] (m ∷ ms) e = absurd e
 next_marks j (l ∷ ls) [] e = absurd e
@@ -118,7 +120,8 @@ front_marks (l ∷ []) (m ∷ m' ∷ ms) e = absurd e.1
 front_marks (l ∷ l' ∷ ls) (m ∷ []) e = absurd e.1
 front_marks (l ∷ l' ∷ ls) (m ∷ m' ∷ ms) e = (e.0, front_marks (l' ∷ ls) (m' ∷ ms) e.1)
 
-pub more_marks : {C D : Type 0} (ls : List (Level C)) (ms : List (Level D)) (l : Level C) (m : Level D) → SameMarks ls ms → SameMark l m → SameMarks (ls ++ l ∷ []) (ms ++ m ∷ [])
+pub more_marks : {C D : Type 0} (ls : List (Level C)) (ms : List (Level D)) (l : Level C) (m : Level D) → SameMarks ls ms
+    → SameMark l m → SameMarks (ls ++ l ∷ []) (ms ++ m ∷ [])
 more_marks [] [] l m e one = (one, tt)
 more_marks [] (m' ∷ ms) l m e one = absurd e
 more_marks (l' ∷ ls) [] l m e one = absurd e

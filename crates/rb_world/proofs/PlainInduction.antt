@@ -25,7 +25,8 @@ pub record StepsPlainly {S C M : Type 0} (k : Kind S C M) (kept : Kept) (q : Pro
   pub at : ((k.want q.state ≡ Starts) × (has_alternate kept q ≡ true)) ⊎ (kept.alternate ≡ 0)
 
 -- and that its step comes to an acceptance test that held
-pub record HoldsPlainly {S C M : Type 0} (k : Kind S C M) (kept : Kept) (q : Process S C) (w : World S C M) (message : Option ℤ) (s : S) : Type 0 where
+pub record HoldsPlainly {S C M : Type 0} (k : Kind S C M) (kept : Kept) (q : Process S C) (w : World S C M)
+    (message : Option ℤ) (s : S) : Type 0 where
   pub steps : StepsPlainly k kept q w message
   pub held : k.step kept.alternate (copy_of (last_of q.levels)) q.state message w.memory ≡ Held s
 
@@ -38,14 +39,17 @@ pub record IsPlainInvariant {S C M : Type 0} (k : Kind S C M) (before after : Pl
   pub opens : (past : List (ℕ × Told)) (kept : Kept) (q : Process S C) (w : World S C M) (facts : Facts) → before past w
       → RunsAt kept.process q w → q.at_line ≡ false → k.want q.state ≡ Enters facts → length q.levels < most_levels → kept.alternate ≡ 0
       → after past (opened k kept.process facts 0 q w (k.keep kept.turn 0 (k.enter q.state) w.memory))
-  pub accepts : (past : List (ℕ × Told)) (kept : Kept) (q : Process S C) (w : World S C M) (message : Option ℤ) (s : S) (level : Level C) → before past w
+  pub accepts : (past : List (ℕ × Told)) (kept : Kept) (q : Process S C) (w : World S C M) (message : Option ℤ) (s : S) (level : Level C)
+      → before past w
       → HoldsPlainly k kept q w message s → last_of q.levels ≡ Some level → level.facts.conversation ≡ None
       → after past (left_alone k kept.process q.levels w (k.keep kept.turn kept.alternate s w.memory))
-  pub stands : (past : List (ℕ × Told)) (kept : Kept) (q : Process S C) (w : World S C M) (message : Option ℤ) (s : S) (level : Level C) (c : ℕ) → before past w
+  pub stands : (past : List (ℕ × Told)) (kept : Kept) (q : Process S C) (w : World S C M) (message : Option ℤ) (s : S) (level : Level C) (c : ℕ)
+      → before past w
       → HoldsPlainly k kept q w message s → last_of q.levels ≡ Some level → level.facts.conversation ≡ Some c
       → all_stand k c (come_to_stand kept.process q.levels w (k.keep kept.turn kept.alternate s w.memory)) ≡ false
       → after past (come_to_stand kept.process q.levels w (k.keep kept.turn kept.alternate s w.memory))
-  pub leaves : (past : List (ℕ × Told)) (kept : Kept) (q : Process S C) (w : World S C M) (message : Option ℤ) (s : S) (level : Level C) (c : ℕ) → before past w
+  pub leaves : (past : List (ℕ × Told)) (kept : Kept) (q : Process S C) (w : World S C M) (message : Option ℤ) (s : S) (level : Level C) (c : ℕ)
+      → before past w
       → HoldsPlainly k kept q w message s → last_of q.levels ≡ Some level → level.facts.conversation ≡ Some c
       → all_stand k c (come_to_stand kept.process q.levels w (k.keep kept.turn kept.alternate s w.memory)) ≡ true
       → after past (all_leave k c (come_to_stand kept.process q.levels w (k.keep kept.turn kept.alternate s w.memory)))
@@ -70,7 +74,9 @@ module _ {S C M : Type 0} {k : Kind S C M} {before after : Plainly S C M} (laws 
   abbrev Changed : List (ℕ × Told) → Moved S C M → Type 0
   Changed past moved = after past moved.world
 
-  at_line-plain : (past : List (ℕ × Told)) (kept : Kept) (q : Process S C) (w : World S C M) (message : Option ℤ) (s : S) (level : Level C) (c : ℕ) → before past w
+  at_line-plain : (past : List (ℕ × Told)) (kept : Kept) (q : Process S C) (w : World S C M) (message : Option ℤ) (s : S)
+      (level : Level C) (c : ℕ)
+      → before past w
       → HoldsPlainly k kept q w message s → last_of q.levels ≡ Some level → level.facts.conversation ≡ Some c
       → (all : Bool) → all_stand k c (come_to_stand kept.process q.levels w (k.keep kept.turn kept.alternate s w.memory)) ≡ all
       → let v = come_to_stand kept.process q.levels w (k.keep kept.turn kept.alternate s w.memory) in
@@ -78,7 +84,8 @@ module _ {S C M : Type 0} {k : Kind S C M} {before after : Plainly S C M} (laws 
   at_line-plain past kept q w message s level c holds at last of_c true e = laws.leaves past kept q w message s level c holds at last of_c e
   at_line-plain past kept q w message s level c holds at last of_c false e = laws.stands past kept q w message s level c holds at last of_c e
 
-  accepted_at-plain : (past : List (ℕ × Told)) (kept : Kept) (q : Process S C) (w : World S C M) (message : Option ℤ) (s : S) (level : Level C) → before past w
+  accepted_at-plain : (past : List (ℕ × Told)) (kept : Kept) (q : Process S C) (w : World S C M) (message : Option ℤ) (s : S) (level : Level C)
+      → before past w
       → HoldsPlainly k kept q w message s → last_of q.levels ≡ Some level → (conversation : Option ℕ) → level.facts.conversation ≡ conversation
       → after past (accepted_at k kept.process q.levels conversation w (k.keep kept.turn kept.alternate s w.memory)).world
   accepted_at-plain past kept q w message s level holds at last None e = laws.accepts past kept q w message s level holds at last e
@@ -90,10 +97,12 @@ module _ {S C M : Type 0} {k : Kind S C M} {before after : Plainly S C M} (laws 
       → HoldsPlainly k kept q w message s → (level : Option (Level C)) → last_of q.levels ≡ level
       → after past (accepted k kept.process q.levels level w (k.keep kept.turn kept.alternate s w.memory)).world
   accepted-plain past kept q w message s holds at None e = laws.rests past w holds
-  accepted-plain past kept q w message s holds at (Some level) e = accepted_at-plain past kept q w message s level holds at e level.facts.conversation refl
+  accepted-plain past kept q w message s holds at (Some level) e =
+      accepted_at-plain past kept q w message s level holds at e level.facts.conversation refl
 
   stepped-plain : (past : List (ℕ × Told)) (kept : Kept) (q : Process S C) (w : World S C M) (message : Option ℤ) → before past w
-      → StepsPlainly k kept q w message → (result : Stepped S M) → k.step kept.alternate (copy_of (last_of q.levels)) q.state message w.memory ≡ result
+      → StepsPlainly k kept q w message → (result : Stepped S M)
+      → k.step kept.alternate (copy_of (last_of q.levels)) q.state message w.memory ≡ result
       → IfAny (Changed past) (plain_stepped k kept q.levels w result)
   stepped-plain past kept q w message holds at (Trapped cause) e = tt
   stepped-plain past kept q w message holds at (Went s m) e = laws.goes past kept q w message s m holds at e
@@ -112,7 +121,8 @@ module _ {S C M : Type 0} {k : Kind S C M} {before after : Plainly S C M} (laws 
   receives-plain past kept q w c holds runs away e none (Some v) there =
       steps-plain past kept q w (Some v) holds (record { runs = runs; away = away; ready = ToReceive c v e there refl; at = inr none })
 
-  acts-plain : (past : List (ℕ × Told)) (kept : Kept) (q : Process S C) (w : World S C M) → before past w → RunsAt kept.process q w → q.at_line ≡ false
+  acts-plain : (past : List (ℕ × Told)) (kept : Kept) (q : Process S C) (w : World S C M) → before past w
+      → RunsAt kept.process q w → q.at_line ≡ false
       → (want : Want) → k.want q.state ≡ want → IfAny (Changed past) (plain_acts k kept q w want)
   acts-plain past kept q w holds runs away NothingLeft e = tt
   acts-plain past kept q w holds runs away (SendsOn c) e =
@@ -148,7 +158,8 @@ module _ {S C M : Type 0} {k : Kind S C M} {before after : Plainly S C M} (laws 
   away-plain past kept q w holds runs true e = tt
   away-plain past kept q w holds runs false e = acts-plain past kept q w holds runs e (k.want q.state) refl
 
-  runs-plain : (past : List (ℕ × Told)) (kept : Kept) (q : Process S C) (w : World S C M) → before past w → slice_get w.processes kept.process ≡ Some q
+  runs-plain : (past : List (ℕ × Told)) (kept : Kept) (q : Process S C) (w : World S C M) → before past w
+      → slice_get w.processes kept.process ≡ Some q
       → (status : Status) → q.status ≡ status → IfAny (Changed past) (plain_runs k kept q w status)
   runs-plain past kept q w holds there Running e = away-plain past kept q w holds (record { there = there; running = e }) q.at_line refl
   runs-plain past kept q w holds there Finished e = tt
@@ -165,7 +176,8 @@ module _ {S C M : Type 0} {k : Kind S C M} {before after : Plainly S C M} (laws 
   turned-plain past t w (Some moved) h = laws.releases past t moved.world (finishes k w moved).1 h refl
 
   -- one turn of a record
-  pub plain_turn-keeps : (past : List (ℕ × Told)) (kept : Kept) (w : World S C M) (x : World S C M × Told) → before past w → plain_turn k kept w ≡ Some x
+  pub plain_turn-keeps : (past : List (ℕ × Told)) (kept : Kept) (w : World S C M) (x : World S C M × Told) → before past w
+      → plain_turn k kept w ≡ Some x
       → before (past ++ (kept.turn, x.1) ∷ []) x.0
   plain_turn-keeps past kept w x holds e =
       if_some (λ (y : World S C M × Told). before (past ++ (kept.turn, y.1) ∷ []) y.0) (plain_turn k kept w) x
@@ -177,7 +189,8 @@ module _ {S C M : Type 0} {k : Kind S C M} {before after : Plainly S C M} (laws 
   IfEnds past (Ended v lines) = before (past ++ lines) v
   IfEnds past (StuckAt t) = Unit {0}
 
-  told-plain : (past : List (ℕ × Told)) (t : ℕ) (one : Told) (end : PlainEnd S C M) → IfEnds (past ++ (t, one) ∷ []) end → IfEnds past (plain_told t one end)
+  told-plain : (past : List (ℕ × Told)) (t : ℕ) (one : Told) (end : PlainEnd S C M) → IfEnds (past ++ (t, one) ∷ []) end
+      → IfEnds past (plain_told t one end)
   told-plain past t one (Ended v lines) h =
       subst (λ (all : List (ℕ × Told)). before all v) (append_assoc past ((t, one) ∷ []) lines) h
   told-plain past t one (StuckAt u) h = tt

@@ -32,9 +32,12 @@ alternates_same None (Some y) e = absurd e
 alternates_same (Some x) None e = absurd e
 alternates_same (Some x) (Some y) e = ap (λ (facts : Facts). facts.alternates) e.facts
 
-module _ {S C M T D N : Type 0} {k : Kind S C M} {l : Kind T D N} {shared : Shared M N} {related : Related S C M T D N} {known : Knowing S C M} (laws : IsPlainSimulation k l shared related known) where
-  plain_stepped_meets : (kept : Kept) (w : World S C M) (v : World T D N) (ls : List (Level C)) (ms : List (Level D)) (x : Stepped S M) (y : Stepped T N)
-      → StepsMeet k l shared related kept.turn kept.process kept.alternate w v.memory (copies_of ls) (copies_of ms) x y → SameMarks ls ms → WorldsMeet shared related w v
+module _ {S C M T D N : Type 0} {k : Kind S C M} {l : Kind T D N} {shared : Shared M N} {related : Related S C M T D N} {known : Knowing S C M}
+    (laws : IsPlainSimulation k l shared related known) where
+  plain_stepped_meets : (kept : Kept) (w : World S C M) (v : World T D N) (ls : List (Level C)) (ms : List (Level D))
+      (x : Stepped S M) (y : Stepped T N)
+      → StepsMeet k l shared related kept.turn kept.process kept.alternate w v.memory (copies_of ls) (copies_of ms) x y
+      → SameMarks ls ms → WorldsMeet shared related w v
       → OptionsMeet (MovesMeet shared related) (plain_stepped k kept ls w x) (plain_stepped l kept ms v y)
   plain_stepped_meets kept w v ls ms (Trapped c) (Trapped d) e same meets = tt
   plain_stepped_meets kept w v ls ms (Trapped c) (Went u n) e same meets = absurd e
@@ -52,13 +55,19 @@ module _ {S C M T D N : Type 0} {k : Kind S C M} {l : Kind T D N} {shared : Shar
       let b = l.keep kept.turn kept.alternate u v.memory in
       accepted_meets laws kept.process w v a.1 b.1 a.0 ls b.0 ms (last_of ls) (last_of ms) e same (last_marks ls ms same) meets
 
-  module _ (kept : Kept) (q : Process S C) (w : World S C M) (r : Process T D) (v : World T D N) (may : IsActing known kept.turn kept.process q w) (both : ProcessesMeet related w.memory v.memory q r) (meets : WorldsMeet shared related w v) where
+  module _ (kept : Kept) (q : Process S C) (w : World S C M) (r : Process T D) (v : World T D N)
+      (may : IsActing known kept.turn kept.process q w) (both : ProcessesMeet related w.memory v.memory q r)
+      (meets : WorldsMeet shared related w v) where
     plain_steps_meet : (message : Option ℤ) → IsReady k q w message → (k.want q.state ≡ Starts) ⊎ (kept.alternate ≡ 0)
         → OptionsMeet (MovesMeet shared related) (plain_steps k kept message q w) (plain_steps l kept message r v)
     plain_steps_meet message ready at =
-        subst (λ (x : Option C). OptionsMeet (MovesMeet shared related) (plain_stepped k kept q.levels w (k.step kept.alternate x q.state message w.memory)) (plain_steps l kept message r v))
+        subst (λ (x : Option C). OptionsMeet (MovesMeet shared related)
+        (plain_stepped k kept q.levels w (k.step kept.alternate x q.state message w.memory))
+        (plain_steps l kept message r v))
         (sym (copies-last q.levels))
-        (subst (λ (y : Option D). OptionsMeet (MovesMeet shared related) (plain_stepped k kept q.levels w (k.step kept.alternate (last_of (copies_of q.levels)) q.state message w.memory)) (plain_stepped l kept r.levels v (l.step kept.alternate y r.state message v.memory)))
+        (subst (λ (y : Option D). OptionsMeet (MovesMeet shared related)
+        (plain_stepped k kept q.levels w (k.step kept.alternate (last_of (copies_of q.levels)) q.state message w.memory))
+        (plain_stepped l kept r.levels v (l.step kept.alternate y r.state message v.memory)))
         (sym (copies-last r.levels))
         (plain_stepped_meets kept w v q.levels r.levels _ _
         (laws.step kept.turn kept.process q w kept.alternate message v.memory (copies_of r.levels) r.state may ready at meets.memories
@@ -72,7 +81,8 @@ module _ {S C M T D N : Type 0} {k : Kind S C M} {l : Kind T D N} {shared : Shar
     plain_receives_meet c wants none None there = tt
     plain_receives_meet c wants none (Some x) there = plain_steps_meet (Some x) (ToReceive c x wants there refl) (no_start none)
 
-    plain_acts_meet : (want : Want) → k.want q.state ≡ want → OptionsMeet (MovesMeet shared related) (plain_acts k kept q w want) (plain_acts l kept r v want)
+    plain_acts_meet : (want : Want) → k.want q.state ≡ want
+        → OptionsMeet (MovesMeet shared related) (plain_acts k kept q w want) (plain_acts l kept r v want)
     plain_acts_meet NothingLeft wants = tt
     plain_acts_meet (SendsOn c) wants =
         when_meets (MovesMeet shared related) (no_alternate kept && has_room k w c) (no_alternate kept && has_room l v c) _ _
@@ -81,16 +91,21 @@ module _ {S C M T D N : Type 0} {k : Kind S C M} {l : Kind T D N} {shared : Shar
         (no_start (first_holds (no_alternate kept) (has_room k w c) e)))
     plain_acts_meet (ReceivesOn c) wants =
         when_meets (MovesMeet shared related) (no_alternate kept) (no_alternate kept) _ _ refl
-        (λ none. subst (λ (message : Option ℤ). OptionsMeet (MovesMeet shared related) (plain_receives k kept q w (message_there k w c)) (plain_receives l kept r v message))
+        (λ none. subst
+        (λ (message : Option ℤ). OptionsMeet (MovesMeet shared related)
+        (plain_receives k kept q w (message_there k w c)) (plain_receives l kept r v message))
         (message_there-same laws kept.turn kept.process q w c may (inl wants) v meets)
         (plain_receives_meet c wants none (message_there k w c) refl))
     plain_acts_meet (MayReceiveOn c) wants =
         when_meets (MovesMeet shared related) (no_alternate kept) (no_alternate kept) _ _ refl
-        (λ none. subst (λ (message : Option ℤ). OptionsMeet (MovesMeet shared related) (plain_steps k kept (message_there k w c) q w) (plain_steps l kept message r v))
+        (λ none. subst
+        (λ (message : Option ℤ). OptionsMeet (MovesMeet shared related) (plain_steps k kept (message_there k w c) q w)
+        (plain_steps l kept message r v))
         (message_there-same laws kept.turn kept.process q w c may (inr wants) v meets)
         (plain_steps_meet (message_there k w c) (ToReceiveIfThere c wants refl) (no_start none)))
     plain_acts_meet (Enters facts) wants =
-        when_meets (MovesMeet shared related) (no_alternate kept && nat_lt (length q.levels) most_levels) (no_alternate kept && nat_lt (length r.levels) most_levels) _ _
+        when_meets (MovesMeet shared related) (no_alternate kept && nat_lt (length q.levels) most_levels)
+        (no_alternate kept && nat_lt (length r.levels) most_levels) _ _
         (ap (λ (n : ℕ). no_alternate kept && nat_lt n most_levels) (same_length q.levels r.levels both.marks))
         (λ _. open_at_meets laws kept.turn kept.process q w r v may both meets facts 0 wants)
     plain_acts_meet Starts wants =
@@ -108,17 +123,20 @@ module _ {S C M T D N : Type 0} {k : Kind S C M} {l : Kind T D N} {shared : Shar
         (laws.want w.memory v.memory _ q.state _ r.state (away_states laws kept.turn kept.process q w r v may both meets))
         (plain_acts_meet (k.want q.state) refl)
 
-  at_line_meets : (kept : Kept) (q : Process S C) (w : World S C M) (r : Process T D) (v : World T D N) → KnowsKept known kept w → RunsAt kept.process q w
+  at_line_meets : (kept : Kept) (q : Process S C) (w : World S C M) (r : Process T D) (v : World T D N)
+      → KnowsKept known kept w → RunsAt kept.process q w
       → ProcessesMeet related w.memory v.memory q r → WorldsMeet shared related w v
       → (a b : Bool) → q.at_line ≡ a → a ≡ b
-      → OptionsMeet (MovesMeet shared related) (cond a None (plain_acts k kept q w (k.want q.state))) (cond b None (plain_acts l kept r v (l.want r.state)))
+      → OptionsMeet (MovesMeet shared related) (cond a None (plain_acts k kept q w (k.want q.state)))
+      (cond b None (plain_acts l kept r v (l.want r.state)))
   at_line_meets kept q w r v knows at both meets true true e f = tt
   at_line_meets kept q w r v knows at both meets true false e f = absurd (true≢false f)
   at_line_meets kept q w r v knows at both meets false true e f = absurd (true≢false (sym f))
   at_line_meets kept q w r v knows at both meets false false e f =
       plain_acts_meet_both kept q w r v (record { knows = knows q at e; runs = at; away = e }) both meets
 
-  plain_runs_meet : (kept : Kept) (q : Process S C) (w : World S C M) (r : Process T D) (v : World T D N) → KnowsKept known kept w → slice_get w.processes kept.process ≡ Some q
+  plain_runs_meet : (kept : Kept) (q : Process S C) (w : World S C M) (r : Process T D) (v : World T D N)
+      → KnowsKept known kept w → slice_get w.processes kept.process ≡ Some q
       → ProcessesMeet related w.memory v.memory q r → WorldsMeet shared related w v → (status : Status) → q.status ≡ status
       → OptionsMeet (MovesMeet shared related) (plain_runs k kept q w status) (plain_runs l kept r v status)
   plain_runs_meet kept q w r v knows there both meets Running e =
@@ -127,13 +145,15 @@ module _ {S C M T D N : Type 0} {k : Kind S C M} {l : Kind T D N} {shared : Shar
   plain_runs_meet kept q w r v knows there both meets (FailedWith cause) e = tt
 
   plain_moves_meet : (kept : Kept) (w : World S C M) (v : World T D N) → KnowsKept known kept w → WorldsMeet shared related w v
-      → (q : Option (Process S C)) (r : Option (Process T D)) → slice_get w.processes kept.process ≡ q → OptionsMeet (ProcessesMeet related w.memory v.memory) q r
+      → (q : Option (Process S C)) (r : Option (Process T D)) → slice_get w.processes kept.process ≡ q
+      → OptionsMeet (ProcessesMeet related w.memory v.memory) q r
       → OptionsMeet (MovesMeet shared related) (plain_moves k kept w q) (plain_moves l kept v r)
   plain_moves_meet kept w v knows meets None None e both = tt
   plain_moves_meet kept w v knows meets None (Some r) e both = absurd both
   plain_moves_meet kept w v knows meets (Some q) None e both = absurd both
   plain_moves_meet kept w v knows meets (Some q) (Some r) e both =
-      subst (λ (status : Status). OptionsMeet (MovesMeet shared related) (plain_runs k kept q w q.status) (plain_runs l kept r v status)) both.statuses
+      subst (λ (status : Status). OptionsMeet (MovesMeet shared related) (plain_runs k kept q w q.status)
+      (plain_runs l kept r v status)) both.statuses
       (plain_runs_meet kept q w r v knows e both meets q.status refl)
 
   plain_turned_meets : (w : World S C M) (v : World T D N) (x : Option (Moved S C M)) (y : Option (Moved T D N)) → WorldsMeet shared related w v
@@ -158,7 +178,8 @@ EndsMeet shared related (Ended w lines) (StuckAt t) = ⊥
 EndsMeet shared related (StuckAt t) (Ended v lines) = ⊥
 EndsMeet shared related (StuckAt t) (StuckAt t') = t ≡ t'
 
-plain_told_meets : {S C M T D N : Type 0} (shared : Shared M N) (related : Related S C M T D N) (t : ℕ) (one one' : Told) (x : PlainEnd S C M) (y : PlainEnd T D N)
+plain_told_meets : {S C M T D N : Type 0} (shared : Shared M N) (related : Related S C M T D N) (t : ℕ) (one one' : Told)
+    (x : PlainEnd S C M) (y : PlainEnd T D N)
     → one ≡ one' → EndsMeet shared related x y → EndsMeet shared related (plain_told t one x) (plain_told t one' y)
 plain_told_meets shared related t one one' (Ended w lines) (Ended v lines') e both =
     (both.0, ap₂ (λ (x : Told) (all : List (ℕ × Told)). (t, x) ∷ all) e both.1)
@@ -175,10 +196,13 @@ pub record KeepsPlainKnown {S C M : Type 0} (k : Kind S C M) (known : Knowing S 
 pub keeps_nothing_plain : {S C M : Type 0} (k : Kind S C M) → KeepsPlainKnown k nothing_known (λ _. Unit {0})
 keeps_nothing_plain k = record { knows = λ kept w _ q _ _. tt; stays = λ kept w x _ _. tt }
 
-module _ {S C M T D N : Type 0} {k : Kind S C M} {l : Kind T D N} {shared : Shared M N} {related : Related S C M T D N} {known : Knowing S C M} (laws : IsPlainSimulation k l shared related known) where
-  plain_on_meets : (t : ℕ) (x : Option (World S C M × Told)) (y : Option (World T D N × Told)) (others : World S C M → PlainEnd S C M) (others' : World T D N → PlainEnd T D N)
+module _ {S C M T D N : Type 0} {k : Kind S C M} {l : Kind T D N} {shared : Shared M N} {related : Related S C M T D N} {known : Knowing S C M}
+    (laws : IsPlainSimulation k l shared related known) where
+  plain_on_meets : (t : ℕ) (x : Option (World S C M × Told)) (y : Option (World T D N × Told))
+      (others : World S C M → PlainEnd S C M) (others' : World T D N → PlainEnd T D N)
       → OptionsMeet (TurnsMeet shared related) x y
-      → ((w : World S C M × Told) (v : World T D N × Told) → x ≡ Some w → WorldsMeet shared related w.0 v.0 → EndsMeet shared related (others w.0) (others' v.0))
+      → ((w : World S C M × Told) (v : World T D N × Told) → x ≡ Some w → WorldsMeet shared related w.0 v.0
+      → EndsMeet shared related (others w.0) (others' v.0))
       → EndsMeet shared related (plain_on t x others) (plain_on t y others')
   plain_on_meets t None None others others' e rest = refl
   plain_on_meets t None (Some y) others others' e rest = absurd e

@@ -45,8 +45,10 @@ module _ {S C M T D N : Type 0} (related : Related S C M T D N) where
   get_meets m n (q ∷ qs) (r ∷ rs) zero e = e.0
   get_meets m n (q ∷ qs) (r ∷ rs) (suc p) e = get_meets m n qs rs p e.1
 
-  pub map_meets : (m : M) (n : N) (m' : M) (n' : N) (f : Process S C → Process S C) (g : Process T D → Process T D) (qs : List (Process S C)) (rs : List (Process T D))
-      → ((i : ℕ) (q : Process S C) (r : Process T D) → slice_get qs i ≡ Some q → ProcessesMeet related m n q r → ProcessesMeet related m' n' (f q) (g r))
+  pub map_meets : (m : M) (n : N) (m' : M) (n' : N) (f : Process S C → Process S C) (g : Process T D → Process T D)
+      (qs : List (Process S C)) (rs : List (Process T D))
+      → ((i : ℕ) (q : Process S C) (r : Process T D) → slice_get qs i ≡ Some q → ProcessesMeet related m n q r
+      → ProcessesMeet related m' n' (f q) (g r))
       → AllMeet related m n qs rs → AllMeet related m' n' (map f qs) (map g rs)
   map_meets m n m' n' f g [] [] one e = tt
   map_meets m n m' n' f g [] (r ∷ rs) one e = absurd e
@@ -63,9 +65,12 @@ module _ {S C M T D N : Type 0} (related : Related S C M T D N) where
   carry_meets m n m' n' (q ∷ qs) (r ∷ rs) one e =
       (one 0 q r refl e.0, carry_meets m n m' n' qs rs (λ i. one (suc i)) e.1)
 
-  pub change_meets : (m : M) (n : N) (m' : M) (n' : N) (p : ℕ) (f : Process S C → Process S C) (g : Process T D → Process T D) (qs : List (Process S C)) (rs : List (Process T D))
-      → ((i : ℕ) (q : Process S C) (r : Process T D) → i ≢ p → slice_get qs i ≡ Some q → ProcessesMeet related m n q r → ProcessesMeet related m' n' q r)
-      → ((q : Process S C) (r : Process T D) → slice_get qs p ≡ Some q → slice_get rs p ≡ Some r → ProcessesMeet related m n q r → ProcessesMeet related m' n' (f q) (g r))
+  pub change_meets : (m : M) (n : N) (m' : M) (n' : N) (p : ℕ) (f : Process S C → Process S C)
+      (g : Process T D → Process T D) (qs : List (Process S C)) (rs : List (Process T D))
+      → ((i : ℕ) (q : Process S C) (r : Process T D) → i ≢ p → slice_get qs i ≡ Some q → ProcessesMeet related m n q r
+      → ProcessesMeet related m' n' q r)
+      → ((q : Process S C) (r : Process T D) → slice_get qs p ≡ Some q → slice_get rs p ≡ Some r
+      → ProcessesMeet related m n q r → ProcessesMeet related m' n' (f q) (g r))
       → AllMeet related m n qs rs → AllMeet related m' n' (change_at p f qs) (change_at p g rs)
   change_meets m n m' n' p f g [] [] others one e = tt
   change_meets m n m' n' p f g [] (r ∷ rs) others one e = absurd e
@@ -84,7 +89,8 @@ module _ {S C M T D N : Type 0} (related : Related S C M T D N) where
       → related line m n cs s ds u → related line m n cs' s ds' u
   rewritten {line} {m} {n} {cs} {cs'} {s} {ds} {ds'} {u} e f = subst₂ (λ (x : List C) (y : List D). related line m n x s y u) e f
 
-  pub used_meets : (m : M) (n : N) (q : Process S C) (r : Process T D) → ProcessesMeet related m n q r → ProcessesMeet related m n (turn_used q) (turn_used r)
+  pub used_meets : (m : M) (n : N) (q : Process S C) (r : Process T D) → ProcessesMeet related m n q r
+      → ProcessesMeet related m n (turn_used q) (turn_used r)
   used_meets m n q r meets = record {
     states = rewritten (sym (copies-used q.levels)) (sym (copies-used r.levels)) meets.states;
     marks = used_marks q.levels r.levels meets.marks;
@@ -92,7 +98,8 @@ module _ {S C M T D N : Type 0} (related : Related S C M T D N) where
     statuses = meets.statuses;
   }
 
-  pub raised_meets : (m : M) (n : N) (j : ℕ) (q : Process S C) (r : Process T D) → ProcessesMeet related m n q r → ProcessesMeet related m n (raised j q) (raised j r)
+  pub raised_meets : (m : M) (n : N) (j : ℕ) (q : Process S C) (r : Process T D) → ProcessesMeet related m n q r
+      → ProcessesMeet related m n (raised j q) (raised j r)
   raised_meets m n j q r meets = record {
     states = rewritten (sym (copies-next j q.levels)) (sym (copies-next j r.levels)) meets.states;
     marks = next_marks j q.levels r.levels meets.marks;
@@ -127,7 +134,8 @@ module _ {S C M T D N : Type 0} (related : Related S C M T D N) where
   stands_now_meets m n s ls u ms e meets = record { states = meets; marks = e; lines = refl; statuses = refl }
 
 -- changes under the laws of plain runs
-module _ {S C M T D N : Type 0} {k : Kind S C M} {l : Kind T D N} {shared : Shared M N} {related : Related S C M T D N} {known : Knowing S C M} (laws : IsPlainSimulation k l shared related known) where
+module _ {S C M T D N : Type 0} {k : Kind S C M} {l : Kind T D N} {shared : Shared M N} {related : Related S C M T D N} {known : Knowing S C M}
+    (laws : IsPlainSimulation k l shared related known) where
   -- who goes on
   pub goes_on_meets : (m : M) (n : N) (s : S) (ls : List (Level C)) (u : T) (ms : List (Level D)) → SameMarks ls ms
       → related false m n (copies_of ls) s (copies_of ms) u → ProcessesMeet related m n (goes_on k s ls) (goes_on l u ms)
@@ -144,7 +152,8 @@ module _ {S C M T D N : Type 0} {k : Kind S C M} {l : Kind T D N} {shared : Shar
   left_meets m n s ls u ms e meets =
       let cs = copies_of (without_last ls) in
       let ds = copies_of (without_last ms) in
-      goes_on_meets m n (k.settle (copy_of (last_of (without_last ls))) (k.accept s)) (without_last ls) (l.settle (copy_of (last_of (without_last ms))) (l.accept u)) (without_last ms) (front_marks ls ms e)
+      goes_on_meets m n (k.settle (copy_of (last_of (without_last ls))) (k.accept s)) (without_last ls)
+      (l.settle (copy_of (last_of (without_last ms))) (l.accept u)) (without_last ms) (front_marks ls ms e)
       (subst₂ (λ (x : Option C) (y : Option D). related false m n cs (k.settle x (k.accept s)) ds (l.settle y (l.accept u)))
       (sym (last-front ls)) (sym (last-front ms))
       (rewritten related (sym (copies-front ls)) (sym (copies-front ms)) (laws.leave m n (copies_of ls) s (copies_of ms) u meets)))
@@ -176,7 +185,8 @@ module _ {S C M T D N : Type 0} {k : Kind S C M} {l : Kind T D N} {shared : Shar
   freed_same line m n s (x ∷ ls) u [] e meets = absurd e
   freed_same line m n s (x ∷ ls) u (y ∷ ms) e meets = refl
 
-  pub freed_meets : (m : M) (n : N) (q : Process S C) (r : Process T D) → ProcessesMeet related m n q r → ProcessesMeet related m n (freed k q) (freed l r)
+  pub freed_meets : (m : M) (n : N) (q : Process S C) (r : Process T D) → ProcessesMeet related m n q r
+      → ProcessesMeet related m n (freed k q) (freed l r)
   freed_meets m n q r meets = record {
     states = freed_states q.at_line m n q.state q.levels r.state r.levels meets.marks meets.states;
     marks = meets.marks;
@@ -193,7 +203,8 @@ module _ {S C M T D N : Type 0} {k : Kind S C M} {l : Kind T D N} {shared : Shar
       ap₂ ◌∷◌ (freed_same q.at_line m n q.state q.levels r.state r.levels e.0.marks e.0.states) (all_freed m n qs rs e.1)
 
 -- rejections
-module _ {S C M T D N : Type 0} {k : Kind S C M} {l : Kind T D N} {shared : Shared M N} {related : Related S C M T D N} {known : Knowing S C M} (laws : IsSimulation k l shared related known) where
+module _ {S C M T D N : Type 0} {k : Kind S C M} {l : Kind T D N} {shared : Shared M N} {related : Related S C M T D N} {known : Knowing S C M}
+    (laws : IsSimulation k l shared related known) where
   pub fallen_meets : (m : M) (n : N) (cause : Cause) (q : Process S C) (r : Process T D) → q.at_line ≡ false → ProcessesMeet related m n q r
       → ProcessesMeet related m n (fallen k cause q) (fallen l cause r)
   fallen_meets m n cause q r away meets = record {
@@ -214,7 +225,9 @@ module _ {S C M T D N : Type 0} {k : Kind S C M} {l : Kind T D N} {shared : Shar
   back_to_meets m n j q r meets None (Some y) e f same = absurd same
   back_to_meets m n j q r meets (Some x) None e f same = absurd same
   back_to_meets m n j q r meets (Some x) (Some y) e f same = record {
-    states = subst (λ (i : ℕ). related false m n (copies_of (take i q.levels)) (k.restore (k.cut i q.state) x.copy) (copies_of (take i r.levels)) (l.restore (l.cut i r.state) y.copy))
+    states = subst
+        (λ (i : ℕ). related false m n (copies_of (take i q.levels)) (k.restore (k.cut i q.state) x.copy)
+        (copies_of (take i r.levels)) (l.restore (l.cut i r.state) y.copy))
         (sym (add-one j))
         (rewritten related (sym (copies-take (suc j) q.levels)) (sym (copies-take (suc j) r.levels))
         (laws.back q.at_line m n (copies_of q.levels) q.state (copies_of r.levels) r.state j x.copy y.copy meets.states
@@ -224,7 +237,8 @@ module _ {S C M T D N : Type 0} {k : Kind S C M} {l : Kind T D N} {shared : Shar
     statuses = meets.statuses;
   }
 
-  pub put_back_meets : (m : M) (n : N) (j : ℕ) (q : Process S C) (r : Process T D) → ProcessesMeet related m n q r → ProcessesMeet related m n (put_back k j q) (put_back l j r)
+  pub put_back_meets : (m : M) (n : N) (j : ℕ) (q : Process S C) (r : Process T D) → ProcessesMeet related m n q r
+      → ProcessesMeet related m n (put_back k j q) (put_back l j r)
   put_back_meets m n j q r meets =
       back_to_meets m n j q r meets (slice_get q.levels j) (slice_get r.levels j) refl refl (get_marks q.levels r.levels j meets.marks)
 

@@ -20,7 +20,8 @@ abbrev pub with_messages : {S C M : Type 0} → Kind S C M → (M → S → ℕ 
 with_messages k message message_then = record k { message = message; message_then = message_then }
 
 -- both ways agree on the message that is taken next
-pub record ReadsSame {S C M : Type 0} (k : Kind S C M) (message : M → S → ℕ → ℕ → ℤ) (message_then : M → S → C → ℕ → ℕ → ℤ) (known : Knowing S C M) : Type 0 where
+pub record ReadsSame {S C M : Type 0} (k : Kind S C M) (message : M → S → ℕ → ℕ → ℤ) (message_then : M → S → C → ℕ → ℕ → ℤ)
+    (known : Knowing S C M) : Type 0 where
   pub now : (t p : ℕ) (q : Process S C) (w : World S C M) (c : ℕ) (sender receiver : Process S C)
       → IsActing known t p q w → IsReceipt k q w c sender receiver
       → seen_copy sender.levels receiver.levels ≡ None → k.taken receiver.state c < k.sent sender.state c
@@ -86,7 +87,8 @@ worlds_same w v meets = is_world_image (λ s. s) (λ c. c) (λ m. m) w v meets �
 same_meets : {S C M : Type 0} (w : World S C M) → WorldsMeet SameMemory Same w w
 same_meets w = subst (λ v. WorldsMeet SameMemory Same w v) (own_world w) (meets_image (λ s. s) (λ c. c) (λ m. m) w)
 
-module _ {S C M : Type 0} {k : Kind S C M} {message : M → S → ℕ → ℕ → ℤ} {message_then : M → S → C → ℕ → ℕ → ℤ} {known : Knowing S C M} (reads : ReadsSame k message message_then known) where
+module _ {S C M : Type 0} {k : Kind S C M} {message : M → S → ℕ → ℕ → ℤ} {message_then : M → S → C → ℕ → ℕ → ℤ} {known : Knowing S C M}
+    (reads : ReadsSame k message message_then known) where
   abbrev other : Kind S C M
   other = with_messages k message message_then
 

@@ -47,7 +47,8 @@ pub each_knows : {S C M : Type 0} {k : Kind S C M} {P : ℕ → Process S C → 
 each_knows laws = invariant_knows (each_kept laws) (λ t past p q w holds may. holds p q may.runs.there)
 
 -- related worlds, and the same told of each turn
-pub record RunsMeet {S C M T D N : Type 0} (shared : Shared M N) (related : Related S C M T D N) (x : World S C M × List Told) (y : World T D N × List Told) : Type 0 where
+pub record RunsMeet {S C M T D N : Type 0} (shared : Shared M N) (related : Related S C M T D N)
+    (x : World S C M × List Told) (y : World T D N × List Told) : Type 0 where
   pub worlds : WorldsMeet shared related x.0 y.0
   pub same_told : x.1 ≡ y.1
 
@@ -73,7 +74,8 @@ same_told_at_opening {related = related} w v meets =
     ap (λ (events : List Event). record { kind = Took; events = events; released = [] })
     (same_finished related w.memory v.memory 0 w.processes v.processes meets.processes)
 
-module _ {S C M T D N : Type 0} {k : Kind S C M} {l : Kind T D N} {shared : Shared M N} {related : Related S C M T D N} {known : Knowing S C M} (laws : IsPlainSimulation k l shared related known) where
+module _ {S C M T D N : Type 0} {k : Kind S C M} {l : Kind T D N} {shared : Shared M N} {related : Related S C M T D N} {known : Knowing S C M}
+    (laws : IsPlainSimulation k l shared related known) where
   settled_meet : (m : M) (n : N) (ss : List S) (us : List T) → OpeningsMeet k l related m n ss us
       → AllMeet related m n (map (λ s. settled k s []) ss) (map (λ u. settled l u []) us)
   settled_meet m n [] [] e = tt
@@ -89,7 +91,8 @@ module _ {S C M T D N : Type 0} {k : Kind S C M} {l : Kind T D N} {shared : Shar
     talks = ap opening_talks laws.groups;
   }
 
-module _ {S C M T D N : Type 0} {k : Kind S C M} {l : Kind T D N} {shared : Shared M N} {related : Related S C M T D N} {known : Knowing S C M} (laws : IsSimulation k l shared related known) where
+module _ {S C M T D N : Type 0} {k : Kind S C M} {l : Kind T D N} {shared : Shared M N} {related : Related S C M T D N} {known : Knowing S C M}
+    (laws : IsSimulation k l shared related known) where
   -- a whole run
   pub run_meets : {holds : ℕ → World S C M → Type 0} → KeepsKnown k known holds → (t : ℕ) (turns : List ℕ) (w : World S C M) (v : World T D N)
       → holds t w → WorldsMeet shared related w v → RunsMeet shared related (run k t turns w) (run l t turns v)

@@ -45,7 +45,8 @@ pub record IsReceipt {S C M : Type 0} (k : Kind S C M) (q : Process S C) (w : Wo
   pub wants : (k.want q.state ≡ ReceivesOn c) ⊎ (k.want q.state ≡ MayReceiveOn c)
 
 -- What a change of process p leaves: memories, its states and copies, and all others as they were, in the new memories.
-pub record StillMeets {S C M T D N : Type 0} (shared : Shared M N) (related : Related S C M T D N) (p : ℕ) (w : World S C M) (old : N) (line : Bool) (m : M) (n : N) (cs : List C) (s : S) (ds : List D) (t : T) : Type 0 where
+pub record StillMeets {S C M T D N : Type 0} (shared : Shared M N) (related : Related S C M T D N) (p : ℕ) (w : World S C M)
+    (old : N) (line : Bool) (m : M) (n : N) (cs : List C) (s : S) (ds : List D) (t : T) : Type 0 where
   pub memories : shared m n
   pub states : related line m n cs s ds t
   pub others : (r : ℕ) (q : Process S C) (es : List D) (u : T) → r ≢ p → slice_get w.processes r ≡ Some q
@@ -53,7 +54,8 @@ pub record StillMeets {S C M T D N : Type 0} (shared : Shared M N) (related : Re
       → related q.at_line m n (copies_of q.levels) q.state es u
 
 -- the same trap, or both went on or held, and what was kept is related
-abbrev pub StepsMeet : {S C M T D N : Type 0} → Kind S C M → Kind T D N → Shared M N → Related S C M T D N → ℕ → ℕ → ℕ → World S C M → N → List C → List D → Stepped S M → Stepped T N → Type 0
+abbrev pub StepsMeet : {S C M T D N : Type 0} → Kind S C M → Kind T D N → Shared M N → Related S C M T D N → ℕ → ℕ → ℕ
+    → World S C M → N → List C → List D → Stepped S M → Stepped T N → Type 0
 StepsMeet k l shared related t p alternate w old cs ds (Trapped c) (Trapped d) = c ≡ d
 StepsMeet k l shared related t p alternate w old cs ds (Trapped c) (Went u n) = ⊥
 StepsMeet k l shared related t p alternate w old cs ds (Trapped c) (Held u) = ⊥
@@ -71,7 +73,8 @@ StepsMeet k l shared related t p alternate w old cs ds (Held s) (Held u) =
     StillMeets shared related p w old true x.1 y.1 cs x.0 ds y.0
 
 -- The laws that a plain run needs, in which nothing is put back.
-pub record IsPlainSimulation {S C M T D N : Type 0} (k : Kind S C M) (l : Kind T D N) (shared : Shared M N) (related : Related S C M T D N) (known : Knowing S C M) : Type 0 where
+pub record IsPlainSimulation {S C M T D N : Type 0} (k : Kind S C M) (l : Kind T D N) (shared : Shared M N)
+    (related : Related S C M T D N) (known : Knowing S C M) : Type 0 where
   pub channels : k.channels ≡ l.channels
   pub groups : k.groups ≡ l.groups
   pub want : (m : M) (n : N) (cs : List C) (s : S) (ds : List D) (u : T) → related false m n cs s ds u → k.want s ≡ l.want u
@@ -90,7 +93,8 @@ pub record IsPlainSimulation {S C M T D N : Type 0} (k : Kind S C M) (l : Kind T
       → related sender.at_line w.memory n (copies_of sender.levels) sender.state ds u
       → seen_copy sender.levels receiver.levels ≡ None → k.taken receiver.state c < k.sent sender.state c
       → k.message w.memory sender.state c (k.taken receiver.state c) ≡ l.message n u c (k.taken receiver.state c)
-  pub message_then : (t p : ℕ) (q : Process S C) (w : World S C M) (c : ℕ) (sender receiver : Process S C) (n : N) (ds : List D) (u : T) (j : ℕ) (x : C) (y : D)
+  pub message_then : (t p : ℕ) (q : Process S C) (w : World S C M) (c : ℕ) (sender receiver : Process S C) (n : N)
+      (ds : List D) (u : T) (j : ℕ) (x : C) (y : D)
       → IsActing known t p q w → IsReceipt k q w c sender receiver → shared w.memory n
       → related sender.at_line w.memory n (copies_of sender.levels) sender.state ds u
       → seen_copy sender.levels receiver.levels ≡ Some x → slice_get (copies_of sender.levels) j ≡ Some x → slice_get ds j ≡ Some y
@@ -110,13 +114,15 @@ pub record IsPlainSimulation {S C M T D N : Type 0} (k : Kind S C M) (l : Kind T
       StillMeets shared related p w n false x.1 y.1 (copies_of q.levels ++ k.copy x.0 ∷ []) x.0 (ds ++ l.copy y.0 ∷ []) y.0
   -- the innermost level was accepted, of a private block or by all members
   pub leave : (m : M) (n : N) (cs : List C) (s : S) (ds : List D) (u : T) → related true m n cs s ds u
-      → related false m n (without_last cs) (k.settle (last_of (without_last cs)) (k.accept s)) (without_last ds) (l.settle (last_of (without_last ds)) (l.accept u))
+      → related false m n (without_last cs) (k.settle (last_of (without_last cs)) (k.accept s)) (without_last ds)
+      (l.settle (last_of (without_last ds)) (l.accept u))
   -- without a level the same lines are held, and they are released
   pub held : (line : Bool) (m : M) (n : N) (s : S) (u : T) → related line m n [] s [] u → k.held s ≡ l.held u
   pub release : (line : Bool) (m : M) (n : N) (s : S) (u : T) → related line m n [] s [] u → related line m n [] (k.release s) [] (l.release u)
 
 -- And those of rejections.
-pub record IsSimulation {S C M T D N : Type 0} (k : Kind S C M) (l : Kind T D N) (shared : Shared M N) (related : Related S C M T D N) (known : Knowing S C M) : Type 0 where
+pub record IsSimulation {S C M T D N : Type 0} (k : Kind S C M) (l : Kind T D N) (shared : Shared M N)
+    (related : Related S C M T D N) (known : Knowing S C M) : Type 0 where
   pub plain : IsPlainSimulation k l shared related known
   pub open plain use *
   -- a copy is put back, and the levels inside it go

@@ -73,7 +73,8 @@ pub run-size : {S C M : Type 0} (k : Kind S C M) (t : ℕ) (turns : List ℕ) (w
 run-size k t turns w =
     run-keeps (size_kept k (length w.processes) (length w.talks)) t [] turns w (record { of_processes = refl; of_talks = refl })
 
-back_to-shallow : {S C M : Type 0} (k : Kind S C M) (j : ℕ) (q : Process S C) (level : Option (Level C)) → length q.levels ≤ most_levels → length (back_to k j q level).levels ≤ most_levels
+back_to-shallow : {S C M : Type 0} (k : Kind S C M) (j : ℕ) (q : Process S C) (level : Option (Level C))
+    → length q.levels ≤ most_levels → length (back_to k j q level).levels ≤ most_levels
 back_to-shallow k j q None h = h
 back_to-shallow k j q (Some level) h = omega (arith, length-take (j + 1) q.levels)
 
@@ -111,7 +112,8 @@ whole_bare want levels e = absurd (true≢false (sym e ∙ status_at-whole want)
 take_none : {A : Type 0} (n : ℕ) → take {A = A} (n + 1) [] ≡ []
 take_none n = rw add-one
 
-pub back_to-bare : {S C M : Type 0} (k : Kind S C M) (j : ℕ) (q : Process S C) (level : Option (Level C)) → IsBareIfFailed 0 q → IsBareIfFailed 0 (back_to k j q level)
+pub back_to-bare : {S C M : Type 0} (k : Kind S C M) (j : ℕ) (q : Process S C) (level : Option (Level C))
+    → IsBareIfFailed 0 q → IsBareIfFailed 0 (back_to k j q level)
 back_to-bare k j q None h = h
 back_to-bare k j q (Some level) h = λ e. ap (take (j + 1)) (h e) ∙ take_none j
 
@@ -120,7 +122,8 @@ bare_kept k = record {
   counts = λ p q h e. ap (map one_used) (h e);
   goes = λ t p q w a v s m h at. λ _ e. whole_bare (k.want (k.settle (copy_of (last_of q.levels)) (k.keep t a s m).0)) q.levels e;
   opens = λ t p q w f a h at e. whole_bare (k.want (k.keep t 0 (k.enter q.state) w.memory).0) _ e;
-  accepts = λ t p q w a v s h at _ e. whole_bare (k.want (k.settle (copy_of (last_of (without_last q.levels))) (k.accept (k.keep t a s w.memory).0))) _ e;
+  accepts = λ t p q w a v s h at _ e. whole_bare
+      (k.want (k.settle (copy_of (last_of (without_last q.levels))) (k.accept (k.keep t a s w.memory).0))) _ e;
   stands = λ t p q w a v s h at _ e. absurd (true≢false (sym e));
   leaves = λ p c q h _ e. whole_bare (k.want (k.settle (copy_of (last_of (without_last q.levels))) (k.accept q.state))) _ e;
   falls = λ p q cause h e. refl;
@@ -134,7 +137,8 @@ pub run-bare : {S C M : Type 0} (k : Kind S C M) (t : ℕ) (turns : List ℕ) (w
 run-bare k t turns w h = each_run (bare_kept k) t turns w h
 
 -- all of it at once, from the opening on
-pub standing : {S C M : Type 0} (k : Kind S C M) (turns : List ℕ) (states : List S) (m : M) → IsStanding k states (run k 1 turns (opening k states m)).0
+pub standing : {S C M : Type 0} (k : Kind S C M) (turns : List ℕ) (states : List S) (m : M)
+    → IsStanding k states (run k 1 turns (opening k states m)).0
 standing k turns states m = record {
   size = run-keeps (size_kept k (length states) (length k.groups)) 1 [] turns (opening k states m)
       (record { of_processes = length-map states _; of_talks = length-map k.groups _ });

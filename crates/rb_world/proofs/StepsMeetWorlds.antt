@@ -25,7 +25,8 @@ pub record MovesMeet {S C M T D N : Type 0} (shared : Shared M N) (related : Rel
 
 module _ {S C M T D N : Type 0} {shared : Shared M N} {related : Related S C M T D N} where
   -- one process changes, and the memory
-  pub changed_world : (p : ℕ) (w : World S C M) (v : World T D N) (line : Bool) (m : M) (n : N) (cs : List C) (s : S) (ds : List D) (u : T) (q : Process S C) (r : Process T D)
+  pub changed_world : (p : ℕ) (w : World S C M) (v : World T D N) (line : Bool) (m : M) (n : N) (cs : List C) (s : S)
+      (ds : List D) (u : T) (q : Process S C) (r : Process T D)
       → StillMeets shared related p w v.memory line m n cs s ds u → ProcessesMeet related m n q r → WorldsMeet shared related w v
       → WorldsMeet shared related (with_memory m (with_process p (λ _. q) w)) (with_memory n (with_process p (λ _. r) v))
   changed_world p w v line m n cs s ds u q r still new meets = record {
@@ -48,7 +49,8 @@ module _ {S C M T D N : Type 0} {shared : Shared M N} {related : Related S C M T
   took_meets w v meets = record { worlds = meets; kinds = refl; rejections = refl; passes = refl }
 
 -- under the laws of plain runs
-module _ {S C M T D N : Type 0} {k : Kind S C M} {l : Kind T D N} {shared : Shared M N} {related : Related S C M T D N} {known : Knowing S C M} (laws : IsPlainSimulation k l shared related known) where
+module _ {S C M T D N : Type 0} {k : Kind S C M} {l : Kind T D N} {shared : Shared M N} {related : Related S C M T D N} {known : Knowing S C M}
+    (laws : IsPlainSimulation k l shared related known) where
   -- the test line of a conversation
   stand_there_same : (m : M) (n : N) (c : ℕ) (q : Option (Process S C)) (r : Option (Process T D)) → OptionsMeet (ProcessesMeet related m n) q r
       → stands_there c q ≡ stands_there c r
@@ -70,7 +72,8 @@ module _ {S C M T D N : Type 0} {k : Kind S C M} {l : Kind T D N} {shared : Shar
       all_stand_among c w v (members_of (slice_get k.groups c)) meets
       ∙ ap (λ (groups : List Membership). list_all (λ i. stands_there c (slice_get v.processes i)) (members_of (slice_get groups c))) laws.groups
 
-  all_leave_meets : (c : ℕ) (w : World S C M) (v : World T D N) → WorldsMeet shared related w v → WorldsMeet shared related (all_leave k c w) (all_leave l c v)
+  all_leave_meets : (c : ℕ) (w : World S C M) (v : World T D N) → WorldsMeet shared related w v
+      → WorldsMeet shared related (all_leave k c w) (all_leave l c v)
   all_leave_meets c w v meets =
       with_talks_meets (with_each (leaves k c) w) (with_each (leaves l c) v) (change_at c first_again)
       (with_each_meets w v (leaves k c) (leaves l c) (leaves_meets laws w.memory v.memory c) meets)
@@ -88,17 +91,21 @@ module _ {S C M T D N : Type 0} {k : Kind S C M} {l : Kind T D N} {shared : Shar
       (λ _. took_meets w v meets)
 
   -- a test that held
-  accepted_at_meets : (p : ℕ) (w : World S C M) (v : World T D N) (m : M) (n : N) (s : S) (ls : List (Level C)) (u : T) (ms : List (Level D)) (conversation : Option ℕ)
+  accepted_at_meets : (p : ℕ) (w : World S C M) (v : World T D N) (m : M) (n : N) (s : S) (ls : List (Level C)) (u : T)
+      (ms : List (Level D)) (conversation : Option ℕ)
       → StillMeets shared related p w v.memory true m n (copies_of ls) s (copies_of ms) u → SameMarks ls ms → WorldsMeet shared related w v
       → MovesMeet shared related (accepted_at k p ls conversation w (s, m)) (accepted_at l p ms conversation v (u, n))
   accepted_at_meets p w v m n s ls u ms None still same meets =
-      took_meets _ _ (changed_world p w v true m n (copies_of ls) s (copies_of ms) u _ _ still (left_meets laws m n s ls u ms same still.states) meets)
+      took_meets _ _
+      (changed_world p w v true m n (copies_of ls) s (copies_of ms) u _ _ still (left_meets laws m n s ls u ms same still.states) meets)
   accepted_at_meets p w v m n s ls u ms (Some c) still same meets =
       at_test_line_meets c (come_to_stand p ls w (s, m)) (come_to_stand p ms v (u, n))
       (changed_world p w v true m n (copies_of ls) s (copies_of ms) u _ _ still (stands_now_meets related m n s ls u ms same still.states) meets)
 
-  pub accepted_meets : (p : ℕ) (w : World S C M) (v : World T D N) (m : M) (n : N) (s : S) (ls : List (Level C)) (u : T) (ms : List (Level D)) (x : Option (Level C)) (y : Option (Level D))
-      → StillMeets shared related p w v.memory true m n (copies_of ls) s (copies_of ms) u → SameMarks ls ms → OptionsMeet SameMark x y → WorldsMeet shared related w v
+  pub accepted_meets : (p : ℕ) (w : World S C M) (v : World T D N) (m : M) (n : N) (s : S) (ls : List (Level C)) (u : T)
+      (ms : List (Level D)) (x : Option (Level C)) (y : Option (Level D))
+      → StillMeets shared related p w v.memory true m n (copies_of ls) s (copies_of ms) u → SameMarks ls ms
+      → OptionsMeet SameMark x y → WorldsMeet shared related w v
       → MovesMeet shared related (accepted k p ls x w (s, m)) (accepted l p ms y v (u, n))
   accepted_meets p w v m n s ls u ms None None still same last meets = record { worlds = meets; kinds = refl; rejections = refl; passes = refl }
   accepted_meets p w v m n s ls u ms None (Some y) still same last meets = absurd last
@@ -110,18 +117,25 @@ module _ {S C M T D N : Type 0} {k : Kind S C M} {l : Kind T D N} {shared : Shar
 
   -- what a step comes to
   pub moved_to_meets : (p : ℕ) (w : World S C M) (v : World T D N) (m : M) (n : N) (s : S) (ls : List (Level C)) (u : T) (ms : List (Level D))
-      → StillMeets shared related p w v.memory false m n (copies_of ls) (k.settle (last_of (copies_of ls)) s) (copies_of ms) (l.settle (last_of (copies_of ms)) u) → SameMarks ls ms → WorldsMeet shared related w v
+      → StillMeets shared related p w v.memory false m n (copies_of ls) (k.settle (last_of (copies_of ls)) s) (copies_of ms)
+      (l.settle (last_of (copies_of ms)) u)
+      → SameMarks ls ms → WorldsMeet shared related w v
       → WorldsMeet shared related (moved_to k p ls w (s, m)) (moved_to l p ms v (u, n))
   moved_to_meets p w v m n s ls u ms still same meets =
-      subst₂ (λ (x : Option C) (y : Option D). WorldsMeet shared related (with_memory m (with_process p (λ _. goes_on k (k.settle x s) ls) w)) (with_memory n (with_process p (λ _. goes_on l (l.settle y u) ms) v)))
+      subst₂ (λ (x : Option C) (y : Option D). WorldsMeet shared related
+      (with_memory m (with_process p (λ _. goes_on k (k.settle x s) ls) w))
+      (with_memory n (with_process p (λ _. goes_on l (l.settle y u) ms) v)))
       (sym (copies-last ls)) (sym (copies-last ms))
-      (changed_world p w v false m n (copies_of ls) (k.settle (last_of (copies_of ls)) s) (copies_of ms) (l.settle (last_of (copies_of ms)) u) _ _ still
+      (changed_world p w v false m n (copies_of ls) (k.settle (last_of (copies_of ls)) s) (copies_of ms)
+      (l.settle (last_of (copies_of ms)) u) _ _ still
       (goes_on_meets laws m n (k.settle (last_of (copies_of ls)) s) ls (l.settle (last_of (copies_of ms)) u) ms same still.states) meets)
 
   -- q acts, and r is the same process on the right
-  module _ (t p : ℕ) (q : Process S C) (w : World S C M) (r : Process T D) (v : World T D N) (acts : IsActing known t p q w) (both : ProcessesMeet related w.memory v.memory q r) (meets : WorldsMeet shared related w v) where
+  module _ (t p : ℕ) (q : Process S C) (w : World S C M) (r : Process T D) (v : World T D N) (acts : IsActing known t p q w)
+      (both : ProcessesMeet related w.memory v.memory q r) (meets : WorldsMeet shared related w v) where
     pub away_states : related false w.memory v.memory (copies_of q.levels) q.state (copies_of r.levels) r.state
-    away_states = subst (λ (line : Bool). related line w.memory v.memory (copies_of q.levels) q.state (copies_of r.levels) r.state) acts.away both.states
+    away_states =
+        subst (λ (line : Bool). related line w.memory v.memory (copies_of q.levels) q.state (copies_of r.levels) r.state) acts.away both.states
 
     -- an entry at the same alternate
     pub open_at_meets : (facts : Facts) (alternate : ℕ) → k.want q.state ≡ Enters facts
@@ -138,7 +152,8 @@ module _ {S C M T D N : Type 0} {k : Kind S C M} {l : Kind T D N} {shared : Shar
         (rewritten related (sym (copies-more q.levels x)) (sym (copies-more r.levels y)) still.states)) meets)
 
 -- with rejections
-module _ {S C M T D N : Type 0} {k : Kind S C M} {l : Kind T D N} {shared : Shared M N} {related : Related S C M T D N} {known : Knowing S C M} (laws : IsSimulation k l shared related known) where
+module _ {S C M T D N : Type 0} {k : Kind S C M} {l : Kind T D N} {shared : Shared M N} {related : Related S C M T D N} {known : Knowing S C M}
+    (laws : IsSimulation k l shared related known) where
   pub trapped_meets : (p : ℕ) (cause : Cause) (w : World S C M) (v : World T D N) → StandsAway p w → WorldsMeet shared related w v
       → MovesMeet shared related (trapped k p cause w) (trapped l p cause v)
   trapped_meets p cause w v away meets =
@@ -146,8 +161,10 @@ module _ {S C M T D N : Type 0} {k : Kind S C M} {l : Kind T D N} {shared : Shar
       (same_length (process_levels w p) (process_levels v p) (process_levels_meet w v p meets))
       (undone_meets _ _ (reject_meets laws p (length (process_levels w p)) cause w v (λ _. away) meets))
 
-  stepped_meets : (t p alternate : ℕ) (w : World S C M) (v : World T D N) (ls : List (Level C)) (ms : List (Level D)) (x : Stepped S M) (y : Stepped T N)
-      → StepsMeet k l shared related t p alternate w v.memory (copies_of ls) (copies_of ms) x y → StandsAway p w → SameMarks ls ms → WorldsMeet shared related w v
+  stepped_meets : (t p alternate : ℕ) (w : World S C M) (v : World T D N) (ls : List (Level C)) (ms : List (Level D))
+      (x : Stepped S M) (y : Stepped T N)
+      → StepsMeet k l shared related t p alternate w v.memory (copies_of ls) (copies_of ms) x y → StandsAway p w
+      → SameMarks ls ms → WorldsMeet shared related w v
       → MovesMeet shared related (stepped k t p alternate ls w x) (stepped l t p alternate ms v y)
   stepped_meets t p alternate w v ls ms (Trapped c) (Trapped d) e away same meets =
       subst (λ (cause : Cause). MovesMeet shared related (trapped k p c w) (trapped l p cause v)) e (trapped_meets p c w v away meets)
@@ -167,19 +184,25 @@ module _ {S C M T D N : Type 0} {k : Kind S C M} {l : Kind T D N} {shared : Shar
       accepted_meets laws.plain p w v a.1 b.1 a.0 ls b.0 ms (last_of ls) (last_of ms) e same (last_marks ls ms same) meets
 
   -- q acts, and r is the same process on the right
-  module _ (t p : ℕ) (q : Process S C) (w : World S C M) (r : Process T D) (v : World T D N) (acts : IsActing known t p q w) (both : ProcessesMeet related w.memory v.memory q r) (meets : WorldsMeet shared related w v) where
+  module _ (t p : ℕ) (q : Process S C) (w : World S C M) (r : Process T D) (v : World T D N) (acts : IsActing known t p q w)
+      (both : ProcessesMeet related w.memory v.memory q r) (meets : WorldsMeet shared related w v) where
     acts_away : StandsAway p w
     acts_away z there = ap (λ (y : Process S C). y.at_line) (some_same (sym there ∙ acts.runs.there)) ∙ acts.away
 
     pub steps_meet : (alternate : ℕ) (message : Option ℤ) → IsReady k q w message → (k.want q.state ≡ Starts) ⊎ (alternate ≡ 0)
         → MovesMeet shared related (steps k t p alternate message q w) (steps l t p alternate message r v)
     steps_meet alternate message ready at =
-        subst (λ (x : Option C). MovesMeet shared related (stepped k t p alternate q.levels w (k.step alternate x q.state message w.memory)) (steps l t p alternate message r v))
+        subst (λ (x : Option C). MovesMeet shared related
+        (stepped k t p alternate q.levels w (k.step alternate x q.state message w.memory))
+        (steps l t p alternate message r v))
         (sym (copies-last q.levels))
-        (subst (λ (y : Option D). MovesMeet shared related (stepped k t p alternate q.levels w (k.step alternate (last_of (copies_of q.levels)) q.state message w.memory)) (stepped l t p alternate r.levels v (l.step alternate y r.state message v.memory)))
+        (subst (λ (y : Option D). MovesMeet shared related
+        (stepped k t p alternate q.levels w (k.step alternate (last_of (copies_of q.levels)) q.state message w.memory))
+        (stepped l t p alternate r.levels v (l.step alternate y r.state message v.memory)))
         (sym (copies-last r.levels))
         (stepped_meets t p alternate w v q.levels r.levels _ _
-        (laws.step t p q w alternate message v.memory (copies_of r.levels) r.state acts ready at meets.memories (away_states laws.plain t p q w r v acts both meets)) acts_away both.marks meets))
+        (laws.step t p q w alternate message v.memory (copies_of r.levels) r.state acts ready at meets.memories
+        (away_states laws.plain t p q w r v acts both meets)) acts_away both.marks meets))
 
     join_meets : (facts : Facts) (talk : Option Talk) → k.want q.state ≡ Enters facts
         → MovesMeet shared related (join k t p facts q w talk) (join l t p facts r v talk)

@@ -47,7 +47,8 @@ pub record StepsAt {S C M : Type 0} (k : Kind S C M) (p : ℕ) (q : Process S C)
 -- where the alternate of an entry comes from: the first, or the present one of a conversation that is not broken
 pub data IsEntry {S C M : Type 0} (w : World S C M) (facts : Facts) (alternate : ℕ) : Type 0 where
   Alone : facts.conversation ≡ None → alternate ≡ 1 → IsEntry w facts alternate
-  Joining : (c : ℕ) (talk : Talk) → facts.conversation ≡ Some c → talk_at w c ≡ Some talk → talk.is_broken ≡ false → alternate ≡ talk.alternate → IsEntry w facts alternate
+  Joining : (c : ℕ) (talk : Talk) → facts.conversation ≡ Some c → talk_at w c ≡ Some talk → talk.is_broken ≡ false
+      → alternate ≡ talk.alternate → IsEntry w facts alternate
 
 -- q enters a block at this alternate, and has fewer levels than the most
 pub record EntersAt {S C M : Type 0} (k : Kind S C M) (p : ℕ) (q : Process S C) (w : World S C M) (facts : Facts) (alternate : ℕ) : Type 0 where
@@ -59,7 +60,9 @@ pub record EntersAt {S C M : Type 0} (k : Kind S C M) (p : ℕ) (q : Process S C
 -- why q falls: no level is left that could be put back, or it is at no line and the conversation that it enters is broken for good
 pub data MustFall {S C M : Type 0} (k : Kind S C M) (q : Process S C) (w : World S C M) (left : ℕ) (cause : Cause) : Type 0 where
   NoLevelLeft : left ≡ 0 → MustFall k q w left cause
-  Barred : (facts : Facts) (c : ℕ) (talk : Talk) → q.at_line ≡ false → k.want q.state ≡ Enters facts → facts.conversation ≡ Some c → talk_at w c ≡ Some talk → talk.is_broken ≡ true → left ≡ length q.levels → cause ≡ Broken → MustFall k q w left cause
+  Barred : (facts : Facts) (c : ℕ) (talk : Talk) → q.at_line ≡ false → k.want q.state ≡ Enters facts
+      → facts.conversation ≡ Some c → talk_at w c ≡ Some talk → talk.is_broken ≡ true → left ≡ length q.levels
+      → cause ≡ Broken → MustFall k q w left cause
 
 -- the level number j of q is rejected
 pub record RejectsAt {S C M : Type 0} (p : ℕ) (q : Process S C) (w : World S C M) (j : ℕ) (level : Level C) : Type 0 where

@@ -22,12 +22,14 @@ KnowsTurn {S} {C} known t p w =
     → known t p (turn_used q) (with_process p (λ _. turn_used q) w)
 
 -- related worlds, and the same told
-pub record TurnsMeet {S C M T D N : Type 0} (shared : Shared M N) (related : Related S C M T D N) (x : World S C M × Told) (y : World T D N × Told) : Type 0 where
+pub record TurnsMeet {S C M T D N : Type 0} (shared : Shared M N) (related : Related S C M T D N) (x : World S C M × Told)
+    (y : World T D N × Told) : Type 0 where
   pub worlds : WorldsMeet shared related x.0 y.0
   pub same_told : x.1 ≡ y.1
 
 -- who failed and who is done is the same
-same_compared : {S C M T D N : Type 0} (related : Related S C M T D N) (m : M) (n : N) (m' : M) (n' : N) (f : ℕ → Status → Status → List Event) (p : ℕ)
+same_compared : {S C M T D N : Type 0} (related : Related S C M T D N) (m : M) (n : N) (m' : M) (n' : N)
+    (f : ℕ → Status → Status → List Event) (p : ℕ)
     (qs qs' : List (Process S C)) (rs rs' : List (Process T D)) → AllMeet related m n qs rs → AllMeet related m' n' qs' rs'
     → compared f p qs qs' ≡ compared f p rs rs'
 same_compared related m n m' n' f p [] qs' [] rs' e e' = refl
@@ -40,7 +42,8 @@ same_compared related m n m' n' f p (q ∷ qs) (q' ∷ qs') (r ∷ rs) (r' ∷ r
     ap₂ ◌++◌ (ap₂ (f p) e.0.statuses e'.0.statuses) (same_compared related m n m' n' f (p + 1) qs qs' rs rs' e.1 e'.1)
 
 -- what is told
-module _ {S C M T D N : Type 0} {k : Kind S C M} {l : Kind T D N} {shared : Shared M N} {related : Related S C M T D N} {known : Knowing S C M} (laws : IsPlainSimulation k l shared related known) where
+module _ {S C M T D N : Type 0} {k : Kind S C M} {l : Kind T D N} {shared : Shared M N} {related : Related S C M T D N} {known : Knowing S C M}
+    (laws : IsPlainSimulation k l shared related known) where
   same_of_all : (f : ℕ → Status → Status → List Event) (w : World S C M) (v : World T D N) (x : Moved S C M) (y : Moved T D N)
       → WorldsMeet shared related w v → MovesMeet shared related x y
       → compared f 0 w.processes x.world.processes ≡ compared f 0 v.processes y.world.processes
@@ -48,7 +51,8 @@ module _ {S C M T D N : Type 0} {k : Kind S C M} {l : Kind T D N} {shared : Shar
       same_compared related w.memory v.memory x.world.memory y.world.memory f 0 w.processes x.world.processes v.processes y.world.processes
       meets.processes moves.worlds.processes
 
-  same_told_of : (w : World S C M) (v : World T D N) (x : Moved S C M) (y : Moved T D N) → WorldsMeet shared related w v → MovesMeet shared related x y
+  same_told_of : (w : World S C M) (v : World T D N) (x : Moved S C M) (y : Moved T D N) → WorldsMeet shared related w v
+      → MovesMeet shared related x y
       → told k w x ≡ told l v y
   same_told_of w v x y meets moves = λ i. record {
     kind = moves.kinds i;
@@ -56,16 +60,19 @@ module _ {S C M T D N : Type 0} {k : Kind S C M} {l : Kind T D N} {shared : Shar
     released = all_freed laws x.world.memory y.world.memory x.world.processes y.world.processes moves.worlds.processes i;
   }
 
-  pub finishes_meet : (w : World S C M) (v : World T D N) (x : Moved S C M) (y : Moved T D N) → WorldsMeet shared related w v → MovesMeet shared related x y
+  pub finishes_meet : (w : World S C M) (v : World T D N) (x : Moved S C M) (y : Moved T D N)
+      → WorldsMeet shared related w v → MovesMeet shared related x y
       → TurnsMeet shared related (finishes k w x) (finishes l v y)
   finishes_meet w v x y meets moves = record {
     worlds = with_each_meets x.world y.world (freed k) (freed l) (freed_meets laws x.world.memory y.world.memory) moves.worlds;
     same_told = same_told_of w v x y meets moves;
   }
 
-module _ {S C M T D N : Type 0} {k : Kind S C M} {l : Kind T D N} {shared : Shared M N} {related : Related S C M T D N} {known : Knowing S C M} (laws : IsSimulation k l shared related known) where
+module _ {S C M T D N : Type 0} {k : Kind S C M} {l : Kind T D N} {shared : Shared M N} {related : Related S C M T D N} {known : Knowing S C M}
+    (laws : IsSimulation k l shared related known) where
   -- q acts, and r is the same process on the right
-  module _ (t p : ℕ) (q : Process S C) (w : World S C M) (r : Process T D) (v : World T D N) (may : IsActing known t p q w) (both : ProcessesMeet related w.memory v.memory q r) (meets : WorldsMeet shared related w v) where
+  module _ (t p : ℕ) (q : Process S C) (w : World S C M) (r : Process T D) (v : World T D N) (may : IsActing known t p q w)
+      (both : ProcessesMeet related w.memory v.memory q r) (meets : WorldsMeet shared related w v) where
     waits_meet : MovesMeet shared related (waits w) (waits v)
     waits_meet = record { worlds = meets; kinds = refl; rejections = refl; passes = refl }
 
@@ -99,12 +106,15 @@ module _ {S C M T D N : Type 0} {k : Kind S C M} {l : Kind T D N} {shared : Shar
     same_want = laws.want w.memory v.memory _ q.state _ r.state (away_states laws.plain t p q w r v may both meets)
 
     acts_meet_both : MovesMeet shared related (acts k t p q w (k.want q.state)) (acts l t p r v (l.want r.state))
-    acts_meet_both = subst (λ (want : Want). MovesMeet shared related (acts k t p q w (k.want q.state)) (acts l t p r v want)) same_want (acts_meet (k.want q.state) refl)
+    acts_meet_both =
+        subst (λ (want : Want). MovesMeet shared related (acts k t p q w (k.want q.state)) (acts l t p r v want)) same_want
+        (acts_meet (k.want q.state) refl)
 
   bounded_meets : (t p : ℕ) (q : Process S C) (w : World S C M) (r : Process T D) (v : World T D N) → RunsAt p q w → (MayAct p q w → known t p q w)
       → ProcessesMeet related w.memory v.memory q r → WorldsMeet shared related w v → (over : Option ℕ) → position is_over q.levels ≡ over
       → MovesMeet shared related (bounded k t p q w over) (bounded l t p r v over)
-  bounded_meets t p q w r v at knows both meets (Some j) e = undone_meets _ _ (reject_meets laws p (j + 1) Overrun w v (λ none. absurd (omega arith)) meets)
+  bounded_meets t p q w r v at knows both meets (Some j) e =
+      undone_meets _ _ (reject_meets laws p (j + 1) Overrun w v (λ none. absurd (omega arith)) meets)
   bounded_meets t p q w r v at knows both meets None e =
       cond_meets (MovesMeet shared related) q.at_line r.at_line both.lines
       (λ _. record { worlds = meets; kinds = refl; rejections = refl; passes = refl })
@@ -119,7 +129,8 @@ module _ {S C M T D N : Type 0} {k : Kind S C M} {l : Kind T D N} {shared : Shar
       (same_position is_over is_over same_over q.levels r.levels both.marks)
       (bounded_meets t p q w r v at knows both meets (position is_over q.levels) refl)
 
-  by_status_meets : (t p : ℕ) (q : Process S C) (w : World S C M) (r : Process T D) (v : World T D N) → KnowsTurn known t p w → slice_get w.processes p ≡ Some q
+  by_status_meets : (t p : ℕ) (q : Process S C) (w : World S C M) (r : Process T D) (v : World T D N)
+      → KnowsTurn known t p w → slice_get w.processes p ≡ Some q
       → ProcessesMeet related w.memory v.memory q r → WorldsMeet shared related w v → (status : Status) → q.status ≡ status
       → MovesMeet shared related (by_status k t p q w status) (by_status l t p r v status)
   by_status_meets t p q w r v knows there both meets Running e =
@@ -132,7 +143,8 @@ module _ {S C M T D N : Type 0} {k : Kind S C M} {l : Kind T D N} {shared : Shar
   by_status_meets t p q w r v knows there both meets (FailedWith cause) e = record { worlds = meets; kinds = refl; rejections = refl; passes = refl }
 
   moves_meet : (t p : ℕ) (w : World S C M) (v : World T D N) → KnowsTurn known t p w → WorldsMeet shared related w v
-      → (q : Option (Process S C)) (r : Option (Process T D)) → slice_get w.processes p ≡ q → OptionsMeet (ProcessesMeet related w.memory v.memory) q r
+      → (q : Option (Process S C)) (r : Option (Process T D)) → slice_get w.processes p ≡ q
+      → OptionsMeet (ProcessesMeet related w.memory v.memory) q r
       → MovesMeet shared related (moves k t p w q) (moves l t p v r)
   moves_meet t p w v knows meets None None e both = record { worlds = meets; kinds = refl; rejections = refl; passes = refl }
   moves_meet t p w v knows meets None (Some r) e both = absurd both

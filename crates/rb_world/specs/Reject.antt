@@ -128,12 +128,14 @@ reject_together k p c cause level w outer =
     (together_next k (nat_lt level.alternate level.facts.alternates) c (all_back k c w) outer)
 
 -- a level is rejected alone, or with all that are inside its conversation
-abbrev pub reject_either : {S C M : Type 0} → Kind S C M → ℕ → ℕ → Cause → Level C → Option ℕ → World S C M → (World S C M → Happened S C M) → Happened S C M
+abbrev pub reject_either : {S C M : Type 0} → Kind S C M → ℕ → ℕ → Cause → Level C → Option ℕ → World S C M
+    → (World S C M → Happened S C M) → Happened S C M
 reject_either k p j cause level None w outer = reject_private k p j cause level w outer
 reject_either k p j cause level (Some c) w outer = reject_together k p c cause level w outer
 
 -- level number j of process p is rejected; where there is none, nothing happens
-abbrev pub reject_at : {S C M : Type 0} → Kind S C M → ℕ → ℕ → Cause → Option (Level C) → World S C M → (World S C M → Happened S C M) → Happened S C M
+abbrev pub reject_at : {S C M : Type 0} → Kind S C M → ℕ → ℕ → Cause → Option (Level C) → World S C M
+    → (World S C M → Happened S C M) → Happened S C M
 reject_at k p j cause None w outer = (w, [])
 reject_at k p j cause (Some level) w outer = reject_either k p j cause level level.facts.conversation w outer
 

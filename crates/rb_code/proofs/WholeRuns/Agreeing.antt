@@ -121,5 +121,6 @@ pub record IsAgreeing (tree : Tree) (c : Code) (meets : Meeting) : Type 0 where
   -- before the first turn
   pub opens : (p : ℕ) (process : ProcessDeclaration) (part : Part) → slice_get tree.processes p ≡ Some process → slice_get c.processes p ≡ Some part
       → meets false [] (settle (opening_state tree p process)) [] (settles c None (opening_standing p part))
-  pub opens_empty : (p : ℕ) (process : ProcessDeclaration) (part : Part) → slice_get tree.processes p ≡ Some process → slice_get c.processes p ≡ Some part
+  pub opens_empty : (p : ℕ) (process : ProcessDeclaration) (part : Part) → slice_get tree.processes p ≡ Some process
+      → slice_get c.processes p ≡ Some part
       → (settles c None (opening_standing p part)).held ≡ []

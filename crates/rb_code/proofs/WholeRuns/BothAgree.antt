@@ -33,7 +33,8 @@ abbrev pub Agreed : Meeting → Related State State (Nothing × Slots) Standing 
 Agreed meets line m n cs s ds u = BothAgree meets line n.links cs s ds u
 
 -- the kept turns of the copies of levels
-pub copy_before : (t : ℕ) (levels : List (Level State)) (i : ℕ) (x : State) → PointsBefore t levels → slice_get (copies_of levels) i ≡ Some x → AreBefore t x.kept
+pub copy_before : (t : ℕ) (levels : List (Level State)) (i : ℕ) (x : State) → PointsBefore t levels
+    → slice_get (copies_of levels) i ≡ Some x → AreBefore t x.kept
 copy_before t [] i x before e = absurd (none_some e)
 copy_before t (level ∷ levels) zero x before e = subst (λ (y : State). AreBefore t y.kept) (some_same e) (before 0 level refl)
 copy_before t (level ∷ levels) (suc i) x before e = copy_before t levels i x (λ n. before (suc n)) e
@@ -46,7 +47,8 @@ copies_kept link links levels ds some before both =
     (λ i x y there lead. others_kept link links y.last_kept x.kept some (copy_before link.turn levels i x before there) lead) both
 
 -- and so it does with any other process
-pub others_agree : (meets : Meeting) (line : Bool) (link : Link) (links : List Link) (q : Process State State) (ds : List Copy) (u : Standing) → 1 ≤ link.turn
+pub others_agree : (meets : Meeting) (line : Bool) (link : Link) (links : List Link) (q : Process State State) (ds : List Copy) (u : Standing)
+    → 1 ≤ link.turn
     → IsInTime link.turn q → BothAgree meets line links (copies_of q.levels) q.state ds u
     → BothAgree meets line (link ∷ links) (copies_of q.levels) q.state ds u
 others_agree meets line link links q ds u some time both = record {

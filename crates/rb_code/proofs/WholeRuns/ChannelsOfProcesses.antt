@@ -49,7 +49,8 @@ declared_by : (tree : Tree) (o : Option ChannelDeclaration) (ends : Ends) → op
 declared_by tree None ends e = absurd (none_some e)
 declared_by tree (Some channel) ends e = (channel, refl, some_same e)
 
-module _ (tree : Tree) (slots : List Slot) (c : Code) (stands : StandsFor tree slots c) (nested : IsNested tree) (resolved : Resolved tree slots) where
+module _ (tree : Tree) (slots : List Slot) (c : Code) (stands : StandsFor tree slots c) (nested : IsNested tree)
+    (resolved : Resolved tree slots) where
   as_many : AsMany tree.processes c.processes
   as_many = parts_stand tree slots c 0 0 (length c.instrs) tree.processes c.processes stands.instrs_are
 
@@ -63,11 +64,14 @@ module _ (tree : Tree) (slots : List Slot) (c : Code) (stands : StandsFor tree s
   is_there None part e = absurd (none_some e)
   is_there (Some one) part e = tt
 
-  ends_within : (channel : ℕ) (ends : Ends) → slice_get c.channels channel ≡ Some ends → (ends.sender < length tree.processes) × (ends.receiver < length tree.processes)
+  ends_within : (channel : ℕ) (ends : Ends) → slice_get c.channels channel ≡ Some ends
+      → (ends.sender < length tree.processes) × (ends.receiver < length tree.processes)
   ends_within channel ends e =
       let found = declared_by tree (slice_get tree.channels channel) ends
-      (sym (slice_get-map (ends_of tree) tree.channels channel) ∙ ap (λ (channels : List Ends). slice_get channels channel) (sym stands.channels_are) ∙ e) in
-      let inside : ChannelInFrames tree slots found.0 = all_there (ChannelInFrames tree slots) tree.channels channel found.0 resolved.channels found.1 in (
+      (sym (slice_get-map (ends_of tree) tree.channels channel)
+      ∙ ap (λ (channels : List Ends). slice_get channels channel) (sym stands.channels_are) ∙ e) in
+      let inside : ChannelInFrames tree slots found.0 =
+      all_there (ChannelInFrames tree slots) tree.channels channel found.0 resolved.channels found.1 in (
         subst (λ (x : Ends). x.sender < length tree.processes) found.2 inside.sender.there,
         subst (λ (x : Ends). x.receiver < length tree.processes) found.2 inside.receiver.there,
       )
@@ -87,7 +91,8 @@ module _ (tree : Tree) (slots : List Slot) (c : Code) (stands : StandsFor tree s
   two_ends : (channel : ℕ) (ends : Ends) → slice_get c.channels channel ≡ Some ends → (ends.sender ≡ ends.receiver) → ⊥
   two_ends channel ends e same =
       let kept : keeps_n12 ends ≡ true =
-      holds_at keeps_n12 (channels_of tree) channel ends nested.n12 (ap (λ (channels : List Ends). slice_get channels channel) (sym stands.channels_are) ∙ e) in
+      holds_at keeps_n12 (channels_of tree) channel ends nested.n12
+      (ap (λ (channels : List Ends). slice_get channels channel) (sym stands.channels_are) ∙ e) in
       true≢false (sym kept ∙ ap not (eq-eqb ends.sender ends.receiver same))
 
   -- So each process has its cursors.

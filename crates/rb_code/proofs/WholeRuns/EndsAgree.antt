@@ -61,7 +61,8 @@ module _ (tree : Tree) (c : Code) (meets : Meeting) (laws : IsAgreeing tree c me
       (subst (λ (y : Process Standing Copy). ProcessAgrees c n.links q y) (some_same f) (process_agrees q r both))
 
   -- each of all processes
-  pub each_agrees : (qs : List (Process State State)) (rs : List (Process Standing Copy)) → AllAgree qs rs → (p : ℕ) (q : Process State State) (r : Process Standing Copy)
+  pub each_agrees : (qs : List (Process State State)) (rs : List (Process Standing Copy)) → AllAgree qs rs
+      → (p : ℕ) (q : Process State State) (r : Process Standing Copy)
       → slice_get qs p ≡ Some q → slice_get rs p ≡ Some r → ProcessAgrees c n.links q r
   each_agrees qs rs all p q r e f = same_agrees (slice_get qs p) (slice_get rs p) q r (get_meets (Agreed meets) m n qs rs p all) e f
 
@@ -89,7 +90,8 @@ module _ (tree : Tree) (c : Code) (meets : Meeting) (laws : IsAgreeing tree c me
       (laws.variables q.at_line _ q.state _ r.state all.0.states.they_meet) (words_same qs rs all.1)
 
   -- how many were sent or taken, by the process at one end
-  module _ (by_words : Standing → ℕ) (by_lists : State → ℕ) (same : (q : Process State State) (r : Process Standing Copy) → Meet q r → by_words r.state ≡ by_lists q.state) where
+  module _ (by_words : Standing → ℕ) (by_lists : State → ℕ)
+      (same : (q : Process State State) (r : Process Standing Copy) → Meet q r → by_words r.state ≡ by_lists q.state) where
     end_same : (q : Option (Process State State)) (r : Option (Process Standing Copy)) → OptionsMeet Meet q r
         → by_standing by_words (option_map (λ z. z.state) r) ≡ by_state by_lists 0 (option_map (λ z. z.state) q)
     end_same None None both = refl
@@ -123,21 +125,25 @@ module _ (tree : Tree) (c : Code) (meets : Meeting) (laws : IsAgreeing tree c me
         → counts_sent c (map (λ r. r.state) rs) k channels ≡ count_sent (map (λ q. q.state) qs) k channels
     sent_from k [] at = refl
     sent_from k (ends ∷ channels) at =
-        ap₂ ◌∷◌ (count_same (λ u. sent_by c u.process u.words k (Some ends)) (λ s. length (sent_on s k)) (sent_there k ends (at 0 k ends (omega arith) refl)) qs rs all ends.sender)
+        ap₂ ◌∷◌ (count_same (λ u. sent_by c u.process u.words k (Some ends)) (λ s. length (sent_on s k))
+        (sent_there k ends (at 0 k ends (omega arith) refl)) qs rs all ends.sender)
         (sent_from (k + 1) channels (λ i j one same there. at (suc i) j one (omega (arith, same)) there))
 
     taken_from : (k : ℕ) (channels : List Ends) → StandFrom k channels
         → counts_taken c (map (λ r. r.state) rs) k channels ≡ count_taken (map (λ q. q.state) qs) k channels
     taken_from k [] at = refl
     taken_from k (ends ∷ channels) at =
-        ap₂ ◌∷◌ (count_same (λ u. taken_by c u.process u.words k (Some ends)) (λ s. taken_on s k) (taken_there k ends (at 0 k ends (omega arith) refl)) qs rs all ends.receiver)
+        ap₂ ◌∷◌ (count_same (λ u. taken_by c u.process u.words k (Some ends)) (λ s. taken_on s k)
+        (taken_there k ends (at 0 k ends (omega arith) refl)) qs rs all ends.receiver)
         (taken_from (k + 1) channels (λ i j one same there. at (suc i) j one (omega (arith, same)) there))
 
     all_stand : StandFrom 0 c.channels
     all_stand i j ends same there = subst (λ (k : ℕ). slice_get c.channels k ≡ Some ends) (omega (arith, same)) there
 
-    pub sent_same : c.channels ≡ channels_of tree → counts_sent c (map (λ r. r.state) rs) 0 c.channels ≡ count_sent (map (λ q. q.state) qs) 0 (channels_of tree)
+    pub sent_same : c.channels ≡ channels_of tree
+        → counts_sent c (map (λ r. r.state) rs) 0 c.channels ≡ count_sent (map (λ q. q.state) qs) 0 (channels_of tree)
     sent_same channels_are = sent_from 0 c.channels all_stand ∙ ap (count_sent (map (λ q. q.state) qs) 0) channels_are
 
-    pub taken_same : c.channels ≡ channels_of tree → counts_taken c (map (λ r. r.state) rs) 0 c.channels ≡ count_taken (map (λ q. q.state) qs) 0 (channels_of tree)
+    pub taken_same : c.channels ≡ channels_of tree
+        → counts_taken c (map (λ r. r.state) rs) 0 c.channels ≡ count_taken (map (λ q. q.state) qs) 0 (channels_of tree)
     taken_same channels_are = taken_from 0 c.channels all_stand ∙ ap (count_taken (map (λ q. q.state) qs) 0) channels_are

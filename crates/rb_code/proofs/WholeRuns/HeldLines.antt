@@ -69,7 +69,8 @@ outermost_first (copy ∷ copies) present grow =
     first_longer copy.held (outermost copies present) present grow.0 (outermost_first copies present grow.1)
 
 -- so those of each come first in the present ones, and in the levels up to it they grow to its own
-pub grow_get : (copies : List State) (present : List (List ℕ)) (j : ℕ) (copy : State) → Grow copies present → slice_get copies j ≡ Some copy → ComeFirst copy.held present
+pub grow_get : (copies : List State) (present : List (List ℕ)) (j : ℕ) (copy : State) → Grow copies present
+    → slice_get copies j ≡ Some copy → ComeFirst copy.held present
 grow_get [] present j copy grow e = absurd (none_some e)
 grow_get (first ∷ copies) present zero copy grow e =
     subst (λ (s : State). ComeFirst s.held present) (some_same e) (outermost_first (first ∷ copies) present grow)

@@ -47,7 +47,8 @@ pub none_kept : LeadTo [] 0 []
 none_kept = record { reach = refl; last_is = refl }
 
 -- a link of a later turn changes nothing for the others
-pub others_kept : (link : Link) (links : List Link) (last : ℕ) (turns : List (ℕ × ℕ)) → 1 ≤ link.turn → AreBefore link.turn turns → LeadTo links last turns
+pub others_kept : (link : Link) (links : List Link) (last : ℕ) (turns : List (ℕ × ℕ)) → 1 ≤ link.turn
+    → AreBefore link.turn turns → LeadTo links last turns
     → LeadTo (link ∷ links) last turns
 others_kept link links last turns some before lead =
     let less : last < link.turn = omega (arith, lead.last_is, last_turn-before link.turn turns some before) in
@@ -61,7 +62,8 @@ others_kept link links last turns some before lead =
 pub turn_kept : (link : Link) (links : List Link) (turns : List (ℕ × ℕ)) → LeadTo links link.before turns
     → LeadTo (link ∷ links) link.turn (turns ++ (link.turn, link.alternate) ∷ [])
 turn_kept link links turns lead = record {
-  reach = ap (λ b. cond b (kept_from links link.before ++ (link.turn, link.alternate) ∷ []) (kept_from links link.turn)) (eq-eqb link.turn link.turn refl)
+  reach = ap (λ b. cond b (kept_from links link.before ++ (link.turn, link.alternate) ∷ []) (kept_from links link.turn))
+      (eq-eqb link.turn link.turn refl)
       ∙ ap (λ (list : List (ℕ × ℕ)). list ++ (link.turn, link.alternate) ∷ []) lead.reach;
   last_is = sym (last_turn-end turns (link.turn, link.alternate));
 }

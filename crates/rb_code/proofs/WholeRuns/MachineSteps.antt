@@ -52,7 +52,8 @@ pub some_steps : (c : Code) → (k : ℕ) × (most_steps c ≡ suc k)
 some_steps c = one_more (most_steps c) (omega arith)
 
 module _ (c : Code) (see : Sight) where
-  stops : (k : ℕ) (u : Standing) (instr : Instr) → slice_get c.instrs u.at ≡ Some instr → act c see instr u.at [] (memory_of u []) ≡ Stopped u.at (memory_of u [])
+  stops : (k : ℕ) (u : Standing) (instr : Instr) → slice_get c.instrs u.at ≡ Some instr
+      → act c see instr u.at [] (memory_of u []) ≡ Stopped u.at (memory_of u [])
       → settled_by u (execute c see (suc k) u.at [] (memory_of u [])) ≡ u
   stops k u instr there stop =
       ap (λ (o : Option Instr). settled_by u (then_go (act_at c see o u.at [] (memory_of u [])) (execute c see k))) there

@@ -37,7 +37,8 @@ module _ (tree : Tree) (c : Code) (meets : Meeting) (laws : IsAgreeing tree c me
   abbrev opening_common : Common
   opening_common = record { slots = zero_slots c.channels; links = [] }
 
-  opening_agrees : (p : ℕ) (process : ProcessDeclaration) (part : Part) → slice_get tree.processes p ≡ Some process → slice_get c.processes p ≡ Some part
+  opening_agrees : (p : ℕ) (process : ProcessDeclaration) (part : Part) → slice_get tree.processes p ≡ Some process
+      → slice_get c.processes p ≡ Some part
       → BothAgree meets false [] [] (settle (opening_state tree p process)) [] (settles c None (opening_standing p part))
   opening_agrees p process part at at' =
       let same : IsSameProcess (opening_standing p part) (settles c None (opening_standing p part)) = settle_same c None (opening_standing p part) in
@@ -51,11 +52,13 @@ module _ (tree : Tree) (c : Code) (meets : Meeting) (laws : IsAgreeing tree c me
 
   -- the processes from number p on
   abbrev StandAt : List ProcessDeclaration → List Part → ℕ → Type 0
-  StandAt processes parts p = (r n : ℕ) (process : ProcessDeclaration) (part : Part) → n ≡ p + r → slice_get processes r ≡ Some process → slice_get parts r ≡ Some part
+  StandAt processes parts p =
+      (r n : ℕ) (process : ProcessDeclaration) (part : Part) → n ≡ p + r → slice_get processes r ≡ Some process → slice_get parts r ≡ Some part
       → (slice_get tree.processes n ≡ Some process) × (slice_get c.processes n ≡ Some part)
 
   openings_agree : (p : ℕ) (processes : List ProcessDeclaration) (parts : List Part) → AsMany processes parts → StandAt processes parts p
-      → OpeningsMeet (slotted tree) (word_kind c (groups_of tree)) (Agreed meets) opening_slots opening_common (opening_states tree p processes) (opening_standings p parts)
+      → OpeningsMeet (slotted tree) (word_kind c (groups_of tree)) (Agreed meets) opening_slots opening_common
+      (opening_states tree p processes) (opening_standings p parts)
   openings_agree p [] [] as_many at = tt
   openings_agree p [] (part ∷ parts) as_many at = absurd as_many
   openings_agree p (process ∷ processes) [] as_many at = absurd as_many
@@ -66,7 +69,8 @@ module _ (tree : Tree) (c : Code) (meets : Meeting) (laws : IsAgreeing tree c me
       )
 
   pub all_openings_agree : (slots : List Slot) → StandsFor tree slots c
-      → OpeningsMeet (slotted tree) (word_kind c (groups_of tree)) (Agreed meets) opening_slots opening_common (opening_states tree 0 tree.processes) (opening_standings 0 c.processes)
+      → OpeningsMeet (slotted tree) (word_kind c (groups_of tree)) (Agreed meets) opening_slots opening_common
+      (opening_states tree 0 tree.processes) (opening_standings 0 c.processes)
   all_openings_agree slots stands =
       openings_agree 0 tree.processes c.processes (parts_stand tree slots c 0 0 _ tree.processes c.processes stands.instrs_are)
       (λ r n process part same at at'.

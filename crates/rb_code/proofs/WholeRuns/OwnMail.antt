@@ -50,7 +50,8 @@ pub same_mail : {c : Code} {p : ℕ} (s t : State) → t.sent ≡ s.sent → t.t
 same_mail s t sent taken mail = record {
   sent_long = ap (λ (lists : List (List ℤ)). length lists) sent ∙ mail.sent_long;
   taken_long = ap (λ (numbers : List ℕ). length numbers) taken ∙ mail.taken_long;
-  sent_own = λ channel ends e other. ap (λ (lists : List (List ℤ)). length (unwrap_or (slice_get lists channel) [])) sent ∙ mail.sent_own channel ends e other;
+  sent_own = λ channel ends e other. ap (λ (lists : List (List ℤ)). length (unwrap_or (slice_get lists channel) [])) sent
+      ∙ mail.sent_own channel ends e other;
   taken_own = λ channel ends e other. ap (λ (numbers : List ℕ). unwrap_or (slice_get numbers channel) 0) taken ∙ mail.taken_own channel ends e other;
 }
 
@@ -65,9 +66,11 @@ none_taken zero channel = refl
 none_taken (suc n) zero = refl
 none_taken (suc n) (suc channel) = none_taken n channel
 
-pub opening_mail : (tree : Tree) (c : Code) → c.channels ≡ channels_of tree → (p : ℕ) (process : ProcessDeclaration) → HasOwnMail c p (opening_state tree p process)
+pub opening_mail : (tree : Tree) (c : Code) → c.channels ≡ channels_of tree → (p : ℕ) (process : ProcessDeclaration)
+    → HasOwnMail c p (opening_state tree p process)
 opening_mail tree c channels_are p process =
-    let as_many : length tree.channels ≡ length c.channels = sym (ap (λ (channels : List Ends). length channels) channels_are ∙ length-map tree.channels (ends_of tree)) in
+    let as_many : length tree.channels ≡ length c.channels =
+    sym (ap (λ (channels : List Ends). length channels) channels_are ∙ length-map tree.channels (ends_of tree)) in
     record {
       sent_long = length-replicate (length tree.channels) [] ∙ as_many;
       taken_long = length-replicate (length tree.channels) 0 ∙ as_many;
@@ -92,14 +95,16 @@ module _ (tree : Tree) (c : Code) (p : ℕ) where
   by_receiver s words channel ends false e cursor none = none (eqb-false ends.receiver p e)
 
   sent_at : (s : State) (words : List ℤ) (channel : ℕ) (o : Option Ends) → slice_get c.channels channel ≡ o → HasOwnMail c p s
-      → ((ends : Ends) → slice_get c.channels channel ≡ Some ends → ends.sender ≡ p → word_at words (cursor_place (part_of c p) channel) ≡ pos (length (sent_on s channel)))
+      → ((ends : Ends) → slice_get c.channels channel ≡ Some ends → ends.sender ≡ p
+      → word_at words (cursor_place (part_of c p) channel) ≡ pos (length (sent_on s channel)))
       → length (sent_on s channel) ≡ sent_by c p words channel o
   sent_at s words channel None e mail cursor = ap (λ o. length (unwrap_or o [])) (none_past c.channels s.sent channel mail.sent_long e)
   sent_at s words channel (Some ends) e mail cursor =
       by_sender s words channel ends (nat_eq ends.sender p) refl (cursor ends e) (mail.sent_own channel ends e)
 
   taken_at : (s : State) (words : List ℤ) (channel : ℕ) (o : Option Ends) → slice_get c.channels channel ≡ o → HasOwnMail c p s
-      → ((ends : Ends) → slice_get c.channels channel ≡ Some ends → ends.receiver ≡ p → word_at words (cursor_place (part_of c p) channel) ≡ pos (taken_on s channel))
+      → ((ends : Ends) → slice_get c.channels channel ≡ Some ends → ends.receiver ≡ p
+      → word_at words (cursor_place (part_of c p) channel) ≡ pos (taken_on s channel))
       → taken_on s channel ≡ taken_by c p words channel o
   taken_at s words channel None e mail cursor = ap (λ o. unwrap_or o 0) (none_past c.channels s.taken channel mail.taken_long e)
   taken_at s words channel (Some ends) e mail cursor =
@@ -143,12 +148,14 @@ takes_none (Enters facts) message channel never = refl
 takes_none Starts message channel never = refl
 takes_none Acts message channel never = refl
 
-module _ (tree : Tree) (nested : IsNested tree) (c : Code) (channels_are : c.channels ≡ channels_of tree) (p : ℕ) (q : Process State State) (known : Known tree p q) where
+module _ (tree : Tree) (nested : IsNested tree) (c : Code) (channels_are : c.channels ≡ channels_of tree) (p : ℕ)
+    (q : Process State State) (known : Known tree p q) where
   declared_there : (channel : ℕ) (ends : Ends) → slice_get c.channels channel ≡ Some ends → slice_get (channels_of tree) channel ≡ Some ends
   declared_there channel ends e = ap (λ (channels : List Ends). slice_get channels channel) (sym channels_are) ∙ e
 
   -- a step that went on
-  moved_mail : (message : Option ℤ) (t : State) → Moves (parts_of tree) message q.state t → length t.sent ≡ length q.state.sent → length t.taken ≡ length q.state.taken
+  moved_mail : (message : Option ℤ) (t : State) → Moves (parts_of tree) message q.state t
+      → length t.sent ≡ length q.state.sent → length t.taken ≡ length q.state.taken
       → HasOwnMail c p q.state → HasOwnMail c p t
   moved_mail message t moves sent_long taken_long mail = record {
     sent_long = sent_long ∙ mail.sent_long;
@@ -156,20 +163,24 @@ module _ (tree : Tree) (nested : IsNested tree) (c : Code) (channels_are : c.cha
     sent_own = λ channel ends e other.
         let declared = declared_there channel ends e in
         let none : sends_by (wants_first tree q.state.items) channel ≡ 0 =
-        sends_none (wants_first tree q.state.items) channel (λ wants. other (first_sends tree p channel ends q.state.items known.own.clear wants declared)) in
+        sends_none (wants_first tree q.state.items) channel
+        (λ wants. other (first_sends tree p channel ends q.state.items known.own.clear wants declared)) in
         omega (arith, moves.sent channel ends declared, none, mail.sent_own channel ends e other);
     taken_own = λ channel ends e other.
         let declared = declared_there channel ends e in
         let none : takes_by (wants_first tree q.state.items) message channel ≡ 0 =
-        takes_none (wants_first tree q.state.items) message channel (λ wants. other (first_receives tree p channel ends q.state.items known.own.clear wants declared)) in
+        takes_none (wants_first tree q.state.items) message channel
+        (λ wants. other (first_receives tree p channel ends q.state.items known.own.clear wants declared)) in
         omega (arith, moves.taken channel ends declared, none, mail.taken_own channel ends e other);
   }
 
-  pub went_mail : (alternate : ℕ) (prior : Option Environment) (message : Option ℤ) (t : State) (m : Nothing) → step tree alternate prior q.state message ≡ Went t m
+  pub went_mail : (alternate : ℕ) (prior : Option Environment) (message : Option ℤ) (t : State) (m : Nothing)
+      → step tree alternate prior q.state message ≡ Went t m
       → HasOwnMail c p q.state → HasOwnMail c p t
   went_mail alternate prior message t m e mail =
       let posts : Posts (wants_first tree q.state.items) message q.state t =
-      subst (λ (r : Result_of_step). StepsTo (Posts (wants_first tree q.state.items) message q.state) (IsPassed (wants_first tree q.state.items) q.state) r) e
+      subst (λ (r : Result_of_step). StepsTo (Posts (wants_first tree q.state.items) message q.state)
+      (IsPassed (wants_first tree q.state.items) q.state) r) e
       (steps_post tree alternate prior q.state message q.state.items) in
       let next : Continues tree p (blocks_left q.state.items) q.state t =
       subst (λ (r : Result_of_step). StepsTo (Continues tree p (blocks_left q.state.items) q.state) (Passes tree p q.state) r) e
@@ -181,6 +192,7 @@ module _ (tree : Tree) (nested : IsNested tree) (c : Code) (channels_are : c.cha
       → HasOwnMail c p q.state → HasOwnMail c p t
   held_mail alternate prior message t e mail =
       let passed : IsPassed (wants_first tree q.state.items) q.state t =
-      subst (λ (r : Result_of_step). StepsTo (Posts (wants_first tree q.state.items) message q.state) (IsPassed (wants_first tree q.state.items) q.state) r) e
+      subst (λ (r : Result_of_step). StepsTo (Posts (wants_first tree q.state.items) message q.state)
+      (IsPassed (wants_first tree q.state.items) q.state) r) e
       (steps_post tree alternate prior q.state message q.state.items) in
       same_mail q.state t passed.sent passed.taken mail

@@ -36,7 +36,8 @@ PointsLie outer (copy ∷ copies) = (left_in copy ≡ stacks_in copy ∷ outer) 
 abbrev pub stacks_at : List State → List Stacks
 stacks_at copies = map stacks_in copies
 
-pub lie_more : (outer : List Stacks) (copies : List State) (copy : State) → PointsLie outer copies → left_in copy ≡ stacks_in copy ∷ onto outer (stacks_at copies)
+pub lie_more : (outer : List Stacks) (copies : List State) (copy : State) → PointsLie outer copies
+    → left_in copy ≡ stacks_in copy ∷ onto outer (stacks_at copies)
     → PointsLie outer (copies ++ copy ∷ [])
 lie_more outer [] copy lie e = (e, tt)
 lie_more outer (one ∷ copies) copy lie e = (lie.0, lie_more (stacks_in one ∷ outer) copies copy lie.1 e)
@@ -183,7 +184,8 @@ module _ (tree : Tree) (nested : IsNested tree) where
     };
   }
 
-  pub lies_opening : (r : ℕ) (s : State) → slice_get (opening_states tree 0 tree.processes) r ≡ Some s → LiesWell tree r (settled (tree_kind tree) s [])
+  pub lies_opening : (r : ℕ) (s : State) → slice_get (opening_states tree 0 tree.processes) r ≡ Some s
+      → LiesWell tree r (settled (tree_kind tree) s [])
   lies_opening r s e = record {
     known = known_opening tree nested r s e;
     points = tt;

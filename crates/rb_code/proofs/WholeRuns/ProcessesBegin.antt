@@ -53,7 +53,8 @@ pub record StandsAt (tree : Tree) (slots : List Slot) (c : Code) (p : ℕ) (proc
   pub to : ℕ
   pub code : ProcessCode tree slots p process part c from to
 
-stands_among : (tree : Tree) (slots : List Slot) (c : Code) (p n r a b : ℕ) (processes : List ProcessDeclaration) (parts : List Part) (process : ProcessDeclaration) (part : Part)
+stands_among : (tree : Tree) (slots : List Slot) (c : Code) (p n r a b : ℕ) (processes : List ProcessDeclaration)
+    (parts : List Part) (process : ProcessDeclaration) (part : Part)
     → ProcessesCode tree slots p processes parts c a b → n ≡ p + r → slice_get processes r ≡ Some process → slice_get parts r ≡ Some part
     → StandsAt tree slots c n process part
 stands_among tree slots c p n r a b [] parts process part code same e f = absurd (none_some e)
@@ -81,8 +82,10 @@ settled_already : (commands : Commands) (env : Environment) → settle_items (pe
 settled_already NoCommand env = refl
 settled_already (Then first rest) env = refl
 
-module _ (tree : Tree) (slots : List Slot) (c : Code) (stands : StandsFor tree slots c) (resolved : Resolved tree slots) (limits : IsWithinLimits tree)
-    (p : ℕ) (process : ProcessDeclaration) (part : Part) (there : slice_get tree.processes p ≡ Some process) (part_there : slice_get c.processes p ≡ Some part) where
+module _ (tree : Tree) (slots : List Slot) (c : Code) (stands : StandsFor tree slots c) (resolved : Resolved tree slots)
+    (limits : IsWithinLimits tree)
+    (p : ℕ) (process : ProcessDeclaration) (part : Part) (there : slice_get tree.processes p ≡ Some process)
+    (part_there : slice_get c.processes p ≡ Some part) where
   at : StandsAt tree slots c p process part
   at = stands_at tree slots c stands p process part there part_there
 
@@ -107,7 +110,9 @@ module _ (tree : Tree) (slots : List Slot) (c : Code) (stands : StandsFor tree s
       let code = at.code in
       let body = code.1 in
       let commands = subst (λ (owner : Owner). CommandsCode tree slots owner process.commands c at.from body.0) (sym owner_is) body.1 in
-      let inside = subst (λ frames. CommandsInFrames tree slots p frames process.commands) (sym frames_are) (resolved.processes p process there).commands in
+      let inside =
+      subst (λ frames. CommandsInFrames tree slots p frames process.commands) (sym frames_are)
+      (resolved.processes p process there).commands in
       subst (λ (a : ℕ). Left tree slots c p ([] ∷ []) (performed process.commands []) [] a) (sym code.0.start_is)
       (commands_left tree slots c p process.commands [] ([] ∷ []) [] at.from body.0 commands inside (body.2.1.0, refl))
 
@@ -120,7 +125,8 @@ module _ (tree : Tree) (slots : List Slot) (c : Code) (stands : StandsFor tree s
     long = length-replicate (variables_place part) (pos 0);
     is = sym (replicate-append-replicate (variables_place part) part.words (pos 0))
         ∙ ap (λ (n : ℕ). replicate (variables_place part) (pos 0) ++ replicate n (pos 0)) at.code.0.words_are
-        ∙ ap (λ (ws : List ℤ). replicate (variables_place part) (pos 0) ++ ws) (sym (zeros_flat process.variables) ∙ sym (append-nil (flat_frame (frame_of process.variables))));
+        ∙ ap (λ (ws : List ℤ). replicate (variables_place part) (pos 0) ++ ws)
+        (sym (zeros_flat process.variables) ∙ sym (append-nil (flat_frame (frame_of process.variables))));
     globals = globals_long;
     based = tt;
   }
@@ -146,7 +152,8 @@ module _ (tree : Tree) (slots : List Slot) (c : Code) (stands : StandsFor tree s
 
   -- it is at rest, so that nothing settles
   pub rests_first : settles c None standing ≡ standing
-  rests_first = settle_at_rest c None standing (left_at_rest tree slots c p ([] ∷ []) (performed process.commands []) [] part.start text_left (performed_settled process.commands))
+  rests_first = settle_at_rest c None standing
+      (left_at_rest tree slots c p ([] ∷ []) (performed process.commands []) [] part.start text_left (performed_settled process.commands))
 
   settled_first : settle opened ≡ opened
   settled_first = ap (with_settled opened) (settled_already process.commands opened.environment)

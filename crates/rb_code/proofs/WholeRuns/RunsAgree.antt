@@ -36,12 +36,16 @@ use Rattle.rb_code.proofs.WholeRuns.WordsSimulate.{SlotWorld, slotted, words_sim
 own_processes : (qs : List (Process State State)) → map (process_image (λ (s : State). s) (λ (copy : State). copy)) qs ≡ qs
 own_processes [] = refl
 own_processes (q ∷ qs) =
-    ap₂ ◌∷◌ (ap (λ (ls : List (Level State)). record { state = q.state; levels = ls; at_line = q.at_line; status = q.status }) (map-id q.levels)) (own_processes qs)
+    ap₂ ◌∷◌
+    (ap (λ (ls : List (Level State)). record { state = q.state; levels = ls; at_line = q.at_line; status = q.status }) (map-id q.levels))
+    (own_processes qs)
 
 module _ (tree : Tree) (turns : List ℕ) where
-  without_slots : run_of tree turns ≡ turn_image (λ (s : State). s) (λ (copy : State). copy) (λ (m : Nothing × Slots). m.0) (run_with_slots tree turns)
+  without_slots : run_of tree turns
+      ≡ turn_image (λ (s : State). s) (λ (copy : State). copy) (λ (m : Nothing × Slots). m.0) (run_with_slots tree turns)
   without_slots =
-      ap (λ (states : List State). run (tree_kind tree) 1 turns (opening (tree_kind tree) states tt)) (sym (map-id (opening_states tree 0 tree.processes)))
+      ap (λ (states : List State). run (tree_kind tree) 1 turns (opening (tree_kind tree) states tt))
+      (sym (map-id (opening_states tree 0 tree.processes)))
       ∙ opening_run-image (slots_image (tree_kind tree)) turns (opening_states tree 0 tree.processes) (tt, zero_slots (channels_of tree))
 
   pub same_told : (run_of tree turns).1 ≡ (run_with_slots tree turns).1
@@ -53,7 +57,8 @@ module _ (tree : Tree) (turns : List ℕ) where
   pub same_processes : (run_of tree turns).0.processes ≡ (run_with_slots tree turns).0.processes
   same_processes = ap (λ (end : TreeWorld × List Told). end.0.processes) without_slots ∙ own_processes (run_with_slots tree turns).0.processes
 
-module _ (tree : Tree) (slots : List Slot) (c : Code) (meets : Meeting) (laws : IsAgreeing tree c meets) (nested : IsNested tree) (stands : StandsFor tree slots c) where
+module _ (tree : Tree) (slots : List Slot) (c : Code) (meets : Meeting) (laws : IsAgreeing tree c meets)
+    (nested : IsNested tree) (stands : StandsFor tree slots c) where
   abbrev opening_memory : Common
   opening_memory = record { slots = zero_slots c.channels; links = [] }
 
@@ -93,7 +98,9 @@ module _ (tree : Tree) (slots : List Slot) (c : Code) (meets : Meeting) (laws : 
           taken = taken_same tree c meets laws ends.memory word_ends.memory ends.processes word_ends.processes all stands.channels_are i;
         } in
         final
-        ∙ ap (λ (qs : List (Process State State)). final_of tree (record { processes = qs; talks = ends.talks; memory = ends.memory })) (sym (same_processes tree turns))
+        ∙ ap
+        (λ (qs : List (Process State State)). final_of tree (record { processes = qs; talks = ends.talks; memory = ends.memory }))
+        (sym (same_processes tree turns))
 
     text_same : word_text c (groups_of tree) turns ≡ run_text tree turns
     text_same =

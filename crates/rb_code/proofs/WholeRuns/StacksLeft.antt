@@ -80,7 +80,8 @@ abbrev LeavesItems : State → List Item → State → Type 0
 LeavesItems s rest t = left_in t ≡ stacks_left rest (stacks_in s)
 
 module _ (s : State) where
-  stored : (rest : List Item) (place : List ℕ × ℕ) (v : ℤ) → stacks_left rest (stacks_of (put_at s.environment v place).calls) ≡ stacks_left rest (stacks_in s)
+  stored : (rest : List Item) (place : List ℕ × ℕ) (v : ℤ)
+      → stacks_left rest (stacks_of (put_at s.environment v place).calls) ≡ stacks_left rest (stacks_in s)
   stored rest place v = ap (stacks_left rest) (store_kept s.environment place.0 place.1 v).1
 
   pushes_leave : (edition : Edition) (body : Body) (rest : List Item) → EndsIn (LeavesItems s rest) (pushes edition body rest s)
@@ -89,7 +90,8 @@ module _ (s : State) where
       (Ok (with_environment (push_frame (frame_of variables) s.environment) (continue_with (performed commands (EndBlock ∷ rest)) s))) tt
       (performed_left commands (EndBlock ∷ rest) _ ∙ ap (stacks_left rest) (pushed_stacks (frame_of variables) s.environment.calls))
 
-  pushes_else_leave : (edition : Edition) (otherwise : Otherwise) (rest : List Item) → EndsIn (LeavesItems s rest) (pushes_else edition otherwise rest s)
+  pushes_else_leave : (edition : Edition) (otherwise : Otherwise) (rest : List Item)
+      → EndsIn (LeavesItems s rest) (pushes_else edition otherwise rest s)
   pushes_else_leave edition NoElse rest = refl
   pushes_else_leave edition (Else body) rest = pushes_leave edition body rest
 
@@ -118,7 +120,8 @@ module _ (s : State) where
       then_ends (LeavesItems s rest) (line_from s.environment true items) _ (λ line.
       either_ends (LeavesItems s rest) _ (Err _) (Ok (with_held (s.held ++ line ∷ []) (continue_with rest s))) tt refl)
 
-  performs_leave : (tree : Tree) (message : Option ℤ) (rest : List Item) (command : Command) → EndsIn (LeavesItems s rest) (performs tree message s rest command)
+  performs_leave : (tree : Tree) (message : Option ℤ) (rest : List Item) (command : Command)
+      → EndsIn (LeavesItems s rest) (performs tree message s rest command)
   performs_leave tree message rest (Assignment to e) =
       then_ends (LeavesItems s rest) (place_in s.environment to) _ (λ place.
       then_ends (LeavesItems s rest) (present_value s.environment e) _ (λ v. stored rest place v))
@@ -154,12 +157,14 @@ module _ (s : State) where
   step_items_leave tree alternate prior message [] e = refl
   step_items_leave tree alternate prior message (Perform command ∷ rest) e =
       step_ends (LeavesSame s) TestGone (performs tree message s rest command)
-      (subst (λ (items : List Stacks). EndsIn (λ t. left_in t ≡ items) (performs tree message s rest command)) (ap (λ items. stacks_left items (stacks_in s)) (sym e))
+      (subst (λ (items : List Stacks). EndsIn (λ t. left_in t ≡ items) (performs tree message s rest command))
+      (ap (λ items. stacks_left items (stacks_in s)) (sym e))
       (performs_leave tree message rest command))
   step_items_leave tree alternate prior message (StartOf block ∷ rest) e =
       let chosen = alternate_number alternate (alternates_in block) in
       step_ends (LeavesSame s) TestGone (starts_body tree.edition block rest s chosen)
-      (subst (λ (items : List Stacks). EndsIn (λ t. left_in t ≡ items) (starts_body tree.edition block rest s chosen)) (ap (λ items. stacks_left items (stacks_in s)) (sym e))
+      (subst (λ (items : List Stacks). EndsIn (λ t. left_in t ≡ items) (starts_body tree.edition block rest s chosen))
+      (ap (λ items. stacks_left items (stacks_in s)) (sym e))
       (starts_leave tree.edition block rest chosen))
   step_items_leave tree alternate prior message (TestOf block ∷ rest) e =
       judged_leave rest (value s.environment (former s.environment prior) [] (test_in block)) (ap (λ items. stacks_left items (stacks_in s)) e)

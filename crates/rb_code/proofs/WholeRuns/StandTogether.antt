@@ -40,13 +40,16 @@ pub record IsUpright (c : Code) (upright : Uprightness) : Type 0 where
       → MayStep (want c u) message → (want c u ≡ Starts) ⊎ (alternate ≡ 0)
       → IsFinished (execute c (sight u alternate (last_of ds) message) (most_steps c) (u.at + 1) [] (memory_of u all))
   pub went : (ds : List Copy) (u : Standing) (alternate : ℕ) (message : Option ℤ) (memory later : Common) (v : Standing) → upright false ds u
-      → MayStep (want c u) message → (want c u ≡ Starts) ⊎ (alternate ≡ 0) → steps c alternate (last_of ds) u message memory ≡ Went v later → upright false ds v
+      → MayStep (want c u) message → (want c u ≡ Starts) ⊎ (alternate ≡ 0)
+      → steps c alternate (last_of ds) u message memory ≡ Went v later → upright false ds v
   pub held : (ds : List Copy) (u : Standing) (alternate : ℕ) (message : Option ℤ) (memory : Common) (v : Standing) → upright false ds u
-      → MayStep (want c u) message → (want c u ≡ Starts) ⊎ (alternate ≡ 0) → steps c alternate (last_of ds) u message memory ≡ Held v → upright true ds v
+      → MayStep (want c u) message → (want c u ≡ Starts) ⊎ (alternate ≡ 0)
+      → steps c alternate (last_of ds) u message memory ≡ Held v → upright true ds v
   pub enters : (ds : List Copy) (u : Standing) (facts : Facts) (t : ℕ) → upright false ds u → want c u ≡ Enters facts
       → upright false (ds ++ copied (kept_last t (entered_at u)) ∷ []) (kept_last t (entered_at u))
   pub settles_finish : (ds : List Copy) (u : Standing) → upright true ds u
-      → IsFinished (execute c (sight (accepted_touched u) 0 (last_of (without_last ds)) None) (most_steps c) u.at [] (memory_of (accepted_touched u) []))
+      → IsFinished
+      (execute c (sight (accepted_touched u) 0 (last_of (without_last ds)) None) (most_steps c) u.at [] (memory_of (accepted_touched u) []))
   pub leaves : (ds : List Copy) (u : Standing) → upright true ds u
       → upright false (without_last ds) (settles c (last_of (without_last ds)) (accepted_touched u))
   pub releases : (line : Bool) (u : Standing) → upright line [] u → upright line [] (released u)
@@ -113,4 +116,5 @@ module _ (tree : Tree) (slots : List Slot) (c : Code) where
   StepsCome = (u : Standing) (s : State) (alternate : ℕ) (x : Option State) (y : Option Copy) (message : Option ℤ) (before : Slots)
       → IsOwn tree u.process s → HasOwnMail c u.process s → u.held ≡ s.held → Meets tree slots c u.process s u.at u.words u.calls → IsSettled s.items
       → PriorFor u s s.items x y → MayStep (wants_first tree s.items) message → (wants_first tree s.items ≡ Starts) ⊎ (alternate ≡ 0)
-      → ComesTo u (sight u alternate y message) before (stepped_with_slots (tree_kind tree) s before (step tree alternate (environment_of x) s message))
+      → ComesTo u (sight u alternate y message) before
+      (stepped_with_slots (tree_kind tree) s before (step tree alternate (environment_of x) s message))

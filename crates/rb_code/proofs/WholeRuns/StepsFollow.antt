@@ -59,7 +59,8 @@ module _ (s : State) where
       either_ends (Follows s) _ (Err _) (Ok (with_held (s.held ++ line ∷ []) (continue_with rest s))) tt
       (record { process = refl; kept = refl; lines = (line ∷ [], refl) }))
 
-  performs_follow : (tree : Tree) (message : Option ℤ) (rest : List Item) (command : Command) → EndsIn (Follows s) (performs tree message s rest command)
+  performs_follow : (tree : Tree) (message : Option ℤ) (rest : List Item) (command : Command)
+      → EndsIn (Follows s) (performs tree message s rest command)
   performs_follow tree message rest (Assignment to e) =
       then_ends (Follows s) (place_in s.environment to) _ (λ place.
       then_ends (Follows s) (present_value s.environment e) _ (λ v. same_lines s _ refl refl refl))

@@ -51,13 +51,17 @@ pairs_last R (a ∷ a' ∷ xs) (b ∷ b' ∷ ys) x both e = pairs_last R (a' ∷
 
 module _ (tree : Tree) (slots : List Slot) (c : Code) where
   -- the copy that `prior` reads
-  last_copy : (u : Standing) (s : State) (cs : List State) (ds : List Copy) (others : List Stacks) → Meets tree slots c u.process s u.at u.words u.calls
+  last_copy : (u : Standing) (s : State) (cs : List State) (ds : List Copy) (others : List Stacks)
+      → Meets tree slots c u.process s u.at u.words u.calls
       → Pairs (CopyTogether tree slots c u.process) cs ds → stacks_in s ∷ others ≡ onto [] (stacks_at cs)
-      → (copy : State) × (seen : Copy) × (last_of cs ≡ Some copy) × (last_of ds ≡ Some seen) × IsPrior tree c u.process s u.calls copy seen.words u.calls
-  last_copy u s cs ds others meets pairs e = found (last_of cs) refl (sym (last_of-map stacks_in cs) ∙ last_told (stacks_at cs) (stacks_in s) others (sym e))
+      → (copy : State) × (seen : Copy) × (last_of cs ≡ Some copy) × (last_of ds ≡ Some seen)
+      × IsPrior tree c u.process s u.calls copy seen.words u.calls
+  last_copy u s cs ds others meets pairs e =
+      found (last_of cs) refl (sym (last_of-map stacks_in cs) ∙ last_told (stacks_at cs) (stacks_in s) others (sym e))
     where
       found : (o : Option State) → last_of cs ≡ o → option_map stacks_in o ≡ Some (stacks_in s)
-          → (copy : State) × (seen : Copy) × (last_of cs ≡ Some copy) × (last_of ds ≡ Some seen) × IsPrior tree c u.process s u.calls copy seen.words u.calls
+          → (copy : State) × (seen : Copy) × (last_of cs ≡ Some copy) × (last_of ds ≡ Some seen)
+          × IsPrior tree c u.process s u.calls copy seen.words u.calls
       found None there same = absurd (none_some same)
       found (Some copy) there same =
           let pair = pairs_last (CopyTogether tree slots c u.process) cs ds copy pairs there in (
@@ -65,7 +69,8 @@ module _ (tree : Tree) (slots : List Slot) (c : Code) where
             pair.0,
             there,
             pair.1,
-            is_prior tree slots c u.process s copy u.words pair.0.words u.calls pair.0.calls meets.words_meet pair.2.meets.words_meet (some_same same),
+            is_prior tree slots c u.process s copy u.words pair.0.words u.calls pair.0.calls meets.words_meet pair.2.meets.words_meet
+                (some_same same),
           )
 
   prior_for : (u : Standing) (s : State) (cs : List State) (ds : List Copy) (items : List Item) → Meets tree slots c u.process s u.at u.words u.calls
@@ -84,7 +89,8 @@ pub whole_upright : {tree : Tree} {slots : List Slot} {c : Code} {upright : Upri
 whole_upright e (Whole whole up) = up
 whole_upright e (Fell line none some) = absurd (some (e ∙ ap (λ copies. onto [] (stacks_at copies)) none))
 
-module _ (tree : Tree) (slots : List Slot) (c : Code) (upright : Uprightness) (keeps : IsUpright c upright) (come : StepsCome tree slots c) (nested : IsNested tree)
+module _ (tree : Tree) (slots : List Slot) (c : Code) (upright : Uprightness) (keeps : IsUpright c upright)
+    (come : StepsCome tree slots c) (nested : IsNested tree)
     (channels_are : c.channels ≡ channels_of tree) where
   abbrev pub together : Meeting
   together = StandTogether tree slots c upright
@@ -94,7 +100,8 @@ module _ (tree : Tree) (slots : List Slot) (c : Code) (upright : Uprightness) (k
       wants_agree c tree slots u.process (stacks_of s.environment.calls) s.items u.calls u.at both.meets.left (both.settled refl)
 
   -- One step.
-  module _ (q : Process State State) (alternate : ℕ) (message : Option ℤ) (memory : Common) (ds : List Copy) (u : Standing) (lies : LiesWell tree u.process q)
+  module _ (q : Process State State) (alternate : ℕ) (message : Option ℤ) (memory : Common) (ds : List Copy) (u : Standing)
+      (lies : LiesWell tree u.process q)
       (whole : left_in q.state ≡ onto [] (stacks_at (copies_of q.levels)))
       (may : MayStep (wants_first tree q.state.items) message) (at : (wants_first tree q.state.items ≡ Starts) ⊎ (alternate ≡ 0))
       (both : together false (copies_of q.levels) q.state ds u) where
@@ -118,15 +125,18 @@ module _ (tree : Tree) (slots : List Slot) (c : Code) (upright : Uprightness) (k
 
     ended : (end : Outcome) → IsEnd end → EndsIn c see (u.at + 1) [] (memory_of u memory.slots) end → did ≡ end
     ended end is ends =
-        enough c see (most_steps c) (u.at + 1) [] (memory_of u memory.slots) end is ends (keeps.finishes ds u alternate message memory.slots up may_word at_word)
+        enough c see (most_steps c) (u.at + 1) [] (memory_of u memory.slots) end is ends
+        (keeps.finishes ds u alternate message memory.slots up may_word at_word)
 
-    agrees_after : (end : Outcome) (x : Stepped State (Nothing × Slots)) → did ≡ end → StepsAgree together (copies_of q.levels) ds x (came_to u memory end)
+    agrees_after : (end : Outcome) (x : Stepped State (Nothing × Slots)) → did ≡ end
+        → StepsAgree together (copies_of q.levels) ds x (came_to u memory end)
         → StepsAgree together (copies_of q.levels) ds x (steps c alternate (last_of ds) u message memory)
     agrees_after end x e agree = subst (λ (o : Outcome). StepsAgree together (copies_of q.levels) ds x (came_to u memory o)) (sym e) agree
 
     step_agrees : (x : Result_of_step) → step tree alternate (environment_of prior) q.state message ≡ x
         → ComesTo tree slots c u see memory.slots (stepped_with_slots (tree_kind tree) q.state memory.slots x)
-        → StepsAgree together (copies_of q.levels) ds (stepped_with_slots (tree_kind tree) q.state memory.slots x) (steps c alternate (last_of ds) u message memory)
+        → StepsAgree together (copies_of q.levels) ds (stepped_with_slots (tree_kind tree) q.state memory.slots x)
+        (steps c alternate (last_of ds) u message memory)
     step_agrees (Trapped cause) e comes = agrees_after (Trap cause) (Trapped cause) (ended (Trap cause) tt comes) refl
     step_agrees (Went t m) e comes =
         let follows : Follows q.state t = went_follows q.state tree alternate (environment_of prior) message t m e in
@@ -138,11 +148,13 @@ module _ (tree : Tree) (slots : List Slot) (c : Code) (upright : Uprightness) (k
             process = follows.process ∙ both.process;
             meets = comes.meets;
             settled = λ _. comes.settled;
-            mail = same_mail t (settle t) refl refl (went_mail tree nested c channels_are u.process q lies.known alternate (environment_of prior) message t m e both.mail);
+            mail = same_mail t (settle t) refl refl
+                (went_mail tree nested c channels_are u.process q lies.known alternate (environment_of prior) message t m e both.mail);
             copies = both.copies;
             points = both.points;
             stands = Whole (settled_left t.items t.environment ∙ went_leaves q.state tree alternate (environment_of prior) message t m e ∙ whole)
-                (keeps.went ds u alternate message memory (record memory { slots = comes.later.slots }) (standing_at comes.to comes.later u) up may_word at_word
+                (keeps.went ds u alternate message memory (record memory { slots = comes.later.slots })
+                (standing_at comes.to comes.later u) up may_word at_word
                 (ap (came_to u memory) end));
           };
         })

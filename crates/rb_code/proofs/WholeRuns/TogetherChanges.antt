@@ -70,13 +70,15 @@ module _ (tree : Tree) (slots : List Slot) (c : Code) (upright : Uprightness) (k
   Together = StandTogether tree slots c upright
 
   pub enters_together : (cs : List State) (s : State) (ds : List Copy) (u : Standing) (facts : Facts) (kept : List (ℕ × ℕ)) (t : ℕ)
-      → wants_first tree s.items ≡ Enters facts → want c u ≡ Enters facts → left_in s ≡ onto [] (stacks_at cs) → StandTogether tree slots c upright false cs s ds u
+      → wants_first tree s.items ≡ Enters facts → want c u ≡ Enters facts → left_in s ≡ onto [] (stacks_at cs)
+      → StandTogether tree slots c upright false cs s ds u
       → let x = with_kept kept (enter s) in
       let y = kept_last t (entered_at u) in
       StandTogether tree slots c upright false (cs ++ x ∷ []) x (ds ++ copied y ∷ []) y
   enters_together cs s ds u facts kept t wants asks whole both =
       let entry = entered_block tree s.items facts wants in
-      let all : left_in (with_kept kept (enter s)) ≡ stacks_in s ∷ onto [] (stacks_at cs) = left_entered tree s facts entry ∙ ap (λ others. stacks_in s ∷ others) whole in
+      let all : left_in (with_kept kept (enter s)) ≡ stacks_in s ∷ onto [] (stacks_at cs) =
+      left_entered tree s facts entry ∙ ap (λ others. stacks_in s ∷ others) whole in
       let x = with_kept kept (enter s) in
       let y = kept_last t (entered_at u) in
       let met = entered_meets tree slots c u.process s facts kept u.at u.words u.calls entry both.meets in
@@ -141,7 +143,8 @@ module _ (tree : Tree) (slots : List Slot) (c : Code) (upright : Uprightness) (k
         stands = by both.stands;
       }
     where
-      by : StandsOrFell tree slots c upright line cs s ds u → StandsOrFell tree slots c upright false (take (suc j) cs) x (take (suc j) ds) (restored (cut_touched (suc j) u) y)
+      by : StandsOrFell tree slots c upright line cs s ds u
+          → StandsOrFell tree slots c upright false (take (suc j) cs) x (take (suc j) ds) (restored (cut_touched (suc j) u) y)
       by (Whole e up) = Whole (lies_at [] j cs x both.points at ∙ ap (onto []) (take-map stacks_in (suc j) cs)) (keeps.back line ds u j y up at')
       by (Fell away none some) = absurd (none_some (ap (λ (copies : List State). slice_get copies j) (sym none) ∙ at))
 
@@ -188,9 +191,11 @@ module _ (tree : Tree) (slots : List Slot) (c : Code) (upright : Uprightness) (k
     settled_is : (r : reached) → settles c (last_of (without_last ds)) gone ≡ standing_at r.to r.later gone
     settled_is r =
         ap (settled_by gone)
-        (enough c seen (most_steps c) u.at [] (memory_of gone []) (Stopped r.to r.later) tt r.ends (keeps.settles_finish ds u (whole_at_line both.stands).1))
+        (enough c seen (most_steps c) u.at [] (memory_of gone []) (Stopped r.to r.later) tt r.ends
+        (keeps.settles_finish ds u (whole_at_line both.stands).1))
 
-    pub leaves_together : StandTogether tree slots c upright false (without_last cs) (settle s) (without_last ds) (settles c (last_of (without_last ds)) gone)
+    pub leaves_together : StandTogether tree slots c upright false (without_last cs) (settle s) (without_last ds)
+        (settles c (last_of (without_last ds)) gone)
     leaves_together =
         let r = comes in
         let is = settled_is r in

@@ -27,12 +27,14 @@ use Rattle.rb_code.proofs.WholeRuns.TogetherAgrees.{takes_step, want_same}
 use Rattle.rb_code.proofs.WholeRuns.TogetherChanges.{back_together, enters_together, falls_together, keeps_together, leaves_lines, leaves_together, releases_together}
 use Rattle.rb_code.proofs.WholeRuns.WordsOfStates.{left_at_rest, variables_are}
 
-module _ (tree : Tree) (slots : List Slot) (c : Code) (resolved : Resolved tree slots) (limits : IsWithinLimits tree) (nested : IsNested tree) (stands : StandsFor tree slots c)
+module _ (tree : Tree) (slots : List Slot) (c : Code) (resolved : Resolved tree slots) (limits : IsWithinLimits tree)
+    (nested : IsNested tree) (stands : StandsFor tree slots c)
     (cursors : (p : ℕ) → HasCursors c p) (come : StepsCome tree slots c) (upright : Uprightness) (keeps : IsUpright c upright) where
   abbrev Together : Bool → List State → State → List Copy → Standing → Type 0
   Together = StandTogether tree slots c upright
 
-  wants : (cs : List State) (s : State) (ds : List Copy) (u : Standing) → StandTogether tree slots c upright false cs s ds u → wants_first tree s.items ≡ want c u
+  wants : (cs : List State) (s : State) (ds : List Copy) (u : Standing) → StandTogether tree slots c upright false cs s ds u
+      → wants_first tree s.items ≡ want c u
   wants cs s ds u both = want_same tree slots c upright keeps come nested stands.channels_are cs s ds u both
 
   -- of which process it is
@@ -43,7 +45,8 @@ module _ (tree : Tree) (slots : List Slot) (c : Code) (resolved : Resolved tree 
   pub together_agrees : IsAgreeing tree c (StandTogether tree slots c upright)
   together_agrees = record {
     want = wants;
-    rests = λ cs s ds u both. left_at_rest tree slots c u.process (stacks_of s.environment.calls) s.items u.calls u.at both.meets.left (both.settled refl);
+    rests = λ cs s ds u both. left_at_rest tree slots c u.process
+        (stacks_of s.environment.calls) s.items u.calls u.at both.meets.left (both.settled refl);
     sent = λ line cs s ds u channel both. sent_counts tree c u.process s u.words u.calls channel both.mail both.meets.words_meet;
     taken = λ line cs s ds u channel both. taken_counts tree c u.process s u.words u.calls channel both.mail both.meets.words_meet;
     sent_then = λ line cs s ds u channel j x y both at at'.
@@ -57,7 +60,8 @@ module _ (tree : Tree) (slots : List Slot) (c : Code) (resolved : Resolved tree 
         let copy = pairs_get (CopyTogether tree slots c u.process) cs ds j x y both.copies at at' in copy.meets.words_meet.held;
     keeps = λ line cs s ds u kept t both. keeps_together tree slots c upright keeps line cs s ds u kept t both;
     step = λ p q alternate message memory ds u lies running away may at lines both.
-        takes_step tree slots c upright keeps come nested stands.channels_are q alternate message memory ds u (own_process p q ds u lies both) (lies_away tree p q lies running away) may at both lines;
+        takes_step tree slots c upright keeps come nested stands.channels_are q alternate message memory ds u
+        (own_process p q ds u lies both) (lies_away tree p q lies running away) may at both lines;
     enter = λ p q facts ds u kept t lies running away enters both.
         enters_together tree slots c upright keeps (copies_of q.levels) q.state ds u facts kept t enters
         (sym (wants (copies_of q.levels) q.state ds u both) ∙ enters) (lies_away tree p q lies running away) both;

@@ -40,7 +40,8 @@ points_from t levels old from before i level e =
 points_later : (t : ℕ) (levels : List (Level State)) → PointsBefore t levels → PointsBefore (t + 1) levels
 points_later t levels before i level e = later-before t (t + 1) level.copy.kept (omega arith) (before i level e)
 
-points_more : (t : ℕ) (levels : List (Level State)) (new : Level State) → PointsBefore t levels → AreBefore t new.copy.kept → PointsBefore t (levels ++ new ∷ [])
+points_more : (t : ℕ) (levels : List (Level State)) (new : Level State) → PointsBefore t levels → AreBefore t new.copy.kept
+    → PointsBefore t (levels ++ new ∷ [])
 points_more t levels new before own i level e = by_place (get_more levels new i level e)
   where
     by_place : IsOldOrNew levels new i level → AreBefore t level.copy.kept
@@ -79,7 +80,8 @@ module _ (tree : Tree) where
   fallen_in_time : (t : ℕ) (q : Process State State) (cause : Cause) → IsInTime t q → IsInTime t (fallen (tree_kind tree) cause q)
   fallen_in_time t q cause h = record { now = h.now; then = λ i level e. absurd (none_some e) }
 
-  fallen_inside_in_time : (t : ℕ) (q : Process State State) (inside : Bool) → IsInTime t q → IsInTime t (cond inside (fallen (tree_kind tree) Inner q) q)
+  fallen_inside_in_time : (t : ℕ) (q : Process State State) (inside : Bool) → IsInTime t q
+      → IsInTime t (cond inside (fallen (tree_kind tree) Inner q) q)
   fallen_inside_in_time t q true h = fallen_in_time t q Inner h
   fallen_inside_in_time t q false h = h
 
@@ -95,13 +97,15 @@ module _ (tree : Tree) where
   freed_in_time t s (l ∷ ls) line status h = h
 
   inside_in_time : (t c : ℕ) (f : ℕ → Process State State → Process State State) (qs : List (Process State State))
-      → ((j : ℕ) (q : Process State State) → IsInTime t q → IsInTime t (f j q)) → Each (λ r q. IsInTime t q) qs → Each (λ r q. IsInTime t q) (map (where_inside f c) qs)
+      → ((j : ℕ) (q : Process State State) → IsInTime t q → IsInTime t (f j q)) → Each (λ r q. IsInTime t q) qs
+      → Each (λ r q. IsInTime t q) (map (where_inside f c) qs)
   inside_in_time t c f qs one h =
       Each-map (λ r q. IsInTime t q) (where_inside f c) qs h (λ r q _. at_place_in_time t f (position (is_of c) q.levels) q (λ j. one j q))
 
   broken_in_time : (t c : ℕ) (qs : List (Process State State)) → Each (λ r q. IsInTime t q) qs
       → Each (λ r q. IsInTime t q) (map (fallen_inside (tree_kind tree) c) qs)
-  broken_in_time t c qs h = Each-map (λ r q. IsInTime t q) (fallen_inside (tree_kind tree) c) qs h (λ r q _. fallen_inside_in_time t q (is_inside c q))
+  broken_in_time t c qs h =
+      Each-map (λ r q. IsInTime t q) (fallen_inside (tree_kind tree) c) qs h (λ r q _. fallen_inside_in_time t q (is_inside c q))
 
   each_later : (t : ℕ) (qs : List (Process State State)) → Each (λ r q. IsInTime t q) qs → Each (λ r q. IsInTime (t + 1) q) qs
   each_later t qs h r q e = later t q (h r q e)
@@ -111,7 +115,8 @@ module _ (tree : Tree) where
       → Each (λ r z. IsInTime (t + 1) z) (change_at p (λ _. q) w.processes)
   set_in_time t p q w h new = Each-change_at (λ r z. IsInTime (t + 1) z) p (λ _. q) w.processes (each_later t w.processes h.each) (λ _ _. new)
 
-  alone_in_time : (t p : ℕ) (f : Process State State → Process State State) (w : TreeWorld) → ((q : Process State State) → IsInTime t q → IsInTime t (f q))
+  alone_in_time : (t p : ℕ) (f : Process State State → Process State State) (w : TreeWorld)
+      → ((q : Process State State) → IsInTime t q → IsInTime t (f q))
       → Each (λ r z. IsInTime t z) w.processes → Each (λ r z. IsInTime t z) (change_at p f w.processes)
   alone_in_time t p f w one h = Each-change_at (λ r z. IsInTime t z) p f w.processes h (λ q e. one q (h p q e))
 
@@ -119,13 +124,15 @@ module _ (tree : Tree) where
       → (tree_kind tree).step alternate (copy_of (last_of q.levels)) q.state message tt ≡ Went s m → AreBefore (t + 1) (s.kept ++ (t, alternate) ∷ [])
   went_joins t q alternate message s m before e =
       joins t q.state (with_kept (s.kept ++ (t, alternate) ∷ []) s) alternate
-      (ap (λ turns. turns ++ (t, alternate) ∷ []) (went_follows q.state tree alternate (environment_of (copy_of (last_of q.levels))) message s m e).kept) before
+      (ap (λ turns. turns ++ (t, alternate) ∷ [])
+      (went_follows q.state tree alternate (environment_of (copy_of (last_of q.levels))) message s m e).kept) before
 
   held_joins : (t : ℕ) (q : Process State State) (alternate : ℕ) (message : Option ℤ) (s : State) → AreBefore t q.state.kept
       → (tree_kind tree).step alternate (copy_of (last_of q.levels)) q.state message tt ≡ Held s → AreBefore (t + 1) (s.kept ++ (t, alternate) ∷ [])
   held_joins t q alternate message s before e =
       joins t q.state (with_kept (s.kept ++ (t, alternate) ∷ []) s) alternate
-      (ap (λ turns. turns ++ (t, alternate) ∷ []) (held_follows q.state tree alternate (environment_of (copy_of (last_of q.levels))) message s e).kept) before
+      (ap (λ turns. turns ++ (t, alternate) ∷ [])
+      (held_follows q.state tree alternate (environment_of (copy_of (last_of q.levels))) message s e).kept) before
 
   -- who stands at a line after turn t
   stands_in_time : (t : ℕ) (q : Process State State) (alternate : ℕ) (message : Option ℤ) (s : State) → IsInTime t q
@@ -175,8 +182,10 @@ module _ (tree : Tree) where
     };
     leaves = λ t past p q w a v s l c h at e _ _ _. record {
       some = omega arith;
-      each = Each-map (λ r z. IsInTime (t + 1) z) (leaves (tree_kind tree) c) (change_at p (λ _. stands_now (with_kept (s.kept ++ (t, a) ∷ []) s) q.levels) w.processes)
-          (set_in_time t p (stands_now (with_kept (s.kept ++ (t, a) ∷ []) s) q.levels) w h (stands_in_time t q a v s (h.each p q at.acts.runs.there) e))
+      each = Each-map (λ r z. IsInTime (t + 1) z) (leaves (tree_kind tree) c)
+          (change_at p (λ _. stands_now (with_kept (s.kept ++ (t, a) ∷ []) s) q.levels) w.processes)
+          (set_in_time t p (stands_now (with_kept (s.kept ++ (t, a) ∷ []) s) q.levels) w h
+          (stands_in_time t q a v s (h.each p q at.acts.runs.there) e))
           (λ r z _. leaves_in_time (t + 1) z (stands_at c z));
     };
     falls = λ t past p q w left cause h r why. record {
@@ -194,7 +203,9 @@ module _ (tree : Tree) where
     };
     all_try_next = λ t past p q w j l c h r x y. record {
       some = omega arith;
-      each = each_later t _ (inside_in_time t c raised _ (λ i. raised_in_time t i) (inside_in_time t c (put_back (tree_kind tree)) w.processes (λ i. put_back_in_time t i) h.each));
+      each = each_later t _
+          (inside_in_time t c raised _ (λ i. raised_in_time t i)
+          (inside_in_time t c (put_back (tree_kind tree)) w.processes (λ i. put_back_in_time t i) h.each));
     };
     all_are_spent = λ t past p q w j l c d h r x y z. record {
       some = h.some;
@@ -207,12 +218,14 @@ module _ (tree : Tree) where
     is_gone = λ t past p q w j h r e. record { some = omega arith; each = each_later t w.processes h.each };
     releases = λ t past w o h e. record {
       some = h.some;
-      each = Each-map (λ r z. IsInTime (t + 1) z) (freed (tree_kind tree)) w.processes h.each (λ r z _. freed_in_time (t + 1) z.state z.levels z.at_line z.status);
+      each = Each-map (λ r z. IsInTime (t + 1) z) (freed (tree_kind tree)) w.processes h.each
+          (λ r z _. freed_in_time (t + 1) z.state z.levels z.at_line z.status);
     };
   }
 
   -- before the first turn nothing was kept
-  pub opening_in_time : (states : List State) → ((r : ℕ) (s : State) → slice_get states r ≡ Some s → s.kept ≡ []) → AreInTime 1 (opening (tree_kind tree) states tt)
+  pub opening_in_time : (states : List State) → ((r : ℕ) (s : State) → slice_get states r ≡ Some s → s.kept ≡ [])
+      → AreInTime 1 (opening (tree_kind tree) states tt)
   opening_in_time states none = record {
     some = omega arith;
     each = settled_each (tree_kind tree) (λ r q. IsInTime 1 q) states (λ r s e. record {

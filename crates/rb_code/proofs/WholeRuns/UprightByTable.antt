@@ -68,7 +68,8 @@ module _ (c : Code) (groups : List Membership) (t : Table) (has : HasTable c gro
       → StandsNow c t Running line u levels → StandsNow c t Running line (record u { words = ws; last_kept = n; held = hs }) levels
   like_now false u levels ws n hs long h = stands_like c t u levels levels ws n hs u.touched long refl refl h
   like_now true u levels ws n hs long h =
-      settles_like c t (record u { touched = accepted u.touched }) (without_last levels) (without_last levels) ws n hs (accepted u.touched) long refl refl h
+      settles_like c t (record u { touched = accepted u.touched }) (without_last levels) (without_last levels) ws n hs
+      (accepted u.touched) long refl refl h
 
   like : (line : Bool) (u : Standing) (levels : List (Level Copy)) (ws : List ℤ) (n : ℕ) (hs : List (List ℕ)) → length ws ≡ length u.words
       → ProcessStands c t (running_at line u levels) → ProcessStands c t (running_at line (record u { words = ws; last_kept = n; held = hs }) levels)
@@ -82,14 +83,18 @@ module _ (c : Code) (groups : List Membership) (t : Table) (has : HasTable c gro
   seen : (ds : List Copy) (levels : List (Level Copy)) → copies_of levels ≡ ds → copy_of (last_of levels) ≡ last_of ds
   seen ds levels e = copies-last levels ∙ ap last_of e
 
-  seen_front : (ds : List Copy) (levels : List (Level Copy)) → copies_of levels ≡ ds → copy_of (last_of (without_last levels)) ≡ last_of (without_last ds)
+  seen_front : (ds : List Copy) (levels : List (Level Copy)) → copies_of levels ≡ ds
+      → copy_of (last_of (without_last levels)) ≡ last_of (without_last ds)
   seen_front ds levels e = last-front levels ∙ ap (λ (copies : List Copy). last_of (without_last copies)) e
 
   -- a step
-  module _ (ds : List Copy) (u : Standing) (alternate : ℕ) (message : Option ℤ) (h : StandsInTable false ds u) (may : MayStep (want c u) message) where
+  module _ (ds : List Copy) (u : Standing) (alternate : ℕ) (message : Option ℤ) (h : StandsInTable false ds u)
+      (may : MayStep (want c u) message) where
     step_ends : (all : Slots) → IsFinished (execute c (sight u alternate (last_of ds) message) (most_steps c) (u.at + 1) [] (memory_of u all))
     step_ends all =
-        subst (λ (copy : Option Copy). IsFinished (execute c (sight u alternate copy message) (most_steps c) (u.at + 1) [] (memory_of u all))) (seen ds h.levels h.copies_are)
+        subst
+        (λ (copy : Option Copy). IsFinished (execute c (sight u alternate copy message) (most_steps c) (u.at + 1) [] (memory_of u all)))
+        (seen ds h.levels h.copies_are)
         (finished_by _ (run_step_ends c groups t has lists u h.levels h.stands.now alternate message (served_by (want c u) message may) all))
 
     step_stands : (memory : Common) → StandsAfter c t u h.levels (step c alternate (last_of ds) u message memory)
@@ -123,12 +128,17 @@ module _ (c : Code) (groups : List Membership) (t : Table) (has : HasTable c gro
       (entered_stands c groups t has lists u h.levels h.stands.now facts wants n 1)
 
   settling_ends : (ds : List Copy) (u : Standing) → StandsInTable true ds u
-      → IsFinished (execute c (sight (accepted_touched u) 0 (last_of (without_last ds)) None) (most_steps c) u.at [] (memory_of (accepted_touched u) []))
+      → IsFinished
+      (execute c (sight (accepted_touched u) 0 (last_of (without_last ds)) None) (most_steps c) u.at [] (memory_of (accepted_touched u) []))
   settling_ends ds u h =
-      subst (λ (copy : Option Copy). IsFinished (execute c (sight (accepted_touched u) 0 copy None) (most_steps c) u.at [] (memory_of (accepted_touched u) [])))
+      subst (λ (copy : Option Copy). IsFinished
+      (execute c (sight (accepted_touched u) 0 copy None) (most_steps c) u.at [] (memory_of (accepted_touched u) [])))
       (seen_front ds h.levels h.copies_are)
-      (finished_by _ (safe_ends c (sight (accepted_touched u) 0 (copy_of (last_of (without_last h.levels))) None) (λ m. ⊥) (most_steps c) u.at [] (memory_of (accepted_touched u) [])
-      (settling_is_safe c groups (accepted_touched u) (without_last h.levels) (record { table = t; has = has; lists = lists; settles = h.stands.now }))))
+      (finished_by _
+      (safe_ends c (sight (accepted_touched u) 0 (copy_of (last_of (without_last h.levels))) None) (λ m. ⊥)
+      (most_steps c) u.at [] (memory_of (accepted_touched u) [])
+      (settling_is_safe c groups (accepted_touched u) (without_last h.levels)
+      (record { table = t; has = has; lists = lists; settles = h.stands.now }))))
 
   leaves_stands : (ds : List Copy) (u : Standing) → StandsInTable true ds u
       → StandsInTable false (without_last ds) (settle c (last_of (without_last ds)) (accepted_touched u))
@@ -150,12 +160,15 @@ module _ (c : Code) (groups : List Membership) (t : Table) (has : HasTable c gro
       record {
         levels = take (suc j) h.levels;
         copies_are = copies-take (suc j) h.levels ∙ ap (take (suc j)) h.copies_are;
-        stands = subst (λ (copy : Copy). ProcessStands c t (running_at false (restored (cut_touched (suc j) u) copy) (take (suc j) h.levels))) found.2 other;
+        stands = subst
+            (λ (copy : Copy). ProcessStands c t
+            (running_at false (restored (cut_touched (suc j) u) copy) (take (suc j) h.levels))) found.2 other;
       }
 
   falls_stands : (u : Standing) (levels : List (Level Copy)) → copies_of levels ≡ [] → ProcessStands c t (running_at false u levels)
       → StandsInTable false [] (cut_touched 0 u)
-  falls_stands u [] e h = away (cut_touched 0 u) [] [] refl (stands_like c t u [] [] u.words u.last_kept u.held (take 0 u.touched) refl (sym h.heights) refl h.now)
+  falls_stands u [] e h =
+      away (cut_touched 0 u) [] [] refl (stands_like c t u [] [] u.words u.last_kept u.held (take 0 u.touched) refl (sym h.heights) refl h.now)
   falls_stands u (level ∷ levels) e h = absurd cc
 
   -- So it stands upright.

@@ -60,16 +60,20 @@ module _ (c : Code) where
       expression_asks (Minus operand) a b (d, code, more) = expression_asks operand a d code
       expression_asks (Negation operand) a b (d, code, more) = expression_asks operand a d code
       expression_asks (Chained first links) a b (d, code, more) = expression_asks first a d code
-      expression_asks (Quantification kind place name low high body) a b code = quantified_asks kind _ _ _ _ a b (λ d first. expression_asks low a d first) code
+      expression_asks (Quantification kind place name low high body) a b code =
+          quantified_asks kind _ _ _ _ a b (λ d first. expression_asks low a d first) code
 
       variable_asks : (subscript : Subscript) (name : Identifier) (a b : ℕ)
-          → SubscriptCode slots (ScalarCode (counter_of slots name.id) (spot_of slots name.id)) (One (LoadAt (spot_of slots name.id))) (elements_of slots name.id) subscript c a b
+          → SubscriptCode slots (ScalarCode (counter_of slots name.id) (spot_of slots name.id))
+          (One (LoadAt (spot_of slots name.id))) (elements_of slots name.id) subscript c a b
           → Asks a Acts
       variable_asks Scalar name a b code = scalar_asks (counter_of slots name.id) (spot_of slots name.id) a b code
       variable_asks (Element index) name a b (d, code, more) = expression_asks index a d code
 
       former_asks : (subscript : Subscript) (name : Identifier) (a b : ℕ)
-          → SubscriptCode slots (One (Prior (spot_of slots name.id))) (One (PriorAt (spot_of slots name.id))) (elements_of slots name.id) subscript c a b → Asks a Acts
+          → SubscriptCode slots (One (Prior (spot_of slots name.id))) (One (PriorAt (spot_of slots name.id)))
+          (elements_of slots name.id) subscript c a b
+          → Asks a Acts
       former_asks Scalar name a b code = asks_by _ a b code
       former_asks (Element index) name a b (d, code, more) = expression_asks index a d code
 
@@ -111,7 +115,8 @@ module _ (c : Code) where
         → Agree Acts a
     unfolding CommandCode
     branches_agree test body NoElse a b (end, (d, turn, (e, code, more))) = asks_behind a d Acts turn (expression_asks slots test d e code)
-    branches_agree test body (Else other) a b (other_, (end, (d, turn, (e, code, more)))) = asks_behind a d Acts turn (expression_asks slots test d e code)
+    branches_agree test body (Else other) a b (other_, (end, (d, turn, (e, code, more)))) =
+        asks_behind a d Acts turn (expression_asks slots test d e code)
 
     -- as many addresses as alternates
     others_listed : (others : Alternates) (addresses : List ℕ) (test a b : ℕ) → OthersCode tree slots owner others addresses test c a b
@@ -121,7 +126,8 @@ module _ (c : Code) where
     others_listed (Alternate body others) addresses test a b (d, jump, (more, same, (e, code, rest))) =
         ap (λ (list : List ℕ). length list) same ∙ (let n = others_listed others more test e b rest in omega (arith, n))
 
-    pub alternates_listed : (alternates : Alternates) (addresses : List ℕ) (test a b : ℕ) → AlternatesCode tree slots owner alternates addresses test c a b
+    pub alternates_listed : (alternates : Alternates) (addresses : List ℕ) (test a b : ℕ)
+        → AlternatesCode tree slots owner alternates addresses test c a b
         → length addresses ≡ count_alternates alternates
     unfolding CommandCode
     alternates_listed NoAlternate addresses test a b code = ap (λ (list : List ℕ). length list) code.0
@@ -129,7 +135,8 @@ module _ (c : Code) where
         ap (λ (list : List ℕ). length list) same ∙ (let n = others_listed others more test e b rest in omega (arith, n))
 
     -- the facts of a block are those that the meaning knows of it
-    facts_agree : (number : ℕ) (conversation : Option Identifier) (line : ℕ) (bound : ℕ) (alternates : ℕ) (block : Block) → TellsOf tree conversation line bound block
+    facts_agree : (number : ℕ) (conversation : Option Identifier) (line : ℕ) (bound : ℕ) (alternates : ℕ) (block : Block)
+        → TellsOf tree conversation line bound block
         → length block.alternates ≡ alternates
         → block_facts number block ≡ record {
           number = number;
@@ -163,7 +170,8 @@ module _ (c : Code) where
         subst (Agree (Enters (facts_of tree (Recovers number conversation place test bound alternates)))) tells.1 agree
 
     -- each statement
-    command_agrees : (p : ℕ) (frames : Frames) (command : Command) (a b : ℕ) → CommandCode tree slots owner command c a b → CommandInFrames tree slots p frames command
+    command_agrees : (p : ℕ) (frames : Frames) (command : Command) (a b : ℕ) → CommandCode tree slots owner command c a b
+        → CommandInFrames tree slots p frames command
         → Agree (wants tree command) a
     unfolding ExpressionCode CommandCode
     command_agrees p frames (Assignment to value) a b (d, turn, code) inside =
@@ -171,11 +179,13 @@ module _ (c : Code) where
     command_agrees p frames (Printing items) a b (d, turn, (e, code, print)) inside =
         asks_behind a d Acts turn (items_ask slots items d e code (asks_by _ e b print))
     command_agrees p frames (Sending channel value) a b (d, turn, (e, room, more)) inside =
-        asks_behind a d (SendsOn (channel_number tree channel.text)) turn (asks_by _ d e room ∙ ap SendsOn (channel_is (channel_number tree channel.text) channel.id inside.0.slot))
+        asks_behind a d (SendsOn (channel_number tree channel.text)) turn
+        (asks_by _ d e room ∙ ap SendsOn (channel_is (channel_number tree channel.text) channel.id inside.0.slot))
     command_agrees p frames (Receiving channel to otherwise) a b code inside =
         ap (λ n. wants_receipt n otherwise) (sym (channel_is (channel_number tree channel.text) channel.id inside.0.slot))
         ∙ receipt_agrees (channel_of slots channel.id) (StoreCode slots to (One (Take (channel_of slots channel.id)))) otherwise a b code
-    command_agrees p frames (Conditional test body otherwise) a b code inside = branches_agree test (BodyCode tree slots owner body) otherwise a b code
+    command_agrees p frames (Conditional test body otherwise) a b code inside =
+        branches_agree test (BodyCode tree slots owner body) otherwise a b code
     command_agrees p frames (Loop test body) a b (loop, (end, (d, at_loop, (e, turn, (f, code, more))))) inside =
         subst (Agree Acts) at_loop.1 (asks_behind d e Acts turn (expression_asks slots test e f code))
     command_agrees p frames (Invocation procedure arguments) a b (d, turn, (e, code, call)) inside =
@@ -184,7 +194,8 @@ module _ (c : Code) where
     command_agrees p frames (Recovering block) a b code inside = block_agrees block a b code
 
     start_agrees : (block : RecoveryBlock) (a b : ℕ) → StartCode tree slots owner block c a b → Agree Starts a
-    start_agrees (Recovers number conversation place test bound alternates) a b (block, there, (d, tells, (e, restart, (f, turn, (g, start, more))))) =
+    start_agrees (Recovers number conversation place test bound alternates) a b
+        (block, there, (d, tells, (e, restart, (f, turn, (g, start, more))))) =
         subst (Agree Starts) (restart.1 ∙ tells.1) (asks_behind e f Starts turn (asks_by _ f g start))
 
     test_agrees : (block : RecoveryBlock) (a b : ℕ) → TestCode slots block c a b → Agree Acts a
@@ -193,11 +204,14 @@ module _ (c : Code) where
 
   -- what is left, where no end stands first
   pub wants_agree : (tree : Tree) (slots : List Slot) (p : ℕ) (stacks : List (List Shape)) (items : List Item) (calls : List OpenCall) (a : ℕ)
-      → Left tree slots c p stacks items calls a → IsSettled items → wants_first tree items ≡ wants_there c (slice_get c.instrs a) (slice_get c.instrs (a + 1))
+      → Left tree slots c p stacks items calls a → IsSettled items
+      → wants_first tree items ≡ wants_there c (slice_get c.instrs a) (slice_get c.instrs (a + 1))
   wants_agree tree slots p stacks [] calls a left settled = sym (ap (λ o. wants_there c o (slice_get c.instrs (a + 1))) left.0)
   wants_agree tree slots p stacks (Perform command ∷ rest) calls a (b, code, inside, left) settled =
       command_agrees tree slots (owner_of tree p) p _ command a b code inside
-  wants_agree tree slots p stacks (StartOf block ∷ rest) calls a (b, code, inside, left) settled = start_agrees tree slots (owner_of tree p) block a b code
-  wants_agree tree slots p stacks (TestOf block ∷ rest) calls a (b, code, inside, left) settled = test_agrees tree slots (owner_of tree p) block a b code
+  wants_agree tree slots p stacks (StartOf block ∷ rest) calls a (b, code, inside, left) settled =
+      start_agrees tree slots (owner_of tree p) block a b code
+  wants_agree tree slots p stacks (TestOf block ∷ rest) calls a (b, code, inside, left) settled =
+      test_agrees tree slots (owner_of tree p) block a b code
   wants_agree tree slots p stacks (EndBlock ∷ rest) calls a left settled = absurd settled
   wants_agree tree slots p stacks (EndCall ∷ rest) calls a left settled = absurd settled

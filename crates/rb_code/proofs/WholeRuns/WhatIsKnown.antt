@@ -74,7 +74,11 @@ module _ (tree : Tree) (nested : IsNested tree) where
   pub known_first : KnownAlong 1 (slot_opening tree (slotted tree))
   known_first = record {
     each = ([], settled_each (tree_kind tree) (LiesWell tree) (opening_states tree 0 tree.processes) (lies_opening tree nested));
-    in_time = ([], opening_in_time tree (opening_states tree 0 tree.processes) (each_opening tree (λ s. s.kept ≡ []) (λ n process. refl) 0 tree.processes));
+    in_time = (
+      [],
+      opening_in_time tree (opening_states tree 0 tree.processes)
+          (each_opening tree (λ s. s.kept ≡ []) (λ n process. refl) 0 tree.processes),
+    );
     all_readable = λ channel ends declared.
         ([], opening_both (known_kept tree (procedures_kept tree nested)) (erasable tree) (opens_with_slots tree nested) channel ends declared);
   }

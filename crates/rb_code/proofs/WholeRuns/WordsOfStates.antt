@@ -33,11 +33,13 @@ first_words n k front own others fn on =
     ∙ take-append_seam own others
 
 -- its variables
-pub variables_are : (tree : Tree) (c : Code) (s : State) (u : Standing) → WordsMeet tree c u.process s u.words u.calls → variable_words c u ≡ global_words s.environment
+pub variables_are : (tree : Tree) (c : Code) (s : State) (u : Standing) → WordsMeet tree c u.process s u.words u.calls
+    → variable_words c u ≡ global_words s.environment
 variables_are tree c s u w =
     let own : length (flat_frame s.environment.globals) ≡ (part_of c u.process).words = frame_long s.environment.globals ∙ w.laid.globals in
     ap (λ all. take (part_of c u.process).words (drop (variables_place (part_of c u.process)) all)) w.laid.is
-    ∙ first_words (variables_place (part_of c u.process)) (part_of c u.process).words w.front (flat_frame s.environment.globals) (flat_calls s.environment.calls) w.laid.long own
+    ∙ first_words (variables_place (part_of c u.process)) (part_of c u.process).words w.front
+    (flat_frame s.environment.globals) (flat_calls s.environment.calls) w.laid.long own
     ∙ sym (frame_words_are s.environment.globals)
 
 module _ (tree : Tree) (slots : List Slot) (c : Code) (p : ℕ) where
@@ -74,17 +76,20 @@ module _ (tree : Tree) (slots : List Slot) (c : Code) (p : ℕ) where
       record { words_meet = released_words s all calls meets.words_meet (some_words s all calls meets.words_meet); left = meets.left }
 
   -- where no end stands first the machine is at rest
-  pub left_at_rest : (stacks : List (List Shape)) (items : List Item) (calls : List OpenCall) (a : ℕ) → Left tree slots c p stacks items calls a → IsSettled items
+  pub left_at_rest : (stacks : List (List Shape)) (items : List Item) (calls : List OpenCall) (a : ℕ)
+      → Left tree slots c p stacks items calls a → IsSettled items
       → (slice_get c.instrs a ≡ Some Turn) ⊎ (slice_get c.instrs a ≡ Some Done)
   left_at_rest stacks [] calls a left settled = inr left.0
-  left_at_rest stacks (Perform command ∷ rest) calls a (b, code, inside, more) settled = inl (command_turn tree slots (owner_of tree p) c command a b code)
+  left_at_rest stacks (Perform command ∷ rest) calls a (b, code, inside, more) settled =
+      inl (command_turn tree slots (owner_of tree p) c command a b code)
   left_at_rest stacks (StartOf block ∷ rest) calls a (b, code, inside, more) settled = inl (start_turn tree slots (owner_of tree p) c block a b code)
   left_at_rest stacks (TestOf block ∷ rest) calls a (b, code, inside, more) settled = inl (test_turn tree slots (owner_of tree p) c block a b code)
   left_at_rest stacks (EndBlock ∷ rest) calls a left settled = absurd settled
   left_at_rest stacks (EndCall ∷ rest) calls a left settled = absurd settled
 
   -- a copy in the frames of a state, told by the calls of the state
-  pub is_prior : (s copy : State) (all words : List ℤ) (calls called : List OpenCall) → WordsMeet tree c p s all calls → WordsMeet tree c p copy words called
+  pub is_prior : (s copy : State) (all words : List ℤ) (calls called : List OpenCall) → WordsMeet tree c p s all calls
+      → WordsMeet tree c p copy words called
       → stacks_of copy.environment.calls ≡ stacks_of s.environment.calls → IsPrior tree c p s calls copy words calls
   is_prior s copy all words calls called w v same = record {
     words_meet = record {

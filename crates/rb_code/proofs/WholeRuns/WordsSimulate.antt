@@ -104,9 +104,11 @@ module _ (tree : Tree) (c : Code) (meets : Meeting) (laws : IsAgreeing tree c me
         (copies_kept (link_of alternate v) n.links q.levels ds in_time.some (in_time.each p q there).then both.kept_then)
 
     -- both went on, or both tests held
-    both_went : (alternate : ℕ) (s : State) (m : Nothing × Slots) (v : Standing) (later : Common) → Follows q.state s → IsSameProcess u v → later.links ≡ n.links
+    both_went : (alternate : ℕ) (s : State) (m : Nothing × Slots) (v : Standing) (later : Common) → Follows q.state s
+        → IsSameProcess u v → later.links ≡ n.links
         → BothWent meets (copies_of q.levels) s m.1 ds v later
-        → StepsMeet (slotted tree) (word_kind c (groups_of tree)) SameSlots (Agreed meets) t p alternate w n (copies_of q.levels) ds (Went s m) (Went v later)
+        → StepsMeet (slotted tree) (word_kind c (groups_of tree)) SameSlots (Agreed meets) t p alternate w n
+        (copies_of q.levels) ds (Went s m) (Went v later)
     both_went alternate s m v later follows same links went =
         let cs = copies_of q.levels in
         let turns = s.kept ++ (t, alternate) ∷ [] in
@@ -144,7 +146,8 @@ module _ (tree : Tree) (c : Code) (meets : Meeting) (laws : IsAgreeing tree c me
         }
 
     -- what a step comes to
-    steps_meet : (alternate : ℕ) (x : Stepped State (Nothing × Slots)) (y : Stepped Standing Common) → StepFollows q.state x → LeavesLinks u n y → w.memory.1 ≡ n.slots
+    steps_meet : (alternate : ℕ) (x : Stepped State (Nothing × Slots)) (y : Stepped Standing Common) → StepFollows q.state x
+        → LeavesLinks u n y → w.memory.1 ≡ n.slots
         → StepsAgree meets (copies_of q.levels) ds x y
         → StepsMeet (slotted tree) (word_kind c (groups_of tree)) SameSlots (Agreed meets) t p alternate w n (copies_of q.levels) ds x y
     steps_meet alternate (Trapped cause) (Trapped other) follows leaves slots agree = agree
@@ -158,7 +161,8 @@ module _ (tree : Tree) (c : Code) (meets : Meeting) (laws : IsAgreeing tree c me
     steps_meet alternate (Held s) (Held v) follows leaves slots agree = both_held alternate s v follows leaves agree slots
 
     -- an entry
-    enters_meet : (facts : Facts) → LiesWell tree p q → q.status ≡ Running → q.at_line ≡ false → wants_first tree q.state.items ≡ Enters facts → w.memory.1 ≡ n.slots
+    enters_meet : (facts : Facts) → LiesWell tree p q → q.status ≡ Running → q.at_line ≡ false
+        → wants_first tree q.state.items ≡ Enters facts → w.memory.1 ≡ n.slots
         → let x = with_kept (q.state.kept ++ (t, 0) ∷ []) (enter q.state) in
         let v = kept_last t (entered_at u) in
         StillMeets SameSlots (Agreed meets) p w n false w.memory (record n { links = link_of 0 (entered_at u) ∷ n.links })
@@ -176,7 +180,8 @@ module _ (tree : Tree) (c : Code) (meets : Meeting) (laws : IsAgreeing tree c me
             lines = both.lines;
             grow = grow_more cs x both.grow;
             kept = kept;
-            kept_then = pairs_more (CopyKept (link_of 0 (entered_at u) ∷ n.links)) cs ds x (copied v) (copies_then 0 (entered_at u) n.links refl) kept;
+            kept_then =
+                pairs_more (CopyKept (link_of 0 (entered_at u) ∷ n.links)) cs ds x (copied v) (copies_then 0 (entered_at u) n.links refl) kept;
           };
           others = λ r z es y _ e agree. others 0 (entered_at u) n.links refl r z es y e agree;
         }
@@ -219,8 +224,10 @@ module _ (tree : Tree) (c : Code) (meets : Meeting) (laws : IsAgreeing tree c me
       record { they_meet = laws.release line s u both.they_meet; lines = refl; grow = tt; kept = both.kept; kept_then = tt }
 
   -- The laws of related kinds.
-  module _ (channels_are : c.channels ≡ channels_of tree) (reading : Knowing State State (Nothing × Slots)) (reads : ReadsSame (slotted tree) (read_slot tree) (read_slot_then tree) reading) where
-    slot_same : (m : Nothing × Slots) (n : Common) (channel i : ℕ) → SameSlots m n → slot_of (channels_of tree) m.1 channel i ≡ slot_of c.channels n.slots channel i
+  module _ (channels_are : c.channels ≡ channels_of tree) (reading : Knowing State State (Nothing × Slots))
+      (reads : ReadsSame (slotted tree) (read_slot tree) (read_slot_then tree) reading) where
+    slot_same : (m : Nothing × Slots) (n : Common) (channel i : ℕ) → SameSlots m n
+        → slot_of (channels_of tree) m.1 channel i ≡ slot_of c.channels n.slots channel i
     slot_same m n channel i same = ap₂ (λ (channels : List Ends) (slots : Slots). slot_of channels slots channel i) (sym channels_are) same
 
     reads_it : {t p : ℕ} {q : Process State State} {w : SlotWorld} → IsActing (IsKnown tree reading) t p q w → IsActing reading t p q w
@@ -248,7 +255,8 @@ module _ (tree : Tree) (c : Code) (meets : Meeting) (laws : IsAgreeing tree c me
             steps_meet t p q w n ds u acts.runs.there acts.knows.in_time both alternate
             (stepped_with_slots (tree_kind tree) q.state w.memory.1 did) (steps c alternate (last_of ds) u message n)
             (step_follows tree alternate (last_of cs) q.state message w.memory.1) (step_leaves c alternate (last_of ds) u message n) memories
-            (subst (λ (slots : Slots). StepsAgree meets cs ds (stepped_with_slots (tree_kind tree) q.state slots did) (steps c alternate (last_of ds) u message n))
+            (subst (λ (slots : Slots). StepsAgree meets cs ds (stepped_with_slots (tree_kind tree) q.state slots did)
+            (steps c alternate (last_of ds) u message n))
             (sym memories)
             (laws.step p q alternate message n ds u acts.knows.known acts.runs.running acts.away (ready_steps ready) at both.lines both.they_meet));
         enter = λ t p q w facts n ds u acts wants memories both.

@@ -158,7 +158,8 @@ module _ {S C M : Type 0} (k : Kind S C M) (counts : List ℕ) (P : ℕ → Proc
 
     next_talked : Each (IsTalked counts) later
     next_talked =
-        Each-change_at (IsTalked counts) c next_talk (reset_below k.groups c w.talks) (reset_talked counts some k.groups c w.talks fit.talked) own_talked
+        Each-change_at (IsTalked counts) c next_talk (reset_below k.groups c w.talks)
+        (reset_talked counts some k.groups c w.talks fit.talked) own_talked
 
   -- all laws of the invariant
   pub alternates_kept : IsInvariantUnder k (λ _ _ w. Each P w.processes) (λ _ _ _ _ w. Each P w.processes) (λ _ _ w. Each P w.processes)
@@ -262,6 +263,7 @@ module _ {S C M : Type 0} (k : Kind S C M) (counts : List ℕ) (some : (d n : �
   pub opening_fits : (states : List S) (m : M) → AlternatesFit k counts (opening k states m)
   opening_fits states m = record {
     tried = settled_each k (λ _ (q : Process S C). AreTried q.levels) states (λ r s e. none_tried);
-    present = settled_each k (λ r (q : Process S C). TryPresent (opening k states m).talks q.levels) states (λ r s _ i c at. absurd (none_some at.there));
+    present = settled_each k (λ r (q : Process S C). TryPresent (opening k states m).talks q.levels) states
+        (λ r s _ i c at. absurd (none_some at.there));
     talked = opening_talked counts some k.groups;
   }

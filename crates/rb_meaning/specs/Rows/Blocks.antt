@@ -188,7 +188,9 @@ as_a_user_tree =
     let loop_1 = Loop (two Lt (of "i") (whole 3)) (block (assigned_1 ∷ assigned_2 ∷ [])) in
     let ensured_1 = ensure 5 (two And (two Eq (of "s") sum_1) (two Eq (of "i") (prior "i"))) 40 (alternate_1 ∷ alternate_2 ∷ []) in
     let printing_2 = print (shown (of "s") ∷ []) in
-    let process_p = process_called "p" (array "a" 3 ∷ scalar "i" ∷ scalar "s" ∷ []) (procedure_add ∷ []) (loop_1 ∷ assign "i" (whole 0) ∷ ensured_1 ∷ printing_2 ∷ []) in
+    let process_p =
+    process_called "p" (array "a" 3 ∷ scalar "i" ∷ scalar "s" ∷ []) (procedure_add ∷ [])
+    (loop_1 ∷ assign "i" (whole 0) ∷ ensured_1 ∷ printing_2 ∷ []) in
     program_called "sums" [] [] (process_p ∷ [])
 
 abbrev pub AsAUserWritesIt : Type 0

@@ -83,7 +83,9 @@ nested_tree =
     let loop_2 = Loop (two Lt (of "j") (whole 2)) (block (assign "j" (two Add (of "j") (whole 1)) ∷ conversed_2 ∷ [])) in
     let process_p = process_called "p" (scalar "i" ∷ scalar "a" ∷ []) [] (loop_1 ∷ []) in
     let process_q = process_called "q" (scalar "j" ∷ []) [] (loop_2 ∷ []) in
-    program_called "n" [] (conversation_called "C" (called "p" ∷ called "q" ∷ []) ∷ conversation_called "D" (called "p" ∷ called "q" ∷ []) ∷ []) (process_p ∷ process_q ∷ [])
+    program_called "n" []
+    (conversation_called "C" (called "p" ∷ called "q" ∷ []) ∷ conversation_called "D" (called "p" ∷ called "q" ∷ []) ∷ [])
+    (process_p ∷ process_q ∷ [])
 
 abbrev pub NestedConversation : Type 0
 NestedConversation =
@@ -213,7 +215,9 @@ first_again_tree =
     let loop_2 = Loop (two Lt (of "j") (whole 2)) (block (assign "j" (two Add (of "j") (whole 1)) ∷ conversed_3 ∷ [])) in
     let process_p = process_called "p" (scalar "i" ∷ []) [] (loop_1 ∷ []) in
     let process_q = process_called "q" (scalar "j" ∷ []) [] (loop_2 ∷ []) in
-    program_called "n" [] (conversation_called "C" (called "p" ∷ called "q" ∷ []) ∷ conversation_called "D" (called "p" ∷ called "q" ∷ []) ∷ []) (process_p ∷ process_q ∷ [])
+    program_called "n" []
+    (conversation_called "C" (called "p" ∷ called "q" ∷ []) ∷ conversation_called "D" (called "p" ∷ called "q" ∷ []) ∷ [])
+    (process_p ∷ process_q ∷ [])
 
 -- A conversation inside one that went back begins at alternate 1 again.
 abbrev pub FirstAgain : Type 0
@@ -251,7 +255,10 @@ first_again_further_tree =
     let loop_2 = Loop (two Lt (of "j") (whole 2)) (block (assign "j" (two Add (of "j") (whole 1)) ∷ conversed_4 ∷ [])) in
     let process_p = process_called "p" (scalar "i" ∷ []) [] (loop_1 ∷ []) in
     let process_q = process_called "q" (scalar "j" ∷ []) [] (loop_2 ∷ []) in
-    program_called "n" [] (conversation_called "C" (called "p" ∷ called "q" ∷ []) ∷ conversation_called "D" (called "p" ∷ called "q" ∷ []) ∷ conversation_called "E" (called "p" ∷ called "q" ∷ []) ∷ []) (process_p ∷ process_q ∷ [])
+    program_called "n" []
+    (conversation_called "C" (called "p" ∷ called "q" ∷ []) ∷ conversation_called "D" (called "p" ∷ called "q" ∷ [])
+    ∷ conversation_called "E" (called "p" ∷ called "q" ∷ []) ∷ [])
+    (process_p ∷ process_q ∷ [])
 
 -- So does one further inside.
 abbrev pub FirstAgainFurther : Type 0
@@ -285,7 +292,9 @@ fewer_inside_tree =
     let process_p = process_called "p" (scalar "a" ∷ []) [] (converse "C" 4 (whole 1) 30 (alternate_1 ∷ alternate_2 ∷ []) ∷ []) in
     let process_q = process_called "q" [] [] (converse "C" 6 (whole 1) 30 (alternate_3 ∷ block [] ∷ []) ∷ []) in
     let process_r = process_called "r" (scalar "a" ∷ []) [] (converse "C" 10 (whole 1) 30 (alternate_6 ∷ block [] ∷ []) ∷ []) in
-    program_called "t" [] (conversation_called "D" (called "r" ∷ called "q" ∷ []) ∷ conversation_called "C" (called "p" ∷ called "q" ∷ called "r" ∷ []) ∷ []) (process_p ∷ process_q ∷ process_r ∷ [])
+    program_called "t" []
+    (conversation_called "D" (called "r" ∷ called "q" ∷ []) ∷ conversation_called "C" (called "p" ∷ called "q" ∷ called "r" ∷ []) ∷ [])
+    (process_p ∷ process_q ∷ process_r ∷ [])
 
 -- A rejection of D leaves p, which is in C alone, where it stands.
 abbrev pub FewerInside : Type 0
@@ -331,7 +340,9 @@ not_yet_inside_tree =
     let conversed_2 = converse "C" 7 (whole 1) 30 (block (receipt_1 ∷ print (shown (of "a") ∷ []) ∷ conversed_1 ∷ []) ∷ []) in
     let process_p = process_called "p" [] [] (converse "C" 5 (whole 1) 30 (alternate_1 ∷ []) ∷ []) in
     let process_q = process_called "q" (scalar "a" ∷ []) [] (conversed_2 ∷ print (shown (of "a") ∷ []) ∷ []) in
-    program_of_edition_2 "d" (channel_called "c" "p" "q" 4 ∷ []) (conversation_called "C" (called "p" ∷ called "q" ∷ []) ∷ conversation_called "D" (called "p" ∷ called "q" ∷ []) ∷ []) (process_p ∷ process_q ∷ [])
+    program_of_edition_2 "d" (channel_called "c" "p" "q" 4 ∷ [])
+    (conversation_called "C" (called "p" ∷ called "q" ∷ []) ∷ conversation_called "D" (called "p" ∷ called "q" ∷ []) ∷ [])
+    (process_p ∷ process_q ∷ [])
 
 -- A message from a conversation is seen by a member once it has entered.
 abbrev pub NotYetInside : Type 0

@@ -93,7 +93,8 @@ full_process_tree =
 abbrev pub FullProcess : Type 0
 FullProcess =
     run_text full_process_tree (times 4 first)
-    ≡ codes "2 reject p ensure 1 1 stack\n4 done p\nend 4\np done\np.a =" ++ (repeated 1024 (codes " 0") ++ (codes "\np.b =" ++ (repeated 1024 (codes " 0") ++ codes "\n")))
+    ≡ codes "2 reject p ensure 1 1 stack\n4 done p\nend 4\np done\np.a ="
+    ++ (repeated 1024 (codes " 0") ++ (codes "\np.b =" ++ (repeated 1024 (codes " 0") ++ codes "\n")))
 
 --     program h; process p { ensure 1 within 9
 --     by { var a[1024]; var b[1024]; if 1 { var t; } }

@@ -23,7 +23,9 @@ private_message_tree =
 -- A message that was sent in a block is seen once the block is accepted.
 abbrev pub PrivateMessage : Type 0
 PrivateMessage =
-    run_text private_message_tree (times 4 first ++ times 1 second ++ times 1 first ++ times 1 second ++ times 3 first ++ times 1 second ++ times 1 first ++ times 2 second)
+    run_text private_message_tree
+    (times 4 first ++ times 1 second ++ times 1 first ++ times 1 second ++ times 3 first ++ times 1 second
+    ++ times 1 first ++ times 2 second)
     ≡ codes "6 reject p ensure 4 1 test\n12 done p\n14 out q 20\n14 done q\nend 14\np done\np.x = 2\nq done\nq.y = 20\nc sent 1 taken 1\n"
 
 --     program s;
@@ -67,7 +69,9 @@ room_outside_tree =
 -- Room is counted from the receiver's outermost block.
 abbrev pub RoomOutside : Type 0
 RoomOutside =
-    run_text room_outside_tree (times 1 first ++ times 3 second ++ times 1 first ++ times 2 second ++ times 1 first ++ times 2 second ++ times 1 first ++ times 2 second ++ times 1 first)
+    run_text room_outside_tree
+    (times 1 first ++ times 3 second ++ times 1 first ++ times 2 second ++ times 1 first ++ times 2 second
+    ++ times 1 first ++ times 2 second ++ times 1 first)
     ≡ codes "13 done q\n14 done p\nend 14\np done\nq done\nq.y = 4\nc sent 2 taken 1\n"
 
 --     program v;
@@ -85,7 +89,9 @@ seen_outside_tree =
 -- A message is seen once the sender's outermost block is accepted.
 abbrev pub SeenOutside : Type 0
 SeenOutside =
-    run_text seen_outside_tree (times 3 first ++ times 1 second ++ times 2 first ++ times 1 second ++ times 1 first ++ times 1 second ++ times 1 first ++ times 1 second)
+    run_text seen_outside_tree
+    (times 3 first ++ times 1 second ++ times 2 first ++ times 1 second ++ times 1 first ++ times 1 second
+    ++ times 1 first ++ times 1 second)
     ≡ codes "10 done p\n11 done q\nend 11\np done\nq done\nq.y = 5\nc sent 1 taken 1\n"
 
 --     program r;
@@ -119,7 +125,8 @@ abbrev pub two_channels_tree : Tree
 two_channels_tree =
     let test_1 = two Add (two Mul (of "y") (whole 10)) (of "z") in
     let process_p = process_called "p" (scalar "x" ∷ []) [] (send "c" (whole 3) ∷ send "c" (whole 4) ∷ receive "d" (variable "x") ∷ []) in
-    let process_q = process_called "q" (scalar "y" ∷ scalar "z" ∷ []) [] (receive "c" (variable "y") ∷ receive "c" (variable "z") ∷ send "d" test_1 ∷ []) in
+    let process_q =
+    process_called "q" (scalar "y" ∷ scalar "z" ∷ []) [] (receive "c" (variable "y") ∷ receive "c" (variable "z") ∷ send "d" test_1 ∷ []) in
     program_called "e" (channel_called "c" "p" "q" 2 ∷ channel_called "d" "q" "p" 1 ∷ []) [] (process_p ∷ process_q ∷ [])
 
 -- Messages come in the order in which they were sent.

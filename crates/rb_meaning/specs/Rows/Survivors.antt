@@ -20,7 +20,9 @@ SurvivorsOfExhausted =
 
 abbrev pub SurvivorsOfAPrivateMessage : Type 0
 SurvivorsOfAPrivateMessage =
-    survived private_message_tree (times 4 first ++ times 1 second ++ times 1 first ++ times 1 second ++ times 3 first ++ times 1 second ++ times 1 first ++ times 2 second)
+    survived private_message_tree
+    (times 4 first ++ times 1 second ++ times 1 first ++ times 1 second ++ times 3 first ++ times 1 second
+    ++ times 1 first ++ times 2 second)
     ≡ codes "1 p\n8 p 2\n9 p\n10 p\n12 p\n13 q\n14 q\n"
 
 abbrev pub SurvivorsOfAConversation : Type 0
@@ -45,7 +47,10 @@ PlainExhausted =
 
 abbrev pub PlainPrivateMessage : Type 0
 PlainPrivateMessage =
-    plain_text private_message_tree (survivors_after private_message_tree (times 4 first ++ times 1 second ++ times 1 first ++ times 1 second ++ times 3 first ++ times 1 second ++ times 1 first ++ times 2 second))
+    plain_text private_message_tree
+    (survivors_after private_message_tree
+    (times 4 first ++ times 1 second ++ times 1 first ++ times 1 second ++ times 3 first ++ times 1 second
+    ++ times 1 first ++ times 2 second))
     ≡ Ok (codes "14 out q 20\np.x = 2\nq.y = 20\nc sent 1 taken 1\n")
 
 abbrev pub PlainConversation : Type 0
@@ -135,5 +140,6 @@ StuckWithoutRoom =
 -- The process stands at the test line of D.
 abbrev pub StuckAtTheLine : Type 0
 StuckAtTheLine =
-    plain_text not_yet_inside_tree (kept 1 first ∷ started 2 first 1 ∷ kept 3 first ∷ started 4 first 1 ∷ kept 5 first ∷ kept 6 first ∷ kept 7 first ∷ [])
+    plain_text not_yet_inside_tree
+    (kept 1 first ∷ started 2 first 1 ∷ kept 3 first ∷ started 4 first 1 ∷ kept 5 first ∷ kept 6 first ∷ kept 7 first ∷ [])
     ≡ Err 7

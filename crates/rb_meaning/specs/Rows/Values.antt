@@ -14,12 +14,16 @@ abbrev pub short_circuit_tree : Tree
 short_circuit_tree =
     let test_1 = two Or (whole 0) (whole 9) in
     let test_2 = two Or (whole 0) (whole 0) in
-    let printing_1 = print (shown (of "x") ∷ shown (of "y") ∷ shown (of "z") ∷ shown test_1 ∷ shown test_2 ∷ shown (Negation (whole 0)) ∷ shown (Negation (whole 3)) ∷ []) in
+    let printing_1 =
+    print (shown (of "x") ∷ shown (of "y") ∷ shown (of "z") ∷ shown test_1 ∷ shown test_2 ∷ shown (Negation (whole 0))
+    ∷ shown (Negation (whole 3)) ∷ []) in
     let assigned_1 = assign "x" (two Or (whole 2) (two Div (whole 1) (whole 0))) in
     let assigned_2 = assign "y" (two And (two Sub (of "x") (whole 1)) (two Div (whole 1) (whole 0))) in
     let assigned_3 = assign "z" (two And (whole 5) (whole 7)) in
     let assigned_4 = assign "x" (two Or (whole 0) (two Div (whole 1) (whole 0))) in
-    let process_p = process_called "p" (scalar "x" ∷ scalar "y" ∷ scalar "z" ∷ []) [] (assigned_1 ∷ assigned_2 ∷ assigned_3 ∷ printing_1 ∷ assigned_4 ∷ []) in
+    let process_p =
+    process_called "p" (scalar "x" ∷ scalar "y" ∷ scalar "z" ∷ []) []
+    (assigned_1 ∷ assigned_2 ∷ assigned_3 ∷ printing_1 ∷ assigned_4 ∷ []) in
     program_called "a" [] [] (process_p ∷ [])
 
 -- The right operand of `and` and `or` is left out where the left one decides.
@@ -72,7 +76,9 @@ comparisons_tree =
     let test_12 = two Add (whole 2) (two Mul (whole 3) (whole 4)) in
     let test_13 = two Mul (two Add (whole 2) (whole 3)) (whole 4) in
     let test_14 = two Sub (whole 2) (whole 5) in
-    let printing_1 = print (shown test_1 ∷ shown test_2 ∷ shown test_3 ∷ shown test_4 ∷ shown test_5 ∷ shown test_6 ∷ shown test_7 ∷ shown test_8 ∷ shown test_9 ∷ shown test_10 ∷ shown test_11 ∷ []) in
+    let printing_1 =
+    print (shown test_1 ∷ shown test_2 ∷ shown test_3 ∷ shown test_4 ∷ shown test_5 ∷ shown test_6 ∷ shown test_7
+    ∷ shown test_8 ∷ shown test_9 ∷ shown test_10 ∷ shown test_11 ∷ []) in
     let printing_2 = print (shown sum_1 ∷ shown sum_2 ∷ shown test_12 ∷ shown test_13 ∷ shown (Minus test_14) ∷ []) in
     program_called "a" [] [] (process_called "p" [] [] (printing_1 ∷ printing_2 ∷ []) ∷ [])
 
@@ -226,12 +232,22 @@ stops_early_tree =
     let test_1 = two Mul (of "j") (of "k") in
     let test_2 = two Div (whole 1) (whole 0) in
     let test_3 = two Mul (whole 9223372036854775807) (two Sub (whole 1) (of "k")) in
-    let printing_1 = print (shown (over_numbers Every "k" (whole 0) (whole 5) (at "a" (of "k"))) ∷ shown (over_numbers Any "k" (whole 0) (whole 5) (at "a" (of "k"))) ∷ shown (over_numbers Every "k" (whole 0) (whole 0) (at "a" (of "k"))) ∷ shown (over_numbers Any "k" (whole 1) (whole 1) (at "a" (of "k"))) ∷ []) in
-    let printing_2 = print (shown (over_numbers Total "i" (whole 1) (of "i") (of "i")) ∷ shown (over_numbers Total "k" (whole 1) (whole 3) (over_numbers Total "j" (whole 1) (of "k") test_1)) ∷ shown (over_numbers Every "k" (whole 1) (whole 0) (whole 0)) ∷ []) in
-    let printing_3 = print (shown (over_numbers Total "k" (whole 1) (Minus (whole 9223372036854775807)) test_2) ∷ shown (over_numbers Total "k" (whole 0) (whole 2) test_3) ∷ []) in
+    let printing_1 = print (shown (over_numbers Every "k" (whole 0) (whole 5) (at "a" (of "k")))
+    ∷ shown (over_numbers Any "k" (whole 0) (whole 5) (at "a" (of "k")))
+    ∷ shown (over_numbers Every "k" (whole 0) (whole 0) (at "a" (of "k")))
+    ∷ shown (over_numbers Any "k" (whole 1) (whole 1) (at "a" (of "k"))) ∷ []) in
+    let printing_2 = print
+    (shown (over_numbers Total "i" (whole 1) (of "i") (of "i"))
+    ∷ shown (over_numbers Total "k" (whole 1) (whole 3) (over_numbers Total "j" (whole 1) (of "k") test_1))
+    ∷ shown (over_numbers Every "k" (whole 1) (whole 0) (whole 0)) ∷ []) in
+    let printing_3 =
+    print (shown (over_numbers Total "k" (whole 1) (Minus (whole 9223372036854775807)) test_2)
+    ∷ shown (over_numbers Total "k" (whole 0) (whole 2) test_3) ∷ []) in
     let assigned_1 = assign_at "a" (whole 0) (whole 1) in
     let assigned_2 = assign "i" (over_numbers Total "k" (whole 0) (whole 1) (two Sub (whole 9223372036854775807) (of "k"))) in
-    let process_p = process_called "p" (array "a" 2 ∷ scalar "i" ∷ []) [] (assigned_1 ∷ assign "i" (whole 4) ∷ printing_1 ∷ printing_2 ∷ printing_3 ∷ assigned_2 ∷ []) in
+    let process_p =
+    process_called "p" (array "a" 2 ∷ scalar "i" ∷ []) []
+    (assigned_1 ∷ assign "i" (whole 4) ∷ printing_1 ∷ printing_2 ∷ printing_3 ∷ assigned_2 ∷ []) in
     program_of_edition_2 "a" [] [] (process_p ∷ [])
 
 -- No number is tried after the one that decides; a limit stands outside the name's scope; a partial sum may trap.

@@ -47,7 +47,8 @@ module _ {S E P : Type 0} (x : Parts S E P) where
       ap (λ (ls : List (Level P)). settled (plain x) (x.keep t alternate s) ls) (without_last-map (plain_level x) q.levels)
       ∙ sym (shown_present x m (accepting t alternate s q) here)
 
-module _ {S E P : Type 0} (x : Parts S E P) (Known : ℕ → Process S S → Type 0) (laws : IsErasable x Known) (keeps : KeepsEach (whole x) Known) (start : World S P Nothing) where
+module _ {S E P : Type 0} (x : Parts S E P) (Known : ℕ → Process S S → Type 0) (laws : IsErasable x Known)
+    (keeps : KeepsEach (whole x) Known) (start : World S P Nothing) where
   -- where a level is left, p runs on
   accepts_running : (t p : ℕ) (q : Process S S) (w : World S S Nothing) (alternate : ℕ) (message : Option ℤ) (s : S) → Known p q
       → StepsAt (whole x) p q w alternate message
@@ -70,7 +71,8 @@ module _ {S E P : Type 0} (x : Parts S E P) (Known : ℕ → Process S S → Typ
       not_last c i (inl h) = absurd (none_some (sym alone ∙ h.1))
       not_last c i (inr h) = h
 
-  accepts_shown : (t : ℕ) (past : List Told) (p : ℕ) (q : Process S S) (w : World S S Nothing) (alternate : ℕ) (message : Option ℤ) (s : S) (level : Level S) (f : ℕ → ℕ)
+  accepts_shown : (t : ℕ) (past : List Told) (p : ℕ) (q : Process S S) (w : World S S Nothing) (alternate : ℕ)
+      (message : Option ℤ) (s : S) (level : Level S) (f : ℕ → ℕ)
       → GroundedWithin x Known p (length q.levels) w → AllShown x start t past w → StepsAt (whole x) p q w alternate message
       → x.step alternate (option_map x.environment (copy_of (last_of q.levels))) q.state message ≡ Held s
       → last_of q.levels ≡ Some level → level.facts.conversation ≡ None
@@ -82,7 +84,8 @@ module _ {S E P : Type 0} (x : Parts S E P) (Known : ℕ → Process S S → Typ
       let less : f p < length (without_last q.levels) = ltb-true (f p) (length (without_last q.levels)) h in
       let running = accepts_running t p q w alternate message s known at e (f p) less in
       one_unseen x start t past p w f q (accepting x t alternate s q) (old f consistent) ground.ground.quiet runs.there runs.running running
-      (sym (shown_outside x (f p) (accepting x t alternate s q) q (level ∷ []) less (last_stands_last q.levels level last) (runs.running ∙ sym running)))
+      (sym (shown_outside x (f p) (accepting x t alternate s q) q (level ∷ []) less (last_stands_last q.levels level last)
+      (runs.running ∙ sym running)))
       (λ bare. not-suc-le-zero (subst (λ (ls : List (Level S)). f p < length ls) bare less))
   accepts_shown t past p q w alternate message s level f ground old at e last alone consistent false h =
       let runs = at.acts.runs in
@@ -93,13 +96,17 @@ module _ {S E P : Type 0} (x : Parts S E P) (Known : ℕ → Process S S → Typ
       let same : (z : Process S S) → slice_get w.processes p ≡ Some z → z ≡ q = λ z there. some_same (sym there ∙ runs.there) in
       let shows = old g (present_consistent f p (length q.levels) w.processes consistent
       (λ z there. le_of_eq (ap (λ (a : Process S S). length a.levels) (same z there)))
-      (λ z c j there l. lt_of_lt_of_le (level_within c j (without_last q.levels) (others_stay t alternate s p q w level runs.there last alone z there c j l)) here)) in
-      TurnKept (one_kept x start t past p alternate w shows.world f g q (accepting x t alternate s q) (accepting_plain x t alternate s q) shows.erased shows.shows
+      (λ z c j there l. lt_of_lt_of_le
+      (level_within c j (without_last q.levels) (others_stay t alternate s p q w level runs.there last alone z there c j l)) here)) in
+      TurnKept (one_kept x start t past p alternate w shows.world f g q (accepting x t alternate s q)
+      (accepting_plain x t alternate s q) shows.erased shows.shows
       runs.there runs.running (le_of_eq (sym (shown_here f p (length q.levels))))
-      (plain_holds x Known laws t p alternate q w shows.world s runs.running at.acts.away held ∙ ap Some (accepted_plain x t p alternate q shows.world s level last alone))
+      (plain_holds x Known laws t p alternate q w shows.world s runs.running at.acts.away held
+      ∙ ap Some (accepted_plain x t p alternate q shows.world s level last alone))
       (mail_then x (held_mail x Known laws t p alternate q w s held) (laws.settles (x.keep t alternate s)).mail)
       ((laws.settles (x.keep t alternate s)).kept ∙ held_kept x Known laws t p alternate q w s held)
-      (shown_elsewhere f p (length q.levels)) (Alive (status_at-whole (x.want (x.settle (x.keep t alternate s)))) (accepting_shown x t alternate (f p) s q here)))
+      (shown_elsewhere f p (length q.levels))
+      (Alive (status_at-whole (x.want (x.settle (x.keep t alternate s)))) (accepting_shown x t alternate (f p) s q here)))
 
   -- the acceptance test of a private level held
   pub erased_accepts : Accepts (whole x) (BothWithin (GroundedDuring x Known) (ErasedWithin x start)) (ErasedAfter x start)

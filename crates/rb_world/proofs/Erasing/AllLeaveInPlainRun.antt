@@ -27,7 +27,8 @@ module _ {S E P : Type 0} (x : Parts S E P) (c : ℕ) where
   plain_leaves_not u e = ap (λ (b : Bool). cond b (settled (plain x) u.state (without_last u.levels)) u) e
 
   -- to leave changes no mail
-  pub leaves_mail : ((s : S) → SameMail x s (x.settle s)) → (u : Process S P) → (stands : Bool) → stands_at c u ≡ stands → SameMail x u.state (leaves (plain x) c u).state
+  pub leaves_mail : ((s : S) → SameMail x s (x.settle s)) → (u : Process S P) → (stands : Bool) → stands_at c u ≡ stands
+      → SameMail x u.state (leaves (plain x) c u).state
   leaves_mail settles u true e = subst (λ (a : Process S P). SameMail x u.state a.state) (sym (plain_leaves_goes u e)) (settles u.state)
   leaves_mail settles u false e = subst (λ (a : Process S P). SameMail x u.state a.state) (sym (plain_leaves_not u e)) (same_mail x u.state)
 
@@ -38,7 +39,8 @@ module _ {S E P : Type 0} (x : Parts S E P) (c : ℕ) where
   leaves_kept settles u false e = ap (λ (a : Process S P). x.kept a.state) (plain_leaves_not u e)
 
   -- where all stand, the line is passed
-  pub all_pass : (v : World S P Nothing) → all_stand (plain x) c v ≡ true → at_test_line (plain x) c v ≡ passed (Pass c (alternate_of (talk_at v c))) (all_leave (plain x) c v)
+  pub all_pass : (v : World S P Nothing) → all_stand (plain x) c v ≡ true
+      → at_test_line (plain x) c v ≡ passed (Pass c (alternate_of (talk_at v c))) (all_leave (plain x) c v)
   all_pass v e = ap (λ (b : Bool). cond b (passed (Pass c (alternate_of (talk_at v c))) (all_leave (plain x) c v)) (took v)) e
 
   -- a process that stands, is shown as it is, and leaves, is shown as it is
@@ -60,7 +62,8 @@ module _ {S E P : Type 0} (x : Parts S E P) (c : ℕ) where
       subst (λ (a : Process S S). ShowsOne x m a (leaves (plain x) c u)) (sym (leaves_not x c z away))
       (subst (ShowsOne x m z) (sym (plain_leaves_not u e)) shows)
 
-module _ {S E P : Type 0} (x : Parts S E P) (Known : ℕ → Process S S → Type 0) (laws : IsErasable x Known) (c : ℕ) (qs : List (Process S S)) (known : Each Known qs)
+module _ {S E P : Type 0} (x : Parts S E P) (Known : ℕ → Process S S → Type 0) (laws : IsErasable x Known) (c : ℕ)
+    (qs : List (Process S S)) (known : Each Known qs)
     (f : ℕ → ℕ) (here : (r : ℕ) (z : Process S S) → StandsThere c r qs z → length (without_last z.levels) ≤ f r) where
   -- who stands is shown as it is by the cut before
   shown_standing : (r : ℕ) (z : Process S S) (u : Process S P) → StandsThere c r qs z → ShowsOne x (before_leaving c qs f r) z u → u ≡ as_is x z

@@ -14,21 +14,24 @@ use Rattle.rb_world.proofs.Erasing.ShownOlder.{shown_alike, shown_outside}
 use Rattle.rb_world.proofs.Erasing.LeavingCuts.{stands_last, level_at_line, leaves_not, leaves_goes}
 use Rattle.rb_world.proofs.Erasing.AllOrNoneLeave.{StandsThere}
 
-module _ {S E P : Type 0} (x : Parts S E P) (Known : ℕ → Process S S → Type 0) (laws : IsErasable x Known) (c : ℕ) (qs : List (Process S S)) (known : Each Known qs) where
+module _ {S E P : Type 0} (x : Parts S E P) (Known : ℕ → Process S S → Type 0) (laws : IsErasable x Known) (c : ℕ)
+    (qs : List (Process S S)) (known : Each Known qs) where
   -- who stands runs
   pub stander_runs : (r : ℕ) (z : Process S S) → StandsThere c r qs z → z.status ≡ Running
   stander_runs r z at =
       let level = level_at_line c z at.stands in
       laws.runs r z (length (without_last z.levels)) level.level (known r z at.there) level.there
 
-  module _ (keeps : KeepsEach (whole x) Known) (f : ℕ → ℕ) (older : (r : ℕ) (z : Process S S) → StandsThere c r qs z → f r < length (without_last z.levels)) where
+  module _ (keeps : KeepsEach (whole x) Known) (f : ℕ → ℕ)
+      (older : (r : ℕ) (z : Process S S) → StandsThere c r qs z → f r < length (without_last z.levels)) where
     -- and runs on, if a level is left
     leaver_runs : (r : ℕ) (z : Process S S) → StandsThere c r qs z → (settled (whole x) z.state (without_last z.levels)).status ≡ Running
     leaver_runs r z at =
         let found = slice_get-there (without_last z.levels) (f r) (older r z at) in
         laws.runs r (settled (whole x) z.state (without_last z.levels)) (f r) found.0 (keeps.leaves r c z (known r z at.there) at.stands) found.1
 
-    one_unseen_leaves : (r : ℕ) (z : Process S S) (u : Process S P) → slice_get qs r ≡ Some z → ShowsOne x (f r) z u → (stands : Bool) → stands_at c z ≡ stands
+    one_unseen_leaves : (r : ℕ) (z : Process S S) (u : Process S P) → slice_get qs r ≡ Some z → ShowsOne x (f r) z u
+        → (stands : Bool) → stands_at c z ≡ stands
         → ShowsOne x (f r) (leaves (whole x) c z) u
     one_unseen_leaves r z u e shows true stands =
         let at : StandsThere c r qs z = record { there = e; stands = stands } in

@@ -30,11 +30,13 @@ abbrev pub before_leaving : {S : Type 0} → ℕ → List (Process S S) → (ℕ
 before_leaving c qs f r = cond (stands_there c (slice_get qs r)) (suc (f r)) (f r)
 
 -- its number for one process, by whether it stands
-pub leaving_at : {S : Type 0} (c r : ℕ) (qs : List (Process S S)) (f : ℕ → ℕ) (z : Process S S) (stands : Bool) → slice_get qs r ≡ Some z → stands_at c z ≡ stands
+pub leaving_at : {S : Type 0} (c r : ℕ) (qs : List (Process S S)) (f : ℕ → ℕ) (z : Process S S) (stands : Bool)
+    → slice_get qs r ≡ Some z → stands_at c z ≡ stands
     → before_leaving c qs f r ≡ cond stands (suc (f r)) (f r)
 leaving_at c r qs f z stands there e = ap (λ (b : Bool). cond b (suc (f r)) (f r)) (ap (stands_there c) there ∙ e)
 
-module _ {S E P : Type 0} (x : Parts S E P) (Known : ℕ → Process S S → Type 0) (laws : IsErasable x Known) (c : ℕ) (qs : List (Process S S)) (known : Each Known qs) where
+module _ {S E P : Type 0} (x : Parts S E P) (Known : ℕ → Process S S → Type 0) (laws : IsErasable x Known) (c : ℕ)
+    (qs : List (Process S S)) (known : Each Known qs) where
   -- all who stand have as many levels
   pub same_depth : (r other : ℕ) (z z' : Process S S) → StandsThere c r qs z → StandsThere c other qs z'
       → length (without_last z.levels) ≡ length (without_last z'.levels)
@@ -47,7 +49,8 @@ module _ {S E P : Type 0} (x : Parts S E P) (Known : ℕ → Process S S → Typ
     pub leave_together : (r other : ℕ) (z z' : Process S S) → StandsThere c r qs z → StandsThere c other qs z'
         → f r < length (without_last z.levels) → f other ≤ f r
     leave_together r other z z' one two h =
-        let shared = shares_level x.groups z.levels z'.levels (laws.nested r z (known r z one.there)) (laws.nested other z' (known other z' two.there)) c
+        let shared =
+        shares_level x.groups z.levels z'.levels (laws.nested r z (known r z one.there)) (laws.nested other z' (known other z' two.there)) c
         (length (without_last z.levels)) (length (without_last z'.levels)) (f r) (level_at_line c z one.stands) (level_at_line c z' two.stands) h in
         let h' : f r < length (without_last z'.levels) = lt_of_lt_of_le h (le_of_eq (same_depth r other z z' one two)) in
         consistent_left x c f qs consistent r other shared.conversation (f r) z z' one.there two.there
@@ -65,7 +68,8 @@ module _ {S E P : Type 0} (x : Parts S E P) (Known : ℕ → Process S S → Typ
         → (r : ℕ) (z : Process S S) → StandsThere c r qs z → (older : Bool) → nat_lt (f r) (length (without_last z.levels)) ≡ older
         → length (without_last z.levels) ≤ f r
     all_present p q at h r z two true e =
-        absurd (lt_irrefl (length (without_last q.levels)) (lt_of_le_of_lt h (all_older r z two (ltb-true (f r) (length (without_last z.levels)) e) p q at)))
+        absurd (lt_irrefl (length (without_last q.levels))
+        (lt_of_le_of_lt h (all_older r z two (ltb-true (f r) (length (without_last z.levels)) e) p q at)))
     all_present p q at h r z two false e = ltb-false (f r) (length (without_last z.levels)) e
 
     -- all at older copies
@@ -73,10 +77,12 @@ module _ {S E P : Type 0} (x : Parts S E P) (Known : ℕ → Process S S → Typ
       -- the level at which a process is shown is still there
       shown_left : (d r : ℕ) (z : Process S S) → slice_get qs r ≡ Some z → IsLevelOf d z.levels (f r) → (stands : Bool) → stands_at c z ≡ stands
           → IsLevelOf d (leaves (whole x) c z).levels (f r)
-      shown_left d r z e l true stands = left_level x c d (f r) z stands (outside_left c d (f r) z stands l (older r z (record { there = e; stands = stands })))
+      shown_left d r z e l true stands =
+          left_level x c d (f r) z stands (outside_left c d (f r) z stands l (older r z (record { there = e; stands = stands })))
       shown_left d r z e l false stands = stayed_level x c d (f r) z stands l
 
-      reaches_left : (d j other : ℕ) (z' : Process S S) → slice_get qs other ≡ Some z' → IsLevelOf d z'.levels j → (stands : Bool) → stands_at c z' ≡ stands
+      reaches_left : (d j other : ℕ) (z' : Process S S) → slice_get qs other ≡ Some z' → IsLevelOf d z'.levels j
+          → (stands : Bool) → stands_at c z' ≡ stands
           → (f other ≤ j) ⊎ IsLevelOf d (leaves (whole x) c z').levels j
       reaches_left d j other z' e l true stands = either (level_before c d j z' stands l)
         where
@@ -104,10 +110,13 @@ module _ {S E P : Type 0} (x : Parts S E P) (Known : ℕ → Process S S → Typ
           ∙ list_all_member (λ m. stands_there c (slice_get qs m)) (members_of (slice_get x.groups c)) r all (laws.is_member r z i c (known r z e) l)
 
       -- who stands is shown as it is
-      not_older : (d r : ℕ) (z : Process S S) → slice_get qs r ≡ Some z → IsLevelOf d z.levels (before_leaving c qs f r) → (stands : Bool) → stands_at c z ≡ stands
+      not_older : (d r : ℕ) (z : Process S S) → slice_get qs r ≡ Some z → IsLevelOf d z.levels (before_leaving c qs f r)
+          → (stands : Bool) → stands_at c z ≡ stands
           → (stands ≡ false) × IsLevelOf d z.levels (f r)
       not_older d r z e l true stands =
-          absurd (none_so (subst (λ (n : ℕ). n < length z.levels) (leaving_at c r qs f z true e stands) (level_within d (before_leaving c qs f r) z.levels l))
+          absurd (none_so
+          (subst (λ (n : ℕ). n < length z.levels) (leaving_at c r qs f z true e stands)
+          (level_within d (before_leaving c qs f r) z.levels l))
           (here r z (record { there = e; stands = stands }))
           (length-with_last z.levels (stands_last c z stands).last (stands_last c z stands).is_last))
         where
@@ -116,7 +125,8 @@ module _ {S E P : Type 0} (x : Parts S E P) (Known : ℕ → Process S S → Typ
       not_older d r z e l false stands = (refl, subst (IsLevelOf d z.levels) (leaving_at c r qs f z false e stands) l)
 
       -- where r is shown at a level, nobody who stands has a level of the same conversation
-      reaches : (d j r other : ℕ) (z z' : Process S S) → slice_get qs r ≡ Some z → slice_get qs other ≡ Some z' → stands_at c z ≡ false → IsLevelOf d z.levels (f r)
+      reaches : (d j r other : ℕ) (z z' : Process S S) → slice_get qs r ≡ Some z → slice_get qs other ≡ Some z'
+          → stands_at c z ≡ false → IsLevelOf d z.levels (f r)
           → IsLevelOf d z'.levels j → (stands : Bool) → stands_at c z' ≡ stands → cond stands (suc (f other)) (f other) ≤ j
       reaches d j r other z z' e e' away l l' true stands = absurd (either (level_before c d j z' stands l'))
         where

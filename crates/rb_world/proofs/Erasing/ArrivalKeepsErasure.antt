@@ -41,7 +41,8 @@ module _ {S E P : Type 0} (x : Parts S E P) where
       ∙ ap (λ (d : Option ℕ). accepted_at (plain x) p (plain_levels x q.levels) d v (x.keep t alternate s, v.memory)) of_c
 
   -- it is shown as it is, and it stands
-  pub line_shown : (t alternate m : ℕ) (s : S) (q : Process S S) → length q.levels ≤ m → ShowsOne x m (at_line_now t alternate s q) (as_is x (at_line_now t alternate s q))
+  pub line_shown : (t alternate m : ℕ) (s : S) (q : Process S S) → length q.levels ≤ m
+      → ShowsOne x m (at_line_now t alternate s q) (as_is x (at_line_now t alternate s q))
   line_shown t alternate m s q here = Alive refl (sym (shown_present x m (at_line_now t alternate s q) here))
 
   -- who has an innermost level has a level
@@ -59,7 +60,8 @@ module _ {S E P : Type 0} (x : Parts S E P) where
   not_all_pass c v false e never = ap (λ (b : Bool). cond b (passed (Pass c (alternate_of (talk_at v c))) (all_leave (plain x) c v)) (took v)) e
 
 module _ {S E P : Type 0} (x : Parts S E P) (Known : ℕ → Process S S → Type 0) (laws : IsErasable x Known) (start : World S P Nothing) where
-  stands_kept : (t : ℕ) (past : List Told) (p : ℕ) (q : Process S S) (w : World S S Nothing) (alternate : ℕ) (message : Option ℤ) (s : S) (level : Level S) (c : ℕ) (f : ℕ → ℕ)
+  stands_kept : (t : ℕ) (past : List Told) (p : ℕ) (q : Process S S) (w : World S S Nothing) (alternate : ℕ)
+      (message : Option ℤ) (s : S) (level : Level S) (c : ℕ) (f : ℕ → ℕ)
       → GroundedWithin x Known p (length q.levels) w → ShowsCut x start t past w f → StepsAt (whole x) p q w alternate message
       → x.step alternate (option_map x.environment (copy_of (last_of q.levels))) q.state message ≡ Held s
       → last_of q.levels ≡ Some level → level.facts.conversation ≡ Some c
@@ -77,14 +79,19 @@ module _ {S E P : Type 0} (x : Parts S E P) (Known : ℕ → Process S S → Typ
       let held = held_at x Known laws p q w alternate message s known at e in
       let here : length q.levels ≤ f p = ltb-false (f p) (length q.levels) h in
       let v : World S P Nothing = old.world in
-      let shows = one_shows x start p f f (at_line_now x t alternate s q) (as_is x (at_line_now x t alternate s q)) w.processes v.processes (λ _ _. refl)
+      let shows =
+      one_shows x start p f f (at_line_now x t alternate s q)
+      (as_is x (at_line_now x t alternate s q)) w.processes v.processes (λ _ _. refl)
       (line_shown x t alternate (f p) s q here) old.shows in
-      TurnKept (one_kept x start t past p alternate w v f f q (at_line_now x t alternate s q) (as_is x (at_line_now x t alternate s q)) old.erased old.shows
+      TurnKept (one_kept x start t past p alternate w v f f q (at_line_now x t alternate s q)
+      (as_is x (at_line_now x t alternate s q)) old.erased old.shows
       runs.there runs.running here
       (plain_holds x Known laws t p alternate q w v s runs.running at.acts.away held
       ∙ ap Some (accepted_line x t p alternate q v s level c last of_c
       ∙ not_all_pass x c (line_plain x t p alternate s q v) (all_stand (plain x) c (line_plain x t p alternate s q v)) refl
-      (λ all. true≢false (sym (all_stand_shown x f c (with_process p (λ _. at_line_now x t alternate s q) w) (line_plain x t p alternate s q v) shows all) ∙ not_all))))
+      (λ all. true≢false
+      (sym (all_stand_shown x f c (with_process p (λ _. at_line_now x t alternate s q) w) (line_plain x t p alternate s q v) shows all)
+      ∙ not_all))))
       (held_mail x Known laws t p alternate q w s held) (held_kept x Known laws t p alternate q w s held) (λ _ _. refl)
       (line_shown x t alternate (f p) s q here))
 

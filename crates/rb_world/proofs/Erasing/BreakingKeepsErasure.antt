@@ -28,7 +28,8 @@ neither true later never none = absurd (never refl)
 neither false later never none = none
 
 -- a test that no element passes
-none_passes : {A : Type 0} (test : A → Bool) (xs : List A) → ((i : ℕ) (x : A) → slice_get xs i ≡ Some x → test x ≡ true → ⊥) → list_any test xs ≡ false
+none_passes : {A : Type 0} (test : A → Bool) (xs : List A) → ((i : ℕ) (x : A) → slice_get xs i ≡ Some x → test x ≡ true → ⊥)
+    → list_any test xs ≡ false
 none_passes test [] never = refl
 none_passes test (x ∷ xs) never = neither (test x) (list_any test xs) (never zero x refl) (none_passes test xs (λ i. never (suc i)))
 
@@ -42,14 +43,18 @@ is_of_it c level of_c = ap (λ (o : Option ℕ). is_number o c) of_c ∙ eq-eqb 
 
 -- who has no place in the line of a conversation is not inside it
 pub not_inside : {S C : Type 0} (c : ℕ) (q : Process S C) → position (is_of c) q.levels ≡ None → is_inside c q ≡ false
-not_inside c q none = none_passes (is_of c) q.levels (λ i level there holds. subst (λ (o : Option ℕ). IsUpTo o i) none (position_up_to (is_of c) q.levels i level there holds))
+not_inside c q none =
+    none_passes (is_of c) q.levels
+    (λ i level there holds. subst (λ (o : Option ℕ). IsUpTo o i) none (position_up_to (is_of c) q.levels i level there holds))
 
 -- its level is the outermost, where the conversation lies in no other
-pub outermost_of : {C : Type 0} (groups : List Membership) (c i : ℕ) (levels : List (Level C)) → AreNested groups levels → parent_of (slice_get groups c) ≡ None
+pub outermost_of : {C : Type 0} (groups : List Membership) (c i : ℕ) (levels : List (Level C)) → AreNested groups levels
+    → parent_of (slice_get groups c) ≡ None
     → IsLevelOf c levels i → i ≡ 0
 outermost_of groups c i levels nested none at = subst (λ (o : Option ℕ). HasOutside o levels i) none (nested i c at)
 
-own_first : {S E P : Type 0} (x : Parts S E P) (levels : List (Level S)) (level : Level S) → slice_get levels 0 ≡ Some level → AreOwn x level.copy (plain_levels x (take 1 levels))
+own_first : {S E P : Type 0} (x : Parts S E P) (levels : List (Level S)) (level : Level S) → slice_get levels 0 ≡ Some level
+    → AreOwn x level.copy (plain_levels x (take 1 levels))
 own_first x [] level there = absurd (none_some there)
 own_first {S = S} x (l ∷ levels) level there = (ap (λ (m : Level S). x.point m.copy) (some_same there), tt)
 
@@ -83,10 +88,12 @@ module _ {S E P : Type 0} (x : Parts S E P) where
       → breaks_at c (Some 0) q ≡ lost_at Inner level
   breaks_first c q level there of_c =
       ap (λ (o : Option (Level S)). fallen_inside (whole x) c (back_to (whole x) 0 q o)) there
-      ∙ ap (λ (b : Bool). cond b (lost_at Inner level) (back_to (whole x) 0 q (Some level))) (first_passes (is_of c) q.levels level there (is_of_it c level of_c))
+      ∙ ap (λ (b : Bool). cond b (lost_at Inner level) (back_to (whole x) 0 q (Some level)))
+      (first_passes (is_of c) q.levels level there (is_of_it c level of_c))
 
   -- a process that has a place in the line of a conversation that lies in no other
-  breaks_some : (c m : ℕ) (q : Process S S) → AreNested x.groups q.levels → parent_of (slice_get x.groups c) ≡ None → position (is_of c) q.levels ≡ Some m
+  breaks_some : (c m : ℕ) (q : Process S S) → AreNested x.groups q.levels → parent_of (slice_get x.groups c) ≡ None
+      → position (is_of c) q.levels ≡ Some m
       → (level : Level S) × (slice_get q.levels 0 ≡ Some level) × (breaks_at c (Some m) q ≡ lost_at Inner level)
   breaks_some c m q nested none e =
       let at : IsLevelOf c q.levels m = level_found c q.levels m e in
@@ -120,17 +127,23 @@ module _ {S E P : Type 0} (x : Parts S E P) (c : ℕ) (none : parent_of (slice_g
   abbrev pub bottom_cut : ℕ → ℕ
   bottom_cut r = at_bottom x (line_of c qs r) (f r)
 
-  module _ (changed : IsChanged (breaks_in x c) qs qs') (nested : Each (λ r q. AreNested x.groups q.levels) qs) (consistent : IsConsistent f qs') where
+  module _ (changed : IsChanged (breaks_in x c) qs qs') (nested : Each (λ r q. AreNested x.groups q.levels) qs)
+      (consistent : IsConsistent f qs') where
     -- who is not inside is as it was
-    same_level : (d i : ℕ) (q : Process S S) → position (is_of c) q.levels ≡ None → IsLevelOf d q.levels i → IsLevelOf d (breaks_at x c (position (is_of c) q.levels) q).levels i
+    same_level : (d i : ℕ) (q : Process S S) → position (is_of c) q.levels ≡ None → IsLevelOf d q.levels i
+        → IsLevelOf d (breaks_at x c (position (is_of c) q.levels) q).levels i
     same_level d i q out at =
         subst (λ (o : Option ℕ). IsLevelOf d (breaks_at x c o q).levels i) (sym out)
         (subst (λ (z : Process S S). IsLevelOf d z.levels i) (sym (breaks_none x c q out)) at)
 
-    outside_pair : (r other d i : ℕ) (q q' : Process S S) → slice_get qs r ≡ Some q → slice_get qs other ≡ Some q' → position (is_of c) q'.levels ≡ None
-        → (place : Option ℕ) → position (is_of c) q.levels ≡ place → IsLevelOf d q.levels (at_bottom x place (f r)) → IsLevelOf d q'.levels i → f other ≤ i
+    outside_pair : (r other d i : ℕ) (q q' : Process S S) → slice_get qs r ≡ Some q → slice_get qs other ≡ Some q'
+        → position (is_of c) q'.levels ≡ None
+        → (place : Option ℕ) → position (is_of c) q.levels ≡ place → IsLevelOf d q.levels (at_bottom x place (f r))
+        → IsLevelOf d q'.levels i → f other ≤ i
     outside_pair r other d i q q' at there out None e of_d of_other =
-        consistent r other d i (breaks_in x c r q) (breaks_in x c other q') (changed_there (breaks_in x c) qs qs' r q changed at) (changed_there (breaks_in x c) qs qs' other q' changed there)
+        consistent r other d i (breaks_in x c r q) (breaks_in x c other q')
+        (changed_there (breaks_in x c) qs qs' r q changed at)
+        (changed_there (breaks_in x c) qs qs' other q' changed there)
         (same_level d (f r) q e of_d) (same_level d i q' out of_other)
     outside_pair r other d i q q' at there out (Some m) e of_d of_other =
         let found : IsLevelOf c q.levels m = level_found c q.levels m e in
@@ -139,7 +152,8 @@ module _ {S E P : Type 0} (x : Parts S E P) (c : ℕ) (none : parent_of (slice_g
         absurd (subst (λ (o : Option ℕ). IsUpTo o i) out (found_up_to c q'.levels i (subst (λ (n : ℕ). IsLevelOf n q'.levels i) same of_other)))
 
     either_pair : (r other d i : ℕ) (q q' : Process S S) → slice_get qs r ≡ Some q → slice_get qs other ≡ Some q'
-        → (place : Option ℕ) → position (is_of c) q'.levels ≡ place → IsLevelOf d q.levels (at_bottom x (position (is_of c) q.levels) (f r)) → IsLevelOf d q'.levels i
+        → (place : Option ℕ) → position (is_of c) q'.levels ≡ place
+        → IsLevelOf d q.levels (at_bottom x (position (is_of c) q.levels) (f r)) → IsLevelOf d q'.levels i
         → at_bottom x place (f other) ≤ i
     either_pair r other d i q q' at there None e of_d of_other =
         outside_pair r other d i q q' at there e (position (is_of c) q.levels) refl of_d of_other
@@ -152,7 +166,8 @@ module _ {S E P : Type 0} (x : Parts S E P) (c : ℕ) (none : parent_of (slice_g
         (subst (λ (o : Option (Process S S)). IsLevelOf d q.levels (at_bottom x (place_of c o) (f r))) at of_d) of_other)
 
 module _ {S E P : Type 0} (x : Parts S E P) (Known : ℕ → Process S S → Type 0) (laws : IsErasable x Known) (start : World S P Nothing) where
-  broken_changed : (c : ℕ) (qs : List (Process S S)) → IsChanged (breaks_in x c) qs (map (fallen_inside (whole x) c) (map (where_inside (put_back (whole x)) c) qs))
+  broken_changed : (c : ℕ) (qs : List (Process S S))
+      → IsChanged (breaks_in x c) qs (map (fallen_inside (whole x) c) (map (where_inside (put_back (whole x)) c) qs))
   broken_changed c qs =
       let back : List (Process S S) = map (where_inside (put_back (whole x)) c) qs in
       is_changed_twice (λ r. where_inside (put_back (whole x)) c) (λ r. fallen_inside (whole x) c) qs back (map (fallen_inside (whole x) c) back)
@@ -168,7 +183,8 @@ module _ {S E P : Type 0} (x : Parts S E P) (Known : ℕ → Process S S → Typ
       all (bottom_cut x c none f w.processes qs') (consistent_bottom x c none f w.processes qs' (broken_changed c w.processes) nested consistent) in
       record {
         world = old.world;
-        shows = shows_changed x (bottom_cut x c none f w.processes qs') f (breaks_in x c) w.processes qs' old.world.processes (broken_changed c w.processes)
+        shows = shows_changed x (bottom_cut x c none f w.processes qs') f
+            (breaks_in x c) w.processes qs' old.world.processes (broken_changed c w.processes)
             (λ r q u at shows. shows_broken x c (f r) q u (nested r q at) none (ground.each r q at).bare (position (is_of c) q.levels) refl
             (subst (λ (o : Option (Process S S)). ShowsOne x (at_bottom x (place_of c o) (f r)) q u) at shows)) old.shows;
         erased = old.erased;
@@ -180,7 +196,8 @@ module _ {S E P : Type 0} (x : Parts S E P) (Known : ℕ → Process S S → Typ
         h.1.0,
         stays_shown x Known start t past (all_broken (whole x) c w)
             (Each-changed (IsQuiet x) (breaks_in x c) w.processes (all_broken (whole x) c w).processes (broken_changed c w.processes)
-            (λ r q' at. quiet_broken x c r q' (laws.nested r q' (ground.each r q' at).known) none (ground.each r q' at).outermost (ground.quiet r q' at)
+            (λ r q' at. quiet_broken x c r q' (laws.nested r q' (ground.each r q' at).known) none
+            (ground.each r q' at).outermost (ground.quiet r q' at)
             (position (is_of c) q'.levels) refl))
             (all_shown_broken t past w c ground none h.1.1),
       )

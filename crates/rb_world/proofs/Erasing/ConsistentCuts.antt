@@ -40,7 +40,8 @@ pub level_within : {S : Type 0} (c i : ℕ) (levels : List (Level S)) → IsLeve
 level_within c i levels l = slice_get_within levels i l.level l.there
 
 -- the cut with process p in the present
-cut_here : (f : ℕ → ℕ) (p n r : ℕ) (same : Bool) → nat_eq r p ≡ same → (P : ℕ → Type 0) → (same ≡ true → P n) → (same ≡ false → P (f r)) → P (with_shown f p n r)
+cut_here : (f : ℕ → ℕ) (p n r : ℕ) (same : Bool) → nat_eq r p ≡ same → (P : ℕ → Type 0) → (same ≡ true → P n)
+    → (same ≡ false → P (f r)) → P (with_shown f p n r)
 cut_here f p n r true e P here away = subst (λ (b : Bool). P (cond b n (f r))) (sym e) (here refl)
 cut_here f p n r false e P here away = subst (λ (b : Bool). P (cond b n (f r))) (sym e) (away refl)
 

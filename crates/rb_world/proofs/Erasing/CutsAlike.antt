@@ -23,11 +23,14 @@ unmarked q = record { state = q.state; levels = map unmarked_level q.levels; at_
 
 plain_unmarked : {S E P : Type 0} (x : Parts S E P) (levels : List (Level S)) → plain_levels x (map unmarked_level levels) ≡ plain_levels x levels
 plain_unmarked x [] = refl
-plain_unmarked {P = P} x (level ∷ levels) = ap (λ (ls : List (Level P)). record { facts = level.facts; alternate = 0; used = 0; copy = x.point level.copy } ∷ ls) (plain_unmarked x levels)
+plain_unmarked {P = P} x (level ∷ levels) =
+    ap (λ (ls : List (Level P)). record { facts = level.facts; alternate = 0; used = 0; copy = x.point level.copy } ∷ ls)
+    (plain_unmarked x levels)
 
 shown_at_unmarked : {S E P : Type 0} (x : Parts S E P) (n : ℕ) (q : Process S S) (level : Option (Level S))
     → shown_at x n (unmarked q) (option_map unmarked_level level) ≡ shown_at x n q level
-shown_at_unmarked {P = P} x n q None = ap (λ (ls : List (Level P)). record { state = q.state; levels = ls; at_line = q.at_line; status = q.status }) (plain_unmarked x q.levels)
+shown_at_unmarked {P = P} x n q None =
+    ap (λ (ls : List (Level P)). record { state = q.state; levels = ls; at_line = q.at_line; status = q.status }) (plain_unmarked x q.levels)
 shown_at_unmarked x n q (Some level) =
     ap (λ ls. record { state = level.copy; levels = ls; at_line = false; status = q.status })
     (ap (plain_levels x) (take-map unmarked_level (n + 1) q.levels) ∙ plain_unmarked x (take (n + 1) q.levels))
@@ -37,9 +40,11 @@ pub shown_unmarked : {S E P : Type 0} (x : Parts S E P) (n : ℕ) (q : Process S
 shown_unmarked x n q = ap (shown_at x n (unmarked q)) (slice_get-map unmarked_level q.levels n) ∙ shown_at_unmarked x n q (slice_get q.levels n)
 
 -- two processes that differ in nothing else are shown alike
-pub shows_alike : {S E P : Type 0} (x : Parts S E P) (n : ℕ) (q q' : Process S S) (u : Process S P) → unmarked q' ≡ unmarked q → ShowsOne x n q u → ShowsOne x n q' u
+pub shows_alike : {S E P : Type 0} (x : Parts S E P) (n : ℕ) (q q' : Process S S) (u : Process S P)
+    → unmarked q' ≡ unmarked q → ShowsOne x n q u → ShowsOne x n q' u
 shows_alike {S = S} x n q q' u same (Alive whole is) =
-    Alive (ap (λ (z : Process S S). is_failed z.status) same ∙ whole) (is ∙ (sym (shown_unmarked x n q) ∙ (ap (shown x n) (sym same) ∙ shown_unmarked x n q')))
+    Alive (ap (λ (z : Process S S). is_failed z.status) same ∙ whole)
+    (is ∙ (sym (shown_unmarked x n q) ∙ (ap (shown x n) (sym same) ∙ shown_unmarked x n q')))
 shows_alike {S = S} x n q q' u same (Lost failed is away own) =
     Lost (ap (λ (z : Process S S). is_failed z.status) same ∙ failed) (is ∙ ap (λ (z : Process S S). z.state) (sym same)) away
     (subst (λ (s : S). AreOwn x s u.levels) (ap (λ (z : Process S S). z.state) (sym same)) own)

@@ -54,7 +54,8 @@ module _ {S E P : Type 0} (x : Parts S E P) where
       → shown_at x n (back_to (whole x) j q (Some level)) found ≡ shown_at x n q found
   shown_kept n j q level None few in_range e = absurd (nothing_within q.levels n (omega (arith, few, in_range)) e)
   shown_kept n j q level (Some inner) few in_range e =
-      ap (λ ls. record { state = inner.copy; levels = plain_levels x ls; at_line = false; status = q.status }) (take_take (n + 1) (j + 1) q.levels (omega (arith, few)))
+      ap (λ ls. record { state = inner.copy; levels = plain_levels x ls; at_line = false; status = q.status })
+      (take_take (n + 1) (j + 1) q.levels (omega (arith, few)))
 
   -- shown in the present, once it was put back
   shown_back : (n j : ℕ) (q : Process S S) (level : Level S) → slice_get q.levels j ≡ Some level → (few : Bool) → nat_le n j ≡ few
@@ -67,11 +68,13 @@ module _ {S E P : Type 0} (x : Parts S E P) where
   shown_back n j q level there false e =
       let gone : j < n = leb-false n j e in
       let same : min n j ≡ j = omega (arith, gone) in
-      ap (shown_at x n (back_to (whole x) j q (Some level))) (slice_get_past (take (j + 1) q.levels) n (omega (arith, gone, length-take (j + 1) q.levels)))
+      ap (shown_at x n (back_to (whole x) j q (Some level)))
+      (slice_get_past (take (j + 1) q.levels) n (omega (arith, gone, length-take (j + 1) q.levels)))
       ∙ (ap (shown_at x j q) (sym there) ∙ ap (λ (m : ℕ). shown x m q) (sym same))
 
   -- a process that is put back is shown as it was at a level no further in
-  shows_put_back : (n j : ℕ) (q : Process S S) (u : Process S P) (level : Level S) → slice_get q.levels j ≡ Some level → (is_failed q.status ≡ true → q.levels ≡ [])
+  shows_put_back : (n j : ℕ) (q : Process S S) (u : Process S P) (level : Level S) → slice_get q.levels j ≡ Some level
+      → (is_failed q.status ≡ true → q.levels ≡ [])
       → ShowsOne x (min n j) q u → ShowsOne x n (back_to (whole x) j q (Some level)) u
   shows_put_back n j q u level there bare (Alive sound is) = Alive sound (is ∙ sym (shown_back n j q level there (nat_le n j) refl))
   shows_put_back n j q u level there bare (Lost failed is away own) =
@@ -86,7 +89,8 @@ module _ {S E P : Type 0} (x : Parts S E P) where
       subst (λ (o : Option (Level S)). ShowsOne x n (back_to (whole x) j q o) u) (sym found.1) (shows_put_back n j q u found.0 found.1 bare shows)
 
   -- a level that is no further in than the place stays
-  level_kept : (c i j : ℕ) (q : Process S S) (found : Option (Level S)) → i ≤ j → IsLevelOf c q.levels i → IsLevelOf c (back_to (whole x) j q found).levels i
+  level_kept : (c i j : ℕ) (q : Process S S) (found : Option (Level S)) → i ≤ j → IsLevelOf c q.levels i
+      → IsLevelOf c (back_to (whole x) j q found).levels i
   level_kept c i j q None few at = at
   level_kept c i j q (Some level) few at =
       record { level = at.level; there = slice_get-take (j + 1) i q.levels (omega (arith, few)) ∙ at.there; of_it = at.of_it }
@@ -108,7 +112,8 @@ module _ {S E P : Type 0} (x : Parts S E P) where
   other_side None c i n q at shown = shown at
   other_side (Some j) c i n q at shown = other_within c i j n q at shown (nat_le i j) refl
 
-module _ {S E P : Type 0} (x : Parts S E P) (place : ℕ → Option ℕ) (f : ℕ → ℕ) (qs qs' : List (Process S S)) (changed : IsChanged (back_at x place) qs qs')
+module _ {S E P : Type 0} (x : Parts S E P) (place : ℕ → Option ℕ) (f : ℕ → ℕ) (qs qs' : List (Process S S))
+    (changed : IsChanged (back_at x place) qs qs')
     (line : AreLine place qs) (consistent : IsConsistent f qs') where
   -- The cut of the world before. Where it shows a process at a level that stays, the cut of the world after says so of all others.
   by_kept : (r other c i : ℕ) (q q' : Process S S) → slice_get qs r ≡ Some q → slice_get qs other ≡ Some q'
@@ -119,7 +124,8 @@ module _ {S E P : Type 0} (x : Parts S E P) (place : ℕ → Option ℕ) (f : �
       (changed_there (back_at x place) qs qs' other q' changed there) of_c kept)
 
   by_place : (r other c i j : ℕ) (q q' : Process S S) → slice_get qs r ≡ Some q → slice_get qs other ≡ Some q' → place r ≡ Some j
-      → IsLevelOf c q.levels (min (f r) j) → IsLevelOf c q'.levels i → (few : Bool) → nat_le (f r) j ≡ few → no_further_than (place other) (f other) ≤ i
+      → IsLevelOf c q.levels (min (f r) j) → IsLevelOf c q'.levels i → (few : Bool) → nat_le (f r) j ≡ few
+      → no_further_than (place other) (f other) ≤ i
   by_place r other c i j q q' at there is of_c of_other true e =
       let few : f r ≤ j = leb-true (f r) j e in
       by_kept r other c i q q' at there
@@ -133,7 +139,8 @@ module _ {S E P : Type 0} (x : Parts S E P) (place : ℕ → Option ℕ) (f : �
   by_either : (r other c i : ℕ) (q q' : Process S S) → slice_get qs r ≡ Some q → slice_get qs other ≡ Some q' → (o : Option ℕ) → place r ≡ o
       → IsLevelOf c q.levels (no_further_than o (f r)) → IsLevelOf c q'.levels i → no_further_than (place other) (f other) ≤ i
   by_either r other c i q q' at there None is of_c of_other =
-      by_kept r other c i q q' at there (subst (λ (o : Option ℕ). IsLevelOf c (at_place (put_back (whole x)) o q).levels (f r)) (sym is) of_c) of_other
+      by_kept r other c i q q' at there
+      (subst (λ (o : Option ℕ). IsLevelOf c (at_place (put_back (whole x)) o q).levels (f r)) (sym is) of_c) of_other
   by_either r other c i q q' at there (Some j) is of_c of_other = by_place r other c i j q q' at there is of_c of_other (nat_le (f r) j) refl
 
   consistent_before : IsConsistent (λ r. no_further_than (place r) (f r)) qs
@@ -141,7 +148,8 @@ module _ {S E P : Type 0} (x : Parts S E P) (place : ℕ → Option ℕ) (f : �
 
 module _ {S E P : Type 0} (x : Parts S E P) (start : World S P Nothing) where
   -- so where every cut of the world before is shown, every cut of the world after is, by the same plain worlds
-  pub all_shown_back : (t : ℕ) (past : List Told) (w v : World S S Nothing) (place : ℕ → Option ℕ) → IsChanged (back_at x place) w.processes v.processes
+  pub all_shown_back : (t : ℕ) (past : List Told) (w v : World S S Nothing) (place : ℕ → Option ℕ)
+      → IsChanged (back_at x place) w.processes v.processes
       → AreLine place w.processes → Each (λ r q. is_failed q.status ≡ true → q.levels ≡ []) w.processes
       → AllShown x start t past w → AllShown x start t past v
   all_shown_back t past w v place changed line bare all f consistent =

@@ -50,7 +50,8 @@ module _ {S E P : Type 0} (x : Parts S E P) where
       (lt-ltb (length (plain_levels x q.levels)) most_levels (subst (λ (n : ℕ). n < most_levels) (sym (length-map q.levels (plain_level x))) few))
 
   -- a process that has just entered is shown alike at its new level and in the present
-  entered_shown : (t p m : ℕ) (facts : Facts) (alternate : ℕ) (q : Process S S) → length q.levels ≤ m → (inner : Bool) → nat_lt (length q.levels) m ≡ inner
+  entered_shown : (t p m : ℕ) (facts : Facts) (alternate : ℕ) (q : Process S S) → length q.levels ≤ m → (inner : Bool)
+      → nat_lt (length q.levels) m ≡ inner
       → shown x m (inside_new t facts alternate q) ≡ as_is x (inside_new t facts alternate q)
   entered_shown t p m facts alternate q here true e =
       shown_present x m (inside_new t facts alternate q)
@@ -60,7 +61,13 @@ module _ {S E P : Type 0} (x : Parts S E P) where
       let levels : List (Level S) = q.levels ++ level ∷ [] in
       let same : m ≡ length q.levels = omega (arith, here, ltb-false (length q.levels) m e) in
       shown_older x m (inside_new t facts alternate q) level (ap (slice_get levels) same ∙ slice_get-end q.levels level)
-      ∙ ap (λ (ls : List (Level S)). record { state = entered t q; levels = plain_levels x ls; at_line = false; status = (inside_new t facts alternate q).status })
+      ∙ ap (λ (ls : List (Level S)). record {
+        state = entered t q;
+        levels = plain_levels x ls;
+        at_line = false;
+        status =
+            (inside_new t facts alternate q).status;
+      })
       (take_all (m + 1) levels (omega (arith, length-end q.levels level, here)))
 
   entered_plain : (t : ℕ) (facts : Facts) (alternate : ℕ) (q : Process S S) → inside_plain t facts q ≡ as_is x (inside_new t facts alternate q)
@@ -68,9 +75,11 @@ module _ {S E P : Type 0} (x : Parts S E P) where
       ap (λ (ls : List (Level P)). record { state = entered t q; levels = ls; at_line = false; status = (inside_new t facts alternate q).status })
       (sym (map-append (plain_level x) q.levels (entering t facts alternate q ∷ [])))
 
-module _ {S E P : Type 0} (x : Parts S E P) (Known : ℕ → Process S S → Type 0) (laws : IsErasable x Known) (keeps : KeepsEach (whole x) Known) (start : World S P Nothing) where
+module _ {S E P : Type 0} (x : Parts S E P) (Known : ℕ → Process S S → Type 0) (laws : IsErasable x Known)
+    (keeps : KeepsEach (whole x) Known) (start : World S P Nothing) where
   -- who enters runs on, since it has a level
-  enters_running : (t p : ℕ) (q : Process S S) (w : World S S Nothing) (facts : Facts) (alternate : ℕ) → Known p q → EntersAt (whole x) p q w facts alternate
+  enters_running : (t p : ℕ) (q : Process S S) (w : World S S Nothing) (facts : Facts) (alternate : ℕ) → Known p q
+      → EntersAt (whole x) p q w facts alternate
       → (inside_new x t facts alternate q).status ≡ Running
   enters_running t p q w facts alternate known at =
       laws.runs p (inside_new x t facts alternate q) (length q.levels) (entering x t facts alternate q)
@@ -85,7 +94,8 @@ module _ {S E P : Type 0} (x : Parts S E P) (Known : ℕ → Process S S → Typ
 
   -- the old levels stay where they were
   levels_stay : (t p : ℕ) (q : Process S S) (w : World S S Nothing) (facts : Facts) (alternate : ℕ) → slice_get w.processes p ≡ Some q
-      → (z : Process S S) → slice_get w.processes p ≡ Some z → (c i : ℕ) → IsLevelOf c z.levels i → IsLevelOf c (inside_new x t facts alternate q).levels i
+      → (z : Process S S) → slice_get w.processes p ≡ Some z → (c i : ℕ) → IsLevelOf c z.levels i
+      → IsLevelOf c (inside_new x t facts alternate q).levels i
   levels_stay t p q w facts alternate there z e c i l =
       let l' : IsLevelOf c q.levels i = subst (λ (a : Process S S). IsLevelOf c a.levels i) (some_same (sym e ∙ there)) l in
       record {

@@ -160,7 +160,8 @@ pub record IsErasable {S E P : Type 0} (x : Parts S E P) (Known : ℕ → Proces
   pub releases_none : (s : S) → x.held s ≡ [] → x.release s ≡ s
   -- what a step does
   pub goes : (p : ℕ) (q : Process S S) (w : World S S Nothing) (alternate : ℕ) (message : Option ℤ) (s : S) → Known p q
-      → StepsAt (whole x) p q w alternate message → x.step alternate (option_map x.environment (copy_of (last_of q.levels))) q.state message ≡ Went s tt
+      → StepsAt (whole x) p q w alternate message
+      → x.step alternate (option_map x.environment (copy_of (last_of q.levels))) q.state message ≡ Went s tt
       → Moves x message q.state s
   pub holds : (p : ℕ) (q : Process S S) (w : World S S Nothing) (alternate : ℕ) (message : Option ℤ) (s : S) → Known p q
       → StepsAt (whole x) p q w alternate message → x.step alternate (option_map x.environment (copy_of (last_of q.levels))) q.state message ≡ Held s
@@ -173,13 +174,17 @@ pub record IsErasable {S E P : Type 0} (x : Parts S E P) (Known : ℕ → Proces
       → q.status ≡ Running → q.at_line ≡ false → x.want q.state ≡ Starts → x.step alternate point q.state message ≡ Went s tt
       → (1 ≤ alternate) × (alternate ≤ alternates_of (last_of q.levels))
   -- channels are used by their ends
-  pub sends : (p : ℕ) (q : Process S S) (c : ℕ) (ends : Ends) → Known p q → x.want q.state ≡ SendsOn c → slice_get x.channels c ≡ Some ends → ends.sender ≡ p
-  pub receives : (p : ℕ) (q : Process S S) (c : ℕ) (ends : Ends) → Known p q → receives_on (x.want q.state) ≡ Some c → slice_get x.channels c ≡ Some ends → ends.receiver ≡ p
+  pub sends : (p : ℕ) (q : Process S S) (c : ℕ) (ends : Ends) → Known p q → x.want q.state ≡ SendsOn c
+      → slice_get x.channels c ≡ Some ends → ends.sender ≡ p
+  pub receives : (p : ℕ) (q : Process S S) (c : ℕ) (ends : Ends) → Known p q → receives_on (x.want q.state) ≡ Some c
+      → slice_get x.channels c ≡ Some ends → ends.receiver ≡ p
   -- levels are nested, and are those of members
   pub nested : (p : ℕ) (q : Process S S) → Known p q → AreNested x.groups q.levels
-  pub is_member : (p : ℕ) (q : Process S S) (i c : ℕ) → Known p q → IsLevelOf c q.levels i → list_any (nat_eq p) (members_of (slice_get x.groups c)) ≡ true
+  pub is_member : (p : ℕ) (q : Process S S) (i c : ℕ) → Known p q → IsLevelOf c q.levels i
+      → list_any (nat_eq p) (members_of (slice_get x.groups c)) ≡ true
   -- who stands at no line and enters a conversation that lies in no other has no level
-  pub outermost : (p : ℕ) (q : Process S S) (facts : Facts) (c : ℕ) → Known p q → q.at_line ≡ false → x.want q.state ≡ Enters facts → facts.conversation ≡ Some c
+  pub outermost : (p : ℕ) (q : Process S S) (facts : Facts) (c : ℕ) → Known p q → q.at_line ≡ false
+      → x.want q.state ≡ Enters facts → facts.conversation ≡ Some c
       → parent_of (slice_get x.groups c) ≡ None → q.levels ≡ []
   -- who has a level runs
   pub runs : (p : ℕ) (q : Process S S) (i : ℕ) (level : Level S) → Known p q → slice_get q.levels i ≡ Some level → q.status ≡ Running

@@ -18,7 +18,8 @@ use Rattle.rb_world.proofs.Erasing.Cuts.{IsConsistent, Shows}
 -- further in, and of the present; a failed process has no level and holds no line; the outermost recovery point holds no line.
 pub record IsGrounded {S E P : Type 0} (x : Parts S E P) (Known : ℕ → Process S S → Type 0) (r : ℕ) (q : Process S S) : Type 0 where
   pub known : Known r q
-  pub in_order : (i j : ℕ) (outer inner : Level S) → i ≤ j → slice_get q.levels i ≡ Some outer → slice_get q.levels j ≡ Some inner → IsFront x outer.copy inner.copy
+  pub in_order : (i j : ℕ) (outer inner : Level S) → i ≤ j → slice_get q.levels i ≡ Some outer
+      → slice_get q.levels j ≡ Some inner → IsFront x outer.copy inner.copy
   pub before_now : (i : ℕ) (level : Level S) → slice_get q.levels i ≡ Some level → IsFront x level.copy q.state
   pub outermost : (level : Level S) → slice_get q.levels 0 ≡ Some level → x.held level.copy ≡ []
   pub bare : is_failed q.status ≡ true → q.levels ≡ []
@@ -78,7 +79,8 @@ pub record IsErased {S E P : Type 0} (x : Parts S E P) (start : World S P Nothin
   pub sent : AreSent x v
 
 -- a cut is shown by such a world
-pub record ShowsCut {S E P : Type 0} (x : Parts S E P) (start : World S P Nothing) (t : ℕ) (past : List Told) (w : World S S Nothing) (f : ℕ → ℕ) : Type 0 where
+pub record ShowsCut {S E P : Type 0} (x : Parts S E P) (start : World S P Nothing) (t : ℕ) (past : List Told)
+    (w : World S S Nothing) (f : ℕ → ℕ) : Type 0 where
   pub world : World S P Nothing
   pub shows : Shows x f w.processes world.processes
   pub erased : IsErased x start t past world
@@ -88,7 +90,8 @@ abbrev pub AllShown : {S E P : Type 0} → Parts S E P → World S P Nothing →
 AllShown x start t past w = (f : ℕ → ℕ) → IsConsistent f w.processes → ShowsCut x start t past w f
 
 -- Turn t is kept by the plain run too: from an erased world the plain turn of process p leads to one that shows the cut.
-pub record KeepsTurn {S E P : Type 0} (x : Parts S E P) (start : World S P Nothing) (t : ℕ) (past : List Told) (w : World S S Nothing) (f : ℕ → ℕ) : Type 0 where
+pub record KeepsTurn {S E P : Type 0} (x : Parts S E P) (start : World S P Nothing) (t : ℕ) (past : List Told)
+    (w : World S S Nothing) (f : ℕ → ℕ) : Type 0 where
   pub old : World S P Nothing
   pub erased : IsErased x start t past old
   pub process : ℕ
@@ -101,7 +104,8 @@ pub record KeepsTurn {S E P : Type 0} (x : Parts S E P) (start : World S P Nothi
   pub sent : AreSent x moved.world
 
 -- after turn t, before lines are released, a cut is shown by a world as it was, if nobody has a line to release, or by a kept turn
-pub data ShowsAfter {S E P : Type 0} (x : Parts S E P) (start : World S P Nothing) (t : ℕ) (past : List Told) (w : World S S Nothing) (f : ℕ → ℕ) : Type 0 where
+pub data ShowsAfter {S E P : Type 0} (x : Parts S E P) (start : World S P Nothing) (t : ℕ) (past : List Told)
+    (w : World S S Nothing) (f : ℕ → ℕ) : Type 0 where
   StaysShown : Each (IsQuiet x) w.processes → ShowsCut x start t past w f → ShowsAfter x start t past w f
   TurnKept : KeepsTurn x start t past w f → ShowsAfter x start t past w f
 

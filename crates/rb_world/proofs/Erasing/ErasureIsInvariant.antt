@@ -13,7 +13,8 @@ use Rattle.rb_world.proofs.Erasing.WhoFails.{AwayBetween, AwayWithin, erased_fal
 -- what is shown under the ground and beside it
 abbrev pub ErasureIsKept : {S E P : Type 0} → Parts S E P → (ℕ → Process S S → Type 0) → World S P Nothing → Type 0
 ErasureIsKept x Known start = IsInvariantUnder (whole x)
-    (BothBetween (GroundedBefore x Known) AwayBetween) (BothWithin (GroundedDuring x Known) AwayWithin) (BothBetween (GroundedAfter x Known) AwayBetween)
+    (BothBetween (GroundedBefore x Known) AwayBetween) (BothWithin (GroundedDuring x Known) AwayWithin)
+    (BothBetween (GroundedAfter x Known) AwayBetween)
     (ErasedBefore x start) (ErasedWithin x start) (ErasedAfter x start)
 
 module _ {S E P : Type 0} (x : Parts S E P) (Known : ℕ → Process S S → Type 0) (laws : IsErasable x Known) (start : World S P Nothing) where
@@ -49,5 +50,6 @@ module _ {S E P : Type 0} (x : Parts S E P) (Known : ℕ → Process S S → Typ
   pub erased_and_grounded : IsInvariant (whole x) (GroundedBefore x Known) (GroundedDuring x Known) (GroundedAfter x Known)
       → ErasureIsKept x Known start
       → IsInvariant (whole x) (BothBetween (BothBetween (GroundedBefore x Known) AwayBetween) (ErasedBefore x start))
-      (BothWithin (BothWithin (GroundedDuring x Known) AwayWithin) (ErasedWithin x start)) (BothBetween (BothBetween (GroundedAfter x Known) AwayBetween) (ErasedAfter x start))
+      (BothWithin (BothWithin (GroundedDuring x Known) AwayWithin) (ErasedWithin x start))
+      (BothBetween (BothBetween (GroundedAfter x Known) AwayBetween) (ErasedAfter x start))
   erased_and_grounded ground erased = both_kept (both_kept ground (away_kept x Known laws)) erased

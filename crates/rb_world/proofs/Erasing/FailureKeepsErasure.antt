@@ -30,28 +30,35 @@ module _ {S E P : Type 0} (x : Parts S E P) where
   shows_fallen n q u cause (Bare none away) bare (Alive sound is) =
       let now : u ≡ shown_at x 0 q None = is ∙ ap (shown_at x 0 q) (ap (λ (ls : List (Level S)). slice_get ls 0) none) in
       Lost refl (ap (λ (z : Process S P). z.state) now) (ap (λ (z : Process S P). z.at_line) now ∙ away)
-      (subst (λ (z : Process S P). AreOwn x q.state z.levels) (sym now) (subst (λ (ls : List (Level S)). AreOwn x q.state (plain_levels x ls)) (sym none) tt))
+      (subst (λ (z : Process S P). AreOwn x q.state z.levels) (sym now)
+      (subst (λ (ls : List (Level S)). AreOwn x q.state (plain_levels x ls)) (sym none) tt))
   shows_fallen n q u cause (Bare none away) bare (Lost failed is far own) = Lost refl is far own
 
   -- and it holds no line
-  quiet_fallen : (r : ℕ) (q : Process S S) (cause : Cause) → MayFall q → ((level : Level S) → slice_get q.levels 0 ≡ Some level → x.held level.copy ≡ [])
+  quiet_fallen : (r : ℕ) (q : Process S S) (cause : Cause) → MayFall q
+      → ((level : Level S) → slice_get q.levels 0 ≡ Some level → x.held level.copy ≡ [])
       → IsQuiet x r q → IsQuiet x r (fallen (whole x) cause q)
   quiet_fallen r q cause (Bare none away) outermost quiet now = quiet none
-  quiet_fallen r q cause (Spent level one put private) outermost quiet now = ap x.held put ∙ outermost level (ap (λ (ls : List (Level S)). slice_get ls 0) one)
+  quiet_fallen r q cause (Spent level one put private) outermost quiet now =
+      ap x.held put ∙ outermost level (ap (λ (ls : List (Level S)). slice_get ls 0) one)
 
 -- its outermost level, if it has one, is of no conversation
 not_of_any : {S : Type 0} (c : ℕ) (q : Process S S) → MayFall q → IsLevelOf c q.levels 0 → ⊥
 not_of_any {S} c q (Bare none away) at = none_some (sym (ap (λ (ls : List (Level S)). slice_get ls 0) none) ∙ at.there)
 not_of_any {S} c q (Spent level one put private) at =
-    none_some (sym private ∙ (ap (λ (l : Level S). l.facts.conversation) (some_same (sym (ap (λ (ls : List (Level S)). slice_get ls 0) one) ∙ at.there)) ∙ at.of_it))
+    none_some (sym private
+    ∙ (ap (λ (l : Level S). l.facts.conversation) (some_same (sym (ap (λ (ls : List (Level S)). slice_get ls 0) one) ∙ at.there))
+    ∙ at.of_it))
 
-module _ {S E P : Type 0} (x : Parts S E P) (p : ℕ) (cause : Cause) (q : Process S S) (f : ℕ → ℕ) (qs : List (Process S S)) (there : slice_get qs p ≡ Some q) (may : MayFall q)
+module _ {S E P : Type 0} (x : Parts S E P) (p : ℕ) (cause : Cause) (q : Process S S) (f : ℕ → ℕ) (qs : List (Process S S))
+    (there : slice_get qs p ≡ Some q) (may : MayFall q)
     (consistent : IsConsistent f (change_at p (fallen (whole x) cause) qs)) where
   -- what the fall does, by the number of a process
   abbrev falls_at : ℕ → Process S S → Process S S
   falls_at r a = only_at p (fallen (whole x) cause) r a
 
-  others_pair : (r other c i : ℕ) (a b : Process S S) → slice_get qs r ≡ Some a → slice_get qs other ≡ Some b → nat_eq r p ≡ false → nat_eq other p ≡ false
+  others_pair : (r other c i : ℕ) (a b : Process S S) → slice_get qs r ≡ Some a → slice_get qs other ≡ Some b
+      → nat_eq r p ≡ false → nat_eq other p ≡ false
       → IsLevelOf c a.levels (f r) → IsLevelOf c b.levels i → f other ≤ i
   others_pair r other c i a b at here apart far of_c of_other =
       consistent r other c i (falls_at r a) (falls_at other b)
@@ -60,18 +67,21 @@ module _ {S E P : Type 0} (x : Parts S E P) (p : ℕ) (cause : Cause) (q : Proce
       (subst (λ (now : Bool). IsLevelOf c (cond now (fallen (whole x) cause a) a).levels (f r)) (sym apart) of_c)
       (subst (λ (now : Bool). IsLevelOf c (cond now (fallen (whole x) cause b) b).levels i) (sym far) of_other)
 
-  any_pair : (r other c i : ℕ) (a b : Process S S) → slice_get qs r ≡ Some a → slice_get qs other ≡ Some b → (first second : Bool) → nat_eq r p ≡ first → nat_eq other p ≡ second
+  any_pair : (r other c i : ℕ) (a b : Process S S) → slice_get qs r ≡ Some a → slice_get qs other ≡ Some b
+      → (first second : Bool) → nat_eq r p ≡ first → nat_eq other p ≡ second
       → IsLevelOf c a.levels (cond first 0 (f r)) → IsLevelOf c b.levels i → cond second 0 (f other) ≤ i
   any_pair r other c i a b at here first true e d of_c of_other = omega arith
   any_pair r other c i a b at here true false e d of_c of_other =
-      absurd (not_of_any c q may (subst (λ (z : Process S S). IsLevelOf c z.levels 0) (some_same (sym at ∙ (ap (slice_get qs) (eqb-true r p e) ∙ there))) of_c))
+      absurd (not_of_any c q may
+      (subst (λ (z : Process S S). IsLevelOf c z.levels 0) (some_same (sym at ∙ (ap (slice_get qs) (eqb-true r p e) ∙ there))) of_c))
   any_pair r other c i a b at here false false e d of_c of_other = others_pair r other c i a b at here e d of_c of_other
 
   -- the cut of the world before
   consistent_fall : IsConsistent (with_shown f p 0) qs
   consistent_fall r other c i a b at here of_c of_other = any_pair r other c i a b at here (nat_eq r p) (nat_eq other p) refl refl of_c of_other
 
-  shows_fall : (r : ℕ) (a : Process S S) (u : Process S P) → slice_get qs r ≡ Some a → (is_failed a.status ≡ true → a.levels ≡ []) → (here : Bool) → nat_eq r p ≡ here
+  shows_fall : (r : ℕ) (a : Process S S) (u : Process S P) → slice_get qs r ≡ Some a
+      → (is_failed a.status ≡ true → a.levels ≡ []) → (here : Bool) → nat_eq r p ≡ here
       → ShowsOne x (cond here 0 (f r)) a u → ShowsOne x (f r) (cond here (fallen (whole x) cause a) a) u
   shows_fall r a u at bare true e shows =
       shows_fallen x (f r) a u cause (subst MayFall (some_same (sym there ∙ (ap (slice_get qs) (sym (eqb-true r p e)) ∙ at))) may) bare shows
@@ -86,7 +96,8 @@ module _ {S E P : Type 0} (x : Parts S E P) (Known : ℕ → Process S S → Typ
       all (with_shown f p 0) (consistent_fall x p cause q f w.processes there may consistent) in
       record {
         world = old.world;
-        shows = shows_changed x (with_shown f p 0) f (only_at p (fallen (whole x) cause)) w.processes (change_at p (fallen (whole x) cause) w.processes) old.world.processes
+        shows = shows_changed x (with_shown f p 0) f (only_at p (fallen (whole x) cause)) w.processes
+            (change_at p (fallen (whole x) cause) w.processes) old.world.processes
             (is_changed_at p (fallen (whole x) cause) w.processes)
             (λ r a u at. shows_fall x p cause q f w.processes there may consistent r a u at (ground.each r a at).bare (nat_eq r p) refl) old.shows;
         erased = old.erased;

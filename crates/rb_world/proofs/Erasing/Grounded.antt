@@ -20,7 +20,8 @@ module _ {S E P : Type 0} (x : Parts S E P) where
   none_there (l ∷ levels) e = absurd (suc-ne-zero (length levels) e)
 
   -- no level is left where none was
-  nothing_left : (p : ℕ) (q r : Process S S) (qs : List (Process S S)) → slice_get qs p ≡ Some q → slice_get (change_at p (λ _. turn_used q) qs) p ≡ Some r
+  nothing_left : (p : ℕ) (q r : Process S S) (qs : List (Process S S)) → slice_get qs p ≡ Some q
+      → slice_get (change_at p (λ _. turn_used q) qs) p ≡ Some r
       → length q.levels ≡ 0 → IsSpentOut r
   nothing_left p q r qs there e none =
       subst (λ (z : Process S S). IsSpentOut z)
@@ -44,7 +45,8 @@ module _ {S E P : Type 0} (x : Parts S E P) where
 
 module _ {S E P : Type 0} {x : Parts S E P} {Known : ℕ → Process S S → Type 0} (keeps : KeepsEach (whole x) Known) (laws : IsErasable x Known) where
   -- once process p was changed, still grounded
-  still_set : (p : ℕ) (q : Process S S) (w : World S S Nothing) → Grounded x Known w → IsGrounded x Known p q → StillGrounded x Known (with_process p (λ _. q) w)
+  still_set : (p : ℕ) (q : Process S S) (w : World S S Nothing) → Grounded x Known w → IsGrounded x Known p q
+      → StillGrounded x Known (with_process p (λ _. q) w)
   still_set p q w h new = record { each = set-grounded keeps laws p q w.processes h.each new; talks = h.talks }
 
   uses-grounded : (p : ℕ) (q : Process S S) (w : World S S Nothing) → Grounded x Known w → RunsAt p q w

@@ -32,7 +32,8 @@ module _ {S E P : Type 0} (x : Parts S E P) where
 
   -- what is said of the recovery points of these levels, and of a state that comes after them
   pub record AreOrdered (levels : List (Level S)) (s : S) : Type 0 where
-    pub in_order : (i j : ℕ) (outer inner : Level S) → i ≤ j → slice_get levels i ≡ Some outer → slice_get levels j ≡ Some inner → IsFront x outer.copy inner.copy
+    pub in_order : (i j : ℕ) (outer inner : Level S) → i ≤ j → slice_get levels i ≡ Some outer
+        → slice_get levels j ≡ Some inner → IsFront x outer.copy inner.copy
     pub before_now : (i : ℕ) (level : Level S) → slice_get levels i ≡ Some level → IsFront x level.copy s
     pub outermost : (level : Level S) → slice_get levels 0 ≡ Some level → x.held level.copy ≡ []
 
@@ -151,7 +152,8 @@ module _ {S E P : Type 0} {x : Parts S E P} {Known : ℕ → Process S S → Typ
 
   -- a step, and a test that held
   pub goes-grounded : (t p : ℕ) (q : Process S S) (w : World S S Nothing) (alternate : ℕ) (message : Option ℤ) (s : S) → IsGrounded x Known p q
-      → StepsAt (whole x) p q w alternate message → x.step alternate (option_map x.environment (copy_of (last_of q.levels))) q.state message ≡ Went s tt
+      → StepsAt (whole x) p q w alternate message
+      → x.step alternate (option_map x.environment (copy_of (last_of q.levels))) q.state message ≡ Went s tt
       → IsGrounded x Known p (settled (whole x) (x.keep t alternate s) q.levels)
   goes-grounded t p q w alternate message s h at went =
       settled-grounded p q q.levels (x.keep t alternate s) h (keeps.goes t p q w alternate message s tt h.known at went) (from_same q.levels)
@@ -175,7 +177,8 @@ module _ {S E P : Type 0} {x : Parts S E P} {Known : ℕ → Process S S → Typ
       → IsGrounded x Known p (stands_now (x.keep t alternate s) q.levels)
   stands-grounded t p q w alternate message s h at held =
       grounded_alive p (stands_now (x.keep t alternate s) q.levels) (keeps.stands t p q w alternate message s h.known at held)
-      (ordered_from x q.levels q.levels q.state (x.keep t alternate s) (from_same q.levels) (held_front t p q w alternate message s h at held) (ordered h))
+      (ordered_from x q.levels q.levels q.state (x.keep t alternate s) (from_same q.levels)
+      (held_front t p q w alternate message s h at held) (ordered h))
       refl
 
   leaves_if-grounded : (r c : ℕ) (q : Process S S) (there : Bool) → stands_at c q ≡ there → IsGrounded x Known r q
@@ -190,7 +193,9 @@ module _ {S E P : Type 0} {x : Parts S E P} {Known : ℕ → Process S S → Typ
   -- an entry; without a level nothing is held
   pub opens-grounded : (t p : ℕ) (q : Process S S) (w : World S S Nothing) (facts : Facts) (alternate : ℕ) → IsGrounded x Known p q → IsQuiet x p q
       → EntersAt (whole x) p q w facts alternate
-      → IsGrounded x Known p (goes_on (whole x) (x.keep t 0 (x.enter q.state)) (q.levels ++ new_level (whole x) facts alternate (x.keep t 0 (x.enter q.state)) ∷ []))
+      → IsGrounded x Known p
+      (goes_on (whole x) (x.keep t 0 (x.enter q.state))
+      (q.levels ++ new_level (whole x) facts alternate (x.keep t 0 (x.enter q.state)) ∷ []))
   opens-grounded t p q w facts alternate h quiet at =
       let s : S = x.keep t 0 (x.enter q.state) in
       let new : Level S = new_level (whole x) facts alternate s in
@@ -202,7 +207,8 @@ module _ {S E P : Type 0} {x : Parts S E P} {Known : ℕ → Process S S → Typ
       (status_at-whole (x.want s))
 
   -- a process that holds no line fails
-  pub falls-grounded : (r : ℕ) (q : Process S S) (cause : Cause) → IsGrounded x Known r q → x.held q.state ≡ [] → IsGrounded x Known r (fallen (whole x) cause q)
+  pub falls-grounded : (r : ℕ) (q : Process S S) (cause : Cause) → IsGrounded x Known r q → x.held q.state ≡ []
+      → IsGrounded x Known r (fallen (whole x) cause q)
   falls-grounded r q cause h none = record {
     known = keeps.falls r q cause h.known;
     in_order = λ i j outer inner le a b. absurd (none_some a);

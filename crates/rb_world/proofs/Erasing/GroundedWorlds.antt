@@ -88,10 +88,12 @@ module _ {S E P : Type 0} {x : Parts S E P} {Known : ℕ → Process S S → Typ
   EachGrounded qs = Each (IsGrounded x Known) qs
 
   -- one process gets a new state
-  pub set-grounded : (p : ℕ) (q : Process S S) (qs : List (Process S S)) → EachGrounded qs → IsGrounded x Known p q → EachGrounded (change_at p (λ _. q) qs)
+  pub set-grounded : (p : ℕ) (q : Process S S) (qs : List (Process S S)) → EachGrounded qs → IsGrounded x Known p q
+      → EachGrounded (change_at p (λ _. q) qs)
   set-grounded p q qs each new = Each-change_at (IsGrounded x Known) p (λ _. q) qs each (λ _ _. new)
 
-  place-grounded : (r : ℕ) (place : Option ℕ) (q : Process S S) → IsGrounded x Known r q → IsGrounded x Known r (at_place (put_back (whole x)) place q)
+  place-grounded : (r : ℕ) (place : Option ℕ) (q : Process S S) → IsGrounded x Known r q
+      → IsGrounded x Known r (at_place (put_back (whole x)) place q)
   place-grounded r None q h = h
   place-grounded r (Some j) q h = back-grounded keeps laws r j q h
 
@@ -117,7 +119,8 @@ module _ {S E P : Type 0} {x : Parts S E P} {Known : ℕ → Process S S → Typ
   back_outermost r c j q h alone at =
       ap (λ (o : Option (Level S)). x.held (back_to (whole x) j q o).state) at.there
       ∙ h.outermost at.level
-      (subst (λ (n : ℕ). slice_get q.levels n ≡ Some at.level) (subst (λ (o : Option ℕ). HasOutside o q.levels j) alone (laws.nested r q h.known j c at)) at.there)
+      (subst (λ (n : ℕ). slice_get q.levels n ≡ Some at.level)
+      (subst (λ (o : Option ℕ). HasOutside o q.levels j) alone (laws.nested r q h.known j c at)) at.there)
 
   place-empty : (r c : ℕ) (q : Process S S) (place : Option ℕ) → IsGrounded x Known r q → parent_of (slice_get x.groups c) ≡ None
       → position (is_of c) q.levels ≡ place → IsEmptyInside c r (at_place (put_back (whole x)) place q)

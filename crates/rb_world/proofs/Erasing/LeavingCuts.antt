@@ -39,9 +39,11 @@ level_at_line c z stands =
 pub level_before : {S : Type 0} (c d i : ℕ) (z : Process S S) → stands_at c z ≡ true → IsLevelOf d z.levels i
     → ((i ≡ length (without_last z.levels)) × (d ≡ c)) ⊎ IsLevelOf d (without_last z.levels) i
 level_before c d i z stands l =
-    either (last_or_before d i z.levels (stands_last c z stands).last (stands_last c z stands).is_last l (nat_lt i (length (without_last z.levels))) refl)
+    either (last_or_before d i z.levels (stands_last c z stands).last (stands_last c z stands).is_last l
+    (nat_lt i (length (without_last z.levels))) refl)
   where
-    either : ((i ≡ length (without_last z.levels)) × ((stands_last c z stands).last.facts.conversation ≡ Some d)) ⊎ IsLevelOf d (without_last z.levels) i
+    either : ((i ≡ length (without_last z.levels)) × ((stands_last c z stands).last.facts.conversation ≡ Some d))
+        ⊎ IsLevelOf d (without_last z.levels) i
         → ((i ≡ length (without_last z.levels)) × (d ≡ c)) ⊎ IsLevelOf d (without_last z.levels) i
     either (inl h) = inl (h.0, some_same (sym h.1 ∙ (stands_last c z stands).of_it))
     either (inr h) = inr h
@@ -65,7 +67,8 @@ module _ {S E P : Type 0} (x : Parts S E P) (c : ℕ) where
       (slice_get-map (leaves (whole x) c) qs other ∙ ap (option_map (leaves (whole x) c)) e') l l'
 
   -- a level that is left after leaving
-  pub left_level : (d i : ℕ) (z : Process S S) → stands_at c z ≡ true → IsLevelOf d (without_last z.levels) i → IsLevelOf d (leaves (whole x) c z).levels i
+  pub left_level : (d i : ℕ) (z : Process S S) → stands_at c z ≡ true → IsLevelOf d (without_last z.levels) i
+      → IsLevelOf d (leaves (whole x) c z).levels i
   left_level d i z stands l = subst (λ (a : Process S S). IsLevelOf d a.levels i) (sym (leaves_goes z stands)) l
 
   -- a level of one that stays

@@ -28,13 +28,16 @@ use Rattle.rb_world.proofs.Erasing.AllOrNoneLeave.{StandsThere, before_leaving, 
 use Rattle.rb_world.proofs.Erasing.AllLeaveUnseen.{quiet_leaves, unseen_leaves}
 use Rattle.rb_world.proofs.Erasing.AllLeaveInPlainRun.{all_pass, all_stand_plainly, kept_leaves, leaves_kept, leaves_mail}
 
-module _ {S E P : Type 0} (x : Parts S E P) (Known : ℕ → Process S S → Type 0) (laws : IsErasable x Known) (keeps : KeepsEach (whole x) Known) (start : World S P Nothing) where
-  module _ (t : ℕ) (past : List Told) (p : ℕ) (q : Process S S) (w : World S S Nothing) (alternate : ℕ) (message : Option ℤ) (s : S) (level : Level S) (c : ℕ) where
+module _ {S E P : Type 0} (x : Parts S E P) (Known : ℕ → Process S S → Type 0) (laws : IsErasable x Known)
+    (keeps : KeepsEach (whole x) Known) (start : World S P Nothing) where
+  module _ (t : ℕ) (past : List Told) (p : ℕ) (q : Process S S) (w : World S S Nothing) (alternate : ℕ) (message : Option ℤ)
+      (s : S) (level : Level S) (c : ℕ) where
     -- the world with p at the line
     abbrev at_line : World S S Nothing
     at_line = with_process p (λ _. at_line_now x t alternate s q) w
 
-    module _ (ground : GroundedWithin x Known p (length q.levels) w) (old : AllShown x start t past w) (at : StepsAt (whole x) p q w alternate message)
+    module _ (ground : GroundedWithin x Known p (length q.levels) w) (old : AllShown x start t past w)
+        (at : StepsAt (whole x) p q w alternate message)
         (e : x.step alternate (option_map x.environment (copy_of (last_of q.levels))) q.state message ≡ Held s)
         (last : last_of q.levels ≡ Some level) (of_c : level.facts.conversation ≡ Some c) (all : all_stand (whole x) c at_line ≡ true) where
       known_here : Known p q
@@ -48,7 +51,8 @@ module _ {S E P : Type 0} (x : Parts S E P) (Known : ℕ → Process S S → Typ
       -- p stands there
       here_at_line : StandsThere c p at_line.processes (at_line_now x t alternate s q)
       here_at_line = record {
-        there = slice_get-change_at p (λ _. at_line_now x t alternate s q) w.processes ∙ ap (option_map (λ _. at_line_now x t alternate s q)) at.acts.runs.there;
+        there = slice_get-change_at p (λ _. at_line_now x t alternate s q) w.processes
+            ∙ ap (option_map (λ _. at_line_now x t alternate s q)) at.acts.runs.there;
         stands = ap (is_last_of c) last ∙ ap (λ (d : Option ℕ). is_number d c) of_c ∙ eq-eqb c c refl;
       }
 
@@ -63,10 +67,12 @@ module _ {S E P : Type 0} (x : Parts S E P) (Known : ℕ → Process S S → Typ
           (λ _ _ bare. absurd (last_not_bare x q level last bare))
 
       -- a cut that shows p further out does not see it come to the line
-      unseen_at_line : (f : ℕ → ℕ) (us : List (Process S P)) → f p < length (without_last q.levels) → Shows x f w.processes us → Shows x f at_line.processes us
+      unseen_at_line : (f : ℕ → ℕ) (us : List (Process S P)) → f p < length (without_last q.levels)
+          → Shows x f w.processes us → Shows x f at_line.processes us
       unseen_at_line f us h shows =
           one_same x start p f q (at_line_now x t alternate s q) w.processes us at.acts.runs.there at.acts.runs.running refl
-          (shown_outside x (f p) q (at_line_now x t alternate s q) [] (omega (arith, h, length-with_last q.levels level last)) (sym (append-nil q.levels))
+          (shown_outside x (f p) q (at_line_now x t alternate s q) []
+          (omega (arith, h, length-with_last q.levels level last)) (sym (append-nil q.levels))
           (sym at.acts.runs.running)) shows
 
       -- the plain run does the same, where the cut before shows p as it is
@@ -77,7 +83,8 @@ module _ {S E P : Type 0} (x : Parts S E P) (Known : ℕ → Process S S → Typ
       turn_kept f g v erased shows here all' shows' =
           let runs = at.acts.runs in
           let held = held_at x Known laws p q w alternate message s known_here at e in
-          let there' : slice_get v.processes p ≡ Some (as_is x q) = present_there x g p q w.processes v.processes shows runs.there runs.running here in
+          let there' : slice_get v.processes p ≡ Some (as_is x q) =
+          present_there x g p q w.processes v.processes shows runs.there runs.running here in
           let line : World S P Nothing = line_plain x t p alternate s q v in
           record {
             old = v;
@@ -91,13 +98,16 @@ module _ {S E P : Type 0} (x : Parts S E P) (Known : ℕ → Process S S → Typ
             shows = shows';
             keeps = map-unseen (λ (u : Process S P). x.kept u.state) (leaves (plain x) c) line.processes
                 (λ u. leaves_kept x c (λ a. (laws.settles a).kept) u (stands_at c u) refl)
-                ∙ map-change_at (λ (u : Process S P). x.kept u.state) p (as_is x (at_line_now x t alternate s q)) (λ turns. turns ++ (t, alternate) ∷ [])
+                ∙ map-change_at (λ (u : Process S P). x.kept u.state) p (as_is x (at_line_now x t alternate s q))
+                (λ turns. turns ++ (t, alternate) ∷ [])
                 v.processes (as_is x q) there' (held_kept x Known laws t p alternate q w s held);
             here = slice_get_within v.processes p (as_is x q) there';
             sent = sent_kept x v (all_leave (plain x) c line)
                 (mail_both x v.processes line.processes (map (leaves (plain x) c) line.processes)
-                (mail_changed x p (as_is x q) (as_is x (at_line_now x t alternate s q)) v.processes there' (held_mail x Known laws t p alternate q w s held))
-                (mail_mapped x (leaves (plain x) c) line.processes (λ u. leaves_mail x c (λ a. (laws.settles a).mail) u (stands_at c u) refl))) erased.sent;
+                (mail_changed x p (as_is x q) (as_is x (at_line_now x t alternate s q)) v.processes there'
+                (held_mail x Known laws t p alternate q w s held))
+                (mail_mapped x (leaves (plain x) c) line.processes
+                (λ u. leaves_mail x c (λ a. (laws.settles a).mail) u (stands_at c u) refl))) erased.sent;
           }
 
       module _ (f : ℕ → ℕ) (consistent : IsConsistent f (map (leaves (whole x) c) at_line.processes)) where
@@ -116,19 +126,22 @@ module _ {S E P : Type 0} (x : Parts S E P) (Known : ℕ → Process S S → Typ
         all_here : length (without_last q.levels) ≤ f p → ShowsAfter x start t past (all_leave (whole x) c at_line) f
         all_here h =
             let here : (r : ℕ) (z : Process S S) → StandsThere c r at_line.processes z → length (without_last z.levels) ≤ f r =
-            λ r z two. all_present x Known laws c at_line.processes known_at_line f consistent p (at_line_now x t alternate s q) here_at_line h r z two
+            λ r z two. all_present x Known laws c at_line.processes known_at_line f consistent p
+            (at_line_now x t alternate s q) here_at_line h r z two
             (nat_lt (f r) (length (without_last z.levels))) refl in
             let g : ℕ → ℕ = before_leaving c at_line.processes f in
             let shows = old g (before_line g (present_before x Known laws c at_line.processes known_at_line f consistent here all)) in
             let here' : length q.levels ≤ g p = le_trans (le_of_eq (length-with_last q.levels level last)) (le_trans (suc-le-suc h)
             (le_of_eq (sym (leaving_at c p at_line.processes f (at_line_now x t alternate s q) true here_at_line.there here_at_line.stands)))) in
-            let line = one_shows x start p g g (at_line_now x t alternate s q) (as_is x (at_line_now x t alternate s q)) w.processes shows.world.processes
+            let line = one_shows x start p g g (at_line_now x t alternate s q)
+            (as_is x (at_line_now x t alternate s q)) w.processes shows.world.processes
             (λ _ _. refl) (line_shown x t alternate (g p) s q here') shows.shows in
             TurnKept (turn_kept f g shows.world shows.erased shows.shows here'
             (all_stand_plainly x Known laws c at_line.processes known_at_line f here (line_plain x t p alternate s q shows.world) line all)
             (kept_leaves x Known laws c at_line.processes known_at_line f here (line_plain x t p alternate s q shows.world).processes line))
 
-        leaves_shown : (outside : Bool) → nat_lt (f p) (length (without_last q.levels)) ≡ outside → ShowsAfter x start t past (all_leave (whole x) c at_line) f
+        leaves_shown : (outside : Bool) → nat_lt (f p) (length (without_last q.levels)) ≡ outside
+            → ShowsAfter x start t past (all_leave (whole x) c at_line) f
         leaves_shown true h = all_outside (ltb-true (f p) (length (without_last q.levels)) h)
         leaves_shown false h = all_here (ltb-false (f p) (length (without_last q.levels)) h)
 

@@ -43,7 +43,8 @@ module _ {S E P : Type 0} (x : Parts S E P) where
   KeepsMail {C} us vs = (r : ℕ) (u : Process S C) → slice_get vs r ≡ Some u → HasMail r u us
 
   -- one process changes
-  pub mail_changed : {C : Type 0} (p : ℕ) (old new : Process S C) (us : List (Process S C)) → slice_get us p ≡ Some old → SameMail x old.state new.state
+  pub mail_changed : {C : Type 0} (p : ℕ) (old new : Process S C) (us : List (Process S C)) → slice_get us p ≡ Some old
+      → SameMail x old.state new.state
       → KeepsMail us (change_at p (λ _. new) us)
   mail_changed p old new [] e mail r v there = absurd (none_some there)
   mail_changed zero old new (u ∷ us) e mail zero v there = record {

@@ -37,7 +37,8 @@ module _ {S E P : Type 0} (x : Parts S E P) where
   back_to_away j q None away = away
   back_to_away j q (Some level) away = λ none. refl
 
-  at_place_away : (f : ℕ → Process S S → Process S S) (place : Option ℕ) (q : Process S S) → ((j : ℕ) → IsAway 0 q → IsAway 0 (f j q)) → IsAway 0 q → IsAway 0 (at_place f place q)
+  at_place_away : (f : ℕ → Process S S → Process S S) (place : Option ℕ) (q : Process S S)
+      → ((j : ℕ) → IsAway 0 q → IsAway 0 (f j q)) → IsAway 0 q → IsAway 0 (at_place f place q)
   at_place_away f None q one away = away
   at_place_away f (Some j) q one away = one j away
 
@@ -52,15 +53,18 @@ module _ {S E P : Type 0} (x : Parts S E P) where
   leaves_away q true away = λ none. refl
   leaves_away q false away = away
 
-  each_inside_away : (f : ℕ → Process S S → Process S S) (c : ℕ) (qs : List (Process S S)) → ((j : ℕ) (q : Process S S) → IsAway 0 q → IsAway 0 (f j q))
+  each_inside_away : (f : ℕ → Process S S → Process S S) (c : ℕ) (qs : List (Process S S))
+      → ((j : ℕ) (q : Process S S) → IsAway 0 q → IsAway 0 (f j q))
       → Each IsAway qs → Each IsAway (map (where_inside f c) qs)
-  each_inside_away f c qs one each = Each-map IsAway (where_inside f c) qs each (λ r q at. at_place_away f (position (is_of c) q.levels) q (λ j. one j q))
+  each_inside_away f c qs one each =
+      Each-map IsAway (where_inside f c) qs each (λ r q at. at_place_away f (position (is_of c) q.levels) q (λ j. one j q))
 
   put_back_away : (j : ℕ) (q : Process S S) → IsAway 0 q → IsAway 0 (put_back (whole x) j q)
   put_back_away j q = back_to_away j q (slice_get q.levels j)
 
   -- the one level of a process that went back to it
-  last_private : (p j : ℕ) (q q' : Process S S) (w : World S S Nothing) (level last : Level S) → RejectsAt p q w j level → level.facts.conversation ≡ None → j ≡ 0
+  last_private : (p j : ℕ) (q q' : Process S S) (w : World S S Nothing) (level last : Level S) → RejectsAt p q w j level
+      → level.facts.conversation ≡ None → j ≡ 0
       → slice_get (change_at p (put_back (whole x) j) w.processes) p ≡ Some q' → q'.levels ≡ last ∷ [] → last.facts.conversation ≡ None
   last_private p j q q' w level last rejects private none there one =
       let now : q' ≡ back_to (whole x) j q (Some level) =
@@ -70,20 +74,23 @@ module _ {S E P : Type 0} (x : Parts S E P) where
 
 module _ {S E P : Type 0} (x : Parts S E P) (Known : ℕ → Process S S → Type 0) (laws : IsErasable x Known) where
   -- who has no level is not counted in
-  used_up : (p : ℕ) (q q' : Process S S) (w : World S S Nothing) → slice_get w.processes p ≡ Some q → slice_get (change_at p (λ _. turn_used q) w.processes) p ≡ Some q'
+  used_up : (p : ℕ) (q q' : Process S S) (w : World S S Nothing) → slice_get w.processes p ≡ Some q
+      → slice_get (change_at p (λ _. turn_used q) w.processes) p ≡ Some q'
       → IsLastPrivate (length q.levels) q'
   used_up p q q' w at there none level one =
       let now : q' ≡ turn_used q = who_changed p (λ _. turn_used q) w.processes q q' at there in
       absurd (suc-ne-zero 0 (sym (ap length (ap (λ (z : Process S S). z.levels) (sym now) ∙ one)) ∙ (length-map q.levels one_used ∙ none)))
 
   -- a conversation that lies in another has no outermost level
-  not_outermost : (p j c parent : ℕ) (q : Process S S) (w : World S S Nothing) (level : Level S) → Grounded x Known w → RejectsAt p q w j level → level.facts.conversation ≡ Some c
+  not_outermost : (p j c parent : ℕ) (q : Process S S) (w : World S S Nothing) (level : Level S) → Grounded x Known w
+      → RejectsAt p q w j level → level.facts.conversation ≡ Some c
       → parent_of (slice_get x.groups c) ≡ Some parent → j ≡ 0 → ⊥
   not_outermost p j c parent q w level ground rejects of_c within none =
       subst (HasOutside (Some parent) q.levels) none (subst (λ (o : Option ℕ). HasOutside o q.levels j) within
       (laws.nested p q (ground.each p q rejects.runs.there).known j c (record { level = level; there = rejects.place; of_it = of_c })))
 
-  pub away_kept : IsInvariantUnder (whole x) (GroundedBefore x Known) (GroundedDuring x Known) (GroundedAfter x Known) AwayBetween AwayWithin AwayBetween
+  pub away_kept : IsInvariantUnder (whole x) (GroundedBefore x Known) (GroundedDuring x Known)
+      (GroundedAfter x Known) AwayBetween AwayWithin AwayBetween
   away_kept = record {
     rests = λ t past w h. h.1;
     uses = λ t past p q w h runs. (
@@ -100,13 +107,15 @@ module _ {S E P : Type 0} (x : Parts S E P) (Known : ℕ → Process S S → Typ
     leaves = λ t past p q w a v s l c h at e last of_c all.
         let qs : List (Process S S) = change_at p (λ _. stands_now (x.keep t a s) q.levels) w.processes in
         Each-map IsAway (leaves (whole x) c) qs
-        (Each-change_at IsAway p (λ _. stands_now (x.keep t a s) q.levels) w.processes h.1.0 (λ _ _ none. absurd (none_some (sym (ap last_of none) ∙ last))))
+        (Each-change_at IsAway p (λ _. stands_now (x.keep t a s) q.levels) w.processes h.1.0
+        (λ _ _ none. absurd (none_some (sym (ap last_of none) ∙ last))))
         (λ r q' _. leaves_away x q' (stands_at c q'));
     falls = λ t past p q w left cause h runs why. Each-change_at IsAway p (fallen (whole x) cause) w.processes h.1.0 (λ _ _ none. refl);
     tries_next = λ t past p q w j l h rejects private more.
         Each-change_at IsAway p (raised j) (change_at p (put_back (whole x) j) w.processes)
         (Each-change_at IsAway p (put_back (whole x) j) w.processes h.1.0 (λ q' at. put_back_away x j q' (h.1.0 p q' at)))
-        (λ q' at. raised_away x j q' (Each-change_at IsAway p (put_back (whole x) j) w.processes h.1.0 (λ z there. put_back_away x j z (h.1.0 p z there)) p q' at));
+        (λ q' at. raised_away x j q'
+        (Each-change_at IsAway p (put_back (whole x) j) w.processes h.1.0 (λ z there. put_back_away x j z (h.1.0 p z there)) p q' at));
     is_spent = λ t past p q w j l h rejects private spent. (
       Each-change_at IsAway p (put_back (whole x) j) w.processes h.1.0 (λ q' at. put_back_away x j q' (h.1.0 p q' at)),
       λ q' there none last one. last_private x p j q q' w l last rejects private none there one,

@@ -33,7 +33,8 @@ same_levels : {S C : Type 0} (p : ℕ) (a b : Process S C) (qs : List (Process S
     → (r : ℕ) (one : Process S C) → slice_get qs r ≡ Some one
     → (other : Process S C) × (slice_get (change_at p (λ _. b) qs) r ≡ Some other) × (other.levels ≡ one.levels)
 same_levels p a b [] there same r one e = absurd (none_some there)
-same_levels {S} {C} zero a b (q ∷ qs) there same zero one e = (b, refl, same ∙ ap (λ (z : Process S C). z.levels) (sym (some_same there) ∙ some_same e))
+same_levels {S} {C} zero a b (q ∷ qs) there same zero one e =
+    (b, refl, same ∙ ap (λ (z : Process S C). z.levels) (sym (some_same there) ∙ some_same e))
 same_levels zero a b (q ∷ qs) there same (suc r) one e = (one, e, refl)
 same_levels (suc p) a b (q ∷ qs) there same zero one e = (one, e, refl)
 same_levels (suc p) a b (q ∷ qs) there same (suc r) one e = same_levels p a b qs there same r one e
@@ -57,7 +58,8 @@ module _ {S E P C : Type 0} (x : Parts S E P) where
   -- nobody has taken more than was sent, once a process has sent no less, and taken no more than was sent
   pub sent_after : (p : ℕ) (a b : Process S C) (v : World S C Nothing) → slice_get v.processes p ≡ Some a → AreSent x v
       → ((c : ℕ) (ends : Ends) → slice_get x.channels c ≡ Some ends → x.sent a.state c ≤ x.sent b.state c)
-      → ((c : ℕ) (ends : Ends) (sender : Process S C) → slice_get x.channels c ≡ Some ends → ends.receiver ≡ p → slice_get v.processes ends.sender ≡ Some sender
+      → ((c : ℕ) (ends : Ends) (sender : Process S C) → slice_get x.channels c ≡ Some ends → ends.receiver ≡ p
+      → slice_get v.processes ends.sender ≡ Some sender
       → x.taken b.state c ≤ x.sent sender.state c)
       → AreSent x (with_process p (λ _. b) v)
   sent_after p a b v there before sends takes c ends sender receiver channel is_sender is_receiver =
@@ -66,11 +68,13 @@ module _ {S E P C : Type 0} (x : Parts S E P) where
       new_sender : ends.sender ≡ p → sender ≡ b → x.sent a.state c ≤ x.sent sender.state c
       new_sender at new = subst (λ (z : Process S C). x.sent a.state c ≤ x.sent z.state c) (sym new) (sends c ends channel)
 
-      new_receiver : (one : Process S C) → ends.receiver ≡ p → receiver ≡ b → slice_get v.processes ends.sender ≡ Some one → x.taken receiver.state c ≤ x.sent one.state c
+      new_receiver : (one : Process S C) → ends.receiver ≡ p → receiver ≡ b → slice_get v.processes ends.sender ≡ Some one
+          → x.taken receiver.state c ≤ x.sent one.state c
       new_receiver one at new old = subst (λ (z : Process S C). x.taken z.state c ≤ x.sent one.state c) (sym new) (takes c ends one channel at old)
 
       either : ((ends.sender ≡ p) × (sender ≡ b)) ⊎ (slice_get v.processes ends.sender ≡ Some sender)
-          → ((ends.receiver ≡ p) × (receiver ≡ b)) ⊎ (slice_get v.processes ends.receiver ≡ Some receiver) → x.taken receiver.state c ≤ x.sent sender.state c
+          → ((ends.receiver ≡ p) × (receiver ≡ b)) ⊎ (slice_get v.processes ends.receiver ≡ Some receiver)
+          → x.taken receiver.state c ≤ x.sent sender.state c
       either (inr old) (inr old2) = before c ends sender receiver channel old old2
       either (inr old) (inl (at, new)) = new_receiver sender at new old
       either (inl (at, new)) (inr old) = le_trans (before c ends a receiver channel (ap (slice_get v.processes) at ∙ there) old) (new_sender at new)

@@ -53,11 +53,13 @@ option_twice : {A : Type 0} (f g : A → A) (o : Option A) → option_map g (opt
 option_twice f g None = refl
 option_twice f g (Some x) = refl
 
-pub is_changed_twice : {A : Type 0} (F G : ℕ → A → A) (xs ys zs : List A) → IsChanged F xs ys → IsChanged G ys zs → IsChanged (λ r x. G r (F r x)) xs zs
+pub is_changed_twice : {A : Type 0} (F G : ℕ → A → A) (xs ys zs : List A) → IsChanged F xs ys → IsChanged G ys zs
+    → IsChanged (λ r x. G r (F r x)) xs zs
 is_changed_twice F G xs ys zs one two r = two r ∙ (ap (option_map (G r)) (one r) ∙ option_twice (F r) (G r) (slice_get xs r))
 
 -- the same plain world shows another cut of the world after a change
-pub shows_changed : {S E P : Type 0} (x : Parts S E P) (g f : ℕ → ℕ) (F : ℕ → Process S S → Process S S) (qs qs' : List (Process S S)) (us : List (Process S P))
+pub shows_changed : {S E P : Type 0} (x : Parts S E P) (g f : ℕ → ℕ) (F : ℕ → Process S S → Process S S)
+    (qs qs' : List (Process S S)) (us : List (Process S P))
     → IsChanged F qs qs'
     → ((r : ℕ) (q : Process S S) (u : Process S P) → slice_get qs r ≡ Some q → ShowsOne x (g r) q u → ShowsOne x (f r) (F r q) u)
     → Shows x g qs us → Shows x f qs' us

@@ -36,22 +36,26 @@ alone_by x j true o = refl
 alone_by x j false o = refl
 
 -- the world after one process went back alone
-pub alone_changed : {S E P : Type 0} (x : Parts S E P) (p j : ℕ) (qs : List (Process S S)) → IsChanged (back_at x (alone_at p j)) qs (change_at p (put_back (whole x) j) qs)
+pub alone_changed : {S E P : Type 0} (x : Parts S E P) (p j : ℕ) (qs : List (Process S S))
+    → IsChanged (back_at x (alone_at p j)) qs (change_at p (put_back (whole x) j) qs)
 alone_changed x p j qs r = is_changed_at p (put_back (whole x) j) qs r ∙ alone_by x j (nat_eq r p) (slice_get qs r)
 
 -- it goes back to a level of no conversation
-private_not_of : {C : Type 0} (c i : ℕ) (levels : List (Level C)) (level : Level C) → slice_get levels i ≡ Some level → level.facts.conversation ≡ None
+private_not_of : {C : Type 0} (c i : ℕ) (levels : List (Level C)) (level : Level C) → slice_get levels i ≡ Some level
+    → level.facts.conversation ≡ None
     → IsLevelOf c levels i → ⊥
 private_not_of {C} c i levels level there alone of_c =
     none_some (sym alone ∙ (ap (λ (l : Level C). l.facts.conversation) (some_same (sym there ∙ of_c.there)) ∙ of_c.of_it))
 
-alone_there : {S : Type 0} (p j r m : ℕ) (q q' : Process S S) (w : World S S Nothing) (level : Level S) → RejectsAt p q w j level → slice_get w.processes r ≡ Some q'
+alone_there : {S : Type 0} (p j r m : ℕ) (q q' : Process S S) (w : World S S Nothing) (level : Level S)
+    → RejectsAt p q w j level → slice_get w.processes r ≡ Some q'
     → (r ≡ p) × (j ≡ m) → slice_get q'.levels m ≡ Some level
 alone_there {S} p j r m q q' w level rejects at (same, is) =
     let who : q ≡ q' = some_same (sym rejects.runs.there ∙ (ap (slice_get w.processes) (sym same) ∙ at)) in
     ap (slice_get q'.levels) (sym is) ∙ (ap (λ (z : Process S S). slice_get z.levels j) (sym who) ∙ rejects.place)
 
-pub alone_line : {S : Type 0} (p j : ℕ) (q : Process S S) (w : World S S Nothing) (level : Level S) → RejectsAt p q w j level → level.facts.conversation ≡ None
+pub alone_line : {S : Type 0} (p j : ℕ) (q : Process S S) (w : World S S Nothing) (level : Level S)
+    → RejectsAt p q w j level → level.facts.conversation ≡ None
     → AreLine (alone_at p j) w.processes
 alone_line p j q w level rejects private = record {
   there = λ r m q' at is. (level, alone_there p j r m q q' w level rejects at (alone_is p j r m (nat_eq r p) refl is));
@@ -68,7 +72,8 @@ found_by test xs i e (inr (past, none)) =
     let found = cond_some (nat_lt (position_or_len test xs) (length xs)) (position_or_len test xs) i e in
     absurd (omega (arith, past, ltb-true (position_or_len test xs) (length xs) found.0, found.1))
 
-pub found_at : {A : Type 0} (test : A → Bool) (xs : List A) (i : ℕ) → position test xs ≡ Some i → (x : A) × (slice_get xs i ≡ Some x) × (test x ≡ true)
+pub found_at : {A : Type 0} (test : A → Bool) (xs : List A) (i : ℕ) → position test xs ≡ Some i
+    → (x : A) × (slice_get xs i ≡ Some x) × (test x ≡ true)
 found_at test xs i e = found_by test xs i e (slice_get_cases xs i).1
 
 first_up_to : {A : Type 0} (test : A → Bool) (xs : List A) (i : ℕ) (x : A) → slice_get xs i ≡ Some x → test x ≡ true → position_or_len test xs ≤ i
@@ -78,11 +83,13 @@ first_up_to test (y ∷ xs) zero x there holds =
     subst (λ (b : Bool). cond (not b) (1 + position_or_len test xs) 0 ≤ 0) (sym now) (omega arith)
 first_up_to test (y ∷ xs) (suc i) x there holds = first_later test xs i (test y) (first_up_to test xs i x there holds)
   where
-    first_later : {A : Type 0} (test : A → Bool) (xs : List A) (i : ℕ) (now : Bool) → position_or_len test xs ≤ i → cond (not now) (1 + position_or_len test xs) 0 ≤ suc i
+    first_later : {A : Type 0} (test : A → Bool) (xs : List A) (i : ℕ) (now : Bool) → position_or_len test xs ≤ i
+        → cond (not now) (1 + position_or_len test xs) 0 ≤ suc i
     first_later test xs i true few = omega arith
     first_later test xs i false few = omega (arith, few)
 
-pub position_up_to : {A : Type 0} (test : A → Bool) (xs : List A) (i : ℕ) (x : A) → slice_get xs i ≡ Some x → test x ≡ true → IsUpTo (position test xs) i
+pub position_up_to : {A : Type 0} (test : A → Bool) (xs : List A) (i : ℕ) (x : A) → slice_get xs i ≡ Some x → test x ≡ true
+    → IsUpTo (position test xs) i
 position_up_to test xs i x there holds =
     let few : position_or_len test xs ≤ i = first_up_to test xs i x there holds in
     subst (λ (b : Bool). IsUpTo (cond b (Some (position_or_len test xs)) None) i)

@@ -20,7 +20,8 @@ BothShown x n (Some q) None = ⊥
 BothShown x n (Some q) (Some u) = ShowsOne x n q u
 
 -- q is process p of w and runs; the cut f of w, which v shows, has p as it is
-pub record IsPresent {S E P : Type 0} (x : Parts S E P) (Known : ℕ → Process S S → Type 0) (f : ℕ → ℕ) (p : ℕ) (q : Process S S) (w : World S S Nothing) (v : World S P Nothing) : Type 0 where
+pub record IsPresent {S E P : Type 0} (x : Parts S E P) (Known : ℕ → Process S S → Type 0) (f : ℕ → ℕ) (p : ℕ)
+    (q : Process S S) (w : World S S Nothing) (v : World S P Nothing) : Type 0 where
   pub there : slice_get w.processes p ≡ Some q
   pub running : q.status ≡ Running
   pub present : length q.levels ≤ f p

@@ -27,8 +27,10 @@ pub record IsUnshared {C : Type 0} (ls ms : List (Level C)) (copy : C) : Type 0 
   pub same : level.copy ≡ copy
   pub apart : (m : Level C) → slice_get ms number ≡ Some m → is_shared level.facts.conversation m.facts.conversation ≡ false
 
-unshared_if : {C : Type 0} (l m : Level C) (ls ms : List (Level C)) (copy : C) (shared : Bool) → is_shared l.facts.conversation m.facts.conversation ≡ shared
-    → (seen_copy ls ms ≡ Some copy → IsUnshared ls ms copy) → cond shared (seen_copy ls ms) (Some l.copy) ≡ Some copy → IsUnshared (l ∷ ls) (m ∷ ms) copy
+unshared_if : {C : Type 0} (l m : Level C) (ls ms : List (Level C)) (copy : C) (shared : Bool)
+    → is_shared l.facts.conversation m.facts.conversation ≡ shared
+    → (seen_copy ls ms ≡ Some copy → IsUnshared ls ms copy) → cond shared (seen_copy ls ms) (Some l.copy) ≡ Some copy
+    → IsUnshared (l ∷ ls) (m ∷ ms) copy
 unshared_if l m ls ms copy true e rest seen =
     let found = rest seen in
     record { number = suc found.number; level = found.level; there = found.there; same = found.same; apart = found.apart }
@@ -58,9 +60,11 @@ at_levels_of d qs r = unwrap_or (position (is_of d) (levels_of (slice_get qs r))
 module _ {S E P : Type 0} {x : Parts S E P} {Known : ℕ → Process S S → Type 0} (laws : IsErasable x Known) (qs : List (Process S S))
     (each : Each (IsGrounded x Known) qs) (shallow : Each IsShallow qs) where
   -- at a level of it is who is inside; nobody else is at a level
-  shown_by : (d r : ℕ) (q : Process S S) → slice_get qs r ≡ Some q → (place : Option ℕ) → position (is_of d) q.levels ≡ place → at_levels_of d qs r ≡ unwrap_or place most_levels
+  shown_by : (d r : ℕ) (q : Process S S) → slice_get qs r ≡ Some q → (place : Option ℕ)
+      → position (is_of d) q.levels ≡ place → at_levels_of d qs r ≡ unwrap_or place most_levels
   shown_by d r q e place at =
-      ap (λ (o : Option (Process S S)). unwrap_or (position (is_of d) (levels_of o)) most_levels) e ∙ ap (λ (o : Option ℕ). unwrap_or o most_levels) at
+      ap (λ (o : Option (Process S S)). unwrap_or (position (is_of d) (levels_of o)) most_levels) e
+      ∙ ap (λ (o : Option ℕ). unwrap_or o most_levels) at
 
   no_level : (r : ℕ) (q : Process S S) (level : Level S) → slice_get qs r ≡ Some q → slice_get q.levels most_levels ≡ Some level → ⊥
   no_level r q level e there = some_none (sym there ∙ all_present qs shallow r q e)
@@ -90,7 +94,8 @@ module _ {S E P : Type 0} {x : Parts S E P} {Known : ℕ → Process S S → Typ
 
   -- The cut that shows one process at a private level, and all others as they are.
   private_level : (p i r c : ℕ) (sender q : Process S S) (level : Level S) → slice_get qs p ≡ Some sender → slice_get sender.levels i ≡ Some level
-      → level.facts.conversation ≡ None → slice_get qs r ≡ Some q → (here : Bool) → nat_eq r p ≡ here → IsLevelOf c q.levels (cond here i most_levels) → ⊥
+      → level.facts.conversation ≡ None → slice_get qs r ≡ Some q → (here : Bool) → nat_eq r p ≡ here
+      → IsLevelOf c q.levels (cond here i most_levels) → ⊥
   private_level p i r c sender q level e there alone e' true same at =
       let q_is : q ≡ sender = some_same (sym e' ∙ ap (slice_get qs) (eqb-true r p same) ∙ e) in
       none_some (sym alone ∙ ap (λ (l : Level S). l.facts.conversation)
@@ -121,8 +126,10 @@ module _ {S E P : Type 0} {x : Parts S E P} {Known : ℕ → Process S S → Typ
       → ((u : Process S P) → ShowsOne x (f ends.receiver) receiver u → u.state ≡ r) → x.taken r c ≤ x.sent s c
   in_cut f s r consistent sends takes =
       let cut : ShowsCut x start shown.turn all w f = shown.shown f consistent in
-      let a : IsShown x (f ends.sender) ends.sender sender cut.world.processes = get_shown x f ends.sender w.processes cut.world.processes sender cut.shows there in
-      let b : IsShown x (f ends.receiver) ends.receiver receiver cut.world.processes = get_shown x f ends.receiver w.processes cut.world.processes receiver cut.shows there' in
+      let a : IsShown x (f ends.sender) ends.sender sender cut.world.processes =
+      get_shown x f ends.sender w.processes cut.world.processes sender cut.shows there in
+      let b : IsShown x (f ends.receiver) ends.receiver receiver cut.world.processes =
+      get_shown x f ends.receiver w.processes cut.world.processes receiver cut.shows there' in
       omega (
         arith,
         cut.erased.sent c ends a.process b.process channel a.there b.there,
@@ -136,11 +143,13 @@ module _ {S E P : Type 0} {x : Parts S E P} {Known : ℕ → Process S S → Typ
       (subst (λ (m : ℕ). slice_get receiver.levels m ≡ None) (sym e) (all_present w.processes shown.shallow ends.receiver receiver there'))
 
   -- the sender at its level
-  at_its_level : (n i : ℕ) (level : Level S) → n ≡ i → slice_get sender.levels i ≡ Some level → (u : Process S P) → ShowsOne x n sender u → u.state ≡ level.copy
+  at_its_level : (n i : ℕ) (level : Level S) → n ≡ i → slice_get sender.levels i ≡ Some level → (u : Process S P)
+      → ShowsOne x n sender u → u.state ≡ level.copy
   at_its_level n i level e at u one = state_at_level x n sender u level one
       (subst (λ (m : ℕ). slice_get sender.levels m ≡ Some level) (sym e) at) (shown.ground.each ends.sender sender there).bare
 
-  in_private : (i : ℕ) (level : Level S) → slice_get sender.levels i ≡ Some level → level.facts.conversation ≡ None → x.taken receiver.state c ≤ x.sent level.copy c
+  in_private : (i : ℕ) (level : Level S) → slice_get sender.levels i ≡ Some level → level.facts.conversation ≡ None
+      → x.taken receiver.state c ≤ x.sent level.copy c
   in_private i level at alone =
       in_cut (with_shown present ends.sender i) level.copy receiver.state
       (consistent_private laws w.processes shown.ground.each shown.shallow ends.sender i sender level there at alone)
@@ -182,7 +191,8 @@ module _ {S E P : Type 0} {x : Parts S E P} {Known : ℕ → Process S S → Typ
   in_either found i at apart None alone = in_private i found at alone
   in_either found i at apart (Some d) of_d = in_conversation i d found at of_d apart
 
-  receipt_seen : (copy : Option S) → seen_copy sender.levels receiver.levels ≡ copy → x.taken receiver.state c ≤ seen_count (whole x) sender.state copy c
+  receipt_seen : (copy : Option S) → seen_copy sender.levels receiver.levels ≡ copy
+      → x.taken receiver.state c ≤ seen_count (whole x) sender.state copy c
   receipt_seen None e =
       in_cut present sender.state receiver.state (consistent_present present w.processes (all_present w.processes shown.shallow))
       (λ u one. state_present x most_levels sender u one (all_present w.processes shown.shallow ends.sender sender there))
@@ -192,7 +202,8 @@ module _ {S E P : Type 0} {x : Parts S E P} {Known : ℕ → Process S S → Typ
       subst (λ (s : S). x.taken receiver.state c ≤ x.sent s c) found.same
       (in_either found.level found.number found.there found.apart found.level.facts.conversation refl)
 
-module _ {S E P : Type 0} {x : Parts S E P} {Known : ℕ → Process S S → Type 0} (keeps : KeepsEach (whole x) Known) (laws : IsErasable x Known) (two : AreBetweenTwo x.channels)
+module _ {S E P : Type 0} {x : Parts S E P} {Known : ℕ → Process S S → Type 0} (keeps : KeepsEach (whole x) Known)
+    (laws : IsErasable x Known) (two : AreBetweenTwo x.channels)
     {states : List S} (opens : OpensErasably x Known states)
     (kept : ErasureIsKept x Known (opening (plain x) states tt)) where
   -- No receipt stands whose message was taken back.

@@ -25,7 +25,8 @@ module _ {S E P : Type 0} {x : Parts S E P} {Known : ℕ → Process S S → Typ
       (record { level = at.level; there = at.there; of_it = at.of_it }) (record { level = at'.level; there = at'.there; of_it = at'.of_it })
 
   -- nobody released a line, and the plain run is as it was
-  stays_shown : (t : ℕ) (past : List Told) (w : World S S Nothing) (one : Told) (f : ℕ → ℕ) → t ≡ length past + 1 → one.released ≡ freed_lines (whole x) w
+  stays_shown : (t : ℕ) (past : List Told) (w : World S S Nothing) (one : Told) (f : ℕ → ℕ) → t ≡ length past + 1
+      → one.released ≡ freed_lines (whole x) w
       → Each (IsQuiet x) w.processes → ShowsCut x start t past w f → ShowsCut x start (t + 1) (past ++ one ∷ []) (with_each (freed (whole x)) w) f
   stays_shown t past w one f number released quiet cut = record {
     world = cut.world;
@@ -57,9 +58,11 @@ module _ {S E P : Type 0} {x : Parts S E P} {Known : ℕ → Process S S → Typ
   freed_sent s [] c = (laws.releases_mail s).sent c
   freed_sent s (l ∷ levels) c = refl
 
-  all_freed_kept : (us : List (Process S P)) → map (λ (u : Process S P). x.kept u.state) (map (freed (plain x)) us) ≡ map (λ (u : Process S P). x.kept u.state) us
+  all_freed_kept : (us : List (Process S P))
+      → map (λ (u : Process S P). x.kept u.state) (map (freed (plain x)) us) ≡ map (λ (u : Process S P). x.kept u.state) us
   all_freed_kept [] = refl
-  all_freed_kept (u ∷ us) = ap₂ (λ (one : List (ℕ × ℕ)) (others : List (List (ℕ × ℕ))). one ∷ others) (freed_kept u.state u.levels) (all_freed_kept us)
+  all_freed_kept (u ∷ us) =
+      ap₂ (λ (one : List (ℕ × ℕ)) (others : List (List (ℕ × ℕ))). one ∷ others) (freed_kept u.state u.levels) (all_freed_kept us)
 
   all_freed_sent : (v : World S P Nothing) → AreSent x v → AreSent x (with_each (freed (plain x)) v)
   all_freed_sent v sent = λ c ends sender receiver channel at at'.
@@ -79,7 +82,8 @@ module _ {S E P : Type 0} {x : Parts S E P} {Known : ℕ → Process S S → Typ
   newest {t} kept = record { turn = t; process = kept.process; alternate = kept.alternate }
 
   kept_next : (t : ℕ) (past : List Told) (w : World S S Nothing) (f : ℕ → ℕ) (kept : KeepsTurn x start t past w f)
-      → kept_in x (with_each (freed (plain x)) kept.moved.world) ≡ change_at kept.process (λ turns. turns ++ (t, kept.alternate) ∷ []) (kept_in x kept.old)
+      → kept_in x (with_each (freed (plain x)) kept.moved.world)
+      ≡ change_at kept.process (λ turns. turns ++ (t, kept.alternate) ∷ []) (kept_in x kept.old)
   kept_next t past w f kept = all_freed_kept kept.moved.world.processes ∙ kept.keeps
 
   survivors_next : (t : ℕ) (past : List Told) (w : World S S Nothing) (f : ℕ → ℕ) (kept : KeepsTurn x start t past w f)
@@ -90,8 +94,10 @@ module _ {S E P : Type 0} {x : Parts S E P} {Known : ℕ → Process S S → Typ
       (omega (arith, kept.here, length-map kept.old.processes (λ (u : Process S P). x.kept u.state)))
 
   -- the turn is kept, and what was held is released on both sides
-  turn_kept : (t : ℕ) (past : List Told) (w : World S S Nothing) (one : Told) (f : ℕ → ℕ) → t ≡ length past + 1 → one.released ≡ freed_lines (whole x) w
-      → Each (IsGrounded x Known) w.processes → KeepsTurn x start t past w f → ShowsCut x start (t + 1) (past ++ one ∷ []) (with_each (freed (whole x)) w) f
+  turn_kept : (t : ℕ) (past : List Told) (w : World S S Nothing) (one : Told) (f : ℕ → ℕ) → t ≡ length past + 1
+      → one.released ≡ freed_lines (whole x) w
+      → Each (IsGrounded x Known) w.processes → KeepsTurn x start t past w f
+      → ShowsCut x start (t + 1) (past ++ one ∷ []) (with_each (freed (whole x)) w) f
   turn_kept t past w one f number released each kept =
       let told_of : Told = told (plain x) kept.old kept.moved in
       record {
@@ -117,8 +123,10 @@ module _ {S E P : Type 0} {x : Parts S E P} {Known : ℕ → Process S S → Typ
         };
       }
 
-  after_shown : (t : ℕ) (past : List Told) (w : World S S Nothing) (one : Told) (f : ℕ → ℕ) → t ≡ length past + 1 → one.released ≡ freed_lines (whole x) w
-      → Each (IsGrounded x Known) w.processes → ShowsAfter x start t past w f → ShowsCut x start (t + 1) (past ++ one ∷ []) (with_each (freed (whole x)) w) f
+  after_shown : (t : ℕ) (past : List Told) (w : World S S Nothing) (one : Told) (f : ℕ → ℕ) → t ≡ length past + 1
+      → one.released ≡ freed_lines (whole x) w
+      → Each (IsGrounded x Known) w.processes → ShowsAfter x start t past w f
+      → ShowsCut x start (t + 1) (past ++ one ∷ []) (with_each (freed (whole x)) w) f
   after_shown t past w one f number released each (StaysShown quiet cut) = stays_shown t past w one f number released quiet cut
   after_shown t past w one f number released each (TurnKept kept) = turn_kept t past w one f number released each kept
 

@@ -27,7 +27,8 @@ other_want : {A : Type 0} (one other : Want) → one ≡ other → is_acting one
 other_want one other e acts rests = absurd (true≢false (sym acts ∙ ap is_acting e ∙ rests))
 
 -- an action takes no message
-pub acts_alone : {S C M : Type 0} (k : Kind S C M) (q : Process S C) (w : World S C M) (message : Option ℤ) → k.want q.state ≡ Acts → IsReady k q w message → message ≡ None
+pub acts_alone : {S C M : Type 0} (k : Kind S C M) (q : Process S C) (w : World S C M) (message : Option ℤ)
+    → k.want q.state ≡ Acts → IsReady k q w message → message ≡ None
 acts_alone k q w message acts (ToSend c e room none) = none
 acts_alone k q w message acts (ToReceive c v e there some) = other_want (k.want q.state) (ReceivesOn c) e (ap is_acting acts) refl
 acts_alone k q w message acts (ToReceiveIfThere c e there) = other_want (k.want q.state) (MayReceiveOn c) e (ap is_acting acts) refl
@@ -64,7 +65,8 @@ module _ {S E P : Type 0} (x : Parts S E P) (Known : ℕ → Process S S → Typ
       }
 
   -- the plain run's step comes to the same
-  pub plain_holds : (t p alternate : ℕ) (q : Process S S) (w : World S S Nothing) (v : World S P Nothing) (s : S) → q.status ≡ Running → q.at_line ≡ false
+  pub plain_holds : (t p alternate : ℕ) (q : Process S S) (w : World S S Nothing) (v : World S P Nothing) (s : S)
+      → q.status ≡ Running → q.at_line ≡ false
       → HeldAt p q w alternate s
       → plain_moves (plain x) (record { turn = t; process = p; alternate = alternate }) v (Some (as_is x q))
       ≡ Some (accepted (plain x) p (plain_levels x q.levels) (last_of (plain_levels x q.levels)) v (x.keep t alternate s, v.memory))
@@ -80,7 +82,8 @@ module _ {S E P : Type 0} (x : Parts S E P) (Known : ℕ → Process S S → Typ
       ∙ environment_shown x (last_of q.levels) laws.point_environment) ∙ at.held)
 
   -- the test changed no mail
-  pub held_mail : (t p alternate : ℕ) (q : Process S S) (w : World S S Nothing) (s : S) → HeldAt p q w alternate s → SameMail x q.state (x.keep t alternate s)
+  pub held_mail : (t p alternate : ℕ) (q : Process S S) (w : World S S Nothing) (s : S) → HeldAt p q w alternate s
+      → SameMail x q.state (x.keep t alternate s)
   held_mail t p alternate q w s at = mail_then x at.alone.mail (laws.keeps_mail t alternate s)
 
   -- the kept turns are those before, and this one

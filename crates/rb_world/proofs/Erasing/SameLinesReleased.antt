@@ -43,7 +43,8 @@ module _ {S E P : Type 0} {x : Parts S E P} {Known : ℕ → Process S S → Typ
   lines_freed_none s [] quiet = quiet refl
   lines_freed_none s (l ∷ levels) quiet = refl
 
-  pub all_lines_freed_none : (qs : List (Process S S)) → Each (IsQuiet x) qs → Each (λ _ lines. lines ≡ []) (map (λ q. lines_freed (whole x) q.state q.levels) qs)
+  pub all_lines_freed_none : (qs : List (Process S S)) → Each (IsQuiet x) qs
+      → Each (λ _ lines. lines ≡ []) (map (λ q. lines_freed (whole x) q.state q.levels) qs)
   all_lines_freed_none [] quiet r lines e = absurd (none_some e)
   all_lines_freed_none (q ∷ qs) quiet zero lines e = sym (some_same e) ∙ lines_freed_none q.state q.levels (quiet 0 q refl)
   all_lines_freed_none (q ∷ qs) quiet (suc r) lines e = all_lines_freed_none qs (λ n. quiet (suc n)) r lines e
@@ -117,7 +118,8 @@ module _ {S E P : Type 0} {x : Parts S E P} {Known : ℕ → Process S S → Typ
   lost_state s [] none = laws.releases_none s none
   lost_state s (l ∷ levels) none = refl
 
-  freed_shown : (r n : ℕ) (q : Process S S) (u : Process S P) → IsGrounded x Known r q → ShowsOne x n q u → ShowsOne x n (freed (whole x) q) (freed (plain x) u)
+  freed_shown : (r n : ℕ) (q : Process S S) (u : Process S P) → IsGrounded x Known r q → ShowsOne x n q u
+      → ShowsOne x n (freed (whole x) q) (freed (plain x) u)
   freed_shown r n q u h (Alive alive e) = Alive alive (ap (freed (plain x)) e ∙ shown_freed n q (slice_get q.levels n) refl)
   freed_shown r n q u h (Lost failed same line own) =
       let stays : state_freed (whole x) q.state q.levels ≡ q.state = state_freed_same q.state q.levels (λ _. h.lost failed) in

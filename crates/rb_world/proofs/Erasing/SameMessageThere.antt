@@ -28,7 +28,8 @@ module _ {S E P : Type 0} (x : Parts S E P) (Known : ℕ → Process S S → Typ
       → first_message (plain x) tt c s2 point taken ≡ first_message (whole x) tt c s copy taken
   first_same c s copy s2 point taken sees =
       ap (λ (count : ℕ). cond (nat_lt taken count) (Some (seen_message (plain x) tt s2 point c taken)) None) sees.count
-      ∙ one_or_none (nat_lt taken (seen_count (whole x) s copy c)) (seen_message (plain x) tt s2 point c taken) (seen_message (whole x) tt s copy c taken)
+      ∙ one_or_none (nat_lt taken (seen_count (whole x) s copy c)) (seen_message (plain x) tt s2 point c taken)
+      (seen_message (whole x) tt s copy c taken)
       (λ b. sees.same taken (ltb-true taken (seen_count (whole x) s copy c) b))
 
   first_less : (c : ℕ) (s : S) (copy : Option S) (s2 : S) (point : Option P) (taken : ℕ) (v : ℤ) → SeesSame x c s copy s2 point
@@ -84,6 +85,7 @@ module _ {S E P : Type 0} (x : Parts S E P) (Known : ℕ → Process S S → Typ
         ∙ (sym (ap (λ (o : Option (Process S S)). message_between (whole x) tt c (slice_get w.processes ends.sender) o)
         (ap (slice_get w.processes) by ∙ here.there))
         ∙ (sym (ap (message_on (whole x) w c) channel) ∙ message)) in
-        first_less c one.state (seen_copy one.levels q.levels) sender.state (seen_copy sender.levels (plain_levels x q.levels)) (x.taken q.state c) value
+        first_less c one.state (seen_copy one.levels q.levels) sender.state
+        (seen_copy sender.levels (plain_levels x q.levels)) (x.taken q.state c) value
         (sees_shown x Known laws c ends.sender (f ends.sender) one sender q.levels (here.grounded ends.sender one found.there)
         (apart_from_present ends.sender one found.there) found.shows) at

@@ -22,8 +22,10 @@ seen_place [] ms = inl refl
 seen_place (l ∷ ls) [] = inr (0, l, refl, refl)
 seen_place {C} (l ∷ ls) (m ∷ ms) = further (is_shared l.facts.conversation m.facts.conversation) (seen_place ls ms)
   where
-    further : (b : Bool) → (seen_copy ls ms ≡ None) ⊎ ((i : ℕ) × (level : Level C) × (slice_get ls i ≡ Some level) × (seen_copy ls ms ≡ Some level.copy))
-        → (cond b (seen_copy ls ms) (Some l.copy) ≡ None) ⊎ ((i : ℕ) × (level : Level C) × (slice_get (l ∷ ls) i ≡ Some level) × (cond b (seen_copy ls ms) (Some l.copy) ≡ Some level.copy))
+    further : (b : Bool)
+        → (seen_copy ls ms ≡ None) ⊎ ((i : ℕ) × (level : Level C) × (slice_get ls i ≡ Some level) × (seen_copy ls ms ≡ Some level.copy))
+        → (cond b (seen_copy ls ms) (Some l.copy) ≡ None)
+        ⊎ ((i : ℕ) × (level : Level C) × (slice_get (l ∷ ls) i ≡ Some level) × (cond b (seen_copy ls ms) (Some l.copy) ≡ Some level.copy))
     further false rest = inr (0, l, refl, refl)
     further true (inl e) = inl e
     further true (inr (i, level, there, e)) = inr (suc i, level, there, e)
@@ -72,7 +74,8 @@ not_shared l m ls ms true e apart =
     absurd (apart both.0 (record { level = l; there = refl; of_it = both.1 }) (record { level = m; there = refl; of_it = both.2 }))
 
 -- where the levels of number n are not of one conversation, what is seen lies at or outside it
-seen_outside : {C : Type 0} (n : ℕ) (ls ms : List (Level C)) (level : Level C) → slice_get ls n ≡ Some level → AreApart n ls ms → IsSeenOutside n ls ms
+seen_outside : {C : Type 0} (n : ℕ) (ls ms : List (Level C)) (level : Level C) → slice_get ls n ≡ Some level
+    → AreApart n ls ms → IsSeenOutside n ls ms
 seen_outside n [] ms level e apart = absurd (none_some e)
 seen_outside n (l ∷ ls) [] level e apart = record { place = 0; level = l; there = refl; outside = omega arith; of_all = refl; of_cut = refl }
 seen_outside zero (l ∷ ls) (m ∷ ms) level e apart =
@@ -96,7 +99,8 @@ module _ {S E P : Type 0} (x : Parts S E P) (Known : ℕ → Process S S → Typ
   seen_plain (l ∷ ls) (m ∷ ms) = further (is_shared l.facts.conversation m.facts.conversation) (seen_plain ls ms)
     where
       further : (b : Bool) → seen_copy (plain_levels x ls) (plain_levels x ms) ≡ option_map x.point (seen_copy ls ms)
-          → cond b (seen_copy (plain_levels x ls) (plain_levels x ms)) (Some (x.point l.copy)) ≡ option_map x.point (cond b (seen_copy ls ms) (Some l.copy))
+          → cond b (seen_copy (plain_levels x ls) (plain_levels x ms)) (Some (x.point l.copy))
+          ≡ option_map x.point (cond b (seen_copy ls ms) (Some l.copy))
       further true e = e
       further false e = refl
 
@@ -133,7 +137,8 @@ module _ {S E P : Type 0} (x : Parts S E P) (Known : ℕ → Process S S → Typ
   sees_all c r q ms ground =
       subst (SeesSame x c q.state (seen_copy q.levels ms) q.state) (sym (seen_plain q.levels ms)) (by (seen_place q.levels ms))
     where
-      by : (seen_copy q.levels ms ≡ None) ⊎ ((i : ℕ) × (level : Level S) × (slice_get q.levels i ≡ Some level) × (seen_copy q.levels ms ≡ Some level.copy))
+      by : (seen_copy q.levels ms ≡ None)
+          ⊎ ((i : ℕ) × (level : Level S) × (slice_get q.levels i ≡ Some level) × (seen_copy q.levels ms ≡ Some level.copy))
           → SeesSame x c q.state (seen_copy q.levels ms) q.state (option_map x.point (seen_copy q.levels ms))
       by (inl e) = subst (λ (o : Option S). SeesSame x c q.state o q.state (option_map x.point o)) (sym e) (sees_now c q.state)
       by (inr (i, level, there, e)) =

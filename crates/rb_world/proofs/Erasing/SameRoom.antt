@@ -29,7 +29,9 @@ module _ {S E P : Type 0} (x : Parts S E P) (Known : ℕ → Process S S → Typ
       → room_from (plain x) (shown_at x n q level).state (shown_at x n q level).levels c ≡ room_from (whole x) q.state q.levels c
   room_at c n q None e = room_all c q.state q.levels
   room_at c n q (Some level) e =
-      subst (λ (m : ℕ). room_from (plain x) level.copy (plain_levels x (take m q.levels)) c ≡ room_from (whole x) q.state q.levels c) (sym (add-one n))
+      subst
+      (λ (m : ℕ). room_from (plain x) level.copy (plain_levels x (take m q.levels)) c ≡ room_from (whole x) q.state q.levels c)
+      (sym (add-one n))
       (room_cut c n q.state level.copy q.levels level e)
 
   -- the number taken that room is counted from
@@ -63,5 +65,6 @@ module _ {S E P : Type 0} (x : Parts S E P) (Known : ℕ → Process S S → Typ
         (ap (slice_get w.processes) (by ends refl) ∙ here.there)))
 
     -- a present sender has the same room
-    pub has_room_shown : (c : ℕ) → ((ends : Ends) → slice_get x.channels c ≡ Some ends → ends.sender ≡ p) → has_room (plain x) v c ≡ has_room (whole x) w c
+    pub has_room_shown : (c : ℕ) → ((ends : Ends) → slice_get x.channels c ≡ Some ends → ends.sender ≡ p)
+        → has_room (plain x) v c ≡ has_room (whole x) w c
     has_room_shown c by = room_on c (slice_get x.channels c) by

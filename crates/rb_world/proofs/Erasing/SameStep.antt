@@ -40,15 +40,19 @@ module _ {S E P : Type 0} (x : Parts S E P) where
   plain_alternates (Some level) = refl
 
   module _ (Known : ℕ → Process S S → Type 0) (laws : IsErasable x Known) where
-    plain_environment : (level : Option (Level S)) → option_map x.point_environment (copy_of (option_map (plain_level x) level)) ≡ option_map x.environment (copy_of level)
+    plain_environment : (level : Option (Level S))
+        → option_map x.point_environment (copy_of (option_map (plain_level x) level)) ≡ option_map x.environment (copy_of level)
     plain_environment None = refl
     plain_environment (Some level) = ap Some (laws.point_environment level.copy)
 
     -- what `prior` reads is the same
-    pub environment_shown : (ls : List (Level S)) → option_map x.point_environment (copy_of (last_of (plain_levels x ls))) ≡ option_map x.environment (copy_of (last_of ls))
+    pub environment_shown : (ls : List (Level S))
+        → option_map x.point_environment (copy_of (last_of (plain_levels x ls))) ≡ option_map x.environment (copy_of (last_of ls))
     environment_shown ls = ap (λ (o : Option (Level P)). option_map x.point_environment (copy_of o)) (plain_last ls) ∙ plain_environment (last_of ls)
 
-    module _ (f : ℕ → ℕ) (p : ℕ) (q : Process S S) (w : World S S Nothing) (v : World S P Nothing) (here : IsPresent x Known f p q w v) (t alternate : ℕ) (message : Option ℤ) (result : Stepped S Nothing) (step : x.step alternate (option_map x.environment (copy_of (last_of q.levels))) q.state message ≡ result) where
+    module _ (f : ℕ → ℕ) (p : ℕ) (q : Process S S) (w : World S S Nothing) (v : World S P Nothing)
+        (here : IsPresent x Known f p q w v) (t alternate : ℕ) (message : Option ℤ) (result : Stepped S Nothing)
+        (step : x.step alternate (option_map x.environment (copy_of (last_of q.levels))) q.state message ≡ result) where
       abbrev TheTurn : Kept
       TheTurn = record { turn = t; process = p; alternate = alternate }
 
@@ -66,7 +70,8 @@ module _ {S E P : Type 0} (x : Parts S E P) where
       with_message other e = ap (λ (m : Option ℤ). plain_steps (plain x) TheTurn m ThePlain v) (sym e) ∙ same_step
 
       -- no alternate is given where it is no start
-      none_given : (want : Want) → x.want q.state ≡ want → alternate_for want (last_of q.levels) ≡ 0 → alternate ≡ alternate_for (x.want q.state) (last_of q.levels)
+      none_given : (want : Want) → x.want q.state ≡ want → alternate_for want (last_of q.levels) ≡ 0
+          → alternate ≡ alternate_for (x.want q.state) (last_of q.levels)
           → no_alternate TheTurn ≡ true
       none_given want wants none at = eq-eqb alternate 0 (at ∙ (ap (λ (one : Want). alternate_for one (last_of q.levels)) wants ∙ none))
 
@@ -86,12 +91,14 @@ module _ {S E P : Type 0} (x : Parts S E P) where
           ∙ with_message None none)
       ready_shown (ToReceive c value wants there same) at starts =
           ap (plain_acts (plain x) TheTurn ThePlain v) wants
-          ∙ (said (no_alternate TheTurn) (plain_receives (plain x) TheTurn ThePlain v (message_there (plain x) v c)) (none_given (ReceivesOn c) wants refl at)
+          ∙ (said (no_alternate TheTurn) (plain_receives (plain x) TheTurn ThePlain v (message_there (plain x) v c))
+          (none_given (ReceivesOn c) wants refl at)
           ∙ (ap (plain_receives (plain x) TheTurn ThePlain v) (same_message c (ap receives_on wants) ∙ there)
           ∙ with_message (Some value) same))
       ready_shown (ToReceiveIfThere c wants same) at starts =
           ap (plain_acts (plain x) TheTurn ThePlain v) wants
-          ∙ (said (no_alternate TheTurn) (plain_steps (plain x) TheTurn (message_there (plain x) v c) ThePlain v) (none_given (MayReceiveOn c) wants refl at)
+          ∙ (said (no_alternate TheTurn) (plain_steps (plain x) TheTurn (message_there (plain x) v c) ThePlain v)
+          (none_given (MayReceiveOn c) wants refl at)
           ∙ with_message (message_there (plain x) v c) (same ∙ sym (same_message c (ap receives_on wants))))
       ready_shown (ToStart wants none) at starts =
           ap (plain_acts (plain x) TheTurn ThePlain v) wants
@@ -116,7 +123,9 @@ module _ {S E P : Type 0} (x : Parts S E P) where
           (ap (λ (level : Option (Level P)). nat_le alternate (alternates_of level)) (plain_last q.levels)
           ∙ (ap (nat_le alternate) (plain_alternates (last_of q.levels)) ∙ le-leb alternate (alternates_of (last_of q.levels)) given.1))
 
-    module _ (f : ℕ → ℕ) (p : ℕ) (q : Process S S) (w : World S S Nothing) (v : World S P Nothing) (here : IsPresent x Known f p q w v) (t alternate : ℕ) (message : Option ℤ) (s : S) (at : StepsAt (whole x) p q w alternate message) where
+    module _ (f : ℕ → ℕ) (p : ℕ) (q : Process S S) (w : World S S Nothing) (v : World S P Nothing)
+        (here : IsPresent x Known f p q w v) (t alternate : ℕ) (message : Option ℤ) (s : S)
+        (at : StepsAt (whole x) p q w alternate message) where
       -- a step that goes on does so in the plain run too
       pub went_shown : x.step alternate (option_map x.environment (copy_of (last_of q.levels))) q.state message ≡ Went s tt
           → plain_moves (plain x) (record { turn = t; process = p; alternate = alternate }) v (slice_get v.processes p)
@@ -124,7 +133,8 @@ module _ {S E P : Type 0} (x : Parts S E P) where
       went_shown step =
           moves_shown f p q w v here t alternate message (Went s tt) step at
           (λ wants. alternate_given f p q w v here t alternate message (Went s tt) step
-          (laws.starts p q alternate (option_map x.environment (copy_of (last_of q.levels))) message s (here.grounded p q here.there).known at.acts.runs.running at.acts.away wants step))
+          (laws.starts p q alternate (option_map x.environment (copy_of (last_of q.levels))) message s
+          (here.grounded p q here.there).known at.acts.runs.running at.acts.away wants step))
 
       -- an acceptance test that holds does so in the plain run too
       pub held_shown : x.step alternate (option_map x.environment (copy_of (last_of q.levels))) q.state message ≡ Held s
@@ -133,4 +143,5 @@ module _ {S E P : Type 0} (x : Parts S E P) where
       held_shown step =
           moves_shown f p q w v here t alternate message (Held s) step at
           (λ wants. absurd (starts_not
-          (sym (laws.holds_acting p q alternate (option_map x.environment (copy_of (last_of q.levels))) message s (here.grounded p q here.there).known step) ∙ wants)))
+          (sym (laws.holds_acting p q alternate (option_map x.environment (copy_of (last_of q.levels))) message s
+          (here.grounded p q here.there).known step) ∙ wants)))

@@ -55,7 +55,8 @@ module _ {S E P : Type 0} (x : Parts S E P) where
 
   -- the same worlds, and another cut
   pub recut : (f g : ℕ → ℕ) (qs : List (Process S S)) (us : List (Process S P))
-      → ((r : ℕ) (q : Process S S) (u : Process S P) → slice_get qs r ≡ Some q → slice_get us r ≡ Some u → ShowsOne x (f r) q u → ShowsOne x (g r) q u)
+      → ((r : ℕ) (q : Process S S) (u : Process S P) → slice_get qs r ≡ Some q → slice_get us r ≡ Some u
+      → ShowsOne x (f r) q u → ShowsOne x (g r) q u)
       → Shows x f qs us → Shows x g qs us
   recut f g [] [] one shows = tt
   recut f g [] (u ∷ us) one shows = absurd shows
@@ -65,7 +66,8 @@ module _ {S E P : Type 0} (x : Parts S E P) where
 
   -- every process is changed on both sides, and another cut is shown
   pub map_shown : (f g : ℕ → ℕ) (F : Process S S → Process S S) (G : Process S P → Process S P) (qs : List (Process S S)) (us : List (Process S P))
-      → ((r : ℕ) (q : Process S S) (u : Process S P) → slice_get qs r ≡ Some q → slice_get us r ≡ Some u → ShowsOne x (f r) q u → ShowsOne x (g r) (F q) (G u))
+      → ((r : ℕ) (q : Process S S) (u : Process S P) → slice_get qs r ≡ Some q → slice_get us r ≡ Some u
+      → ShowsOne x (f r) q u → ShowsOne x (g r) (F q) (G u))
       → Shows x f qs us → Shows x g (map F qs) (map G us)
   map_shown f g F G [] [] one shows = tt
   map_shown f g F G [] (u ∷ us) one shows = absurd shows
@@ -75,7 +77,8 @@ module _ {S E P : Type 0} (x : Parts S E P) where
 
   -- every process is changed, and the same plain world shows another cut
   pub map_left_shown : (f g : ℕ → ℕ) (F : Process S S → Process S S) (qs : List (Process S S)) (us : List (Process S P))
-      → ((r : ℕ) (q : Process S S) (u : Process S P) → slice_get qs r ≡ Some q → slice_get us r ≡ Some u → ShowsOne x (f r) q u → ShowsOne x (g r) (F q) u)
+      → ((r : ℕ) (q : Process S S) (u : Process S P) → slice_get qs r ≡ Some q → slice_get us r ≡ Some u
+      → ShowsOne x (f r) q u → ShowsOne x (g r) (F q) u)
       → Shows x f qs us → Shows x g (map F qs) us
   map_left_shown f g F [] [] one shows = tt
   map_left_shown f g F [] (u ∷ us) one shows = absurd shows
@@ -84,9 +87,12 @@ module _ {S E P : Type 0} (x : Parts S E P) where
       (one zero q u refl refl shows.0, map_left_shown (λ n. f (suc n)) (λ n. g (suc n)) F qs us (λ r. one (suc r)) shows.1)
 
   -- process p is changed on both sides, and another cut is shown
-  pub change_shown : (f g : ℕ → ℕ) (p : ℕ) (F : Process S S → Process S S) (G : Process S P → Process S P) (qs : List (Process S S)) (us : List (Process S P))
-      → ((r : ℕ) (q : Process S S) (u : Process S P) → r ≢ p → slice_get qs r ≡ Some q → slice_get us r ≡ Some u → ShowsOne x (f r) q u → ShowsOne x (g r) q u)
-      → ((q : Process S S) (u : Process S P) → slice_get qs p ≡ Some q → slice_get us p ≡ Some u → ShowsOne x (f p) q u → ShowsOne x (g p) (F q) (G u))
+  pub change_shown : (f g : ℕ → ℕ) (p : ℕ) (F : Process S S → Process S S) (G : Process S P → Process S P)
+      (qs : List (Process S S)) (us : List (Process S P))
+      → ((r : ℕ) (q : Process S S) (u : Process S P) → r ≢ p → slice_get qs r ≡ Some q → slice_get us r ≡ Some u
+      → ShowsOne x (f r) q u → ShowsOne x (g r) q u)
+      → ((q : Process S S) (u : Process S P) → slice_get qs p ≡ Some q → slice_get us p ≡ Some u → ShowsOne x (f p) q u
+      → ShowsOne x (g p) (F q) (G u))
       → Shows x f qs us → Shows x g (change_at p F qs) (change_at p G us)
   change_shown f g p F G [] [] others one shows = tt
   change_shown f g p F G [] (u ∷ us) others one shows = absurd shows
@@ -100,7 +106,8 @@ module _ {S E P : Type 0} (x : Parts S E P) where
 
   -- process p is changed, and the same plain world shows another cut
   pub change_left_shown : (f g : ℕ → ℕ) (p : ℕ) (F : Process S S → Process S S) (qs : List (Process S S)) (us : List (Process S P))
-      → ((r : ℕ) (q : Process S S) (u : Process S P) → r ≢ p → slice_get qs r ≡ Some q → slice_get us r ≡ Some u → ShowsOne x (f r) q u → ShowsOne x (g r) q u)
+      → ((r : ℕ) (q : Process S S) (u : Process S P) → r ≢ p → slice_get qs r ≡ Some q → slice_get us r ≡ Some u
+      → ShowsOne x (f r) q u → ShowsOne x (g r) q u)
       → ((q : Process S S) (u : Process S P) → slice_get qs p ≡ Some q → slice_get us p ≡ Some u → ShowsOne x (f p) q u → ShowsOne x (g p) (F q) u)
       → Shows x f qs us → Shows x g (change_at p F qs) us
   change_left_shown f g p F [] [] others one shows = tt

@@ -23,8 +23,12 @@ use Rattle.rb_world.proofs.Erasing.SameStep.{went_shown}
 use Rattle.rb_world.proofs.Erasing.OneProcessChanged.{consistent_before, kept_after}
 use Rattle.rb_world.proofs.Erasing.TakenWasSent.{sent_after_step}
 
-module _ {S E P : Type 0} (x : Parts S E P) (Known : ℕ → Process S S → Type 0) (laws : IsErasable x Known) (keeps : KeepsEach (whole x) Known) (start : World S P Nothing) where
-  module _ (t : ℕ) (past : List Told) (p : ℕ) (q : Process S S) (w : World S S Nothing) (alternate : ℕ) (message : Option ℤ) (s : S) (ground : Grounded x Known w) (all : AllShown x start t past w) (at : StepsAt (whole x) p q w alternate message) (step : x.step alternate (option_map x.environment (copy_of (last_of q.levels))) q.state message ≡ Went s tt) where
+module _ {S E P : Type 0} (x : Parts S E P) (Known : ℕ → Process S S → Type 0) (laws : IsErasable x Known)
+    (keeps : KeepsEach (whole x) Known) (start : World S P Nothing) where
+  module _ (t : ℕ) (past : List Told) (p : ℕ) (q : Process S S) (w : World S S Nothing) (alternate : ℕ) (message : Option ℤ)
+      (s : S) (ground : Grounded x Known w) (all : AllShown x start t past w)
+      (at : StepsAt (whole x) p q w alternate message)
+      (step : x.step alternate (option_map x.environment (copy_of (last_of q.levels))) q.state message ≡ Went s tt) where
     abbrev Next : Process S S
     Next = settled (whole x) (x.keep t alternate s) q.levels
 
@@ -87,7 +91,8 @@ module _ {S E P : Type 0} (x : Parts S E P) (Known : ℕ → Process S S → Typ
         (λ one u e e2 same. Alive (status_at-whole (x.want Next.state)) (sym (shown_present x (f p) Next past_all))) shows
 
     next_kept : x.kept NextPlain.state ≡ x.kept q.state ++ (t, alternate) ∷ []
-    next_kept = (laws.settles (x.keep t alternate s)).kept ∙ (laws.keeps t alternate s ∙ ap (λ (turns : List (ℕ × ℕ)). turns ++ (t, alternate) ∷ []) moves.kept)
+    next_kept = (laws.settles (x.keep t alternate s)).kept
+        ∙ (laws.keeps t alternate s ∙ ap (λ (turns : List (ℕ × ℕ)). turns ++ (t, alternate) ∷ []) moves.kept)
 
     next_sent : (c : ℕ) → x.sent NextPlain.state c ≡ x.sent s c
     next_sent c = (laws.settles (x.keep t alternate s)).mail.sent c ∙ (laws.keeps_mail t alternate s).sent c
@@ -122,7 +127,8 @@ module _ {S E P : Type 0} (x : Parts S E P) (Known : ℕ → Process S S → Typ
     goes_one : (f : ℕ → ℕ) → IsConsistent f After.processes → ShowsAfter x start t past After f
     goes_one f consistent = by (slice_get_cases q.levels (f p)).1
       where
-        by : ((level : Level S) × (f p < length q.levels) × (slice_get q.levels (f p) ≡ Some level) × (get_or q.levels (f p) level ≡ level)) ⊎ ((length q.levels ≤ f p) × (slice_get q.levels (f p) ≡ None))
+        by : ((level : Level S) × (f p < length q.levels) × (slice_get q.levels (f p) ≡ Some level) × (get_or q.levels (f p) level ≡ level))
+            ⊎ ((length q.levels ≤ f p) × (slice_get q.levels (f p) ≡ None))
             → ShowsAfter x start t past After f
         by (inl (level, _, there, _)) = older f level there (cut_before f consistent)
         by (inr (past_all, _)) =

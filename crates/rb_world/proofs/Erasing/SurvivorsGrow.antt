@@ -20,7 +20,8 @@ abbrev pub IsEarlier : ℕ → List (ℕ × ℕ) → Type 0
 IsEarlier t list = Each (λ i one. one.0 < t) list
 
 -- a kept turn takes its place below turn t, if it is
-insert_cond-below : (t : ℕ) (one other : Kept) (others : List Kept) (first : Bool) → one.turn < t → other.turn < t → IsBelow t others → IsBelow t (insert_kept one others)
+insert_cond-below : (t : ℕ) (one other : Kept) (others : List Kept) (first : Bool) → one.turn < t → other.turn < t
+    → IsBelow t others → IsBelow t (insert_kept one others)
     → IsBelow t (cond first (one ∷ other ∷ others) (other ∷ insert_kept one others))
 insert_cond-below t one other others true a b rest more = (a, (b, rest))
 insert_cond-below t one other others false a b rest more = (b, more)
@@ -53,7 +54,8 @@ insert_newest one (other ∷ others) below =
     ∙ ap (λ (rest : List Kept). other ∷ rest) (insert_newest one others below.1)
 
 -- and stays there, whatever takes its place before it
-insert_before_cond : (one other newest : Kept) (others : List Kept) (first : Bool) → insert_kept one (others ++ newest ∷ []) ≡ insert_kept one others ++ newest ∷ []
+insert_before_cond : (one other newest : Kept) (others : List Kept) (first : Bool)
+    → insert_kept one (others ++ newest ∷ []) ≡ insert_kept one others ++ newest ∷ []
     → cond first (one ∷ other ∷ (others ++ newest ∷ [])) (other ∷ insert_kept one (others ++ newest ∷ []))
     ≡ cond first (one ∷ other ∷ others) (other ∷ insert_kept one others) ++ newest ∷ []
 insert_before_cond one other newest others true e = refl
@@ -84,7 +86,8 @@ insert_all-grows t p a ((u, b) ∷ turns) others earlier below =
     ∙ insert_before_newest one newest (insert_all p turns others) (earlier zero (u, b) refl)
 
 survivors_from-grow : (t p a n : ℕ) (turns : List (List (ℕ × ℕ))) → AreBefore t turns → suc p ≤ length turns
-    → survivors_from n (change_at p (λ list. list ++ (t, a) ∷ []) turns) ≡ survivors_from n turns ++ record { turn = t; process = n + p; alternate = a } ∷ []
+    → survivors_from n (change_at p (λ list. list ++ (t, a) ∷ []) turns)
+    ≡ survivors_from n turns ++ record { turn = t; process = n + p; alternate = a } ∷ []
 survivors_from-grow t p a n [] before here = absurd (omega (arith, here))
 survivors_from-grow t zero a n (list ∷ turns) before here =
     insert_all-grows t n a list (survivors_from (n + 1) turns) (before zero list refl) (survivors_from-below t (n + 1) turns (λ r. before (suc r)))
@@ -118,7 +121,8 @@ before_grows t p a turns before =
     (λ list e. Each-more (λ (one : ℕ × ℕ). one.0 < t + 1) list (t, a) (before_next t turns before p list e) (omega arith))
 
 -- and the turns of the record still rise
-rises_from-more : (n : ℕ) (turns : List Kept) (one : Kept) → RisesFrom n turns → IsBelow one.turn turns → n < one.turn → RisesFrom n (turns ++ one ∷ [])
+rises_from-more : (n : ℕ) (turns : List Kept) (one : Kept) → RisesFrom n turns → IsBelow one.turn turns → n < one.turn
+    → RisesFrom n (turns ++ one ∷ [])
 rises_from-more n [] one rises below later = (later, tt)
 rises_from-more n (kept ∷ turns) one rises below later = (rises.0, rises_from-more kept.turn turns one rises.1 below.1 below.0)
 

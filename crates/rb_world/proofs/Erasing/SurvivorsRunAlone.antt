@@ -67,7 +67,8 @@ module _ {S E P : Type 0} (x : Parts S E P) where
 
   pub state_at_level : (n : ℕ) (q : Process S S) (u : Process S P) (level : Level S) → ShowsOne x n q u → slice_get q.levels n ≡ Some level
       → (is_failed q.status ≡ true → q.levels ≡ []) → u.state ≡ level.copy
-  state_at_level n q u level (Alive alive e) there bare = ap (λ (v : Process S P). v.state) e ∙ ap (λ (o : Option (Level S)). (shown_at x n q o).state) there
+  state_at_level n q u level (Alive alive e) there bare =
+      ap (λ (v : Process S P). v.state) e ∙ ap (λ (o : Option (Level S)). (shown_at x n q o).state) there
   state_at_level n q u level (Lost failed same line own) there bare =
       absurd (none_some (ap (λ (ls : List (Level S)). slice_get ls n) (sym (bare failed)) ∙ there))
 
@@ -86,7 +87,8 @@ module _ {S E P : Type 0} (x : Parts S E P) where
   opening_shown f [] = tt
   opening_shown f (s ∷ states) = (Alive (status_at-whole (x.want (x.settle s))) refl, opening_shown (λ r. f (suc r)) states)
 
-module _ {S E P : Type 0} {x : Parts S E P} {Known : ℕ → Process S S → Type 0} (laws : IsErasable x Known) {states : List S} (opens : OpensErasably x Known states) where
+module _ {S E P : Type 0} {x : Parts S E P} {Known : ℕ → Process S S → Type 0} (laws : IsErasable x Known) {states : List S}
+    (opens : OpensErasably x Known states) where
   opening_kept : Each (λ _ list. list ≡ []) (kept_in x (opening (plain x) states tt))
   opening_kept r list e =
       let u : IsImageAt _ _ r list = get_mapped (λ (u : Process S P). x.kept u.state) (map (λ s. settled (plain x) s []) states) r list e in
@@ -98,7 +100,8 @@ module _ {S E P : Type 0} {x : Parts S E P} {Known : ℕ → Process S S → Typ
       let s : IsImageAt _ states ends.receiver receiver = get_mapped (λ s. settled (plain x) s []) states ends.receiver receiver at' in
       omega (
         arith,
-        ap (λ (v : Process S P). x.taken v.state c) (sym s.same) ∙ (laws.settles s.origin).mail.taken c ∙ opens.taken ends.receiver s.origin s.there c,
+        ap (λ (v : Process S P). x.taken v.state c) (sym s.same) ∙ (laws.settles s.origin).mail.taken c
+            ∙ opens.taken ends.receiver s.origin s.there c,
       )
 
   pub opening_erased : ErasedBefore x (opening (plain x) states tt) 1 [] (opening (whole x) states tt)
@@ -109,7 +112,8 @@ module _ {S E P : Type 0} {x : Parts S E P} {Known : ℕ → Process S S → Typ
       shows = opening_shown x f states;
       erased = record {
         lines = [];
-        ran = ap (λ (turns : List Kept). plain_run (plain x) turns (opening (plain x) states tt)) (no_survivors 0 (kept_in x (opening (plain x) states tt)) opening_kept);
+        ran = ap (λ (turns : List Kept). plain_run (plain x) turns (opening (plain x) states tt))
+            (no_survivors 0 (kept_in x (opening (plain x) states tt)) opening_kept);
         released = refl;
         before = λ r list e i one e'. absurd (none_some (ap (λ (l : List (ℕ × ℕ)). slice_get l i) (sym (opening_kept r list e)) ∙ e'));
         rises = subst Rises (sym (no_survivors 0 (kept_in x (opening (plain x) states tt)) opening_kept)) tt;
@@ -120,20 +124,24 @@ module _ {S E P : Type 0} {x : Parts S E P} {Known : ℕ → Process S S → Typ
 
 -- what is true of the last world of every run: it is grounded, every consistent cut of it is shown, and no process has more than the
 -- most levels
-pub record IsShownWhole {S E P : Type 0} (x : Parts S E P) (Known : ℕ → Process S S → Type 0) (start : World S P Nothing) (all : List Told) (w : World S S Nothing) : Type 0 where
+pub record IsShownWhole {S E P : Type 0} (x : Parts S E P) (Known : ℕ → Process S S → Type 0) (start : World S P Nothing)
+    (all : List Told) (w : World S S Nothing) : Type 0 where
   pub turn : ℕ
   pub ground : Grounded x Known w
   pub shown : AllShown x start turn all w
   pub shallow : Each IsShallow w.processes
 
-module _ {S E P : Type 0} {x : Parts S E P} {Known : ℕ → Process S S → Type 0} (keeps : KeepsEach (whole x) Known) (laws : IsErasable x Known) {states : List S} (opens : OpensErasably x Known states)
+module _ {S E P : Type 0} {x : Parts S E P} {Known : ℕ → Process S S → Type 0} (keeps : KeepsEach (whole x) Known)
+    (laws : IsErasable x Known) {states : List S} (opens : OpensErasably x Known states)
     (kept : ErasureIsKept x Known (opening (plain x) states tt)) where
   run_both : (turns : List ℕ) → let end = run (whole x) 1 turns (opening (whole x) states tt) in
       BothBetween (BothBetween (GroundedBefore x Known) AwayBetween) (ErasedBefore x (opening (plain x) states tt)) (1 + length turns) end.1 end.0
-  run_both turns = run-keeps (erased_and_grounded x Known laws (opening (plain x) states tt) (grounded_kept keeps laws) kept) 1 [] turns (opening (whole x) states tt) (
-    (opening_grounded keeps laws states opens.known (λ r s e. (laws.settles s).held ∙ opens.held r s e), away_opens (whole x) states tt),
-    opening_erased laws opens,
-  )
+  run_both turns =
+      run-keeps (erased_and_grounded x Known laws (opening (plain x) states tt) (grounded_kept keeps laws) kept) 1 [] turns
+      (opening (whole x) states tt) (
+        (opening_grounded keeps laws states opens.known (λ r s e. (laws.settles s).held ∙ opens.held r s e), away_opens (whole x) states tt),
+        opening_erased laws opens,
+      )
 
   -- every run comes to such a world
   pub run_shown : (turns : List ℕ) → let end = run (whole x) 1 turns (opening (whole x) states tt) in
@@ -153,7 +161,8 @@ module _ {S E P : Type 0} {x : Parts S E P} {Known : ℕ → Process S S → Typ
       record {
         world = cut.world;
         lines = cut.erased.lines;
-        ran = ap (λ (turns : List (List (ℕ × ℕ))). plain_run (plain x) (survivors_of turns) (opening (plain x) states tt)) (sym same) ∙ cut.erased.ran;
+        ran = ap (λ (turns : List (List (ℕ × ℕ))). plain_run (plain x) (survivors_of turns) (opening (plain x) states tt)) (sym same)
+            ∙ cut.erased.ran;
         same_states = states_present x (λ s. s) present w.processes cut.world.processes here cut.shows;
         released = cut.erased.released;
         rises = subst (λ (turns : List (List (ℕ × ℕ))). Rises (survivors_of turns)) same cut.erased.rises;

@@ -16,10 +16,13 @@ one_more true taken sent most less = omega (arith, less refl)
 one_more false taken sent most less = omega (arith, most)
 
 module _ {S E P : Type 0} (x : Parts S E P) (Known : ℕ → Process S S → Type 0) (laws : IsErasable x Known) where
-  module _ (f : ℕ → ℕ) (p : ℕ) (q : Process S S) (w : World S S Nothing) (v : World S P Nothing) (here : IsPresent x Known f p q w v) (before : AreSent x v) where
+  module _ (f : ℕ → ℕ) (p : ℕ) (q : Process S S) (w : World S S Nothing) (v : World S P Nothing)
+      (here : IsPresent x Known f p q w v) (before : AreSent x v) where
     -- what a receipt takes was sent
-    takes_less : (c d : ℕ) (ends : Ends) (value : ℤ) (sender : Process S P) → receives_on (x.want q.state) ≡ Some c → message_there (whole x) w c ≡ Some value
-        → slice_get x.channels d ≡ Some ends → slice_get v.processes ends.sender ≡ Some sender → nat_eq c d ≡ true → x.taken q.state d < x.sent sender.state d
+    takes_less : (c d : ℕ) (ends : Ends) (value : ℤ) (sender : Process S P) → receives_on (x.want q.state) ≡ Some c
+        → message_there (whole x) w c ≡ Some value
+        → slice_get x.channels d ≡ Some ends → slice_get v.processes ends.sender ≡ Some sender → nat_eq c d ≡ true
+        → x.taken q.state d < x.sent sender.state d
     takes_less c d ends value sender wants message channel there same =
         let e : c ≡ d = eqb-true c d same in
         let channel_c : slice_get x.channels c ≡ Some ends = ap (slice_get x.channels) e ∙ channel in
@@ -27,7 +30,8 @@ module _ {S E P : Type 0} (x : Parts S E P) (Known : ℕ → Process S S → Typ
         (taken_less x Known laws f p q w v here c ends value sender channel_c
         (laws.receives p q c ends (here.grounded p q here.there).known wants channel_c) message there)
 
-    takes_if_there : (c d : ℕ) (ends : Ends) (sender : Process S P) (message : Option ℤ) → receives_on (x.want q.state) ≡ Some c → message ≡ message_there (whole x) w c
+    takes_if_there : (c d : ℕ) (ends : Ends) (sender : Process S P) (message : Option ℤ)
+        → receives_on (x.want q.state) ≡ Some c → message ≡ message_there (whole x) w c
         → slice_get x.channels d ≡ Some ends → slice_get v.processes ends.sender ≡ Some sender → x.taken q.state d ≤ x.sent sender.state d
         → x.taken q.state d + takes_by (MayReceiveOn c) message d ≤ x.sent sender.state d
     takes_if_there c d ends sender None wants e channel there most = omega (arith, most)
@@ -36,7 +40,8 @@ module _ {S E P : Type 0} (x : Parts S E P) (Known : ℕ → Process S S → Typ
         (takes_less c d ends value sender wants (sym e) channel there)
 
     -- after a step, too, no more was taken than was sent
-    takes_within : (message : Option ℤ) → IsReady (whole x) q w message → (d : ℕ) (ends : Ends) (sender : Process S P) → slice_get x.channels d ≡ Some ends
+    takes_within : (message : Option ℤ) → IsReady (whole x) q w message → (d : ℕ) (ends : Ends) (sender : Process S P)
+        → slice_get x.channels d ≡ Some ends
         → slice_get v.processes ends.sender ≡ Some sender → x.taken q.state d ≤ x.sent sender.state d
         → x.taken q.state d + takes_by (x.want q.state) message d ≤ x.sent sender.state d
     takes_within message (ToSend c wants room none) d ends sender channel there most =

@@ -12,7 +12,8 @@ use Rattle.rb_world.proofs.Erasing.PresentProcess.{as_is}
 use Rattle.rb_world.proofs.LastLevels.{last_of-map}
 
 -- one test of all members implies another
-pub list_all_implied : (one other : ℕ → Bool) (ms : List ℕ) → ((m : ℕ) → one m ≡ true → other m ≡ true) → list_all one ms ≡ true → list_all other ms ≡ true
+pub list_all_implied : (one other : ℕ → Bool) (ms : List ℕ) → ((m : ℕ) → one m ≡ true → other m ≡ true)
+    → list_all one ms ≡ true → list_all other ms ≡ true
 list_all_implied one other [] implies all = refl
 list_all_implied one other (m ∷ ms) implies all =
     ap₂ (λ (a b : Bool). a && b) (implies m (first_holds (one m) (list_all one ms) all))
@@ -21,9 +22,11 @@ list_all_implied one other (m ∷ ms) implies all =
 -- what holds of all members holds of one
 pub list_all_member : (one : ℕ → Bool) (ms : List ℕ) (p : ℕ) → list_all one ms ≡ true → list_any (nat_eq p) ms ≡ true → one p ≡ true
 list_all_member one [] p all any = absurd (true≢false (sym any))
-list_all_member one (m ∷ ms) p all any = at_head (nat_eq p m) refl any (λ later. list_all_member one ms p (second_holds (one m) (list_all one ms) all) later)
+list_all_member one (m ∷ ms) p all any =
+    at_head (nat_eq p m) refl any (λ later. list_all_member one ms p (second_holds (one m) (list_all one ms) all) later)
   where
-    at_head : (here : Bool) → nat_eq p m ≡ here → (here || list_any (nat_eq p) ms) ≡ true → (list_any (nat_eq p) ms ≡ true → one p ≡ true) → one p ≡ true
+    at_head : (here : Bool) → nat_eq p m ≡ here → (here || list_any (nat_eq p) ms) ≡ true
+        → (list_any (nat_eq p) ms ≡ true → one p ≡ true) → one p ≡ true
     at_head true e any' rest = ap one (eqb-true p m e) ∙ first_holds (one m) (list_all one ms) all
     at_head false e any' rest = rest any'
 
@@ -58,5 +61,6 @@ module _ {S E P : Type 0} (x : Parts S E P) where
   pub all_stand_shown : (f : ℕ → ℕ) (c : ℕ) (w : World S S Nothing) (v : World S P Nothing) → Shows x f w.processes v.processes
       → all_stand (plain x) c v ≡ true → all_stand (whole x) c w ≡ true
   all_stand_shown f c w v shows all =
-      list_all_implied (λ m. stands_there c (slice_get v.processes m)) (λ m. stands_there c (slice_get w.processes m)) (members_of (slice_get x.groups c))
+      list_all_implied (λ m. stands_there c (slice_get v.processes m)) (λ m. stands_there c (slice_get w.processes m))
+      (members_of (slice_get x.groups c))
       (λ m. stands_there_shown f c m w.processes v.processes shows (slice_get v.processes m) refl) all

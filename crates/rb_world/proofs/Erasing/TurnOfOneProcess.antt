@@ -25,10 +25,12 @@ module _ {S E P : Type 0} (x : Parts S E P) (start : World S P Nothing) where
 
   -- Process p, which the cut g shows as it is, has a turn in which it alone changes, to `new`; the plain run does the same, to `new'`, and
   -- the cut f shows that.
-  pub one_kept : (t : ℕ) (past : List Told) (p alternate : ℕ) (w : World S S Nothing) (v : World S P Nothing) (f g : ℕ → ℕ) (q new : Process S S) (new' : Process S P)
+  pub one_kept : (t : ℕ) (past : List Told) (p alternate : ℕ) (w : World S S Nothing) (v : World S P Nothing) (f g : ℕ → ℕ)
+      (q new : Process S S) (new' : Process S P)
       → IsErased x start t past v → Shows x g w.processes v.processes
       → slice_get w.processes p ≡ Some q → q.status ≡ Running → length q.levels ≤ g p
-      → plain_moves (plain x) (record { turn = t; process = p; alternate = alternate }) v (Some (as_is x q)) ≡ Some (took (with_process p (λ _. new') v))
+      → plain_moves (plain x) (record { turn = t; process = p; alternate = alternate }) v (Some (as_is x q))
+      ≡ Some (took (with_process p (λ _. new') v))
       → SameMail x q.state new'.state → x.kept new'.state ≡ x.kept q.state ++ (t, alternate) ∷ []
       → ((r : ℕ) → r ≢ p → g r ≡ f r) → ShowsOne x (f p) new new'
       → KeepsTurn x start t past (with_process p (λ _. new) w) f
@@ -42,7 +44,8 @@ module _ {S E P : Type 0} (x : Parts S E P) (start : World S P Nothing) where
         moved = took (with_process p (λ _. new') v);
         moves = ap (plain_moves (plain x) (record { turn = t; process = p; alternate = alternate }) v) there' ∙ moves;
         shows = one_shows p f g new new' w.processes v.processes others one shows;
-        keeps = map-change_at (λ (a : Process S P). x.kept a.state) p new' (λ turns. turns ++ (t, alternate) ∷ []) v.processes (as_is x q) there' kept;
+        keeps = map-change_at (λ (a : Process S P). x.kept a.state) p new'
+            (λ turns. turns ++ (t, alternate) ∷ []) v.processes (as_is x q) there' kept;
         here = slice_get_within v.processes p (as_is x q) there';
         sent = sent_kept x v (with_process p (λ _. new') v) (mail_changed x p (as_is x q) new' v.processes there' mail) erased.sent;
       }

@@ -22,7 +22,8 @@ used_alike [] = refl
 used_alike {C} (level ∷ levels) = ap (λ (ls : List (Level C)). unmarked_level level ∷ ls) (used_alike levels)
 
 pub turn_used_alike : {S C : Type 0} (q : Process S C) → unmarked (turn_used q) ≡ unmarked q
-turn_used_alike {C = C} q = ap (λ (ls : List (Level C)). record { state = q.state; levels = ls; at_line = q.at_line; status = q.status }) (used_alike q.levels)
+turn_used_alike {C = C} q =
+    ap (λ (ls : List (Level C)). record { state = q.state; levels = ls; at_line = q.at_line; status = q.status }) (used_alike q.levels)
 
 -- nor is the alternate that a level tries
 next_alike : {C : Type 0} (j : ℕ) (levels : List (Level C)) → map unmarked_level (change_at j next_alternate levels) ≡ map unmarked_level levels
@@ -31,7 +32,8 @@ next_alike zero (level ∷ levels) = refl
 next_alike {C} (suc j) (level ∷ levels) = ap (λ (ls : List (Level C)). unmarked_level level ∷ ls) (next_alike j levels)
 
 pub raised_alike : {S C : Type 0} (j : ℕ) (q : Process S C) → unmarked (raised j q) ≡ unmarked q
-raised_alike {C = C} j q = ap (λ (ls : List (Level C)). record { state = q.state; levels = ls; at_line = q.at_line; status = q.status }) (next_alike j q.levels)
+raised_alike {C = C} j q =
+    ap (λ (ls : List (Level C)). record { state = q.state; levels = ls; at_line = q.at_line; status = q.status }) (next_alike j q.levels)
 
 raised_at_alike : {S C : Type 0} (place : Option ℕ) (q : Process S C) → unmarked (at_place raised place q) ≡ unmarked q
 raised_at_alike None q = refl
@@ -59,7 +61,8 @@ module _ {S E P : Type 0} (x : Parts S E P) where
   at_place_quiet f r None q one quiet = quiet
   at_place_quiet f r (Some j) q one quiet = one j quiet
 
-  pub inside_quiet : (f : ℕ → Process S S → Process S S) (c : ℕ) (qs : List (Process S S)) → ((r j : ℕ) (q : Process S S) → IsQuiet x r q → IsQuiet x r (f j q))
+  pub inside_quiet : (f : ℕ → Process S S → Process S S) (c : ℕ) (qs : List (Process S S))
+      → ((r j : ℕ) (q : Process S S) → IsQuiet x r q → IsQuiet x r (f j q))
       → Each (IsQuiet x) qs → Each (IsQuiet x) (map (where_inside f c) qs)
   inside_quiet f c qs one quiet = Each-map (IsQuiet x) (where_inside f c) qs quiet
       (λ r q at. at_place_quiet f r (position (is_of c) q.levels) q (λ j. one r j q))
@@ -70,7 +73,8 @@ module _ {S E P : Type 0} (x : Parts S E P) where
 
 module _ {S E P : Type 0} (x : Parts S E P) (Known : ℕ → Process S S → Type 0) (start : World S P Nothing) where
   -- a world in which nobody has a line to release
-  pub stays_shown : (t : ℕ) (past : List Told) (w : World S S Nothing) → Each (IsQuiet x) w.processes → AllShown x start t past w → AllShownAfter x start t past w
+  pub stays_shown : (t : ℕ) (past : List Told) (w : World S S Nothing) → Each (IsQuiet x) w.processes
+      → AllShown x start t past w → AllShownAfter x start t past w
   stays_shown t past w quiet all f consistent = StaysShown quiet (all f consistent)
 
   pub erased_rests : Rests (BothBetween (GroundedBefore x Known) (ErasedBefore x start)) (ErasedAfter x start)
@@ -88,14 +92,16 @@ module _ {S E P : Type 0} (x : Parts S E P) (Known : ℕ → Process S S → Typ
   pub erased_uses : Uses (BothBetween (GroundedBefore x Known) (ErasedBefore x start)) (ErasedWithin x start)
   erased_uses t past p q w h runs = (
     h.1.0,
-    all_shown_alike x start t past w (with_process p (λ _. turn_used q) w) (only_at p (λ _. turn_used q)) (is_changed_at p (λ _. turn_used q) w.processes)
+    all_shown_alike x start t past w (with_process p (λ _. turn_used q) w) (only_at p (λ _. turn_used q))
+        (is_changed_at p (λ _. turn_used q) w.processes)
         (λ r q' at. only_alike p (λ _. turn_used q) r q' (nat_eq r p) refl
         (λ same. turn_used_alike q ∙ ap unmarked (some_same (sym runs.there ∙ (ap (slice_get w.processes) (sym same) ∙ at))))) h.1.1,
   )
 
   -- a private level went back
   alone_back : (t : ℕ) (past : List Told) (p : ℕ) (q : Process S S) (w : World S S Nothing) (j : ℕ) (level : Level S) → Grounded x Known w
-      → RejectsAt p q w j level → level.facts.conversation ≡ None → AllShown x start t past w → AllShown x start t past (with_process p (put_back (whole x) j) w)
+      → RejectsAt p q w j level → level.facts.conversation ≡ None → AllShown x start t past w
+      → AllShown x start t past (with_process p (put_back (whole x) j) w)
   alone_back t past p q w j level ground rejects private all =
       all_shown_back x start t past w (with_process p (put_back (whole x) j) w) (alone_at p j) (alone_changed x p j w.processes)
       (alone_line p j q w level rejects private) (λ r q' at. (ground.each r q' at).bare) all
@@ -132,7 +138,8 @@ module _ {S E P : Type 0} (x : Parts S E P) (Known : ℕ → Process S S → Typ
         stays_shown t past (all_next (whole x) c w)
             (inside_quiet x raised c v.processes (λ r i q'. raised_quiet x r i q')
             (inside_quiet x (put_back (whole x)) c w.processes (λ r i q'. back-quiet x r i q') h.0.ground.quiet))
-            (all_shown_alike x start t past v (all_next (whole x) c w) (λ r. where_inside raised c) (is_changed_each (where_inside raised c) v.processes)
+            (all_shown_alike x start t past v (all_next (whole x) c w) (λ r. where_inside raised c)
+            (is_changed_each (where_inside raised c) v.processes)
             (λ r q' at. raised_at_alike (position (is_of c) q'.levels) q')
             (together_back t past c w v (together_changed x c w.processes) h.0.ground h.1.1)),
       )

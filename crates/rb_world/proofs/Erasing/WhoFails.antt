@@ -27,7 +27,8 @@ AwayWithin {S} {C} {M} t past p left w = Each IsAway w.processes × ((q : Proces
 
 module _ {S E P : Type 0} (x : Parts S E P) (Known : ℕ → Process S S → Type 0) (laws : IsErasable x Known) where
   -- who falls may fail
-  pub may_fall : (p left : ℕ) (q : Process S S) (w : World S S Nothing) (cause : Cause) → GroundedWithin x Known p left w → slice_get w.processes p ≡ Some q
+  pub may_fall : (p left : ℕ) (q : Process S S) (w : World S S Nothing) (cause : Cause) → GroundedWithin x Known p left w
+      → slice_get w.processes p ≡ Some q
       → IsAway p q → IsLastPrivate left q → MustFall (whole x) q w left cause → MayFall q
   may_fall p left q w cause ground there away private (NoLevelLeft none) = spent_falls (ground.spent q there none)
     where
@@ -35,18 +36,21 @@ module _ {S E P : Type 0} (x : Parts S E P) (Known : ℕ → Process S S → Typ
       spent_falls (NoLevel bare) = Bare bare (away bare)
       spent_falls (OneSpent level one put) = Spent level one put (private none level one)
   may_fall p left q w cause ground there away private (Barred facts c talk line wants of_c at broken none is) =
-      let bare : q.levels ≡ [] = laws.outermost p q facts c (ground.ground.each p q there).known line wants of_c (ground.ground.talks c talk at broken) in
+      let bare : q.levels ≡ [] =
+      laws.outermost p q facts c (ground.ground.each p q there).known line wants of_c (ground.ground.talks c talk at broken) in
       Bare bare (away bare)
 
   -- the law of falls, under the ground and this invariant
-  pub erased_falls : (start : World S P Nothing) → Falls (whole x) (BothWithin (BothWithin (GroundedDuring x Known) AwayWithin) (ErasedWithin x start)) (ErasedAfter x start)
+  pub erased_falls : (start : World S P Nothing)
+      → Falls (whole x) (BothWithin (BothWithin (GroundedDuring x Known) AwayWithin) (ErasedWithin x start)) (ErasedAfter x start)
   erased_falls start t past p q w left cause h runs why =
       erased_falls_of x Known start t past p q w cause h.0.0.ground runs.there
       (may_fall p left q w cause h.0.0 runs.there (h.0.1.0 p q runs.there) (h.0.1.1 q runs.there) why) h.1
 
   -- the law of falls, where the ground itself says so
   pub erased_falls_if : (start : World S P Nothing)
-      → ((p left : ℕ) (q : Process S S) (w : World S S Nothing) → GroundedWithin x Known p left w → slice_get w.processes p ≡ Some q → IsAway p q × IsLastPrivate left q)
+      → ((p left : ℕ) (q : Process S S) (w : World S S Nothing) → GroundedWithin x Known p left w
+      → slice_get w.processes p ≡ Some q → IsAway p q × IsLastPrivate left q)
       → Falls (whole x) (BothWithin (GroundedDuring x Known) (ErasedWithin x start)) (ErasedAfter x start)
   erased_falls_if start knows t past p q w left cause h runs why =
       let known = knows p left q w h.0 runs.there in

@@ -29,10 +29,12 @@ pub record Now {S C M : Type 0} (p left : ℕ) (last : Option ℕ) (r : ℕ) (q 
 -- the next level out.
 pub data IsLast {C : Type 0} (groups : List Membership) (levels : List (Level C)) (left : ℕ) (last : Option ℕ) : Type 0 where
   NoneYet : last ≡ None → (left ≡ 0 → (i c : ℕ) → IsLevelOf c levels i → ⊥) → IsLast groups levels left last
-  OneBefore : (c d j : ℕ) → last ≡ Some c → left ≡ suc j → parent_of (slice_get groups c) ≡ Some d → IsLevelOf d levels j → IsLast groups levels left last
+  OneBefore : (c d j : ℕ) → last ≡ Some c → left ≡ suc j → parent_of (slice_get groups c) ≡ Some d → IsLevelOf d levels j
+      → IsLast groups levels left last
 
 -- a cascade of p, which was u in the world v in which it began, has come to the world w
-pub record HasCome {S C M : Type 0} (k : Kind S C M) (p : ℕ) (u : Process S C) (v : World S C M) (left : ℕ) (last : Option ℕ) (w : World S C M) : Type 0 where
+pub record HasCome {S C M : Type 0} (k : Kind S C M) (p : ℕ) (u : Process S C) (v : World S C M) (left : ℕ)
+    (last : Option ℕ) (w : World S C M) : Type 0 where
   pub last_is : IsLast k.groups u.levels left last
   pub each : (r : ℕ) (q : Process S C) → slice_get v.processes r ≡ Some q → Now p left last r q w
 
@@ -60,7 +62,8 @@ LeavesOthers {S} {C} {M} p conversation v later = (r : ℕ) (q : Process S C) �
 -- who had a level of a conversation still has it
 abbrev pub KeepsTalks : {S C M : Type 0} → Process S C → ℕ → World S C M → Type 0
 KeepsTalks {S} {C} {M} u p later =
-    (now : Process S C) × (slice_get later.processes p ≡ Some now) × ((i c : ℕ) (at : IsLevelOf c u.levels i) → slice_get now.levels i ≡ Some at.level)
+    (now : Process S C) × (slice_get later.processes p ≡ Some now)
+    × ((i c : ℕ) (at : IsLevelOf c u.levels i) → slice_get now.levels i ≡ Some at.level)
 
 -- a process was put back to its level number j, which goes on to its next alternate
 pub record IsBackAt {S C M : Type 0} (k : Kind S C M) (j : ℕ) (q : Process S C) (level : Level C) (now : Process S C) : Type 0 where

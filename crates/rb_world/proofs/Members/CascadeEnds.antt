@@ -21,23 +21,35 @@ twice : {A : Type 0} (f g : A → A) (xs : List A) (r : ℕ) {x : A} → slice_g
 twice f g xs r e = slice_get-map g (map f xs) r ∙ ap (option_map g) (slice_get-map f xs r ∙ ap (option_map f) e)
 
 further : {c p : ℕ} {events : List Event} (event : Event) → EndsIn c p events → EndsIn c p (event ∷ events)
-further event ends = record { inner = event ∷ ends.inner; alternate = ends.alternate; cause = ends.cause; is = ap (λ (others : List Event). event ∷ others) ends.is }
+further event ends =
+    record {
+      inner = event ∷ ends.inner;
+      alternate = ends.alternate;
+      cause = ends.cause;
+      is =
+          ap (λ (others : List Event). event ∷ others) ends.is;
+    }
 
 module _ {S C M : Type 0} (k : Kind S C M) (p : ℕ) (u : Process S C) (v : World S C M) where
   -- one more event stands before those of the rest of the cascade
   after_private : (last : Option ℕ) (line alternate : ℕ) (cause : Cause) (h : Happened S C M) → Ends k p u v last h
       → Ends k p u v last (after_event (Reject p line alternate cause) h)
   after_private last line alternate cause h (Alone e private others keeps) = Alone e private others keeps
-  after_private last line alternate cause h (AllBack c j events at others back) = AllBack c j (further (Reject p line alternate cause) events) at others back
-  after_private last line alternate cause h (AllFallen c j events at outermost others fell) = AllFallen c j (further (Reject p line alternate cause) events) at outermost others fell
+  after_private last line alternate cause h (AllBack c j events at others back) =
+      AllBack c j (further (Reject p line alternate cause) events) at others back
+  after_private last line alternate cause h (AllFallen c j events at outermost others fell) =
+      AllFallen c j (further (Reject p line alternate cause) events) at outermost others fell
 
   after_together : (last : Option ℕ) (d alternate : ℕ) (cause : Cause) (h : Happened S C M) → Ends k p u v (Some d) h
       → Ends k p u v last (after_event (RejectAll d alternate p cause) h)
   after_together last d alternate cause h (Alone e private others keeps) = absurd (none_some (sym e))
-  after_together last d alternate cause h (AllBack c j events at others back) = AllBack c j (further (RejectAll d alternate p cause) events) at others back
-  after_together last d alternate cause h (AllFallen c j events at outermost others fell) = AllFallen c j (further (RejectAll d alternate p cause) events) at outermost others fell
+  after_together last d alternate cause h (AllBack c j events at others back) =
+      AllBack c j (further (RejectAll d alternate p cause) events) at others back
+  after_together last d alternate cause h (AllFallen c j events at outermost others fell) =
+      AllFallen c j (further (RejectAll d alternate p cause) events) at outermost others fell
 
-module _ {S C M : Type 0} (k : Kind S C M) (p : ℕ) (u : Process S C) (v : World S C M) (there : slice_get v.processes p ≡ Some u) (nested : AllNested k v) where
+module _ {S C M : Type 0} (k : Kind S C M) (p : ℕ) (u : Process S C) (v : World S C M)
+    (there : slice_get v.processes p ≡ Some u) (nested : AllNested k v) where
   -- no conversation was put back before a private level
   none_before : (j : ℕ) (last : Option ℕ) (level : Level C) → IsLast k.groups u.levels (suc j) last → slice_get u.levels j ≡ Some level
       → level.facts.conversation ≡ None → last ≡ None
@@ -58,8 +70,11 @@ module _ {S C M : Type 0} (k : Kind S C M) (p : ℕ) (u : Process S C) (v : Worl
       → Ends k p u v last (with_process p (fallen k cause) w, [])
   falls-ends cause last w come (NoneYet e none) =
       let n : Now p 0 last p u w = come.each p u there in
-      Alone e tt (others_stay last 0 w (fallen k cause) come e)
-      (fallen k cause n.now, slice_get-change_at p (fallen k cause) w.processes ∙ ap (option_map (fallen k cause)) n.there, λ i c at. absurd (none refl i c at))
+      Alone e tt (others_stay last 0 w (fallen k cause) come e) (
+        fallen k cause n.now,
+        slice_get-change_at p (fallen k cause) w.processes ∙ ap (option_map (fallen k cause)) n.there,
+        λ i c at. absurd (none refl i c at),
+      )
   falls-ends cause last w come (OneBefore c d i e left parent around) = absurd (suc-ne-zero i (sym left))
 
   -- a private level is put back
@@ -90,7 +105,9 @@ module _ {S C M : Type 0} (k : Kind S C M) (p : ℕ) (u : Process S C) (v : Worl
       let none : last ≡ None = none_before j last level come.last_is here alone in
       rest last (with_process p (put_back k j) w)
       (private_come k p u v there nested j last w come
-      (NoneYet none (λ (zero : j ≡ 0). λ i c at. let below : i < j = conversation_out k.groups u.levels (nested p u there) i j c level at here alone in absurd (omega arith))))
+      (NoneYet none
+      (λ (zero : j ≡ 0). λ i c at. let below : i < j =
+      conversation_out k.groups u.levels (nested p u there) i j c level at here alone in absurd (omega arith))))
 
   -- a conversation is put back: who was outside it stays
   outside_stays_at : (c j r : ℕ) (last : Option ℕ) (q : Process S C) (w : World S C M) (f : Process S C → Process S C)
@@ -101,11 +118,13 @@ module _ {S C M : Type 0} (k : Kind S C M) (p : ℕ) (u : Process S C) (v : Worl
       twice (where_inside (put_back k) c) f w.processes r n.there
       ∙ ap Some (ap f (ap (where_inside (put_back k) c) now ∙ stays_outside (put_back k) c q outside) ∙ same q outside)
 
-  outside_stays : (c j : ℕ) (last : Option ℕ) (w : World S C M) (f : Process S C → Process S C) → HasCome k p u v (suc j) last w → IsLevelOf c u.levels j
+  outside_stays : (c j : ℕ) (last : Option ℕ) (w : World S C M) (f : Process S C → Process S C)
+      → HasCome k p u v (suc j) last w → IsLevelOf c u.levels j
       → ((q : Process S C) → is_inside c q ≡ false → f q ≡ q)
       → LeavesOthers p (Some c) v (with_each f (all_back k c w))
   outside_stays c j last w f come at same r q here other outside =
-      outside_stays_at c j r last q w f (come.each r q here) (place k p u v there nested c j r last q w come.last_is at here (come.each r q here)) same outside
+      outside_stays_at c j r last q w f (come.each r q here)
+      (place k p u v there nested c j r last q w come.last_is at here (come.each r q here)) same outside
 
   -- who is inside is put back
   inside_back : (c j r : ℕ) (last : Option ℕ) (q : Process S C) (w : World S C M) → AreNested k.groups q.levels → IsLevelOf c q.levels j
@@ -114,7 +133,8 @@ module _ {S C M : Type 0} (k : Kind S C M) (p : ℕ) (u : Process S C) (v : Worl
       changed_inside (put_back k) c j n.now (place_found k.groups c j q.levels n.now.levels levels own n.outer)
 
   -- all that are inside go on to the next alternate
-  all_go_back : (c j : ℕ) (last : Option ℕ) (w : World S C M) → HasCome k p u v (suc j) last w → IsLevelOf c u.levels j → AreBackAt k c j v (all_next k c w)
+  all_go_back : (c j : ℕ) (last : Option ℕ) (w : World S C M) → HasCome k p u v (suc j) last w → IsLevelOf c u.levels j
+      → AreBackAt k c j v (all_next k c w)
   all_go_back c j last w come at r q here own =
       let n : Now p (suc j) last r q w = come.each r q here in
       let back : Process S C = put_back k j n.now in (
@@ -127,7 +147,8 @@ module _ {S C M : Type 0} (k : Kind S C M) (p : ℕ) (u : Process S C) (v : Worl
       )
 
   -- or fail
-  all_fall : (c j : ℕ) (last : Option ℕ) (w : World S C M) → HasCome k p u v (suc j) last w → IsLevelOf c u.levels j → HaveFallen c j v (all_broken k c w)
+  all_fall : (c j : ℕ) (last : Option ℕ) (w : World S C M) → HasCome k p u v (suc j) last w → IsLevelOf c u.levels j
+      → HaveFallen c j v (all_broken k c w)
   all_fall c j last w come at r q here own =
       let n : Now p (suc j) last r q w = come.each r q here in
       let back : Process S C = put_back k j n.now in
@@ -138,7 +159,8 @@ module _ {S C M : Type 0} (k : Kind S C M) (p : ℕ) (u : Process S C) (v : Worl
       }) in (
         fallen k Inner back,
         twice (where_inside (put_back k) c) (fallen_inside k c) w.processes r n.there
-            ∙ ap Some (ap (fallen_inside k c) (inside_back c j r last q w (nested r q here) own n) ∙ ap (λ (b : Bool). cond b (fallen k Inner back) back) inside),
+            ∙ ap Some (ap (fallen_inside k c) (inside_back c j r last q w (nested r q here) own n)
+            ∙ ap (λ (b : Bool). cond b (fallen k Inner back) back) inside),
         refl,
       )
 
@@ -187,7 +209,8 @@ module _ {S C M : Type 0} (k : Kind S C M) (p : ℕ) (u : Process S C) (v : Worl
       → ((next : Option ℕ) (x : World S C M) → HasCome k p u v j next x → Ends k p u v next (outer x))
       → (level : Option (Level C)) → slice_get u.levels j ≡ level → Ends k p u v last (reject_at k p j cause level w outer)
   reject_at-ends j cause last w outer come within rest None e = absurd (nothing_within u.levels j within e)
-  reject_at-ends j cause last w outer come within rest (Some level) e = reject_either-ends j cause last level w outer come e rest level.facts.conversation refl
+  reject_at-ends j cause last w outer come within rest (Some level) e =
+      reject_either-ends j cause last level w outer come e rest level.facts.conversation refl
 
   -- a cascade that has so many levels left
   reject_on-ends : (left : ℕ) (cause : Cause) (last : Option ℕ) (w : World S C M) → left ≤ length u.levels → HasCome k p u v left last w
@@ -205,6 +228,9 @@ module _ {S C M : Type 0} (k : Kind S C M) (p : ℕ) (u : Process S C) (v : Worl
   reject-ends n cause within none =
       reject_on-ends n cause None v within
       (record {
-        last_is = NoneYet refl (λ e i c at. let here : i < length u.levels = slice_get_within u.levels i at.level at.there in let bare : length u.levels ≡ 0 = none e in absurd (omega arith));
+        last_is = NoneYet refl
+            (λ e i c at. let here : i < length u.levels =
+            slice_get_within u.levels i at.level at.there in let bare : length u.levels ≡ 0 =
+            none e in absurd (omega arith));
         each = λ r q here. record { now = q; there = here; outer = λ i below. refl; same = λ other outside. refl };
       })

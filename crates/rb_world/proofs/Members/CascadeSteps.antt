@@ -14,10 +14,12 @@ use Rattle.rb_world.proofs.Members.PlaceFacts.{inside_level, length-take_to, of_
 use Rattle.rb_world.proofs.Members.Cascade.{AllNested, HasCome, IsBackAt, IsLast, IsOutsideOf, NoneYet, Now, OneBefore}
 
 -- levels that agree with nested ones as far as a conversation's level have it as their first of the conversation
-not_before : {C : Type 0} (groups : List Membership) (c i j : ℕ) (levels : List (Level C)) (level : Level C) → AreNested groups levels → IsLevelOf c levels j
+not_before : {C : Type 0} (groups : List Membership) (c i j : ℕ) (levels : List (Level C)) (level : Level C)
+    → AreNested groups levels → IsLevelOf c levels j
     → i < j → slice_get levels i ≡ Some level → (of_it : Bool) → is_of c level ≡ of_it → is_of c level ≡ false
 not_before groups c i j levels level nested at below there true e =
-    let same : i ≡ j = same_number groups levels levels nested nested c i j (record { level = level; there = there; of_it = passes_of c level e }) at in
+    let same : i ≡ j =
+    same_number groups levels levels nested nested c i j (record { level = level; there = there; of_it = passes_of c level e }) at in
     absurd (omega arith)
 not_before groups c i j levels level nested at below there false e = e
 
@@ -46,16 +48,20 @@ is_back {S} {C} {M} k j q now level there agree =
     let here : slice_get now.levels j ≡ Some level = agree j (omega arith) ∙ there in
     subst (λ (o : Option (Level C)). IsBackAt k j q level (raised j (back_to k j now o))) (sym here)
     (record {
-      innermost = length-change_at j next_alternate (take (j + 1) now.levels) ∙ (ap (λ (n : ℕ). length (take n now.levels)) (add-one j) ∙ length-take_to j now.levels here);
-      outer = λ i below. slice_get-change_other j next_alternate (take (j + 1) now.levels) i (λ e. absurd (omega arith)) ∙ (slice_get-take (j + 1) now.levels i (omega arith) ∙ agree i (omega arith));
-      next = slice_get-change_at j next_alternate (take (j + 1) now.levels) ∙ ap (option_map next_alternate) (slice_get-take (j + 1) now.levels j (omega arith) ∙ here);
+      innermost = length-change_at j next_alternate (take (j + 1) now.levels)
+          ∙ (ap (λ (n : ℕ). length (take n now.levels)) (add-one j) ∙ length-take_to j now.levels here);
+      outer = λ i below. slice_get-change_other j next_alternate (take (j + 1) now.levels) i (λ e. absurd (omega arith))
+          ∙ (slice_get-take (j + 1) now.levels i (omega arith) ∙ agree i (omega arith));
+      next = slice_get-change_at j next_alternate (take (j + 1) now.levels)
+          ∙ ap (option_map next_alternate) (slice_get-take (j + 1) now.levels j (omega arith) ∙ here);
       left = k.cut (j + 1) now.state;
       state = refl;
       away = refl;
     })
 
 -- a process is changed at its level of a conversation, or stays
-pub changed_inside : {S C : Type 0} (f : ℕ → Process S C → Process S C) (c j : ℕ) (q : Process S C) → position (is_of c) q.levels ≡ Some j → where_inside f c q ≡ f j q
+pub changed_inside : {S C : Type 0} (f : ℕ → Process S C → Process S C) (c j : ℕ) (q : Process S C)
+    → position (is_of c) q.levels ≡ Some j → where_inside f c q ≡ f j q
 changed_inside f c j q e = ap (λ (o : Option ℕ). at_place f o q) e
 
 -- who is not inside the conversation stays
@@ -75,9 +81,11 @@ outside_at groups levels (suc j) d out = (j, refl, out)
 -- who is inside a conversation is inside the one right around it
 pub inside_parent : {C : Type 0} (groups : List Membership) (levels : List (Level C)) (i c d : ℕ) → AreNested groups levels → IsLevelOf c levels i
     → parent_of (slice_get groups c) ≡ Some d → (j : ℕ) × (i ≡ suc j) × IsLevelOf d levels j
-inside_parent groups levels i c d nested at parent = outside_at groups levels i d (subst (λ (o : Option ℕ). HasOutside o levels i) parent (nested i c at))
+inside_parent groups levels i c d nested at parent =
+    outside_at groups levels i d (subst (λ (o : Option ℕ). HasOutside o levels i) parent (nested i c at))
 
-module _ {S C M : Type 0} (k : Kind S C M) (p : ℕ) (u : Process S C) (v : World S C M) (there : slice_get v.processes p ≡ Some u) (nested : AllNested k v) where
+module _ {S C M : Type 0} (k : Kind S C M) (p : ℕ) (u : Process S C) (v : World S C M)
+    (there : slice_get v.processes p ≡ Some u) (nested : AllNested k v) where
   -- who is outside the conversation that is put back now was outside the last one
   not_inside_last : (c d j : ℕ) (q : Process S C) → AreNested k.groups q.levels → parent_of (slice_get k.groups c) ≡ Some d → is_inside d q ≡ false
       → (inside : Bool) → is_inside c q ≡ inside → is_inside c q ≡ false
@@ -87,7 +95,8 @@ module _ {S C M : Type 0} (k : Kind S C M) (p : ℕ) (u : Process S C) (v : Worl
       absurd (true≢false (sym (any_level d around.0 q.levels around.2) ∙ outside))
   not_inside_last c d j q levels parent outside false e = e
 
-  outside_last : (c j : ℕ) (last : Option ℕ) (q : Process S C) → IsLast k.groups u.levels (suc j) last → IsLevelOf c u.levels j → AreNested k.groups q.levels
+  outside_last : (c j : ℕ) (last : Option ℕ) (q : Process S C) → IsLast k.groups u.levels (suc j) last
+      → IsLevelOf c u.levels j → AreNested k.groups q.levels
       → is_inside c q ≡ false → IsOutsideOf last q
   outside_last c j last q (NoneYet e none) at levels outside = subst (λ (o : Option ℕ). IsOutsideOf o q) (sym e) tt
   outside_last c j last q (OneBefore b d i e left parent around) at levels outside =
@@ -99,7 +108,8 @@ module _ {S C M : Type 0} (k : Kind S C M) (p : ℕ) (u : Process S C) (v : Worl
       → slice_get v.processes r ≡ Some q → (n : Now p (suc j) last r q w) → (inside : Bool) → is_inside c q ≡ inside → Place c j p r q n.now
   place_of c j r last q w is at here n true e =
       let found : (i : ℕ) × IsLevelOf c q.levels i = inside_level c q.levels e in
-      InsideIt (subst (IsLevelOf c q.levels) (same_number k.groups q.levels u.levels (nested r q here) (nested p u there) c found.0 j found.1 at) found.1) n.outer
+      InsideIt (subst (IsLevelOf c q.levels)
+      (same_number k.groups q.levels u.levels (nested r q here) (nested p u there) c found.0 j found.1 at) found.1) n.outer
   place_of c j r last q w is at here n false e =
       let other : r ≢ p = λ (same : r ≡ p).
       let own : u ≡ q = some_same (sym there ∙ (ap (slice_get v.processes) (sym same) ∙ here)) in
@@ -142,7 +152,8 @@ module _ {S C M : Type 0} (k : Kind S C M) (p : ℕ) (u : Process S C) (v : Worl
   together_now c j r last q w here n (InsideIt at agree) = record {
     now = where_inside (put_back k) c n.now;
     there = slice_get-map (where_inside (put_back k) c) w.processes r ∙ ap (option_map (where_inside (put_back k) c)) n.there;
-    outer = λ i below. ap (λ (x : Process S C). slice_get x.levels i) (changed_inside (put_back k) c j n.now (place_found k.groups c j q.levels n.now.levels (nested r q here) at agree))
+    outer = λ i below. ap (λ (x : Process S C). slice_get x.levels i)
+        (changed_inside (put_back k) c j n.now (place_found k.groups c j q.levels n.now.levels (nested r q here) at agree))
         ∙ (put_back_outer k j n.now i (omega arith) ∙ n.outer i (omega arith));
     same = λ _ outside. absurd (true≢false (sym (any_level c j q.levels at) ∙ outside));
   }

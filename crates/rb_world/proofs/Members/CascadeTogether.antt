@@ -30,16 +30,19 @@ abbrev pub LeaveBoth : {S C M : Type 0} → World S C M → ℕ → ℕ → ℕ 
 LeaveBoth {S} {C} {M} v c e j later = (r : ℕ) (q : Process S C) → slice_get v.processes r ≡ Some q → IsLevelOf e q.levels j
     → (now : Process S C) × (slice_get later.processes r ≡ Some now) × (is_inside c now ≡ false)
 
-module _ {S C M : Type 0} (k : Kind S C M) (p : ℕ) (u : Process S C) (v : World S C M) (there : slice_get v.processes p ≡ Some u) (nested : AllNested k v) where
+module _ {S C M : Type 0} (k : Kind S C M) (p : ℕ) (u : Process S C) (v : World S C M)
+    (there : slice_get v.processes p ≡ Some u) (nested : AllNested k v) where
   -- somebody is inside c, or nobody is
   where_one : (c e j r i : ℕ) (q : Process S C) → IsLevelOf e u.levels j → slice_get v.processes r ≡ Some q → IsLevelOf c q.levels i
       → (i < j) ⊎ (j ≤ i) → (inside : Bool) → is_inside e q ≡ inside → Where c e j v
   where_one c e j r i q at here own (inl below) inside is =
-      Apart (λ s i' x e' own' at'. let same : i' ≡ i = same_number k.groups x.levels q.levels (nested s x e') (nested r q here) c i' i own' own in omega arith)
+      Apart (λ s i' x e' own' at'. let same : i' ≡ i =
+      same_number k.groups x.levels q.levels (nested s x e') (nested r q here) c i' i own' own in omega arith)
   where_one c e j r i q at here own (inr within) true is =
       let found : (n : ℕ) × IsLevelOf e q.levels n = inside_level e q.levels is in
       Within r i q here own
-      (subst (IsLevelOf e q.levels) (same_number k.groups q.levels u.levels (nested r q here) (nested p u there) e found.0 j found.1 at) found.1) within
+      (subst (IsLevelOf e q.levels)
+      (same_number k.groups q.levels u.levels (nested r q here) (nested p u there) e found.0 j found.1 at) found.1) within
   where_one c e j r i q at here own (inr within) false is =
       Apart (λ s i' x e' own' at'.
       let same : i' ≡ i = same_number k.groups x.levels q.levels (nested s x e') (nested r q here) c i' i own' own in
@@ -66,19 +69,23 @@ module _ {S C M : Type 0} (k : Kind S C M) (p : ℕ) (u : Process S C) (v : Worl
       true≢false (sym (any_level e j u.levels at) ∙ (ap (is_inside e) own ∙ outside))
 
   -- the level of e that is at its place
-  at_place_of : (e j r : ℕ) (q : Process S C) → IsLevelOf e u.levels j → slice_get v.processes r ≡ Some q → is_inside e q ≡ true → IsLevelOf e q.levels j
+  at_place_of : (e j r : ℕ) (q : Process S C) → IsLevelOf e u.levels j → slice_get v.processes r ≡ Some q
+      → is_inside e q ≡ true → IsLevelOf e q.levels j
   at_place_of e j r q at here inside =
       let found : (n : ℕ) × IsLevelOf e q.levels n = inside_level e q.levels inside in
       subst (IsLevelOf e q.levels) (same_number k.groups q.levels u.levels (nested r q here) (nested p u there) e found.0 j found.1 at) found.1
 
   -- the levels of c are kept where none is as far in
-  apart_stays_at : (c e j r : ℕ) (q : Process S C) (later : World S C M) → IsLevelOf e u.levels j → LeavesOthers p (Some e) v later → KeepOuter v e j later
+  apart_stays_at : (c e j r : ℕ) (q : Process S C) (later : World S C M) → IsLevelOf e u.levels j
+      → LeavesOthers p (Some e) v later → KeepOuter v e j later
       → ((r i : ℕ) (q : Process S C) → slice_get v.processes r ≡ Some q → IsLevelOf c q.levels i → IsLevelOf e q.levels j → i < j)
       → slice_get v.processes r ≡ Some q → (inside : Bool) → is_inside e q ≡ inside
       → (now : Process S C) × (slice_get later.processes r ≡ Some now) × Carries c q.levels now.levels
   apart_stays_at c e j r q later at others outer apart here true is =
       let own : IsLevelOf e q.levels j = at_place_of e j r q at here is in
-      let kept : (now : Process S C) × (slice_get later.processes r ≡ Some now) × ((i : ℕ) → i < j → slice_get now.levels i ≡ slice_get q.levels i) = outer r q here own in
+      let kept : (now : Process S C) × (slice_get later.processes r ≡ Some now)
+      × ((i : ℕ) → i < j → slice_get now.levels i ≡ slice_get q.levels i) =
+      outer r q here own in
       (kept.0, kept.1, λ i one. (one.level, kept.2 i (apart r i q here one own) ∙ one.there, refl))
   apart_stays_at c e j r q later at others outer apart here false is =
       (q, others r q here (not_p e j r q at here is) is, carries_same c q.levels)
@@ -91,30 +98,37 @@ module _ {S C M : Type 0} (k : Kind S C M) (p : ℕ) (u : Process S C) (v : Worl
 
   -- who is outside e is outside c, where one is inside both
   outside_both : (c e j r i : ℕ) (q : Process S C) → slice_get v.processes r ≡ Some q → IsLevelOf c q.levels i → IsLevelOf e q.levels j → j ≤ i
-      → (s : ℕ) (x : Process S C) → slice_get v.processes s ≡ Some x → is_inside e x ≡ false → (inside : Bool) → is_inside c x ≡ inside → is_inside c x ≡ false
+      → (s : ℕ) (x : Process S C) → slice_get v.processes s ≡ Some x → is_inside e x ≡ false → (inside : Bool)
+      → is_inside c x ≡ inside → is_inside c x ≡ false
   outside_both c e j r i q here own at within s x there' outside true is =
       let found : (n : ℕ) × IsLevelOf c x.levels n = inside_level c x.levels is in
       let same : found.0 ≡ i = same_number k.groups x.levels q.levels (nested s x there') (nested r q here) c found.0 i found.1 own in
       let around : IsLevelOf e x.levels j =
-      same_around k.groups q.levels x.levels (nested r q here) (nested s x there') i j c e own (subst (IsLevelOf c x.levels) same found.1) at within in
+      same_around k.groups q.levels x.levels (nested r q here) (nested s x there') i j c e own
+      (subst (IsLevelOf c x.levels) same found.1) at within in
       absurd (true≢false (sym (any_level e j x.levels around) ∙ outside))
   outside_both c e j r i q here own at within s x there' outside false is = is
 
   -- nobody is inside c any more, if nobody is who was inside e
-  left_at : (c e j r i : ℕ) (q : Process S C) (later : World S C M) → IsLevelOf e u.levels j → LeavesOthers p (Some e) v later → LeaveBoth v c e j later
+  left_at : (c e j r i : ℕ) (q : Process S C) (later : World S C M) → IsLevelOf e u.levels j
+      → LeavesOthers p (Some e) v later → LeaveBoth v c e j later
       → slice_get v.processes r ≡ Some q → IsLevelOf c q.levels i → IsLevelOf e q.levels j → j ≤ i
-      → (s : ℕ) (x y : Process S C) → slice_get v.processes s ≡ Some x → slice_get later.processes s ≡ Some y → (inside : Bool) → is_inside e x ≡ inside
+      → (s : ℕ) (x y : Process S C) → slice_get v.processes s ≡ Some x → slice_get later.processes s ≡ Some y
+      → (inside : Bool) → is_inside e x ≡ inside
       → is_inside c y ≡ false
   left_at c e j r i q later at others leave here own own' within s x y before after true is =
-      let left : (now : Process S C) × (slice_get later.processes s ≡ Some now) × (is_inside c now ≡ false) = leave s x before (at_place_of e j s x at before is) in
+      let left : (now : Process S C) × (slice_get later.processes s ≡ Some now) × (is_inside c now ≡ false) =
+      leave s x before (at_place_of e j s x at before is) in
       ap (is_inside c) (some_same (sym after ∙ left.1)) ∙ left.2
   left_at c e j r i q later at others leave here own own' within s x y before after false is =
       ap (is_inside c) (some_same (sym after ∙ others s x before (not_p e j s x at before is) is))
       ∙ outside_both c e j r i q here own own' within s x before is (is_inside c x) refl
 
   -- the same of all that are in the world after it
-  pub within_left : (c e j r i : ℕ) (q : Process S C) (later : World S C M) → IsLevelOf e u.levels j → LeavesOthers p (Some e) v later → LeaveBoth v c e j later
-      → slice_get v.processes r ≡ Some q → IsLevelOf c q.levels i → IsLevelOf e q.levels j → j ≤ i → length later.processes ≡ length v.processes → IsLeft c later
+  pub within_left : (c e j r i : ℕ) (q : Process S C) (later : World S C M) → IsLevelOf e u.levels j
+      → LeavesOthers p (Some e) v later → LeaveBoth v c e j later
+      → slice_get v.processes r ≡ Some q → IsLevelOf c q.levels i → IsLevelOf e q.levels j → j ≤ i
+      → length later.processes ≡ length v.processes → IsLeft c later
   within_left c e j r i q later at others leave here own own' within size s y after =
       let below : s < length later.processes = slice_get_within later.processes s y after in
       let before : (x : Process S C) × (slice_get v.processes s ≡ Some x) = slice_get-there v.processes s (omega arith) in

@@ -16,7 +16,8 @@ module _ {C : Type 0} where
   -- a level that has used one turn more is of the same conversation
   pub used_level : (c : ℕ) (levels : List (Level C)) (i : ℕ) → IsLevelOf c levels i → IsLevelOf c (map one_used levels) i
   used_level c [] i at = absurd (none_some at.there)
-  used_level c (l ∷ levels) zero at = record { level = one_used l; there = refl; of_it = ap (λ (x : Level C). x.facts.conversation) (some_same at.there) ∙ at.of_it }
+  used_level c (l ∷ levels) zero at =
+      record { level = one_used l; there = refl; of_it = ap (λ (x : Level C). x.facts.conversation) (some_same at.there) ∙ at.of_it }
   used_level c (l ∷ levels) (suc i) at =
       let further : IsLevelOf c (map one_used levels) i = used_level c levels i (record { level = at.level; there = at.there; of_it = at.of_it }) in
       record { level = further.level; there = further.there; of_it = further.of_it }
@@ -24,7 +25,8 @@ module _ {C : Type 0} where
   -- and it was before
   pub level_used : (c : ℕ) (levels : List (Level C)) (i : ℕ) → IsLevelOf c (map one_used levels) i → IsLevelOf c levels i
   level_used c [] i at = absurd (none_some at.there)
-  level_used c (l ∷ levels) zero at = record { level = l; there = refl; of_it = ap (λ (x : Level C). x.facts.conversation) (some_same at.there) ∙ at.of_it }
+  level_used c (l ∷ levels) zero at =
+      record { level = l; there = refl; of_it = ap (λ (x : Level C). x.facts.conversation) (some_same at.there) ∙ at.of_it }
   level_used c (l ∷ levels) (suc i) at =
       let further : IsLevelOf c levels i = level_used c levels i (record { level = at.level; there = at.there; of_it = at.of_it }) in
       record { level = further.level; there = further.there; of_it = further.of_it }
@@ -67,7 +69,8 @@ module _ {S C M : Type 0} (k : Kind S C M) (p : ℕ) (q : Process S C) (w : Worl
   counted_other r other = slice_get-change_other p (λ _. turn_used q) w.processes r other
 
   -- it has nested levels too
-  counted_nested_at : AllNested k w → (r : ℕ) (x : Process S C) → slice_get (counted p q w).processes r ≡ Some x → (r ≡ p) ⊎ (r ≡ p → ⊥) → AreNested k.groups x.levels
+  counted_nested_at : AllNested k w → (r : ℕ) (x : Process S C) → slice_get (counted p q w).processes r ≡ Some x
+      → (r ≡ p) ⊎ (r ≡ p → ⊥) → AreNested k.groups x.levels
   counted_nested_at nested r x e (inl same) =
       let own : turn_used q ≡ x = some_same (sym counted_there ∙ (ap (slice_get (counted p q w).processes) (sym same) ∙ e)) in
       subst (λ (y : Process S C). AreNested k.groups y.levels) own (nested_used k.groups q.levels (nested p q runs.there))
@@ -85,7 +88,8 @@ keeps_on {S} {C} {M} c w v later first next r q e =
     (other.0, other.1, carries_on c q.levels one.0.levels other.0.levels one.2 other.2)
 
 -- p alone is changed
-own_keeps_at : {S C M : Type 0} (c p : ℕ) (q : Process S C) (f : Process S C → Process S C) (w : World S C M) → slice_get w.processes p ≡ Some q → Carries c q.levels (f q).levels
+own_keeps_at : {S C M : Type 0} (c p : ℕ) (q : Process S C) (f : Process S C → Process S C) (w : World S C M)
+    → slice_get w.processes p ≡ Some q → Carries c q.levels (f q).levels
     → (r : ℕ) (x : Process S C) → slice_get w.processes r ≡ Some x → (r ≡ p) ⊎ (r ≡ p → ⊥)
     → (now : Process S C) × (slice_get (change_at p f w.processes) r ≡ Some now) × Carries c x.levels now.levels
 own_keeps_at {S} {C} {M} c p q f w there carries r x e (inl same) =

@@ -114,7 +114,8 @@ one_more : (passes : Bool) (event : Event) (events : List Event) {n : ℕ} → l
 one_more true event events few = omega arith
 one_more false event events few = omega arith
 
-filter-at_most : (test : Event → Bool) (events others : List Event) → length (filter test (events ++ others)) ≤ length events + length (filter test others)
+filter-at_most : (test : Event → Bool) (events others : List Event)
+    → length (filter test (events ++ others)) ≤ length events + length (filter test others)
 filter-at_most test [] others = omega arith
 filter-at_most test (event ∷ events) others =
     omega (arith, one_more (test event) event (filter test (events ++ others)) (filter-at_most test events others))
@@ -156,12 +157,14 @@ module _ {test : Event → Bool} (is : IsOfRejections test) where
         let errors : List Event = compared error_at 0 before.processes moved.world.processes in
         let completions : List Event = compared done_at 0 before.processes moved.world.processes in
         let none : filter test completions ≡ [] =
-        ap (filter test) (sym (append-nil completions)) ∙ filter-none test completions [] (compared_fails done_at done_fails 0 before.processes moved.world.processes) in
+        ap (filter test) (sym (append-nil completions))
+        ∙ filter-none test completions [] (compared_fails done_at done_fails 0 before.processes moved.world.processes) in
         omega (
           arith,
           few,
           filter-at_most test moved.rejections (errors ++ (moved.passes ++ completions)),
-          ap length (filter-none test errors (moved.passes ++ completions) (compared_fails error_at error_fails 0 before.processes moved.world.processes)),
+          ap length (filter-none test errors (moved.passes ++ completions)
+              (compared_fails error_at error_fails 0 before.processes moved.world.processes)),
           filter-at_most test moved.passes completions,
           ap length none,
         )
@@ -172,7 +175,8 @@ module _ {test : Event → Bool} (is : IsOfRejections test) where
     turn-few_rejections t p w shallow = few_rejections w (move k t p w) (move-few k t p w shallow)
 
 module _ {S C M : Type 0} (k : Kind S C M) where
-  few_told : (before : World S C M) (moved : Moved S C M) → IsFew k moved → length (told k before moved).events ≤ most_levels + length before.processes
+  few_told : (before : World S C M) (moved : Moved S C M) → IsFew k moved
+      → length (told k before moved).events ≤ most_levels + length before.processes
   few_told before moved few =
       let errors : List Event = compared error_at 0 before.processes moved.world.processes in
       let completions : List Event = compared done_at 0 before.processes moved.world.processes in

@@ -15,7 +15,8 @@ use Rattle.rb_world.proofs.Members.Together.{AllPass, AllStay, HaveCome, IsLeft,
 use Rattle.rb_world.proofs.Members.CountedTurns.{carries_same, counted_keeps, counted_other, counted_there, keeps_on, level_used, nested_used, own_keeps}
 use Rattle.rb_world.proofs.Members.PassTogether.{LastAt, all_pass, last_at, last_used, leave_keeps, left_not_inside, map_found}
 
-module _ {S C M : Type 0} (k : Kind S C M) (p : ℕ) (q : Process S C) (w : World S C M) (runs : RunsAt p q w) (ordered : IsOrdered k w) (s : S) (m : M) where
+module _ {S C M : Type 0} (k : Kind S C M) (p : ℕ) (q : Process S C) (w : World S C M) (runs : RunsAt p q w)
+    (ordered : IsOrdered k w) (s : S) (m : M) where
   -- the world in which p came to the line
   abbrev stood : World S C M
   stood = come_to_stand p (turn_used q).levels (counted p q w) (s, m)
@@ -30,7 +31,8 @@ module _ {S C M : Type 0} (k : Kind S C M) (p : ℕ) (q : Process S C) (w : Worl
       slice_get-change_other p (λ _. stands_now s (turn_used q).levels) (counted p q w).processes r other ∙ counted_other k p q w runs r other
 
   -- what holds of the levels of each process before the turn holds there
-  stood_each_at : (P : ℕ → List (Level C) → Type 0) → ((r : ℕ) (y : Process S C) → slice_get w.processes r ≡ Some y → P r y.levels) → P p (turn_used q).levels
+  stood_each_at : (P : ℕ → List (Level C) → Type 0)
+      → ((r : ℕ) (y : Process S C) → slice_get w.processes r ≡ Some y → P r y.levels) → P p (turn_used q).levels
       → (r : ℕ) (y : Process S C) → slice_get stood.processes r ≡ Some y → (r ≡ p) ⊎ (r ≡ p → ⊥) → P r y.levels
   stood_each_at P each own r y here (inl same) =
       let is : stands_now s (turn_used q).levels ≡ y = some_same (sym stood_there ∙ (ap (slice_get stood.processes) (sym same) ∙ here)) in
@@ -39,7 +41,8 @@ module _ {S C M : Type 0} (k : Kind S C M) (p : ℕ) (q : Process S C) (w : Worl
 
   stood_nested : (r : ℕ) (y : Process S C) → slice_get stood.processes r ≡ Some y → AreNested k.groups y.levels
   stood_nested r y here =
-      stood_each_at (λ _ levels. AreNested k.groups levels) ordered.nested (nested_used k.groups q.levels (ordered.nested p q runs.there)) r y here (cases_eq r p)
+      stood_each_at (λ _ levels. AreNested k.groups levels) ordered.nested
+      (nested_used k.groups q.levels (ordered.nested p q runs.there)) r y here (cases_eq r p)
 
   abbrev IsMember : ℕ → ℕ → Type 0
   IsMember c r = list_any (nat_eq r) (members_of (slice_get k.groups c)) ≡ true
@@ -55,12 +58,14 @@ module _ {S C M : Type 0} (k : Kind S C M) (p : ℕ) (q : Process S C) (w : Worl
   not_standing c r y all here away true is =
       let found : (n : ℕ) × IsLevelOf c y.levels n = inside_level c y.levels is in
       let there : stands_there c (slice_get stood.processes r) ≡ true =
-      all_pass (λ n. stands_there c (slice_get stood.processes n)) r (members_of (slice_get k.groups c)) all (stood_member c r found.0 y here found.1) in
+      all_pass (λ n. stands_there c (slice_get stood.processes n)) r (members_of (slice_get k.groups c)) all
+      (stood_member c r found.0 y here found.1) in
       absurd (true≢false (sym there ∙ (ap (stands_there c) here ∙ away)))
   not_standing c r y all here away false is = is
 
   -- who leaves is not inside any more
-  last_left : (c r : ℕ) (y : Process S C) → slice_get stood.processes r ≡ Some y → (last : Option (Level C)) → last_of y.levels ≡ last → is_last_of c last ≡ true
+  last_left : (c r : ℕ) (y : Process S C) → slice_get stood.processes r ≡ Some y → (last : Option (Level C))
+      → last_of y.levels ≡ last → is_last_of c last ≡ true
       → list_any (is_of c) (without_last y.levels) ≡ false
   last_left c r y here None e is = absurd (true≢false (sym is))
   last_left c r y here (Some level) e is =
@@ -74,11 +79,13 @@ module _ {S C M : Type 0} (k : Kind S C M) (p : ℕ) (q : Process S C) (w : Worl
 
   all_left : (c : ℕ) → all_stand k c stood ≡ true → IsLeft c (all_leave k c stood)
   all_left c all r z after =
-      let found : (y : Process S C) × (slice_get stood.processes r ≡ Some y) × (leaves k c y ≡ z) = map_found (leaves k c) stood.processes r z after in
+      let found : (y : Process S C) × (slice_get stood.processes r ≡ Some y) × (leaves k c y ≡ z) =
+      map_found (leaves k c) stood.processes r z after in
       ap (is_inside c) (sym found.2) ∙ left_at c r found.0 all found.1 (stands_at c found.0) refl
 
   -- all members had come
-  have_come : (c : ℕ) (level : Level C) → last_of (turn_used q).levels ≡ Some level → level.facts.conversation ≡ Some c → all_stand k c stood ≡ true → HaveCome k c p w
+  have_come : (c : ℕ) (level : Level C) → last_of (turn_used q).levels ≡ Some level → level.facts.conversation ≡ Some c
+      → all_stand k c stood ≡ true → HaveCome k c p w
   have_come c level last of_c all =
       let end : LastAt (turn_used q).levels level = last_at (turn_used q).levels level last in
       record {
@@ -91,7 +98,8 @@ module _ {S C M : Type 0} (k : Kind S C M) (p : ℕ) (q : Process S C) (w : Worl
       }
 
   -- the levels of each conversation
-  pass_together_at : (c d alternate : ℕ) (level : Level C) → last_of (turn_used q).levels ≡ Some level → level.facts.conversation ≡ Some d → all_stand k d stood ≡ true
+  pass_together_at : (c d alternate : ℕ) (level : Level C) → last_of (turn_used q).levels ≡ Some level
+      → level.facts.conversation ≡ Some d → all_stand k d stood ≡ true
       → (c ≡ d) ⊎ (c ≡ d → ⊥) → Together k c p w (passed (Pass d alternate) (all_leave k d stood))
   pass_together_at c d alternate level last of_d all (inl same) =
       subst (λ (e : ℕ). Together k e p w (passed (Pass d alternate) (all_leave k d stood))) (sym same)
@@ -99,10 +107,12 @@ module _ {S C M : Type 0} (k : Kind S C M) (p : ℕ) (q : Process S C) (w : Worl
   pass_together_at c d alternate level last of_d all (inr other) =
       AllStay (keeps_on c w (counted p q w) (all_leave k d stood) (counted_keeps c p q w runs)
       (keeps_on c (counted p q w) stood (all_leave k d stood)
-      (own_keeps c p (turn_used q) (λ _. stands_now s (turn_used q).levels) (counted p q w) (counted_there k p q w runs) (carries_same c (turn_used q).levels))
+      (own_keeps c p (turn_used q) (λ _. stands_now s (turn_used q).levels) (counted p q w) (counted_there k p q w runs)
+      (carries_same c (turn_used q).levels))
       (leave_keeps k c d stood other)))
 
   -- what a passed test line does to the levels of each conversation
-  pub pass_together : (c d alternate : ℕ) (level : Level C) → last_of (turn_used q).levels ≡ Some level → level.facts.conversation ≡ Some d → all_stand k d stood ≡ true
+  pub pass_together : (c d alternate : ℕ) (level : Level C) → last_of (turn_used q).levels ≡ Some level
+      → level.facts.conversation ≡ Some d → all_stand k d stood ≡ true
       → Together k c p w (passed (Pass d alternate) (all_leave k d stood))
   pass_together c d alternate level last of_d all = pass_together_at c d alternate level last of_d all (cases_eq c d)

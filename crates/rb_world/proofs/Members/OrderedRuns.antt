@@ -13,8 +13,10 @@ use Rattle.rb_world.proofs.Members.Together.{IsOrdered}
 module _ {S E P : Type 0} {x : Parts S E P} {Known : ℕ → Process S S → Type 0} (keeps : KeepsEach (whole x) Known) (laws : IsErasable x Known) where
   -- who holds no line is as it was once lines were released
   nothing_freed : (s : S) (levels : List (Level S)) (line : Bool) (status : Status) → (levels ≡ [] → x.held s ≡ [])
-      → freed (whole x) (record { state = s; levels = levels; at_line = line; status = status }) ≡ record { state = s; levels = levels; at_line = line; status = status }
-  nothing_freed s [] line status none = ap (λ (t : S). record { state = t; levels = []; at_line = line; status = status }) (laws.releases_none s (none refl))
+      → freed (whole x) (record { state = s; levels = levels; at_line = line; status = status })
+      ≡ record { state = s; levels = levels; at_line = line; status = status }
+  nothing_freed s [] line status none =
+      ap (λ (t : S). record { state = t; levels = []; at_line = line; status = status }) (laws.releases_none s (none refl))
   nothing_freed s (l ∷ levels) line status none = refl
 
   -- a grounded world is ordered

@@ -93,7 +93,8 @@ is_number-own : (o : Option ℕ) (c : ℕ) → o ≡ Some c → is_number o c �
 is_number-own o c e = ap (λ (x : Option ℕ). is_number x c) e ∙ eq-eqb c c refl
 
 -- a level of no conversation is of none
-pub not_of : {C : Type 0} {levels : List (Level C)} {j d : ℕ} {level : Level C} → slice_get levels j ≡ Some level → level.facts.conversation ≡ None → IsLevelOf d levels j → ⊥
+pub not_of : {C : Type 0} {levels : List (Level C)} {j d : ℕ} {level : Level C} → slice_get levels j ≡ Some level
+    → level.facts.conversation ≡ None → IsLevelOf d levels j → ⊥
 not_of {C} there alone at =
     none_some (sym alone ∙ (ap (λ (l : Level C). l.facts.conversation) (some_same (sym there ∙ at.there)) ∙ at.of_it))
 
@@ -113,7 +114,8 @@ module _ {C : Type 0} where
       (one.at, record { level = one.found; there = one.there; of_it = passes_of c one.found one.passes })
 
 -- a level of no conversation is none of a conversation
-conversation_out_at : {C : Type 0} (levels : List (Level C)) (i j d : ℕ) (level : Level C) → slice_get levels j ≡ Some level → level.facts.conversation ≡ None
+conversation_out_at : {C : Type 0} (levels : List (Level C)) (i j d : ℕ) (level : Level C) → slice_get levels j ≡ Some level
+    → level.facts.conversation ≡ None
     → IsLevelOf d levels i → j ≤ i → (j < i → ⊥) → (j ≡ i) ⊎ (j ≡ i → ⊥) → ⊥
 conversation_out_at levels i j d level there alone at within further (inl same) = not_of there alone (subst (IsLevelOf d levels) (sym same) at)
 conversation_out_at levels i j d level there alone at within further (inr other) = further (omega arith)

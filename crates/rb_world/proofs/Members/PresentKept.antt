@@ -40,7 +40,8 @@ module _ {S C M : Type 0} (k : Kind S C M) where
     pub each : (u : Process S C) → slice_get w.processes p ≡ Some u → Each (λ r q. MayTry k.groups w.talks u.levels left q.levels) w.processes
 
   -- nothing is spent, and so all are present
-  all_present : (t : ℕ) (past : List Told) (p left : ℕ) (u : Process S C) (w : World S C M) → MostPresent t past p left w → slice_get w.processes p ≡ Some u
+  all_present : (t : ℕ) (past : List Told) (p left : ℕ) (u : Process S C) (w : World S C M) → MostPresent t past p left w
+      → slice_get w.processes p ≡ Some u
       → ((e : ℕ) → IsSpentAt k.groups e u.levels left → ⊥) → Each (λ r q. TryPresent w.talks q.levels) w.processes
   all_present t past p left u w most there none r q e = present_of k.groups w.talks q.levels u.levels left none (most.each u there r q e)
 
@@ -49,7 +50,8 @@ module _ {S C M : Type 0} (k : Kind S C M) where
   present_used talks [] present i c at = absurd (none_some at.there)
   present_used talks (l ∷ levels) present zero c at =
       let same : one_used l ≡ at.level = some_same at.there in
-      let was : IsPresent talks c l = present 0 c (record { level = l; there = refl; of_it = ap (λ (x : Level C). x.facts.conversation) same ∙ at.of_it }) in
+      let was : IsPresent talks c l =
+      present 0 c (record { level = l; there = refl; of_it = ap (λ (x : Level C). x.facts.conversation) same ∙ at.of_it }) in
       record { talk = was.talk; there = was.there; same = ap (λ (x : Level C). x.alternate) (sym same) ∙ was.same }
   present_used talks (l ∷ levels) present (suc i) c at =
       present_used talks levels (λ n d inner. present (suc n) d (record { level = inner.level; there = inner.there; of_it = inner.of_it })) i c
@@ -76,8 +78,10 @@ module _ {S C M : Type 0} (k : Kind S C M) where
       }
 
   -- an entry, whose level tries the present alternate
-  opened_at : (w : World S C M) (q : Process S C) (facts : Facts) (alternate : ℕ) (s : S) (i c : ℕ) (level : Level C) → level.facts.conversation ≡ Some c
-      → IsOldOrNew q.levels (new_level k facts alternate s) i level → TryPresent w.talks q.levels → IsEntry w facts alternate → IsPresent w.talks c level
+  opened_at : (w : World S C M) (q : Process S C) (facts : Facts) (alternate : ℕ) (s : S) (i c : ℕ) (level : Level C)
+      → level.facts.conversation ≡ Some c
+      → IsOldOrNew q.levels (new_level k facts alternate s) i level → TryPresent w.talks q.levels
+      → IsEntry w facts alternate → IsPresent w.talks c level
   opened_at w q facts alternate s i c level of_c (IsOld e) present entry = present i c (record { level = level; there = e; of_it = of_c })
   opened_at w q facts alternate s i c level of_c (IsNew e same) present (Alone alone first) =
       absurd (none_some (sym alone ∙ (ap (λ (l : Level C). l.facts.conversation) same ∙ of_c)))
@@ -85,7 +89,8 @@ module _ {S C M : Type 0} (k : Kind S C M) where
       let one : d ≡ c = some_same (sym of_d ∙ (ap (λ (l : Level C). l.facts.conversation) same ∙ of_c)) in
       record { talk = talk; there = ap (slice_get w.talks) (sym one) ∙ at; same = ap (λ (l : Level C). l.alternate) (sym same) ∙ is }
 
-  present_opened : (w : World S C M) (q : Process S C) (facts : Facts) (alternate : ℕ) (s : S) → TryPresent w.talks q.levels → IsEntry w facts alternate
+  present_opened : (w : World S C M) (q : Process S C) (facts : Facts) (alternate : ℕ) (s : S) → TryPresent w.talks q.levels
+      → IsEntry w facts alternate
       → TryPresent w.talks (q.levels ++ new_level k facts alternate s ∷ [])
   present_opened w q facts alternate s present entry i c at =
       opened_at w q facts alternate s i c at.level at.of_it (get_more q.levels (new_level k facts alternate s) i at.level at.there) present entry
@@ -96,9 +101,11 @@ module _ {S C M : Type 0} (k : Kind S C M) where
       present i c (record { level = at.level; there = get_without_last levels i at.level at.there; of_it = at.of_it })
 
   -- In a turn of q that has all its levels left, nothing is spent.
-  none_spent : (t : ℕ) (past : List Told) (p : ℕ) (q : Process S C) (w : World S C M) → MostPresent t past p (length q.levels) w → slice_get w.processes p ≡ Some q
+  none_spent : (t : ℕ) (past : List Told) (p : ℕ) (q : Process S C) (w : World S C M)
+      → MostPresent t past p (length q.levels) w → slice_get w.processes p ≡ Some q
       → Each (λ r x. TryPresent w.talks x.levels) w.processes
-  none_spent t past p q w most there = all_present t past p (length q.levels) q w most there (λ e. none_beyond k.groups w.talks q.levels (length q.levels) e (omega arith))
+  none_spent t past p q w most there =
+      all_present t past p (length q.levels) q w most there (λ e. none_beyond k.groups w.talks q.levels (length q.levels) e (omega arith))
 
   -- who stands, or is another, has these levels
   abbrev Stood : List Talk → ℕ → Process S C → Type 0
@@ -107,7 +114,8 @@ module _ {S C M : Type 0} (k : Kind S C M) where
   -- who does not leave when all stand is not inside
   leaves_present : (c r : ℕ) (qs : List (Process S C)) (talks : List Talk) (x : Process S C) → slice_get qs r ≡ Some x
       → list_all (λ m. stands_there c (slice_get qs m)) (members_of (slice_get k.groups c)) ≡ true → Stood talks r x
-      → (there : Bool) → stands_at c x ≡ there → TryPresent (change_at c first_again talks) (cond there (settled k (k.accept x.state) (without_last x.levels)) x).levels
+      → (there : Bool) → stands_at c x ≡ there
+      → TryPresent (change_at c first_again talks) (cond there (settled k (k.accept x.state) (without_last x.levels)) x).levels
   leaves_present c r qs talks x here all stood true e i d at =
       let inner : IsLevelOf d x.levels i = record { level = at.level; there = get_without_last x.levels i at.level at.there; of_it = at.of_it } in
       let other : d ≢ c = λ (same : d ≡ c).
@@ -115,10 +123,12 @@ module _ {S C M : Type 0} (k : Kind S C M) where
       ∙ last_gone c x.levels stood.0.nested (last_of x.levels) refl (second_holds x.at_line (is_last_of c (last_of x.levels)) e)) in
       present_there talks (change_at c first_again talks) d at.level (slice_get-change_other c first_again talks d other) (stood.1 i d inner)
     where
-      last_gone : (c : ℕ) (levels : List (Level C)) → AreNested k.groups levels → (last : Option (Level C)) → last_of levels ≡ last → is_last_of c last ≡ true
+      last_gone : (c : ℕ) (levels : List (Level C)) → AreNested k.groups levels → (last : Option (Level C))
+          → last_of levels ≡ last → is_last_of c last ≡ true
           → list_any (is_of c) (without_last levels) ≡ false
       last_gone c levels nested None e is = absurd (true≢false (sym is))
-      last_gone c levels nested (Some level) e is = left_not_inside k c levels level nested e (passes_of c level is) (list_any (is_of c) (without_last levels)) refl
+      last_gone c levels nested (Some level) e is =
+          left_not_inside k c levels level nested e (passes_of c level is) (list_any (is_of c) (without_last levels)) refl
   leaves_present c r qs talks x here all stood false e i d at =
       let other : d ≢ c = λ (same : d ≡ c).
       let stands : stands_there c (slice_get qs r) ≡ true =
@@ -128,17 +138,22 @@ module _ {S C M : Type 0} (k : Kind S C M) where
       present_there talks (change_at c first_again talks) d at.level (slice_get-change_other c first_again talks d other) (stood.1 i d at)
 
   -- a conversation of p's level number j is put back
-  module _ (w : World S C M) (u : Process S C) (c j : ℕ) (ordered : (r : ℕ) (x : Process S C) → slice_get w.processes r ≡ Some x → AreNested k.groups x.levels) (own : AreNested k.groups u.levels) (at : IsLevelOf c u.levels j) where
+  module _ (w : World S C M) (u : Process S C) (c j : ℕ)
+      (ordered : (r : ℕ) (x : Process S C) → slice_get w.processes r ≡ Some x → AreNested k.groups x.levels)
+      (own : AreNested k.groups u.levels) (at : IsLevelOf c u.levels j) where
     levels_back : (n : ℕ) (x : Process S C) (level : Level C) → slice_get x.levels n ≡ Some level → (put_back k n x).levels ≡ take (n + 1) x.levels
     levels_back n x level e = ap (λ (o : Option (Level C)). (back_to k n x o).levels) e
 
     -- who is inside, and is put back
-    is_put_back : (x : Process S C) → AreNested k.groups x.levels → (n : ℕ) (inside : IsLevelOf c x.levels n) → (where_inside (put_back k) c x).levels ≡ take (n + 1) x.levels
+    is_put_back : (x : Process S C) → AreNested k.groups x.levels → (n : ℕ) (inside : IsLevelOf c x.levels n)
+        → (where_inside (put_back k) c x).levels ≡ take (n + 1) x.levels
     is_put_back x nested n inside =
-        ap (λ (y : Process S C). y.levels) (changed_inside (put_back k) c n x (place_found k.groups c n x.levels x.levels nested inside (λ i _. refl)))
+        ap (λ (y : Process S C). y.levels)
+        (changed_inside (put_back k) c n x (place_found k.groups c n x.levels x.levels nested inside (λ i _. refl)))
         ∙ levels_back n x inside.level inside.there
 
-    place_taken : (x : Process S C) → AreNested k.groups x.levels → (n : ℕ) → IsLevelOf c x.levels n → position (is_of c) (take (n + 1) x.levels) ≡ Some n
+    place_taken : (x : Process S C) → AreNested k.groups x.levels → (n : ℕ) → IsLevelOf c x.levels n
+        → position (is_of c) (take (n + 1) x.levels) ≡ Some n
     place_taken x nested n inside =
         place_found k.groups c n x.levels (take (n + 1) x.levels) nested inside (λ i below. slice_get-take (n + 1) x.levels i (omega (arith, below)))
 
@@ -155,7 +170,8 @@ module _ {S C M : Type 0} (k : Kind S C M) where
     is_outside x e = stays_outside (put_back k) c x e
 
     -- the levels of each process once all try the next alternate
-    next_levels : (x : Process S C) → AreNested k.groups x.levels → MayTry k.groups w.talks u.levels (suc j) x.levels → (inside : Bool) → is_inside c x ≡ inside
+    next_levels : (x : Process S C) → AreNested k.groups x.levels → MayTry k.groups w.talks u.levels (suc j) x.levels
+        → (inside : Bool) → is_inside c x ≡ inside
         → TryPresent (talks_after k.groups w.talks u.levels c j own at next_talk) (where_inside raised c (where_inside (put_back k) c x)).levels
     next_levels x nested may true e =
         let found : (n : ℕ) × IsLevelOf c x.levels n = inside_level c x.levels e in
@@ -167,30 +183,40 @@ module _ {S C M : Type 0} (k : Kind S C M) where
         (present_outside k.groups w.talks u.levels c j own at next_talk x.levels nested e may)
 
     -- once it is spent
-    spent_levels : (parent : ℕ) → parent_of (slice_get k.groups c) ≡ Some parent → (x : Process S C) → AreNested k.groups x.levels → MayTry k.groups w.talks u.levels (suc j) x.levels
+    spent_levels : (parent : ℕ) → parent_of (slice_get k.groups c) ≡ Some parent → (x : Process S C)
+        → AreNested k.groups x.levels → MayTry k.groups w.talks u.levels (suc j) x.levels
         → (inside : Bool) → is_inside c x ≡ inside
-        → MayTry k.groups (talks_after k.groups w.talks u.levels c j own at first_again) (take (j + 1) u.levels) j (where_inside (put_back k) c x).levels
+        → MayTry k.groups (talks_after k.groups w.talks u.levels c j own at first_again) (take (j + 1) u.levels) j
+        (where_inside (put_back k) c x).levels
     spent_levels parent around x nested may true e =
         let found : (n : ℕ) × IsLevelOf c x.levels n = inside_level c x.levels e in
-        subst (MayTry k.groups (talks_after k.groups w.talks u.levels c j own at first_again) (take (j + 1) u.levels) j) (sym (is_put_back x nested found.0 found.1))
+        subst (MayTry k.groups (talks_after k.groups w.talks u.levels c j own at first_again) (take (j + 1) u.levels) j)
+        (sym (is_put_back x nested found.0 found.1))
         (may_spent k.groups w.talks u.levels c j own at parent around x.levels nested found.0 found.1 may)
     spent_levels parent around x nested may false e =
-        subst (λ (y : Process S C). MayTry k.groups (talks_after k.groups w.talks u.levels c j own at first_again) (take (j + 1) u.levels) j y.levels) (sym (is_outside x e))
+        subst
+        (λ (y : Process S C). MayTry k.groups (talks_after k.groups w.talks u.levels c j own at first_again)
+        (take (j + 1) u.levels) j y.levels)
+        (sym (is_outside x e))
         (may_of k.groups (talks_after k.groups w.talks u.levels c j own at first_again) x.levels (take (j + 1) u.levels) j
         (present_outside k.groups w.talks u.levels c j own at first_again x.levels nested e may))
 
     -- once it is broken
-    still_inside : (x : Process S C) → AreNested k.groups x.levels → (n : ℕ) → IsLevelOf c x.levels n → is_inside c (where_inside (put_back k) c x) ≡ true
+    still_inside : (x : Process S C) → AreNested k.groups x.levels → (n : ℕ) → IsLevelOf c x.levels n
+        → is_inside c (where_inside (put_back k) c x) ≡ true
     still_inside x nested n inside =
         ap (list_any (is_of c)) (is_put_back x nested n inside)
-        ∙ any_level c n (take (n + 1) x.levels) (record { level = inside.level; there = slice_get-take (n + 1) x.levels n (omega arith) ∙ inside.there; of_it = inside.of_it })
+        ∙ any_level c n (take (n + 1) x.levels)
+        (record { level = inside.level; there = slice_get-take (n + 1) x.levels n (omega arith) ∙ inside.there; of_it = inside.of_it })
 
-    broken_levels : (x : Process S C) → AreNested k.groups x.levels → MayTry k.groups w.talks u.levels (suc j) x.levels → (inside : Bool) → is_inside c x ≡ inside
+    broken_levels : (x : Process S C) → AreNested k.groups x.levels → MayTry k.groups w.talks u.levels (suc j) x.levels
+        → (inside : Bool) → is_inside c x ≡ inside
         → TryPresent (talks_after k.groups w.talks u.levels c j own at broken_talk) (fallen_inside k c (where_inside (put_back k) c x)).levels
     broken_levels x nested may true e i d level =
         let found : (n : ℕ) × IsLevelOf c x.levels n = inside_level c x.levels e in
         let none : (fallen_inside k c (where_inside (put_back k) c x)).levels ≡ [] =
-        ap (λ (b : Bool). (cond b (fallen k Inner (where_inside (put_back k) c x)) (where_inside (put_back k) c x)).levels) (still_inside x nested found.0 found.1) in
+        ap (λ (b : Bool). (cond b (fallen k Inner (where_inside (put_back k) c x)) (where_inside (put_back k) c x)).levels)
+        (still_inside x nested found.0 found.1) in
         absurd (none_some (ap (λ (ls : List (Level C)). slice_get ls i) (sym none) ∙ level.there))
     broken_levels x nested may false e i d level =
         let stays : fallen_inside k c (where_inside (put_back k) c x) ≡ x =
@@ -200,17 +226,20 @@ module _ {S C M : Type 0} (k : Kind S C M) where
         subst (λ (y : Process S C). TryPresent (talks_after k.groups w.talks u.levels c j own at broken_talk) y.levels) (sym stays) outside i d level
 
 -- The invariant, under one by which the levels of each process are nested and are those of members.
-module _ {S C M : Type 0} (k : Kind S C M) (P : ℕ → Process S C → Type 0) (ordered : (r : ℕ) (q : Process S C) → P r q → AreOrdered k.groups r q.levels) where
+module _ {S C M : Type 0} (k : Kind S C M) (P : ℕ → Process S C → Type 0)
+    (ordered : (r : ℕ) (q : Process S C) → P r q → AreOrdered k.groups r q.levels) where
   -- the levels of each process are nested
   all_nested : (w : World S C M) → Each P w.processes → (r : ℕ) (x : Process S C) → slice_get w.processes r ≡ Some x → AreNested k.groups x.levels
   all_nested w each r x e = (ordered r x (each r x e)).nested
 
   -- a level that is there, and is of a conversation
-  level_of : (q : Process S C) (j c : ℕ) (level : Level C) → slice_get q.levels j ≡ Some level → level.facts.conversation ≡ Some c → IsLevelOf c q.levels j
+  level_of : (q : Process S C) (j c : ℕ) (level : Level C) → slice_get q.levels j ≡ Some level
+      → level.facts.conversation ≡ Some c → IsLevelOf c q.levels j
   level_of q j c level there of_c = record { level = level; there = there; of_it = of_c }
 
   -- where a private level is next to be rejected, nothing is spent
-  at_private : (t : ℕ) (past : List Told) (p : ℕ) (q : Process S C) (w : World S C M) (j : ℕ) (level : Level C) → Each P w.processes → MostPresent k t past p (suc j) w
+  at_private : (t : ℕ) (past : List Told) (p : ℕ) (q : Process S C) (w : World S C M) (j : ℕ) (level : Level C)
+      → Each P w.processes → MostPresent k t past p (suc j) w
       → RunsAt p q w → slice_get q.levels j ≡ Some level → level.facts.conversation ≡ None → Each (λ r x. TryPresent w.talks x.levels) w.processes
   at_private t past p q w j level each most runs place alone =
       all_present k t past p (suc j) q w most runs.there
@@ -224,7 +253,8 @@ module _ {S C M : Type 0} (k : Kind S C M) (P : ℕ → Process S C → Type 0) 
   length-back levels j level e = ap (λ (n : ℕ). length (take n levels)) (add-one j) ∙ length-take_to j levels e
 
   -- p is put back to it
-  private_back : (t : ℕ) (past : List Told) (p : ℕ) (q : Process S C) (w : World S C M) (j : ℕ) (level : Level C) → Each P w.processes → MostPresent k t past p (suc j) w
+  private_back : (t : ℕ) (past : List Told) (p : ℕ) (q : Process S C) (w : World S C M) (j : ℕ) (level : Level C)
+      → Each P w.processes → MostPresent k t past p (suc j) w
       → RunsAt p q w → slice_get q.levels j ≡ Some level → level.facts.conversation ≡ None
       → Each (λ r x. TryPresent w.talks x.levels) (change_at p (put_back k j) w.processes)
   private_back t past p q w j level each most runs place alone =
@@ -234,11 +264,13 @@ module _ {S C M : Type 0} (k : Kind S C M) (P : ℕ → Process S C → Type 0) 
       subst (λ (y : Process S C). TryPresent w.talks (put_back k j y).levels) is
       (subst (TryPresent w.talks) (sym (back_levels q j level place)) (present_taken k.groups w.talks (j + 1) q.levels (present p q runs.there))))
 
-  back_there : (p j : ℕ) (q : Process S C) (w : World S C M) → RunsAt p q w → slice_get (change_at p (put_back k j) w.processes) p ≡ Some (put_back k j q)
+  back_there : (p j : ℕ) (q : Process S C) (w : World S C M) → RunsAt p q w
+      → slice_get (change_at p (put_back k j) w.processes) p ≡ Some (put_back k j q)
   back_there p j q w runs = slice_get-change_at p (put_back k j) w.processes ∙ ap (option_map (put_back k j)) runs.there
 
   -- a private level has no alternate left, and the next one out is rejected
-  spent_privately : (t : ℕ) (past : List Told) (p : ℕ) (q : Process S C) (w : World S C M) (j : ℕ) (level : Level C) → Each P w.processes → MostPresent k t past p (suc j) w
+  spent_privately : (t : ℕ) (past : List Told) (p : ℕ) (q : Process S C) (w : World S C M) (j : ℕ) (level : Level C)
+      → Each P w.processes → MostPresent k t past p (suc j) w
       → RunsAt p q w → slice_get q.levels j ≡ Some level → level.facts.conversation ≡ None
       → MostPresent k t past p j (with_process p (put_back k j) w)
   spent_privately t past p q w j level each most runs place alone =
@@ -251,7 +283,8 @@ module _ {S C M : Type 0} (k : Kind S C M) (P : ℕ → Process S C → Type 0) 
       }
 
   -- or it has one
-  next_privately : (t : ℕ) (past : List Told) (p : ℕ) (q : Process S C) (w : World S C M) (j : ℕ) (level : Level C) → Each P w.processes → MostPresent k t past p (suc j) w
+  next_privately : (t : ℕ) (past : List Told) (p : ℕ) (q : Process S C) (w : World S C M) (j : ℕ) (level : Level C)
+      → Each P w.processes → MostPresent k t past p (suc j) w
       → RunsAt p q w → slice_get q.levels j ≡ Some level → level.facts.conversation ≡ None
       → Each (λ r x. TryPresent w.talks x.levels) (change_at p (raised j) (change_at p (put_back k j) w.processes))
   next_privately t past p q w j level each most runs place alone =
@@ -259,11 +292,14 @@ module _ {S C M : Type 0} (k : Kind S C M) (P : ℕ → Process S C → Type 0) 
       Each-change_at (λ r x. TryPresent w.talks x.levels) p (raised j) (change_at p (put_back k j) w.processes) back
       (λ x there. let is : put_back k j q ≡ x = some_same (sym (back_there p j q w runs) ∙ there) in
       let here : slice_get x.levels j ≡ Some level =
-      ap (λ (y : Process S C). slice_get y.levels j) (sym is) ∙ (ap (λ (ls : List (Level C)). slice_get ls j) (back_levels q j level place) ∙ (slice_get-take (j + 1) q.levels j (omega arith) ∙ place)) in
+      ap (λ (y : Process S C). slice_get y.levels j) (sym is)
+      ∙ (ap (λ (ls : List (Level C)). slice_get ls j) (back_levels q j level place)
+      ∙ (slice_get-take (j + 1) q.levels j (omega arith) ∙ place)) in
       present_raised k.groups w.talks j x.levels level here alone (back p x there))
 
   -- why a process falls
-  may_fall : (t : ℕ) (past : List Told) (p : ℕ) (q : Process S C) (w : World S C M) (left : ℕ) (cause : Cause) → Each P w.processes → MostPresent k t past p left w → RunsAt p q w
+  may_fall : (t : ℕ) (past : List Told) (p : ℕ) (q : Process S C) (w : World S C M) (left : ℕ) (cause : Cause)
+      → Each P w.processes → MostPresent k t past p left w → RunsAt p q w
       → MustFall k q w left cause → Each (λ r x. TryPresent w.talks x.levels) w.processes
   may_fall t past p q w left cause each most runs (NoLevelLeft none) =
       all_present k t past p left q w most runs.there
@@ -276,7 +312,8 @@ module _ {S C M : Type 0} (k : Kind S C M) (P : ℕ → Process S C → Type 0) 
   none_left talks cause x i c at = absurd (none_some at.there)
 
   -- all try the next alternate
-  all_next_present : (t : ℕ) (past : List Told) (p : ℕ) (q : Process S C) (w : World S C M) (j : ℕ) (c : ℕ) → Each P w.processes → MostPresent k t past p (suc j) w
+  all_next_present : (t : ℕ) (past : List Told) (p : ℕ) (q : Process S C) (w : World S C M) (j : ℕ) (c : ℕ)
+      → Each P w.processes → MostPresent k t past p (suc j) w
       → RunsAt p q w → IsLevelOf c q.levels j → AllPresent k t past (all_next k c w)
   all_next_present t past p q w j c each most runs at n z e =
       let outer = map_found (where_inside raised c) (map (where_inside (put_back k) c) w.processes) n z e in
@@ -286,7 +323,8 @@ module _ {S C M : Type 0} (k : Kind S C M) (P : ℕ → Process S C → Type 0) 
       (most.each q runs.there n inner.0 inner.1) (is_inside c inner.0) refl)
 
   -- it is broken
-  all_broken_present : (t : ℕ) (past : List Told) (p : ℕ) (q : Process S C) (w : World S C M) (j : ℕ) (c : ℕ) → Each P w.processes → MostPresent k t past p (suc j) w
+  all_broken_present : (t : ℕ) (past : List Told) (p : ℕ) (q : Process S C) (w : World S C M) (j : ℕ) (c : ℕ)
+      → Each P w.processes → MostPresent k t past p (suc j) w
       → RunsAt p q w → IsLevelOf c q.levels j → AllPresent k t past (all_broken k c w)
   all_broken_present t past p q w j c each most runs at n z e =
       let outer = map_found (fallen_inside k c) (map (where_inside (put_back k) c) w.processes) n z e in
@@ -304,7 +342,8 @@ module _ {S C M : Type 0} (k : Kind S C M) (P : ℕ → Process S C → Type 0) 
       sym (is_put_back k w q c j (all_nested w each) (all_nested w each p q runs.there) at q (all_nested w each p q runs.there) j at)
       ∙ ap (λ (y : Process S C). y.levels) (ap (where_inside (put_back k) c) is ∙ found.2)
 
-  all_spent_present : (t : ℕ) (past : List Told) (p : ℕ) (q : Process S C) (w : World S C M) (j c parent : ℕ) → Each P w.processes → MostPresent k t past p (suc j) w
+  all_spent_present : (t : ℕ) (past : List Told) (p : ℕ) (q : Process S C) (w : World S C M) (j c parent : ℕ)
+      → Each P w.processes → MostPresent k t past p (suc j) w
       → RunsAt p q w → IsLevelOf c q.levels j → parent_of (slice_get k.groups c) ≡ Some parent → MostPresent k t past p j (all_spent k c w)
   all_spent_present t past p q w j c parent each most runs at around = record {
     enough = λ u there. subst (λ (ls : List (Level C)). j ≤ length ls) (own_back p q u w j c each runs at there)
@@ -332,18 +371,21 @@ module _ {S C M : Type 0} (k : Kind S C M) (P : ℕ → Process S C → Type 0) 
       (leaves_present k c n stood w.talks found.0 found.1 all (known n found.0 found.1) (stands_at c found.0) refl)
 
   -- a level that is to be rejected is there
-  never_gone : (t : ℕ) (past : List Told) (p : ℕ) (q : Process S C) (w : World S C M) (j : ℕ) → MostPresent k t past p (suc j) w → RunsAt p q w → slice_get q.levels j ≡ None → ⊥
+  never_gone : (t : ℕ) (past : List Told) (p : ℕ) (q : Process S C) (w : World S C M) (j : ℕ)
+      → MostPresent k t past p (suc j) w → RunsAt p q w → slice_get q.levels j ≡ None → ⊥
   never_gone t past p q w j most runs none = nothing_within q.levels j (most.enough q runs.there) none
 
   -- all laws of the invariant
-  pub present_kept : IsInvariantUnder k (λ _ _ w. Each P w.processes) (λ _ _ _ _ w. Each P w.processes) (λ _ _ w. Each P w.processes) (AllPresent k) (MostPresent k) (AllPresent k)
+  pub present_kept : IsInvariantUnder k (λ _ _ w. Each P w.processes) (λ _ _ _ _ w. Each P w.processes)
+      (λ _ _ w. Each P w.processes) (AllPresent k) (MostPresent k) (AllPresent k)
   present_kept = record {
     rests = λ t past w h. h.1;
     uses = λ t past p q w h r. uses k t past p q w h.1 r;
     overruns = λ t past p q w j h r e.
         let present = none_spent k t past p q w h.1 r.there in
         record {
-          enough = λ u there. subst (λ (x : Process S C). suc j ≤ length x.levels) (some_same (sym r.there ∙ there)) (position_within is_over q.levels j e);
+          enough = λ u there. subst (λ (x : Process S C). suc j ≤ length x.levels) (some_same (sym r.there ∙ there))
+              (position_within is_over q.levels j e);
           each = λ u there n x here. may_of k.groups w.talks x.levels u.levels (suc j) (present n x here);
         };
     waits = λ t past p q w h r e. none_spent k t past p q w h.1 r.there;
@@ -366,7 +408,8 @@ module _ {S C M : Type 0} (k : Kind S C M) (P : ℕ → Process S C → Type 0) 
         let x = k.keep t a s w.memory in
         all_leave_present t past p q w x.0 x.1 c h.0 h.1 at.acts.runs all;
     falls = λ t past p q w n cause h r why.
-        Each-change_at (λ i x. TryPresent w.talks x.levels) p (fallen k cause) w.processes (may_fall t past p q w n cause h.0 h.1 r why) (λ x _. none_left w.talks cause x);
+        Each-change_at (λ i x. TryPresent w.talks x.levels) p (fallen k cause) w.processes
+        (may_fall t past p q w n cause h.0 h.1 r why) (λ x _. none_left w.talks cause x);
     tries_next = λ t past p q w j l h r x y. next_privately t past p q w j l h.0 h.1 r.runs r.place x;
     is_spent = λ t past p q w j l h r x y. spent_privately t past p q w j l h.0 h.1 r.runs r.place x;
     all_try_next = λ t past p q w j l c h r x y. all_next_present t past p q w j c h.0 h.1 r.runs (level_of q j c l r.place x);
@@ -377,8 +420,11 @@ module _ {S C M : Type 0} (k : Kind S C M) (P : ℕ → Process S C → Type 0) 
   }
 
   -- so it holds in every world of a run
-  pub run_present : KeepsEach k P → (turns : List ℕ) (states : List S) (m : M) → ((r : ℕ) (s : S) → slice_get states r ≡ Some s → P r (settled k s []))
+  pub run_present : KeepsEach k P → (turns : List ℕ) (states : List S) (m : M)
+      → ((r : ℕ) (s : S) → slice_get states r ≡ Some s → P r (settled k s []))
       → Each (λ r q. TryPresent (run k 1 turns (opening k states m)).0.talks q.levels) (run k 1 turns (opening k states m)).0.processes
   run_present keeps turns states m known =
-      (run-keeps (both_kept (each_kept keeps) present_kept) 1 [] turns (opening k states m)
-      (settled_each k P states known, settled_each k (λ r q. TryPresent (opening k states m).talks q.levels) states (λ r s _ i c at. absurd (none_some at.there)))).1
+      (run-keeps (both_kept (each_kept keeps) present_kept) 1 [] turns (opening k states m) (
+        settled_each k P states known,
+        settled_each k (λ r q. TryPresent (opening k states m).talks q.levels) states (λ r s _ i c at. absurd (none_some at.there)),
+      )).1

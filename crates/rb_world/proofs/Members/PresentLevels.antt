@@ -28,12 +28,14 @@ abbrev pub MayTry : {C : Type 0} → List Membership → List Talk → List (Lev
 MayTry groups talks own left levels = (i e : ℕ) (at : IsLevelOf e levels i) → IsPresent talks e at.level ⊎ IsSpentAt groups e own left
 
 -- the same conversation's talk in another list
-pub present_there : {C : Type 0} (talks later : List Talk) (c : ℕ) (level : Level C) → slice_get later c ≡ slice_get talks c → IsPresent talks c level → IsPresent later c level
+pub present_there : {C : Type 0} (talks later : List Talk) (c : ℕ) (level : Level C) → slice_get later c ≡ slice_get talks c
+    → IsPresent talks c level → IsPresent later c level
 present_there talks later c level e present = record { talk = present.talk; there = e ∙ present.there; same = present.same }
 
 module _ {C : Type 0} (groups : List Membership) (talks : List Talk) where
   -- nothing is spent where no further level of p is left to be rejected
-  pub present_of : (levels : List (Level C)) (own : List (Level C)) (left : ℕ) → ((e : ℕ) → IsSpentAt groups e own left → ⊥) → MayTry groups talks own left levels → TryPresent talks levels
+  pub present_of : (levels : List (Level C)) (own : List (Level C)) (left : ℕ) → ((e : ℕ) → IsSpentAt groups e own left → ⊥)
+      → MayTry groups talks own left levels → TryPresent talks levels
   present_of levels own left none may i e at = present_or (may i e at)
     where
       present_or : IsPresent talks e at.level ⊎ IsSpentAt groups e own left → IsPresent talks e at.level
@@ -52,7 +54,8 @@ module _ {C : Type 0} (groups : List Membership) (talks : List Talk) where
   none_outermost own e nested spent = subst (λ (o : Option ℕ). HasOutside o own 0) spent.around (nested 0 e spent.level)
 
   -- nor is one right inside a private level
-  pub none_private : (own : List (Level C)) (j e : ℕ) (level : Level C) → AreNested groups own → slice_get own j ≡ Some level → level.facts.conversation ≡ None
+  pub none_private : (own : List (Level C)) (j e : ℕ) (level : Level C) → AreNested groups own
+      → slice_get own j ≡ Some level → level.facts.conversation ≡ None
       → IsSpentAt groups e own (suc j) → ⊥
   none_private own j e level nested there alone spent =
       not_of there alone (subst (λ (o : Option ℕ). HasOutside o own (suc j)) spent.around (nested (suc j) e spent.level))
@@ -63,21 +66,25 @@ module _ {C : Type 0} (groups : List Membership) (talks : List Talk) where
       present i e (record { level = at.level; there = (get_take n levels i at.level at.there).1; of_it = at.of_it })
 
   -- a private level goes on to its next alternate
-  raised_at : (j : ℕ) (levels : List (Level C)) (level : Level C) → slice_get levels j ≡ Some level → level.facts.conversation ≡ None → TryPresent talks levels
+  raised_at : (j : ℕ) (levels : List (Level C)) (level : Level C) → slice_get levels j ≡ Some level
+      → level.facts.conversation ≡ None → TryPresent talks levels
       → (i e : ℕ) (at : IsLevelOf e (change_at j next_alternate levels) i) → (i ≡ j) ⊎ (i ≡ j → ⊥) → IsPresent talks e at.level
   raised_at j levels level there alone present i e at (inl same) =
       let here : Some (next_alternate level) ≡ Some at.level =
-      sym (slice_get-change_at j next_alternate levels ∙ ap (option_map next_alternate) there) ∙ (ap (slice_get (change_at j next_alternate levels)) (sym same) ∙ at.there) in
+      sym (slice_get-change_at j next_alternate levels ∙ ap (option_map next_alternate) there)
+      ∙ (ap (slice_get (change_at j next_alternate levels)) (sym same) ∙ at.there) in
       absurd (none_some (sym alone ∙ (ap (λ (l : Level C). l.facts.conversation) (some_same here) ∙ at.of_it)))
   raised_at j levels level there alone present i e at (inr other) =
       present i e (record { level = at.level; there = sym (slice_get-change_other j next_alternate levels i other) ∙ at.there; of_it = at.of_it })
 
-  pub present_raised : (j : ℕ) (levels : List (Level C)) (level : Level C) → slice_get levels j ≡ Some level → level.facts.conversation ≡ None → TryPresent talks levels
+  pub present_raised : (j : ℕ) (levels : List (Level C)) (level : Level C) → slice_get levels j ≡ Some level
+      → level.facts.conversation ≡ None → TryPresent talks levels
       → TryPresent talks (change_at j next_alternate levels)
   present_raised j levels level there alone present i e at = raised_at j levels level there alone present i e at (cases_eq i j)
 
 -- a conversation is put back, of which p has level number j
-module _ {C : Type 0} (groups : List Membership) (talks : List Talk) (own : List (Level C)) (c j : ℕ) (nested : AreNested groups own) (own_at : IsLevelOf c own j) (f : Talk → Talk) where
+module _ {C : Type 0} (groups : List Membership) (talks : List Talk) (own : List (Level C)) (c j : ℕ)
+    (nested : AreNested groups own) (own_at : IsLevelOf c own j) (f : Talk → Talk) where
   -- all conversations once it was put back
   abbrev pub talks_after : List Talk
   talks_after = change_at c f (reset_below groups c talks)
@@ -85,11 +92,15 @@ module _ {C : Type 0} (groups : List Membership) (talks : List Talk) (own : List
   -- what is spent lies right inside it
   spent_inside : (e : ℕ) → IsSpentAt groups e own (suc j) → parent_of (slice_get groups e) ≡ Some c
   spent_inside e spent =
-      spent.around ∙ ap Some (one_conversation spent.parent c j own (subst (λ (o : Option ℕ). HasOutside o own (suc j)) spent.around (nested (suc j) e spent.level)) own_at)
+      spent.around ∙ ap Some
+      (one_conversation spent.parent c j own
+      (subst (λ (o : Option ℕ). HasOutside o own (suc j)) spent.around (nested (suc j) e spent.level)) own_at)
 
   -- a level of what is spent has one of c just outside it
-  spent_outside : (levels : List (Level C)) → AreNested groups levels → (i e : ℕ) → IsLevelOf e levels i → IsSpentAt groups e own (suc j) → (n : ℕ) × (n < i) × IsLevelOf c levels n
-  spent_outside levels levels_nested i e at spent = around_at i (subst (λ (o : Option ℕ). HasOutside o levels i) (spent_inside e spent) (levels_nested i e at))
+  spent_outside : (levels : List (Level C)) → AreNested groups levels → (i e : ℕ) → IsLevelOf e levels i
+      → IsSpentAt groups e own (suc j) → (n : ℕ) × (n < i) × IsLevelOf c levels n
+  spent_outside levels levels_nested i e at spent =
+      around_at i (subst (λ (o : Option ℕ). HasOutside o levels i) (spent_inside e spent) (levels_nested i e at))
     where
       around_at : (i : ℕ) → HasOutside (Some c) levels i → (n : ℕ) × (n < i) × IsLevelOf c levels n
       around_at zero out = absurd out
@@ -100,12 +111,14 @@ module _ {C : Type 0} (groups : List Membership) (talks : List Talk) (own : List
       → (i e : ℕ) (at : IsLevelOf e levels i) → IsPresent talks e at.level ⊎ IsSpentAt groups e own (suc j) → IsPresent talks_after e at.level
   outside_at levels levels_nested outside i e at (inl present) =
       let other : e ≢ c = λ (same : e ≡ c). true≢false (sym (any_level c i levels (subst (λ (x : ℕ). IsLevelOf x levels i) same at)) ∙ outside) in
-      present_there talks talks_after e at.level (talk_beside groups c e f talks other (not_below_of groups levels levels_nested (length groups) c e i outside at)) present
+      present_there talks talks_after e at.level
+      (talk_beside groups c e f talks other (not_below_of groups levels levels_nested (length groups) c e i outside at)) present
   outside_at levels levels_nested outside i e at (inr spent) =
       let out = spent_outside levels levels_nested i e at spent in
       absurd (true≢false (sym (any_level c out.0 levels out.2) ∙ outside))
 
-  pub present_outside : (levels : List (Level C)) → AreNested groups levels → list_any (is_of c) levels ≡ false → MayTry groups talks own (suc j) levels
+  pub present_outside : (levels : List (Level C)) → AreNested groups levels → list_any (is_of c) levels ≡ false
+      → MayTry groups talks own (suc j) levels
       → TryPresent talks_after levels
   present_outside levels levels_nested outside may i e at = outside_at levels levels_nested outside i e at (may i e at)
 
@@ -123,13 +136,16 @@ module _ {C : Type 0} (groups : List Membership) (talks : List Talk) (own : List
       → (i e : ℕ) (at : IsLevelOf e levels i) → i < n → IsPresent talks_after e at.level
   present_further levels levels_nested n inside may i e at further =
       let other : e ≢ c = λ (same : e ≡ c).
-      let one : i ≡ n = same_number groups levels levels levels_nested levels_nested c i n (subst (λ (x : ℕ). IsLevelOf x levels i) same at) inside in omega (arith, further, one) in
+      let one : i ≡ n =
+      same_number groups levels levels levels_nested levels_nested c i n
+      (subst (λ (x : ℕ). IsLevelOf x levels i) same at) inside in omega (arith, further, one) in
       present_there talks talks_after e at.level
       (talk_beside groups c e f talks other (not_below groups levels levels_nested (length groups) c e i n inside at (omega (arith, further))))
       (present_before levels levels_nested n inside i e at (omega (arith, further)) (may i e at))
 
   -- the level of c itself tried the present alternate, and the conversation is changed once
-  pub present_here : (levels : List (Level C)) → AreNested groups levels → (n : ℕ) (inside : IsLevelOf c levels n) → MayTry groups talks own (suc j) levels
+  pub present_here : (levels : List (Level C)) → AreNested groups levels → (n : ℕ) (inside : IsLevelOf c levels n)
+      → MayTry groups talks own (suc j) levels
       → IsPresent talks c inside.level × (slice_get talks_after c ≡ option_map f (slice_get talks c))
   present_here levels levels_nested n inside may = (
     present_before levels levels_nested n inside n c inside (omega arith) (may n c inside),
@@ -142,7 +158,8 @@ further_out i n below other (inl further) = further
 further_out i n below other (inr within) = absurd (other (omega (arith, below, within)))
 
 -- all that are inside try the next alternate, or none is left and the conversation is spent
-module _ {C : Type 0} (groups : List Membership) (talks : List Talk) (own : List (Level C)) (c j : ℕ) (nested : AreNested groups own) (own_at : IsLevelOf c own j) where
+module _ {C : Type 0} (groups : List Membership) (talks : List Talk) (own : List (Level C)) (c j : ℕ)
+    (nested : AreNested groups own) (own_at : IsLevelOf c own j) where
   next_at : (levels : List (Level C)) → AreNested groups levels → (n : ℕ) (inside : IsLevelOf c levels n) → MayTry groups talks own (suc j) levels
       → (i e : ℕ) (at : IsLevelOf e (change_at n next_alternate (take (n + 1) levels)) i) → (i ≡ n) ⊎ (i ≡ n → ⊥)
       → IsPresent (talks_after groups talks own c j nested own_at next_talk) e at.level
@@ -161,12 +178,14 @@ module _ {C : Type 0} (groups : List Membership) (talks : List Talk) (own : List
         same = ap (λ (l : Level C). l.alternate) (sym here) ∙ ap (λ (a : ℕ). a + 1) was.0.same;
       })
   next_at levels levels_nested n inside may i e at (inr other) =
-      let there : slice_get (take (n + 1) levels) i ≡ Some at.level = sym (slice_get-change_other n next_alternate (take (n + 1) levels) i other) ∙ at.there in
+      let there : slice_get (take (n + 1) levels) i ≡ Some at.level =
+      sym (slice_get-change_other n next_alternate (take (n + 1) levels) i other) ∙ at.there in
       let found : (i < n + 1) × (slice_get levels i ≡ Some at.level) = get_take (n + 1) levels i at.level there in
       present_further groups talks own c j nested own_at next_talk levels levels_nested n inside may i e
       (record { level = at.level; there = found.1; of_it = at.of_it }) (further_out i n found.0 other (cases_lt i n))
 
-  pub present_next : (levels : List (Level C)) → AreNested groups levels → (n : ℕ) (inside : IsLevelOf c levels n) → MayTry groups talks own (suc j) levels
+  pub present_next : (levels : List (Level C)) → AreNested groups levels → (n : ℕ) (inside : IsLevelOf c levels n)
+      → MayTry groups talks own (suc j) levels
       → TryPresent (talks_after groups talks own c j nested own_at next_talk) (change_at n next_alternate (take (n + 1) levels))
   present_next levels levels_nested n inside may i e at = next_at levels levels_nested n inside may i e at (cases_eq i n)
 
@@ -174,7 +193,8 @@ module _ {C : Type 0} (groups : List Membership) (talks : List Talk) (own : List
   own_taken : IsLevelOf c (take (j + 1) own) j
   own_taken = record { level = own_at.level; there = slice_get-take (j + 1) own j (omega arith) ∙ own_at.there; of_it = own_at.of_it }
 
-  spent_at : (parent : ℕ) → parent_of (slice_get groups c) ≡ Some parent → (levels : List (Level C)) → AreNested groups levels → (n : ℕ) (inside : IsLevelOf c levels n)
+  spent_at : (parent : ℕ) → parent_of (slice_get groups c) ≡ Some parent → (levels : List (Level C))
+      → AreNested groups levels → (n : ℕ) (inside : IsLevelOf c levels n)
       → MayTry groups talks own (suc j) levels → (i e : ℕ) (at : IsLevelOf e (take (n + 1) levels) i) → (i ≡ n) ⊎ (i ≡ n → ⊥)
       → IsPresent (talks_after groups talks own c j nested own_at first_again) e at.level ⊎ IsSpentAt groups e (take (j + 1) own) j
   spent_at parent around levels levels_nested n inside may i e at (inl same) =
@@ -187,7 +207,8 @@ module _ {C : Type 0} (groups : List Membership) (talks : List Talk) (own : List
       inl (present_further groups talks own c j nested own_at first_again levels levels_nested n inside may i e
       (record { level = at.level; there = found.1; of_it = at.of_it }) (further_out i n found.0 other (cases_lt i n)))
 
-  pub may_spent : (parent : ℕ) → parent_of (slice_get groups c) ≡ Some parent → (levels : List (Level C)) → AreNested groups levels → (n : ℕ) (inside : IsLevelOf c levels n)
+  pub may_spent : (parent : ℕ) → parent_of (slice_get groups c) ≡ Some parent → (levels : List (Level C))
+      → AreNested groups levels → (n : ℕ) (inside : IsLevelOf c levels n)
       → MayTry groups talks own (suc j) levels
       → MayTry groups (talks_after groups talks own c j nested own_at first_again) (take (j + 1) own) j (take (n + 1) levels)
   may_spent parent around levels levels_nested n inside may i e at = spent_at parent around levels levels_nested n inside may i e at (cases_eq i n)

@@ -11,7 +11,8 @@ use Rattle.rb_world.proofs.LevelFacts.{any_level}
 use Rattle.rb_world.proofs.NestedSame.{same_number}
 
 -- a conversation that does not lie below keeps its alternate
-reset_from-other : (below : ℕ → Bool) (d n r : ℕ) (talks : List Talk) → n ≡ d + r → below n ≡ false → slice_get (reset_from below d talks) r ≡ slice_get talks r
+reset_from-other : (below : ℕ → Bool) (d n r : ℕ) (talks : List Talk) → n ≡ d + r → below n ≡ false
+    → slice_get (reset_from below d talks) r ≡ slice_get talks r
 reset_from-other below d n r [] e none = refl
 reset_from-other below d n zero (talk ∷ talks) e none =
     let same : n ≡ d = omega (arith, e) in
@@ -22,13 +23,15 @@ reset_from-other below d n (suc r) (talk ∷ talks) e none = reset_from-other be
 pub talk_beside : (groups : List Membership) (c e : ℕ) (f : Talk → Talk) (talks : List Talk) → e ≢ c → is_below groups (length groups) c e ≡ false
     → slice_get (change_at c f (reset_below groups c talks)) e ≡ slice_get talks e
 talk_beside groups c e f talks other none =
-    slice_get-change_other c f (reset_below groups c talks) e other ∙ reset_from-other (is_below groups (length groups) c) 0 e e talks (omega arith) none
+    slice_get-change_other c f (reset_below groups c talks) e other
+    ∙ reset_from-other (is_below groups (length groups) c) 0 e e talks (omega arith) none
 
 -- and c itself is changed once
 pub talk_changed : (groups : List Membership) (c : ℕ) (f : Talk → Talk) (talks : List Talk) → is_below groups (length groups) c c ≡ false
     → slice_get (change_at c f (reset_below groups c talks)) c ≡ option_map f (slice_get talks c)
 talk_changed groups c f talks none =
-    slice_get-change_at c f (reset_below groups c talks) ∙ ap (option_map f) (reset_from-other (is_below groups (length groups) c) 0 c c talks (omega arith) none)
+    slice_get-change_at c f (reset_below groups c talks)
+    ∙ ap (option_map f) (reset_from-other (is_below groups (length groups) c) 0 c c talks (omega arith) none)
 
 -- a level of a conversation that stands further out than number i
 pub record IsFurtherOut {C : Type 0} (c : ℕ) (levels : List (Level C)) (i : ℕ) : Type 0 where
@@ -55,10 +58,12 @@ module _ {C : Type 0} (groups : List Membership) (levels : List (Level C)) (nest
   pub below_outside : (n c e i : ℕ) → IsLevelOf e levels i → is_below groups n c e ≡ true → IsFurtherOut c levels i
   below_outside zero c e i at below = absurd (true≢false (sym below))
   below_outside (suc n) c e i at below =
-      under_outside (is_below groups n c) c (parent_of (slice_get groups e)) i (nested i e at) below (λ d j out higher. below_outside n c d j out higher)
+      under_outside (is_below groups n c) c (parent_of (slice_get groups e)) i (nested i e at) below
+      (λ d j out higher. below_outside n c d j out higher)
 
   -- so none of those at a level of c and outside it lies below c
-  outer_not_below : (n c e i j : ℕ) → IsLevelOf c levels j → IsLevelOf e levels i → i ≤ j → (below : Bool) → is_below groups n c e ≡ below → is_below groups n c e ≡ false
+  outer_not_below : (n c e i j : ℕ) → IsLevelOf c levels j → IsLevelOf e levels i → i ≤ j → (below : Bool)
+      → is_below groups n c e ≡ below → is_below groups n c e ≡ false
   outer_not_below n c e i j at outer within true is =
       let out : IsFurtherOut c levels i = below_outside n c e i outer is in
       let same : out.number ≡ j = same_number groups levels levels nested nested c out.number j out.level at in
@@ -69,7 +74,8 @@ module _ {C : Type 0} (groups : List Membership) (levels : List (Level C)) (nest
   not_below n c e i j at outer within = outer_not_below n c e i j at outer within (is_below groups n c e) refl
 
   -- nor any of a process that is not inside c
-  outsider_not_below : (n c e i : ℕ) → list_any (is_of c) levels ≡ false → IsLevelOf e levels i → (below : Bool) → is_below groups n c e ≡ below → is_below groups n c e ≡ false
+  outsider_not_below : (n c e i : ℕ) → list_any (is_of c) levels ≡ false → IsLevelOf e levels i → (below : Bool)
+      → is_below groups n c e ≡ below → is_below groups n c e ≡ false
   outsider_not_below n c e i outside at true is =
       let out : IsFurtherOut c levels i = below_outside n c e i at is in
       absurd (true≢false (sym (any_level c out.number levels out.level) ∙ outside))

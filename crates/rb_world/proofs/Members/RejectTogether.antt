@@ -17,7 +17,8 @@ use Rattle.rb_world.proofs.Members.CountedTurns.{carries_same, keeps_on}
 use Rattle.rb_world.proofs.Members.CascadeTogether.{Apart, KeepOuter, LeaveBoth, Where, Within, apart_stays, where_is, within_left}
 
 -- a process that was put back to a level is inside no other conversation that was as far in
-not_inside_at : {S C M : Type 0} (k : Kind S C M) (c e i j n : ℕ) (q now : Process S C) (own : IsLevelOf e q.levels j) → IsBackAt k j q own.level now → c ≢ e
+not_inside_at : {S C M : Type 0} (k : Kind S C M) (c e i j n : ℕ) (q now : Process S C) (own : IsLevelOf e q.levels j)
+    → IsBackAt k j q own.level now → c ≢ e
     → j ≤ i → ((m : ℕ) → IsLevelOf c q.levels m → m ≡ i) → IsLevelOf c now.levels n → (n < j) ⊎ (j ≤ n) → ⊥
 not_inside_at k c e i j n q now own back other within only at (inl below) =
     let same : n ≡ i = only n (record { level = at.level; there = sym (back.outer n below) ∙ at.there; of_it = at.of_it }) in omega arith
@@ -27,14 +28,16 @@ not_inside_at {S} {C} k c e i j n q now own back other within only at (inr beyon
     let level : next_alternate own.level ≡ at.level = some_same (sym back.next ∙ (ap (slice_get now.levels) (sym here) ∙ at.there)) in
     other (some_same (sym at.of_it ∙ (ap (λ (l : Level C). l.facts.conversation) (sym level) ∙ own.of_it)))
 
-not_inside : {S C M : Type 0} (k : Kind S C M) (c e i j : ℕ) (q now : Process S C) (own : IsLevelOf e q.levels j) → IsBackAt k j q own.level now → c ≢ e
+not_inside : {S C M : Type 0} (k : Kind S C M) (c e i j : ℕ) (q now : Process S C) (own : IsLevelOf e q.levels j)
+    → IsBackAt k j q own.level now → c ≢ e
     → j ≤ i → ((m : ℕ) → IsLevelOf c q.levels m → m ≡ i) → (inside : Bool) → is_inside c now ≡ inside → is_inside c now ≡ false
 not_inside k c e i j q now own back other within only true is =
     let found : (n : ℕ) × IsLevelOf c now.levels n = inside_level c now.levels is in
     absurd (not_inside_at k c e i j found.0 q now own back other within only found.1 (cases_lt found.0 j))
 not_inside k c e i j q now own back other within only false is = is
 
-module _ {S C M : Type 0} (k : Kind S C M) (p : ℕ) (u : Process S C) (v : World S C M) (there : slice_get v.processes p ≡ Some u) (nested : AllNested k v) where
+module _ {S C M : Type 0} (k : Kind S C M) (p : ℕ) (u : Process S C) (v : World S C M)
+    (there : slice_get v.processes p ≡ Some u) (nested : AllNested k v) where
   -- who was put back, or has failed, keeps the levels further out
   back_outer : (e j : ℕ) (later : World S C M) → AreBackAt k e j v later → KeepOuter v e j later
   back_outer e j later back r q here own =
@@ -66,8 +69,10 @@ module _ {S C M : Type 0} (k : Kind S C M) (p : ℕ) (u : Process S C) (v : Worl
   all_back_at : (c e j : ℕ) (later : World S C M) → IsLevelOf e u.levels j → c ≡ e → AreBackAt k e j v later → AreBack k c v later
   all_back_at c e j later at same back r i q here own =
       let place : i ≡ j =
-      same_number k.groups q.levels u.levels (nested r q here) (nested p u there) c i j own (subst (λ (d : ℕ). IsLevelOf d u.levels j) (sym same) at) in
-      let level : IsLevelOf e q.levels j = record { level = own.level; there = ap (slice_get q.levels) (sym place) ∙ own.there; of_it = own.of_it ∙ ap Some same } in
+      same_number k.groups q.levels u.levels (nested r q here) (nested p u there) c i j own
+      (subst (λ (d : ℕ). IsLevelOf d u.levels j) (sym same) at) in
+      let level : IsLevelOf e q.levels j =
+      record { level = own.level; there = ap (slice_get q.levels) (sym place) ∙ own.there; of_it = own.of_it ∙ ap Some same } in
       let one : (now : Process S C) × (slice_get later.processes r ≡ Some now) × IsBackAt k j q own.level now = back r q here level in (
         one.0,
         one.1,
@@ -81,7 +86,8 @@ module _ {S C M : Type 0} (k : Kind S C M) (p : ℕ) (u : Process S C) (v : Worl
       )
 
 -- p was u in the world v in which the cascade began, and every level of the world w before that is a level there
-module _ {S C M : Type 0} (k : Kind S C M) (c p : ℕ) (u : Process S C) (v w : World S C M) (there : slice_get v.processes p ≡ Some u) (nested : AllNested k v) (kept : Keeps c w v) where
+module _ {S C M : Type 0} (k : Kind S C M) (c p : ℕ) (u : Process S C) (v w : World S C M)
+    (there : slice_get v.processes p ≡ Some u) (nested : AllNested k v) (kept : Keeps c w v) where
   -- who is back at a level of the one is back at its level of the other
   back_before : (later : World S C M) → AreBack k c v later → AreBack k c w later
   back_before later back r i x here at =

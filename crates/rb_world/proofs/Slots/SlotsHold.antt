@@ -20,7 +20,8 @@ pub record Comes {A : Type 0} (K : A → A → Type 0) (r : ℕ) (a' : A) (xs : 
   pub there : slice_get xs r ≡ Some old
   pub keeps : K old a'
 
-pub comes_changed : {A : Type 0} (K : A → A → Type 0) (p : ℕ) (f : A → A) (xs : List A) → ((r : ℕ) (a : A) → slice_get xs r ≡ Some a → K a a) → ((a : A) → slice_get xs p ≡ Some a → K a (f a))
+pub comes_changed : {A : Type 0} (K : A → A → Type 0) (p : ℕ) (f : A → A) (xs : List A)
+    → ((r : ℕ) (a : A) → slice_get xs r ≡ Some a → K a a) → ((a : A) → slice_get xs p ≡ Some a → K a (f a))
     → (r : ℕ) (a' : A) → slice_get (change_at p f xs) r ≡ Some a' → Comes K r a' xs
 comes_changed K p f [] stays one r a' e = absurd (none_some e)
 comes_changed K zero f (x ∷ xs) stays one zero a' e = record { old = x; there = refl; keeps = subst (K x) (some_same e) (one x refl) }
@@ -53,7 +54,8 @@ module _ {S E P : Type 0} (x : Parts S E P) (c : ℕ) (ends : Ends) where
   abbrev pub same_slots : Slots → Slots → Type 0
   same_slots old new = slice_get new c ≡ slice_get old c
 
-  lie_kept : (old new : Slots) → same_slots old new → (sender receiver sender' receiver' : Process S S) → LieInSlots (whole x) tt old c ends sender receiver
+  lie_kept : (old new : Slots) → same_slots old new → (sender receiver sender' receiver' : Process S S)
+      → LieInSlots (whole x) tt old c ends sender receiver
       → KeepsSlots x c sender sender' → KeepsSlots x c receiver receiver' → LieInSlots (whole x) tt new c ends sender' receiver'
   lie_kept old new same sender receiver sender' receiver' lies one other = record {
     fit = omega (arith, one.front.shorter, lies.fit, other.later);

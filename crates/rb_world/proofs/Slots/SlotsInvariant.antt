@@ -24,7 +24,8 @@ both_mail x s t u one other = record {
   messages = λ c n. other.messages c n ∙ one.messages c n;
 }
 
-module _ {S E P : Type 0} (x : Parts S E P) (Known : ℕ → Process S S → Type 0) (laws : IsErasable x Known) (c : ℕ) (ends : Ends) (declared : slice_get x.channels c ≡ Some ends) where
+module _ {S E P : Type 0} (x : Parts S E P) (Known : ℕ → Process S S → Type 0) (laws : IsErasable x Known) (c : ℕ)
+    (ends : Ends) (declared : slice_get x.channels c ≡ Some ends) where
   abbrev slotted : Kind S S (Nothing × Slots)
   slotted = with_slots (whole x)
 
@@ -40,9 +41,11 @@ module _ {S E P : Type 0} (x : Parts S E P) (Known : ℕ → Process S S → Typ
   mail_keeps q t line status mail rise = moved_keeps x c q t line status rise (same_front x c q.state t mail) (omega (arith, mail.taken c))
 
   back_keeps : (j : ℕ) (q : Process S S) → Before q → Keeping x c ends q (put_back slotted j q)
-  back_keeps j q before rise = subst (λ (r : Process S S). KeepsSlots x c q r) (sym (put_back-bare (whole x) j q)) (put_back_keeps x c j q rise before)
+  back_keeps j q before rise =
+      subst (λ (r : Process S S). KeepsSlots x c q r) (sym (put_back-bare (whole x) j q)) (put_back_keeps x c j q rise before)
 
-  at_place_keeps : (f : ℕ → Process S S → Process S S) (place : Option ℕ) (q : Process S S) → ((j : ℕ) → Keeping x c ends q (f j q)) → Keeping x c ends q (at_place f place q)
+  at_place_keeps : (f : ℕ → Process S S → Process S S) (place : Option ℕ) (q : Process S S)
+      → ((j : ℕ) → Keeping x c ends q (f j q)) → Keeping x c ends q (at_place f place q)
   at_place_keeps f None q keeps rise = stays_keeps x c q rise
   at_place_keeps f (Some j) q keeps rise = keeps j rise
 
@@ -55,7 +58,8 @@ module _ {S E P : Type 0} (x : Parts S E P) (Known : ℕ → Process S S → Typ
   leaves_keeps q false rise = stays_keeps x c q rise
 
   freed_keeps : (s : S) (levels : List (Level S)) (line : Bool) (status : Status)
-      → Keeping x c ends (record { state = s; levels = levels; at_line = line; status = status }) (freed slotted (record { state = s; levels = levels; at_line = line; status = status }))
+      → Keeping x c ends (record { state = s; levels = levels; at_line = line; status = status })
+      (freed slotted (record { state = s; levels = levels; at_line = line; status = status }))
   freed_keeps s [] line status rise =
       moved_keeps x c (record { state = s; levels = []; at_line = line; status = status }) (x.release s) line status rise
       (same_front x c s (x.release s) (laws.releases_mail s)) (omega (arith, (laws.releases_mail s).taken c))
@@ -70,27 +74,33 @@ module _ {S E P : Type 0} (x : Parts S E P) (Known : ℕ → Process S S → Typ
 
   -- an acceptance test changes no mail
   held_mail : (p : ℕ) (q : Process S S) (w : SlotWorld) (alternate : ℕ) (message : Option ℤ) (s : S) → Grounded x Known (bare w)
-      → StepsAt slotted p q w alternate message → slotted.step alternate (copy_of (last_of q.levels)) q.state message w.memory ≡ Held s → SameMail x q.state s
+      → StepsAt slotted p q w alternate message
+      → slotted.step alternate (copy_of (last_of q.levels)) q.state message w.memory ≡ Held s → SameMail x q.state s
   held_mail p q w alternate message s ground at e =
       (laws.holds p q (bare w) alternate message s (ground.each p q at.acts.runs.there).known (steps-bare (whole x) at)
       (held_bare (whole x) q.state w.memory.1 (x.step alternate (option_map x.environment (copy_of (last_of q.levels))) q.state message) s e)).mail
 
   -- the member whose test held stands at the line
-  stands_holds : (t p : ℕ) (q : Process S S) (w : SlotWorld) (alternate : ℕ) (message : Option ℤ) (s : S) → Grounded x Known (bare w) → HoldsOn x c ends w
+  stands_holds : (t p : ℕ) (q : Process S S) (w : SlotWorld) (alternate : ℕ) (message : Option ℤ) (s : S)
+      → Grounded x Known (bare w) → HoldsOn x c ends w
       → StepsAt slotted p q w alternate message → slotted.step alternate (copy_of (last_of q.levels)) q.state message w.memory ≡ Held s
       → HoldsOn x c ends (with_memory w.memory (with_process p (λ _. stands_now (x.keep t alternate s) q.levels) w))
   stands_holds t p q w alternate message s ground holds at e =
       set_holds x Known laws c ends declared p q (stands_now (x.keep t alternate s) q.levels) w w.memory holds at.acts.runs.there refl
-      (mail_keeps q (x.keep t alternate s) true Running (both_mail x q.state s (x.keep t alternate s) (held_mail p q w alternate message s ground at e) (laws.keeps_mail t alternate s)))
+      (mail_keeps q (x.keep t alternate s) true Running
+      (both_mail x q.state s (x.keep t alternate s) (held_mail p q w alternate message s ground at e) (laws.keeps_mail t alternate s)))
 
   -- the private level of one whose test held goes
-  accepts_holds : (t p : ℕ) (q : Process S S) (w : SlotWorld) (alternate : ℕ) (message : Option ℤ) (s : S) → Grounded x Known (bare w) → HoldsOn x c ends w
+  accepts_holds : (t p : ℕ) (q : Process S S) (w : SlotWorld) (alternate : ℕ) (message : Option ℤ) (s : S)
+      → Grounded x Known (bare w) → HoldsOn x c ends w
       → StepsAt slotted p q w alternate message → slotted.step alternate (copy_of (last_of q.levels)) q.state message w.memory ≡ Held s
       → HoldsOn x c ends (with_memory w.memory (with_process p (λ _. settled slotted (x.keep t alternate s) (without_last q.levels)) w))
   accepts_holds t p q w alternate message s ground holds at e =
-      set_holds x Known laws c ends declared p q (settled slotted (x.keep t alternate s) (without_last q.levels)) w w.memory holds at.acts.runs.there refl
+      set_holds x Known laws c ends declared p q
+      (settled slotted (x.keep t alternate s) (without_last q.levels)) w w.memory holds at.acts.runs.there refl
       (λ rise. left_keeps x c q (x.settle (x.keep t alternate s)) false (status_at (x.want (x.settle (x.keep t alternate s)))) rise
-      (both_mail x q.state s (x.settle (x.keep t alternate s)) (held_mail p q w alternate message s ground at e) (kept_mail x Known laws c ends declared t alternate s)))
+      (both_mail x q.state s (x.settle (x.keep t alternate s)) (held_mail p q w alternate message s ground at e)
+      (kept_mail x Known laws c ends declared t alternate s)))
 
   pub holds_kept : IsInvariantUnder slotted
       (λ t past w. Grounded x Known (bare w)) (λ t past p left w. GroundedWithin x Known p left (bare w)) (λ t past w. StillGrounded x Known (bare w))
@@ -110,12 +120,14 @@ module _ {S E P : Type 0} (x : Parts S E P) (Known : ℕ → Process S S → Typ
     opens = λ t past p q w f a h at.
         let s = x.keep t 0 (x.enter q.state) in
         set_holds x Known laws c ends declared p q _ w w.memory h.1 at.acts.runs.there refl
-        (λ rise. opened_keeps x c q s _ false _ rise (both_mail x q.state (x.enter q.state) s (laws.enters q.state).mail (laws.keeps_mail t 0 (x.enter q.state))) refl);
+        (λ rise. opened_keeps x c q s _ false _ rise
+        (both_mail x q.state (x.enter q.state) s (laws.enters q.state).mail (laws.keeps_mail t 0 (x.enter q.state))) refl);
     accepts = λ t past p q w a v s l h at e some of_none. accepts_holds t p q w a v s h.0.ground h.1 at e;
     stands = λ t past p q w a v s l d h at e some of_d late. stands_holds t p q w a v s h.0.ground h.1 at e;
     leaves = λ t past p q w a v s l d h at e some of_d come.
         talks_hold x Known laws c ends declared (change_at d first_again) _
-        (each_holds x Known laws c ends declared (leaves slotted d) _ (stands_holds t p q w a v s h.0.ground h.1 at e) (λ r q' e'. leaves_keeps q' (stands_at d q')));
+        (each_holds x Known laws c ends declared (leaves slotted d) _ (stands_holds t p q w a v s h.0.ground h.1 at e)
+        (λ r q' e'. leaves_keeps q' (stands_at d q')));
     falls = λ t past p q w n cause h r why. one_holds x Known laws c ends declared p (fallen slotted cause) w h.1 (λ q' e. fallen_keeps x c cause q');
     tries_next = λ t past p q w j l h r none less.
         one_holds x Known laws c ends declared p (raised j) _
@@ -127,10 +139,14 @@ module _ {S E P : Type 0} (x : Parts S E P) (Known : ℕ → Process S S → Typ
         talks_hold x Known laws c ends declared (change_at d next_talk) _
         (each_holds x Known laws c ends declared (where_inside raised d) _ (all_back_holds d w h.0.ground h.1)
         (λ n q' e. at_place_keeps raised (position (is_of d) q'.levels) q' (λ i. raised_keeps x c i q')));
-    all_are_spent = λ t past p q w j l d parent h r of_d spent up. talks_hold x Known laws c ends declared (change_at d first_again) _ (all_back_holds d w h.0.ground h.1);
+    all_are_spent =
+        λ t past p q w j l d parent h r of_d spent up. talks_hold x Known laws c ends declared (change_at d first_again) _
+        (all_back_holds d w h.0.ground h.1);
     breaks = λ t past p q w j l d h r of_d spent up.
         talks_hold x Known laws c ends declared (change_at d broken_talk) _
-        (each_holds x Known laws c ends declared (fallen_inside slotted d) _ (all_back_holds d w h.0.ground h.1) (λ n q' e. fallen_inside_keeps q' (is_inside d q')));
+        (each_holds x Known laws c ends declared (fallen_inside slotted d) _ (all_back_holds d w h.0.ground h.1)
+        (λ n q' e. fallen_inside_keeps q' (is_inside d q')));
     is_gone = λ t past p q w j h r e. h.1;
-    releases = λ t past w one h e. each_holds x Known laws c ends declared (freed slotted) w h.1 (λ r q e'. freed_keeps q.state q.levels q.at_line q.status);
+    releases = λ t past w one h e. each_holds x Known laws c ends declared (freed slotted) w h.1
+        (λ r q e'. freed_keeps q.state q.levels q.at_line q.status);
   }

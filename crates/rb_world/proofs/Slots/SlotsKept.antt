@@ -45,11 +45,13 @@ module _ {S E P : Type 0} (x : Parts S E P) (c : ℕ) where
   room_over s t [] more = more
   room_over s t (l ∷ ls) more = omega arith
 
-  now_over : (s t : S) (levels : List (Level S)) → x.taken s c ≤ x.taken t c → room_from (whole x) s levels c ≤ x.taken s c → room_from (whole x) t levels c ≤ x.taken t c
+  now_over : (s t : S) (levels : List (Level S)) → x.taken s c ≤ x.taken t c → room_from (whole x) s levels c ≤ x.taken s c
+      → room_from (whole x) t levels c ≤ x.taken t c
   now_over s t [] more below = omega arith
   now_over s t (l ∷ ls) more below = omega (arith, more, below)
 
-  then_over : (s t : S) (levels : List (Level S)) (n : ℕ) (level : Level S) (i : ℕ) → slice_get levels i ≡ Some level → room_from (whole x) s levels c ≤ n → room_from (whole x) t levels c ≤ n
+  then_over : (s t : S) (levels : List (Level S)) (n : ℕ) (level : Level S) (i : ℕ) → slice_get levels i ≡ Some level
+      → room_from (whole x) s levels c ≤ n → room_from (whole x) t levels c ≤ n
   then_over s t [] n level i e below = absurd (none_some e)
   then_over s t (l ∷ ls) n level i e below = below
 
@@ -60,7 +62,8 @@ module _ {S E P : Type 0} (x : Parts S E P) (c : ℕ) where
     then = λ i level e. then_over q.state t q.levels (x.taken level.copy c) level i e (rise.then i level e);
   }
 
-  pub moved_keeps : (q : Process S S) (t : S) (line : Bool) (status : Status) → TakesRise x c q → IsFrontOn x c t q.state → x.taken q.state c ≤ x.taken t c
+  pub moved_keeps : (q : Process S S) (t : S) (line : Bool) (status : Status) → TakesRise x c q → IsFrontOn x c t q.state
+      → x.taken q.state c ≤ x.taken t c
       → KeepsSlots x c q (record { state = t; levels = q.levels; at_line = line; status = status })
   moved_keeps q t line status rise front more = record {
     front = front;
@@ -94,7 +97,8 @@ module _ {S E P : Type 0} (x : Parts S E P) (c : ℕ) where
   }
 
   -- the level whose alternate rises keeps its point
-  room_raised : (s : S) (j : ℕ) (levels : List (Level S)) → room_from (whole x) s (change_at j next_alternate levels) c ≡ room_from (whole x) s levels c
+  room_raised : (s : S) (j : ℕ) (levels : List (Level S))
+      → room_from (whole x) s (change_at j next_alternate levels) c ≡ room_from (whole x) s levels c
   room_raised s j [] = refl
   room_raised s zero (l ∷ ls) = refl
   room_raised s (suc j) (l ∷ ls) = refl
@@ -126,18 +130,21 @@ module _ {S E P : Type 0} (x : Parts S E P) (c : ℕ) where
   room_opened s t [] level same = same
   room_opened s t (l ∷ ls) level same = refl
 
-  then_opened : (levels : List (Level S)) (new : Level S) (n : ℕ) → n ≤ x.taken new.copy c → ((i : ℕ) (level : Level S) → slice_get levels i ≡ Some level → n ≤ x.taken level.copy c)
+  then_opened : (levels : List (Level S)) (new : Level S) (n : ℕ) → n ≤ x.taken new.copy c
+      → ((i : ℕ) (level : Level S) → slice_get levels i ≡ Some level → n ≤ x.taken level.copy c)
       → (i : ℕ) (level : Level S) → slice_get (levels ++ new ∷ []) i ≡ Some level → n ≤ x.taken level.copy c
   then_opened [] new n last below zero level e = subst (λ (y : Level S). n ≤ x.taken y.copy c) (some_same e) last
   then_opened [] new n last below (suc i) level e = absurd (none_some e)
   then_opened (l ∷ ls) new n last below zero level e = below zero level e
   then_opened (l ∷ ls) new n last below (suc i) level e = then_opened ls new n last (λ k y h. below (suc k) y h) i level e
 
-  pub opened_keeps : (q : Process S S) (t : S) (level : Level S) (line : Bool) (status : Status) → TakesRise x c q → SameMail x q.state t → level.copy ≡ t
+  pub opened_keeps : (q : Process S S) (t : S) (level : Level S) (line : Bool) (status : Status) → TakesRise x c q
+      → SameMail x q.state t → level.copy ≡ t
       → KeepsSlots x c q (record { state = t; levels = q.levels ++ level ∷ []; at_line = line; status = status })
   opened_keeps q t level line status rise mail point =
       let same : x.taken level.copy c ≡ x.taken q.state c = ap (λ (y : S). x.taken y c) point ∙ mail.taken c in
-      let room : room_from (whole x) t (q.levels ++ level ∷ []) c ≡ room_from (whole x) q.state q.levels c = room_opened q.state t q.levels level same in
+      let room : room_from (whole x) t (q.levels ++ level ∷ []) c ≡ room_from (whole x) q.state q.levels c =
+      room_opened q.state t q.levels level same in
       record {
         front = same_front q.state t mail;
         later = omega (arith, room);
@@ -150,12 +157,14 @@ module _ {S E P : Type 0} (x : Parts S E P) (c : ℕ) where
 
   -- the innermost level goes
   room_left : (s t : S) (levels : List (Level S)) → x.taken t c ≡ x.taken s c → room_from (whole x) s levels c ≤ x.taken s c
-      → (room_from (whole x) s levels c ≤ room_from (whole x) t (without_last levels) c) × (room_from (whole x) t (without_last levels) c ≤ x.taken t c)
+      → (room_from (whole x) s levels c ≤ room_from (whole x) t (without_last levels) c)
+      × (room_from (whole x) t (without_last levels) c ≤ x.taken t c)
   room_left s t [] same below = (omega (arith, same), omega arith)
   room_left s t (l ∷ []) same below = (omega (arith, same, below), omega arith)
   room_left s t (l ∷ m ∷ ls) same below = (omega arith, omega (arith, same, below))
 
-  then_room : (s t : S) (levels : List (Level S)) (n i : ℕ) (level : Level S) → slice_get (without_last levels) i ≡ Some level → room_from (whole x) s levels c ≤ n
+  then_room : (s t : S) (levels : List (Level S)) (n i : ℕ) (level : Level S)
+      → slice_get (without_last levels) i ≡ Some level → room_from (whole x) s levels c ≤ n
       → room_from (whole x) t (without_last levels) c ≤ n
   then_room s t [] n i level e below = absurd (none_some e)
   then_room s t (l ∷ []) n i level e below = absurd (none_some e)

@@ -26,19 +26,23 @@ set_read : (values : List ℤ) (i : ℕ) (v : ℤ) → i < length values → unw
 set_read values i v within = unwrap_or-slice_get (slice_set values i v) i (pos 0) ∙ get_or-set_same values i v (pos 0) within
 
 -- a message that was put into its slot is read there
-pub put_read : (channels : List Ends) (slots : Slots) (c n : ℕ) (v : ℤ) (values : List ℤ) → slice_get slots c ≡ Some values → n % size_on channels c < length values
+pub put_read : (channels : List Ends) (slots : Slots) (c n : ℕ) (v : ℤ) (values : List ℤ) → slice_get slots c ≡ Some values
+    → n % size_on channels c < length values
     → slot_of channels (put_slot channels c n v slots) c n ≡ v
 put_read channels slots c n v values there within =
     ap (λ (list : Option (List ℤ)). unwrap_or (slice_get (unwrap_or list []) (n % size_on channels c)) (pos 0))
-    (slice_get-change_at c (λ list. slice_set list (n % size_on channels c) v) slots ∙ ap (option_map (λ list. slice_set list (n % size_on channels c) v)) there)
+    (slice_get-change_at c (λ list. slice_set list (n % size_on channels c) v) slots
+    ∙ ap (option_map (λ list. slice_set list (n % size_on channels c) v)) there)
     ∙ set_read values (n % size_on channels c) v within
 
 -- and another, less than the size away, is still read in its own
-pub put_other : (channels : List Ends) (slots : Slots) (c n k : ℕ) (v : ℤ) (values : List ℤ) → slice_get slots c ≡ Some values → k % size_on channels c ≢ n % size_on channels c
+pub put_other : (channels : List Ends) (slots : Slots) (c n k : ℕ) (v : ℤ) (values : List ℤ)
+    → slice_get slots c ≡ Some values → k % size_on channels c ≢ n % size_on channels c
     → slot_of channels (put_slot channels c n v slots) c k ≡ slot_of channels slots c k
 put_other channels slots c n k v values there apart =
     ap (λ (list : Option (List ℤ)). unwrap_or (slice_get (unwrap_or list []) (k % size_on channels c)) (pos 0))
-    (slice_get-change_at c (λ list. slice_set list (n % size_on channels c) v) slots ∙ ap (option_map (λ list. slice_set list (n % size_on channels c) v)) there)
+    (slice_get-change_at c (λ list. slice_set list (n % size_on channels c) v) slots
+    ∙ ap (option_map (λ list. slice_set list (n % size_on channels c) v)) there)
     ∙ (unwrap_or-slice_get (slice_set values (n % size_on channels c) v) (k % size_on channels c) (pos 0)
     ∙ get_or-set_other values (n % size_on channels c) (k % size_on channels c) v (pos 0) apart
     ∙ sym (unwrap_or-slice_get values (k % size_on channels c) (pos 0)))
@@ -48,4 +52,5 @@ put_other channels slots c n k v values there apart =
 pub put_sized : (channels : List Ends) (slots : Slots) (c n : ℕ) (v : ℤ) (values : List ℤ) → slice_get slots c ≡ Some values
     → slice_get (put_slot channels c n v slots) c ≡ Some (slice_set values (n % size_on channels c) v)
 put_sized channels slots c n v values there =
-    slice_get-change_at c (λ list. slice_set list (n % size_on channels c) v) slots ∙ ap (option_map (λ list. slice_set list (n % size_on channels c) v)) there
+    slice_get-change_at c (λ list. slice_set list (n % size_on channels c) v) slots
+    ∙ ap (option_map (λ list. slice_set list (n % size_on channels c) v)) there

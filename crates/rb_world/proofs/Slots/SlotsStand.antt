@@ -12,7 +12,8 @@ use Rattle.rb_world.proofs.Slots.SlotsKept.{stays_keeps}
 use Rattle.rb_world.proofs.Slots.SlotsHold.{comes_changed, comes_mapped, HoldsOn, Keeping, holds_on}
 use Rattle.rb_world.proofs.Slots.SlotsSteps.{room_for, sent_holds, set_holds, unsent}
 
-module _ {S E P : Type 0} (x : Parts S E P) (Known : ℕ → Process S S → Type 0) (laws : IsErasable x Known) (c : ℕ) (ends : Ends) (declared : slice_get x.channels c ≡ Some ends) where
+module _ {S E P : Type 0} (x : Parts S E P) (Known : ℕ → Process S S → Type 0) (laws : IsErasable x Known) (c : ℕ)
+    (ends : Ends) (declared : slice_get x.channels c ≡ Some ends) where
   -- the kind with slots, and its worlds
   abbrev slotted : Kind S S (Nothing × Slots)
   slotted = with_slots (whole x)
@@ -21,11 +22,14 @@ module _ {S E P : Type 0} (x : Parts S E P) (Known : ℕ → Process S S → Typ
   SlotWorld = World S S (Nothing × Slots)
 
   -- one process is changed, or each, and no slot is
-  pub one_holds : (p : ℕ) (f : Process S S → Process S S) (w : SlotWorld) → HoldsOn x c ends w → ((q : Process S S) → slice_get w.processes p ≡ Some q → Keeping x c ends q (f q))
+  pub one_holds : (p : ℕ) (f : Process S S → Process S S) (w : SlotWorld) → HoldsOn x c ends w
+      → ((q : Process S S) → slice_get w.processes p ≡ Some q → Keeping x c ends q (f q))
       → HoldsOn x c ends (with_process p f w)
-  one_holds p f w holds keeps = holds_on x c ends w (with_process p f w) holds refl (comes_changed (Keeping x c ends) p f w.processes (λ r q e. stays_keeps x c q) keeps)
+  one_holds p f w holds keeps =
+      holds_on x c ends w (with_process p f w) holds refl (comes_changed (Keeping x c ends) p f w.processes (λ r q e. stays_keeps x c q) keeps)
 
-  pub each_holds : (f : Process S S → Process S S) (w : SlotWorld) → HoldsOn x c ends w → ((r : ℕ) (q : Process S S) → slice_get w.processes r ≡ Some q → Keeping x c ends q (f q))
+  pub each_holds : (f : Process S S → Process S S) (w : SlotWorld) → HoldsOn x c ends w
+      → ((r : ℕ) (q : Process S S) → slice_get w.processes r ≡ Some q → Keeping x c ends q (f q))
       → HoldsOn x c ends (with_each f w)
   each_holds f w holds keeps = holds_on x c ends w (with_each f w) holds refl (comes_mapped (Keeping x c ends) f w.processes keeps)
 
@@ -37,16 +41,20 @@ module _ {S E P : Type 0} (x : Parts S E P) (Known : ℕ → Process S S → Typ
   same_other : (d : ℕ) (n : ℕ) (v : ℤ) (slots : Slots) → nat_eq d c ≡ false → slice_get (put_slot x.channels d n v slots) c ≡ slice_get slots c
   same_other d n v slots e = slice_get-change_other d _ slots c (λ same. eqb-false d c e (sym same))
 
-  module _ (t p : ℕ) (q : Process S S) (w : SlotWorld) (alternate : ℕ) (message : Option ℤ) (s : S) (m : Nothing × Slots) (holds : HoldsOn x c ends w) (known : Known p q)
-      (at : StepsAt slotted p q w alternate message) (moves : Moves x message q.state s) (slots : m.1 ≡ slots_after (whole x) m.0 (x.want q.state) q.state s w.memory.1) where
+  module _ (t p : ℕ) (q : Process S S) (w : SlotWorld) (alternate : ℕ) (message : Option ℤ) (s : S) (m : Nothing × Slots)
+      (holds : HoldsOn x c ends w) (known : Known p q)
+      (at : StepsAt slotted p q w alternate message) (moves : Moves x message q.state s)
+      (slots : m.1 ≡ slots_after (whole x) m.0 (x.want q.state) q.state s w.memory.1) where
     abbrev after : Process S S
     after = settled slotted (x.keep t alternate s) q.levels
 
-    quiet_holds : sends_by (x.want q.state) c ≡ 0 → slice_get m.1 c ≡ slice_get w.memory.1 c → HoldsOn x c ends (with_memory (m.0, m.1) (with_process p (λ _. after) w))
+    quiet_holds : sends_by (x.want q.state) c ≡ 0 → slice_get m.1 c ≡ slice_get w.memory.1 c
+        → HoldsOn x c ends (with_memory (m.0, m.1) (with_process p (λ _. after) w))
     quiet_holds none same = set_holds x Known laws c ends declared p q after w (m.0, m.1) holds at.acts.runs.there same
         (unsent x Known laws c ends declared t alternate message q s after.status moves none)
 
-    send_holds : (d : ℕ) → x.want q.state ≡ SendsOn d → (here : Bool) → nat_eq d c ≡ here → HoldsOn x c ends (with_memory (m.0, m.1) (with_process p (λ _. after) w))
+    send_holds : (d : ℕ) → x.want q.state ≡ SendsOn d → (here : Bool) → nat_eq d c ≡ here
+        → HoldsOn x c ends (with_memory (m.0, m.1) (with_process p (λ _. after) w))
     send_holds d wants true e =
         let mine : x.want q.state ≡ SendsOn c = wants ∙ ap SendsOn (eqb-true d c e) in
         subst (λ (z : Slots). HoldsOn x c ends (with_memory (tt, z) (with_process p (λ _. after) w)))

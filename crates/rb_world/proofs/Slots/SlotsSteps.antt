@@ -30,14 +30,16 @@ slots_of k s slots (Held later) = tt
 wants_send : {c d : ℕ} → SendsOn c ≡ SendsOn d → c ≡ d
 wants_send e = cc
 
-pub room_for : {S C M : Type 0} (k : Kind S C M) (q : Process S C) (w : World S C M) (message : Option ℤ) (c : ℕ) → IsReady k q w message → k.want q.state ≡ SendsOn c → has_room k w c ≡ true
+pub room_for : {S C M : Type 0} (k : Kind S C M) (q : Process S C) (w : World S C M) (message : Option ℤ) (c : ℕ)
+    → IsReady k q w message → k.want q.state ≡ SendsOn c → has_room k w c ≡ true
 room_for k q w message c (ToSend d wants room none) e = subst (λ (n : ℕ). has_room k w n ≡ true) (wants_send (sym wants ∙ e)) room
 room_for k q w message c (ToReceive d v wants there is) e = cc
 room_for k q w message c (ToReceiveIfThere d wants is) e = cc
 room_for k q w message c (ToStart wants none) e = cc
 room_for k q w message c (ToAct wants none) e = cc
 
-module _ {S E P : Type 0} (x : Parts S E P) (Known : ℕ → Process S S → Type 0) (laws : IsErasable x Known) (c : ℕ) (ends : Ends) (declared : slice_get x.channels c ≡ Some ends) where
+module _ {S E P : Type 0} (x : Parts S E P) (Known : ℕ → Process S S → Type 0) (laws : IsErasable x Known) (c : ℕ)
+    (ends : Ends) (declared : slice_get x.channels c ≡ Some ends) where
   -- what becomes of a state that is kept and settles
   abbrev pub kept_state : ℕ → ℕ → S → S
   kept_state t alternate s = x.settle (x.keep t alternate s)
@@ -53,14 +55,16 @@ module _ {S E P : Type 0} (x : Parts S E P) (Known : ℕ → Process S S → Typ
       }
 
   -- a process is replaced, and the slots of the channel are as they were
-  pub set_holds : (p : ℕ) (q q' : Process S S) (w : World S S (Nothing × Slots)) (m : Nothing × Slots) → HoldsOn x c ends w → slice_get w.processes p ≡ Some q
+  pub set_holds : (p : ℕ) (q q' : Process S S) (w : World S S (Nothing × Slots)) (m : Nothing × Slots) → HoldsOn x c ends w
+      → slice_get w.processes p ≡ Some q
       → slice_get m.1 c ≡ slice_get w.memory.1 c → Keeping x c ends q q' → HoldsOn x c ends (with_memory m (with_process p (λ _. q') w))
   set_holds p q q' w m holds there same keeps = holds_on x c ends w (with_memory m (with_process p (λ _. q') w)) holds same
       (comes_changed (Keeping x c ends) p (λ _. q') w.processes (λ r a e. stays_keeps x c a)
       (λ a e. subst (λ (b : Process S S). Keeping x c ends b q') (some_same (sym there ∙ e)) keeps))
 
   -- a step that sends nothing on the channel
-  pub unsent : (t alternate : ℕ) (message : Option ℤ) (q : Process S S) (s : S) (status : Status) → Moves x message q.state s → sends_by (x.want q.state) c ≡ 0
+  pub unsent : (t alternate : ℕ) (message : Option ℤ) (q : Process S S) (s : S) (status : Status)
+      → Moves x message q.state s → sends_by (x.want q.state) c ≡ 0
       → Keeping x c ends q (record { state = kept_state t alternate s; levels = q.levels; at_line = false; status = status })
   unsent t alternate message q s status moves none rise =
       let mail = kept_mail t alternate s in
@@ -75,7 +79,8 @@ module _ {S E P : Type 0} (x : Parts S E P) (Known : ℕ → Process S S → Typ
   size_is = ap (λ (one : Option Ends). unwrap_or (option_map (λ (e : Ends). e.size) one) 0) declared
 
   -- a process has room for another message on the channel
-  has_room_left : (w : World S S Nothing) (sender receiver : Process S S) → slice_get w.processes ends.sender ≡ Some sender → slice_get w.processes ends.receiver ≡ Some receiver
+  has_room_left : (w : World S S Nothing) (sender receiver : Process S S) → slice_get w.processes ends.sender ≡ Some sender
+      → slice_get w.processes ends.receiver ≡ Some receiver
       → has_room (whole x) w c ≡ true → x.sent sender.state c < ends.size + room_from (whole x) receiver.state receiver.levels c
   has_room_left w sender receiver there here room =
       ltb-true (x.sent sender.state c) (ends.size + room_from (whole x) receiver.state receiver.levels c)
@@ -117,11 +122,13 @@ module _ {S E P : Type 0} (x : Parts S E P) (Known : ℕ → Process S S → Typ
         ∙ sym ((kept_mail t alternate s).messages c n)
 
     -- the last of the messages was sent by process p
-    pub sent_holds : (p : ℕ) (w : World S S (Nothing × Slots)) → HoldsOn x c ends w → slice_get w.processes p ≡ Some q → w.memory.1 ≡ slots → ends.sender ≡ p
+    pub sent_holds : (p : ℕ) (w : World S S (Nothing × Slots)) → HoldsOn x c ends w → slice_get w.processes p ≡ Some q
+        → w.memory.1 ≡ slots → ends.sender ≡ p
         → has_room (whole x) (bare w) c ≡ true → HoldsOn x c ends (with_memory (tt, new_slots) (with_process p (λ _. after) w))
     sent_holds p w holds there same by room = record {
       rise = λ r a e.
-          let come = comes_changed (λ a b. TakesRise x c a → TakesRise x c b) p (λ _. after) w.processes (λ n b _ h. h) (λ b here h. moved_rises x c q after.state false status
+          let come = comes_changed (λ a b. TakesRise x c a → TakesRise x c b) p (λ _. after) w.processes (λ n b _ h. h)
+          (λ b here h. moved_rises x c q after.state false status
           (subst (λ (z : Process S S). TakesRise x c z) (some_same (sym here ∙ there)) h) taken_after) r a e in
           come.keeps (holds.rise r come.old come.there);
       sized = record {
@@ -130,13 +137,19 @@ module _ {S E P : Type 0} (x : Parts S E P) (Known : ℕ → Process S S → Typ
         many = length-set sized.values (sent_now % size_on x.channels c) (x.message s c sent_now) ∙ sized.many;
       };
       lie = λ a b here other.
-          let come = comes_changed (λ d e. room_from (whole x) d.state d.levels c ≤ room_from (whole x) e.state e.levels c) p (λ _. after) w.processes (λ n d _. omega arith)
-          (λ d e. subst (λ (z : Process S S). room_from (whole x) z.state z.levels c ≤ room_from (whole x) after.state after.levels c) (some_same (sym there ∙ e))
+          let come = comes_changed
+          (λ d e. room_from (whole x) d.state d.levels c ≤ room_from (whole x) e.state e.levels c) p
+          (λ _. after) w.processes (λ n d _. omega arith)
+          (λ d e. subst
+          (λ (z : Process S S). room_from (whole x) z.state z.levels c ≤ room_from (whole x) after.state after.levels c)
+          (some_same (sym there ∙ e))
           (room_over x c q.state after.state q.levels taken_after)) ends.receiver b other in
           let sender_there : slice_get w.processes ends.sender ≡ Some q = subst (λ (n : ℕ). slice_get w.processes n ≡ Some q) (sym by) there in
-          let roomy : sent_now < ends.size + room_from (whole x) come.old.state come.old.levels c = has_room_left (bare w) q come.old sender_there come.there room in
+          let roomy : sent_now < ends.size + room_from (whole x) come.old.state come.old.levels c =
+          has_room_left (bare w) q come.old sender_there come.there room in
           subst (λ (z : Process S S). LieInSlots (whole x) tt new_slots c ends z b)
-          (some_same (sym (slice_get-change_at p (λ _. after) w.processes ∙ ap (option_map (λ _. after)) there) ∙ subst (λ (n : ℕ). slice_get (with_process p (λ _. after) w).processes n ≡ Some a) by here))
+          (some_same (sym (slice_get-change_at p (λ _. after) w.processes ∙ ap (option_map (λ _. after)) there)
+          ∙ subst (λ (n : ℕ). slice_get (with_process p (λ _. after) w).processes n ≡ Some a) by here))
           (record {
             fit = omega (arith, sent_after, roomy, come.keeps);
             lie = λ n from below. lie_here come.old b roomy come.keeps

@@ -34,7 +34,8 @@ pub record OpensWithSlots {S E P : Type 0} (x : Parts S E P) (Known : ℕ → Pr
   pub sent : Each (λ r s. (c : ℕ) → x.sent s c ≡ 0) states
 
 -- slots beside a kind's messages are not seen
-same_step_but_slots : {S C M : Type 0} (k : Kind S C M) (s : S) (slots : Slots) (one : Stepped S M) → one ≡ stepped_image (λ t. t) (λ m. m.0) (stepped_with_slots k s slots one)
+same_step_but_slots : {S C M : Type 0} (k : Kind S C M) (s : S) (slots : Slots) (one : Stepped S M)
+    → one ≡ stepped_image (λ t. t) (λ m. m.0) (stepped_with_slots k s slots one)
 same_step_but_slots k s slots (Trapped cause) = refl
 same_step_but_slots k s slots (Went t m) = refl
 same_step_but_slots k s slots (Held t) = refl
@@ -49,7 +50,8 @@ slots_image k = record {
     enter = λ s. refl;
     copy = λ s. refl;
     accept = λ s. refl;
-    step = λ alternate c s message m. ap (λ x. k.step alternate x s message m.0) (option_map_id c) ∙ same_step_but_slots k s m.1 (k.step alternate c s message m.0);
+    step = λ alternate c s message m. ap (λ x. k.step alternate x s message m.0) (option_map_id c)
+        ∙ same_step_but_slots k s m.1 (k.step alternate c s message m.0);
     sent = λ s c. refl;
     taken = λ s c. refl;
     sent_then = λ s x c. refl;
@@ -72,12 +74,14 @@ slots_unseen {S} {C} {M} k turns states m slots =
     ∙ ap (λ (end : World S C M × List Told). end.1) (opening_run-image (slots_image k) turns states (m, slots))
 
 -- a copy's level
-level_of : {S : Type 0} (levels : List (Level S)) (j : ℕ) (copy : S) → slice_get (copies_of levels) j ≡ Some copy → (level : Level S) × (slice_get levels j ≡ Some level) × (level.copy ≡ copy)
+level_of : {S : Type 0} (levels : List (Level S)) (j : ℕ) (copy : S) → slice_get (copies_of levels) j ≡ Some copy
+    → (level : Level S) × (slice_get levels j ≡ Some level) × (level.copy ≡ copy)
 level_of [] j copy e = absurd (none_some e)
 level_of (l ∷ ls) zero copy e = (l, refl, some_same e)
 level_of (l ∷ ls) (suc j) copy e = level_of ls j copy e
 
-module _ {S E P : Type 0} {x : Parts S E P} {Known : ℕ → Process S S → Type 0} (keeps : KeepsEach (whole x) Known) (laws : IsErasable x Known) {states : List S} (opens : OpensWithSlots x Known states) where
+module _ {S E P : Type 0} {x : Parts S E P} {Known : ℕ → Process S S → Type 0} (keeps : KeepsEach (whole x) Known)
+    (laws : IsErasable x Known) {states : List S} (opens : OpensWithSlots x Known states) where
   abbrev pub slotted : Kind S S (Nothing × Slots)
   slotted = with_slots (whole x)
 
@@ -91,12 +95,15 @@ module _ {S E P : Type 0} {x : Parts S E P} {Known : ℕ → Process S S → Typ
         subst (TakesRise x c) from.same (record { now = omega arith; then = λ i level e'. absurd (none_some e') });
     sized = record {
       values = replicate ends.size (pos 0);
-      there = slice_get-map (λ (one : Ends). replicate one.size (pos 0)) x.channels c ∙ ap (option_map (λ (one : Ends). replicate one.size (pos 0))) declared;
+      there = slice_get-map (λ (one : Ends). replicate one.size (pos 0)) x.channels c
+          ∙ ap (option_map (λ (one : Ends). replicate one.size (pos 0))) declared;
       many = length-replicate ends.size (pos 0);
     };
     lie = λ sender receiver there here.
         let from : IsImageAt _ states ends.sender sender = get_mapped (λ s. settled slotted s []) states ends.sender sender there in
-        let none : x.sent sender.state c ≡ 0 = ap (λ (q : Process S S). x.sent q.state c) (sym from.same) ∙ (laws.settles from.origin).mail.sent c ∙ opens.sent ends.sender from.origin from.there c in
+        let none : x.sent sender.state c ≡ 0 =
+        ap (λ (q : Process S S). x.sent q.state c) (sym from.same) ∙ (laws.settles from.origin).mail.sent c
+        ∙ opens.sent ends.sender from.origin from.there c in
         record { fit = omega (arith, none); lie = λ n least below. absurd (omega (arith, none, below)) };
   }
 
@@ -105,11 +112,14 @@ module _ {S E P : Type 0} {x : Parts S E P} {Known : ℕ → Process S S → Typ
   HoldsBefore c ends t past w = Grounded x Known (bare w) × HoldsOn x c ends w
 
   holds_all : (c : ℕ) (ends : Ends) → slice_get x.channels c ≡ Some ends
-      → IsInvariant slotted (HoldsBefore c ends) (λ t past p left w. GroundedWithin x Known p left (bare w) × HoldsOn x c ends w) (λ t past w. StillGrounded x Known (bare w) × HoldsOn x c ends w)
+      → IsInvariant slotted (HoldsBefore c ends)
+      (λ t past p left w. GroundedWithin x Known p left (bare w) × HoldsOn x c ends w)
+      (λ t past w. StillGrounded x Known (bare w) × HoldsOn x c ends w)
   holds_all c ends declared = both_kept (under_slots (whole x) (grounded_kept keeps laws)) (holds_kept x Known laws c ends declared)
 
   pub opening_both : (c : ℕ) (ends : Ends) → slice_get x.channels c ≡ Some ends → HoldsBefore c ends 1 [] slot_opening
-  opening_both c ends declared = (opening_grounded keeps laws states opens.known (λ r s e. (laws.settles s).held ∙ opens.held r s e), opening_holds c ends declared)
+  opening_both c ends declared =
+      (opening_grounded keeps laws states opens.known (λ r s e. (laws.settles s).held ∙ opens.held r s e), opening_holds c ends declared)
 
   -- In every world of every run each message that may still be asked for lies in its slot.
   pub slots_stand : (turns : List ℕ) → AllLieInSlots (whole x) (run slotted 1 turns slot_opening).0
@@ -126,16 +136,22 @@ module _ {S E P : Type 0} {x : Parts S E P} {Known : ℕ → Process S S → Typ
   pub knows_slots : KeepsKnown slotted SlotsKnown SlotsKept
   knows_slots = record {
     knows = λ t p w holds q at may c ends declared.
-        (invariant_knows {known = λ u r b v. Grounded x Known (bare v) × HoldsOn x c ends v} (holds_all c ends declared) (λ u past r b v h m. (h.0.ground, h.1))).knows t p w (holds c ends declared) q at may;
+        (invariant_knows {known = λ u r b v. Grounded x Known (bare v) × HoldsOn x c ends v} (holds_all c ends declared)
+        (λ u past r b v h m. (h.0.ground, h.1))).knows t p w
+        (holds c ends declared) q at may;
     stays = λ t p w holds c ends declared.
-        (invariant_knows {known = λ u r b v. Grounded x Known (bare v) × HoldsOn x c ends v} (holds_all c ends declared) (λ u past r b v h m. (h.0.ground, h.1))).stays t p w (holds c ends declared);
+        (invariant_knows {known = λ u r b v. Grounded x Known (bare v) × HoldsOn x c ends v} (holds_all c ends declared)
+        (λ u past r b v h m. (h.0.ground, h.1))).stays t p w
+        (holds c ends declared);
   }
 
-  pub reads_same : ReadsSame slotted (λ memory s c n. slot_of x.channels memory.1 c n) (λ memory s copy c n. slot_of x.channels memory.1 c n) SlotsKnown
+  pub reads_same : ReadsSame slotted (λ memory s c n. slot_of x.channels memory.1 c n)
+      (λ memory s copy c n. slot_of x.channels memory.1 c n) SlotsKnown
   reads_same = record {
     now = λ t p q w c sender receiver acts receipt none less.
         let both = acts.knows c receipt.ends receipt.channel in
-        sym ((both.1.lie sender receiver receipt.sends receipt.receives).lie (x.taken receiver.state c) (both.1.rise receipt.ends.receiver receiver receipt.receives).now less);
+        sym ((both.1.lie sender receiver receipt.sends receipt.receives).lie (x.taken receiver.state c)
+        (both.1.rise receipt.ends.receiver receiver receipt.receives).now less);
     before = λ t p q w c sender receiver j copy acts receipt some at less.
         let both = acts.knows c receipt.ends receipt.channel in
         let level = level_of sender.levels j copy at in
@@ -143,7 +159,8 @@ module _ {S E P : Type 0} {x : Parts S E P} {Known : ℕ → Process S S → Typ
         let less' : x.taken receiver.state c < x.sent level.0.copy c = subst (λ (s : S). x.taken receiver.state c < x.sent s c) (sym level.2) less in
         ap (λ (s : S). x.message s c (x.taken receiver.state c)) (sym level.2)
         ∙ sym (front.same c (x.taken receiver.state c) less')
-        ∙ sym ((both.1.lie sender receiver receipt.sends receipt.receives).lie (x.taken receiver.state c) (both.1.rise receipt.ends.receiver receiver receipt.receives).now
+        ∙ sym ((both.1.lie sender receiver receipt.sends receipt.receives).lie (x.taken receiver.state c)
+        (both.1.rise receipt.ends.receiver receiver receipt.receives).now
         (omega (arith, less', front.shorter c)));
   }
 

@@ -30,7 +30,8 @@ pub went_bare : {S C M : Type 0} (k : Kind S C M) (s : S) (slots : Slots) (one :
     → stepped_with_slots k s slots one ≡ Went later m → one ≡ Went later m.0
 went_bare k s slots (Trapped cause) later m e = cc
 went_bare {S} {C} {M} k s slots (Went t n) later m e =
-    ap₂ Went (ap (λ (one : Stepped S (M × Slots)). state_in t one) e) (ap (λ (one : Stepped S (M × Slots)). (memory_in {M = M × Slots} (n, slots) one).0) e)
+    ap₂ Went (ap (λ (one : Stepped S (M × Slots)). state_in t one) e)
+    (ap (λ (one : Stepped S (M × Slots)). (memory_in {M = M × Slots} (n, slots) one).0) e)
 went_bare k s slots (Held t) later m e = cc
 
 pub held_bare : {S C M : Type 0} (k : Kind S C M) (s : S) (slots : Slots) (one : Stepped S M) (later : S)
@@ -53,7 +54,8 @@ module _ {S C M : Type 0} (k : Kind S C M) where
   has_room-bare w c None = refl
   has_room-bare w c (Some ends) = has_room_for-bare c ends (slice_get w.processes ends.sender) (slice_get w.processes ends.receiver)
 
-  first_message-bare : (m : M × Slots) (c : ℕ) (s : S) (copy : Option C) (taken : ℕ) → first_message (with_slots k) m c s copy taken ≡ first_message k m.0 c s copy taken
+  first_message-bare : (m : M × Slots) (c : ℕ) (s : S) (copy : Option C) (taken : ℕ)
+      → first_message (with_slots k) m c s copy taken ≡ first_message k m.0 c s copy taken
   first_message-bare m c s None taken = refl
   first_message-bare m c s (Some copy) taken = refl
 
@@ -78,7 +80,8 @@ module _ {S C M : Type 0} (k : Kind S C M) where
   at_place-bare (Some j) q = put_back-bare j q
 
   freed-bare : (s : S) (levels : List (Level C)) (line : Bool) (status : Status)
-      → freed (with_slots k) (record { state = s; levels = levels; at_line = line; status = status }) ≡ freed k (record { state = s; levels = levels; at_line = line; status = status })
+      → freed (with_slots k) (record { state = s; levels = levels; at_line = line; status = status })
+      ≡ freed k (record { state = s; levels = levels; at_line = line; status = status })
   freed-bare s [] line status = refl
   freed-bare s (l ∷ ls) line status = refl
 
@@ -99,7 +102,8 @@ module _ {S C M : Type 0} (k : Kind S C M) where
 
   pub all_back-bare : (c : ℕ) (w : World S C (M × Slots)) → bare (all_back (with_slots k) c w) ≡ all_back k c (bare w)
   all_back-bare c w = ap (λ (v : World S C M). record { processes = v.processes; talks = (all_back k c (bare w)).talks; memory = w.memory.0 })
-      (each-bare (where_inside (put_back (with_slots k)) c) (where_inside (put_back k) c) (λ q. at_place-bare (position (is_of c) q.levels) q) (bare w))
+      (each-bare (where_inside (put_back (with_slots k)) c) (where_inside (put_back k) c)
+      (λ q. at_place-bare (position (is_of c) q.levels) q) (bare w))
 
   ready-bare : {q : Process S C} {w : World S C (M × Slots)} {message : Option ℤ} → IsReady (with_slots k) q w message → IsReady k q (bare w) message
   ready-bare {q} {w} (ToSend c wants room none) = ToSend c wants (sym (has_room-bare w c (slice_get k.channels c)) ∙ room) none
@@ -126,16 +130,19 @@ module _ {S C M : Type 0} (k : Kind S C M) where
       → EntersAt (with_slots k) p q w facts alternate → EntersAt k p q (bare w) facts alternate
   enters-bare at = record { acts = acts-bare at.acts; wants = at.wants; few = at.few; entry = entry-bare at.entry }
 
-  falls-bare : {q : Process S C} {w : World S C (M × Slots)} {left : ℕ} {cause : Cause} → MustFall (with_slots k) q w left cause → MustFall k q (bare w) left cause
+  falls-bare : {q : Process S C} {w : World S C (M × Slots)} {left : ℕ} {cause : Cause}
+      → MustFall (with_slots k) q w left cause → MustFall k q (bare w) left cause
   falls-bare (NoLevelLeft none) = NoLevelLeft none
   falls-bare (Barred facts c talk away wants of_c there broken left is) = Barred facts c talk away wants of_c there broken left is
 
-  rejects-bare : {p : ℕ} {q : Process S C} {w : World S C (M × Slots)} {j : ℕ} {level : Level C} → RejectsAt p q w j level → RejectsAt p q (bare w) j level
+  rejects-bare : {p : ℕ} {q : Process S C} {w : World S C (M × Slots)} {j : ℕ} {level : Level C} → RejectsAt p q w j level
+      → RejectsAt p q (bare w) j level
   rejects-bare at = record { runs = runs-bare at.runs; place = at.place }
 
   -- an invariant, whatever the slots
   pub under_slots : {before : Between S C M} {during : Within S C M} {after : Between S C M} → IsInvariant k before during after
-      → IsInvariant (with_slots k) (λ t past w. before t past (bare w)) (λ t past p left w. during t past p left (bare w)) (λ t past w. after t past (bare w))
+      → IsInvariant (with_slots k) (λ t past w. before t past (bare w)) (λ t past p left w. during t past p left (bare w))
+      (λ t past w. after t past (bare w))
   under_slots {before} {during} {after} laws = record {
     rests = λ t past w h. laws.rests t past (bare w) h;
     uses = λ t past p q w h r. laws.uses t past p q (bare w) h (runs-bare r);
@@ -152,7 +159,8 @@ module _ {S C M : Type 0} (k : Kind S C M) where
         (held_bare k q.state w.memory.1 (k.step a (copy_of (last_of q.levels)) q.state v w.memory.0) s e) x y z;
     falls = λ t past p q w n c h r why. laws.falls t past p q (bare w) n c h (runs-bare r) (falls-bare why);
     tries_next = λ t past p q w j l h r x y.
-        subst (λ (v : World S C M). after t past (with_process p (raised j) v)) (sym (one-bare (put_back (with_slots k) j) (put_back k j) (put_back-bare j) p (bare w)))
+        subst (λ (v : World S C M). after t past (with_process p (raised j) v))
+        (sym (one-bare (put_back (with_slots k) j) (put_back k j) (put_back-bare j) p (bare w)))
         (laws.tries_next t past p q (bare w) j l h (rejects-bare r) x y);
     is_spent = λ t past p q w j l h r x y.
         subst (λ (v : World S C M). during t past p j v) (sym (one-bare (put_back (with_slots k) j) (put_back k j) (put_back-bare j) p (bare w)))

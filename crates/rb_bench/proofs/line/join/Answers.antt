@@ -20,7 +20,8 @@ pub loop-index-preserved : goal.loop-index-preserved
 loop-index-preserved c =
     let i = c.loop-index.index in
     record {
-      joins = joined_more c.args.texts.now c.args.pieces.now i _ c.loop-index.bytes.items c.add_next.new.bytes.items (nat_eq i 0) c.loop-index-test.true
+      joins = joined_more c.args.texts.now c.args.pieces.now i _ c.loop-index.bytes.items c.add_next.new.bytes.items
+          (nat_eq i 0) c.loop-index-test.true
           (λ q. eqb-true i 0 q) (λ q. positive i (eqb-false i 0 q)) c.loop-index.invariant.joins c.add_next.ensures.text c.add_next.ensures.bytes;
       room = let a = c.loop-index.invariant.room in let b = c.add_next.ensures.room in omega arith;
     }

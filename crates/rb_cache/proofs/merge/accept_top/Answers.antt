@@ -25,7 +25,8 @@ returns c =
     let cut : rest ≡ take (length marks - 1) marks = c.truncate.ensures.items ∙ ap (λ (i : ℕ). take (i - 1) marks) n in
     let e : reverse marks ≡ t ∷ reverse rest = pop_marks marks rest t c.requires.some top cut in
     let r =
-    accepted_all (length c.args.stamps.now.items) t c.top_of-lower.result (reverse rest) (reverse marks) c.args.stamps.now.items c.args.arena.now.items
+    accepted_all (length c.args.stamps.now.items) t c.top_of-lower.result (reverse rest)
+    (reverse marks) c.args.stamps.now.items c.args.arena.now.items
     (record { stamps = c.merge.new.stamps.items; log = c.merge.new.arena.items }) e lower c.requires.holds c.merge.ensures.merged in
     record {
       holds = r.0;

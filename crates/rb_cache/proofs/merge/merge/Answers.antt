@@ -13,7 +13,8 @@ loop-i-preserved c =
     let new : Merge = record { stamps = k.new.stamps.items; log = take k.result k.new.arena.items } in
     let log = c.loop-i.arena.items in
     let small : ℕ → List Entry → Type 0 = λ (n : ℕ). AllByRecursion (λ (e : Entry). e.place < n) in
-    let within : small (length c.loop-i.stamps.items) (m.0 ∷ drop (c.loop-i.i + 1) log) = subst (small (length c.loop-i.stamps.items)) m.1 inv.within in
+    let within : small (length c.loop-i.stamps.items) (m.0 ∷ drop (c.loop-i.i + 1) log) =
+    subst (small (length c.loop-i.stamps.items)) m.1 inv.within in
     record {
       from = omega (arith, inv.from, k.ensures.from);
       behind = k.ensures.behind;

@@ -14,7 +14,8 @@ invariant-loop-arena g l =
       stamped : WellStamped l.stamps.items l.arena.items;
       below : AllByRecursion (λ (e : Saved). e.place < length l.stamps.items) (map saved_of (drop l.first l.arena.items));
       within : AllByRecursion (λ (e : Saved). e.place < length l.cells.words) (map saved_of (drop l.first l.arena.items));
-      words : put_back l.cells.words (map saved_of (drop l.first l.arena.items)) ≡ put_back l.fn.cells.words (map saved_of (drop l.first l.fn.arena.items));
+      words : put_back l.cells.words (map saved_of (drop l.first l.arena.items))
+          ≡ put_back l.fn.cells.words (map saved_of (drop l.first l.fn.arena.items));
       limit : l.cells.limit ≡ l.fn.cells.limit;
       ticks : l.steps + length l.arena.items ≡ l.fn.steps + length l.fn.arena.items;
     }

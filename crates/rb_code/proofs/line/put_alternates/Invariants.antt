@@ -9,4 +9,5 @@ use Rattle.rb_code.proofs.line.put_alternates.Given as goal
 abbrev pub invariant-loop-address : goal.invariant-loop-address
 invariant-loop-address g l =
     let each : ℕ → List ℕ = λ value. spaced_word (decimal value) in
-    Puts {T = Unit {0}} {E = Failed} (flat_map each (take l.address-index l.alternates)) (g.S.Sink.written l.initial.out) (g.S.Sink.written l.out) (g.S.Sink.faults l.initial.out) (g.S.Sink.faults l.out) (Ok tt)
+    Puts {T = Unit {0}} {E = Failed} (flat_map each (take l.address-index l.alternates)) (g.S.Sink.written l.initial.out)
+    (g.S.Sink.written l.out) (g.S.Sink.faults l.initial.out) (g.S.Sink.faults l.out) (Ok tt)

@@ -16,7 +16,8 @@ loop-number-preserved g c =
     let same = c.deref-block-items.ensures.value in
     let is : one ≡ get_or blocks b one = c.block-item.is ∙ ap (λ (xs : List BlockCode). get_or xs b one) same in
     let next = block_next block names blocks b one (omega (arith, c.loop-number-test.true, ap length same)) is in
-    written_more _ _ (block_line names b (block one)) (block_lines names (b + 1) (map block (drop (b + 1) blocks))) _ _ _ _ _ _ c.loop-number.invariant next c.in_ok-put_block.ensures
+    written_more _ _ (block_line names b (block one))
+    (block_lines names (b + 1) (map block (drop (b + 1) blocks))) _ _ _ _ _ _ c.loop-number.invariant next c.in_ok-put_block.ensures
 
 pub returns-in_err-put_block : goal.returns-in_err-put_block
 returns-in_err-put_block g c =
@@ -27,4 +28,7 @@ returns-in_err-put_block g c =
     let same = c.deref-block-items.ensures.value in
     let is : one ≡ get_or blocks b one = c.block-item.is ∙ ap (λ (xs : List BlockCode). get_or xs b one) same in
     let next = block_next block names blocks b one (omega (arith, c.loop-number-test.true, ap length same)) is in
-    written_part _ _ (block_line names b (block one)) (block_lines names (b + 1) (map block (drop (b + 1) blocks))) _ _ _ _ _ _ _ c.from_residual.result c.loop-number.invariant next c.in_err-put_block.ensures c.from_residual.ensures.0
+    written_part _ _ (block_line names b (block one))
+    (block_lines names (b + 1)
+    (map block (drop
+    (b + 1) blocks))) _ _ _ _ _ _ _ c.from_residual.result c.loop-number.invariant next c.in_err-put_block.ensures c.from_residual.ensures.0

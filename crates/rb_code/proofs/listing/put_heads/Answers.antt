@@ -28,5 +28,6 @@ returns-in_err-put_two-clause-text g c =
     let next = c.in-Some.next in
     let words = next.word.now ∷ next.name.now ∷ [] in
     let others = heads_left names next.others in
-    written_stopped _ _ (line_of words) (lines_at a others) _ _ _ _ _ _ _ c.from_residual.result c.heads.invariant.text (ap (lines_at a) c.in-Some.ensures.some ∙ lines_next a words others)
+    written_stopped _ _ (line_of words) (lines_at a others) _ _ _ _ _ _ _ c.from_residual.result c.heads.invariant.text
+    (ap (lines_at a) c.in-Some.ensures.some ∙ lines_next a words others)
     c.in_err-put_two.ensures c.from_residual.ensures.0

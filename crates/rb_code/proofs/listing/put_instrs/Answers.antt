@@ -23,7 +23,8 @@ loop-address-preserved g c =
     let ahead = written_further _ _ (lines_at a heads) (line ++ others) _ _ _ _ _ _ _ c.loop-address.invariant.text next c.in_ok-heads.ensures.text in
     let left = ap (λ (hs : List Head). instr_lines texts (a + 1) hs (drop (a + 1) code.instrs.items)) c.in_ok-heads.ensures.past in
     record {
-      text = written_more _ _ line (instr_lines texts (a + 1) (heads_left names c.in_ok-heads.heads) (drop (a + 1) code.instrs.items)) _ _ _ _ _ _ ahead
+      text = written_more _ _ line
+          (instr_lines texts (a + 1) (heads_left names c.in_ok-heads.heads) (drop (a + 1) code.instrs.items)) _ _ _ _ _ _ ahead
           (ap (λ (x : List ℕ). line ++ x) (sym left)) c.in_ok-put_instr_line.ensures;
       few = c.in_ok-heads.ensures.few ∙ c.loop-address.invariant.few;
     }
@@ -54,4 +55,5 @@ returns-in_err-heads g c =
     let line = instr_line texts a (get_or read_instrs a Turn) in
     let others = instr_lines texts (a + 1) (heads_past a heads) (drop (a + 1) code.instrs.items) in
     let next = instr_next texts texts heads code.instrs.items read_instrs a refl c.deref-instr-items.ensures.value c.loop-address-test.true in
-    written_stopped _ _ (lines_at a heads) (line ++ others) _ _ _ _ _ _ _ c.from_residual.result c.loop-address.invariant.text next c.in_err-heads.ensures.text c.from_residual.ensures.0
+    written_stopped _ _ (lines_at a heads)
+    (line ++ others) _ _ _ _ _ _ _ c.from_residual.result c.loop-address.invariant.text next c.in_err-heads.ensures.text c.from_residual.ensures.0

@@ -7,6 +7,7 @@ use Rattle.rb_conv.proofs.rejection.empty_below.Given as goal
 abbrev pub invariant-loop-d : goal.invariant-loop-d
 invariant-loop-d l = record {
   so_far : emptied_below l.c l.fn.conversations
-      ≡ take l.d l.conversations ++ emptied_from (is_below (memberships l.fn.conversations) (length l.fn.conversations) l.c) l.d (drop l.d l.conversations);
+      ≡ take l.d l.conversations
+      ++ emptied_from (is_below (memberships l.fn.conversations) (length l.fn.conversations) l.c) l.d (drop l.d l.conversations);
   kept : memberships l.conversations ≡ memberships l.fn.conversations;
 }

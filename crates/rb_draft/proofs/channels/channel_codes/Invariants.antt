@@ -7,7 +7,8 @@ use Rattle.rb_draft.proofs.channels.channel_codes.Given as goal
 -- those so far, and the others
 abbrev pub invariant-channels : goal.invariant-channels
 invariant-channels l =
-    map channel l.codes.items ++ map (ends_by l.slots) (map channel_declaration l.rest) ≡ map (ends_by l.slots) (map channel_declaration l.fn.channels)
+    map channel l.codes.items ++ map (ends_by l.slots) (map channel_declaration l.rest)
+    ≡ map (ends_by l.slots) (map channel_declaration l.fn.channels)
 
 abbrev pub decreases-channels : goal.decreases-channels
 decreases-channels l = length l.rest

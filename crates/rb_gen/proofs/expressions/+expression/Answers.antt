@@ -18,12 +18,15 @@ emit_expression-returns-in_ok-put-in-Number t c =
 
 pub emit_expression-returns-in_ok-emit_value-in-Value : goal.emit_expression-returns-in_ok-emit_value-in-Value
 emit_expression-returns-in_ok-emit_value-in-Value t c =
-    let is : plain c.args.expression.now ≡ Variable (Refer (identifier c.in-Value.target.name) (subscript c.in-Value.target.index)) = grind (arith, trees) in
+    let is : plain c.args.expression.now ≡ Variable (Refer (identifier c.in-Value.target.name) (subscript c.in-Value.target.index)) =
+    grind (arith, trees) in
     value c.args.slots.now is c.in_ok-emit_value-in-Value.ensures
 
 pub emit_expression-returns-in_ok-emit_prior-in-Prior : goal.emit_expression-returns-in_ok-emit_prior-in-Prior
 emit_expression-returns-in_ok-emit_prior-in-Prior t c =
-    let is : plain c.args.expression.now ≡ Former c.in-Prior.field-0 (Refer (identifier c.in-Prior.target.name) (subscript c.in-Prior.target.index)) = grind (arith, trees) in
+    let is : plain c.args.expression.now
+    ≡ Former c.in-Prior.field-0 (Refer (identifier c.in-Prior.target.name) (subscript c.in-Prior.target.index)) =
+    grind (arith, trees) in
     former c.args.slots.now is c.in_ok-emit_prior-in-Prior.ensures
 
 pub emit_expression-returns-in_ok-put-in-Neg : goal.emit_expression-returns-in_ok-put-in-Neg
@@ -38,13 +41,16 @@ emit_expression-returns-in_ok-put-in-Not t c =
 
 pub emit_expression-returns-in_ok-emit_links-in-Chain : goal.emit_expression-returns-in_ok-emit_links-in-Chain
 emit_expression-returns-in_ok-emit_links-in-Chain t c =
-    let is : plain c.args.expression.now ≡ Chained (plain c.deref-in-Chain.result.now) (links_of c.deref-in-Chain-2.result.now) = grind (arith, trees) in
+    let is : plain c.args.expression.now ≡ Chained (plain c.deref-in-Chain.result.now) (links_of c.deref-in-Chain-2.result.now) =
+    grind (arith, trees) in
     chained c.args.slots.now is c.in_ok-emit_expression-in-Chain.ensures c.in_ok-emit_links-in-Chain.ensures
 
 pub emit_expression-returns-in_ok-emit_quantified-in-Quantified : goal.emit_expression-returns-in_ok-emit_quantified-in-Quantified
 emit_expression-returns-in_ok-emit_quantified-in-Quantified t c =
     let q = c.in-Quantified.quantified in
-    let is : plain c.args.expression.now ≡ Quantification q.kind q.place (identifier q.name) (plain q.low.value) (plain q.high.value) (plain q.body.value) = grind (arith, trees) in
+    let is : plain c.args.expression.now
+    ≡ Quantification q.kind q.place (identifier q.name) (plain q.low.value) (plain q.high.value) (plain q.body.value) =
+    grind (arith, trees) in
     quantification c.args.slots.now is c.in_ok-emit_quantified-in-Quantified.ensures
 
 pub emit_value-returns-in_ok-put_scalar-in-None : goal.emit_value-returns-in_ok-put_scalar-in-None
@@ -54,7 +60,9 @@ emit_value-returns-in_ok-put_scalar-in-None t c =
 pub emit_value-returns-in_ok-put-in-Some : goal.emit_value-returns-in_ok-put-in-Some
 emit_value-returns-in_ok-put-in-Some t c =
     let is : subscript c.args.target.now.index ≡ Element (plain c.deref.result.now) = grind arith in
-    element c.args.slots.now _ (λ v. One (LoadAt v)) _ is refl c.spot_of-spot.ensures c.in_ok-emit_expression-in-Some.ensures c.in_ok-put_bound-in-Some.ensures (c.in_ok-put-in-Some.ensures refl)
+    element c.args.slots.now _
+    (λ v. One (LoadAt v)) _ is refl c.spot_of-spot.ensures c.in_ok-emit_expression-in-Some.ensures c.in_ok-put_bound-in-Some.ensures
+    (c.in_ok-put-in-Some.ensures refl)
 
 pub emit_prior-returns-in_ok-put-in-None : goal.emit_prior-returns-in_ok-put-in-None
 emit_prior-returns-in_ok-put-in-None t c =
@@ -63,7 +71,9 @@ emit_prior-returns-in_ok-put-in-None t c =
 pub emit_prior-returns-in_ok-put-in-Some : goal.emit_prior-returns-in_ok-put-in-Some
 emit_prior-returns-in_ok-put-in-Some t c =
     let is : subscript c.args.target.now.index ≡ Element (plain c.deref.result.now) = grind arith in
-    element c.args.slots.now _ (λ v. One (PriorAt v)) _ is refl c.spot_of-spot.ensures c.in_ok-emit_expression-in-Some.ensures c.in_ok-put_bound-in-Some.ensures (c.in_ok-put-in-Some.ensures refl)
+    element c.args.slots.now _
+    (λ v. One (PriorAt v)) _ is refl c.spot_of-spot.ensures c.in_ok-emit_expression-in-Some.ensures c.in_ok-put_bound-in-Some.ensures
+    (c.in_ok-put-in-Some.ensures refl)
 
 pub emit_links-returns : goal.emit_links-returns
 emit_links-returns t c =
@@ -72,7 +82,8 @@ emit_links-returns t c =
 
 pub emit_links-links-preserved : goal.emit_links-links-preserved
 emit_links-links-preserved t c =
-    let is : links_of (drop c.links.link-index c.args.links.now) ≡ Linked c.link-item.result.op (plain c.link-item.result.right) (links_of (drop (c.links.link-index + 1) c.args.links.now)) =
+    let is : links_of (drop c.links.link-index c.args.links.now)
+    ≡ Linked c.link-item.result.op (plain c.link-item.result.right) (links_of (drop (c.links.link-index + 1) c.args.links.now)) =
     grind (arith, common_steps) in
     λ after h. c.links.invariant after (one_link c.args.slots.now is c.in_ok-emit_link.ensures h)
 
@@ -94,7 +105,8 @@ emit_or-returns t c = λ p n.
     (filled (JumpZero c.in_ok-other.other) refl c.in_ok-test.ensures c.patch-2.ensures
     (both (c.in_ok-put.ensures refl p n)
     (filled (Jump c.in_ok-end.end) refl c.in_ok-skip.ensures c.patch.ensures
-    (both (at n _ c.in_ok-other.ensures) (both (c.in_ok-emit_expression.ensures p n) (both (c.in_ok-put-2.ensures refl p n) (at n _ c.in_ok-end.ensures))))))))
+    (both (at n _ c.in_ok-other.ensures)
+    (both (c.in_ok-emit_expression.ensures p n) (both (c.in_ok-put-2.ensures refl p n) (at n _ c.in_ok-end.ensures))))))))
 
 pub emit_every-returns : goal.emit_every-returns
 emit_every-returns t c =
@@ -103,7 +115,9 @@ emit_every-returns t c =
     (same_expression c.args.slots.now (ap plain (sym c.deref-2.ensures)) c.in_ok-emit_expression-2.ensures)
     c.in_ok-range.ensures c.in_ok-again.ensures
     (same_expression c.args.slots.now (ap plain (sym c.deref-3.ensures)) c.in_ok-emit_expression-3.ensures)
-    c.in_ok-test.ensures (c.in_ok-put.ensures refl) c.in_ok-yes.ensures (c.in_ok-put-2.ensures refl) c.in_ok-skip.ensures c.in_ok-no.ensures (c.in_ok-put-3.ensures refl) c.in_ok-end.ensures
+    c.in_ok-test.ensures (c.in_ok-put.ensures refl) c.in_ok-yes.ensures
+    (c.in_ok-put-2.ensures refl) c.in_ok-skip.ensures c.in_ok-no.ensures
+    (c.in_ok-put-3.ensures refl) c.in_ok-end.ensures
     c.patch.ensures c.patch-2.ensures c.patch-3.ensures
 
 pub emit_some-returns : goal.emit_some-returns
@@ -113,7 +127,8 @@ emit_some-returns t c =
     (same_expression c.args.slots.now (ap plain (sym c.deref-2.ensures)) c.in_ok-emit_expression-2.ensures)
     c.in_ok-range.ensures c.in_ok-again.ensures
     (same_expression c.args.slots.now (ap plain (sym c.deref-3.ensures)) c.in_ok-emit_expression-3.ensures)
-    c.in_ok-test.ensures (c.in_ok-put.ensures refl) c.in_ok-skip.ensures c.in_ok-next.ensures (c.in_ok-put-2.ensures refl) c.in_ok-no.ensures (c.in_ok-put-3.ensures refl) c.in_ok-end.ensures
+    c.in_ok-test.ensures (c.in_ok-put.ensures refl) c.in_ok-skip.ensures c.in_ok-next.ensures
+    (c.in_ok-put-2.ensures refl) c.in_ok-no.ensures (c.in_ok-put-3.ensures refl) c.in_ok-end.ensures
     c.patch.ensures c.patch-2.ensures c.patch-3.ensures
 
 pub emit_sum-returns : goal.emit_sum-returns

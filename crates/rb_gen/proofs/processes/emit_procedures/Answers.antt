@@ -12,7 +12,8 @@ use Rattle.rb_gen.proofs.processes.emit_procedures.Goals as goal
 pub procedures-init : goal.procedures-init
 procedures-init c = λ after more h.
     subst
-    (λ (xs : List ProcedureCode). WritesProcedures c.args.slots.now c.args.words.now (map procedure_declaration c.args.procedures.now) (map procedure xs ++ more)
+    (λ (xs : List ProcedureCode). WritesProcedures c.args.slots.now c.args.words.now
+    (map procedure_declaration c.args.procedures.now) (map procedure xs ++ more)
     (output c.args.draft.now) after) (sym c.in_ok-entries.ensures.items) h
 
 pub procedures-preserved : goal.procedures-preserved
@@ -20,7 +21,9 @@ procedures-preserved c =
     let rest = c.procedures.rest.now in
     let held = c.procedure-item.result in
     let entry : List ℕ → Procedure = λ name. record { name = name; start = c.in_ok-start.start } in
-    procedures_step c.args.slots.now c.args.words.now (map procedure_declaration c.args.procedures.now) _ held c.in_ok-start.start (map procedure c.procedures.entries.items) _
+    procedures_step c.args.slots.now c.args.words.now
+    (map procedure_declaration c.args.procedures.now) _ held c.in_ok-start.start
+    (map procedure c.procedures.entries.items) _
     (ap (map procedure_declaration) (split rest held c.in-len1-up.len_at_least c.procedure-item.is)) c.in_ok-start.ensures
     (same_commands c.args.slots.now refl c.deref.ensures.value c.in_ok-emit_statements.ensures) (c.in_ok-put.ensures refl)
     (ap (map procedure) c.in_ok-push.ensures.items ∙ map-append procedure c.procedures.entries.items _ ∙ ap

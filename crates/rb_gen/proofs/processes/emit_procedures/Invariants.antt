@@ -7,7 +7,8 @@ use Rattle.rb_gen.proofs.processes.emit_procedures.Given as goal
 
 abbrev pub invariant-procedures : goal.invariant-procedures
 invariant-procedures l =
-    CompletesProcedures l.slots l.words (map procedure_declaration l.fn.procedures) (map procedure_declaration l.rest) (map procedure l.entries.items) (output l.fn.draft) (output l.draft)
+    CompletesProcedures l.slots l.words (map procedure_declaration l.fn.procedures) (map procedure_declaration l.rest)
+    (map procedure l.entries.items) (output l.fn.draft) (output l.draft)
 
 abbrev pub decreases-procedures : goal.decreases-procedures
 decreases-procedures l = length l.rest

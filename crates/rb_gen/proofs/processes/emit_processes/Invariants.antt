@@ -7,7 +7,8 @@ use Rattle.rb_gen.proofs.processes.emit_processes.Given as goal
 
 abbrev pub invariant-processes : goal.invariant-processes
 invariant-processes l =
-    CompletesProcesses l.slots (map channel l.channels) (map process_declaration l.fn.processes) l.number (map process_declaration l.rest) (map part l.parts.items)
+    CompletesProcesses l.slots (map channel l.channels) (map process_declaration l.fn.processes) l.number
+    (map process_declaration l.rest) (map part l.parts.items)
     (output l.fn.draft) (output l.draft)
 
 abbrev pub decreases-processes : goal.decreases-processes

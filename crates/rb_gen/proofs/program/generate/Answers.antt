@@ -32,10 +32,13 @@ returns c =
     } in
     let writes : WritesProcesses slots ends 0 (tree program).processes parts before behind =
     subst (λ (xs : List Process). WritesProcesses slots ends 0 (map process_declaration xs) parts before behind) c.deref-5.ensures.value
-    (subst (λ (xs : List ChannelCode). WritesProcesses slots (map channel xs) 0 (map process_declaration c.deref-5.result.now) parts before behind) c.deref-4.ensures.value
-    (subst (λ (xs : List Slot). WritesProcesses xs (map channel c.deref-4.result.now) 0 (map process_declaration c.deref-5.result.now) parts before behind)
+    (subst (λ (xs : List ChannelCode). WritesProcesses slots (map channel xs) 0
+    (map process_declaration c.deref-5.result.now) parts before behind) c.deref-4.ensures.value
+    (subst (λ (xs : List Slot). WritesProcesses xs (map channel c.deref-4.result.now) 0
+    (map process_declaration c.deref-5.result.now) parts before behind)
     c.deref-3.ensures.value c.in_ok-processes.ensures)) in
     program_row (tree program) slots (code made) ends c.requires.resolved c.requires.numbered writes
     (c.in_ok-channels.ensures ∙ ap (λ (xs : List Slot). map (ends_by xs) (map channel_declaration c.deref-2.result.now)) c.deref.ensures.value
     ∙ ap (λ (xs : List Channel). map (ends_by slots) (map channel_declaration xs)) c.deref-2.ensures.value)
-    c.new.ensures.items c.new-2.ensures.items (length-map c.in_ok-unsettled.field-0.items block ∙ c.in_ok-unsettled.ensures) refl c.in_ok-names.ensures refl refl refl refl
+    c.new.ensures.items c.new-2.ensures.items
+    (length-map c.in_ok-unsettled.field-0.items block ∙ c.in_ok-unsettled.ensures) refl c.in_ok-names.ensures refl refl refl refl

@@ -7,4 +7,5 @@ returns c = c.arguments.invariant _ (no_argument c.args.slots.now c.arguments.re
 pub arguments-preserved : goal.arguments-preserved
 arguments-preserved c = λ after h.
     c.arguments.invariant after
-    (one_argument c.args.slots.now c.argument-item.result (split c.arguments.rest.now c.argument-item.result c.in-len1-up.len_at_least c.argument-item.is) c.in_ok-emit_expression.ensures h)
+    (one_argument c.args.slots.now c.argument-item.result
+    (split c.arguments.rest.now c.argument-item.result c.in-len1-up.len_at_least c.argument-item.is) c.in_ok-emit_expression.ensures h)

@@ -8,7 +8,8 @@ use Rattle.rb_gen.proofs.simple.emit_arguments.Given as goal
 -- whatever stands for the rest completes it
 abbrev pub invariant-arguments : goal.invariant-arguments
 invariant-arguments l =
-    (after : Output) → Adds (ArgumentsCode l.slots (map expression l.rest)) (output l.draft) after → Adds (ArgumentsCode l.slots (map expression l.fn.arguments)) (output l.fn.draft) after
+    (after : Output) → Adds (ArgumentsCode l.slots (map expression l.rest)) (output l.draft) after
+    → Adds (ArgumentsCode l.slots (map expression l.fn.arguments)) (output l.fn.draft) after
 
 abbrev pub decreases-arguments : goal.decreases-arguments
 decreases-arguments l = length l.rest

@@ -6,4 +6,6 @@ returns c = c.items.invariant _ (no_item c.args.slots.now c.items.rest.now _ (no
 
 pub items-preserved : goal.items-preserved
 items-preserved c = λ after h.
-    c.items.invariant after (one_item c.args.slots.now c.item-item.result (split c.items.rest.now c.item-item.result c.in-len1-up.len_at_least c.item-item.is) c.in_ok-emit_item.ensures h)
+    c.items.invariant after
+    (one_item c.args.slots.now c.item-item.result
+    (split c.items.rest.now c.item-item.result c.in-len1-up.len_at_least c.item-item.is) c.in_ok-emit_item.ensures h)

@@ -3,4 +3,5 @@ use Rattle.rb_gen.proofs.Rows.{send_row}
 use Rattle.rb_gen.proofs.simple.emit_sending.Goals as goal
 
 pub returns : goal.returns
-returns c = send_row c.channel_of-number.ensures (c.in_ok-put.ensures refl) (c.in_ok-put-2.ensures refl) c.in_ok-emit_expression.ensures (c.in_ok-put-3.ensures refl)
+returns c = send_row c.channel_of-number.ensures (c.in_ok-put.ensures refl)
+    (c.in_ok-put-2.ensures refl) c.in_ok-emit_expression.ensures (c.in_ok-put-3.ensures refl)

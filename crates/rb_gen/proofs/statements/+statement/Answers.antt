@@ -30,12 +30,16 @@ emit_statements-statements-preserved t c =
 
 pub emit_body-returns : goal.emit_body-returns
 emit_body-returns t c =
-    body_row c.args.slots.now c.args.words.now (map declaration c.args.block.now.vars.items) (commands_of c.args.block.now.body.items) (ap commands_of c.deref-2.ensures.value)
-    (c.in_ok-size.ensures ∙ ap (λ xs. frame_words (frame_of (map declaration xs))) c.deref.ensures.value) c.in_ok-put_frame.ensures c.in_ok-emit_statements.ensures c.in_ok-put_drop.ensures
+    body_row c.args.slots.now c.args.words.now (map declaration c.args.block.now.vars.items)
+    (commands_of c.args.block.now.body.items) (ap commands_of c.deref-2.ensures.value)
+    (c.in_ok-size.ensures
+    ∙ ap (λ xs. frame_words
+    (frame_of (map declaration xs))) c.deref.ensures.value) c.in_ok-put_frame.ensures c.in_ok-emit_statements.ensures c.in_ok-put_drop.ensures
 
 pub emit_else-returns : goal.emit_else-returns
 emit_else-returns t c =
-    else_row c.args.slots.now c.args.words.now (body c.args.block.now) c.in_ok-skip.ensures c.in_ok-start.ensures c.in_ok-emit_body.ensures c.in_ok-end.ensures c.patch.ensures
+    else_row c.args.slots.now c.args.words.now
+    (body c.args.block.now) c.in_ok-skip.ensures c.in_ok-start.ensures c.in_ok-emit_body.ensures c.in_ok-end.ensures c.patch.ensures
 
 pub emit_statement-returns-in_ok-emit_assignment-in-Assign : goal.emit_statement-returns-in_ok-emit_assignment-in-Assign
 emit_statement-returns-in_ok-emit_assignment-in-Assign t c =
@@ -54,7 +58,8 @@ emit_statement-returns-in_ok-emit_sending-in-Send t c =
 
 pub emit_statement-returns-in_ok-emit_call-in-Call : goal.emit_statement-returns-in_ok-emit_call-in-Call
 emit_statement-returns-in_ok-emit_call-in-Call t c =
-    let is : command c.args.statement.now ≡ Invocation (identifier c.in-Call.procedure) (map plain c.deref-in-Call.result.now) = grind (arith, trees) in
+    let is : command c.args.statement.now ≡ Invocation (identifier c.in-Call.procedure) (map plain c.deref-in-Call.result.now) =
+    grind (arith, trees) in
     called c.args.slots.now c.args.words.now is c.in_ok-emit_call-in-Call.ensures
 
 pub emit_statement-returns-in_ok-put-in-Fail-2 : goal.emit_statement-returns-in_ok-put-in-Fail-2
@@ -69,7 +74,9 @@ emit_statement-returns-in_ok-emit_recovery-in-Recover t c =
 
 pub emit_statement-returns-in_ok-emit_receipt-in-Receive : goal.emit_statement-returns-in_ok-emit_receipt-in-Receive
 emit_statement-returns-in_ok-emit_receipt-in-Receive t c =
-    let is : command c.args.statement.now ≡ Receiving (identifier c.in-Receive.channel) (reference c.in-Receive.target) (otherwise c.in-Receive.other) = grind (arith, trees) in
+    let is : command c.args.statement.now
+    ≡ Receiving (identifier c.in-Receive.channel) (reference c.in-Receive.target) (otherwise c.in-Receive.other) =
+    grind (arith, trees) in
     same_command c.args.slots.now c.args.words.now is c.in_ok-emit_receipt-in-Receive.ensures
 
 pub emit_statement-returns-in_ok-emit_loop-in-While : goal.emit_statement-returns-in_ok-emit_loop-in-While
@@ -88,60 +95,82 @@ pub emit_statement-returns-in_ok-no-in-Some : goal.emit_statement-returns-in_ok-
 emit_statement-returns-in_ok-no-in-Some t c =
     let of = Conditional (plain c.in-If.test) (body c.in-If.block) in
     let is : command c.args.statement.now ≡ of (otherwise c.in-If.other) = grind (arith, trees) in
-    conditional_else c.args.slots.now c.args.words.now (is ∙ ap of (ap otherwise c.in-Some.is)) c.in_ok-over-in-If.ensures c.in_ok-emit_body-in-If.ensures
+    conditional_else c.args.slots.now c.args.words.now
+    (is ∙ ap of (ap otherwise c.in-Some.is)) c.in_ok-over-in-If.ensures c.in_ok-emit_body-in-If.ensures
     c.in_ok-no-in-Some.ensures c.patch-in-Some.ensures
 
 pub emit_receipt-returns-in_ok-emit_taking-in-None : goal.emit_receipt-returns-in_ok-emit_taking-in-None
 emit_receipt-returns-in_ok-emit_taking-in-None t c =
     let of = Receiving (identifier c.args.channel.now) (reference c.args.target.now) in
-    received c.args.slots.now c.args.words.now (ap of (ap otherwise c.in-None.is)) c.channel_of-number.ensures (c.in_ok-put.ensures refl) (c.in_ok-put-in-None.ensures refl)
+    received c.args.slots.now c.args.words.now (ap of (ap otherwise c.in-None.is)) c.channel_of-number.ensures
+    (c.in_ok-put.ensures refl) (c.in_ok-put-in-None.ensures refl)
     c.in_ok-emit_taking-in-None.ensures
 
 pub emit_receipt-returns-in_ok-none-in-Some : goal.emit_receipt-returns-in_ok-none-in-Some
 emit_receipt-returns-in_ok-none-in-Some t c =
     let of = Receiving (identifier c.args.channel.now) (reference c.args.target.now) in
-    received_else c.args.slots.now c.args.words.now (ap of (ap otherwise c.in-Some.is)) c.channel_of-number.ensures (c.in_ok-put.ensures refl) c.in_ok-absent-in-Some.ensures
+    received_else c.args.slots.now c.args.words.now (ap of (ap otherwise c.in-Some.is)) c.channel_of-number.ensures
+    (c.in_ok-put.ensures refl) c.in_ok-absent-in-Some.ensures
     c.in_ok-emit_taking-in-Some.ensures c.in_ok-none-in-Some.ensures c.patch.ensures
 
 pub emit_loop-returns : goal.emit_loop-returns
 emit_loop-returns t c =
-    looped c.args.slots.now c.args.words.now refl c.in_ok-start.ensures c.in_ok-over.ensures c.in_ok-emit_body.ensures (c.in_ok-put.ensures refl) c.in_ok-end.ensures c.patch.ensures
+    looped c.args.slots.now c.args.words.now refl c.in_ok-start.ensures c.in_ok-over.ensures c.in_ok-emit_body.ensures
+    (c.in_ok-put.ensures refl) c.in_ok-end.ensures c.patch.ensures
 
 pub emit_recovery-returns : goal.emit_recovery-returns
 emit_recovery-returns t c =
     let r : Recovery-F Statement Block Recovery = out-Recovery c.args.recovery.now in
     let addresses = c.in_ok-alternates.alternates.items in
     let entry : Entry =
-    record { line = r.place.line; conversation = c.joined_of.result; bound = c.in_ok-bound.bound; restart = c.in_ok-restart.restart; test = c.in_ok-test.test; alternates = addresses } in
+    record {
+      line = r.place.line;
+      conversation = c.joined_of.result;
+      bound = c.in_ok-bound.bound;
+      restart =
+          c.in_ok-restart.restart;
+      test = c.in_ok-test.test;
+      alternates = addresses;
+    } in
     let before = output c.put-4.new.draft in
     let behind = output c.emit_alternates.new.draft in
     let inside : WritesAlternates c.args.slots.now c.args.words.now (alternates_of r.alternates.items) addresses c.in_ok-test.test before behind =
-    subst (λ xs. WritesAlternates c.args.slots.now c.args.words.now (alternates_of xs) addresses c.in_ok-test.test before behind) c.deref.ensures.value
-    (subst (λ (n : ℕ). WritesAlternates c.args.slots.now c.args.words.now (alternates_of c.deref.result.now) addresses n before behind) (sym c.in_ok-test.ensures) c.in_ok-alternates.ensures) in
-    recovered c.args.slots.now c.args.words.now r.number (option_map identifier r.conversation) r.place (plain r.test) r.bound (alternates_of r.alternates.items) entry
+    subst (λ xs. WritesAlternates c.args.slots.now c.args.words.now
+    (alternates_of xs) addresses c.in_ok-test.test before behind) c.deref.ensures.value
+    (subst
+    (λ (n : ℕ). WritesAlternates c.args.slots.now c.args.words.now (alternates_of c.deref.result.now) addresses n before behind)
+    (sym c.in_ok-test.ensures) c.in_ok-alternates.ensures) in
+    recovered c.args.slots.now c.args.words.now r.number (option_map identifier r.conversation) r.place
+    (plain r.test) r.bound (alternates_of r.alternates.items) entry
     (recovery_out c.args.recovery.now)
-    refl c.joined_of.ensures c.in_ok-bound.ensures (c.in_ok-put.ensures refl) (c.in_ok-put-2.ensures refl) c.in_ok-restart.ensures (c.in_ok-put-3.ensures refl) (c.in_ok-put-4.ensures refl)
+    refl c.joined_of.ensures c.in_ok-bound.ensures (c.in_ok-put.ensures refl)
+    (c.in_ok-put-2.ensures refl) c.in_ok-restart.ensures (c.in_ok-put-3.ensures refl) (c.in_ok-put-4.ensures refl)
     inside c.in_ok-test.ensures (c.in_ok-put-5.ensures refl) c.in_ok-emit_expression.ensures (c.in_ok-put-6.ensures refl) c.settle.ensures
 
 pub emit_alternates-returns : goal.emit_alternates-returns
 emit_alternates-returns t c =
-    let is : alternates_of (drop c.others.other-index (take (length c.args.alternates.now - 1) (drop 1 c.args.alternates.now))) ≡ NoAlternate = grind (arith, common_steps) in
+    let is : alternates_of (drop c.others.other-index (take (length c.args.alternates.now - 1) (drop 1 c.args.alternates.now))) ≡ NoAlternate =
+    grind (arith, common_steps) in
     alternates_end c.args.slots.now c.args.words.now _ c.in_ok-test.test c.others.addresses.items c.others.places.items is c.in_ok-test.ensures
     (c.fill.ensures ∙ ap (λ (hs : List ℕ). filled_with hs (Jump c.in_ok-test.test) (output c.others.draft)) c.deref.ensures.value) c.others.invariant
 
 pub emit_alternates-returns-in_default : goal.emit_alternates-returns-in_default
 emit_alternates-returns-in_default t c =
-    no_alternate c.args.slots.now c.args.words.now _ _ _ (ap alternates_of (none_left c.args.alternates.now c.in_default.len_below)) c.new-addresses.ensures.items
+    no_alternate c.args.slots.now c.args.words.now _ _ _
+    (ap alternates_of (none_left c.args.alternates.now c.in_default.len_below)) c.new-addresses.ensures.items
 
 pub emit_alternates-others-init : goal.emit_alternates-others-init
 emit_alternates-others-init t c =
     alternates_init c.args.slots.now c.args.words.now _ c.in_ok-start.start _ _
     (ap alternates_of (split c.args.alternates.now c.first-item.result c.in-len1-up.len_at_least c.first-item.is)) c.in_ok-start.ensures
-    (c.in_ok-push.ensures.items ∙ ap (λ xs. xs ++ (c.in_ok-start.start ∷ [])) c.new-addresses.ensures.items) c.new-places.ensures.items c.in_ok-emit_body.ensures
+    (c.in_ok-push.ensures.items
+    ∙ ap (λ xs. xs ++ (c.in_ok-start.start ∷ [])) c.new-addresses.ensures.items) c.new-places.ensures.items c.in_ok-emit_body.ensures
 
 pub emit_alternates-others-preserved : goal.emit_alternates-others-preserved
 emit_alternates-others-preserved t c =
     let others = take (length c.args.alternates.now - 1) (drop 1 c.args.alternates.now) in
-    let is : alternates_of (drop c.others.other-index others) ≡ Alternate (body c.other-item.result) (alternates_of (drop (c.others.other-index + 1) others)) = grind (arith, common_steps) in
+    let is : alternates_of (drop c.others.other-index others)
+    ≡ Alternate (body c.other-item.result) (alternates_of (drop (c.others.other-index + 1) others)) =
+    grind (arith, common_steps) in
     alternates_step c.args.slots.now c.args.words.now _ c.in_ok-start-2.start c.in_ok-place.place _ _ _ _ is c.in_ok-place.ensures c.in_ok-start-2.ensures
     c.in_ok-emit_body-2.ensures c.in_ok-push-3.ensures.items c.in_ok-push-2.ensures.items c.others.invariant

@@ -124,4 +124,5 @@ returns-in-Some-clause-fewer g c x =
     let d = c.in-Some.conversation in
     let more = has_next (conversation_at a.table.now d) in
     let lone = nat_eq a.inner 0 in
-    all_fewer (inside_one x) (tried_together k more lone d) (inside_together k x more lone d) a.procs.now gone.new.procs (gone.ensures.processes some_code)
+    all_fewer (inside_one x) (tried_together k more lone d) (inside_together k x more lone d) a.procs.now gone.new.procs
+    (gone.ensures.processes some_code)

@@ -58,7 +58,8 @@ returns-then-levels-ge-MOST_OPEN_LEVELS-clause-moved g c facts one there wants =
     let here = slice_get_read procs (length procs) c.args.p c.index.result.now refl c.requires.process c.index.ensures in
     let levels : c.levels-levels.result ≡ length one.process.levels =
     c.levels-levels.ensures ∙ ap (λ (x : Seen). length x.process.levels) (some_same (sym here ∙ there)) in
-    moved_as (sym (entry_trapped code parts.table parts.mails.items parts.links.items c.args.turn c.args.p procs facts one there c.levels-levels.result levels
+    moved_as (sym
+    (entry_trapped code parts.table parts.mails.items parts.links.items c.args.turn c.args.p procs facts one there c.levels-levels.result levels
     c.if-levels-ge-MOST_OPEN_LEVELS.true))
     (c.undo.ensures.moved code)
 
@@ -95,7 +96,9 @@ returns-in-None-clause-moved g c facts one there wants =
     let h = has_failed code (c.args.turn + 1) procs parts.table parts.mails.items parts.links.items c.requires.work.work c.args.p one there
     (c.requires.acting one there) c.args.block facts (wants one there) number c.args.turn few c.alternate_for.result c.alternate_for.ensures.alternate
     c.fail.new.procs c.alternate_for.new.table c.alternate_for.ensures.talks c.in-None.is
-    (subst (λ (xs : List Seen). c.fail.new.procs ≡ change_at c.args.p (changed (fallen (kind_of code) Broken)) xs) c.deref_mut.ensures.value (c.fail.ensures code)) in
+    (subst
+    (λ (xs : List Seen). c.fail.new.procs ≡ change_at c.args.p (changed (fallen (kind_of code) Broken)) xs) c.deref_mut.ensures.value
+    (c.fail.ensures code)) in
     let kept = with_items_is parts.procs c.fail.new.procs (omega (arith, c.fail.auto.procs, c.deref_mut.ensures.len)) in
     record {
       worlds = ap (λ (xs : List Seen). world_of xs c.alternate_for.new.table (memory_of parts.mails.items parts.links.items)) kept ∙ h.world;
@@ -128,7 +131,8 @@ returns-in-Some-clause-moved g c facts one there wants =
     omega (arith, c.levels-levels.ensures, ap (λ (x : Seen). length x.process.levels) (some_same (sym here ∙ there))) in
     let number = subst (WantsBlock c.args.block) (wants one there) (c.requires.wants one there) in
     let lent = ap (λ (xs : List Seen). slice_get xs c.args.p) c.deref_mut-in-Some.ensures.value ∙ there in
-    let opens = subst (λ (xs : List Seen). c.open.new.procs ≡ change_at c.args.p (changed (entered_process code facts c.in-Some.alternate c.args.turn)) xs)
+    let opens = subst
+    (λ (xs : List Seen). c.open.new.procs ≡ change_at c.args.p (changed (entered_process code facts c.in-Some.alternate c.args.turn)) xs)
     c.deref_mut-in-Some.ensures.value (c.open.ensures.processes one facts lent (wants one there)) in
     let h = has_opened code (c.args.turn + 1) procs parts.table parts.mails.items parts.links.items c.requires.work.work c.args.p one there
     (c.requires.acting one there) c.args.block facts (wants one there) number c.args.turn few c.alternate_for.result c.alternate_for.ensures.alternate
@@ -151,7 +155,8 @@ returns-in-Some-clause-left g c =
     let here = slice_get_read procs (length procs) c.args.p one refl c.requires.process c.index.ensures in
     let wants = wants_block c.args.block (want code one.process.state) (c.requires.wants one here) in
     let lent = ap (λ (xs : List Seen). slice_get xs c.args.p) c.deref_mut-in-Some.ensures.value ∙ here in
-    let opens = subst (λ (xs : List Seen). c.open.new.procs ≡ change_at c.args.p (changed (entered_process code wants.0 c.in-Some.alternate c.args.turn)) xs)
+    let opens = subst
+    (λ (xs : List Seen). c.open.new.procs ≡ change_at c.args.p (changed (entered_process code wants.0 c.in-Some.alternate c.args.turn)) xs)
     c.deref_mut-in-Some.ensures.value (c.open.ensures.processes one wants.0 lent wants.1) in
     let kept = with_items_is parts.procs c.open.new.procs (omega (arith, c.open.auto.procs, c.deref_mut-in-Some.ensures.len)) in
     record {

@@ -10,4 +10,5 @@ use Rattle.rb_machine.proofs.entry.fail.Goals as goal
 pub returns : goal.returns
 returns g c code =
     let procs = c.args.procs.now in
-    ap (set procs c.args.p) (c.fail.ensures code) ∙ set-changes (changed (fallen (kind_of code) Broken)) procs c.args.p c.index-procs-p.result c.requires
+    ap (set procs c.args.p) (c.fail.ensures code)
+    ∙ set-changes (changed (fallen (kind_of code) Broken)) procs c.args.p c.index-procs-p.result c.requires

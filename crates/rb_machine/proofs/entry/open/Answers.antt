@@ -19,7 +19,8 @@ returns-clause-processes g c one facts there wants =
     let is : get_or procs c.args.p was ≡ one = get_or_from_slice_get procs c.args.p one was there in
     let entered = entered_seen code facts c.args.alternate c.args.turn (get_or procs c.args.p was) c.enter.new.self
     (subst (λ (x : Seen). want code x.process.state ≡ Enters facts) (sym is) wants) c.enter.ensures.process c.enter.ensures.waiting in
-    ap (set procs c.args.p) entered ∙ set-changes (changed (entered_process code facts c.args.alternate c.args.turn)) procs c.args.p was c.requires.process
+    ap (set procs c.args.p) entered
+    ∙ set-changes (changed (entered_process code facts c.args.alternate c.args.turn)) procs c.args.p was c.requires.process
 
 pub returns-clause-links : goal.returns-clause-links
 returns-clause-links g c one there =

@@ -107,5 +107,6 @@ returns-in-None-2-clause-work g c one there =
     let here = slice_get_read procs (length procs) c.args.p c.index.result.now refl c.requires.process c.index.ensures in
     let away = ap (λ (x : Seen). x.process.at_line) (sym (some_same (sym here ∙ there))) ∙ (sym c.at_line.ensures ∙ c.if-at_line.false) in
     pays_same _ _ _ _ _ _ _ (c.act.ensures.work one there)
-    (named_away code (memberships parts.table) c.args.turn c.args.p one.process (world parts) c.args.over (c.requires.over one there) c.in-None-2.is away)
+    (named_away code (memberships parts.table) c.args.turn c.args.p one.process (world parts) c.args.over
+    (c.requires.over one there) c.in-None-2.is away)
     refl

@@ -66,7 +66,8 @@ returns-then-is_running-clause-work g c =
     ∙ (sym c.is_running.ensures ∙ c.if-is_running.true) in
     let found = running_there procs c.args.p runs in
     let here = process_there procs c.args.p found.0 found.1 in
-    let moved = moved_as (sym (runs_counted k c.args.turn c.args.p (world parts) found.0.process here found.2)) (c.run.ensures.moved found.0 found.1) in
+    let moved =
+    moved_as (sym (runs_counted k c.args.turn c.args.p (world parts) found.0.process here found.2)) (c.run.ensures.moved found.0 found.1) in
     pays_move _ _ _ _ _ _ (c.run.ensures.work found.0 found.1)
     (running_moves code (memberships parts.table) c.args.turn c.args.p (world parts) found.0.process here found.2
     c.run.new.parts c.run.new.events.items c.run.result (move k c.args.turn c.args.p (world parts)) moved)

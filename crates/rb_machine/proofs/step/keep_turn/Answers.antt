@@ -15,4 +15,5 @@ returns-clause-links g c = λ one e.
     let before = c.last_kept-before.ensures
     ∙ ap (λ (x : Seen). x.process.state.last_kept) (get_or_from_slice_get c.args.procs.now c.args.p one c.index-procs-p.result e) in
     c.add.ensures.items
-    ∙ ap (λ (n : ℕ). c.args.links.now.items ++ record { turn = c.args.turn; process = c.args.p; alternate = c.args.alternate; before = n } ∷ []) before
+    ∙ ap (λ (n : ℕ). c.args.links.now.items
+    ++ record { turn = c.args.turn; process = c.args.p; alternate = c.args.alternate; before = n } ∷ []) before

@@ -10,7 +10,8 @@ use Rattle.rb_machine.proofs.step.step_one.Goals as goal
 pub step-requires-clause-running : goal.step-requires-clause-running
 step-requires-clause-running g c =
     let procs = c.args.procs.now in
-    (c.requires.may (get_or procs c.args.p c.index-procs-p.result) (slice_get-get_or procs c.args.p c.index-procs-p.result c.requires.process)).running
+    (c.requires.may (get_or procs c.args.p c.index-procs-p.result)
+    (slice_get-get_or procs c.args.p c.index-procs-p.result c.requires.process)).running
 
 pub step-requires-clause-away : goal.step-requires-clause-away
 step-requires-clause-away g c =
@@ -20,7 +21,8 @@ step-requires-clause-away g c =
 pub step-requires-clause-none_waits : goal.step-requires-clause-none_waits
 step-requires-clause-none_waits g c =
     let procs = c.args.procs.now in
-    (c.requires.may (get_or procs c.args.p c.index-procs-p.result) (slice_get-get_or procs c.args.p c.index-procs-p.result c.requires.process)).none_waits
+    (c.requires.may (get_or procs c.args.p c.index-procs-p.result)
+    (slice_get-get_or procs c.args.p c.index-procs-p.result c.requires.process)).none_waits
 
 pub step-requires-clause-stands : goal.step-requires-clause-stands
 step-requires-clause-stands g c =
@@ -35,7 +37,8 @@ step-requires-clause-serves g c =
 pub step-requires-clause-cursors : goal.step-requires-clause-cursors
 step-requires-clause-cursors g c =
     let procs = c.args.procs.now in
-    (c.requires.may (get_or procs c.args.p c.index-procs-p.result) (slice_get-get_or procs c.args.p c.index-procs-p.result c.requires.process)).cursors
+    (c.requires.may (get_or procs c.args.p c.index-procs-p.result)
+    (slice_get-get_or procs c.args.p c.index-procs-p.result c.requires.process)).cursors
 
 pub step-requires-clause-wanted : goal.step-requires-clause-wanted
 step-requires-clause-wanted g c =
@@ -52,7 +55,8 @@ returns-clause-stepped g c = λ one e.
     let none = c.step.ensures.waiting ∙ (ap (λ (y : Seen). y.waiting) same ∙ may.none_waits) in
     record {
       later = c.step.new.self.process;
-      comes = subst (λ (y : Seen). StepsTo code y.process c.args.mails.now (step_of code y.process c.args.mails.now c.args.there) c.step.result c.step.new.self.process c.step.new.mails)
+      comes = subst (λ (y : Seen). StepsTo code y.process c.args.mails.now
+          (step_of code y.process c.args.mails.now c.args.there) c.step.result c.step.new.self.process c.step.new.mails)
           same c.step.ensures.came;
       processes = set-changes (λ _. c.step.new.self) procs c.args.p x c.requires.process
           ∙ ap (λ (ls : List (List ℕ)). change_at c.args.p (λ _. record { process = c.step.new.self.process; waiting = ls }) procs) none;

@@ -226,7 +226,8 @@ returns-in-Accepts-clause-moved g c = λ one here.
     (c.deref_mut-in-Accepts-2.ensures.value ∙ kept) c.accept-pass.new.procs c.accept-pass.new.table c.keep_turn-in-Accepts.new.links.items
     c.args.events.now.items c.accept-pass.result c.index.result.now c.started-alternate.result (no_elements c.args.events.now.items c.requires.none)
     c.index.ensures (alternate_known (plain c.args.code.now) parts.procs.items c.args.p c.index.result.now c.args.wanted c.started-alternate.result
-    c.requires.process c.index.ensures c.requires.wanted c.started-alternate.ensures) c.keep_turn-in-Accepts.ensures.links (λ y memory e. c.accept-pass.ensures.taken y memory e)) in
+    c.requires.process c.index.ensures c.requires.wanted c.started-alternate.ensures) c.keep_turn-in-Accepts.ensures.links
+    (λ y memory e. c.accept-pass.ensures.taken y memory e)) in
     record { worlds = comes.0; kind = comes.1; rejections = comes.2; passes = comes.3 }
 
 pub returns-in-Trap-clause-work : goal.returns-in-Trap-clause-work
@@ -251,7 +252,8 @@ returns-in-Went-clause-work g c = λ one here.
     record { work = c.requires.work.work; waits = c.requires.work.waits; acting = c.requires.acting; wants = c.requires.step } in
     let counted = work.counted_here at one here c.deref_mut.result.now c.deref_mut-2.result.now c.args.steps.now c.step_one.new.steps
     c.deref_mut.ensures.value c.deref_mut-2.ensures.value c.step_one.ensures.work in
-    work.went_work at one here (with_items (with_items parts.procs c.step_one.new.procs) c.keep_turn.new.procs).items c.args.events.now.items c.args.steps.now c.step_one.new.steps counted
+    work.went_work at one here
+    (with_items (with_items parts.procs c.step_one.new.procs) c.keep_turn.new.procs).items c.args.events.now.items c.args.steps.now c.step_one.new.steps counted
 
 pub returns-in-Accepts-clause-work : goal.returns-in-Accepts-clause-work
 returns-in-Accepts-clause-work g c = λ one here.
@@ -267,5 +269,6 @@ returns-in-Accepts-clause-work g c = λ one here.
     c.deref_mut.ensures.value c.deref_mut-2.ensures.value c.step_one.ensures.work in
     work.held_work at one here c.step_one.new.mails c.step_one.new.procs c.deref_mut-in-Accepts.result.now c.keep_turn-in-Accepts.new.procs
     c.deref_mut-in-Accepts-2.result.now stepping (c.deref_mut-in-Accepts.ensures.value ∙ items) c.keep_turn-in-Accepts.ensures.processes
-    (c.deref_mut-in-Accepts-2.ensures.value ∙ kept) (with_items (with_items v c.keep_turn-in-Accepts.new.procs) c.accept-pass.new.procs).items c.args.events.now.items c.args.steps.now c.step_one.new.steps c.accept-pass.new.steps counted
+    (c.deref_mut-in-Accepts-2.ensures.value ∙ kept)
+    (with_items (with_items v c.keep_turn-in-Accepts.new.procs) c.accept-pass.new.procs).items c.args.events.now.items c.args.steps.now c.step_one.new.steps c.accept-pass.new.steps counted
     (λ y memory e. c.accept-pass.ensures.work y memory e)

@@ -21,7 +21,8 @@ returns-in-None-clause-taken g c = λ one memory e.
     let procs = c.args.procs.now in
     let same = get_or_from_slice_get procs c.args.p one c.index-procs-p.result e in
     let conversation = sym (ap (λ (x : Seen). conversation_in (last_of x.process.levels)) same) ∙ (sym c.conversation_of.ensures ∙ c.in-None.is) in
-    alone_taken (plain c.args.code.now) memory procs c.args.table.now c.args.p one e c.leave_alone.new.procs (c.requires.holds one e).inside conversation
+    alone_taken (plain c.args.code.now) memory procs c.args.table.now c.args.p one e c.leave_alone.new.procs
+    (c.requires.holds one e).inside conversation
     c.leave_alone.ensures.gone
 
 pub returns-in-None-clause-waits : goal.returns-in-None-clause-waits
@@ -41,7 +42,9 @@ returns-in-None-clause-work g c = λ one memory e.
     let procs = c.args.procs.now in
     let same = get_or_from_slice_get procs c.args.p one c.index-procs-p.result e in
     let conversation = sym (ap (λ (x : Seen). conversation_in (last_of x.process.levels)) same) ∙ (sym c.conversation_of.ensures ∙ c.in-None.is) in
-    alone_named (plain c.args.code.now) c.args.steps.now c.leave_alone.new.steps memory procs c.args.table.now c.args.p one e (c.requires.holds one e).inside
+    alone_named
+    (plain c.args.code.now) c.args.steps.now c.leave_alone.new.steps memory procs c.args.table.now c.args.p one e
+    (c.requires.holds one e).inside
     conversation (c.leave_alone.ensures.work one e)
 
 pub returns-in-Some-clause-work : goal.returns-in-Some-clause-work

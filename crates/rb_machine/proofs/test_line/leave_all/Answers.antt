@@ -14,7 +14,8 @@ leave-requires-clause-waits g c =
     let procs = c.args.procs.now in
     let i = c.loop-proc.proc-index in
     let x = c.proc-item.result in
-    let same = rest_there (line_left (plain c.args.code.now) c.args.conversation) procs c.loop-proc.procs i x c.loop-proc-test.true c.loop-proc.invariant.left in
+    let same = rest_there
+    (line_left (plain c.args.code.now) c.args.conversation) procs c.loop-proc.procs i x c.loop-proc-test.true c.loop-proc.invariant.left in
     ap (λ (one : Seen). one.waiting) same
     ∙ all_there (λ (one : Seen). one.waiting ≡ []) procs i (get_or procs i x) c.requires.waits (slice_get-get_or procs i x c.loop-proc-test.true)
 
@@ -36,8 +37,10 @@ loop-proc-preserved g c =
     record {
       left = one_more (line_left code c.args.conversation) procs c.loop-proc.procs i x c.leave.new.proc c.loop-proc-test.true c.loop-proc.auto.procs
           c.loop-proc.invariant.left c.leave.ensures.left;
-      work = one_more_named (named_by_member code c.args.conversation) procs c.loop-proc.procs i x c.args.steps.now c.loop-proc.steps c.leave.new.steps
-          c.loop-proc-test.true (rest_there (line_left code c.args.conversation) procs c.loop-proc.procs i x c.loop-proc-test.true c.loop-proc.invariant.left)
+      work = one_more_named
+          (named_by_member code c.args.conversation) procs c.loop-proc.procs i x c.args.steps.now c.loop-proc.steps c.leave.new.steps
+          c.loop-proc-test.true
+          (rest_there (line_left code c.args.conversation) procs c.loop-proc.procs i x c.loop-proc-test.true c.loop-proc.invariant.left)
           c.loop-proc.invariant.work c.leave.ensures.work;
     }
 

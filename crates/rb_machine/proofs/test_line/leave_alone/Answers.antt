@@ -10,7 +10,8 @@ use Rattle.rb_machine.proofs.test_line.leave_alone.Goals as goal
 pub accept-requires-clause-settles : goal.accept-requires-clause-settles
 accept-requires-clause-settles g c =
     let procs = c.args.procs.now in
-    (c.requires.holds (get_or procs c.args.p c.index-procs-p.result) (slice_get-get_or procs c.args.p c.index-procs-p.result c.requires.process)).settles
+    (c.requires.holds (get_or procs c.args.p c.index-procs-p.result)
+    (slice_get-get_or procs c.args.p c.index-procs-p.result c.requires.process)).settles
 
 pub returns-clause-gone : goal.returns-clause-gone
 returns-clause-gone g c =

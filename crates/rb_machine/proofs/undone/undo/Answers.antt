@@ -20,7 +20,8 @@ returns-clause-moved g c code =
     let parts = c.args.parts.now in
     let memory = memory_of parts.mails.items parts.links.items in
     let f = reject (kind_with code parts.table) c.args.p c.args.left c.args.cause in
-    let h = subst (λ (procs : List Seen). HasHappened f memory procs parts.table c.args.events.now.items c.reject.new.procs c.reject.new.table c.reject.new.events.items)
+    let h = subst
+    (λ (procs : List Seen). HasHappened f memory procs parts.table c.args.events.now.items c.reject.new.procs c.reject.new.table c.reject.new.events.items)
     c.deref_mut.ensures.value (c.reject.ensures.happened code memory) in
     let same = with_items_is parts.procs c.reject.new.procs (omega (arith, c.reject.auto.procs, c.deref_mut.ensures.len)) in
     record {

@@ -14,6 +14,7 @@ returns c =
     let conversations = flat_map (conversation_faults whole) whole.conversations in
     let uses = uses_faults whole [] (uses_of whole) in
     c.in_ok-note_uses.ensures
-    ∙ ap (λ first. first_after first uses) (c.in_ok-conversations.ensures.found ∙ ap (λ first. first_after first conversations) c.in_ok-channels.ensures.found)
+    ∙ ap (λ first. first_after first uses)
+    (c.in_ok-conversations.ensures.found ∙ ap (λ first. first_after first conversations) c.in_ok-channels.ensures.found)
     ∙ sym (after_append (first_after None channels) conversations uses)
     ∙ sym (after_append None channels (conversations ++ uses))

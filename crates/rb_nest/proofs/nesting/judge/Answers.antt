@@ -16,7 +16,8 @@ pub returns : goal.returns
 returns c =
     let same = ap tree c.in_ok-uses.ensures in
     record {
-      no_fault = ap nesting_faults (sym same) ∙ nothing_kept (nesting_faults (tree c.in_ok-uses.uses.program.now)) (sym c.in_ok-fault.ensures ∙ c.in-None.is);
+      no_fault = ap nesting_faults (sym same)
+          ∙ nothing_kept (nesting_faults (tree c.in_ok-uses.uses.program.now)) (sym c.in_ok-fault.ensures ∙ c.in-None.is);
       groups = c.in_ok-nested-in-None.ensures.groups ∙ ap groups_of same;
       counts = λ n m e. ap (λ t. alternates_of t n) (sym same) ∙ c.in_ok-nested-in-None.ensures.counts n m e;
     }

@@ -33,7 +33,9 @@ loop-number-preserved c =
     let count = λ (g : Group). g.alternates in
     let others = map (membership_of whole) (map conversation_declaration (drop (number + 1) all)) in
     let there : length (map count groups) ≡ number = length-map groups count ∙ c.loop-number.invariant.as_many in
-    let alternates = agree-more (alternates_of whole) (map count groups) one.alternates c.loop-number.invariant.counts (ap (alternates_of whole) there ∙ c.in_ok-group.ensures.alternates) in
+    let alternates =
+    agree-more (alternates_of whole) (map count groups) one.alternates c.loop-number.invariant.counts
+    (ap (alternates_of whole) there ∙ c.in_ok-group.ensures.alternates) in
     record {
       as_many = ap length c.in_ok-push.ensures.items ∙ simp length-append (omega (arith, c.loop-number.invariant.as_many));
       groups =

@@ -15,5 +15,6 @@ returns-in_ok-push-in-Some-clause-added c =
     ap all_held c.in_ok-push-in-Some.ensures.items
     ∙ map-append held c.args.uses.now.items (c.use_of.result ∷ [])
     ∙ ap (λ s. before ++ s ∷ []) c.use_of.ensures
-    ∙ ap (λ n. before ++ summary whole (record { name = identifier c.in-Some.name; deed = Joins n; spot = spot }) ∷ []) (sym (counted c.args.alternates.now))
+    ∙ ap (λ n. before ++ summary whole (record { name = identifier c.in-Some.name; deed = Joins n; spot = spot }) ∷ [])
+    (sym (counted c.args.alternates.now))
     ∙ ap (λ o. before ++ map (summary whole) (joined (option_map identifier o) (alternates_of c.args.alternates.now) spot)) (sym c.in-Some.is)

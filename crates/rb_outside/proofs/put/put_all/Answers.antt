@@ -15,7 +15,9 @@ returns-in_err-n g c =
       ok = search rules;
       quiet = search rules;
       err = OnErr-from c.from_residual.result (subst (WrotePart before after) (sym done.1) part);
-      failed = OnErr-from c.from_residual.result (failed_after (g.S.Sink.faults c.args.out.now) (g.S.Sink.faults c.loop-rest.out) (g.S.Sink.faults c.put.new.self) done.3 c.in_err-n.ensures.failed);
+      failed = OnErr-from c.from_residual.result
+          (failed_after (g.S.Sink.faults c.args.out.now) (g.S.Sink.faults c.loop-rest.out)
+          (g.S.Sink.faults c.put.new.self) done.3 c.in_err-n.ensures.failed);
     }
 
 pub loop-rest-preserved : goal.loop-rest-preserved

@@ -22,7 +22,8 @@ returns-in-Some-Some c =
     c.get-sender.ensures.lookup.3 c.get-receiver.ensures.lookup.3 in
     c.has_room_behind.ensures
     ∙ ap (λ from. nat_lt c.sent_on.result (natural declared.now.size.value + from)) (c.room_from-from.ensures (tree program))
-    ∙ ap (λ sent. nat_lt sent (natural declared.now.size.value + room_from k (state_of taker.state) (map level_of taker.levels.items) channel)) c.sent_on.ensures
+    ∙ ap (λ sent. nat_lt sent
+    (natural declared.now.size.value + room_from k (state_of taker.state) (map level_of taker.levels.items) channel)) c.sent_on.ensures
     ∙ sym (room
     ∙ ap (λ o. has_room_for k channel ends (seen_as o) (seen_as receiver)) c.in-Some-Some.is-0
     ∙ ap (λ o. has_room_for k channel ends (Some (process_of c.in-Some-Some.sender.now)) (seen_as o)) c.in-Some-Some.is-1)

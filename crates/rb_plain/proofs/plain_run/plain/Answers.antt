@@ -13,4 +13,5 @@ returns-in_err-rehearse g c =
     let w = g.S.Sink.written c.args.out.now in
     let f = g.S.Sink.faults c.args.out.now in
     subst (λ (turns : List Kept). Plays (plain_text program turns) w w f f c.from_residual.result) c.turns-turns.ensures
-    (rehearsed_plays program (map plain_turn c.turns-turns.result.now) w f c.in_err-rehearse.field-0.0 c.from_residual.result c.from_residual.ensures.1 c.in_err-rehearse.ensures)
+    (rehearsed_plays program
+    (map plain_turn c.turns-turns.result.now) w f c.in_err-rehearse.field-0.0 c.from_residual.result c.from_residual.ensures.1 c.in_err-rehearse.ensures)

@@ -19,7 +19,8 @@ loop-kept-preserved g c =
     let i = c.loop-kept.kept-index in
     let names = naming c.args.names.now in
     let moved = world_of program c.take.new.processes in
-    let on = turn_taken program turns i (record { turn = 0; process = 0; alternate = 0 }) c.loop-kept-test.true (world_of program c.loop-kept.processes)
+    let on = turn_taken program turns i (record { turn = 0; process = 0; alternate = 0 }) c.loop-kept-test.true
+    (world_of program c.loop-kept.processes)
     moved (world_of program c.free_all.new.processes) c.in_ok-take.ensures c.free_all.ensures in
     record {
       goes = sym (still_stuck on) ∙ c.loop-kept.invariant.goes;
@@ -35,7 +36,8 @@ returns-in_err-take-clause-text g c =
     writes_answered _ _ _ _ _ c.in_err-take.field-0.0 c.from_residual.result c.from_residual.ensures.1
     (next_wanting _ _ _ _ _ _ c.in_err-take.field-0.0
     (turn_wanting program c.args.turns.now c.loop-kept.kept-index (record { turn = 0; process = 0; alternate = 0 }) c.loop-kept-test.true
-    (world_of program c.loop-kept.processes) (world_of program c.take.new.processes) c.in_err-take.field-0.0 c.loop-kept.invariant.goes c.in_err-take.ensures)
+    (world_of program c.loop-kept.processes)
+    (world_of program c.take.new.processes) c.in_err-take.field-0.0 c.loop-kept.invariant.goes c.in_err-take.ensures)
     c.loop-kept.invariant.text)
 
 pub returns-in_err-write_freed-clause-text : goal.returns-in_err-write_freed-clause-text
@@ -46,9 +48,11 @@ returns-in_err-write_freed-clause-text g c =
     let names = naming c.args.names.now in
     let moved = world_of program c.take.new.processes in
     let next = with_each (freed (unkept_kind program)) moved in
-    let on = turn_taken program turns i (record { turn = 0; process = 0; alternate = 0 }) c.loop-kept-test.true (world_of program c.loop-kept.processes)
+    let on = turn_taken program turns i (record { turn = 0; process = 0; alternate = 0 }) c.loop-kept-test.true
+    (world_of program c.loop-kept.processes)
     moved next c.in_ok-take.ensures refl in
     writes_failed _ _ _ _ _ c.in_err-write_freed.field-0.0 c.from_residual-in_err-write_freed.result c.from_residual-in_err-write_freed.ensures.1
     (written_part _ _ (out_lines names _ 0 (freed_lines (unkept_kind program) moved))
-    (outs_in names (played program (map plain_turn (drop (i + 1) turns)) next)) _ _ _ _ _ _ c.in_err-write_freed.field-0.0 (Err c.in_err-write_freed.field-0.0)
+    (outs_in names (played program (map plain_turn (drop (i + 1) turns)) next)) _ _ _ _ _ _ c.in_err-write_freed.field-0.0
+    (Err c.in_err-write_freed.field-0.0)
     c.loop-kept.invariant.text (outs_next on names c.loop-kept.invariant.goes) c.in_err-write_freed.ensures refl)

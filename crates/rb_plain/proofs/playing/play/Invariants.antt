@@ -16,5 +16,6 @@ invariant-loop-kept g l =
     record {
       goes : stuck_in left ≡ None;
       ends : world_in whole ≡ world_in left;
-      text : Written (outs_in (naming l.names) whole) (outs_in (naming l.names) left) (g.S.Sink.written l.initial.out) (g.S.Sink.written l.out) (g.S.Sink.faults l.initial.out) (g.S.Sink.faults l.out);
+      text : Written (outs_in (naming l.names) whole) (outs_in (naming l.names) left) (g.S.Sink.written l.initial.out)
+          (g.S.Sink.written l.out) (g.S.Sink.faults l.initial.out) (g.S.Sink.faults l.out);
     }

@@ -16,7 +16,8 @@ loop-p-preserved g c =
     let program = tree c.args.program.now in
     let next = next_lines program names c.args.turn p c.args.processes.now c.index-processes-p.result c.freed_lines.result.now c.loop-p-test.true c.index-processes-p.is c.freed_lines.ensures in
     written_more _ _ (flat_map (λ (line : Vec ℕ Global). out_line names c.args.turn p line.items) c.freed_lines.result.now)
-    (out_lines names c.args.turn (p + 1) (drop (p + 1) (lines_of_all program c.args.processes.now))) _ _ _ _ _ _ c.loop-p.invariant next c.in_ok-write_lines.ensures
+    (out_lines names c.args.turn (p + 1)
+    (drop (p + 1) (lines_of_all program c.args.processes.now))) _ _ _ _ _ _ c.loop-p.invariant next c.in_ok-write_lines.ensures
 
 pub returns-in_err-write_lines : goal.returns-in_err-write_lines
 returns-in_err-write_lines g c =

@@ -12,6 +12,7 @@ returns-in_err-write_out g c =
     let lines = c.args.lines.now in
     let is : c.deref.result.now ≡ (get_or lines c.loop-line.line-index c.line-item.result).items =
     c.deref.ensures.value ∙ ap (λ (line : Vec ℕ Global). line.items) c.line-item.is in
-    let next = puts_next (λ (line : Vec ℕ Global). line_text line.items) lines c.loop-line.line-index c.line-item.result c.loop-line-test.true _ _ _ _ _ _ _ _ c.loop-line.invariant
+    let next = puts_next
+    (λ (line : Vec ℕ Global). line_text line.items) lines c.loop-line.line-index c.line-item.result c.loop-line-test.true _ _ _ _ _ _ _ _ c.loop-line.invariant
     (puts_same _ _ _ _ _ _ _ (ap line_text is) c.in_err-write_out.ensures) in
     puts_part (λ (line : Vec ℕ Global). line_text line.items) lines _ _ _ _ _ _ c.from_residual.result c.from_residual.ensures.0 next

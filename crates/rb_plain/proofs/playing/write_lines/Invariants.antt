@@ -11,4 +11,5 @@ use Rattle.rb_plain.proofs.playing.write_lines.Given as goal
 abbrev pub invariant-loop-line : goal.invariant-loop-line
 invariant-loop-line g l =
     let text = flat_map (λ (line : Vec ℕ Global). out_line (naming l.names) l.turn l.process line.items) (take l.line-index l.lines) in
-    Puts {T = Unit {0}} {E = Failed} text (g.S.Sink.written l.initial.out) (g.S.Sink.written l.out) (g.S.Sink.faults l.initial.out) (g.S.Sink.faults l.out) (Ok tt)
+    Puts {T = Unit {0}} {E = Failed} text (g.S.Sink.written l.initial.out) (g.S.Sink.written l.out)
+    (g.S.Sink.faults l.initial.out) (g.S.Sink.faults l.out) (Ok tt)

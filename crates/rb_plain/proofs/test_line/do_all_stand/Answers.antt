@@ -12,12 +12,16 @@ returns-in-Some c = λ tree has.
     let processes = c.args.processes.now in
     c.do_stand.ensures
     ∙ ap (list_all (λ m. stands_there d (slice_get (map process_of processes) m))) c.deref-in-Some.ensures.value
-    ∙ ap (λ o. list_all (λ m. stands_there d (slice_get (map process_of processes) m)) (members_in (option_map (λ group. group.now) o))) (sym c.in-Some.is)
+    ∙ ap
+    (λ o. list_all (λ m. stands_there d (slice_get (map process_of processes) m)) (members_in (option_map (λ group. group.now) o)))
+    (sym c.in-Some.is)
     ∙ all_stand_is tree c.args.nested.now processes d has c.deref.result.now c.get.result c.deref.ensures.value c.get.ensures.lookup.3
 
 pub returns-in-None : goal.returns-in-None
 returns-in-None c = λ tree has.
     let d = c.args.conversation in
     let processes = c.args.processes.now in
-    ap (λ o. list_all (λ m. stands_there d (slice_get (map process_of processes) m)) (members_in (option_map (λ group. group.now) o))) (sym c.in-None.is)
+    ap
+    (λ o. list_all (λ m. stands_there d (slice_get (map process_of processes) m)) (members_in (option_map (λ group. group.now) o)))
+    (sym c.in-None.is)
     ∙ all_stand_is tree c.args.nested.now processes d has c.deref.result.now c.get.result c.deref.ensures.value c.get.ensures.lookup.3

@@ -17,10 +17,12 @@ loop-c-preserved g c =
     let names = c.args.names.now.channels.items in
     let i = c.loop-c.c in
     let same = c.deref-name-items.ensures.value in
-    let is : c.name-item.result ≡ get_or names i c.name-item.result = c.name-item.is ∙ ap (λ (xs : List (List ℕ)). get_or xs i c.name-item.result) same in
+    let is : c.name-item.result ≡ get_or names i c.name-item.result =
+    c.name-item.is ∙ ap (λ (xs : List (List ℕ)). get_or xs i c.name-item.result) same in
     let within : i < length names = omega (arith, c.loop-c-test.true, ap length same) in
     let there : i < length program.channels.items = omega (arith, within, c.requires) in
-    let rest = channel_lines (drop (i + 1) names) (count_sent states (i + 1) (drop (i + 1) channels)) (count_taken states (i + 1) (drop (i + 1) channels)) in
+    let rest = channel_lines (drop (i + 1) names) (count_sent states (i + 1) (drop (i + 1) channels))
+    (count_taken states (i + 1) (drop (i + 1) channels)) in
     let named = sym c.as_bytes.ensures in
     let sent = sym c.sent_by-sent.ensures in
     let taken = sym c.taken_by-taken.ensures in
@@ -37,10 +39,12 @@ returns-in_err-write_channel g c =
     let names = c.args.names.now.channels.items in
     let i = c.loop-c.c in
     let same = c.deref-name-items.ensures.value in
-    let is : c.name-item.result ≡ get_or names i c.name-item.result = c.name-item.is ∙ ap (λ (xs : List (List ℕ)). get_or xs i c.name-item.result) same in
+    let is : c.name-item.result ≡ get_or names i c.name-item.result =
+    c.name-item.is ∙ ap (λ (xs : List (List ℕ)). get_or xs i c.name-item.result) same in
     let within : i < length names = omega (arith, c.loop-c-test.true, ap length same) in
     let there : i < length program.channels.items = omega (arith, within, c.requires) in
-    let rest = channel_lines (drop (i + 1) names) (count_sent states (i + 1) (drop (i + 1) channels)) (count_taken states (i + 1) (drop (i + 1) channels)) in
+    let rest = channel_lines (drop (i + 1) names) (count_sent states (i + 1) (drop (i + 1) channels))
+    (count_taken states (i + 1) (drop (i + 1) channels)) in
     let named = sym c.as_bytes.ensures in
     let sent = sym c.sent_by-sent.ensures in
     let taken = sym c.taken_by-taken.ensures in

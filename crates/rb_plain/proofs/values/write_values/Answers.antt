@@ -44,7 +44,8 @@ returns-in_err-write_channels g c =
     ap (λ (ws : List (List ℤ)). value_lines variables ws ++ counts) (sym (words_same program c.args.processes.now)) in
     writes_answered _ _ _ _ _ WriteFault c.from_residual-in_err-write_channels.result c.from_residual-in_err-write_channels.ensures.1
     (puts_same (words ++ counts) _ _ _ _ _ (Err WriteFault) same
-    (writes_both words counts _ _ _ _ _ _ (Err WriteFault) c.in_ok-write_all_variables.ensures (puts_failed counts _ _ _ _ _ c.in_err-write_channels.ensures)))
+    (writes_both words counts _ _ _ _ _ _ (Err WriteFault) c.in_ok-write_all_variables.ensures
+    (puts_failed counts _ _ _ _ _ c.in_err-write_channels.ensures)))
 
 pub returns : goal.returns
 returns g c =

@@ -21,7 +21,8 @@ loop-variable-preserved g c =
     let rest = flat_map (variable_line process.name words) (map variable_naming (drop (i + 1) variables)) in
     let next = next_variable process.name words variables i one within is
     ∙ ap (λ (name : List ℕ). variable_line name words (variable_naming one) ++ rest) (sym c.as_bytes.ensures) in
-    next_written _ _ (variable_line c.as_bytes.result.now words (variable_naming one)) rest _ _ _ _ _ _ c.in_ok-write_one.field-0 c.loop-variable.invariant
+    next_written _ _
+    (variable_line c.as_bytes.result.now words (variable_naming one)) rest _ _ _ _ _ _ c.in_ok-write_one.field-0 c.loop-variable.invariant
     next c.in_ok-write_one.ensures
 
 pub returns-in_err-write_one : goal.returns-in_err-write_one
@@ -38,5 +39,7 @@ returns-in_err-write_one g c =
     let next = next_variable process.name words variables i one within is
     ∙ ap (λ (name : List ℕ). variable_line name words (variable_naming one) ++ rest) (sym c.as_bytes.ensures) in
     writes_answered _ _ _ _ _ c.in_err-write_one.field-0.0 c.from_residual.result c.from_residual.ensures.1
-    (next_stopped _ _ (variable_line c.as_bytes.result.now words (variable_naming one)) rest _ _ _ _ _ _ c.in_err-write_one.field-0.0 c.loop-variable.invariant
+    (next_stopped _ _
+    (variable_line c.as_bytes.result.now words
+    (variable_naming one)) rest _ _ _ _ _ _ c.in_err-write_one.field-0.0 c.loop-variable.invariant
     next c.in_err-write_one.ensures)

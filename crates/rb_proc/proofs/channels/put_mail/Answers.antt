@@ -9,7 +9,10 @@ returns-then-channel-mails-clause-put c p sized =
     let mails = c.args.mails.now in
     let f : List ℤ → List ℤ = λ (values : List ℤ). slice_set values (c.args.index % length values) c.args.value in
     ap (λ (x : List ℤ). slice_set mails c.args.channel x) (c.put.ensures
-    ∙ ap (λ (v : ℤ). slice_set (get_or mails c.args.channel c.index-mails-channel.result) (c.args.index % length (get_or mails c.args.channel c.index-mails-channel.result)) v) (to_z-of_z w64 c.args.value (search rules)))
+    ∙ ap
+    (λ (v : ℤ). slice_set (get_or mails c.args.channel c.index-mails-channel.result)
+    (c.args.index % length (get_or mails c.args.channel c.index-mails-channel.result)) v)
+    (to_z-of_z w64 c.args.value (search rules)))
     ∙ sym (change_there c.args.channel f mails c.index-mails-channel.result (omega arith))
     ∙ sized_change mails p.channels c.args.channel c.args.index c.args.value sized
 
@@ -22,6 +25,9 @@ returns-then-channel-mails-clause-sized c =
     let f : List ℤ → List ℤ = λ (values : List ℤ). slice_set values (c.args.index % length values) c.args.value in
     ap (λ (xs : List (List ℤ)). map length xs)
     (ap (λ (x : List ℤ). slice_set mails c.args.channel x) (c.put.ensures
-    ∙ ap (λ (v : ℤ). slice_set (get_or mails c.args.channel c.index-mails-channel.result) (c.args.index % length (get_or mails c.args.channel c.index-mails-channel.result)) v) (to_z-of_z w64 c.args.value (search rules)))
+    ∙ ap
+    (λ (v : ℤ). slice_set (get_or mails c.args.channel c.index-mails-channel.result)
+    (c.args.index % length (get_or mails c.args.channel c.index-mails-channel.result)) v)
+    (to_z-of_z w64 c.args.value (search rules)))
     ∙ sym (change_there c.args.channel f mails c.index-mails-channel.result (omega arith)))
     ∙ lengths_kept c.args.channel (λ (values : List ℤ). c.args.index % length values) c.args.value mails

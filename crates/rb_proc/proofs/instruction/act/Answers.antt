@@ -29,8 +29,10 @@ returns-in-Print-clause-moved g c =
     let operands = c.args.bench.now.operands in
     let m = whole code.texts c.args.bench.now c.args.memory.now c.args.mails.now in
     let pieces = pieces_in code.texts c.args.bench.now in
-    subst (λ (texts : List (List ℕ)). outcome_of c.print.result c.args.at operands (mem c.print.new.memory (map (piece_text texts) c.print.new.line.pieces) c.args.bench.now.counters c.args.mails.now)
-    ≡ acted code see Print c.args.at operands (mem c.args.memory.now (map (piece_text texts) c.args.bench.now.line.pieces) c.args.bench.now.counters c.args.mails.now))
+    subst (λ (texts : List (List ℕ)). outcome_of c.print.result c.args.at operands
+    (mem c.print.new.memory (map (piece_text texts) c.print.new.line.pieces) c.args.bench.now.counters c.args.mails.now)
+    ≡ acted code see Print c.args.at operands
+    (mem c.args.memory.now (map (piece_text texts) c.args.bench.now.line.pieces) c.args.bench.now.counters c.args.mails.now))
     c.deref.ensures.value (c.print.ensures.moved operands c.args.bench.now.counters c.args.mails.now)
     ∙ ap (λ (i : Instr). acted code see i c.args.at operands m) (sym c.in-Print.is)
 

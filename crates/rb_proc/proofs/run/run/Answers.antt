@@ -16,7 +16,15 @@ pub turn-init : goal.turn-init
 turn-init g c = record {
   start = c.requires.stays.0;
   cursors = c.requires.stays.1;
-  runs = record { n = most_steps (plain c.args.code.now); within = (let e : most_steps (plain c.args.code.now) ≤ most_steps (plain c.args.code.now) = omega arith in e); safe = c.requires.safe; stays = c.requires.stays.2; comes = refl };
+  runs = record {
+    n = most_steps (plain c.args.code.now);
+    within =
+        (let e : most_steps (plain c.args.code.now) ≤ most_steps (plain c.args.code.now) = omega arith in e);
+    safe =
+        c.requires.safe;
+    stays = c.requires.stays.2;
+    comes = refl;
+  };
   levels = refl;
   waiting = refl;
   sized = c.requires.sized;
@@ -68,7 +76,10 @@ act-requires-clause-stays g c =
     let end = execute code see most c.args.from c.args.bench.now.operands first in
     let i = c.index-instr.result.now in
     let q = fetched code see (IsUnchanged first) calls start most c.turn.at xs m end c.turn.invariant.runs i c.index-instr.ensures in
-    subst (λ (ls : List (Level Copy)). LeavesEnough (entry_calls (copy_of (last_of ls))) (acted code (see_of c.args.sight.now ls) i c.turn.at xs m)) (sym c.turn.invariant.levels)
+    subst
+    (λ (ls : List (Level Copy)). LeavesEnough (entry_calls (copy_of (last_of ls)))
+    (acted code (see_of c.args.sight.now ls) i c.turn.at xs m))
+    (sym c.turn.invariant.levels)
     (leaves code see (IsUnchanged first) calls start most c.turn.at xs m end c.turn.invariant.runs i q)
 
 pub turn-smaller : goal.turn-smaller
@@ -84,8 +95,13 @@ turn-smaller g c =
     let end = execute code see most c.args.from c.args.bench.now.operands first in
     let i = c.index-instr.result.now in
     let q = fetched code see (IsUnchanged first) calls start most c.turn.at xs m end c.turn.invariant.runs i c.index-instr.ensures in
-    let moved = subst (λ (ls : List (Level Copy)). Going c.in-Go.to c.act.new.bench.operands (whole code.texts c.act.new.bench c.act.new.memory c.act.new.mails) ≡ acted code (see_of c.args.sight.now ls) i c.turn.at xs m) c.turn.invariant.levels c.in-Go.ensures.moved in
-    falls code see (IsUnchanged first) calls start most c.turn.at xs m end c.turn.invariant.runs i q c.in-Go.to c.act.new.bench.operands (whole code.texts c.act.new.bench c.act.new.memory c.act.new.mails) moved
+    let moved = subst
+    (λ (ls : List (Level Copy)). Going c.in-Go.to c.act.new.bench.operands
+    (whole code.texts c.act.new.bench c.act.new.memory c.act.new.mails)
+    ≡ acted code (see_of c.args.sight.now ls) i c.turn.at xs m) c.turn.invariant.levels c.in-Go.ensures.moved in
+    falls code see
+    (IsUnchanged first) calls start most c.turn.at xs m end c.turn.invariant.runs i q c.in-Go.to c.act.new.bench.operands
+    (whole code.texts c.act.new.bench c.act.new.memory c.act.new.mails) moved
 
 pub turn-preserved : goal.turn-preserved
 turn-preserved g c =
@@ -100,8 +116,13 @@ turn-preserved g c =
     let end = execute code see most c.args.from c.args.bench.now.operands first in
     let i = c.index-instr.result.now in
     let q = fetched code see (IsUnchanged first) calls start most c.turn.at xs m end c.turn.invariant.runs i c.index-instr.ensures in
-    let moved = subst (λ (ls : List (Level Copy)). Going c.in-Go.to c.act.new.bench.operands (whole code.texts c.act.new.bench c.act.new.memory c.act.new.mails) ≡ acted code (see_of c.args.sight.now ls) i c.turn.at xs m) c.turn.invariant.levels c.in-Go.ensures.moved in
-    let next = onward code see (IsUnchanged first) calls start most c.turn.at xs m end c.turn.invariant.runs i q c.in-Go.to c.act.new.bench.operands (whole code.texts c.act.new.bench c.act.new.memory c.act.new.mails) moved in
+    let moved = subst
+    (λ (ls : List (Level Copy)). Going c.in-Go.to c.act.new.bench.operands
+    (whole code.texts c.act.new.bench c.act.new.memory c.act.new.mails)
+    ≡ acted code (see_of c.args.sight.now ls) i c.turn.at xs m) c.turn.invariant.levels c.in-Go.ensures.moved in
+    let next = onward code see
+    (IsUnchanged first) calls start most c.turn.at xs m end c.turn.invariant.runs i q c.in-Go.to c.act.new.bench.operands
+    (whole code.texts c.act.new.bench c.act.new.memory c.act.new.mails) moved in
     record {
       runs = next.0;
       levels = c.in-Go.ensures.kept.0 ∙ c.turn.invariant.levels;
@@ -125,12 +146,16 @@ returns-in-Stop-clause-ended g c =
     let end = execute code see most c.args.from c.args.bench.now.operands first in
     let i = c.index-instr.result.now in
     let q = fetched code see (IsUnchanged first) calls start most c.turn.at xs m end c.turn.invariant.runs i c.index-instr.ensures in
-    let moved = subst (λ (ls : List (Level Copy)). (Stopped c.turn.at (whole code.texts c.act.new.bench c.act.new.memory c.act.new.mails)) ≡ acted code (see_of c.args.sight.now ls) i c.turn.at xs m) c.turn.invariant.levels c.in-Stop.ensures.moved in
-    over code see (IsUnchanged first) calls start most c.turn.at xs m end c.turn.invariant.runs i q (Stopped c.turn.at (whole code.texts c.act.new.bench c.act.new.memory c.act.new.mails)) moved tt
+    let moved = subst (λ (ls : List (Level Copy)). (Stopped c.turn.at (whole code.texts c.act.new.bench c.act.new.memory c.act.new.mails))
+    ≡ acted code (see_of c.args.sight.now ls) i c.turn.at xs m) c.turn.invariant.levels c.in-Stop.ensures.moved in
+    over code see (IsUnchanged first) calls start most c.turn.at xs m end c.turn.invariant.runs i q
+    (Stopped c.turn.at (whole code.texts c.act.new.bench c.act.new.memory c.act.new.mails)) moved tt
 
 pub returns-in-Stop-clause-kept : goal.returns-in-Stop-clause-kept
-returns-in-Stop-clause-kept g c =
-    (ap (λ (r : Contents). r.levels) c.in-Stop.ensures.kept.0 ∙ c.turn.invariant.levels, ap (λ (r : Contents). r.waiting) c.in-Stop.ensures.kept.0 ∙ c.turn.invariant.waiting)
+returns-in-Stop-clause-kept g c = (
+  ap (λ (r : Contents). r.levels) c.in-Stop.ensures.kept.0 ∙ c.turn.invariant.levels,
+  ap (λ (r : Contents). r.waiting) c.in-Stop.ensures.kept.0 ∙ c.turn.invariant.waiting,
+)
 
 pub returns-in-Accepts-clause-ended : goal.returns-in-Accepts-clause-ended
 returns-in-Accepts-clause-ended g c =
@@ -145,8 +170,10 @@ returns-in-Accepts-clause-ended g c =
     let end = execute code see most c.args.from c.args.bench.now.operands first in
     let i = c.index-instr.result.now in
     let q = fetched code see (IsUnchanged first) calls start most c.turn.at xs m end c.turn.invariant.runs i c.index-instr.ensures in
-    let moved = subst (λ (ls : List (Level Copy)). (Accepts c.in-Accepts.to (whole code.texts c.act.new.bench c.act.new.memory c.act.new.mails)) ≡ acted code (see_of c.args.sight.now ls) i c.turn.at xs m) c.turn.invariant.levels c.in-Accepts.ensures.moved in
-    over code see (IsUnchanged first) calls start most c.turn.at xs m end c.turn.invariant.runs i q (Accepts c.in-Accepts.to (whole code.texts c.act.new.bench c.act.new.memory c.act.new.mails)) moved tt
+    let moved = subst (λ (ls : List (Level Copy)). (Accepts c.in-Accepts.to (whole code.texts c.act.new.bench c.act.new.memory c.act.new.mails))
+    ≡ acted code (see_of c.args.sight.now ls) i c.turn.at xs m) c.turn.invariant.levels c.in-Accepts.ensures.moved in
+    over code see (IsUnchanged first) calls start most c.turn.at xs m end c.turn.invariant.runs i q
+    (Accepts c.in-Accepts.to (whole code.texts c.act.new.bench c.act.new.memory c.act.new.mails)) moved tt
 
 pub returns-in-Accepts-clause-kept : goal.returns-in-Accepts-clause-kept
 returns-in-Accepts-clause-kept g c =
@@ -161,9 +188,13 @@ returns-in-Accepts-clause-kept g c =
     let end = execute code see most c.args.from c.args.bench.now.operands first in
     let i = c.index-instr.result.now in
     let q = fetched code see (IsUnchanged first) calls start most c.turn.at xs m end c.turn.invariant.runs i c.index-instr.ensures in
-    let moved = subst (λ (ls : List (Level Copy)). (Accepts c.in-Accepts.to (whole code.texts c.act.new.bench c.act.new.memory c.act.new.mails)) ≡ acted code (see_of c.args.sight.now ls) i c.turn.at xs m) c.turn.invariant.levels c.in-Accepts.ensures.moved in
-    let none = unchanged code see (IsUnchanged first) calls start most c.turn.at xs m end c.turn.invariant.runs i q (Accepts c.in-Accepts.to (whole code.texts c.act.new.bench c.act.new.memory c.act.new.mails)) moved tt in (
-      c.in-Accepts.ensures.kept.0 ∙ same_contents c.args.memory.now c.turn.memory (pieces_in code.texts c.args.bench.now) (pieces_in code.texts c.turn.bench) c.args.bench.now.counters c.turn.bench.counters c.args.mails.now c.turn.mails none c.turn.invariant.levels c.turn.invariant.waiting,
+    let moved = subst (λ (ls : List (Level Copy)). (Accepts c.in-Accepts.to (whole code.texts c.act.new.bench c.act.new.memory c.act.new.mails))
+    ≡ acted code (see_of c.args.sight.now ls) i c.turn.at xs m) c.turn.invariant.levels c.in-Accepts.ensures.moved in
+    let none = unchanged code see (IsUnchanged first) calls start most c.turn.at xs m end c.turn.invariant.runs i q
+    (Accepts c.in-Accepts.to (whole code.texts c.act.new.bench c.act.new.memory c.act.new.mails)) moved tt in (
+      c.in-Accepts.ensures.kept.0
+          ∙ same_contents c.args.memory.now c.turn.memory (pieces_in code.texts c.args.bench.now)
+          (pieces_in code.texts c.turn.bench) c.args.bench.now.counters c.turn.bench.counters c.args.mails.now c.turn.mails none c.turn.invariant.levels c.turn.invariant.waiting,
       c.in-Accepts.ensures.kept.1 ∙ none.slots,
     )
 
@@ -180,7 +211,9 @@ returns-in-Trap-clause-ended g c =
     let end = execute code see most c.args.from c.args.bench.now.operands first in
     let i = c.index-instr.result.now in
     let q = fetched code see (IsUnchanged first) calls start most c.turn.at xs m end c.turn.invariant.runs i c.index-instr.ensures in
-    let moved = subst (λ (ls : List (Level Copy)). (Trapped c.in-Trap.cause) ≡ acted code (see_of c.args.sight.now ls) i c.turn.at xs m) c.turn.invariant.levels c.in-Trap.ensures.moved in
+    let moved = subst
+    (λ (ls : List (Level Copy)). (Trapped c.in-Trap.cause)
+    ≡ acted code (see_of c.args.sight.now ls) i c.turn.at xs m) c.turn.invariant.levels c.in-Trap.ensures.moved in
     over code see (IsUnchanged first) calls start most c.turn.at xs m end c.turn.invariant.runs i q (Trapped c.in-Trap.cause) moved tt
 
 pub returns-in-Trap-clause-kept : goal.returns-in-Trap-clause-kept
@@ -196,9 +229,14 @@ returns-in-Trap-clause-kept g c =
     let end = execute code see most c.args.from c.args.bench.now.operands first in
     let i = c.index-instr.result.now in
     let q = fetched code see (IsUnchanged first) calls start most c.turn.at xs m end c.turn.invariant.runs i c.index-instr.ensures in
-    let moved = subst (λ (ls : List (Level Copy)). (Trapped c.in-Trap.cause) ≡ acted code (see_of c.args.sight.now ls) i c.turn.at xs m) c.turn.invariant.levels c.in-Trap.ensures.moved in
-    let none = unchanged code see (IsUnchanged first) calls start most c.turn.at xs m end c.turn.invariant.runs i q (Trapped c.in-Trap.cause) moved tt in (
-      c.in-Trap.ensures.kept.0 ∙ same_contents c.args.memory.now c.turn.memory (pieces_in code.texts c.args.bench.now) (pieces_in code.texts c.turn.bench) c.args.bench.now.counters c.turn.bench.counters c.args.mails.now c.turn.mails none c.turn.invariant.levels c.turn.invariant.waiting,
+    let moved = subst
+    (λ (ls : List (Level Copy)). (Trapped c.in-Trap.cause)
+    ≡ acted code (see_of c.args.sight.now ls) i c.turn.at xs m) c.turn.invariant.levels c.in-Trap.ensures.moved in
+    let none = unchanged code see (IsUnchanged first) calls start most c.turn.at xs m end c.turn.invariant.runs i q
+    (Trapped c.in-Trap.cause) moved tt in (
+      c.in-Trap.ensures.kept.0
+          ∙ same_contents c.args.memory.now c.turn.memory (pieces_in code.texts c.args.bench.now)
+          (pieces_in code.texts c.turn.bench) c.args.bench.now.counters c.turn.bench.counters c.args.mails.now c.turn.mails none c.turn.invariant.levels c.turn.invariant.waiting,
       c.in-Trap.ensures.kept.1 ∙ none.slots,
     )
 
@@ -227,7 +265,12 @@ returns-in-Stop-clause-work g c =
     let end = execute code see most c.args.from c.args.bench.now.operands first in
     let i = c.index-instr.result.now in
     let q = fetched code see (IsUnchanged first) calls start most c.turn.at xs m end c.turn.invariant.runs i c.index-instr.ensures in
-    omega (arith, names_here code see (IsUnchanged first) calls start most c.turn.at xs m end c.turn.invariant.runs i q, c.in-Stop.ensures.work, c.turn.invariant.work)
+    omega (
+      arith,
+      names_here code see (IsUnchanged first) calls start most c.turn.at xs m end c.turn.invariant.runs i q,
+      c.in-Stop.ensures.work,
+      c.turn.invariant.work,
+    )
 
 pub returns-in-Accepts-clause-work : goal.returns-in-Accepts-clause-work
 returns-in-Accepts-clause-work g c =
@@ -242,7 +285,12 @@ returns-in-Accepts-clause-work g c =
     let end = execute code see most c.args.from c.args.bench.now.operands first in
     let i = c.index-instr.result.now in
     let q = fetched code see (IsUnchanged first) calls start most c.turn.at xs m end c.turn.invariant.runs i c.index-instr.ensures in
-    omega (arith, names_here code see (IsUnchanged first) calls start most c.turn.at xs m end c.turn.invariant.runs i q, c.in-Accepts.ensures.work, c.turn.invariant.work)
+    omega (
+      arith,
+      names_here code see (IsUnchanged first) calls start most c.turn.at xs m end c.turn.invariant.runs i q,
+      c.in-Accepts.ensures.work,
+      c.turn.invariant.work,
+    )
 
 pub returns-in-Trap-clause-work : goal.returns-in-Trap-clause-work
 returns-in-Trap-clause-work g c =
@@ -257,4 +305,9 @@ returns-in-Trap-clause-work g c =
     let end = execute code see most c.args.from c.args.bench.now.operands first in
     let i = c.index-instr.result.now in
     let q = fetched code see (IsUnchanged first) calls start most c.turn.at xs m end c.turn.invariant.runs i c.index-instr.ensures in
-    omega (arith, names_here code see (IsUnchanged first) calls start most c.turn.at xs m end c.turn.invariant.runs i q, c.in-Trap.ensures.work, c.turn.invariant.work)
+    omega (
+      arith,
+      names_here code see (IsUnchanged first) calls start most c.turn.at xs m end c.turn.invariant.runs i q,
+      c.in-Trap.ensures.work,
+      c.turn.invariant.work,
+    )

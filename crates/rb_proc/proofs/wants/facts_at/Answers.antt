@@ -21,10 +21,20 @@ returns-then-block-len c =
     let one = c.index-one.result.now in
     let there = mapped_there block c.args.code.now.blocks.items c.args.block one (omega arith) c.index-one.ensures in
     let count : c.len-then-block-len.result ≡ length one.alternates.items = search rules in
-    let facts : ℕ → Facts = λ (n : ℕ). record { number = c.args.block; line = one.line; conversation = one.conversation; bound = one.bound; alternates = n } in
-    let made : BlockFacts = record { number = c.args.block; line = one.line; conversation = one.conversation; bound = one.bound; alternates = c.len-then-block-len.result } in
+    let facts : ℕ → Facts =
+    λ (n : ℕ). record { number = c.args.block; line = one.line; conversation = one.conversation; bound = one.bound; alternates = n } in
+    let made : BlockFacts =
+    record {
+      number = c.args.block;
+      line = one.line;
+      conversation = one.conversation;
+      bound = one.bound;
+      alternates =
+          c.len-then-block-len.result;
+    } in
     subst (λ (o : Option Block). EntryIs (enters c.args.block o) (Some made)) (sym there) (ap facts count)
 
 pub returns-else-block-len : goal.returns-else-block-len
 returns-else-block-len c =
-    subst (λ (o : Option Block). EntryIs (enters c.args.block o) None) (sym (mapped_none block c.args.code.now.blocks.items c.args.block (omega arith))) tt
+    subst (λ (o : Option Block). EntryIs (enters c.args.block o) None)
+    (sym (mapped_none block c.args.code.now.blocks.items c.args.block (omega arith))) tt

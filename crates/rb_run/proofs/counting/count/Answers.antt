@@ -9,4 +9,8 @@ count_turns-requires-clause-waits g c = none_waits_first c.args.machine.now c.re
 
 pub returns-clause-work : goal.returns-clause-work
 returns-clause-work g c =
-    omega (arith, c.count_turns.ensures.work, work_first c.args.machine.now c.args.machine.now c.requires.fresh refl c.args.schedule.left c.args.schedule.all c.requires.whole)
+    omega (
+      arith,
+      c.count_turns.ensures.work,
+      work_first c.args.machine.now c.args.machine.now c.requires.fresh refl c.args.schedule.left c.args.schedule.all c.requires.whole,
+    )

@@ -14,7 +14,9 @@ invariant-turns g l = record {
   few : l.machine.taken + length l.schedule.left ≤ l.machine.most;
   led : ran l.machine l.schedule.left ≡ ran l.fn.machine l.fn.schedule.left;
   work : l.steps + work_left l.machine l.schedule.left ≤ l.fn.steps + work_left l.fn.machine l.fn.schedule.left;
-  text : Remains (turns_left (naming l.names) l.machine l.schedule.left) (turns_left (naming l.names) l.fn.machine l.fn.schedule.left) (g.S.Sink.written l.fn.out) (g.S.Sink.written l.out) (g.S.Sink.faults l.fn.out) (g.S.Sink.faults l.out);
+  text : Remains (turns_left (naming l.names) l.machine l.schedule.left)
+      (turns_left (naming l.names) l.fn.machine l.fn.schedule.left) (g.S.Sink.written l.fn.out) (g.S.Sink.written l.out)
+      (g.S.Sink.faults l.fn.out) (g.S.Sink.faults l.out);
 }
 
 abbrev pub decreases-turns : goal.decreases-turns

@@ -16,8 +16,16 @@ returns-in-Err-clause-erased g c = erased_over c.args.machine.now.code c.args.ma
 
 pub returns-in-Ok-clause-work : goal.returns-in-Ok-clause-work
 returns-in-Ok-clause-work g c =
-    omega (arith, c.take_unseen.ensures.work, work_first c.args.machine.now c.args.machine.now c.requires.fresh refl c.args.schedule.left c.args.schedule.all c.requires.whole)
+    omega (
+      arith,
+      c.take_unseen.ensures.work,
+      work_first c.args.machine.now c.args.machine.now c.requires.fresh refl c.args.schedule.left c.args.schedule.all c.requires.whole,
+    )
 
 pub returns-in-Err-clause-work : goal.returns-in-Err-clause-work
 returns-in-Err-clause-work g c =
-    omega (arith, c.take_unseen.ensures.work, work_first c.args.machine.now c.args.machine.now c.requires.fresh refl c.args.schedule.left c.args.schedule.all c.requires.whole)
+    omega (
+      arith,
+      c.take_unseen.ensures.work,
+      work_first c.args.machine.now c.args.machine.now c.requires.fresh refl c.args.schedule.left c.args.schedule.all c.requires.whole,
+    )

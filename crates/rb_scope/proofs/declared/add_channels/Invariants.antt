@@ -7,7 +7,8 @@ use Rattle.rb_scope.proofs.declared.add_channels.Given as goal
 -- those so far, and the others
 abbrev pub invariant-channels : goal.invariant-channels
 invariant-channels l =
-    all_held l.declared.items ++ channels_from l.number (map channel_declaration l.rest) ≡ all_held l.fn.declared.items ++ channels_from 0 (map channel_declaration l.fn.channels)
+    all_held l.declared.items ++ channels_from l.number (map channel_declaration l.rest)
+    ≡ all_held l.fn.declared.items ++ channels_from 0 (map channel_declaration l.fn.channels)
 
 abbrev pub decreases-channels : goal.decreases-channels
 decreases-channels l = length l.rest

@@ -7,7 +7,8 @@ use Rattle.rb_scope.proofs.declared.add_parameters.Given as goal
 -- those so far, and the others
 abbrev pub invariant-parameters : goal.invariant-parameters
 invariant-parameters l =
-    all_held l.declared.items ++ parameters_from l.at (map identifier l.rest) ≡ all_held l.fn.declared.items ++ parameters_from 0 (map identifier l.fn.parameters)
+    all_held l.declared.items ++ parameters_from l.at (map identifier l.rest)
+    ≡ all_held l.fn.declared.items ++ parameters_from 0 (map identifier l.fn.parameters)
 
 abbrev pub decreases-parameters : goal.decreases-parameters
 decreases-parameters l = length l.rest

@@ -7,7 +7,8 @@ use Rattle.rb_scope.proofs.declared.add_variables.Given as goal
 -- those so far, and the others
 abbrev pub invariant-variables : goal.invariant-variables
 invariant-variables l =
-    all_held l.declared.items ++ variables_from (slot_in l.kind) l.at (map declaration l.rest) ≡ all_held l.fn.declared.items ++ variables_from (slot_in l.kind) l.fn.first (map declaration l.fn.variables)
+    all_held l.declared.items ++ variables_from (slot_in l.kind) l.at (map declaration l.rest)
+    ≡ all_held l.fn.declared.items ++ variables_from (slot_in l.kind) l.fn.first (map declaration l.fn.variables)
 
 abbrev pub decreases-variables : goal.decreases-variables
 decreases-variables l = length l.rest

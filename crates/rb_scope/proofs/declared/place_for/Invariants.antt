@@ -7,7 +7,9 @@ use Rattle.rb_scope.proofs.declared.place_for.Given as goal
 -- none of those so far stands behind the place
 abbrev pub invariant-declared : goal.invariant-declared
 invariant-declared l =
-    (l.index + length l.rest ≡ length l.fn.declared) × (l.index + position_or_len (λ (other : Declared). is_before l.place other.name.place) l.rest ≡ position_or_len (λ (other : Declared). is_before l.place other.name.place) l.fn.declared)
+    (l.index + length l.rest ≡ length l.fn.declared)
+    × (l.index + position_or_len (λ (other : Declared). is_before l.place other.name.place) l.rest
+    ≡ position_or_len (λ (other : Declared). is_before l.place other.name.place) l.fn.declared)
 
 abbrev pub decreases-declared : goal.decreases-declared
 decreases-declared l = length l.rest

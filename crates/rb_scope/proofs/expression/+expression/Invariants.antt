@@ -8,4 +8,5 @@ use Rattle.rb_scope.proofs.expression.+expression.Given as goal
 -- what is found, and then behind the other operands
 abbrev pub invariant-visit_links-loop-link : goal.invariant-visit_links-loop-link
 invariant-visit_links-loop-link l =
-    visited l.finder (links_sites (spot_of l.spot) (links_of (drop l.link-index l.links))) ≡ visited l.fn.finder (links_sites (spot_of l.spot) (links_of l.links))
+    visited l.finder (links_sites (spot_of l.spot) (links_of (drop l.link-index l.links)))
+    ≡ visited l.fn.finder (links_sites (spot_of l.spot) (links_of l.links))

@@ -6,4 +6,6 @@ use Rattle.rb_scope.proofs.lists.count_channels.Goals as goal
 
 pub returns-then-channels-gt-MOST_CONNECTIONS : goal.returns-then-channels-gt-MOST_CONNECTIONS
 returns-then-channels-gt-MOST_CONNECTIONS c =
-    c.note.ensures ∙ sym (long_copy channel_declaration (λ (one : ChannelDeclaration). one.name.place) 64 c.args.finder.now c.args.channels.now _ c.if-channels-gt-MOST_CONNECTIONS.true)
+    c.note.ensures
+    ∙ sym (long_copy channel_declaration
+    (λ (one : ChannelDeclaration). one.name.place) 64 c.args.finder.now c.args.channels.now _ c.if-channels-gt-MOST_CONNECTIONS.true)

@@ -6,4 +6,6 @@ use Rattle.rb_scope.proofs.lists.count_parameters.Goals as goal
 
 pub returns-then-parameters-gt-MOST_PARAMETERS : goal.returns-then-parameters-gt-MOST_PARAMETERS
 returns-then-parameters-gt-MOST_PARAMETERS c =
-    c.note.ensures ∙ sym (long_copy identifier (λ (name : Identifier). name.place) 16 c.args.finder.now c.args.parameters.now _ c.if-parameters-gt-MOST_PARAMETERS.true)
+    c.note.ensures
+    ∙ sym (long_copy identifier
+    (λ (name : Identifier). name.place) 16 c.args.finder.now c.args.parameters.now _ c.if-parameters-gt-MOST_PARAMETERS.true)

@@ -9,5 +9,8 @@ use Rattle.rb_scope.proofs.lists.count_processes.Goals as goal
 pub returns-then-processes-most : goal.returns-then-processes-most
 returns-then-processes-most c =
     c.note.ensures
-    ∙ sym (long_copy process_declaration (λ (one : ProcessDeclaration). one.name.place) c.most_processes-most.result c.args.finder.now c.args.processes.now _ c.if-processes-most.true)
-    ∙ ap (λ n. visited c.args.finder.now (list_sites (λ (one : ProcessDeclaration). one.name.place) n 0 (map process_declaration c.args.processes.now))) c.most_processes-most.ensures
+    ∙ sym (long_copy process_declaration
+    (λ (one : ProcessDeclaration). one.name.place) c.most_processes-most.result c.args.finder.now c.args.processes.now _ c.if-processes-most.true)
+    ∙ ap (λ n. visited c.args.finder.now
+    (list_sites (λ (one : ProcessDeclaration). one.name.place) n 0
+    (map process_declaration c.args.processes.now))) c.most_processes-most.ensures

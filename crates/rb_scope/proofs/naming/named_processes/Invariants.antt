@@ -7,7 +7,8 @@ use Rattle.rb_scope.proofs.naming.named_processes.Given as goal
 -- those so far are named, and the others come after them
 abbrev pub invariant-processes : goal.invariant-processes
 invariant-processes l =
-    map process_naming l.named.items ++ map process_named (map process_declaration l.rest) ≡ map process_named (map process_declaration l.fn.processes)
+    map process_naming l.named.items ++ map process_named (map process_declaration l.rest)
+    ≡ map process_named (map process_declaration l.fn.processes)
 
 abbrev pub decreases-processes : goal.decreases-processes
 decreases-processes l = length l.rest

@@ -10,6 +10,7 @@ use Rattle.rb_scope.proofs.operands.visit_arguments.Goals as goal
 pub loop-argument-preserved : goal.loop-argument-preserved
 loop-argument-preserved c =
     let spot = spot_of c.args.spot.now in
-    step (λ arguments. flat_map (expression_sites spot) (map expression arguments)) (λ (argument : Expr). expression_sites spot (expression argument)) (λ x xs. refl)
+    step (λ arguments. flat_map (expression_sites spot) (map expression arguments))
+    (λ (argument : Expr). expression_sites spot (expression argument)) (λ x xs. refl)
     c.args.arguments.now c.loop-argument.argument-index c.argument-item.result c.argument-item.is c.loop-argument-test.true
     c.loop-argument.finder c.visit_expression.new.finder _ c.loop-argument.invariant c.in_ok-visit_expression.ensures

@@ -9,4 +9,5 @@ use Rattle.rb_scope.proofs.operands.visit_arguments.Given as goal
 -- what is found, and then behind the other arguments
 abbrev pub invariant-loop-argument : goal.invariant-loop-argument
 invariant-loop-argument l =
-    visited l.finder (flat_map (expression_sites (spot_of l.spot)) (map expression (drop l.argument-index l.arguments))) ≡ visited l.fn.finder (flat_map (expression_sites (spot_of l.spot)) (map expression l.arguments))
+    visited l.finder (flat_map (expression_sites (spot_of l.spot)) (map expression (drop l.argument-index l.arguments)))
+    ≡ visited l.fn.finder (flat_map (expression_sites (spot_of l.spot)) (map expression l.arguments))

@@ -10,4 +10,5 @@ use Rattle.rb_scope.proofs.operands.visit_items.Given as goal
 -- what is found, and then behind the other items
 abbrev pub invariant-loop-item : goal.invariant-loop-item
 invariant-loop-item l =
-    visited l.finder (flat_map (λ (item : PrintItem). printed_sites (spot_of l.spot) item.what) (map print_item (drop l.item-index l.items))) ≡ visited l.fn.finder (flat_map (λ (item : PrintItem). printed_sites (spot_of l.spot) item.what) (map print_item l.items))
+    visited l.finder (flat_map (λ (item : PrintItem). printed_sites (spot_of l.spot) item.what) (map print_item (drop l.item-index l.items)))
+    ≡ visited l.fn.finder (flat_map (λ (item : PrintItem). printed_sites (spot_of l.spot) item.what) (map print_item l.items))

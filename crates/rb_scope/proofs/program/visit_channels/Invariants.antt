@@ -9,7 +9,8 @@ use Rattle.rb_scope.proofs.program.visit_channels.Given as goal
 -- what is found, and then behind the others
 abbrev pub invariant-channels : goal.invariant-channels
 invariant-channels l =
-    visited l.finder (flat_map (channel_sites (spot_of l.spot)) (map channel_declaration l.rest)) ≡ visited l.fn.finder (flat_map (channel_sites (spot_of l.spot)) (map channel_declaration l.fn.all))
+    visited l.finder (flat_map (channel_sites (spot_of l.spot)) (map channel_declaration l.rest))
+    ≡ visited l.fn.finder (flat_map (channel_sites (spot_of l.spot)) (map channel_declaration l.fn.all))
 
 abbrev pub decreases-channels : goal.decreases-channels
 decreases-channels l = length l.rest

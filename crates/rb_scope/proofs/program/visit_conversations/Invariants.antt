@@ -9,4 +9,5 @@ use Rattle.rb_scope.proofs.program.visit_conversations.Given as goal
 -- what is found, and then behind the others
 abbrev pub invariant-loop-conversation : goal.invariant-loop-conversation
 invariant-loop-conversation l =
-    visited l.finder (flat_map (conversation_sites (spot_of l.spot)) (map conversation_declaration (drop l.conversation-index l.all))) ≡ visited l.fn.finder (flat_map (conversation_sites (spot_of l.spot)) (map conversation_declaration l.all))
+    visited l.finder (flat_map (conversation_sites (spot_of l.spot)) (map conversation_declaration (drop l.conversation-index l.all)))
+    ≡ visited l.fn.finder (flat_map (conversation_sites (spot_of l.spot)) (map conversation_declaration l.all))

@@ -8,4 +8,5 @@ use Rattle.rb_scope.proofs.program.visit_members.Given as goal
 -- what is found, and then behind the other members
 abbrev pub invariant-loop-name : goal.invariant-loop-name
 invariant-loop-name l =
-    visited l.finder (member_sites (spot_of l.spot) (map identifier (drop l.name-index l.members))) ≡ visited l.fn.finder (member_sites (spot_of l.spot) (map identifier l.members))
+    visited l.finder (member_sites (spot_of l.spot) (map identifier (drop l.name-index l.members)))
+    ≡ visited l.fn.finder (member_sites (spot_of l.spot) (map identifier l.members))

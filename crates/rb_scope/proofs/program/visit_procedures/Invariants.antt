@@ -9,4 +9,5 @@ use Rattle.rb_scope.proofs.program.visit_procedures.Given as goal
 -- what is found, and then behind the others
 abbrev pub invariant-loop-procedure : goal.invariant-loop-procedure
 invariant-loop-procedure l =
-    visited l.finder (flat_map (procedure_sites (spot_of l.spot)) (map procedure_declaration (drop l.procedure-index l.procedures))) ≡ visited l.fn.finder (flat_map (procedure_sites (spot_of l.spot)) (map procedure_declaration l.procedures))
+    visited l.finder (flat_map (procedure_sites (spot_of l.spot)) (map procedure_declaration (drop l.procedure-index l.procedures)))
+    ≡ visited l.fn.finder (flat_map (procedure_sites (spot_of l.spot)) (map procedure_declaration l.procedures))

@@ -9,4 +9,5 @@ use Rattle.rb_scope.proofs.program.visit_processes.Given as goal
 -- what is found, and then behind the others
 abbrev pub invariant-loop-process : goal.invariant-loop-process
 invariant-loop-process l =
-    visited l.finder (flat_map (process_sites l.edition (spot_of l.spot)) (map process_declaration (drop l.process-index l.processes))) ≡ visited l.fn.finder (flat_map (process_sites l.edition (spot_of l.spot)) (map process_declaration l.processes))
+    visited l.finder (flat_map (process_sites l.edition (spot_of l.spot)) (map process_declaration (drop l.process-index l.processes)))
+    ≡ visited l.fn.finder (flat_map (process_sites l.edition (spot_of l.spot)) (map process_declaration l.processes))

@@ -19,6 +19,11 @@ returns c = λ one e.
     let found : c.give.new.self ≡ visit c.args.finder.now (Declares earlier there) =
     c.give.ensures
     ∙ ap (λ (s : Found). record s { slots = slice_set s.slots there.name.id there.slot }) c.note.ensures
-    ∙ ap (λ b. record c.args.finder.now { first = first_after c.args.finder.now.first (where_broken b S2 there.name.place); slots = slice_set c.args.finder.now.slots there.name.id there.slot }) known
+    ∙ ap (λ b. record c.args.finder.now {
+      first =
+          first_after c.args.finder.now.first (where_broken b S2 there.name.place);
+      slots =
+          slice_set c.args.finder.now.slots there.name.id there.slot;
+    }) known
     in
     found ∙ ap (λ d. visit c.args.finder.now (Declares earlier d)) (same there one (sym c.at-one.ensures ∙ e))

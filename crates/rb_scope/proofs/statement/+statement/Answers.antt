@@ -10,7 +10,8 @@ use Rattle.rb_scope.proofs.statement.+statement.Goals as goal
 pub visit_statements-loop-statement-preserved : goal.visit_statements-loop-statement-preserved
 visit_statements-loop-statement-preserved t c =
     let spot = spot_of c.args.spot.now in
-    step (λ statements. commands_sites spot (commands_of statements)) (λ (statement : Statement). command_sites spot (command statement)) (λ x xs. refl)
+    step (λ statements. commands_sites spot (commands_of statements))
+    (λ (statement : Statement). command_sites spot (command statement)) (λ x xs. refl)
     c.args.statements.now c.loop-statement.statement-index c.statement-item.result c.statement-item.is c.loop-statement-test.true
     c.loop-statement.finder c.visit_statement.new.finder _ c.loop-statement.invariant c.in_ok-visit_statement.ensures
 

@@ -9,7 +9,8 @@ use Rattle.rb_scope.proofs.variables.visit_sizes.Given as goal
 -- what is found, and then behind the other variables
 abbrev pub invariant-variables : goal.invariant-variables
 invariant-variables l =
-    visited l.finder (flat_map (λ (one : Declaration). size_sites one.size) (map declaration l.rest)) ≡ visited l.fn.finder (flat_map (λ (one : Declaration). size_sites one.size) (map declaration l.fn.variables))
+    visited l.finder (flat_map (λ (one : Declaration). size_sites one.size) (map declaration l.rest))
+    ≡ visited l.fn.finder (flat_map (λ (one : Declaration). size_sites one.size) (map declaration l.fn.variables))
 
 abbrev pub decreases-variables : goal.decreases-variables
 decreases-variables l = length l.rest

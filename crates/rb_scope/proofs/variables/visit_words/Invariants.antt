@@ -7,7 +7,8 @@ use Rattle.rb_scope.proofs.variables.visit_words.Given as goal
 -- what is found, and then behind the other variables
 abbrev pub invariant-variables : goal.invariant-variables
 invariant-variables l =
-    visited l.finder (words_sites l.most l.before (map declaration l.rest)) ≡ visited l.fn.finder (words_sites l.most 0 (map declaration l.fn.variables))
+    visited l.finder (words_sites l.most l.before (map declaration l.rest))
+    ≡ visited l.fn.finder (words_sites l.most 0 (map declaration l.fn.variables))
 
 abbrev pub decreases-variables : goal.decreases-variables
 decreases-variables l = length l.rest

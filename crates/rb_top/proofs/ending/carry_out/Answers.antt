@@ -9,7 +9,8 @@ use Rattle.rb_top.proofs.ending.carry_out.Goals as goal
 
 pub returns-in_default-clause-ends : goal.returns-in_default-clause-ends
 returns-in_default-clause-ends g c =
-    ends_without_memory (request_of c.args.words.now) (g.F.Shelf.files c.args.shelf.now) (g.F.Shelf.files c.args.shelf.now) (g.F.Shelf.starts c.args.shelf.now)
+    ends_without_memory (request_of c.args.words.now) (g.F.Shelf.files c.args.shelf.now) (g.F.Shelf.files c.args.shelf.now)
+    (g.F.Shelf.starts c.args.shelf.now)
     (g.F.Shelf.faults c.args.shelf.now) (g.S.Sink.faults c.args.out) (g.S.Sink.written c.args.out) c.number.result c.number.ensures refl
 
 pub returns-clause-ends : goal.returns-clause-ends
@@ -30,18 +31,34 @@ returns-clause-ends g c =
       written = told;
       write_faults = record { count = before_faults.count; failed_last = before.failed && before_faults.failed_last };
     } in
-    let old : Scene = record { files = files; starts = starts; read_faults = reads; written = g.S.Sink.written c.args.out; write_faults = went_well (g.S.Sink.faults c.args.out) } in
+    let old : Scene =
+    record {
+      files = files;
+      starts = starts;
+      read_faults = reads;
+      written = g.S.Sink.written c.args.out;
+      write_faults =
+          went_well (g.S.Sink.faults c.args.out);
+    } in
     let bytes : then_written (g.S.Sink.written first.sink) (drop first.passed_on first.bytes.items) ≡ g.S.Sink.written c.args.out =
-    ap (then_written (g.S.Sink.written first.sink)) c.over-buffered.ensures.waits ∙ then_written-nil (g.S.Sink.written first.sink) ∙ ap (λ s. g.S.Sink.written s) c.over-buffered.ensures.sink in
-    let faults : record { count = (g.S.Sink.faults first.sink).count; failed_last = first.failed && (g.S.Sink.faults first.sink).failed_last } ≡ went_well (g.S.Sink.faults c.args.out) =
-    ap (λ b. record { count = (g.S.Sink.faults first.sink).count; failed_last = b && (g.S.Sink.faults first.sink).failed_last }) c.over-buffered.ensures.well
+    ap (then_written (g.S.Sink.written first.sink)) c.over-buffered.ensures.waits
+    ∙ then_written-nil (g.S.Sink.written first.sink) ∙ ap (λ s. g.S.Sink.written s) c.over-buffered.ensures.sink in
+    let faults : record { count = (g.S.Sink.faults first.sink).count; failed_last = first.failed && (g.S.Sink.faults first.sink).failed_last }
+    ≡ went_well (g.S.Sink.faults c.args.out) =
+    ap (λ b. record {
+      count = (g.S.Sink.faults first.sink).count;
+      failed_last =
+          b && (g.S.Sink.faults first.sink).failed_last;
+    }) c.over-buffered.ensures.well
     ∙ ap (λ s. went_well (g.S.Sink.faults s)) c.over-buffered.ensures.sink in
     let answers = begins_empty (request_of c.args.words.now) files starts reads _ (g.S.Sink.faults c.args.out) _ (g.S.Sink.written c.args.out) mid
     c.command-status.result bytes faults c.command-status.ensures.answers in
     let ends = ends_behind files starts reads (g.S.Sink.written c.args.out) (g.S.Sink.faults c.args.out) c.requires
     (g.F.Shelf.files shelf) (g.F.Shelf.starts shelf) (g.F.Shelf.faults shelf) told (g.S.Sink.written before.sink) (g.S.Sink.written after.sink)
-    (drop before.passed_on before.bytes.items) (drop after.passed_on after.bytes.items) before.failed (g.S.Sink.faults before.sink) (g.S.Sink.faults after.sink)
-    refl (sym c.finish-ended.ensures.waits) (request_of c.args.words.now) c.command-status.result c.finish-ended.result c.number-2.result c.number-2.ensures answers c.finish-ended.ensures.finishes in
+    (drop before.passed_on before.bytes.items) (drop after.passed_on after.bytes.items) before.failed
+    (g.S.Sink.faults before.sink) (g.S.Sink.faults after.sink)
+    refl (sym c.finish-ended.ensures.waits)
+    (request_of c.args.words.now) c.command-status.result c.finish-ended.result c.number-2.result c.number-2.ensures answers c.finish-ended.ensures.finishes in
     subst (λ s. EndsWithNumber (request_of c.args.words.now) old (record {
       files = g.F.Shelf.files shelf;
       starts = g.F.Shelf.starts shelf;

@@ -13,9 +13,12 @@ use Rattle.rb_top.proofs.over.over_files.Goals as goal
 pub over_source-requires : goal.over_source-requires
 over_source-requires g c =
     let mid = g.F.Shelf.starts c.read_file.new.shelf in
-    let was = read_again (g.F.Shelf.files c.args.shelf.now) c.args.source.now c.in-Ok.bytes.items MOST_BYTES (g.F.Shelf.starts c.args.shelf.now) mid c.in-Ok.ensures.ok in
+    let was = read_again (g.F.Shelf.files c.args.shelf.now) c.args.source.now c.in-Ok.bytes.items MOST_BYTES
+    (g.F.Shelf.starts c.args.shelf.now) mid c.in-Ok.ensures.ok in
     rw (c.as_slice.ensures.value)
-    (subst (λ (files : Option (List File)). WasReadIn files c.args.source.now MOST_BYTES c.in-Ok.bytes.items (drop 1 mid) mid) (sym c.in-Ok.ensures.files) was)
+    (subst
+    (λ (files : Option (List File)). WasReadIn files c.args.source.now MOST_BYTES c.in-Ok.bytes.items (drop 1 mid) mid)
+    (sym c.in-Ok.ensures.files) was)
 
 pub returns-in-Ok-clause-answers : goal.returns-in-Ok-clause-answers
 returns-in-Ok-clause-answers g c =
@@ -48,6 +51,8 @@ returns-in-Err-clause-answers g c =
     let request = request_for c.args.product c.args.source.now c.args.schedule.now in
     let starts = g.F.Shelf.starts c.args.shelf.now in
     rw c.status.ensures
-    (unread_ends files (g.F.Shelf.files c.read_file.new.shelf) request [] (text_named c.args.source.now) (text_named c.args.schedule.now ∷ []) starts starts (g.F.Shelf.starts c.read_file.new.shelf)
-    c.in-Err.unread (g.F.Shelf.faults c.args.shelf.now) (g.F.Shelf.faults c.read_file.new.shelf) (g.S.Sink.faults c.args.out.now) (g.S.Sink.written c.args.out.now)
+    (unread_ends files (g.F.Shelf.files c.read_file.new.shelf) request [] (text_named c.args.source.now)
+    (text_named c.args.schedule.now ∷ []) starts starts (g.F.Shelf.starts c.read_file.new.shelf)
+    c.in-Err.unread (g.F.Shelf.faults c.args.shelf.now) (g.F.Shelf.faults c.read_file.new.shelf)
+    (g.S.Sink.faults c.args.out.now) (g.S.Sink.written c.args.out.now)
     (nothing_read files request starts) (judges_for c.args.product [] ReadsOn at_first) c.in-Err.ensures.err)

@@ -25,7 +25,8 @@ returns-in-Ok g c =
     let all = ap (λ s. s.all) listed.2 in
     let text = word_text_for c.args.product (code prepared.code) (memberships (opening prepared.nested)) c.in-Ok.schedule.all in
     stage_as (λ judgement. judgement ≡ Writes text)
-    (EndsForSchedule text_of prepared c.args.bytes.now) _ _ (g.S.Sink.faults c.args.out.now) (g.S.Sink.faults c.over_turns.new.out) c.over_turns.result
+    (EndsForSchedule text_of prepared c.args.bytes.now) _ _ (g.S.Sink.faults c.args.out.now)
+    (g.S.Sink.faults c.over_turns.new.out) c.over_turns.result
     (ends_written text_of prepared c.args.bytes.now c.if-bytes-gt-MOST_BYTES.false listed.0 c.in-Ok.schedule.all listed.1 all text
     (λ source accepted. texts_as_meant source prepared accepted c.args.product c.in-Ok.schedule.all)) c.over_turns.ensures
 

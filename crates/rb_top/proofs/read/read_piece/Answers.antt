@@ -10,4 +10,5 @@ returns-in-Ok-extend_from_slice-clause-ok g c =
 pub returns-in-Err-extend_from_slice-clause-stays : goal.returns-in-Err-extend_from_slice-clause-stays
 returns-in-Err-extend_from_slice-clause-stays g c =
     let small : c.in-Ok.n ≤ piece_bytes = search rules in
-    passed_on (g.F.Shelf.files c.args.shelf.now) (g.F.Shelf.starts c.args.shelf.now) (g.F.Shelf.starts c.piece.new.self) c.piece.new.buffer c.args.bytes.now.items c.in-Ok.n c.in-Ok.ensures.ok small
+    passed_on (g.F.Shelf.files c.args.shelf.now) (g.F.Shelf.starts c.args.shelf.now)
+    (g.F.Shelf.starts c.piece.new.self) c.piece.new.buffer c.args.bytes.now.items c.in-Ok.n c.in-Ok.ensures.ok small

@@ -8,6 +8,7 @@ pub loop-word-preserved : goal.loop-word-preserved
 loop-word-preserved c = record {
   app = let rule : rule_of c.required.result ≡ required_word c.new.result.id.now = search rules in
       c.in_ok-command.ensures.shape (search rules)
-      ∙ ap₂ with_rule c.loop-word.invariant.app rule ∙ command_more c.args.name.now c.args.words.now c.loop-word.word-index c.new.result.id c.loop-word-test.true (search rules);
+      ∙ ap₂ with_rule c.loop-word.invariant.app rule
+      ∙ command_more c.args.name.now c.args.words.now c.loop-word.word-index c.new.result.id c.loop-word-test.true (search rules);
   local = let h = c.in_ok-command.ensures.globals in search rules;
 }

@@ -10,7 +10,9 @@ use Rattle.rb_top.proofs.request.requested.Goals as goal
 
 pub returns-then-not-are_plain : goal.returns-then-not-are_plain
 returns-then-not-are_plain c =
-    asks_none c.args.words.now (ap (list_all is_plain_word) (sym c.list-words.ensures) ∙ list_all-map is_plain_word _ c.list-words.result.now ∙ sym c.if-not-are_plain.ensures)
+    asks_none c.args.words.now
+    (ap (list_all is_plain_word) (sym c.list-words.ensures) ∙ list_all-map is_plain_word _ c.list-words.result.now
+    ∙ sym c.if-not-are_plain.ensures)
 
 pub returns-in-Ok : goal.returns-in-Ok
 returns-in-Ok c =

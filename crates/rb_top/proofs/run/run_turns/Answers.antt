@@ -23,7 +23,8 @@ run-requires-clause-named g c = ap (λ (m : Seen). m.code.names) (sym c.in-Ok.en
 pub run-requires-clause-fit : goal.run-requires-clause-fit
 run-requires-clause-fit g c =
     let prepared = c.args.prepared.now in
-    subst (λ (m : Seen). NamesFit m.code prepared.code.names) (sym c.in-Ok.ensures) (code_names_fit c.requires.prepared.0 prepared c.requires.prepared.1)
+    subst (λ (m : Seen). NamesFit m.code prepared.code.names) (sym c.in-Ok.ensures)
+    (code_names_fit c.requires.prepared.0 prepared c.requires.prepared.1)
 
 pub returns-in-Ok : goal.returns-in-Ok
 returns-in-Ok g c =

@@ -6,6 +6,7 @@ use Rattle.rb_top.proofs.source.refused_source.Goals as goal
 
 pub returns-in-Fault : goal.returns-in-Fault
 returns-in-Fault g c =
-    line_ends (EndsForSource c.args.bytes.now) _ c.status_after.result _ _ _ (g.S.Sink.faults c.args.out.now) (g.S.Sink.faults c.refuse_source.new.out)
+    line_ends (EndsForSource c.args.bytes.now) _ c.status_after.result _ _ _ (g.S.Sink.faults c.args.out.now)
+    (g.S.Sink.faults c.refuse_source.new.out)
     c.refuse_source.ensures c.status_after.ensures
     (bad_source c.in-Fault.fault c.requires.short (rw c.in-Fault.is at c.requires.refused) refl)

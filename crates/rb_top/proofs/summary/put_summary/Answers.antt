@@ -29,9 +29,11 @@ returns-in_err-put_processes g c =
     let n = c.args.number in
     let counted = counts c.args.counted in
     let r = c.from_residual-in_err-put_processes in
-    puts_both (numbered (codes "trial") n) (from_processes n c.args.turns counted) _ _ _ _ _ _ c.in_ok-put_number.field-0 r.result c.in_ok-put_number.ensures
+    puts_both (numbered (codes "trial") n)
+    (from_processes n c.args.turns counted) _ _ _ _ _ _ c.in_ok-put_number.field-0 r.result c.in_ok-put_number.ensures
     (puts_stopped_at (numbered (codes "processes") (processes_of n)) (from_turns c.args.turns counted)
-    (g.S.Sink.written c.put_number.new.out) (g.S.Sink.written c.put_processes.new.out) (g.S.Sink.faults c.put_number.new.out) (g.S.Sink.faults c.put_processes.new.out)
+    (g.S.Sink.written c.put_number.new.out) (g.S.Sink.written c.put_processes.new.out)
+    (g.S.Sink.faults c.put_number.new.out) (g.S.Sink.faults c.put_processes.new.out)
     c.in_err-put_processes.field-0.0 r.result r.ensures.0 c.in_err-put_processes.ensures)
 
 pub returns-in_err-put_turns : goal.returns-in_err-put_turns
@@ -39,16 +41,22 @@ returns-in_err-put_turns g c =
     let n = c.args.number in
     let counted = counts c.args.counted in
     let r = c.from_residual-in_err-put_turns in
-    puts_both (numbered (codes "trial") n) (from_processes n c.args.turns counted) _ _ _ _ _ _ c.in_ok-put_number.field-0 r.result c.in_ok-put_number.ensures
-    (puts_both (numbered (codes "processes") (processes_of n)) (from_turns c.args.turns counted) _ _ _ _ _ _ c.in_ok-put_processes.field-0 r.result c.in_ok-put_processes.ensures
+    puts_both (numbered (codes "trial") n)
+    (from_processes n c.args.turns counted) _ _ _ _ _ _ c.in_ok-put_number.field-0 r.result c.in_ok-put_number.ensures
+    (puts_both (numbered (codes "processes") (processes_of n))
+    (from_turns c.args.turns counted) _ _ _ _ _ _ c.in_ok-put_processes.field-0 r.result c.in_ok-put_processes.ensures
     (puts_stopped_at (numbered (codes "turns") c.args.turns) (counts_line counted)
-    (g.S.Sink.written c.put_processes.new.out) (g.S.Sink.written c.put_turns.new.out) (g.S.Sink.faults c.put_processes.new.out) (g.S.Sink.faults c.put_turns.new.out)
+    (g.S.Sink.written c.put_processes.new.out) (g.S.Sink.written c.put_turns.new.out)
+    (g.S.Sink.faults c.put_processes.new.out) (g.S.Sink.faults c.put_turns.new.out)
     c.in_err-put_turns.field-0.0 r.result r.ensures.0 c.in_err-put_turns.ensures))
 
 pub returns : goal.returns
 returns g c =
     let n = c.args.number in
     let counted = counts c.args.counted in
-    puts_both (numbered (codes "trial") n) (from_processes n c.args.turns counted) _ _ _ _ _ _ c.in_ok-put_number.field-0 c.put_counts.result c.in_ok-put_number.ensures
-    (puts_both (numbered (codes "processes") (processes_of n)) (from_turns c.args.turns counted) _ _ _ _ _ _ c.in_ok-put_processes.field-0 c.put_counts.result c.in_ok-put_processes.ensures
-    (puts_both (numbered (codes "turns") c.args.turns) (counts_line counted) _ _ _ _ _ _ c.in_ok-put_turns.field-0 c.put_counts.result c.in_ok-put_turns.ensures c.put_counts.ensures))
+    puts_both (numbered (codes "trial") n)
+    (from_processes n c.args.turns counted) _ _ _ _ _ _ c.in_ok-put_number.field-0 c.put_counts.result c.in_ok-put_number.ensures
+    (puts_both (numbered (codes "processes") (processes_of n))
+    (from_turns c.args.turns counted) _ _ _ _ _ _ c.in_ok-put_processes.field-0 c.put_counts.result c.in_ok-put_processes.ensures
+    (puts_both (numbered (codes "turns") c.args.turns)
+    (counts_line counted) _ _ _ _ _ _ c.in_ok-put_turns.field-0 c.put_counts.result c.in_ok-put_turns.ensures c.put_counts.ensures))

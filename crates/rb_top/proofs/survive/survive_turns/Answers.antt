@@ -27,7 +27,11 @@ returns-in-Ok g c =
     let turns = c.args.schedule.all in
     let machine = c.in-Ok.machine in
     let text = λ (m : Seen). record_text m.code.names (word_survivors (word_run m.code m.groups turns).0) in
-    survival_ends (λ judgement. judgement ≡ Writes (text (opening_seen (code prepared.code) (memberships (opening prepared.nested)) machine.most))) c.survive.result c.status_of.result (text machine)
+    survival_ends
+    (λ judgement. judgement
+    ≡ Writes (text
+    (opening_seen (code prepared.code) (memberships (opening prepared.nested)) machine.most))) c.survive.result c.status_of.result
+    (text machine)
     (g.S.Sink.written c.args.out.now) (g.S.Sink.written c.survive.new.out) (g.S.Sink.faults c.args.out.now) (g.S.Sink.faults c.survive.new.out)
     c.survive.ensures.text c.status_of.ensures
     (ap (λ (m : Seen). Writes (text m)) c.in-Ok.ensures)

@@ -31,4 +31,5 @@ returns-in-Some-clause-complete g c =
       write_faults = g.S.Sink.faults c.answer.new.out;
     } in
     let given : request_of c.args.words.now ≡ Some request = c.in-Ok.ensures ∙ ap (option_map asked) c.in-Some.is in
-    subst (λ (r : Option Request). IsComplete r old new c.answer.result) (sym given) (completed request old new c.answer.result c.answer.ensures.answers)
+    subst (λ (r : Option Request). IsComplete r old new c.answer.result) (sym given)
+    (completed request old new c.answer.result c.answer.ensures.answers)

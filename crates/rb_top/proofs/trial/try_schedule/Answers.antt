@@ -19,12 +19,14 @@ returns-in-Ok g c =
     let turns = c.in-Ok.schedule.all in
     let text = summary_of n (length turns) (word_counts (code prepared.code) (memberships (opening prepared.nested)) turns) in
     stage_as (λ judgement. judgement ≡ Writes text)
-    (EndsForSchedule (summary_text n) prepared c.args.bytes.now) _ _ (g.S.Sink.faults c.args.out.now) (g.S.Sink.faults c.try_turns.new.out) c.try_turns.result
+    (EndsForSchedule (summary_text n) prepared c.args.bytes.now) _ _ (g.S.Sink.faults c.args.out.now)
+    (g.S.Sink.faults c.try_turns.new.out) c.try_turns.result
     (ends_written (summary_text n) prepared c.args.bytes.now c.requires.short listed.0 turns listed.1 all text
     (λ source accepted. ap (summary_of n (length turns)) (counts_as_meant source prepared accepted turns))) c.try_turns.ensures
 
 pub returns-in-Err : goal.returns-in-Err
 returns-in-Err g c =
-    line_ends (EndsForSchedule (summary_text c.args.number) c.args.prepared.now c.args.bytes.now) _ c.status_after.result (text_line c.in-Err.fault) _ _
+    line_ends (EndsForSchedule (summary_text c.args.number) c.args.prepared.now c.args.bytes.now) _ c.status_after.result
+    (text_line c.in-Err.fault) _ _
     (g.S.Sink.faults c.args.out.now) (g.S.Sink.faults c.refuse_text.new.out) c.refuse_text.ensures c.status_after.ensures
     (ends_refused (summary_text c.args.number) c.args.prepared.now c.args.bytes.now c.requires.short c.in-Err.fault c.in-Err.ensures.turns)

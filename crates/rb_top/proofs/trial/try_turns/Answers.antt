@@ -26,6 +26,7 @@ returns-in-Ok g c =
     c.count-counts.ensures.counts ∙ ap (λ (m : Seen). word_counts m.code m.groups turns) c.in-Ok.ensures in
     let text = summary_of n (length turns) (word_counts (code prepared.code) (memberships (opening prepared.nested)) turns) in
     text_ends (λ judgement. judgement ≡ Writes text) _ c.status_after.result _
-    (g.S.Sink.written c.args.out.now) (g.S.Sink.written c.put_summary.new.out) (g.S.Sink.faults c.args.out.now) (g.S.Sink.faults c.put_summary.new.out)
+    (g.S.Sink.written c.args.out.now) (g.S.Sink.written c.put_summary.new.out) (g.S.Sink.faults c.args.out.now)
+    (g.S.Sink.faults c.put_summary.new.out)
     c.put_summary.ensures c.status_after.ensures
     (ap₂ (λ (k : ℕ) (m : Counted). Writes (summary_of n k m)) c.turns-turns.ensures.all counted)

@@ -5,7 +5,12 @@ use Rattle.rb_trace.specs.Lines.{spaced}
 use Rattle.rb_trace.proofs.ending.put_numbers.Goals as goal
 
 pub returns : goal.returns
-returns g c = puts_both (codes " =") (spaced (map signed_decimal c.args.values.now) ++ 10 ∷ []) _ _ _ _ _ _ _ _ c.in_ok-put.ensures c.put_values_line.ensures
+returns g c =
+    puts_both (codes " =")
+    (spaced (map signed_decimal c.args.values.now) ++ 10 ∷ []) _ _ _ _ _ _ _ _ c.in_ok-put.ensures c.put_values_line.ensures
 
 pub returns-in_err-put : goal.returns-in_err-put
-returns-in_err-put g c = puts_stopped_at (codes " =") (spaced (map signed_decimal c.args.values.now) ++ 10 ∷ []) _ _ _ _ _ c.from_residual.result c.from_residual.ensures.0 c.in_err-put.ensures
+returns-in_err-put g c =
+    puts_stopped_at (codes " =")
+    (spaced (map signed_decimal c.args.values.now) ++ 10
+    ∷ []) _ _ _ _ _ c.from_residual.result c.from_residual.ensures.0 c.in_err-put.ensures

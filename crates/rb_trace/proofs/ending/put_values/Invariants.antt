@@ -10,4 +10,5 @@ use Rattle.rb_trace.proofs.ending.put_values.Given as goal
 abbrev pub invariant-loop-value : goal.invariant-loop-value
 invariant-loop-value g l =
     let each : ℤ → List ℕ = λ value. spaced_word (signed_decimal value) in
-    Puts {T = Unit {0}} {E = Failed} (flat_map each (take l.value-index l.values)) (g.S.Sink.written l.initial.out) (g.S.Sink.written l.out) (g.S.Sink.faults l.initial.out) (g.S.Sink.faults l.out) (Ok tt)
+    Puts {T = Unit {0}} {E = Failed} (flat_map each (take l.value-index l.values)) (g.S.Sink.written l.initial.out)
+    (g.S.Sink.written l.out) (g.S.Sink.faults l.initial.out) (g.S.Sink.faults l.out) (Ok tt)

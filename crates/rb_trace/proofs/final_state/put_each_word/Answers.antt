@@ -15,7 +15,8 @@ pub loop-k-preserved : goal.loop-k-preserved
 loop-k-preserved g c =
     let words = belonging (g.M.Final.words c.args.end.now) c.args.p in
     let next = word_next words c.args.at c.args.size c.loop-k.k c.word.result c.requires.within c.loop-k-test.true c.word.ensures.value in (
-      written_more _ _ (32 ∷ signed_decimal c.word.result) (spaced (map signed_decimal (drop (c.loop-k.k + 1) (take c.args.size (drop c.args.at words))))) _ _ _ _ _ _ c.loop-k.invariant.0 next
+      written_more _ _ (32 ∷ signed_decimal c.word.result)
+          (spaced (map signed_decimal (drop (c.loop-k.k + 1) (take c.args.size (drop c.args.at words))))) _ _ _ _ _ _ c.loop-k.invariant.0 next
           (puts_same _ _ _ _ _ _ _ (ap (λ (z : ℤ). 32 ∷ signed_decimal z) (to_z-of_z w64 c.word.result (search rules))) c.in_ok-put_value.ensures),
       omega (arith, c.loop-k.invariant.1, c.word.ensures.work.1),
     )
@@ -24,11 +25,17 @@ pub returns-in_err-put_value-clause-text : goal.returns-in_err-put_value-clause-
 returns-in_err-put_value-clause-text g c =
     let words = belonging (g.M.Final.words c.args.end.now) c.args.p in
     let next = word_next words c.args.at c.args.size c.loop-k.k c.word.result c.requires.within c.loop-k-test.true c.word.ensures.value in
-    written_part _ _ (32 ∷ signed_decimal c.word.result) (spaced (map signed_decimal (drop (c.loop-k.k + 1) (take c.args.size (drop c.args.at words))))) _ _ _ _ _ _ _ c.from_residual.result c.loop-k.invariant.0 next
-    (puts_same _ _ _ _ _ _ _ (ap (λ (z : ℤ). 32 ∷ signed_decimal z) (to_z-of_z w64 c.word.result (search rules))) c.in_err-put_value.ensures) c.from_residual.ensures.0
+    written_part _ _ (32 ∷ signed_decimal c.word.result)
+    (spaced (map signed_decimal
+    (drop (c.loop-k.k + 1) (take c.args.size (drop c.args.at words))))) _ _ _ _ _ _ _ c.from_residual.result c.loop-k.invariant.0 next
+    (puts_same _ _ _ _ _ _ _
+    (ap (λ (z : ℤ). 32 ∷ signed_decimal z)
+    (to_z-of_z w64 c.word.result (search rules))) c.in_err-put_value.ensures) c.from_residual.ensures.0
 
 pub returns-clause-text : goal.returns-clause-text
-returns-clause-text g c = written_all _ _ _ _ _ _ c.loop-k.invariant.0 (no_word (belonging (g.M.Final.words c.args.end.now) c.args.p) c.args.at c.args.size c.loop-k.k c.loop-k-test.false)
+returns-clause-text g c =
+    written_all _ _ _ _ _ _ c.loop-k.invariant.0
+    (no_word (belonging (g.M.Final.words c.args.end.now) c.args.p) c.args.at c.args.size c.loop-k.k c.loop-k-test.false)
 
 pub returns-in_err-put_value-clause-work : goal.returns-in_err-put_value-clause-work
 returns-in_err-put_value-clause-work g c = omega (arith, c.loop-k.invariant.1, c.word.ensures.work.1, c.loop-k-test.true)

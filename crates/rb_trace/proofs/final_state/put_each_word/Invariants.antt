@@ -9,5 +9,6 @@ use Rattle.rb_trace.proofs.final_state.put_each_word.Given as goal
 abbrev pub invariant-loop-k : goal.invariant-loop-k
 invariant-loop-k g l =
     let own = take l.size (drop l.at (belonging (g.M.Final.words l.end) l.p)) in
-    Written (spaced (map signed_decimal own)) (spaced (map signed_decimal (drop l.k own))) (g.S.Sink.written l.initial.out) (g.S.Sink.written l.out) (g.S.Sink.faults l.initial.out) (g.S.Sink.faults l.out)
+    Written (spaced (map signed_decimal own)) (spaced (map signed_decimal (drop l.k own))) (g.S.Sink.written l.initial.out)
+    (g.S.Sink.written l.out) (g.S.Sink.faults l.initial.out) (g.S.Sink.faults l.out)
     × (l.steps ≤ l.initial.steps + l.k)

@@ -7,8 +7,12 @@ use Rattle.rb_trace.proofs.final_state.put_words.Goals as goal
 
 pub returns-in_err-put-clause-text : goal.returns-in_err-put-clause-text
 returns-in_err-put-clause-text g c =
-    puts_stopped_at (codes " =") (spaced (map signed_decimal (take c.args.size (drop c.args.at (belonging (g.M.Final.words c.args.end.now) c.args.p)))) ++ 10 ∷ []) _ _ _ _ _ c.from_residual.result c.from_residual.ensures.0 c.in_err-put.ensures
+    puts_stopped_at (codes " =")
+    (spaced (map signed_decimal (take c.args.size (drop c.args.at (belonging (g.M.Final.words c.args.end.now) c.args.p))))
+    ++ 10 ∷ []) _ _ _ _ _ c.from_residual.result c.from_residual.ensures.0 c.in_err-put.ensures
 
 pub returns-clause-text : goal.returns-clause-text
 returns-clause-text g c =
-    puts_both (codes " =") (spaced (map signed_decimal (take c.args.size (drop c.args.at (belonging (g.M.Final.words c.args.end.now) c.args.p)))) ++ 10 ∷ []) _ _ _ _ _ _ _ _ c.in_ok-put.ensures c.put_words_line.ensures.text
+    puts_both (codes " =")
+    (spaced (map signed_decimal (take c.args.size (drop c.args.at (belonging (g.M.Final.words c.args.end.now) c.args.p))))
+    ++ 10 ∷ []) _ _ _ _ _ _ _ _ c.in_ok-put.ensures c.put_words_line.ensures.text

@@ -17,8 +17,10 @@ write_variables-requires g c =
     let processes = c.args.names.now.processes.items in
     let i = c.loop-p.p in
     let same = c.deref-process-items.ensures.value in
-    let is : c.process-item.result ≡ get_or processes i c.process-item.result = c.process-item.is ∙ ap (λ (xs : List ProcessNames). get_or xs i c.process-item.result) same in
-    fits_at processes (g.M.Final.words c.args.end.now) i c.process-item.result c.requires.fit.processes (omega (arith, c.loop-p-test.true, ap length same)) is
+    let is : c.process-item.result ≡ get_or processes i c.process-item.result =
+    c.process-item.is ∙ ap (λ (xs : List ProcessNames). get_or xs i c.process-item.result) same in
+    fits_at processes (g.M.Final.words c.args.end.now) i c.process-item.result c.requires.fit.processes
+    (omega (arith, c.loop-p-test.true, ap length same)) is
 
 pub loop-p-preserved : goal.loop-p-preserved
 loop-p-preserved g c =
@@ -30,8 +32,15 @@ loop-p-preserved g c =
     let is : process ≡ get_or processes i process = c.process-item.is ∙ ap (λ (xs : List ProcessNames). get_or xs i process) same in
     let within : i < length processes = omega (arith, c.loop-p-test.true, ap length same) in
     let next = values_next processes words i process within is (omega (arith, within, fits_length processes words c.requires.fit.processes)) in (
-      written_more _ _ (variable_lines (process_naming process) (belonging words i)) (value_lines (map process_naming (drop (i + 1) processes)) (drop (i + 1) words)) _ _ _ _ _ _ c.loop-p.invariant.0 next c.in_ok-write_variables.ensures.text,
-      omega (arith, c.loop-p.invariant.1, c.in_ok-write_variables.ensures.work, counted_more words_printed process_naming processes i process within is),
+      written_more _ _ (variable_lines (process_naming process) (belonging words i))
+          (value_lines (map process_naming (drop (i + 1) processes))
+          (drop (i + 1) words)) _ _ _ _ _ _ c.loop-p.invariant.0 next c.in_ok-write_variables.ensures.text,
+      omega (
+        arith,
+        c.loop-p.invariant.1,
+        c.in_ok-write_variables.ensures.work,
+        counted_more words_printed process_naming processes i process within is,
+      ),
     )
 
 pub returns-in_err-write_variables-clause-text : goal.returns-in_err-write_variables-clause-text
@@ -44,7 +53,9 @@ returns-in_err-write_variables-clause-text g c =
     let is : process ≡ get_or processes i process = c.process-item.is ∙ ap (λ (xs : List ProcessNames). get_or xs i process) same in
     let within : i < length processes = omega (arith, c.loop-p-test.true, ap length same) in
     let next = values_next processes words i process within is (omega (arith, within, fits_length processes words c.requires.fit.processes)) in
-    written_part _ _ (variable_lines (process_naming process) (belonging words i)) (value_lines (map process_naming (drop (i + 1) processes)) (drop (i + 1) words)) _ _ _ _ _ _ _ c.from_residual.result c.loop-p.invariant.0 next c.in_err-write_variables.ensures.text c.from_residual.ensures.0
+    written_part _ _ (variable_lines (process_naming process) (belonging words i))
+    (value_lines (map process_naming (drop (i + 1) processes))
+    (drop (i + 1) words)) _ _ _ _ _ _ _ c.from_residual.result c.loop-p.invariant.0 next c.in_err-write_variables.ensures.text c.from_residual.ensures.0
 
 pub returns-clause-text : goal.returns-clause-text
 returns-clause-text g c =
@@ -61,7 +72,12 @@ returns-in_err-write_variables-clause-work g c =
     let same = c.deref-process-items.ensures.value in
     let is : process ≡ get_or processes i process = c.process-item.is ∙ ap (λ (xs : List ProcessNames). get_or xs i process) same in
     let within : i < length processes = omega (arith, c.loop-p-test.true, ap length same) in
-    omega (arith, c.loop-p.invariant.1, c.in_err-write_variables.ensures.work, counted_part words_printed process_naming processes i process within is)
+    omega (
+      arith,
+      c.loop-p.invariant.1,
+      c.in_err-write_variables.ensures.work,
+      counted_part words_printed process_naming processes i process within is,
+    )
 
 pub returns-clause-work : goal.returns-clause-work
 returns-clause-work g c = omega (arith, c.loop-p.invariant.1, counted_all words_printed process_naming c.args.names.now.processes.items c.loop-p.p)

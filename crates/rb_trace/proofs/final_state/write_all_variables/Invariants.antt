@@ -10,5 +10,7 @@ abbrev pub invariant-loop-p : goal.invariant-loop-p
 invariant-loop-p g l =
     let processes = l.names.processes.items in
     let words = g.M.Final.words l.end in
-    Written (value_lines (map process_naming processes) words) (value_lines (map process_naming (drop l.p processes)) (drop l.p words)) (g.S.Sink.written l.initial.out) (g.S.Sink.written l.out) (g.S.Sink.faults l.initial.out) (g.S.Sink.faults l.out)
+    Written (value_lines (map process_naming processes) words)
+    (value_lines (map process_naming (drop l.p processes)) (drop l.p words)) (g.S.Sink.written l.initial.out)
+    (g.S.Sink.written l.out) (g.S.Sink.faults l.initial.out) (g.S.Sink.faults l.out)
     × (l.steps ≤ l.initial.steps + sum_by words_printed (map process_naming (take l.p processes)))

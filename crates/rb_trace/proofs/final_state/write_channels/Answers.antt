@@ -15,11 +15,16 @@ loop-c-preserved g c =
     let taken = g.M.Final.taken c.args.end.now in
     let i = c.loop-c.c in
     let same = c.deref-name-items.ensures.value in
-    let is : c.name-item.result ≡ get_or names i c.name-item.result = c.name-item.is ∙ ap (λ (xs : List (List ℕ)). get_or xs i c.name-item.result) same in
+    let is : c.name-item.result ≡ get_or names i c.name-item.result =
+    c.name-item.is ∙ ap (λ (xs : List (List ℕ)). get_or xs i c.name-item.result) same in
     let within : i < length names = omega (arith, c.loop-c-test.true, ap length same) in
-    let next = channel_next names sent taken i c.name-item.result within is (omega (arith, within, c.requires.fit.sent)) (omega (arith, within, c.requires.fit.taken)) in (
-      written_more _ _ (channel_line c.name-item.result (slice_index sent i) (slice_index taken i)) (channel_lines (drop (i + 1) names) (drop (i + 1) sent) (drop (i + 1) taken)) _ _ _ _ _ _ c.loop-c.invariant.0 next
-          (puts_same _ _ _ _ _ _ _ (ap (λ (name : List ℕ). channel_line name (slice_index sent i) (slice_index taken i)) c.as_bytes.ensures) c.in_ok-write_channel.ensures.text),
+    let next = channel_next names sent taken i c.name-item.result within is (omega (arith, within, c.requires.fit.sent))
+    (omega (arith, within, c.requires.fit.taken)) in (
+      written_more _ _ (channel_line c.name-item.result (slice_index sent i) (slice_index taken i))
+          (channel_lines (drop (i + 1) names) (drop (i + 1) sent) (drop (i + 1) taken)) _ _ _ _ _ _ c.loop-c.invariant.0 next
+          (puts_same _ _ _ _ _ _ _
+          (ap (λ (name : List ℕ). channel_line name (slice_index sent i)
+          (slice_index taken i)) c.as_bytes.ensures) c.in_ok-write_channel.ensures.text),
       omega (arith, c.loop-c.invariant.1, c.in_ok-write_channel.ensures.work),
     )
 
@@ -30,17 +35,24 @@ returns-in_err-write_channel-clause-text g c =
     let taken = g.M.Final.taken c.args.end.now in
     let i = c.loop-c.c in
     let same = c.deref-name-items.ensures.value in
-    let is : c.name-item.result ≡ get_or names i c.name-item.result = c.name-item.is ∙ ap (λ (xs : List (List ℕ)). get_or xs i c.name-item.result) same in
+    let is : c.name-item.result ≡ get_or names i c.name-item.result =
+    c.name-item.is ∙ ap (λ (xs : List (List ℕ)). get_or xs i c.name-item.result) same in
     let within : i < length names = omega (arith, c.loop-c-test.true, ap length same) in
-    let next = channel_next names sent taken i c.name-item.result within is (omega (arith, within, c.requires.fit.sent)) (omega (arith, within, c.requires.fit.taken)) in
-    written_part _ _ (channel_line c.name-item.result (slice_index sent i) (slice_index taken i)) (channel_lines (drop (i + 1) names) (drop (i + 1) sent) (drop (i + 1) taken)) _ _ _ _ _ _ _ c.from_residual.result c.loop-c.invariant.0 next
-    (puts_same _ _ _ _ _ _ _ (ap (λ (name : List ℕ). channel_line name (slice_index sent i) (slice_index taken i)) c.as_bytes.ensures) c.in_err-write_channel.ensures.text) c.from_residual.ensures.0
+    let next = channel_next names sent taken i c.name-item.result within is (omega (arith, within, c.requires.fit.sent))
+    (omega (arith, within, c.requires.fit.taken)) in
+    written_part _ _ (channel_line c.name-item.result (slice_index sent i) (slice_index taken i))
+    (channel_lines (drop (i + 1) names) (drop (i + 1) sent)
+    (drop (i + 1) taken)) _ _ _ _ _ _ _ c.from_residual.result c.loop-c.invariant.0 next
+    (puts_same _ _ _ _ _ _ _
+    (ap (λ (name : List ℕ). channel_line name (slice_index sent i)
+    (slice_index taken i)) c.as_bytes.ensures) c.in_err-write_channel.ensures.text) c.from_residual.ensures.0
 
 pub returns-clause-text : goal.returns-clause-text
 returns-clause-text g c =
     let names = c.args.names.now.channels.items in
     written_all _ _ _ _ _ _ c.loop-c.invariant.0
-    (ap (λ (xs : List (List ℕ)). channel_lines xs (drop c.loop-c.c (g.M.Final.sent c.args.end.now)) (drop c.loop-c.c (g.M.Final.taken c.args.end.now)))
+    (ap (λ (xs : List (List ℕ)). channel_lines xs (drop c.loop-c.c (g.M.Final.sent c.args.end.now))
+    (drop c.loop-c.c (g.M.Final.taken c.args.end.now)))
     (drop_of_length-le names (omega (arith, c.loop-c-test.false, ap length c.deref-name-items.ensures.value))))
 
 pub returns-in_err-write_channel-clause-work : goal.returns-in_err-write_channel-clause-work

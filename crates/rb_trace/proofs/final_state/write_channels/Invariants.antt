@@ -9,5 +9,6 @@ invariant-loop-c g l =
     let names = l.names.channels.items in
     let sent = g.M.Final.sent l.end in
     let taken = g.M.Final.taken l.end in
-    Written (channel_lines names sent taken) (channel_lines (drop l.c names) (drop l.c sent) (drop l.c taken)) (g.S.Sink.written l.initial.out) (g.S.Sink.written l.out) (g.S.Sink.faults l.initial.out) (g.S.Sink.faults l.out)
+    Written (channel_lines names sent taken) (channel_lines (drop l.c names) (drop l.c sent) (drop l.c taken))
+    (g.S.Sink.written l.initial.out) (g.S.Sink.written l.out) (g.S.Sink.faults l.initial.out) (g.S.Sink.faults l.out)
     × (l.steps ≤ l.initial.steps + 2 * l.c)

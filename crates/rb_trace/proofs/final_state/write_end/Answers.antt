@@ -9,9 +9,15 @@ use Rattle.rb_trace.proofs.final_state.write_end.Goals as goal
 pub returns-in_err-write_end_line-clause-text : goal.returns-in_err-write_end_line-clause-text
 returns-in_err-write_end_line-clause-text g c final ended =
     puts_same _ _ _ _ _ _ _ (ended_is c.args.names.now _ _ _ _ final c.args.turns ended)
-    (puts_stopped_at (line_of (codes "end" ∷ decimal c.args.turns ∷ [])) (ended_text (naming c.args.names.now) (g.M.Final.states c.args.end.now) (g.M.Final.words c.args.end.now) (g.M.Final.sent c.args.end.now) (g.M.Final.taken c.args.end.now)) _ _ _ _ _ c.from_residual.result c.from_residual.ensures.0 c.in_err-write_end_line.ensures)
+    (puts_stopped_at (line_of (codes "end" ∷ decimal c.args.turns ∷ []))
+    (ended_text (naming c.args.names.now) (g.M.Final.states c.args.end.now) (g.M.Final.words c.args.end.now)
+    (g.M.Final.sent c.args.end.now)
+    (g.M.Final.taken c.args.end.now)) _ _ _ _ _ c.from_residual.result c.from_residual.ensures.0 c.in_err-write_end_line.ensures)
 
 pub returns-clause-text : goal.returns-clause-text
 returns-clause-text g c final ended =
     puts_same _ _ _ _ _ _ _ (ended_is c.args.names.now _ _ _ _ final c.args.turns ended)
-    (puts_both (line_of (codes "end" ∷ decimal c.args.turns ∷ [])) (ended_text (naming c.args.names.now) (g.M.Final.states c.args.end.now) (g.M.Final.words c.args.end.now) (g.M.Final.sent c.args.end.now) (g.M.Final.taken c.args.end.now)) _ _ _ _ _ _ _ _ c.in_ok-write_end_line.ensures c.write_ended.ensures.text)
+    (puts_both (line_of (codes "end" ∷ decimal c.args.turns ∷ []))
+    (ended_text (naming c.args.names.now) (g.M.Final.states c.args.end.now) (g.M.Final.words c.args.end.now)
+    (g.M.Final.sent c.args.end.now)
+    (g.M.Final.taken c.args.end.now)) _ _ _ _ _ _ _ _ c.in_ok-write_end_line.ensures c.write_ended.ensures.text)

@@ -8,10 +8,15 @@ use Rattle.rb_trace.proofs.final_state.write_process.Goals as goal
 
 pub returns-clause-text : goal.returns-clause-text
 returns-clause-text g c =
-    puts_both (line_of (c.args.process.now.name ∷ state_words c.args.state)) (variable_lines (process_naming c.args.process.now) (belonging (g.M.Final.words c.args.end.now) c.args.p)) _ _ _ _ _ _ _ _
-    (puts_same _ _ _ _ _ _ _ (ap (λ (n : List ℕ). line_of (n ∷ state_words c.args.state)) c.as_bytes.ensures) c.in_ok-write_status.ensures) c.write_variables.ensures.text
+    puts_both (line_of (c.args.process.now.name ∷ state_words c.args.state))
+    (variable_lines (process_naming c.args.process.now) (belonging (g.M.Final.words c.args.end.now) c.args.p)) _ _ _ _ _ _ _ _
+    (puts_same _ _ _ _ _ _ _
+    (ap (λ (n : List ℕ). line_of
+    (n ∷ state_words c.args.state)) c.as_bytes.ensures) c.in_ok-write_status.ensures) c.write_variables.ensures.text
 
 pub returns-in_err-write_status-clause-text : goal.returns-in_err-write_status-clause-text
 returns-in_err-write_status-clause-text g c =
-    puts_stopped_at (line_of (c.args.process.now.name ∷ state_words c.args.state)) (variable_lines (process_naming c.args.process.now) (belonging (g.M.Final.words c.args.end.now) c.args.p)) _ _ _ _ _ c.from_residual.result c.from_residual.ensures.0
+    puts_stopped_at (line_of (c.args.process.now.name ∷ state_words c.args.state))
+    (variable_lines (process_naming c.args.process.now)
+    (belonging (g.M.Final.words c.args.end.now) c.args.p)) _ _ _ _ _ c.from_residual.result c.from_residual.ensures.0
     (puts_same _ _ _ _ _ _ _ (ap (λ (n : List ℕ). line_of (n ∷ state_words c.args.state)) c.as_bytes.ensures) c.in_err-write_status.ensures)

@@ -10,5 +10,7 @@ invariant-loop-p g l =
     let processes = l.names.processes.items in
     let states = g.M.Final.states l.end in
     let words = g.M.Final.words l.end in
-    Written (processes_text (map process_naming processes) states words) (processes_text (map process_naming (drop l.p processes)) (drop l.p states) (drop l.p words)) (g.S.Sink.written l.initial.out) (g.S.Sink.written l.out) (g.S.Sink.faults l.initial.out) (g.S.Sink.faults l.out)
+    Written (processes_text (map process_naming processes) states words)
+    (processes_text (map process_naming (drop l.p processes)) (drop l.p states) (drop l.p words))
+    (g.S.Sink.written l.initial.out) (g.S.Sink.written l.out) (g.S.Sink.faults l.initial.out) (g.S.Sink.faults l.out)
     × (l.steps ≤ l.initial.steps + sum_by words_printed (map process_naming (take l.p processes)))

@@ -21,7 +21,11 @@ write_words-requires-clause-within g c =
     let same = c.deref-variable-items.ensures.value in
     let is : c.variable-item.result ≡ get_or items c.loop-variable.variable-index c.variable-item.result =
     c.variable-item.is ∙ ap (λ (xs : List Variable). get_or xs c.loop-variable.variable-index c.variable-item.result) same in
-    each_at (LiesWithin (length (belonging (g.M.Final.words c.args.end.now) c.args.p))) items c.loop-variable.variable-index c.variable-item.result c.requires.0 (omega (arith, c.loop-variable-test.true, ap length same)) is
+    each_at
+    (LiesWithin
+    (length (belonging
+    (g.M.Final.words c.args.end.now) c.args.p))) items c.loop-variable.variable-index c.variable-item.result c.requires.0
+    (omega (arith, c.loop-variable-test.true, ap length same)) is
 
 pub loop-variable-preserved : goal.loop-variable-preserved
 loop-variable-preserved g c =
@@ -32,9 +36,16 @@ loop-variable-preserved g c =
     let is : c.variable-item.result ≡ get_or items c.loop-variable.variable-index c.variable-item.result =
     c.variable-item.is ∙ ap (λ (xs : List Variable). get_or xs c.loop-variable.variable-index c.variable-item.result) same in
     let line = ap (λ (name : List ℕ). variable_line name words (variable_naming c.variable-item.result)) c.as_bytes.ensures ∙ ap each is in (
-      puts_next each items c.loop-variable.variable-index c.variable-item.result (omega (arith, c.loop-variable-test.true, ap length same)) _ _ _ _ _ _ _ _ c.loop-variable.invariant.0
+      puts_next each items c.loop-variable.variable-index c.variable-item.result
+          (omega (arith, c.loop-variable-test.true, ap length same)) _ _ _ _ _ _ _ _ c.loop-variable.invariant.0
           (puts_same _ _ _ _ _ _ _ line c.in_ok-write_words.ensures.text),
-      omega (arith, c.loop-variable.invariant.1, c.in_ok-write_words.ensures.work, counted_more words_of variable_naming items c.loop-variable.variable-index c.variable-item.result (omega (arith, c.loop-variable-test.true, ap length same)) is),
+      omega (
+        arith,
+        c.loop-variable.invariant.1,
+        c.in_ok-write_words.ensures.work,
+        counted_more words_of variable_naming items c.loop-variable.variable-index c.variable-item.result
+            (omega (arith, c.loop-variable-test.true, ap length same)) is,
+      ),
     )
 
 pub returns-in_err-write_words-clause-text : goal.returns-in_err-write_words-clause-text
@@ -46,7 +57,8 @@ returns-in_err-write_words-clause-text g c =
     let is : c.variable-item.result ≡ get_or items c.loop-variable.variable-index c.variable-item.result =
     c.variable-item.is ∙ ap (λ (xs : List Variable). get_or xs c.loop-variable.variable-index c.variable-item.result) same in
     let line = ap (λ (name : List ℕ). variable_line name words (variable_naming c.variable-item.result)) c.as_bytes.ensures ∙ ap each is in
-    let next = puts_next each items c.loop-variable.variable-index c.variable-item.result (omega (arith, c.loop-variable-test.true, ap length same)) _ _ _ _ _ _ _ _ c.loop-variable.invariant.0
+    let next = puts_next each items c.loop-variable.variable-index c.variable-item.result
+    (omega (arith, c.loop-variable-test.true, ap length same)) _ _ _ _ _ _ _ _ c.loop-variable.invariant.0
     (puts_same _ _ _ _ _ _ _ line c.in_err-write_words.ensures.text) in
     puts_same _ _ _ _ _ _ _ (sym (flat_map-map (variable_line c.args.process.now.name words) variable_naming items))
     (puts_part each items _ _ _ _ _ _ c.from_residual.result c.from_residual.ensures.0 next)
@@ -57,7 +69,8 @@ returns-clause-text g c =
     let words = belonging (g.M.Final.words c.args.end.now) c.args.p in
     let each : Variable → List ℕ = λ variable. variable_line c.args.process.now.name words (variable_naming variable) in
     puts_same _ _ _ _ _ _ _ (sym (flat_map-map (variable_line c.args.process.now.name words) variable_naming items))
-    (puts_whole each items _ _ _ _ _ _ (omega (arith, c.loop-variable-test.false, ap length c.deref-variable-items.ensures.value)) c.loop-variable.invariant.0)
+    (puts_whole each items _ _ _ _ _ _
+    (omega (arith, c.loop-variable-test.false, ap length c.deref-variable-items.ensures.value)) c.loop-variable.invariant.0)
 
 pub returns-in_err-write_words-clause-work : goal.returns-in_err-write_words-clause-work
 returns-in_err-write_words-clause-work g c =
@@ -65,7 +78,8 @@ returns-in_err-write_words-clause-work g c =
     let same = c.deref-variable-items.ensures.value in
     let is : c.variable-item.result ≡ get_or items c.loop-variable.variable-index c.variable-item.result =
     c.variable-item.is ∙ ap (λ (xs : List Variable). get_or xs c.loop-variable.variable-index c.variable-item.result) same in
-    let part = counted_part words_of variable_naming items c.loop-variable.variable-index c.variable-item.result (omega (arith, c.loop-variable-test.true, ap length same)) is in
+    let part = counted_part words_of variable_naming items c.loop-variable.variable-index c.variable-item.result
+    (omega (arith, c.loop-variable-test.true, ap length same)) is in
     omega (arith, c.loop-variable.invariant.1, c.in_err-write_words.ensures.work, part)
 
 pub returns-clause-work : goal.returns-clause-work

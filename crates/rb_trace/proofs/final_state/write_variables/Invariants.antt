@@ -13,5 +13,7 @@ use Rattle.rb_trace.proofs.final_state.write_variables.Given as goal
 abbrev pub invariant-loop-variable : goal.invariant-loop-variable
 invariant-loop-variable g l =
     let each : Variable → List ℕ = λ variable. variable_line l.process.name (belonging (g.M.Final.words l.end) l.p) (variable_naming variable) in
-    Puts {T = Unit {0}} {E = Failed} (flat_map each (take l.variable-index l.process.variables.items)) (g.S.Sink.written l.initial.out) (g.S.Sink.written l.out) (g.S.Sink.faults l.initial.out) (g.S.Sink.faults l.out) (Ok tt)
+    Puts {T = Unit {0}} {E = Failed} (flat_map each (take l.variable-index l.process.variables.items))
+    (g.S.Sink.written l.initial.out) (g.S.Sink.written l.out) (g.S.Sink.faults l.initial.out) (g.S.Sink.faults l.out)
+    (Ok tt)
     × (l.steps ≤ l.initial.steps + sum_by words_of (map variable_naming (take l.variable-index l.process.variables.items)))

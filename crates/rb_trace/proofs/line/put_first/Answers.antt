@@ -4,4 +4,5 @@ use Rattle.rb_trace.specs.Lines.{spaced}
 use Rattle.rb_trace.proofs.line.put_first.Goals as goal
 
 pub returns : goal.returns
-returns g c = puts_both c.args.first.now (spaced (map (λ (word : Bor (List ℕ)). word.now) c.args.others.now) ++ 10 ∷ []) _ _ _ _ _ _ _ _ c.in_ok-put.ensures c.put_rest.ensures
+returns g c = puts_both c.args.first.now
+    (spaced (map (λ (word : Bor (List ℕ)). word.now) c.args.others.now) ++ 10 ∷ []) _ _ _ _ _ _ _ _ c.in_ok-put.ensures c.put_rest.ensures

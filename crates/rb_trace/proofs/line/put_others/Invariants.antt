@@ -9,4 +9,5 @@ use Rattle.rb_trace.proofs.line.put_others.Given as goal
 abbrev pub invariant-loop-word : goal.invariant-loop-word
 invariant-loop-word g l =
     let each : Bor (List ℕ) → List ℕ = λ word. spaced_word word.now in
-    Puts {T = Unit {0}} {E = Failed} (flat_map each (take l.word-index l.words)) (g.S.Sink.written l.initial.out) (g.S.Sink.written l.out) (g.S.Sink.faults l.initial.out) (g.S.Sink.faults l.out) (Ok tt)
+    Puts {T = Unit {0}} {E = Failed} (flat_map each (take l.word-index l.words)) (g.S.Sink.written l.initial.out)
+    (g.S.Sink.written l.out) (g.S.Sink.faults l.initial.out) (g.S.Sink.faults l.out) (Ok tt)

@@ -8,4 +8,5 @@ use Rattle.rb_trace.proofs.line.put_pieces.Given as goal
 abbrev pub invariant-loop-piece : goal.invariant-loop-piece
 invariant-loop-piece g l =
     let each : Bor (List ℕ) → List ℕ = λ piece. piece.now in
-    Puts {T = Unit {0}} {E = Failed} (flat_map each (take l.piece-index l.pieces)) (g.S.Sink.written l.initial.out) (g.S.Sink.written l.out) (g.S.Sink.faults l.initial.out) (g.S.Sink.faults l.out) (Ok tt)
+    Puts {T = Unit {0}} {E = Failed} (flat_map each (take l.piece-index l.pieces)) (g.S.Sink.written l.initial.out)
+    (g.S.Sink.written l.out) (g.S.Sink.faults l.initial.out) (g.S.Sink.faults l.out) (Ok tt)

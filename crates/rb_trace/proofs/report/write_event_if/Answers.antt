@@ -7,4 +7,5 @@ use Rattle.rb_trace.proofs.report.write_event_if.Goals as goal
 pub returns-then-tells_done-done : goal.returns-then-tells_done-done
 returns-then-tells_done-done g c =
     let same : c.tells_done.result ≡ c.args.done = search rules in
-    puts_same _ _ _ _ _ _ _ (wanted (naming c.args.names.now) c.args.turn c.args.done c.tells_done.result c.args.event.now c.tells_done.ensures same) c.write_event.ensures
+    puts_same _ _ _ _ _ _ _
+    (wanted (naming c.args.names.now) c.args.turn c.args.done c.tells_done.result c.args.event.now c.tells_done.ensures same) c.write_event.ensures

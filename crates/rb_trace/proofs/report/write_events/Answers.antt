@@ -9,12 +9,17 @@ loop-event-init g c = puts_nothing _ _ _
 
 pub loop-event-preserved : goal.loop-event-preserved
 loop-event-preserved g c =
-    puts_next (event_if (naming c.args.names.now) c.args.turn c.args.done) c.args.events.now c.loop-event.event-index _ c.loop-event-test.true _ _ _ _ _ _ _ _ c.loop-event.invariant c.in_ok-write_event_if.ensures
+    puts_next (event_if
+    (naming c.args.names.now) c.args.turn c.args.done) c.args.events.now c.loop-event.event-index _ c.loop-event-test.true _ _ _ _ _ _ _ _ c.loop-event.invariant c.in_ok-write_event_if.ensures
 
 pub returns-in_err-write_event_if : goal.returns-in_err-write_event_if
 returns-in_err-write_event_if g c =
-    let next = puts_next (event_if (naming c.args.names.now) c.args.turn c.args.done) c.args.events.now c.loop-event.event-index _ c.loop-event-test.true _ _ _ _ _ _ _ _ c.loop-event.invariant c.in_err-write_event_if.ensures in
-    puts_part (event_if (naming c.args.names.now) c.args.turn c.args.done) c.args.events.now _ _ _ _ _ _ c.from_residual.result c.from_residual.ensures.0 next
+    let next = puts_next
+    (event_if (naming c.args.names.now) c.args.turn c.args.done) c.args.events.now c.loop-event.event-index _ c.loop-event-test.true _ _ _ _ _ _ _ _ c.loop-event.invariant c.in_err-write_event_if.ensures in
+    puts_part (event_if
+    (naming c.args.names.now) c.args.turn c.args.done) c.args.events.now _ _ _ _ _ _ c.from_residual.result c.from_residual.ensures.0 next
 
 pub returns : goal.returns
-returns g c = puts_whole (event_if (naming c.args.names.now) c.args.turn c.args.done) c.args.events.now _ _ _ _ _ _ c.loop-event-test.false c.loop-event.invariant
+returns g c =
+    puts_whole (event_if
+    (naming c.args.names.now) c.args.turn c.args.done) c.args.events.now _ _ _ _ _ _ c.loop-event-test.false c.loop-event.invariant

@@ -29,7 +29,8 @@ lines-preserved g c =
     let next : next_line before p ≡ Some c.in-Some.line.now = search rules in
     let line = out_line (naming c.args.names.now) c.args.turn p in
     let splits : flat_map line (belonging before p) ≡ line c.in-Some.line.now ++ flat_map line (belonging now p) =
-    ap (flat_map line) (next_first before p c.in-Some.line.now next) ∙ ap (λ (left : List (List ℕ)). line c.in-Some.line.now ++ flat_map line left) (sym one.left) in (
+    ap (flat_map line) (next_first before p c.in-Some.line.now next)
+    ∙ ap (λ (left : List (List ℕ)). line c.in-Some.line.now ++ flat_map line left) (sym one.left) in (
       written_more _ _ (line c.in-Some.line.now) (flat_map line (belonging now p)) _ _ _ _ _ _ c.lines.invariant.0 splits c.in_ok-write_out.ensures,
       one.others,
       one.within,
@@ -47,5 +48,6 @@ returns-in_err-write_out-clause-text g c =
 
 pub returns-clause-none_waits : goal.returns-clause-none_waits
 returns-clause-none_waits g c =
-    all_taken (g.M.Lines.waiting c.args.lines.now) (g.M.Lines.waiting c.lines.lines) (g.M.Lines.waiting c.released.follows.lender-at-none) c.args.process
+    all_taken (g.M.Lines.waiting c.args.lines.now) (g.M.Lines.waiting c.lines.lines)
+    (g.M.Lines.waiting c.released.follows.lender-at-none) c.args.process
     c.lines.invariant.1 c.lines.invariant.2 c.released.follows.holds-at-none.0 (search rules)

@@ -12,7 +12,8 @@ invariant-lines g l =
     let text : List (List ℕ) → List ℕ = flat_map (out_line (naming l.names) l.turn l.process) in
     let before = g.M.Lines.waiting l.initial.lines in
     let now = g.M.Lines.waiting l.lines in
-    Written (text (belonging before l.process)) (text (belonging now l.process)) (g.S.Sink.written l.initial.out) (g.S.Sink.written l.out) (g.S.Sink.faults l.initial.out) (g.S.Sink.faults l.out)
+    Written (text (belonging before l.process)) (text (belonging now l.process)) (g.S.Sink.written l.initial.out)
+    (g.S.Sink.written l.out) (g.S.Sink.faults l.initial.out) (g.S.Sink.faults l.out)
     × (now ≡ slice_set before l.process (belonging now l.process))
     × (l.process < length now)
     × (g.M.Lines.rest l.lines ≡ g.M.Lines.rest l.initial.lines)

@@ -14,7 +14,8 @@ returns-in_err-write_events-clause-text g c =
     let events = c.args.report.now.events.items in
     let waiting = g.M.Lines.waiting c.args.lines.now in
     puts_same _ _ _ _ _ _ _ (parts_told names t c.args.report.now.kind events waiting)
-    (puts_stopped_at (flat_map (event_if names t false) events) (out_lines names t 0 waiting ++ flat_map (event_if names t true) events) _ _ _ _ _ c.from_residual.result c.from_residual.ensures.0
+    (puts_stopped_at (flat_map (event_if names t false) events)
+    (out_lines names t 0 waiting ++ flat_map (event_if names t true) events) _ _ _ _ _ c.from_residual.result c.from_residual.ensures.0
     (puts_same _ _ _ _ _ _ _ (ap (flat_map (event_if names t false)) c.deref.ensures.0) c.in_err-write_events.ensures))
 
 pub returns-in_err-write_all_released-clause-text : goal.returns-in_err-write_all_released-clause-text
@@ -24,8 +25,11 @@ returns-in_err-write_all_released-clause-text g c =
     let events = c.args.report.now.events.items in
     let waiting = g.M.Lines.waiting c.args.lines.now in
     puts_same _ _ _ _ _ _ _ (parts_told names t c.args.report.now.kind events waiting)
-    (puts_both (flat_map (event_if names t false) events) (out_lines names t 0 waiting ++ flat_map (event_if names t true) events) _ _ _ _ _ _ _ _ (puts_same _ _ _ _ _ _ _ (ap (flat_map (event_if names t false)) c.deref.ensures.0) c.in_ok-write_events.ensures)
-    (puts_stopped_at (out_lines names t 0 waiting) (flat_map (event_if names t true) events) _ _ _ _ _ c.from_residual-in_err-write_all_released.result c.from_residual-in_err-write_all_released.ensures.0 c.in_err-write_all_released.ensures.text))
+    (puts_both (flat_map (event_if names t false) events)
+    (out_lines names t 0 waiting ++ flat_map (event_if names t true) events) _ _ _ _ _ _ _ _
+    (puts_same _ _ _ _ _ _ _ (ap (flat_map (event_if names t false)) c.deref.ensures.0) c.in_ok-write_events.ensures)
+    (puts_stopped_at (out_lines names t 0 waiting)
+    (flat_map (event_if names t true) events) _ _ _ _ _ c.from_residual-in_err-write_all_released.result c.from_residual-in_err-write_all_released.ensures.0 c.in_err-write_all_released.ensures.text))
 
 pub returns-clause-text : goal.returns-clause-text
 returns-clause-text g c =
@@ -34,6 +38,8 @@ returns-clause-text g c =
     let events = c.args.report.now.events.items in
     let waiting = g.M.Lines.waiting c.args.lines.now in
     puts_same _ _ _ _ _ _ _ (parts_told names t c.args.report.now.kind events waiting)
-    (puts_both (flat_map (event_if names t false) events) (out_lines names t 0 waiting ++ flat_map (event_if names t true) events) _ _ _ _ _ _ _ _ (puts_same _ _ _ _ _ _ _ (ap (flat_map (event_if names t false)) c.deref.ensures.0) c.in_ok-write_events.ensures)
+    (puts_both (flat_map (event_if names t false) events)
+    (out_lines names t 0 waiting ++ flat_map (event_if names t true) events) _ _ _ _ _ _ _ _
+    (puts_same _ _ _ _ _ _ _ (ap (flat_map (event_if names t false)) c.deref.ensures.0) c.in_ok-write_events.ensures)
     (puts_both (out_lines names t 0 waiting) (flat_map (event_if names t true) events) _ _ _ _ _ _ _ _ c.in_ok-write_all_released.ensures.text
     (puts_same _ _ _ _ _ _ _ (ap (flat_map (event_if names t true)) c.deref-2.ensures.0) c.write_events-2.ensures)))

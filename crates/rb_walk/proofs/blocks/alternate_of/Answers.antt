@@ -5,7 +5,8 @@ use Rattle.rb_walk.proofs.blocks.alternate_of.Goals as goal
 
 pub returns-in_err-place : goal.returns-in_err-place
 returns-in_err-place c =
-    ap (option_map (λ block. body block.now)) c.from_residual.ensures ∙ sym (alternate_before c.args.block.now c.args.alternate c.in_err-place.ensures)
+    ap (option_map (λ block. body block.now)) c.from_residual.ensures
+    ∙ sym (alternate_before c.args.block.now c.args.alternate c.in_err-place.ensures)
 
 pub returns : goal.returns
 returns c =

@@ -6,4 +6,5 @@ use Rattle.rb_walk.proofs.frames.bound.Given as goal
 
 abbrev pub invariant-loop-place : goal.invariant-loop-place
 invariant-loop-place l =
-    frame l.slots.items ++ bound_to (map identifier (drop l.place l.parameters)) (drop l.place l.values) ≡ bound_to (map identifier l.parameters) l.values
+    frame l.slots.items ++ bound_to (map identifier (drop l.place l.parameters)) (drop l.place l.values)
+    ≡ bound_to (map identifier l.parameters) l.values

@@ -13,7 +13,8 @@ returns-in_err-left c =
     let left = c.loop-call.left in
     let many = ap (λ xs. left_of left (frames_words (reverse (map frame_in xs)))) c.deref.ensures.value in
     c.from_residual.ensures
-    ∙ part_none frames_of frames_words calls c.loop-call.call-index left (frames_words (frames_of call)) call c.loop-call-test.true c.call-item.is refl
+    ∙ part_none frames_of frames_words calls c.loop-call.call-index left
+    (frames_words (frames_of call)) call c.loop-call-test.true c.call-item.is refl
     (left_not left (frames_words (frames_of call)) (c.in_err-left.ensures ∙ many))
     ∙ c.loop-call.invariant
     ∙ ap (left_of c.args.most) (sym (sum_by-reverse frames_words (map frames_of calls)))

@@ -11,7 +11,9 @@ returns-in_err-left c =
     let k = c.loop-variable.variable-index in
     let here : k < length (map declaration variables) = omega (arith, length-map variables declaration) in
     c.from_residual.ensures
-    ∙ part_none zeros (λ (s : Stored). length s.values) (map declaration variables) k c.loop-variable.left c.size_of.result _ here (declared_at variables k _ c.loop-variable-test.true)
+    ∙ part_none zeros (λ (s : Stored). length s.values)
+    (map declaration variables) k c.loop-variable.left c.size_of.result _ here
+    (declared_at variables k _ c.loop-variable-test.true)
     (declared_words (get_or variables k _) c.size_of.result c.size_of.ensures)
     c.in_err-left.ensures
     ∙ c.loop-variable.invariant
@@ -21,7 +23,9 @@ loop-variable-preserved c =
     let variables = c.args.variables.now in
     let k = c.loop-variable.variable-index in
     let here : k < length (map declaration variables) = omega (arith, length-map variables declaration) in
-    part_more zeros (λ (s : Stored). length s.values) (map declaration variables) k c.loop-variable.left c.size_of.result _ here (declared_at variables k _ c.loop-variable-test.true)
+    part_more zeros (λ (s : Stored). length s.values)
+    (map declaration variables) k c.loop-variable.left c.size_of.result _ here
+    (declared_at variables k _ c.loop-variable-test.true)
     (declared_words (get_or variables k _) c.size_of.result c.size_of.ensures)
     c.in_ok-left.left c.in_ok-left.ensures
     ∙ c.loop-variable.invariant

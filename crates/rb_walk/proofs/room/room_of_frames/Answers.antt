@@ -13,7 +13,8 @@ returns-in_err-left c =
     let left = c.loop-slots.left in
     let many = ap (λ xs. left_of left (frame_words (frame xs))) c.deref.ensures.value in
     c.from_residual.ensures
-    ∙ part_none frame_in frame_words frames c.loop-slots.slots-index left (frame_words (frame_in slots)) slots c.loop-slots-test.true c.slots-item.is refl
+    ∙ part_none frame_in frame_words frames c.loop-slots.slots-index left
+    (frame_words (frame_in slots)) slots c.loop-slots-test.true c.slots-item.is refl
     (left_not left (frame_words (frame_in slots)) (c.in_err-left.ensures ∙ many))
     ∙ c.loop-slots.invariant
     ∙ ap (left_of c.args.most) (sym (sum_by-reverse frame_words (map frame_in frames)))
@@ -24,7 +25,8 @@ loop-slots-preserved c =
     let slots = c.slots-item.result in
     let left = c.loop-slots.left in
     let many = ap (λ xs. left_of left (frame_words (frame xs))) c.deref.ensures.value in
-    part_more frame_in frame_words frames c.loop-slots.slots-index left (frame_words (frame_in slots)) slots c.loop-slots-test.true c.slots-item.is refl
+    part_more frame_in frame_words frames c.loop-slots.slots-index left
+    (frame_words (frame_in slots)) slots c.loop-slots-test.true c.slots-item.is refl
     c.in_ok-left.left (left_some left (frame_words (frame_in slots)) c.in_ok-left.left (c.in_ok-left.ensures ∙ many))
     ∙ c.loop-slots.invariant
 

@@ -5,7 +5,9 @@ use Rattle.rb_walk.specs.Counters.{counted, body_values}
 use Rattle.rb_walk.proofs.value.+value.Given as goal
 
 abbrev pub invariant-chained-loop-link : goal.invariant-chained-loop-link
-invariant-chained-loop-link l = chained l.environment l.prior (counted l.counters) l.left (links_of (drop l.link-index l.links)) ≡ chained l.environment l.prior (counted l.counters) l.fn.first (links_of l.links)
+invariant-chained-loop-link l =
+    chained l.environment l.prior (counted l.counters) l.left (links_of (drop l.link-index l.links))
+    ≡ chained l.environment l.prior (counted l.counters) l.fn.first (links_of l.links)
 
 abbrev pub invariant-every_from-loop-step : goal.invariant-every_from-loop-step
 invariant-every_from-loop-step l =

@@ -12,4 +12,5 @@ pub returns-clause-touched : goal.returns-clause-touched
 returns-clause-touched c =
     let i = c.self.inside in
     are_levels i.words c.args.self.now.regions
-    (subst (Stacked i.words) (regions_seen i.marks.items i.arena.items i.levels i.words c.args.self.now c.self.view_is) c.self.invariant.holds.stacked)
+    (subst (Stacked i.words)
+    (regions_seen i.marks.items i.arena.items i.levels i.words c.args.self.now c.self.view_is) c.self.invariant.holds.stacked)

@@ -17,7 +17,8 @@ invariant_of-self g c =
     recursion_from_All P (map vec_items i.copies.items)
     (All-map P vec_items i.copies.items (rw c.deref.ensures.value at (c.are_within.ensures.0 c.if-are_within.true))) in
     let s = ap (λ (store : Store). store.words) c.drop_to.ensures in
-    let k = shrunk i.cells.words i.cache h inv.fits (omega (arith, c.if-height.true, c.height.ensures.words)) (subst (AllByRecursion P) inv.each low) in
+    let k = shrunk i.cells.words i.cache h inv.fits (omega (arith, c.if-height.true, c.height.ensures.words))
+    (subst (AllByRecursion P) inv.each low) in
     record {
       same = c.truncate.ensures.items ∙ ap (take h) inv.same ∙ sym s;
       each = inv.each ∙ sym (ap (λ (ws : List ℤ). copies ws i.cache) s ∙ k.0);

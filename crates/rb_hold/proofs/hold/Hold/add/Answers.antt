@@ -8,13 +8,15 @@ use Rattle.rb_hold.proofs.hold.Hold.add.Goals as goal
 
 pub returns-then-line-self-clause-room : goal.returns-then-line-self-clause-room
 returns-then-line-self-clause-room c =
-    let held = ap (λ (two : TwoLists). held_bytes two.held) (sym c.self.view_is) ∙ held_is c.self.inside.lines.items c.self.inside.held c.self.invariant.held_within c.self.invariant.held_lines in
+    let held = ap (λ (two : TwoLists). held_bytes two.held) (sym c.self.view_is)
+    ∙ held_is c.self.inside.lines.items c.self.inside.held c.self.invariant.held_within c.self.invariant.held_lines in
     let above : MOST_HELD_BYTES < held_bytes c.args.self.now.held + (length c.args.line.now + 1) = omega (arith, held, c.if-line-self.true) in
     ap not (sym (lt-ltb _ _ above))
 
 pub returns-clause-room : goal.returns-clause-room
 returns-clause-room c =
-    let held = ap (λ (two : TwoLists). held_bytes two.held) (sym c.self.view_is) ∙ held_is c.self.inside.lines.items c.self.inside.held c.self.invariant.held_within c.self.invariant.held_lines in
+    let held = ap (λ (two : TwoLists). held_bytes two.held) (sym c.self.view_is)
+    ∙ held_is c.self.inside.lines.items c.self.inside.held c.self.invariant.held_within c.self.invariant.held_lines in
     let within : held_bytes c.args.self.now.held + (length c.args.line.now + 1) ≤ MOST_HELD_BYTES = omega (arith, held, c.if-line-self.false) in
     ap not (sym (le-ltb _ _ within))
 
@@ -23,15 +25,24 @@ invariant_of-self c =
     let bytes = take c.self.inside.held c.self.inside.lines.items in
     let items : c.push.new.self.items ≡ (bytes ++ c.args.line.now) ++ 10 ∷ [] = search rules in
     let few : length c.push.new.self.items ≤ MOST_HELD_BYTES =
-    omega (arith, ap length items, length-append (bytes ++ c.args.line.now) (10 ∷ []), length-append bytes c.args.line.now, length-take-le c.self.inside.held c.self.inside.lines.items c.self.invariant.held_within, c.if-line-self.false) in
-    one_more_buffer bytes c.args.line.now c.push.new.self.items c.len-self-inside.result _ items (search rules) c.self.invariant.held_lines c.requires.line few (search rules)
+    omega (
+      arith,
+      ap length items,
+      length-append (bytes ++ c.args.line.now) (10 ∷ []),
+      length-append bytes c.args.line.now,
+      length-take-le c.self.inside.held c.self.inside.lines.items c.self.invariant.held_within,
+      c.if-line-self.false,
+    ) in
+    one_more_buffer bytes c.args.line.now c.push.new.self.items c.len-self-inside.result _ items
+    (search rules) c.self.invariant.held_lines c.requires.line few (search rules)
 
 pub returns-clause-after : goal.returns-clause-after
 returns-clause-after c =
     let bytes = take c.self.inside.held c.self.inside.lines.items in
     let line = c.args.line.now in
     let items : c.push.new.self.items ≡ (bytes ++ line) ++ 10 ∷ [] = search rules in
-    let held = one_more_held bytes line c.push.new.self.items c.len-self-inside.result items (search rules) c.self.invariant.held_lines c.requires.line in
+    let held = one_more_held bytes line c.push.new.self.items c.len-self-inside.result items
+    (search rules) c.self.invariant.held_lines c.requires.line in
     let none = none_waits c.push.new.self.items c.len-self-inside.result (search rules) in
     ap (λ (lines : List (List ℕ)). record { held = lines; released = lines_in (drop c.len-self-inside.result c.push.new.self.items) }) held
     ∙ ap (λ (lines : List (List ℕ)). record { held = lines_in bytes ++ line ∷ []; released = lines }) (none ∙ sym c.requires.none_waits)

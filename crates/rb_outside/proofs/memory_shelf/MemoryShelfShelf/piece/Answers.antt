@@ -14,10 +14,12 @@ returns-clause-ok c =
     let others : List Start = map (start_of files) earlier in
     let is_newest = c.in_ok-newest.ensures.ok_part in
     let files_are : c.args.self.now.files ≡ files = ap (λ s. s.files) (sym c.self.view_is) in
-    let starts_are : c.args.self.now.starts ≡ start_of files newest ∷ others = ap (λ s. s.starts) (sym c.self.view_is) ∙ ap (λ o. starts_of files o earlier) is_newest in
+    let starts_are : c.args.self.now.starts ≡ start_of files newest ∷ others =
+    ap (λ s. s.starts) (sym c.self.view_is) ∙ ap (λ o. starts_of files o earlier) is_newest in
     let went : newest.went ≡ true = subst IsOpen starts_are c.requires.started in
     let reading : IsReading files newest = (subst (λ o. AreSound files o earlier) is_newest c.self.invariant.1) went in
-    let rest = c.rest_of_file-rest.ensures.bytes ∙ ap (λ ps. drop newest.passed (started_bytes (stored_files ps) (name_at (stored_files ps) newest.file))) c.as_slice.ensures.value in
+    let rest = c.rest_of_file-rest.ensures.bytes
+    ∙ ap (λ ps. drop newest.passed (started_bytes (stored_files ps) (name_at (stored_files ps) newest.file))) c.as_slice.ensures.value in
     let n = c.copy_front-n.result in
     let buffer = c.copy_front-n.new.buffer in
     let after : List Start = record { file = name_at files newest.file; passed = newest.passed + n; went = newest.went } ∷ others in

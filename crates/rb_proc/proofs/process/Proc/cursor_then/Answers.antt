@@ -18,5 +18,6 @@ returns-clause-cursor g c =
     let level_open = subst (λ (now : Seen). c.args.level < length now.process.levels) (sym c.self.view_is) c.requires.level in
     let word = to_z-of_z w64 c.at_entry.result (search rules) ∙ c.at_entry.ensures.word
     ∙ ap (λ (n : ℕ). word_at (prior_words (copy_of (slice_get i.memory.levels c.args.level))) n) c.cursor_place-place.ensures.place in
-    subst (λ (now : Seen). CursorThen code now.process.state.process c.args.channel (slice_get now.process.levels c.args.level) c.natural.result) c.self.view_is
+    subst (λ (now : Seen). CursorThen code now.process.state.process c.args.channel
+    (slice_get now.process.levels c.args.level) c.natural.result) c.self.view_is
     (cursor_there code i.process c.args.channel c.natural.result i.memory.levels c.args.level level_open (c.natural.ensures ∙ ap natural word))

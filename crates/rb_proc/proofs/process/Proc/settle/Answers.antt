@@ -13,7 +13,9 @@ pub run-ended-requires-clause-safe : goal.run-ended-requires-clause-safe
 run-ended-requires-clause-safe g c =
     let code = plain c.args.code.now in
     let i = c.self.inside in
-    let settles = subst (λ (old : Seen). (groups : List Membership) × SettlesSoundly code groups old.process.state old.process.levels) (sym c.self.view_is) c.requires.settles in
+    let settles =
+    subst (λ (old : Seen). (groups : List Membership) × SettlesSoundly code groups old.process.state old.process.levels)
+    (sym c.self.view_is) c.requires.settles in
     settle_safe code i.memory i.process i.at i.last_kept c.clear.new.self c.new-sight.result c.new-sight.ensures.process c.new-sight.ensures.message c.new-sight.ensures.alternate c.clear.ensures.operands c.clear.ensures.line c.clear.ensures.counters
     settles.0 settles.1
 
@@ -21,8 +23,13 @@ pub run-ended-requires-clause-stays : goal.run-ended-requires-clause-stays
 run-ended-requires-clause-stays g c =
     let code = plain c.args.code.now in
     let i = c.self.inside in
-    let settles = subst (λ (old : Seen). (groups : List Membership) × SettlesSoundly code groups old.process.state old.process.levels) (sym c.self.view_is) c.requires.settles in
-    ([], none_rise code c.new-sight.result.process, settle_stays code i.memory i.process i.at i.last_kept c.clear.new.self c.new-sight.result c.new-sight.ensures.process c.new-sight.ensures.message c.new-sight.ensures.alternate c.clear.ensures.operands c.clear.ensures.line c.clear.ensures.counters settles.0 settles.1)
+    let settles =
+    subst (λ (old : Seen). (groups : List Membership) × SettlesSoundly code groups old.process.state old.process.levels)
+    (sym c.self.view_is) c.requires.settles in (
+      [],
+      none_rise code c.new-sight.result.process,
+      settle_stays code i.memory i.process i.at i.last_kept c.clear.new.self c.new-sight.result c.new-sight.ensures.process c.new-sight.ensures.message c.new-sight.ensures.alternate c.clear.ensures.operands c.clear.ensures.line c.clear.ensures.counters settles.0 settles.1,
+    )
 
 pub returns-clause-settled : goal.returns-clause-settled
 returns-clause-settled g c =

@@ -20,8 +20,14 @@ run-requires-clause-safe g c =
     let code = plain c.args.code.now in
     let i = c.self.inside in
     let wanted = subst (λ (old : Seen). c.args.wanted ≡ wanted_by (want code old.process.state)) (sym c.self.view_is) c.requires.wanted in
-    let stands = subst (λ (old : Seen). (groups : List Membership) × StandsSoundly code groups old.process.state old.process.levels) (sym c.self.view_is) c.requires.stands in
-    let serves = subst (λ (old : Seen). Serves (want code old.process.state) (alternate_for (want code old.process.state) old.process.levels) (message_for code old.process.state c.args.mails.now c.args.there (want code old.process.state)) old.process.levels) (sym c.self.view_is) c.requires.serves in
+    let stands = subst
+    (λ (old : Seen). (groups : List Membership) × StandsSoundly code groups old.process.state old.process.levels)
+    (sym c.self.view_is) c.requires.stands in
+    let serves = subst
+    (λ (old : Seen). Serves (want code old.process.state)
+    (alternate_for (want code old.process.state) old.process.levels)
+    (message_for code old.process.state c.args.mails.now c.args.there (want code old.process.state)) old.process.levels)
+    (sym c.self.view_is) c.requires.serves in
     step_safe code i.memory i.process i.at i.last_kept i.at_line i.status c.args.mails.now c.args.there c.clear.new.self c.new-sight.result
     c.args.wanted c.alternate_of.result c.message_of-message.result wanted c.alternate_of.ensures c.message_of-message.ensures.message
     c.new-sight.ensures.process c.new-sight.ensures.message c.new-sight.ensures.alternate c.clear.ensures.operands c.clear.ensures.line c.clear.ensures.counters
@@ -32,8 +38,14 @@ run-requires-clause-stays g c =
     let code = plain c.args.code.now in
     let i = c.self.inside in
     let wanted = subst (λ (old : Seen). c.args.wanted ≡ wanted_by (want code old.process.state)) (sym c.self.view_is) c.requires.wanted in
-    let stands = subst (λ (old : Seen). (groups : List Membership) × StandsSoundly code groups old.process.state old.process.levels) (sym c.self.view_is) c.requires.stands in
-    let serves = subst (λ (old : Seen). Serves (want code old.process.state) (alternate_for (want code old.process.state) old.process.levels) (message_for code old.process.state c.args.mails.now c.args.there (want code old.process.state)) old.process.levels) (sym c.self.view_is) c.requires.serves in (
+    let stands = subst
+    (λ (old : Seen). (groups : List Membership) × StandsSoundly code groups old.process.state old.process.levels)
+    (sym c.self.view_is) c.requires.stands in
+    let serves = subst
+    (λ (old : Seen). Serves (want code old.process.state)
+    (alternate_for (want code old.process.state) old.process.levels)
+    (message_for code old.process.state c.args.mails.now c.args.there (want code old.process.state)) old.process.levels)
+    (sym c.self.view_is) c.requires.serves in (
       i.memory.words,
       subst (λ (p : ℕ). CursorsRise code p i.memory.words) (sym c.new-sight.ensures.process)
           (subst (λ (old : Seen). CursorsRise code old.process.state.process old.process.state.words) (sym c.self.view_is) c.requires.cursors),
@@ -48,36 +60,78 @@ returns-in-Stop-clause-came g c =
     let code = plain c.args.code.now in
     let i = c.self.inside in
     let wanted = subst (λ (old : Seen). c.args.wanted ≡ wanted_by (want code old.process.state)) (sym c.self.view_is) c.requires.wanted in
-    let e = c.in-Stop.ensures.ended ∙ executes code i.memory i.process i.at i.last_kept i.at_line i.status c.args.mails.now c.args.there c.clear.new.self c.new-sight.result
+    let e = c.in-Stop.ensures.ended
+    ∙ executes code i.memory i.process i.at i.last_kept i.at_line i.status c.args.mails.now c.args.there c.clear.new.self c.new-sight.result
     c.args.wanted c.alternate_of.result c.message_of-message.result wanted c.alternate_of.ensures c.message_of-message.ensures.message
     c.new-sight.ensures.process c.new-sight.ensures.message c.new-sight.ensures.alternate c.clear.ensures.operands c.clear.ensures.line c.clear.ensures.counters in
-    subst (λ (old : Seen). StepsTo code old.process c.args.mails.now (step_of code old.process c.args.mails.now c.args.there) outcome.Went (record { state = standing c.run.new.memory i.process c.in-Stop.at i.last_kept; levels = c.run.new.memory.levels; at_line = false; status = status_of c.status_here-self-inside.result }) c.run.new.mails) c.self.view_is
-    (stop_comes code ((seen i.memory i.process i.at i.last_kept i.at_line i.status).process) c.args.mails.now c.args.there c.in-Stop.at (whole code.texts c.run.new.bench c.run.new.memory c.run.new.mails) _ c.run.new.mails e
-    (ap (λ (ls : List (Level Copy)). record { state = standing c.run.new.memory i.process c.in-Stop.at i.last_kept; levels = ls; at_line = false; status = status_of c.status_here-self-inside.result }) c.in-Stop.ensures.kept.0
-    ∙ ap (λ (st : Stands). record { state = standing c.run.new.memory i.process c.in-Stop.at i.last_kept; levels = i.memory.levels; at_line = false; status = st }) c.status_here-self-inside.ensures) refl)
+    subst (λ (old : Seen). StepsTo code old.process c.args.mails.now
+    (step_of code old.process c.args.mails.now c.args.there) outcome.Went
+    (record {
+      state = standing c.run.new.memory i.process c.in-Stop.at i.last_kept;
+      levels =
+          c.run.new.memory.levels;
+      at_line = false;
+      status =
+          status_of c.status_here-self-inside.result;
+    }) c.run.new.mails) c.self.view_is
+    (stop_comes code
+    ((seen i.memory i.process i.at i.last_kept i.at_line i.status).process) c.args.mails.now c.args.there c.in-Stop.at
+    (whole code.texts c.run.new.bench c.run.new.memory c.run.new.mails) _ c.run.new.mails e
+    (ap (λ (ls : List (Level Copy)). record {
+      state = standing c.run.new.memory i.process c.in-Stop.at i.last_kept;
+      levels =
+          ls;
+      at_line = false;
+      status = status_of c.status_here-self-inside.result;
+    }) c.in-Stop.ensures.kept.0
+    ∙ ap (λ (st : Stands). record {
+      state = standing c.run.new.memory i.process c.in-Stop.at i.last_kept;
+      levels =
+          i.memory.levels;
+      at_line = false;
+      status = st;
+    }) c.status_here-self-inside.ensures) refl)
 
 pub returns-in-Accepts-clause-came : goal.returns-in-Accepts-clause-came
 returns-in-Accepts-clause-came g c =
     let code = plain c.args.code.now in
     let i = c.self.inside in
     let wanted = subst (λ (old : Seen). c.args.wanted ≡ wanted_by (want code old.process.state)) (sym c.self.view_is) c.requires.wanted in
-    let e = c.in-Accepts.ensures.ended ∙ executes code i.memory i.process i.at i.last_kept i.at_line i.status c.args.mails.now c.args.there c.clear.new.self c.new-sight.result
+    let e = c.in-Accepts.ensures.ended
+    ∙ executes code i.memory i.process i.at i.last_kept i.at_line i.status c.args.mails.now c.args.there c.clear.new.self c.new-sight.result
     c.args.wanted c.alternate_of.result c.message_of-message.result wanted c.alternate_of.ensures c.message_of-message.ensures.message
     c.new-sight.ensures.process c.new-sight.ensures.message c.new-sight.ensures.alternate c.clear.ensures.operands c.clear.ensures.line c.clear.ensures.counters in
-    subst (λ (old : Seen). StepsTo code old.process c.args.mails.now (step_of code old.process c.args.mails.now c.args.there) outcome.Accepts ((seen c.run.new.memory i.process c.in-Accepts.at i.last_kept i.at_line i.status).process) c.run.new.mails) c.self.view_is
-    (accept_comes code ((seen i.memory i.process i.at i.last_kept i.at_line i.status).process) c.args.mails.now c.args.there c.in-Accepts.at (whole code.texts c.run.new.bench c.run.new.memory c.run.new.mails) _ c.run.new.mails e
-    (ap (λ (ls : List (Level Copy)). record { state = standing c.run.new.memory i.process c.in-Accepts.at i.last_kept; levels = ls; at_line = i.at_line; status = status_of i.status }) (ap (λ (r : Contents). r.levels) c.in-Accepts.ensures.kept.0)) c.in-Accepts.ensures.kept.1)
+    subst (λ (old : Seen). StepsTo code old.process c.args.mails.now
+    (step_of code old.process c.args.mails.now c.args.there) outcome.Accepts
+    ((seen c.run.new.memory i.process c.in-Accepts.at i.last_kept i.at_line i.status).process) c.run.new.mails) c.self.view_is
+    (accept_comes code
+    ((seen i.memory i.process i.at i.last_kept i.at_line i.status).process) c.args.mails.now c.args.there c.in-Accepts.at
+    (whole code.texts c.run.new.bench c.run.new.memory c.run.new.mails) _ c.run.new.mails e
+    (ap
+    (λ (ls : List (Level Copy)). record {
+      state =
+          standing c.run.new.memory i.process c.in-Accepts.at i.last_kept;
+      levels = ls;
+      at_line = i.at_line;
+      status =
+          status_of i.status;
+    })
+    (ap (λ (r : Contents). r.levels) c.in-Accepts.ensures.kept.0)) c.in-Accepts.ensures.kept.1)
 
 pub returns-in-Trap-clause-came : goal.returns-in-Trap-clause-came
 returns-in-Trap-clause-came g c =
     let code = plain c.args.code.now in
     let i = c.self.inside in
     let wanted = subst (λ (old : Seen). c.args.wanted ≡ wanted_by (want code old.process.state)) (sym c.self.view_is) c.requires.wanted in
-    let e = c.in-Trap.ensures.ended ∙ executes code i.memory i.process i.at i.last_kept i.at_line i.status c.args.mails.now c.args.there c.clear.new.self c.new-sight.result
+    let e = c.in-Trap.ensures.ended
+    ∙ executes code i.memory i.process i.at i.last_kept i.at_line i.status c.args.mails.now c.args.there c.clear.new.self c.new-sight.result
     c.args.wanted c.alternate_of.result c.message_of-message.result wanted c.alternate_of.ensures c.message_of-message.ensures.message
     c.new-sight.ensures.process c.new-sight.ensures.message c.new-sight.ensures.alternate c.clear.ensures.operands c.clear.ensures.line c.clear.ensures.counters in
-    subst (λ (old : Seen). StepsTo code old.process c.args.mails.now (step_of code old.process c.args.mails.now c.args.there) (outcome.Trap c.in-Trap.cause) ((seen c.run.new.memory i.process i.at i.last_kept i.at_line i.status).process) c.run.new.mails) c.self.view_is
-    (trap_comes code ((seen i.memory i.process i.at i.last_kept i.at_line i.status).process) c.args.mails.now c.args.there c.in-Trap.cause _ c.run.new.mails e
+    subst (λ (old : Seen). StepsTo code old.process c.args.mails.now
+    (step_of code old.process c.args.mails.now c.args.there) (outcome.Trap c.in-Trap.cause)
+    ((seen c.run.new.memory i.process i.at i.last_kept i.at_line i.status).process) c.run.new.mails) c.self.view_is
+    (trap_comes code
+    ((seen i.memory i.process i.at i.last_kept i.at_line i.status).process) c.args.mails.now c.args.there c.in-Trap.cause _ c.run.new.mails e
     (ap (λ (r : Contents). (seen r i.process i.at i.last_kept i.at_line i.status).process) c.in-Trap.ensures.kept.0) c.in-Trap.ensures.kept.1)
 
 pub returns-in-Stop-clause-work : goal.returns-in-Stop-clause-work

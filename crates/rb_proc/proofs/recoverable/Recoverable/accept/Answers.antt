@@ -14,11 +14,14 @@ invariant_of-self g c =
     let levels = marks_levels _ _ _ _ _ _ _ t in
     let same = ap (λ (r : Contents). length r.levels) c.self.view_is in
     let items : c.truncate.new.self.items ≡ take (length c.self.inside.marks.items - 1) c.self.inside.marks.items = search rules in
-    subst (λ (ms : List LevelMark). IsTied c.self.inside.cells c.accept.new.self c.self.inside.calls.items (vec_capacity c.self.inside.calls) ms (vec_capacity c.truncate.new.self) c.self.inside.hold)
+    subst (λ (ms : List LevelMark). IsTied c.self.inside.cells c.accept.new.self c.self.inside.calls.items
+    (vec_capacity c.self.inside.calls) ms (vec_capacity c.truncate.new.self) c.self.inside.hold)
     (sym items)
-    (subst (λ n. IsTied c.self.inside.cells c.accept.new.self c.self.inside.calls.items (vec_capacity c.self.inside.calls) (take (length c.self.inside.marks.items - 1) c.self.inside.marks.items) n c.self.inside.hold)
+    (subst (λ n. IsTied c.self.inside.cells c.accept.new.self c.self.inside.calls.items (vec_capacity c.self.inside.calls)
+    (take (length c.self.inside.marks.items - 1) c.self.inside.marks.items) n c.self.inside.hold)
     (sym c.truncate.ensures.capacity)
-    (tied_accept _ _ _ _ _ _ _ t c.accept.new.self c.accept.ensures.copies c.accept.ensures.levels (omega arith) c.accept.ensures.fits c.accept.ensures.limits))
+    (tied_accept _ _ _ _ _ _ _ t c.accept.new.self c.accept.ensures.copies c.accept.ensures.levels
+    (omega arith) c.accept.ensures.fits c.accept.ensures.limits))
 
 pub returns : goal.returns
 returns g c =

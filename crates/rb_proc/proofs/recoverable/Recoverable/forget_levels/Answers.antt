@@ -9,8 +9,12 @@ use Rattle.rb_proc.proofs.recoverable.Recoverable.forget_levels.Goals as goal
 pub invariant_of-self : goal.invariant_of-self
 invariant_of-self g c =
     let i = c.self.inside in
-    subst (λ (ms : List LevelMark). IsTied i.cells c.forget.new.cache i.calls.items (vec_capacity i.calls) ms (vec_capacity c.clear.new.self) i.hold) (search rules)
-    (tied_forget _ _ _ _ _ _ _ c.self.invariant c.forget.new.cache c.forget.ensures.none (vec_capacity c.clear.new.self) (search rules) c.forget.ensures.fits c.forget.ensures.limits)
+    subst
+    (λ (ms : List LevelMark). IsTied i.cells c.forget.new.cache i.calls.items (vec_capacity i.calls) ms
+    (vec_capacity c.clear.new.self) i.hold)
+    (search rules)
+    (tied_forget _ _ _ _ _ _ _ c.self.invariant c.forget.new.cache c.forget.ensures.none (vec_capacity c.clear.new.self)
+    (search rules) c.forget.ensures.fits c.forget.ensures.limits)
 
 pub returns : goal.returns
 returns g c =

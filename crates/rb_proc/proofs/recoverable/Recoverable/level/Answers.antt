@@ -26,4 +26,5 @@ returns g c =
     let found = sym (ap (λ (r : Contents). slice_get r.levels c.args.k) c.self.view_is)
     ∙ pick i.marks.items copied i.calls.items c.args.k c.index.result.now (omega arith) (marks_copied _ _ _ _ _ _ _ c.self.invariant)
     ∙ ap (λ (m : LevelMark). Some (level_of m (get_or copied c.args.k []) i.calls.items)) (sym c.index.ensures) in
-    subst (λ (o : Option (Level Copy)). IsViewOf o c.view_of.result) (sym found) (c.view_of.ensures.facts, c.view_of.ensures.alternate, c.view_of.ensures.used)
+    subst (λ (o : Option (Level Copy)). IsViewOf o c.view_of.result) (sym found)
+    (c.view_of.ensures.facts, c.view_of.ensures.alternate, c.view_of.ensures.used)

@@ -28,13 +28,27 @@ invariant_of-self g c =
     let t = c.self.invariant in
     let levels = marks_levels _ _ _ _ _ _ _ t in
     let same = ap (λ (r : Contents). length r.levels) c.self.view_is in
-    subst (λ (ms : List LevelMark). IsTied c.self.inside.cells c.open.new.self c.self.inside.calls.items (vec_capacity c.self.inside.calls) ms (vec_capacity c.put.new.items) c.self.inside.hold)
+    subst (λ (ms : List LevelMark). IsTied c.self.inside.cells c.open.new.self c.self.inside.calls.items
+    (vec_capacity c.self.inside.calls) ms (vec_capacity c.put.new.items) c.self.inside.hold)
     (sym c.put.ensures.items)
-    (tied_open _ _ _ _ _ _ _ t c.open.new.self _ c.open.ensures.copies c.open.ensures.levels (search rules) _ (search rules) c.open.ensures.fits c.open.ensures.limits (omega arith) (omega arith))
+    (tied_open _ _ _ _ _ _ _ t c.open.new.self _ c.open.ensures.copies c.open.ensures.levels (search rules) _
+    (search rules) c.open.ensures.fits c.open.ensures.limits (omega arith) (omega arith))
 
 pub returns : goal.returns
 returns g c =
     let t = c.self.invariant in
     ap (λ (ms : List LevelMark). contents c.self.inside.cells.words c.open.new.self c.self.inside.calls.items ms c.self.inside.hold) c.put.ensures.items
     ∙ seen_open _ _ _ _ _ _ _ t c.open.new.self _ c.open.ensures.copies c.open.ensures.levels (search rules)
-    ∙ ap (λ (r : Contents). record r { touched = r.touched ++ entered (length r.words) ∷ []; levels = r.levels ++ record { facts = facts_of c.args.facts; alternate = c.args.alternate; used = 0; copy = record { at = c.args.at; words = r.words; calls = r.calls; last_kept = c.args.last_kept } } ∷ [] }) c.self.view_is
+    ∙ ap (λ (r : Contents). record r {
+      touched = r.touched ++ entered (length r.words) ∷ [];
+      levels =
+          r.levels
+          ++ record {
+            facts = facts_of c.args.facts;
+            alternate = c.args.alternate;
+            used = 0;
+            copy =
+                record { at = c.args.at; words = r.words; calls = r.calls; last_kept = c.args.last_kept };
+          }
+          ∷ [];
+    }) c.self.view_is

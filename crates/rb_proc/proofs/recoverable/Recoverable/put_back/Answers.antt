@@ -85,14 +85,27 @@ invariant_of-self g c =
     let mark_is : (m : LevelMark) → get_or i.marks.items k m ≡ mark = λ m. same_pick i.marks.items k m mark within ∙ sym c.index-mark.ensures in
     let words_are = ap (λ (s : Store). s.words) c.put_back.ensures.cells in
     let told_is = c.told-held.ensures.told ∙ ap told words_are in
-    let prefix = subst (λ n. IsLengthOf n (length (lines_then _ _ _ _ _ _ _ t k mark within mark_is)) i.hold.held) (sym told_is) (front_length _ _ _ _ _ _ _ t k mark within mark_is) in
-    let hold_is = c.cut_to.ensures _ prefix ∙ ap (λ (held : List (List ℕ)). record { held = held; released = i.hold.released }) (lines_taken _ _ _ _ _ _ _ t k mark within mark_is) in
+    let prefix = subst (λ n. IsLengthOf n (length (lines_then _ _ _ _ _ _ _ t k mark within mark_is)) i.hold.held)
+    (sym told_is) (front_length _ _ _ _ _ _ _ t k mark within mark_is) in
+    let hold_is = c.cut_to.ensures _ prefix
+    ∙ ap (λ (held : List (List ℕ)). record { held = held; released = i.hold.released })
+    (lines_taken _ _ _ _ _ _ _ t k mark within mark_is) in
     let tied = tied_then _ _ _ _ _ _ _ t k mark within mark_is c.put_back.new.cells c.put_back.new.cache c.put_back.ensures.cells c.put_back.ensures.copies
     c.put_back.ensures.levels (vec_capacity c.truncate-2.new.self) (vec_capacity c.truncate.new.self) (search rules) (search rules)
     c.put_back.ensures.fits c.put_back.ensures.limits in
-    subst (λ (cs : List Held). IsTied c.put_back.new.cells c.put_back.new.cache cs (vec_capacity c.truncate-2.new.self) c.truncate.new.self.items (vec_capacity c.truncate.new.self) c.cut_to.new.self) (sym c.truncate-2.ensures.items)
-    (subst (λ (ms : List LevelMark). IsTied c.put_back.new.cells c.put_back.new.cache (take mark.calls i.calls.items) (vec_capacity c.truncate-2.new.self) ms (vec_capacity c.truncate.new.self) c.cut_to.new.self) (sym c.truncate.ensures.items)
-    (subst (λ (two : TwoLists). IsTied c.put_back.new.cells c.put_back.new.cache (take mark.calls i.calls.items) (vec_capacity c.truncate-2.new.self) (take (k + 1) i.marks.items) (vec_capacity c.truncate.new.self) two) (sym hold_is) tied))
+    subst
+    (λ (cs : List Held). IsTied c.put_back.new.cells c.put_back.new.cache cs
+    (vec_capacity c.truncate-2.new.self) c.truncate.new.self.items
+    (vec_capacity c.truncate.new.self) c.cut_to.new.self)
+    (sym c.truncate-2.ensures.items)
+    (subst
+    (λ (ms : List LevelMark). IsTied c.put_back.new.cells c.put_back.new.cache (take mark.calls i.calls.items)
+    (vec_capacity c.truncate-2.new.self) ms (vec_capacity c.truncate.new.self) c.cut_to.new.self)
+    (sym c.truncate.ensures.items)
+    (subst
+    (λ (two : TwoLists). IsTied c.put_back.new.cells c.put_back.new.cache (take mark.calls i.calls.items)
+    (vec_capacity c.truncate-2.new.self) (take (k + 1) i.marks.items) (vec_capacity c.truncate.new.self) two)
+    (sym hold_is) tied))
 
 pub returns-clause-back : goal.returns-clause-back
 returns-clause-back g c =
@@ -106,14 +119,30 @@ returns-clause-back g c =
     let mark_is : (m : LevelMark) → get_or i.marks.items k m ≡ mark = λ m. same_pick i.marks.items k m mark within ∙ sym c.index-mark.ensures in
     let words_are = ap (λ (s : Store). s.words) c.put_back.ensures.cells in
     let told_is = c.told-held.ensures.told ∙ ap told words_are in
-    let prefix = subst (λ n. IsLengthOf n (length (lines_then _ _ _ _ _ _ _ t k mark within mark_is)) i.hold.held) (sym told_is) (front_length _ _ _ _ _ _ _ t k mark within mark_is) in
-    let hold_is = c.cut_to.ensures _ prefix ∙ ap (λ (held : List (List ℕ)). record { held = held; released = i.hold.released }) (lines_taken _ _ _ _ _ _ _ t k mark within mark_is) in
+    let prefix = subst (λ n. IsLengthOf n (length (lines_then _ _ _ _ _ _ _ t k mark within mark_is)) i.hold.held)
+    (sym told_is) (front_length _ _ _ _ _ _ _ t k mark within mark_is) in
+    let hold_is = c.cut_to.ensures _ prefix
+    ∙ ap (λ (held : List (List ℕ)). record { held = held; released = i.hold.released })
+    (lines_taken _ _ _ _ _ _ _ t k mark within mark_is) in
     let seen = seen_then _ _ _ _ _ _ _ t k mark within mark_is c.put_back.new.cells c.put_back.new.cache c.put_back.ensures.cells c.put_back.ensures.copies
     c.put_back.ensures.levels in
-    subst (λ (old : Contents). PutBack k old (slice_get old.levels k) (contents c.put_back.new.cells.words c.put_back.new.cache c.truncate-2.new.self.items c.truncate.new.self.items c.cut_to.new.self)) c.self.view_is
-    (subst (λ (cs : List Held). PutBack k (contents i.cells.words i.cache i.calls.items i.marks.items i.hold) (slice_get (contents i.cells.words i.cache i.calls.items i.marks.items i.hold).levels k) (contents c.put_back.new.cells.words c.put_back.new.cache cs c.truncate.new.self.items c.cut_to.new.self)) (sym c.truncate-2.ensures.items)
-    (subst (λ (ms : List LevelMark). PutBack k (contents i.cells.words i.cache i.calls.items i.marks.items i.hold) (slice_get (contents i.cells.words i.cache i.calls.items i.marks.items i.hold).levels k) (contents c.put_back.new.cells.words c.put_back.new.cache (take mark.calls i.calls.items) ms c.cut_to.new.self)) (sym c.truncate.ensures.items)
-    (subst (λ (two : TwoLists). PutBack k (contents i.cells.words i.cache i.calls.items i.marks.items i.hold) (slice_get (contents i.cells.words i.cache i.calls.items i.marks.items i.hold).levels k) (contents c.put_back.new.cells.words c.put_back.new.cache (take mark.calls i.calls.items) (take (k + 1) i.marks.items) two)) (sym hold_is) seen)))
+    subst (λ (old : Contents). PutBack k old (slice_get old.levels k)
+    (contents c.put_back.new.cells.words c.put_back.new.cache c.truncate-2.new.self.items c.truncate.new.self.items c.cut_to.new.self)) c.self.view_is
+    (subst
+    (λ (cs : List Held). PutBack k (contents i.cells.words i.cache i.calls.items i.marks.items i.hold)
+    (slice_get (contents i.cells.words i.cache i.calls.items i.marks.items i.hold).levels k)
+    (contents c.put_back.new.cells.words c.put_back.new.cache cs c.truncate.new.self.items c.cut_to.new.self))
+    (sym c.truncate-2.ensures.items)
+    (subst
+    (λ (ms : List LevelMark). PutBack k (contents i.cells.words i.cache i.calls.items i.marks.items i.hold)
+    (slice_get (contents i.cells.words i.cache i.calls.items i.marks.items i.hold).levels k)
+    (contents c.put_back.new.cells.words c.put_back.new.cache (take mark.calls i.calls.items) ms c.cut_to.new.self))
+    (sym c.truncate.ensures.items)
+    (subst
+    (λ (two : TwoLists). PutBack k (contents i.cells.words i.cache i.calls.items i.marks.items i.hold)
+    (slice_get (contents i.cells.words i.cache i.calls.items i.marks.items i.hold).levels k)
+    (contents c.put_back.new.cells.words c.put_back.new.cache (take mark.calls i.calls.items) (take (k + 1) i.marks.items) two))
+    (sym hold_is) seen)))
 
 pub returns-clause-mark : goal.returns-clause-mark
 returns-clause-mark g c =

@@ -34,8 +34,12 @@ invariant_of-self g c =
     let i = c.self.inside in
     let levels = marks_levels _ _ _ _ _ _ _ c.self.invariant in
     let same = ap (λ (r : Contents). length r.levels) c.self.view_is in
-    subst (λ (m : LevelMark). IsTied i.cells i.cache i.calls.items (vec_capacity i.calls) (slice_set i.marks.items c.args.level m) (vec_capacity i.marks) i.hold) (sym c.next_mark.ensures)
-    (tied_raise _ _ _ _ _ _ _ c.self.invariant c.args.level c.index-mark.result.now (omega arith) (sym c.index-mark.ensures) (vec_capacity i.marks) (omega arith))
+    subst
+    (λ (m : LevelMark). IsTied i.cells i.cache i.calls.items (vec_capacity i.calls)
+    (slice_set i.marks.items c.args.level m) (vec_capacity i.marks) i.hold)
+    (sym c.next_mark.ensures)
+    (tied_raise _ _ _ _ _ _ _ c.self.invariant c.args.level c.index-mark.result.now (omega arith) (sym c.index-mark.ensures)
+    (vec_capacity i.marks) (omega arith))
 
 pub returns : goal.returns
 returns g c =

@@ -11,7 +11,10 @@ pub invariant_of-self : goal.invariant_of-self
 invariant_of-self g c =
     let i = c.self.inside in
     let none = ap (λ (r : Contents). length r.levels) c.self.view_is ∙ c.requires.none_open in
-    subst (λ (two : TwoLists). IsTied c.write.new.cells c.write.new.self i.calls.items (vec_capacity i.calls) i.marks.items (vec_capacity i.marks) two) (sym c.release.ensures)
+    subst
+    (λ (two : TwoLists). IsTied c.write.new.cells c.write.new.self i.calls.items (vec_capacity i.calls) i.marks.items
+    (vec_capacity i.marks) two)
+    (sym c.release.ensures)
     (tied_release _ _ _ _ _ _ _ c.self.invariant none c.write.new.cells c.write.new.self c.write.ensures.cells c.write.ensures.copies c.write.ensures.levels c.write.ensures.fits c.write.ensures.limits)
 
 pub returns-clause-lines : goal.returns-clause-lines

@@ -19,6 +19,7 @@ returns c =
     on_ok_weaker c.push.result
     (λ (e : frames_of new ≡ slots ∷ frames_of d).
     ap (λ cs. record { globals = frame c.self.inside.globals.items; calls = cs })
-    (running_changed inner calls n d new last (e ∙ ap (λ s. s ∷ frames_of d) c.in_ok-frame.ensures ∙ ap (λ call. inner (frames_of call)) c.in-Some.ensures.value))
+    (running_changed inner calls n d new last
+    (e ∙ ap (λ s. s ∷ frames_of d) c.in_ok-frame.ensures ∙ ap (λ call. inner (frames_of call)) c.in-Some.ensures.value))
     ∙ ap (push_frame zeroed) c.self.view_is)
     c.push.ensures

@@ -29,26 +29,33 @@ returns-in-Assign c =
 pub returns-in-Print : goal.returns-in-Print
 returns-in-Print c =
     let is : command c.args.statement.now ≡ Printing (map print_item c.in-Print.items.items) = grind (arith, trees) in
-    let Came : List Item → Type 0 = λ items. Comes (prints (state_of c.skip-in-Print.new.self) (map print_item items)) (state_of c.print.new.self) c.print.result in
+    let Came : List Item → Type 0 =
+    λ items. Comes (prints (state_of c.skip-in-Print.new.self) (map print_item items)) (state_of c.print.new.self) c.print.result in
     comes_first (tree c.args.program.now) c.args.message (state_of c.args.self.now) (state_of c.skip-in-Print.new.self) (state_of c.print.new.self)
     (command c.args.statement.now) _ c.print.result c.skip-in-Print.ensures is (subst Came c.deref.ensures.value c.print.ensures)
 
 pub returns-in-Send : goal.returns-in-Send
 returns-in-Send c =
     let is : command c.args.statement.now ≡ Sending (identifier c.in-Send.channel) (expression c.in-Send.value) = grind (arith, trees) in
-    let Came : ℕ → Type 0 = λ channel. Comes (sends (state_of c.skip-in-Send.new.self) channel (expression c.in-Send.value)) (state_of c.send.new.self) c.send.result in
+    let Came : ℕ → Type 0 =
+    λ channel. Comes (sends (state_of c.skip-in-Send.new.self) channel (expression c.in-Send.value))
+    (state_of c.send.new.self) c.send.result in
     comes_first (tree c.args.program.now) c.args.message (state_of c.args.self.now) (state_of c.skip-in-Send.new.self) (state_of c.send.new.self)
     (command c.args.statement.now) _ c.send.result c.skip-in-Send.ensures is (subst Came c.channel_number.ensures c.send.ensures)
 
 pub returns-in-Receive : goal.returns-in-Receive
 returns-in-Receive c =
-    let is : command c.args.statement.now ≡ Receiving (identifier c.in-Receive.channel) (reference c.in-Receive.to) (otherwise c.in-Receive.other) = grind (arith, trees) in
-    comes_first (tree c.args.program.now) c.args.message (state_of c.args.self.now) (state_of c.skip-in-Receive.new.self) (state_of c.receive.new.self)
+    let is : command c.args.statement.now
+    ≡ Receiving (identifier c.in-Receive.channel) (reference c.in-Receive.to) (otherwise c.in-Receive.other) =
+    grind (arith, trees) in
+    comes_first (tree c.args.program.now) c.args.message (state_of c.args.self.now) (state_of c.skip-in-Receive.new.self)
+    (state_of c.receive.new.self)
     (command c.args.statement.now) _ c.receive.result c.skip-in-Receive.ensures is c.receive.ensures
 
 pub returns-in-If : goal.returns-in-If
 returns-in-If c =
-    let is : command c.args.statement.now ≡ Conditional (expression c.in-If.test) (body c.in-If.block) (otherwise c.in-If.other) = grind (arith, trees) in
+    let is : command c.args.statement.now ≡ Conditional (expression c.in-If.test) (body c.in-If.block) (otherwise c.in-If.other) =
+    grind (arith, trees) in
     comes_first (tree c.args.program.now) c.args.message (state_of c.args.self.now) (state_of c.skip-in-If.new.self) (state_of c.choose.new.self)
     (command c.args.statement.now) _ c.choose.result c.skip-in-If.ensures is c.choose.ensures
 
@@ -56,14 +63,18 @@ pub returns-in-While : goal.returns-in-While
 returns-in-While c =
     let s = state_of c.args.self.now in
     let is : command c.args.statement.now ≡ Loop (expression c.in-While.test) (body c.in-While.block) = grind (arith, trees) in
-    let Came : Command → Type 0 = λ form. Comes (performs (tree c.args.program.now) c.args.message s (rest_of s.items) form) (state_of c.repeat.new.self) c.repeat.result in
+    let Came : Command → Type 0 =
+    λ form. Comes (performs (tree c.args.program.now) c.args.message s (rest_of s.items) form)
+    (state_of c.repeat.new.self) c.repeat.result in
     subst Came (sym is) c.repeat.ensures
 
 pub returns-in-Call : goal.returns-in-Call
 returns-in-Call c =
-    let is : command c.args.statement.now ≡ Invocation (identifier c.in-Call.procedure) (map expression c.in-Call.arguments.items) = grind (arith, trees) in
+    let is : command c.args.statement.now ≡ Invocation (identifier c.in-Call.procedure) (map expression c.in-Call.arguments.items) =
+    grind (arith, trees) in
     let skipped = state_of c.skip-in-Call.new.self in
-    let Came : List Expr → Type 0 = λ arguments. Comes (invokes (tree c.args.program.now) (identifier c.in-Call.procedure) (map expression arguments) skipped.items skipped)
+    let Came : List Expr → Type 0 =
+    λ arguments. Comes (invokes (tree c.args.program.now) (identifier c.in-Call.procedure) (map expression arguments) skipped.items skipped)
     (state_of c.invoke.new.self) c.invoke.result in
     comes_first (tree c.args.program.now) c.args.message (state_of c.args.self.now) (state_of c.skip-in-Call.new.self) (state_of c.invoke.new.self)
     (command c.args.statement.now) _ c.invoke.result c.skip-in-Call.ensures is (subst Came c.deref-in-Call.ensures.value c.invoke.ensures)

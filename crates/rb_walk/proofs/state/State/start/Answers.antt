@@ -22,6 +22,7 @@ returns c =
     let skipped = state_of c.skip.new.self in
     let items = items_of (reverse c.put_first.new.items.items) in
     let found = alternate_number c.args.alternate (alternates_in (recovery_block c.args.block.now)) in
-    let begins = alternate_starts c.args.edition c.args.block.now c.in-Some.body.now found s skipped (rest_of s.items) items c.in-Some.ensures c.skip.ensures c.in_ok-put_first.ensures in
+    let begins = alternate_starts c.args.edition c.args.block.now c.in-Some.body.now found s skipped
+    (rest_of s.items) items c.in-Some.ensures c.skip.ensures c.in_ok-put_first.ensures in
     let P : Result State Cause → Type 0 = λ outcome. Comes outcome (state_of c.push_block.new.self) c.push_block.result in
     subst P begins c.push_block.ensures
