@@ -13,8 +13,6 @@ pub mod names;
 pub mod numbers;
 pub mod place;
 pub mod processes;
-#[cfg(test)]
-mod samples;
 pub mod steps;
 pub mod text;
 

@@ -49,18 +49,3 @@ impl Text {
         self.bytes.as_slice()
     }
 }
-
-#[cfg(test)]
-mod tests {
-    use super::*;
-    use std::test::Fail;
-
-    #[test]
-    fn copies_bytes(rt: HostRuntime) -> Result<(), Fail> {
-        for bytes in [b"".as_slice(), b"p.x", b"\0\xff"] {
-            let text = Text::from_slice(rt.alloc(), bytes)?;
-            assert_eq!(rt; text.as_bytes(), bytes);
-        }
-        Ok(())
-    }
-}

@@ -6,4 +6,3 @@ pub mod Views
 pub mod Seen
 pub mod Rejecting
 pub mod LawsHold
-pub mod Mirror

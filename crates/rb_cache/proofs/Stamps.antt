@@ -132,10 +132,6 @@ all_others_one : (p x : ℕ) (b c : Bool) → (b || c) ≡ false → (b ≡ fals
 all_others_one p x false c h = (refl, h)
 all_others_one p x true c h = cc
 
-all_others : (p : ℕ) (xs : List ℕ) → list_any (eqb p) xs ≡ false → AllByRecursion (λ y. eqb p y ≡ false) xs
-all_others p [] h = tt
-all_others p (x ∷ xs) h = let k = all_others_one p x (eqb p x) (list_any (eqb p) xs) h in (k.0, all_others p xs k.1)
-
 all_push : {A : Type 0} (P : A → Type 0) (xs : List A) (x : A) → AllByRecursion P xs → P x → AllByRecursion P (xs ++ x ∷ [])
 all_push P [] x a p = (p, tt)
 all_push P (y ∷ xs) x a p = (a.0, all_push P xs x a.1 p)

@@ -6,4 +6,3 @@ pub mod Merging
 pub mod Chains
 pub mod Inside
 pub mod Laws
-pub mod Trial

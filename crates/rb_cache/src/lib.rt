@@ -8,8 +8,6 @@ mod entry;
 pub mod laws;
 mod merge;
 mod save;
-#[cfg(test)]
-mod tests;
 mod undo;
 
 pub use cache::Cache;

@@ -2,7 +2,5 @@
 #![tactic(auto)]
 
 mod cells;
-#[cfg(test)]
-mod tests;
 
 pub use cells::Cells;

@@ -1,5 +1,5 @@
 -- The parts of which a listing is written.
-use Rattle.std.proofs.Common.{◌≡◌, ℕ, ◌+◌, ◌<◌, List, [], ◌∷◌, ◌++◌, length, map, drop, get_or, nat_eq, true, false, cond, codes, decimal, Option, Result, Ok, Err, IsErr, refl, sym, ap, ◌∙◌, append_assoc, rules, arith, drop-cons, add-one}
+use Rattle.std.proofs.Common.{◌≡◌, ℕ, ◌+◌, ◌<◌, List, [], ◌∷◌, ◌++◌, length, map, drop, get_or, nat_eq, true, cond, codes, decimal, Option, Result, Ok, Err, IsErr, refl, sym, ap, ◌∙◌, append_assoc, rules, arith, drop-cons, add-one}
 use Rattle.std.proofs.lemmas.Grind.{flat_map-append}
 use Rattle.rb_outside.specs.Outside.{Faults}
 use Rattle.rb_outside.specs.Puts.{Puts}
@@ -12,7 +12,7 @@ use Rattle.rb_trace.specs.Lines.{spaced, spaced_word}
 use Rattle.rb_world.specs.Text.{Naming, line_of}
 use Rattle.rb_code.specs.Plain.{Block}
 use Rattle.rb_code.specs.Limits.{block_limits}
-use Rattle.rb_code.specs.Listing.{Head, block_kind, block_line, block_lines, heads_past, instr_line, instr_lines, lines_at, quoted}
+use Rattle.rb_code.specs.Listing.{Head, block_kind, block_line, block_lines, heads_past, instr_line, instr_lines, lines_at}
 use Rattle.rb_code.specs.declared.instr.Instr.{Instr}
 use Rattle.rb_code.specs.declared.instr.Instr.TheVariants.{Turn}
 
@@ -50,16 +50,6 @@ pub past_next : (a : ℕ) (words : List (List ℕ)) (heads : List Head) →
     heads_past a (record { at = a; words = words } ∷ heads) ≡ heads_past a heads
 past_next a words heads = ap (λ b. cond b (heads_past a heads) (record { at = a; words = words } ∷ heads)) (same_number a)
 
--- it stands before another
-other_number : (a b : ℕ) → (a ≡ b → ⊥) → nat_eq a b ≡ false
-other_number a b h = search rules
-
-pub lines_other : (a : ℕ) (head : Head) (heads : List Head) → (head.at ≡ a → ⊥) → lines_at a (head ∷ heads) ≡ []
-lines_other a head heads h = ap (λ b. cond b (line_of head.words ++ lines_at a heads) []) (other_number head.at a h)
-
-pub past_other : (a : ℕ) (head : Head) (heads : List Head) → (head.at ≡ a → ⊥) → heads_past a (head ∷ heads) ≡ head ∷ heads
-past_other a head heads h = ap (λ b. cond b (heads_past a heads) (head ∷ heads)) (other_number head.at a h)
-
 -- the first of the instructions that are left
 instr_first : (texts : List (List ℕ)) (heads : List Head) (instrs : List Instr) (a : ℕ) → a < length instrs →
     instr_lines texts a heads (drop a instrs)
@@ -93,10 +83,6 @@ block_next {X} plain names blocks b one within is = ap (λ (xs : List X). block_
 
 spaced-append : (these those : List (List ℕ)) → spaced (these ++ those) ≡ spaced these ++ spaced those
 spaced-append these those = flat_map-append spaced_word these those
-
--- a text in its quotes
-pub quoted_line : (at text : List ℕ) → at ++ (codes " text \"" ++ (text ++ (codes "\"\n" ++ []))) ≡ line_of (at ∷ codes "text" ∷ quoted text ∷ [])
-quoted_line at text = ap (λ (x : List ℕ). at ++ (codes " text \"" ++ x)) (sym (append_assoc text (34 ∷ []) (10 ∷ [])))
 
 regroup : (a b c d e f : List ℕ) → (a ++ b) ++ (c ++ (d ++ (e ++ f))) ≡ a ++ ((b ++ (c ++ (d ++ e))) ++ f)
 regroup a b c d e f = simp append_assoc refl

@@ -6,7 +6,5 @@ pub mod laws;
 mod member;
 mod rejection;
 mod table;
-#[cfg(test)]
-mod tests;
 
 pub use table::Table;

@@ -166,17 +166,6 @@ pub exit_first : {T : Type 0} (part : Part) {terminal : Terminal} {before after 
 exit_first part f s none without r e same h =
     exit r e same (λ m. missed_first m (none m.other) without) (last_start f s) h
 
--- of the first token of the only form of a part that is wanted
-pub exit_first_within : {T : Type 0} {part part_first : Part} {terminal : Terminal} {a : Point} {before after : Position}
-    {f : Value part_first → Plan (Value part)} {old now : Ending} {given : Stop} (r : Result T Stop) →
-    IsErrAnd r (λ stop. stop ≡ given) → now ≡ old → (g : Seen → Plan (Value part_first)) →
-    start part_first (Some terminal) ≡ Some g → (fits (look before.point.left) terminal ≡ false →
-    start part_first (look before.point.left) ≡ None) → empty part_first ≡ None →
-    Reaches part a (Call part_first f) before.point → Stopped (Misses terminal before after) (TakesLast terminal before) now given
-    → IfErr r (Stopped (Stops part a after.point) (Exhausts part a) old)
-exit_first_within r e same g s none without reached h =
-    exit r e same (λ m. stops_within reached (missed_first m (none m.other) without)) (λ l. exhausts_within reached (last_start g s l)) h
-
 pub exit_sure : {T : Type 0} {part : Part} {terminal : Terminal} {a : Point} (c : Point) {before after : Position}
     {old now : Ending} {given : Stop} (r : Result T Stop) → IsErrAnd r (λ stop. stop ≡ given) → now ≡ old →
     fits (look before.point.left) terminal ≡ true → (TakesLast terminal before → Exhausts part a) →

@@ -2,7 +2,5 @@
 #![tactic(auto)]
 
 pub mod hold;
-#[cfg(test)]
-mod tests;
 
 pub use hold::Hold;

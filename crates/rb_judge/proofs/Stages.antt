@@ -3,19 +3,14 @@ use Rattle.std.proofs.Common.{◌≡◌, ℕ, List, [], subst}
 use Rattle.rb_base.specs.declared.fault.Refusal.{Refusal}
 use Rattle.rb_base.specs.declared.fault.Refusal.TheVariants.{Fault, Memory}
 use Rattle.rb_syntax.specs.Tree.{Tree}
-use Rattle.rb_grammar.specs.Verdict as texts
 use Rattle.rb_grammar.specs.Verdict.{HasTree}
 use Rattle.rb_scope.specs.Resolved as scopes
 use Rattle.rb_scope.specs.Rules.{faults_of}
 use Rattle.rb_nest.specs.Nest as nesting
 use Rattle.rb_judge.specs.Judged.{IsRefusal}
-use Rattle.rb_judge.specs.Verdict.{in_nesting, in_scopes, in_text}
+use Rattle.rb_judge.specs.Verdict.{in_nesting, in_scopes}
 
 -- a refusal by each stage
-pub refused_in_text : (source : List ℕ) (refusal : Refusal) → texts.IsRefusal source refusal → IsRefusal source refusal
-refused_in_text source (Fault fault) r = in_text r
-refused_in_text source Memory r = tt
-
 pub refused_in_scopes : (source : List ℕ) (t : Tree) (refusal : Refusal) → HasTree source t → scopes.IsRefused t refusal
     → IsRefusal source refusal
 refused_in_scopes source t (Fault fault) h r = in_scopes t h r

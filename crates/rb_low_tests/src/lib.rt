@@ -1,8 +1,19 @@
-//! Tests of crates below the machine: files and sinks, tokens, verdicts, listings and printed lines.
+//! Tests of crates below the machine: files and sinks, schedules and trials, words, caches, slots and held lines, the table of
+//! conversations, tokens, verdicts, listings and printed lines.
 #![tactic(auto)]
 
 #[cfg(test)]
+mod base_tests;
+#[cfg(test)]
+mod cache_tests;
+#[cfg(test)]
+mod cell_tests;
+#[cfg(test)]
+mod conv_tests;
+#[cfg(test)]
 mod fault_rows;
+#[cfg(test)]
+mod hold_tests;
 #[cfg(test)]
 mod host_tests;
 #[cfg(test)]
@@ -10,7 +21,15 @@ mod judge_tests;
 #[cfg(test)]
 mod lexer_tests;
 #[cfg(test)]
+mod line_samples;
+#[cfg(test)]
 mod listing_tests;
+#[cfg(test)]
+mod mail_tests;
+#[cfg(test)]
+mod make_tests;
+#[cfg(test)]
+mod sched_tests;
 #[cfg(test)]
 mod sink_tests;
 #[cfg(test)]

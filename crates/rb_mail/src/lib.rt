@@ -2,7 +2,5 @@
 #![tactic(auto)]
 
 mod mail;
-#[cfg(test)]
-mod tests;
 
 pub use mail::Mail;

@@ -3,8 +3,6 @@
 
 mod piece;
 mod source;
-#[cfg(test)]
-mod tests;
 pub mod trial;
 
 pub use trial::{make, process_count};

@@ -3,14 +3,14 @@ use Rattle.std.proofs.Common.{◌≡◌, ◌+◌, ℕ, ℤ, pos, nat_eq, cond, L
 use Rattle.std.proofs.lemmas.List.{append-nil, length-map}
 use Rattle.rb_syntax.specs.Tree.{Tree}
 use Rattle.rb_world.specs.Kind.{Want, NothingLeft, SendsOn, ReceivesOn, MayReceiveOn, Enters, Starts, Acts}
-use Rattle.rb_world.proofs.Erasing.ErasableKinds.{IsFront, Moves, Parts, plain, receives_on, sends_by, takes_by, takes_if, whole}
+use Rattle.rb_world.proofs.Erasing.ErasableKinds.{IsFront, Moves, Parts, plain, receives_on, sends_by, takes_by, takes_if}
 use Rattle.rb_world.proofs.ListFacts.{none_some, some_same, slice_get-front}
 use Rattle.rb_meaning.specs.Environment.{Environment}
 use Rattle.rb_meaning.specs.State.{State, settle, with_held, with_kept}
 use Rattle.rb_meaning.specs.Step.{enter, step, wants_first}
 use Rattle.rb_meaning.specs.Groups.{channels_of, ends_of, groups_of}
-use Rattle.rb_meaning.specs.Meaning.{message_number, sent_on, taken_on, tree_kind}
-use Rattle.rb_meaning.specs.PlainRun.{EntryPoint, entry_point, plain_kind}
+use Rattle.rb_meaning.specs.Meaning.{message_number, sent_on, taken_on}
+use Rattle.rb_meaning.specs.PlainRun.{EntryPoint, entry_point}
 use Rattle.rb_meaning.proofs.MailOfSteps.{Posts, Quiet, Posted, Collected, also_there, front_of_sent, list_on, sent_here, taken_here}
 
 -- the parts of a program's kinds
@@ -35,14 +35,6 @@ parts_of tree = record {
   point_sent = λ point c. unwrap_or (slice_get point.sent c) 0;
   point_taken = λ point c. unwrap_or (slice_get point.taken c) 0;
 }
-
--- the kind with whole recovery points is the meaning's
-pub whole_parts : (tree : Tree) → whole (parts_of tree) ≡ tree_kind tree
-whole_parts tree = refl
-
--- the plain kind is that of plain runs
-pub plain_parts : (tree : Tree) → plain (parts_of tree) ≡ plain_kind tree
-plain_parts tree = refl
 
 -- a receipt sends nothing, and takes what it is given
 receipt_sends_none : (want : Want) (d c : ℕ) → receives_on want ≡ Some d → sends_by want c ≡ 0

@@ -1,5 +1,5 @@
 -- How the turns of a text follow from those of its lines.
-use Rattle.std.proofs.Common.{◌≡◌, ℕ, ◌+◌, ◌≤◌, ◌<◌, List, [], ◌∷◌, ◌++◌, length, vec_len, Some, Result, Ok, Err, refl, ap, ◌∙◌, sym, subst, arith, append_assoc, length-append}
+use Rattle.std.proofs.Common.{◌≡◌, ℕ, ◌+◌, ◌≤◌, ◌<◌, List, [], ◌∷◌, ◌++◌, length, vec_len, Result, Ok, Err, refl, ap, ◌∙◌, sym, subst, arith, append_assoc, length-append}
 use Rattle.std.specs.List.{AllByRecursion}
 use Rattle.std.specs.Result.{IsOk, is_ok}
 use Rattle.rb_base.specs.declared.names.Names.{Names}
@@ -7,7 +7,7 @@ use Rattle.rb_base.specs.declared.fault.TextFault.{TextFault}
 use Rattle.rb_base.specs.declared.fault.FaultName.{FaultName}
 use Rattle.rb_base.specs.declared.limits.TheConstants.{MOST_TURNS}
 use Rattle.rb_base.specs.Naming.{process_names}
-use Rattle.rb_sched.specs.Schedule.{in_front, after_line, line_turns, lines_turns, lines_of, schedule_of, Plan, TakesTurn}
+use Rattle.rb_sched.specs.Schedule.{in_front, after_line, line_turns, lines_turns, lines_of, schedule_of}
 use Rattle.rb_sched.specs.Lines.{fitting}
 use Rattle.rb_sched.specs.Walk.{turns_in, GoesOn}
 use Rattle.rb_base.proofs.Named.{length_process_names}
@@ -128,8 +128,3 @@ turns_known_in names text turns none is_none sound =
     let all : none ++ turns_in (schedule_of (process_names names) text) ≡ turns = λ i. is_none i ++ turns_in (sound i) in
     subst (λ k. Known k (none ++ turns_in (schedule_of (process_names names) text))) (length_process_names names)
     (subst (Known (length (process_names names))) (sym all) (turns_known (process_names names) text turns sound).0)
-
--- a turn that is taken is known, and so are those left
-pub next_known : (P : ℕ → Type 0) (old : Plan) (p : ℕ) (new : Plan) → TakesTurn old (Some p) new → AllByRecursion P old.left
-    → P p × AllByRecursion P new.left
-next_known P old p new takes known = subst (AllByRecursion P) takes.0 known

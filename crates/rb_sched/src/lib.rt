@@ -5,8 +5,6 @@ pub mod laws;
 mod line;
 mod rounds;
 pub mod schedule;
-#[cfg(test)]
-mod tests;
 mod turns;
 pub mod words;
 

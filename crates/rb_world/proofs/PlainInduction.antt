@@ -10,8 +10,6 @@ use Rattle.rb_world.specs.Turn.{Moved, Told, accepted, accepted_at, all_leave, a
 use Rattle.rb_world.specs.Plain.{Kept, PlainEnd, Ended, StuckAt, has_alternate, no_alternate, plain_acts, plain_moves, plain_on, plain_receives, plain_run, plain_runs, plain_stepped, plain_steps, plain_told, plain_turn, plain_turned, when}
 use Rattle.rb_world.proofs.ListFacts.{first_holds, none_some, second_holds, some_same}
 use Rattle.rb_world.proofs.TurnFacts.{RunsAt, IsReady, ToSend, ToReceive, ToReceiveIfThere, ToStart, ToAct, left_alone, come_to_stand}
-use Rattle.rb_world.proofs.Simulation.{Knowing}
-use Rattle.rb_world.proofs.PlainRunsMeet.{KeepsPlainKnown}
 
 -- the lines told so far, each with its turn, and the world
 abbrev pub Plainly : Type 0 → Type 0 → Type 0 → Type 1
@@ -210,13 +208,3 @@ module _ {S C M : Type 0} {k : Kind S C M} {before after : Plainly S C M} (laws 
   pub plain_run-keeps : (past : List (ℕ × Told)) (turns : List Kept) (w v : World S C M) (lines : List (ℕ × Told)) → before past w
       → plain_run k turns w ≡ Ended v lines → before (past ++ lines) v
   plain_run-keeps past turns w v lines holds e = subst (IfEnds past) e (run-plain past turns w holds)
-
--- what a plain invariant says in a turn, for related kinds
-pub plain_invariant_knows : {S C M : Type 0} {k : Kind S C M} {before after : Plainly S C M} {known : Knowing S C M} → IsPlainInvariant k before after
-    → ((past : List (ℕ × Told)) (kept : Kept) (q : Process S C) (w : World S C M) → before past w → RunsAt kept.process q w → q.at_line ≡ false
-    → known kept.turn kept.process q w)
-    → KeepsPlainKnown k known (λ w. (past : List (ℕ × Told)) × before past w)
-plain_invariant_knows laws says = record {
-  knows = λ kept w holds q runs away. says holds.0 kept q w holds.1 runs away;
-  stays = λ kept w x holds e. (_, plain_turn-keeps laws holds.0 kept w x holds.1 e);
-}

@@ -10,8 +10,6 @@ use Rattle.rb_world.specs.Turn.{Told, done_at, finished_at, one_used, opening, o
 use Rattle.rb_world.proofs.TurnFacts.{MayAct}
 use Rattle.rb_world.proofs.Invariant.{Between, Within, IsInvariant}
 use Rattle.rb_world.proofs.Induction.{turn-keeps}
-use Rattle.rb_world.proofs.EachProcess.{KeepsEach, each_kept}
-use Rattle.rb_world.specs.Standing.{Each}
 use Rattle.rb_world.proofs.Simulation.{Shared, Related, Knowing, nothing_known, IsPlainSimulation, IsSimulation}
 use Rattle.rb_world.proofs.ProcessesMeet.{AllMeet, WorldsMeet, goes_on_meets}
 use Rattle.rb_world.proofs.TurnsMeet.{KnowsTurn, turn_meets}
@@ -40,11 +38,6 @@ invariant_knows {during = during} laws says = record {
       (laws.uses t holds.0 p q w holds.1 at)) may;
   stays = λ t p w holds. (_, turn-keeps laws t holds.0 p w holds.1);
 }
-
--- what is shown of each process says it of the one that acts
-pub each_knows : {S C M : Type 0} {k : Kind S C M} {P : ℕ → Process S C → Type 0} → KeepsEach k P
-    → KeepsKnown k (λ t p q w. P p q) (WithPast (λ _ _ w. Each P w.processes))
-each_knows laws = invariant_knows (each_kept laws) (λ t past p q w holds may. holds p q may.runs.there)
 
 -- related worlds, and the same told of each turn
 pub record RunsMeet {S C M T D N : Type 0} (shared : Shared M N) (related : Related S C M T D N)

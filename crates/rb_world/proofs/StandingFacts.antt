@@ -8,8 +8,8 @@ use Rattle.rb_world.specs.Reject.{back_to, first_again, next_alternate, next_tal
 use Rattle.rb_world.specs.Turn.{most_levels, new_level, one_used, opening, run}
 use Rattle.rb_world.proofs.Invariant.{IsInvariant}
 use Rattle.rb_world.proofs.Induction.{run-keeps}
-use Rattle.rb_world.proofs.EachProcess.{KeepsEach, each_opening_run, each_run}
-use Rattle.rb_world.specs.Standing.{Each, HasSize, IsShallow, is_failed, IsBareIfFailed, IsStanding}
+use Rattle.rb_world.proofs.EachProcess.{KeepsEach, each_opening_run}
+use Rattle.rb_world.specs.Standing.{HasSize, IsShallow, is_failed, IsBareIfFailed, IsStanding}
 use Rattle.rb_world.proofs.ListFacts.{length-change_at, length-without_last}
 
 length-reset_from : (below : ℕ → Bool) (d : ℕ) (talks : List Talk) → length (reset_from below d talks) ≡ length talks
@@ -92,10 +92,6 @@ shallow_kept k = record {
   is_freed = λ p q h. h;
 }
 
-pub run-shallow : {S C M : Type 0} (k : Kind S C M) (t : ℕ) (turns : List ℕ) (w : World S C M) → Each IsShallow w.processes
-    → Each IsShallow (run k t turns w).0.processes
-run-shallow k t turns w h = each_run (shallow_kept k) t turns w h
-
 -- who goes on has not failed
 pub status_at-whole : (want : Want) → is_failed (status_at want) ≡ false
 status_at-whole NothingLeft = refl
@@ -131,10 +127,6 @@ bare_kept k = record {
   rises = λ p j q h e. ap (change_at j next_alternate) (h e);
   is_freed = λ p q h. h;
 }
-
-pub run-bare : {S C M : Type 0} (k : Kind S C M) (t : ℕ) (turns : List ℕ) (w : World S C M) → Each IsBareIfFailed w.processes
-    → Each IsBareIfFailed (run k t turns w).0.processes
-run-bare k t turns w h = each_run (bare_kept k) t turns w h
 
 -- all of it at once, from the opening on
 pub standing : {S C M : Type 0} (k : Kind S C M) (turns : List ℕ) (states : List S) (m : M)

@@ -4,8 +4,7 @@ use Rattle.std.specs.List.{flat_map}
 use Rattle.std.proofs.Math.Seq.{drop-append_seam, take-append_seam}
 use Rattle.rb_syntax.specs.Tree.{Tree}
 use Rattle.rb_meaning.specs.Environment.{Frame, global_words}
-use Rattle.rb_meaning.specs.State.{Item, Perform, StartOf, TestOf, EndBlock, EndCall, State, settle_items, with_held, with_kept}
-use Rattle.rb_meaning.specs.Environment.{Environment, pop_call, pop_frame}
+use Rattle.rb_meaning.specs.State.{Item, Perform, StartOf, TestOf, EndBlock, EndCall, State, with_held, with_kept}
 use Rattle.rb_scope.specs.Frames.{Shape}
 use Rattle.rb_scope.specs.declared.slot.Slot.{Slot}
 use Rattle.rb_code.specs.Plain.{Code}
@@ -109,12 +108,3 @@ module _ (tree : Tree) (slots : List Slot) (c : Code) (p : ℕ) where
     calls_are = refl;
     stacks_are = same;
   }
-
--- once settled, no end stands first
-pub settled_items : (items : List Item) (env : Environment) → IsSettled (settle_items items env).0
-settled_items [] env = tt
-settled_items (Perform command ∷ items) env = tt
-settled_items (StartOf block ∷ items) env = tt
-settled_items (TestOf block ∷ items) env = tt
-settled_items (EndBlock ∷ items) env = settled_items items (pop_frame env)
-settled_items (EndCall ∷ items) env = settled_items items (pop_call env)

@@ -1,4 +1,0 @@
-use Rattle.rb_cell.proofs.tests.words_come_and_go.Given as goal
-
-abbrev pub ghosts-words_at_the_limit : goal.ghosts-words_at_the_limit
-ghosts-words_at_the_limit g a = record { name = a.blank.name; parts = a.blank.parts }
