@@ -31,7 +31,7 @@ use Rattle.rb_code.proofs.Progress.{Progress, left_from, potential}
 use Rattle.rb_code.proofs.Safety.{From, from_here}
 use Rattle.rb_code.proofs.Steps.{goes}
 use Rattle.rb_code.proofs.Weaker.{may_trap, rank}
-use Rattle.rb_machine.proofs.StepsRise.{settling_fits}
+use Rattle.rb_code.proofs.Staying.{settling_fits}
 use Rattle.rb_machine.proofs.WordsKept.{word_front, word_left, word_other}
 
 -- these lines are held, and word 0 is this
