@@ -17,7 +17,8 @@ use Rattle.rb_world.specs.Kind.{Went, Held}
 use Rattle.rb_world.specs.World.{Level, Process, World, change_at, copy_of, last_of, settled, without_last}
 use Rattle.rb_world.specs.Turn.{Told, freed, leaves, stands_at, stands_now, state_freed}
 use Rattle.rb_world.specs.Text.{Naming, ProcessNaming, VariableNaming, size_of as size_named}
-use Rattle.rb_world.specs.Plain.{Kept, PlainEnd, Ended, StuckAt}
+use Rattle.rb_base.specs.declared.kept.Kept.{Kept}
+use Rattle.rb_world.specs.Plain.{PlainEnd, Ended, StuckAt}
 use Rattle.rb_world.proofs.ListFacts.{heads_same, none_some, some_same, tails_same}
 use Rattle.rb_world.proofs.PlainInduction.{IsPlainInvariant, Plainly, plain_run-keeps}
 use Rattle.rb_meaning.specs.Environment.{Environment, Frame, Stored, frame_of, frame_words, global_words, has, in_running, push_call, push_frame, running_frames, same_name, size_of, stored_among, stored_in, zeros}
