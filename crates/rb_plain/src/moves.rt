@@ -21,9 +21,9 @@ ghost use Rattle.rb_plain.specs.Worlds.{facts_with, level_of, process_of, unkept
 use crate::process::{Level, Process};
 use crate::record::Kept;
 use rb_base::MOST_OPEN_LEVELS;
+use rb_meaning::numbers::conversation_number;
 use rb_syntax::{Program, Recovery, Statement};
 use rb_walk::Halt;
-use rb_walk::numbers::conversation_number;
 use std::alloc::Global;
 
 impl<'t, 'a> Process<'t, 'a> {
