@@ -15,6 +15,8 @@ pub mod TreeParts
 pub mod ChannelEnds
 pub mod StartsAndEntries
 pub mod TreeErasable
+-- The numbers of names.
+pub mod FirstPlaces
 -- The laws of the meaning.
 pub mod TreeLaws
 pub mod TreeErasure

@@ -27,11 +27,11 @@ is_kept true name place e = refl
 is_kept false name place e = absurd (cc)
 
 -- the first rule of several is kept, and the others give no fault
-kept_before : (keeps : Bool) (name : FaultName) (place : Place) (faults : List SourceFault)
+pub kept_before : (keeps : Bool) (name : FaultName) (place : Place) (faults : List SourceFault)
     → where_broken (not keeps) name place ++ faults ≡ [] → keeps ≡ true
 kept_before keeps name place faults e = is_kept keeps name place (left_empty (where_broken (not keeps) name place) faults e)
 
-none_after : (keeps : Bool) (name : FaultName) (place : Place) (faults : List SourceFault)
+pub none_after : (keeps : Bool) (name : FaultName) (place : Place) (faults : List SourceFault)
     → where_broken (not keeps) name place ++ faults ≡ [] → faults ≡ []
 none_after keeps name place faults e = right_empty (where_broken (not keeps) name place) faults e
 

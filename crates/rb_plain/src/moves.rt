@@ -19,9 +19,9 @@ ghost use Rattle.rb_plain.specs.Worlds.{facts_with, level_of, process_of, unkept
 
 use crate::process::{Level, Process};
 use rb_base::{Kept, MOST_OPEN_LEVELS};
+use rb_meaning::numbers::conversation_number;
 use rb_syntax::{Program, Recovery, Statement};
 use rb_walk::Halt;
-use rb_walk::numbers::conversation_number;
 use std::alloc::Global;
 
 impl<'t, 'a> Process<'t, 'a> {

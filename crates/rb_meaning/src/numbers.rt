@@ -1,4 +1,5 @@
-//! The numbers of processes, channels and conversations, each that of the first declaration with the name; an unknown name has the number 0.
+//! The numbers of processes, channels and conversations, each that of the first declaration with the name; an unknown name
+//! has the number 0.
 
 ghost use Rattle.std.specs.Prelude.{◌≡◌, position};
 ghost use Rattle.rb_syntax.specs.Plain.{tree};
