@@ -17,6 +17,8 @@ pub mod StartsAndEntries
 pub mod TreeErasable
 -- The numbers of names.
 pub mod FirstPlaces
+-- The variables that lines name.
+pub mod NamedVariables
 -- The laws of the meaning.
 pub mod TreeLaws
 pub mod TreeErasure
