@@ -15,8 +15,6 @@ pub mod TreeParts
 pub mod ChannelEnds
 pub mod StartsAndEntries
 pub mod TreeErasable
--- The numbers of names.
-pub mod FirstPlaces
 -- The variables that lines name.
 pub mod NamedVariables
 -- The laws of the meaning.

@@ -9,7 +9,7 @@ ghost use Rattle.rb_meaning.specs.Groups.{channel_number, conversation_number, p
 use rb_syntax::{Channel, Conversation, Process, Program};
 
 /// The number of a process by its name; 0 where none has it.
-#[tactic(auto, using(crate::proofs::FirstPlaces::position_mapped))]
+#[tactic(auto, using(rb_base::proofs::Named::position_mapped))]
 pub fn process_number(program: &Program<'_>, name: &[u8]) -> usize
     ensures { result ≡ process_number (tree program.now) name.now }
 {
@@ -23,7 +23,7 @@ fn process_place(processes: &[Process<'_>], name: &[u8]) -> Option<usize>
 }
 
 /// The number of a channel by its name; 0 where none has it.
-#[tactic(auto, using(crate::proofs::FirstPlaces::position_mapped))]
+#[tactic(auto, using(rb_base::proofs::Named::position_mapped))]
 pub fn channel_number(program: &Program<'_>, name: &[u8]) -> usize
     ensures { result ≡ channel_number (tree program.now) name.now }
 {
@@ -37,7 +37,7 @@ fn channel_place(channels: &[Channel<'_>], name: &[u8]) -> Option<usize>
 }
 
 /// The number of a conversation by its name; 0 where none has it.
-#[tactic(auto, using(crate::proofs::FirstPlaces::position_mapped))]
+#[tactic(auto, using(rb_base::proofs::Named::position_mapped))]
 pub fn conversation_number(program: &Program<'_>, name: &[u8]) -> usize
     ensures { result ≡ conversation_number (tree program.now) name.now }
 {
