@@ -1,7 +1,8 @@
 -- One step of the walk over the links: a link is followed, or passed over.
-use Rattle.std.proofs.Common.{◌≡◌, ◌<◌, ◌+◌, ℕ, Bool, true, false, cond, List, [], ◌∷◌, ◌++◌, length, drop, get_or, map, refl, reverse, sym, ap, ◌∙◌, append_assoc}
-use Rattle.std.proofs.lemmas.List.{drop_more, map-append, reverse-append}
+use Rattle.std.proofs.Common.{◌≡◌, ◌<◌, ◌+◌, ℕ, Bool, true, false, cond, List, [], ◌∷◌, ◌++◌, length, drop, get_or, map, reverse, sym, ap, ◌∙◌, append_assoc}
+use Rattle.std.proofs.lemmas.List.{drop_more}
 use Rattle.rb_base.specs.declared.kept.Kept.{Kept}
+use Rattle.rb_cache.proofs.LawsHold.{map-reverse}
 use Rattle.rb_code.specs.Turn.{Link}
 use Rattle.rb_machine.specs.Survivors.{is_wanted, kept_by, next_wanted, reached}
 use Rattle.rb_machine.specs.Worlds.{link_of}
@@ -42,13 +43,6 @@ module _ (all : List Held) (i : ℕ) (x : Held) (within : i < length all) (here 
         ap (λ (n : ℕ). items ++ from all n later) is_next
         ∙ (ap (λ (ws : List ℕ). items ++ from all (i + 1) ws) (then ∙ ap next_of so)
         ∙ (ap (λ (ks : List Kept). items ++ ks) (sym (met false (sym answered ∙ so))) ∙ h))
-
-map-reverse : {A B : Type 0} (f : A → B) (xs : List A) → map f (reverse xs) ≡ reverse (map f xs)
-map-reverse f [] = refl
-map-reverse {A} {B} f (x ∷ xs) =
-    ap (map f) (reverse-append (x ∷ []) xs)
-    ∙ (map-append f (reverse xs) (x ∷ [])
-    ∙ (ap (λ (ys : List B). ys ++ f x ∷ []) (map-reverse f xs) ∙ sym (reverse-append (f x ∷ []) (map f xs))))
 
 -- what was reached, from the oldest on
 pub in_order : (links : List Held) (wanted : List ℕ) (kept back : List Kept) → kept ≡ reached (map link_of (reverse links)) wanted
