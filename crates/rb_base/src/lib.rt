@@ -7,6 +7,7 @@ pub mod edition;
 pub mod ending;
 pub mod event;
 pub mod fault;
+pub mod kept;
 pub mod limits;
 pub mod lines;
 pub mod names;
@@ -20,6 +21,7 @@ pub use edition::Edition;
 pub use ending::Final;
 pub use event::{Cause, Event, MOST_EVENTS, Report, State, TurnKind};
 pub use fault::{FaultName, Refusal, SourceFault, TextFault};
+pub use kept::Kept;
 pub use limits::{
     LARGEST_NUMBER, LONGEST_NAME, LONGEST_TEXT, MOST_BYTES, MOST_HELD_BYTES, MOST_OPEN_BRACKETS,
     MOST_OPEN_CALLS, MOST_OPEN_LEVELS, MOST_QUANTIFIED, MOST_TURNS, MOST_WORDS_FIRST,

@@ -60,7 +60,7 @@ heights_in ws (r ∷ rs) a =
     ap (λ (n : ℕ). n ∷ map (λ (copy : List ℤ). length copy) (restored (put_back ws r.saved) rs)) (length-copy ws r a.0)
     ∙ ap (λ (ns : List ℕ). r.height ∷ ns) (heights_in (put_back ws r.saved) rs ok)
 
-map-reverse : {A B : Type 0} (f : A → B) (xs : List A) → map f (reverse xs) ≡ reverse (map f xs)
+pub map-reverse : {A B : Type 0} (f : A → B) (xs : List A) → map f (reverse xs) ≡ reverse (map f xs)
 map-reverse f [] = refl
 map-reverse f (x ∷ xs) =
     ap (map f) (reverse-cons x xs) ∙ map-append f (reverse xs) (x ∷ []) ∙ ap (λ ys. ys ++ f x ∷ []) (map-reverse f xs)
@@ -74,7 +74,7 @@ heights_lengths ws cache f =
     ∙ sym (map-reverse (λ (l : Level). l.height) (map level_of cache.regions))
 
 -- more words
-weaker : (m n : ℕ) (rs : List Region) → m ≤ n → AllByRecursion (λ (r : Region). r.height ≤ m) rs → AllByRecursion (λ (r : Region). r.height ≤ n) rs
+pub weaker : (m n : ℕ) (rs : List Region) → m ≤ n → AllByRecursion (λ (r : Region). r.height ≤ m) rs → AllByRecursion (λ (r : Region). r.height ≤ n) rs
 weaker m n [] le a = tt
 weaker m n (r ∷ rs) le a = (omega (arith, le, a.0), weaker m n rs le a.1)
 

@@ -48,8 +48,7 @@ module _ (c d : Code) where
       (same_then c d (same_at c d fails fails')
       (same_then c d (fixed_one c d (instr.Push (pos 0)) refl)
       (same_at c d end end')))))))
-      (λ u (t0, (t1, (t2, (t3, (at_fails, (t5, at_end)))))).
-      (zero_alike fails fails' at_fails, (tt, (tt, (jump_alike end end' at_end, (tt, (tt, tt)))))))
+      (λ u (t0, (t1, (t2, (t3, (at_fails, (t5, at_end)))))). (zero_alike fails fails' at_fails, (tt, (tt, (jump_alike end end' at_end, (tt, (tt, tt)))))))
       (λ t. tt))
 
   abbrev or_parts : Template → ℕ → ℕ → Template
@@ -66,8 +65,7 @@ module _ (c d : Code) where
       (same_then c d f
       (same_then c d (fixed_one c d instr.Bool refl)
       (same_at c d end end')))))))
-      (λ u (t0, (t1, (t2, (at_other, (t4, (t5, at_end)))))).
-      (zero_alike other other' at_other, (tt, (jump_alike end end' at_end, (tt, (tt, (tt, tt)))))))
+      (λ u (t0, (t1, (t2, (at_other, (t4, (t5, at_end)))))). (zero_alike other other' at_other, (tt, (jump_alike end end' at_end, (tt, (tt, (tt, tt)))))))
       (λ t. tt))
 
   pub operator_alike : (op : Op) (right : Template) → Fixed c d right → Fixed c d (OperatorCode op right)

@@ -1,9 +1,9 @@
 -- A block, an `if` and a `while` begin the same in the meaning and in the machine.
 use Rattle.std.proofs.Common.{◌≡◌, ◌≤◌, ℕ, ◌+◌, pos, nat_lt, cond, Bool, true, false, List, [], ◌∷◌, ◌++◌, length, replicate, Option, Ok, Err, refl, sym, subst, arith, length-append}
-use Rattle.std.proofs.lemmas.Bool.Decides.{nat_tests}
 use Rattle.std.proofs.lemmas.List.{length-replicate}
 use Rattle.rb_base.specs.declared.event.Cause.TheVariants.{Stack}
 use Rattle.rb_base.specs.Limits.{most_words}
+use Rattle.rb_cache.proofs.Stamps.{le_from_test}
 use Rattle.rb_syntax.specs.Tree.{Body, Scope, Commands, Declaration, Tree}
 use Rattle.rb_meaning.specs.Environment.{Environment, frame_of, frame_words, push_frame, words}
 use Rattle.rb_meaning.specs.State.{Item, EndBlock, State, continue_with, performed, with_environment}
@@ -11,6 +11,7 @@ use Rattle.rb_meaning.specs.Step.{pushes}
 use Rattle.rb_scope.specs.Frames.{shape_of}
 use Rattle.rb_scope.specs.InFrames.{BodyInFrames, CommandsInFrames}
 use Rattle.rb_scope.specs.declared.slot.Slot.{Slot}
+use Rattle.rb_scope.proofs.WithinLimits.{shape_words-frame}
 use Rattle.rb_code.specs.Plain.{Code}
 use Rattle.rb_code.specs.Memory.{Counting, Memory, framed, part_of, variables_place}
 use Rattle.rb_code.specs.Act.{Sight}
@@ -21,12 +22,9 @@ use Rattle.rb_code.proofs.Meets.{WordsMeet}
 use Rattle.rb_code.proofs.Left.{Left, Onward, frames_at, owner_of}
 use Rattle.rb_code.proofs.Environments.{laid_long}
 use Rattle.rb_code.proofs.Pushed.{laid_pushed}
-use Rattle.rb_code.proofs.BlocksBegin.{HasMain, commands_left, frame_and_shape, frame_leads, frame_traps, has_main, push_stacks}
+use Rattle.rb_code.proofs.BlocksBegin.{HasMain, commands_left, frame_leads, frame_traps, has_main, push_stacks}
 use Rattle.rb_code.proofs.Stores.{frames_of}
 use Rattle.rb_code.proofs.Took.{HasCursors, InTurn, Took, arrives, took_from, words_again, words_continue}
-
-pub not_above : (most w : ℕ) → nat_lt most w ≡ false → w ≤ most
-not_above most w h = grind (arith, nat_tests)
 
 module _ (tree : Tree) (slots : List Slot) (c : Code) (see : Sight) (has : HasCursors c see.process) where
   -- the memory in which a state stands may have other counters
@@ -58,7 +56,7 @@ module _ (tree : Tree) (slots : List Slot) (c : Code) (see : Sight) (has : HasCu
         (subst (λ stacks. CommandsInFrames tree slots p (frames_at tree p (shape ∷ running stacks)) commands) main.is is) (
           b,
           next,
-          subst (λ n. DropCode n c d b) (sym (frame_and_shape (frame_of variables))) drop,
+          subst (λ n. DropCode n c d b) (sym (shape_words-frame (frame_of variables))) drop,
           on,
           subst (λ stacks. Left tree slots c p stacks rest m.calls next) main.is left,
         ))
@@ -108,7 +106,7 @@ module _ (tree : Tree) (slots : List Slot) (c : Code) (see : Sight) (has : HasCu
                   words_continue tree c see.process has (with_environment env s) (framed n m).words m.calls
                   (performed commands (EndBlock ∷ rest))
                   (words_again tree c see.process has s m.words m.calls w env (framed n m).words m.calls laid refl
-                  (not_above (most_words c.edition) (words env) h));
+                  (le_from_test (most_words c.edition) (words env) h));
               held = turn.held;
               two = turn.two;
             })

@@ -1,12 +1,12 @@
 -- A block that begins: its frame is pushed, or the trap `stack`.
-use Rattle.std.proofs.Common.{◌≡◌, ◌≤◌, ℕ, zero, suc, ◌+◌, ℤ, nat_le, nat_lt, cond, true, false, List, [], ◌∷◌, length, refl, sym, ap, ◌∙◌, subst, arith, append-nil}
+use Rattle.std.proofs.Common.{◌≡◌, ◌≤◌, ℕ, zero, suc, ◌+◌, ℤ, nat_le, nat_lt, cond, true, false, List, [], ◌∷◌, length, refl, sym, ap, subst, arith, append-nil}
 use Rattle.std.proofs.lemmas.Bool.Decides.{nat_tests}
 use Rattle.rb_base.specs.declared.event.Cause.TheVariants.{Stack}
 use Rattle.rb_base.specs.Limits.{most_words}
 use Rattle.rb_syntax.specs.Tree.{Commands, NoCommand, Then, Tree}
-use Rattle.rb_meaning.specs.Environment.{Environment, Frame, frame_words, in_running}
+use Rattle.rb_meaning.specs.Environment.{Environment, Frame, in_running}
 use Rattle.rb_meaning.specs.State.{Item, performed}
-use Rattle.rb_scope.specs.Frames.{Shape, shape_of, shape_words}
+use Rattle.rb_scope.specs.Frames.{Shape, shape_of}
 use Rattle.rb_scope.specs.InFrames.{CommandsInFrames}
 use Rattle.rb_scope.specs.declared.slot.Slot.{Slot}
 use Rattle.rb_code.specs.Plain.{Code, Part}
@@ -16,14 +16,8 @@ use Rattle.rb_code.specs.Forms.{CommandCode, CommandsCode, FrameCode}
 use Rattle.rb_code.specs.declared.instr.Instr.TheVariants.{Frame as FrameInstr}
 use Rattle.rb_code.proofs.Leads.{EndsIn, Leads, ends, passes, stays}
 use Rattle.rb_code.proofs.LaidOut.{Based, Laid, running, stacks_of}
-use Rattle.rb_code.proofs.Lying.{frame_long}
 use Rattle.rb_code.proofs.Left.{Left, frames_at, owner_of}
-use Rattle.rb_code.proofs.Environments.{words_of_frame}
 use Rattle.rb_code.proofs.Pushed.{no_body}
-
--- as many words by a frame and by its shape
-pub frame_and_shape : (frame : Frame) → shape_words (shape_of frame) ≡ frame_words frame
-frame_and_shape frame = sym (frame_long frame) ∙ words_of_frame frame
 
 -- the stacks of an environment in which a frame was pushed
 pub push_stacks : (frame : Frame) (calls : List (List Frame)) (shapes : List Shape) (outer : List (List Shape)) → stacks_of calls ≡ shapes ∷ outer

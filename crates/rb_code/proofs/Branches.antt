@@ -74,21 +74,7 @@ module _ (tree : Tree) (slots : List Slot) (c : Code) (see : Sight) (has : HasCu
       (λ v later at many. test_took v later end e f _ _ jump
       (goes_past rest end later (many ∙ turn.two) (subst (λ z. LeftAt rest z) (at_end.1 ∙ at_end.0) left))
       (body_took body rest f g b later (many ∙ turn.two) body_code body_is (inl at_end.1) left))
-  branches_took test body (Else other) rest a b (
-    fails,
-    (
-      end,
-      (
-        d,
-        begin,
-        (
-          e,
-          test_code,
-          (f, jump_zero, (g, body_code, (h, jump, (i, at_no, (j, other_code, at_end))))),
-        ),
-      ),
-    ),
-  ) test_is body_is other_is left =
+  branches_took test body (Else other) rest a b (fails, (end, (d, begin, (e, test_code, (f, jump_zero, (g, body_code, (h, jump, (i, at_no, (j, other_code, at_end))))))))) test_is body_is other_is left =
       took_on tree slots c see has (a + 1) e [] m (λ v. v ∷ []) (λ v. m) (λ later. m.slots) (present_value s.environment test) _
       (plain_comes tree slots c see has s m turn test test_is (a + 1) e m.counters [] turn.two
       (subst (λ z. ExpressionCode slots test c z e) begin.1 test_code))

@@ -28,8 +28,8 @@ use Rattle.rb_code.proofs.Meets.{WordsMeet}
 use Rattle.rb_code.proofs.Environments.{laid_long}
 use Rattle.rb_code.proofs.Pushed.{laid_called, zeros_flat}
 use Rattle.rb_code.proofs.BlocksBegin.{commands_left, fits, full}
-use Rattle.rb_code.proofs.Blocks.{not_above}
 use Rattle.std.proofs.lemmas.List.{length-map, length-replicate}
+use Rattle.rb_cache.proofs.Stamps.{le_from_test}
 use Rattle.rb_code.proofs.Stores.{frames_of, plain_comes}
 use Rattle.rb_code.proofs.Took.{HasCursors, InTurn, Took, arrives, same_took, took_from, took_on, words_again, words_continue}
 
@@ -236,7 +236,7 @@ module _ (tree : Tree) (slots : List Slot) (c : Code) (see : Sight) (has : HasCu
                 words_continue tree c see.process has (with_environment env s) new_words new_calls
                 (performed (commands_of procedure.body) (EndCall ∷ rest))
                 (words_again tree c see.process has s m.words m.calls w env new_words new_calls laid refl
-                (not_above (most_words c.edition) (words env) f));
+                (le_from_test (most_words c.edition) (words env) f));
             held = turn.held;
             two = two;
           })

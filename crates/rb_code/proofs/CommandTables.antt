@@ -9,6 +9,7 @@ use Rattle.rb_scope.specs.Frames.{Frames, in_acceptance, pushed, shape_of, shape
 use Rattle.rb_scope.specs.InFrames.{AlternatesInFrames, BodyInFrames, CommandInFrames, CommandsInFrames, ExpressionInFrames, IsChannel, IsScalar, ReferenceInFrames}
 use Rattle.rb_scope.specs.Limits.{AlternatesWithin, BodyWithin, CommandWithin, CommandsWithin}
 use Rattle.rb_scope.specs.declared.slot.Slot.{Slot}
+use Rattle.rb_scope.proofs.WithinLimits.{shape_words-frame}
 use Rattle.rb_code.specs.Plain.{Code}
 use Rattle.rb_code.specs.Memory.{part_of}
 use Rattle.rb_code.specs.Slots.{channel_in, channel_of}
@@ -19,7 +20,6 @@ use Rattle.rb_code.specs.Template.{One}
 use Rattle.rb_code.specs.Forms.{AlternatesCode, BlockCode, BodyCode, BranchesCode, CommandCode, CommandsCode, ExpressionCode, OthersCode, Owner, ReceiptCode, StoreCode}
 use Rattle.rb_code.specs.declared.instr.Instr.TheVariants.{Absent, Jump, JumpZero, Take, Turn}
 use Rattle.rb_code.proofs.Tabled.{Around}
-use Rattle.rb_code.proofs.BlocksBegin.{frame_and_shape}
 use Rattle.rb_code.proofs.Resting.{resting}
 use Rattle.rb_code.proofs.Choices.{Enclosed, Statements, Tested, block_stretch, if_else_stretch, if_stretch, no_statement, receive_else_stretch, then_more, while_stretch}
 use Rattle.rb_code.proofs.Alternatives.{Alternatives, alternative, no_alternative, other_alternative, recovery_stretch}
@@ -77,7 +77,7 @@ module _ (tree : Tree) (slots : List Slot) (c : Code) (owner : Owner) (P : Aroun
           arith,
           known.running_are,
           sum_by-cons shape_words (shape_of (frame_of variables)) frames.running,
-          frame_and_shape (frame_of variables),
+          shape_words-frame (frame_of variables),
         );
     globals_are = known.globals_are;
     none_counted = known.none_counted;

@@ -77,7 +77,7 @@ no_number q (one ∷ around) (other ∷ counters) set x fit e = by (no_number q 
         ∙ ap (λ b. cond b (Some other.1) (counter_of counters x)) h ∙ next g
 
 -- a counter that is set: the others stay, and it has its number
-get_set_same : {A : Type 0} (xs : List A) (k : ℕ) (x : A) → k < length xs → slice_get (slice_set xs k x) k ≡ Some x
+pub get_set_same : {A : Type 0} (xs : List A) (k : ℕ) (x : A) → k < length xs → slice_get (slice_set xs k x) k ≡ Some x
 get_set_same [] k x h = absurd (omega arith)
 get_set_same (y ∷ ys) zero x h = refl
 get_set_same (y ∷ ys) (suc k) x h = get_set_same ys k x (omega arith)

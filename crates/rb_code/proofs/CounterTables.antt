@@ -109,39 +109,7 @@ module _ (c : Code) (groups : List Membership) (e : Entry) (above : IsAbove e.bl
           → PushesIn loops after high (None ∷ os) → ((first last : ℕ) → PushesIn (loop_over k first last ∷ loops) after body os) → Cover a b loops
           → EveryCode k low high body c a b → ((t : Table) → R t → LeadsTo c groups t b (point e (None ∷ os) loops after))
           → TabledFirst c groups R a b (point e os loops mode)
-      every_tabled mode R a b os room low_pushes high_pushes body_pushes cover (
-        loop,
-        (
-          fails,
-          (
-            holds,
-            (
-              end,
-              (
-                p,
-                lc,
-                (
-                  r,
-                  hc,
-                  (
-                    d,
-                    range,
-                    (
-                      first,
-                      at_loop,
-                      (
-                        d0,
-                        bc,
-                        (d1, zero_test, (d2, again, (d3, at_yes, (d4, push1, (d5, jump, (d6, at_no, (d7, push0, at_end))))))),
-                      ),
-                    ),
-                  ),
-                ),
-              ),
-            ),
-          ),
-        ),
-      ) next =
+      every_tabled mode R a b os room low_pushes high_pushes body_pushes cover (loop, (fails, (holds, (end, (p, lc, (r, hc, (d, range, (first, at_loop, (d0, bc, (d1, zero_test, (d2, again, (d3, at_yes, (d4, push1, (d5, jump, (d6, at_no, (d7, push0, at_end)))))))))))))))) next =
           let l0 = low_forward a p lc in let l1 = high_forward p r hc in let l2 = body_forward first d0 bc in
           let n0 = range.1 in let n1 = at_loop.1 in let n2 = zero_test.1 in let n3 = again.1 in let n4 = at_yes.1 in let n5 = push1.1 in
           let n6 = jump.1 in let n7 = at_no.1 in let n8 = push0.1 in let n9 = at_end.1 in
@@ -182,39 +150,7 @@ module _ (c : Code) (groups : List Membership) (e : Entry) (above : IsAbove e.bl
           → PushesIn loops after high (None ∷ os) → ((first last : ℕ) → PushesIn (loop_over k first last ∷ loops) after body os) → Cover a b loops
           → SomeCode k low high body c a b → ((t : Table) → R t → LeadsTo c groups t b (point e (None ∷ os) loops after))
           → TabledFirst c groups R a b (point e os loops mode)
-      some_tabled mode R a b os room low_pushes high_pushes body_pushes cover (
-        loop,
-        (
-          later,
-          (
-            fails,
-            (
-              end,
-              (
-                p,
-                lc,
-                (
-                  r,
-                  hc,
-                  (
-                    d,
-                    range,
-                    (
-                      first,
-                      at_loop,
-                      (
-                        d0,
-                        bc,
-                        (d1, zero_test, (d2, push1, (d3, jump, (d4, at_next, (d5, again, (d6, at_no, (d7, push0, at_end))))))),
-                      ),
-                    ),
-                  ),
-                ),
-              ),
-            ),
-          ),
-        ),
-      ) next =
+      some_tabled mode R a b os room low_pushes high_pushes body_pushes cover (loop, (later, (fails, (end, (p, lc, (r, hc, (d, range, (first, at_loop, (d0, bc, (d1, zero_test, (d2, push1, (d3, jump, (d4, at_next, (d5, again, (d6, at_no, (d7, push0, at_end)))))))))))))))) next =
           let l0 = low_forward a p lc in let l1 = high_forward p r hc in let l2 = body_forward first d0 bc in
           let n0 = range.1 in let n1 = at_loop.1 in let n2 = zero_test.1 in let n3 = push1.1 in let n4 = jump.1 in let n5 = at_next.1 in
           let n6 = again.1 in let n7 = at_no.1 in let n8 = push0.1 in let n9 = at_end.1 in

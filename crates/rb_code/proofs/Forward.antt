@@ -50,80 +50,15 @@ module _ (c : Code) where
 
   quantified_forward : (kind : Quantifier) (k : ℕ) (low high body : Template) → Forward low → Forward high → Forward body
       → Forward (QuantifiedCode kind k low high body)
-  quantified_forward Every k low high body f g h a b (
-    loop,
-    (
-      fails,
-      (
-        holds,
-        (
-          end,
-          (
-            p,
-            lc,
-            (
-              r,
-              hc,
-              (
-                d,
-                range,
-                (
-                  first,
-                  at_loop,
-                  (
-                    d0,
-                    bc,
-                    (d1, zero_test, (d2, again, (d3, at_yes, (d4, push1, (d5, jump, (d6, at_no, (d7, push0, at_end))))))),
-                  ),
-                ),
-              ),
-            ),
-          ),
-        ),
-      ),
-    ),
-  ) =
+  quantified_forward Every k low high body f g h a b (loop, (fails, (holds, (end, (p, lc, (r, hc, (d, range, (first, at_loop, (d0, bc, (d1, zero_test, (d2, again, (d3, at_yes, (d4, push1, (d5, jump, (d6, at_no, (d7, push0, at_end)))))))))))))))) =
       let l0 = f a p lc in let l1 = g p r hc in let l2 = h first d0 bc in
       let e0 = range.1 in let e1 = at_loop.1 in let e2 = zero_test.1 in let e3 = again.1 in let e4 = at_yes.1 in
       let e5 = push1.1 in let e6 = jump.1 in let e7 = at_no.1 in let e8 = push0.1 in let e9 = at_end.1 in omega arith
-  quantified_forward Any k low high body f g h a b (
-    loop,
-    (
-      next,
-      (
-        fails,
-        (
-          end,
-          (
-            p,
-            lc,
-            (
-              r,
-              hc,
-              (
-                d,
-                range,
-                (
-                  first,
-                  at_loop,
-                  (
-                    d0,
-                    bc,
-                    (d1, zero_test, (d2, push1, (d3, jump, (d4, at_next, (d5, again, (d6, at_no, (d7, push0, at_end))))))),
-                  ),
-                ),
-              ),
-            ),
-          ),
-        ),
-      ),
-    ),
-  ) =
+  quantified_forward Any k low high body f g h a b (loop, (next, (fails, (end, (p, lc, (r, hc, (d, range, (first, at_loop, (d0, bc, (d1, zero_test, (d2, push1, (d3, jump, (d4, at_next, (d5, again, (d6, at_no, (d7, push0, at_end)))))))))))))))) =
       let l0 = f a p lc in let l1 = g p r hc in let l2 = h first d0 bc in
       let e0 = range.1 in let e1 = at_loop.1 in let e2 = zero_test.1 in let e3 = push1.1 in let e4 = jump.1 in
       let e5 = at_next.1 in let e6 = again.1 in let e7 = at_no.1 in let e8 = push0.1 in let e9 = at_end.1 in omega arith
-  quantified_forward Total k low high body f g h a b
-      (loop, (end, (a0, push0, (p, lc, (r, hc, (d, range, (first, at_loop, (d0, bc, (d1, adds, (d2, again, at_end)))))))))) =
+  quantified_forward Total k low high body f g h a b (loop, (end, (a0, push0, (p, lc, (r, hc, (d, range, (first, at_loop, (d0, bc, (d1, adds, (d2, again, at_end)))))))))) =
       let l0 = f a0 p lc in let l1 = g p r hc in let l2 = h first d0 bc in
       let e0 = push0.1 in let e1 = range.1 in let e2 = at_loop.1 in let e3 = adds.1 in let e4 = again.1 in let e5 = at_end.1 in omega arith
 

@@ -12,6 +12,7 @@ use Rattle.rb_scope.specs.Frames.{Sized, call_shape, main_frames, procedure_fram
 use Rattle.rb_scope.specs.InFrames.{ProcedureInFrames, ProcessInFrames}
 use Rattle.rb_scope.specs.Limits.{ProcedureWithin, ProcessWithin}
 use Rattle.rb_scope.specs.declared.slot.Slot.{Slot}
+use Rattle.rb_scope.proofs.WithinLimits.{shape_words-frame}
 use Rattle.rb_code.specs.Plain.{Code, Part, Procedure}
 use Rattle.rb_code.specs.Memory.{part_of}
 use Rattle.rb_code.specs.RoomInTree.{CommandsHaveRoom, ProcessHasRoom}
@@ -20,7 +21,6 @@ use Rattle.rb_code.specs.Forms.{Owner, ProceduresCode}
 use Rattle.rb_code.specs.StandsFor.{ProcessCode}
 use Rattle.rb_code.specs.declared.instr.Instr.TheVariants.{Done, Return}
 use Rattle.rb_code.proofs.Tabled.{Around}
-use Rattle.rb_code.proofs.BlocksBegin.{frame_and_shape}
 use Rattle.rb_code.proofs.Stretches.{Stretch, begins_with, in_order, no_stretch, told_less}
 use Rattle.rb_code.proofs.Resting.{resting}
 use Rattle.rb_code.proofs.Choices.{Onward, Rests, Statements}
@@ -33,7 +33,7 @@ call_words procedure = length procedure.parameters + frame_words (frame_of (vari
 
 bound_words : (parameters : List Identifier) (frame : Frame)
     → shape_words (shape_of (bound_to parameters [] ++ frame)) ≡ length parameters + frame_words frame
-bound_words [] frame = omega (arith, frame_and_shape frame)
+bound_words [] frame = omega (arith, shape_words-frame frame)
 bound_words (x ∷ xs) frame =
     omega (
       arith,
@@ -79,7 +79,7 @@ module _ (c : Code) (tree : Tree) where
     known_called procedure = record {
       above = tt;
       running_are = called_words procedure;
-      globals_are = words_are ∙ sym (frame_and_shape (frame_of process.variables));
+      globals_are = words_are ∙ sym (shape_words-frame (frame_of process.variables));
       none_counted = refl;
       none_quantified = refl;
       stands = record { process = refl; main = refl; opened = tt };
@@ -89,7 +89,7 @@ module _ (c : Code) (tree : Tree) where
     known_main = record {
       above = tt;
       running_are = refl;
-      globals_are = words_are ∙ sym (frame_and_shape (frame_of process.variables));
+      globals_are = words_are ∙ sym (shape_words-frame (frame_of process.variables));
       none_counted = refl;
       none_quantified = refl;
       stands = record { process = refl; main = refl; opened = tt };

@@ -80,43 +80,7 @@ module _ (c : Code) (see : Sight) where
 
     every_comes : (a b : ℕ) (set : List (Option Counting)) (os : List ℤ) → KeptBelow k base set → EveryCode k low high body c a b
         → Comes c see k a os (recounted set m) b (λ v. v ∷ os) (λ v. m) (over_span Every from to f)
-    every_comes a b set os kept (
-      loop,
-      (
-        fails,
-        (
-          holds,
-          (
-            end,
-            (
-              p,
-              lc,
-              (
-                r,
-                hc,
-                (
-                  d,
-                  range,
-                  (
-                    first,
-                    at_loop,
-                    (
-                      d0,
-                      bc,
-                      (
-                        d1,
-                        zero_test,
-                        (d2, again, (d3, at_yes, (d4, push1, (d5, jump, (d6, at_no, (d7, push0, at_end)))))),
-                      ),
-                    ),
-                  ),
-                ),
-              ),
-            ),
-          ),
-        ),
-      ),
-    ) =
+    every_comes a b set os kept (loop, (fails, (holds, (end, (p, lc, (r, hc, (d, range, (first, at_loop, (d0, bc, (d1, zero_test, (d2, again, (d3, at_yes, (d4, push1, (d5, jump, (d6, at_no, (d7, push0, at_end)))))))))))))))) =
         limits_come holds a p r d b set os os (λ x n. quantified Every n x f) kept lc hc range
         (λ x set1 kept1. (set1, kept_here k set1, from_yes os (recounted set1 m)))
         (λ x y j set1 e kept1 at. subst (λ z. Comes c see k z os (recounted set1 m) b (λ v. v ∷ os) (λ v. m) (quantified Every (suc j) x f)) at_loop.1
@@ -134,43 +98,7 @@ module _ (c : Code) (see : Sight) where
 
     some_comes : (a b : ℕ) (set : List (Option Counting)) (os : List ℤ) → KeptBelow k base set → SomeCode k low high body c a b
         → Comes c see k a os (recounted set m) b (λ v. v ∷ os) (λ v. m) (over_span Any from to f)
-    some_comes a b set os kept (
-      loop,
-      (
-        next,
-        (
-          fails,
-          (
-            end,
-            (
-              p,
-              lc,
-              (
-                r,
-                hc,
-                (
-                  d,
-                  range,
-                  (
-                    first,
-                    at_loop,
-                    (
-                      d0,
-                      bc,
-                      (
-                        d1,
-                        zero_test,
-                        (d2, push1, (d3, jump, (d4, at_next, (d5, again, (d6, at_no, (d7, push0, at_end)))))),
-                      ),
-                    ),
-                  ),
-                ),
-              ),
-            ),
-          ),
-        ),
-      ),
-    ) =
+    some_comes a b set os kept (loop, (next, (fails, (end, (p, lc, (r, hc, (d, range, (first, at_loop, (d0, bc, (d1, zero_test, (d2, push1, (d3, jump, (d4, at_next, (d5, again, (d6, at_no, (d7, push0, at_end)))))))))))))))) =
         limits_come fails a p r d b set os os (λ x n. quantified Any n x f) kept lc hc range
         (λ x set1 kept1. (set1, kept_here k set1, from_no os (recounted set1 m)))
         (λ x y j set1 e kept1 at. subst (λ z. Comes c see k z os (recounted set1 m) b (λ v. v ∷ os) (λ v. m) (quantified Any (suc j) x f)) at_loop.1

@@ -54,7 +54,7 @@ stands_inside c tree within blocks block spot conversation is at =
     record { process = at.process; main = at.main; opened = (is, at.opened) }
 
 -- a member by the test
-is_among : (p : ℕ) (members : List ℕ) → is_member p members ≡ true → IsMember p members
+pub is_among : (p : ℕ) (members : List ℕ) → is_member p members ≡ true → IsMember p members
 is_among p [] e = true≢false (sym e)
 is_among p (m ∷ members) e = by (is_among p members) (nat_eq p m) refl e
   where

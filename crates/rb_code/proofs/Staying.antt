@@ -58,7 +58,7 @@ module _ (c : Code) (t : Table) (p : ℕ) where
       back rest (Some e) r = rest e.within e.blocks levels r.4.1
 
 -- where a process settles
-settling_fits : (c : Code) (t : Table) (s : Standing) (levels : List (Level Copy)) (see : Sight) → see.process ≡ s.process
+pub settling_fits : (c : Code) (t : Table) (s : Standing) (levels : List (Level Copy)) (see : Sight) → see.process ≡ s.process
     → (h : Settles c t s levels) → Fits c t see (inside_out levels) s.at h.entry [] (memory_of s [])
 settling_fits c t s levels see same h = record {
   operands_fit = subst (λ os. OperandsFit os []) (sym h.operands_none) tt;

@@ -7,9 +7,10 @@ use Rattle.rb_code.specs.Template.{Template, ◌⨾◌, Empty, One, Only, At, La
 use Rattle.rb_code.specs.Forms.{DropCode, FrameCode}
 use Rattle.rb_code.specs.declared.instr.Instr.{Instr}
 use Rattle.rb_code.specs.declared.instr.Instr.TheVariants.{Drop, Frame, Jump, Text}
+use Rattle.rb_code.proofs.Counted.{get_set_same}
 use Rattle.rb_draft.specs.Output.{Output, added, filled_with, is_text, linked, patched, settled}
 use Rattle.rb_draft.specs.Emits.{Adds, Grows, Keeps, Emits, Placed}
-use Rattle.rb_draft.proofs.Growing.{get_end, get_set, get_other, same_length, texts-added, texts-append, texts-set, numbers-append, grows_self, grows_more, keeps_self, follows_self, follows_on, follows_back, includes_front, includes_back, includes_late, includes_early}
+use Rattle.rb_draft.proofs.Growing.{get_end, get_other, same_length, texts-added, texts-append, texts-set, numbers-append, grows_self, grows_more, keeps_self, follows_self, follows_on, follows_back, includes_front, includes_back, includes_late, includes_early}
 
 -- one template after another
 pub both : {link : Code → Instr → Instr} {m n k : ℕ} {P Q : Template} {c d e : Output} → Emits link m n P c d
@@ -101,7 +102,7 @@ filled_here x {p = p} {m = m} {n = n} {k = k} {P = P} {c = c} {e = e} t at q =
           let first : slice_get w.instrs (length c.instrs) ≡ Some (linked p w x) =
           h.instrs.has (length c.instrs) (omega arith) (omega (arith, long))
           ∙ ap (λ i. option_map (linked p w) (slice_get (slice_set e.instrs k x) i)) (sym at) ∙ ap
-          (option_map (linked p w)) (get_set e.instrs k x (omega arith)) in
+          (option_map (linked p w)) (get_set_same e.instrs k x (omega arith)) in
           let rest : P w (length d.instrs) (length e.instrs) = q.stands w record {
             instrs = record {
               has =
@@ -170,7 +171,7 @@ settled_here {m = m} {k = k} {P = P} {c = c} {e = e} x q =
       stands = λ w h.
           let there : slice_get w.blocks m ≡ Some x =
           h.blocks.has m (omega arith) (omega (arith, q.follows.rises))
-          ∙ get_set e.blocks m x (omega (arith, long, h.blocks.room, q.follows.rises)) in (
+          ∙ get_set_same e.blocks m x (omega (arith, long, h.blocks.room, q.follows.rises)) in (
             x,
             there,
             q.stands w record {

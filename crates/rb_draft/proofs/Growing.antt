@@ -1,6 +1,7 @@
 -- How a list, and the whole draft, goes on from one state to another.
-use Rattle.std.proofs.Common.{◌≡◌, ℕ, zero, suc, ◌+◌, ◌<◌, ◌≤◌, List, [], ◌∷◌, ◌++◌, Some, length, refl, sym, ap, ◌∙◌, arith, length-append}
+use Rattle.std.proofs.Common.{◌≡◌, ℕ, zero, suc, ◌+◌, ◌≤◌, List, [], ◌∷◌, ◌++◌, Some, length, refl, sym, ap, ◌∙◌, arith, length-append}
 use Rattle.std.specs.Prelude.{false, slice_get, slice_set, option_map}
+use Rattle.rb_world.proofs.ListFacts.{slice_get-front}
 use Rattle.rb_code.specs.Plain.{Block, Code}
 use Rattle.rb_code.specs.StandsFor.{numbers_from, text_numbers}
 use Rattle.rb_code.specs.declared.instr.Instr.{Instr}
@@ -8,19 +9,9 @@ use Rattle.rb_code.specs.declared.instr.Instr.TheVariants.{Text}
 use Rattle.rb_draft.specs.Output.{Output, is_text}
 use Rattle.rb_draft.specs.Emits.{Grows, Keeps, Follows, Covers, Includes}
 
-pub get_front : {A : Type 0} (xs ys : List A) (i : ℕ) → i < length xs → slice_get (xs ++ ys) i ≡ slice_get xs i
-get_front [] ys i h = absurd (omega arith)
-get_front (x ∷ xs) ys zero h = refl
-get_front (x ∷ xs) ys (suc i) h = get_front xs ys i (omega arith)
-
 pub get_end : {A : Type 0} (xs : List A) (y : A) → slice_get (xs ++ (y ∷ [])) (length xs) ≡ Some y
 get_end [] y = refl
 get_end (x ∷ xs) y = get_end xs y
-
-pub get_set : {A : Type 0} (xs : List A) (k : ℕ) (y : A) → k < length xs → slice_get (slice_set xs k y) k ≡ Some y
-get_set [] k y h = absurd (omega arith)
-get_set (x ∷ xs) zero y h = refl
-get_set (x ∷ xs) (suc k) y h = get_set xs k y (omega arith)
 
 pub get_other : {A : Type 0} (xs : List A) (k i : ℕ) (y : A) → (k ≡ i → ⊥) → slice_get (slice_set xs k y) i ≡ slice_get xs i
 get_other [] k i y h = refl
@@ -76,7 +67,7 @@ pub grows_self : {A : Type 0} (xs : List A) → Grows xs xs
 grows_self xs = record { longer = omega arith; kept = λ i h. refl }
 
 pub grows_more : {A : Type 0} (xs ys : List A) → Grows xs (xs ++ ys)
-grows_more xs ys = record { longer = omega (arith, length-append xs ys); kept = λ i h. get_front xs ys i h }
+grows_more xs ys = record { longer = omega (arith, length-append xs ys); kept = λ i h. slice_get-front xs ys i h }
 
 pub grows_on : {A : Type 0} {xs ys zs : List A} → Grows xs ys → Grows ys zs → Grows xs zs
 grows_on f g = record {

@@ -5,9 +5,10 @@ use Rattle.rb_code.specs.declared.instr.Instr.{Instr}
 use Rattle.rb_code.specs.declared.instr.Instr.TheVariants.{Call}
 use Rattle.rb_code.specs.Plain.{Procedure}
 use Rattle.rb_code.specs.StandsFor.{text_numbers}
+use Rattle.rb_code.proofs.Counted.{get_set_same}
 use Rattle.rb_draft.specs.Output.{Output, linked_to, patched}
 use Rattle.rb_gen.specs.Writes.{IsLinked}
-use Rattle.rb_draft.proofs.Growing.{get_set, get_other, same_length, texts-same}
+use Rattle.rb_draft.proofs.Growing.{get_other, same_length, texts-same}
 
 -- those from an address up to another are linked, and no others
 pub record IsLinkedTo (procedures : List Procedure) (from to : ℕ) (old new : Output) : Type 0 where
@@ -46,7 +47,7 @@ linked_step procedures from at x {o = o} {c = c} {d = d} inside there is h =
       before = λ i k. get_other c.instrs at i y (λ e. absurd (omega (arith, h.rises))) ∙ h.before i k;
       done = below_more (λ i. from ≤ i → slice_get (slice_set c.instrs at y) i ≡ option_map (linked_to procedures) (slice_get o.instrs i)) at
           (λ i k l. get_other c.instrs at i y (λ e. absurd (omega arith)) ∙ h.done i k l)
-          (λ l. get_set c.instrs at y inside ∙ ap (option_map (linked_to procedures)) (sym there ∙ h.left at (omega arith)));
+          (λ l. get_set_same c.instrs at y inside ∙ ap (option_map (linked_to procedures)) (sym there ∙ h.left at (omega arith)));
       left = λ i k. get_other c.instrs at i y (λ e. absurd (omega arith)) ∙ h.left i (omega arith);
       numbers = texts-same c.instrs at y x there (same_texts procedures x) ∙ h.numbers;
       texts = h.texts;

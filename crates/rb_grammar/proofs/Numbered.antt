@@ -41,7 +41,7 @@ names_are_those tokens tree d =
     (names_in_order tokens tree d).conversations)
 
 -- no channel or conversation is a recovery block, and no name
-no_names : (names : List Identifier) (rest : List Recovery) → each recoveries_alone.name names rest ≡ rest
+pub no_names : (names : List Identifier) (rest : List Recovery) → each recoveries_alone.name names rest ≡ rest
 no_names [] rest = refl
 no_names (name ∷ names) rest = no_names names rest
 

@@ -14,12 +14,12 @@ and-true true b e = (refl, e)
 and-true false b e = absurd cc
 
 -- what all spellings have, what is found has
-picked : (test : Bool) (here terminal : Terminal) (p : Terminal → Bool) (later : Option Terminal) → p here ≡ true →
+pub picked : (test : Bool) (here terminal : Terminal) (p : Terminal → Bool) (later : Option Terminal) → p here ≡ true →
     (later ≡ Some terminal → p terminal ≡ true) → cond test (Some here) later ≡ Some terminal → p terminal ≡ true
 picked true here terminal p later h rest e = ap p (let same : terminal ≡ here = cc in same) ∙ h
 picked false here terminal p later h rest e = rest e
 
-spelled_all : (p : Terminal → Bool) (text : List ℕ) (spellings : List Spelling) (terminal : Terminal) →
+pub spelled_all : (p : Terminal → Bool) (text : List ℕ) (spellings : List Spelling) (terminal : Terminal) →
     list_all (λ s. p s.1) spellings ≡ true → spelled text spellings ≡ Some terminal → p terminal ≡ true
 spelled_all p text [] terminal h e = absurd cc
 spelled_all p text ((bytes, here) ∷ others) terminal h e =

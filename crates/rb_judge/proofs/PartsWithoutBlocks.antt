@@ -38,10 +38,6 @@ pub no_items : (items : List PrintItem) (rest : List Recovery) → each (item_to
 no_items [] rest = refl
 no_items (item ∷ items) rest = no_printed item.what (each (item_told recoveries_alone) items rest) ∙ no_items items rest
 
-pub no_names : (names : List Identifier) (rest : List Recovery) → each recoveries_alone.name names rest ≡ rest
-no_names [] rest = refl
-no_names (name ∷ names) rest = no_names names rest
-
 pub no_declarations : (variables : List Declaration) (rest : List Recovery)
     → each (declaration_told recoveries_alone) variables rest ≡ rest
 no_declarations [] rest = refl

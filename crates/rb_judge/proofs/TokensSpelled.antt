@@ -1,9 +1,8 @@
 -- How the tokens of a source are spelled: names are short, and a text holds few bytes, each of which may stand between quotes.
-use Rattle.std.proofs.Common.{◌≡◌, ℕ, pos, ◌+◌, ◌-◌, ◌==◌, ◌≤◌, nat_lt, nat_le, nat_eq, Bool, true, false, not, ◌&&◌, ◌||◌, cond, List, [], ◌∷◌, ◌++◌, length, take, take_while, Option, Some, refl, ap, sym, subst, ◌∙◌, arith, length-append, append_assoc}
+use Rattle.std.proofs.Common.{◌≡◌, ℕ, pos, ◌+◌, ◌-◌, ◌==◌, ◌≤◌, nat_lt, nat_le, nat_eq, Bool, true, false, not, ◌&&◌, ◌||◌, cond, List, [], ◌∷◌, ◌++◌, length, take, take_while, Some, refl, ap, sym, subst, ◌∙◌, arith, length-append, append_assoc}
 use Rattle.std.specs.List.{AllByRecursion, list_all, prefix_len}
 use Rattle.std.specs.Ordering.{int_eq}
-use Rattle.std.specs.Cmp.Lexicographic.{pointwise}
-use Rattle.std.proofs.lemmas.Bool.{and_from, and_parts, eqb-true, leb-false, ltb-false, not_from_false, not-false, or_left}
+use Rattle.std.proofs.lemmas.Bool.{and_from, eqb-true, leb-false, ltb-false, not_from_false, not-false, or_left}
 use Rattle.std.proofs.lemmas.List.{take_at, length-take-le}
 use Rattle.std.proofs.lemmas.List.Folds.{list_all-append}
 use Rattle.std.proofs.lemmas.List.Sums.{take_while-cons, prefix_len-le-length}
@@ -19,7 +18,8 @@ use Rattle.rb_grammar.specs.declared.terminal.Terminal.{Terminal}
 use Rattle.rb_grammar.specs.declared.terminal.Terminal.TheVariants as terminals
 use Rattle.rb_grammar.specs.Machine.{is_same}
 use Rattle.rb_grammar.specs.Taking.{between_quotes}
-use Rattle.rb_grammar.specs.Terminals.{Spelling, marks, spelled, terminal_of, terminal_of_kind, words}
+use Rattle.rb_grammar.specs.Terminals.{marks, terminal_of, terminal_of_kind, words}
+use Rattle.rb_grammar.proofs.Spelled.{spelled_all}
 use Rattle.rb_scope.specs.Spelled.{IsNaming, IsQuotable, is_quotable}
 
 -- how a token of a kind is spelled
@@ -166,19 +166,6 @@ tokens_spelled {edition = edition} (one_more p bytes token at left tokens ending
     (subst NextSpelled e (next_spelled edition false p bytes), tokens_spelled rest)
 
 -- no word and no mark is spelled as a terminal that is none of theirs
-picked : (test : Bool) (here terminal : Terminal) (p : Terminal → Bool) (later : Option Terminal) → p here ≡ true
-    → (later ≡ Some terminal → p terminal ≡ true) → cond test (Some here) later ≡ Some terminal → p terminal ≡ true
-picked true here terminal p later h rest e = ap p (let same : terminal ≡ here = cc in same) ∙ h
-picked false here terminal p later h rest e = rest e
-
-spelled_all : (p : Terminal → Bool) (text : List ℕ) (spellings : List Spelling) (terminal : Terminal)
-    → list_all (λ s. p s.1) spellings ≡ true → spelled text spellings ≡ Some terminal → p terminal ≡ true
-spelled_all p text [] terminal h e = absurd cc
-spelled_all p text ((bytes, here) ∷ others) terminal h e =
-    let both = and_parts (p here) (list_all (λ s. p s.1) others) h in
-    picked (pointwise nat_eq bytes text) here terminal p (spelled text others) both.0
-    (λ later. spelled_all p text others terminal both.1 later) e
-
 abbrev is_fixed : Terminal → Bool
 is_fixed terminal = not (is_same terminal terminals.Name) && not (is_same terminal terminals.Text)
 

@@ -1,5 +1,5 @@
 -- Lists of which one element or each has changed, and what is known of each.
-use Rattle.std.proofs.Common.{◌≡◌, ℕ, zero, suc, ◌<◌, List, [], ◌∷◌, ◌++◌, length, map, take, drop, get_or, slice_get, Some, None, refl, ap, sym, ◌∙◌, subst, arith}
+use Rattle.std.proofs.Common.{◌≡◌, ℕ, zero, suc, ◌<◌, List, [], ◌∷◌, ◌++◌, length, map, take, drop, get_or, slice_get, Some, None, refl, ap, sym, ◌∙◌, arith}
 use Rattle.std.specs.List.{AllByRecursion}
 use Rattle.rb_world.specs.World.{change_at, last_of}
 use Rattle.rb_world.proofs.ListFacts.{none_some, some_same}
@@ -27,12 +27,6 @@ pub same_there : {A : Type 0} (p : ℕ) (x : A) (xs : List A) → slice_get xs p
 same_there p x [] e = refl
 same_there {A} zero x (y ∷ ys) e = ap (λ (z : A). z ∷ ys) (sym (some_same e))
 same_there {A} (suc p) x (y ∷ ys) e = ap (λ (zs : List A). y ∷ zs) (same_there p x ys e)
-
--- what holds of each holds of the one at a number
-pub all_there : {A : Type 0} (P : A → Type 0) (xs : List A) (n : ℕ) (x : A) → AllByRecursion P xs → slice_get xs n ≡ Some x → P x
-all_there P [] n x all e = absurd (none_some e)
-all_there P (y ∷ ys) zero x all e = subst P (some_same e) all.0
-all_there P (y ∷ ys) (suc n) x all e = all_there P ys n x all.1 e
 
 pub all_of_each : {A : Type 0} (P : A → Type 0) (xs : List A) → ((n : ℕ) (x : A) → slice_get xs n ≡ Some x → P x) → AllByRecursion P xs
 all_of_each P [] each = tt
@@ -68,11 +62,6 @@ pub none_last : {A : Type 0} (xs : List A) → 0 < length xs → last_of xs ≡ 
 none_last [] h e = omega (arith, h)
 none_last (x ∷ []) h e = cc
 none_last (x ∷ y ∷ ys) h e = none_last (y ∷ ys) (omega arith) e
-
--- a list without elements
-pub no_elements : {A : Type 0} (xs : List A) → length xs ≡ 0 → xs ≡ []
-no_elements [] e = refl
-no_elements (x ∷ xs) e = absurd (omega (arith, e))
 
 -- what is not changed yet is as it was
 pub rest_there : {A : Type 0} (f : A → A) (xs ys : List A) (i : ℕ) (d : A) → i < length xs → ys ≡ map f (take i xs) ++ drop i xs

@@ -26,6 +26,7 @@ use Rattle.rb_code.proofs.ProcessesStand.{processes_stand, stands_to_step}
 use Rattle.rb_code.proofs.RunSteps.{run_step_stands}
 use Rattle.rb_code.proofs.SoundSteps.{standing_has_settled}
 use Rattle.rb_code.proofs.StandsAgain.{opening_settles, settles_like, stands_like}
+use Rattle.rb_code.proofs.WholeRuns.ProcessesBegin.{zero_there}
 use Rattle.rb_meaning.specs.Environment.{natural}
 use Rattle.rb_machine.specs.Known.{CursorsBelow, IsBelow, IsCounted}
 use Rattle.rb_machine.specs.Rising.{RiseAfter}
@@ -33,7 +34,6 @@ use Rattle.rb_machine.proofs.CountsBelow.{back_below, cursors_same, entered_belo
 use Rattle.rb_machine.proofs.FirstProcesses.{opens_at}
 use Rattle.rb_machine.proofs.RunsRise.{run_step_rises}
 use Rattle.rb_machine.proofs.StepsRise.{settle_keeps}
-use Rattle.rb_machine.proofs.WordsKept.{word_zero}
 
 module _ (c : Code) (groups : List Membership) (table : Table) (has : HasTable c groups table) (lists : ListsChannels c) where
   abbrev Words : Kind Standing Copy Common
@@ -239,7 +239,7 @@ module _ (c : Code) (groups : List Membership) (table : Table) (has : HasTable c
 
   zero_below : (p : ℕ) (part : Part) → CursorsBelow c p 1 (opening_standing p part).words
   zero_below p part channel among =
-      let is = ap natural (word_zero (body_place part) (cursor_place (part_of c p) channel)) in omega arith
+      let is = ap natural (zero_there (body_place part) (cursor_place (part_of c p) channel)) in omega arith
 
   -- in the opening no level is open, and all cursors are 0
   pub opening_counted : Each (IsCounted c 1) (opening_of c groups).processes

@@ -15,9 +15,9 @@ use Rattle.rb_code.specs.Memory.{cursor_place, held_place, part_of}
 use Rattle.rb_code.specs.Plain.{Code}
 use Rattle.rb_code.specs.Turn.{Common, Copy, Standing}
 use Rattle.rb_code.specs.WordKind.{word_kind}
+use Rattle.rb_code.proofs.Fronts.{word_other}
 use Rattle.rb_machine.specs.Known.{CursorsBelow, IsBelow}
 use Rattle.rb_machine.specs.Rising.{StaySame}
-use Rattle.rb_machine.proofs.WordsKept.{word_other}
 
 module _ (c : Code) where
   -- below a larger number

@@ -9,13 +9,13 @@ use Rattle.rb_code.specs.Turn.{Standing, settle}
 use Rattle.rb_code.specs.WellFormed.{ListsChannels}
 use Rattle.rb_code.specs.WordRun.{opening_standing, opening_standings}
 use Rattle.rb_code.proofs.StandsAgain.{opening_settles}
+use Rattle.rb_code.proofs.WholeRuns.ProcessesBegin.{zero_there}
 use Rattle.rb_machine.specs.Loading.{first_seen}
 use Rattle.rb_machine.specs.Telling.{AreFreed, HoldsNone}
 use Rattle.rb_machine.specs.Worlds.{processes_of}
 use Rattle.rb_machine.proofs.Changed.{all_of_each}
 use Rattle.rb_machine.proofs.FirstProcesses.{opens_at}
 use Rattle.rb_machine.proofs.HeldWhileSettling.{Holds, settling_holds}
-use Rattle.rb_machine.proofs.WordsKept.{word_zero}
 
 -- the first word of those whose first word is 0 is set to 0
 set_zero : (words : List ℤ) → word_at words held_place ≡ pos 0 → slice_set words held_place (pos 0) ≡ words
@@ -35,7 +35,7 @@ module _ (c : Code) (groups : List Membership) (t : Table) (has : HasTable c gro
       → Holds [] (pos 0) (settle c None (opening_standing r part)).held (settle c None (opening_standing r part)).words
   opening_holds r part e =
       let h = settling_holds c groups t has lists (opening_standing r part) [] (opening_settles c t groups has r part e) in
-      (h.0, h.1 ∙ word_zero (body_place part) held_place)
+      (h.0, h.1 ∙ zero_there (body_place part) held_place)
 
   -- a process that has come to its first turn holds none
   pub opening_holds_none : (r : ℕ) (s : Standing) → slice_get (opening_standings 0 c.processes) r ≡ Some s → HoldsNone [] (settle c None s)

@@ -31,8 +31,9 @@ use Rattle.rb_code.proofs.Progress.{Progress, left_from, potential}
 use Rattle.rb_code.proofs.Safety.{From, from_here}
 use Rattle.rb_code.proofs.Steps.{goes}
 use Rattle.rb_code.proofs.Weaker.{may_trap, rank}
-use Rattle.rb_machine.proofs.StepsRise.{settling_fits}
-use Rattle.rb_machine.proofs.WordsKept.{word_front, word_left, word_other}
+use Rattle.rb_code.proofs.Staying.{settling_fits}
+use Rattle.rb_code.proofs.Fronts.{word_other}
+use Rattle.rb_machine.proofs.WordsKept.{word_front, word_left}
 
 -- these lines are held, and word 0 is this
 abbrev pub Holds : List (List ℕ) → ℤ → List (List ℕ) → List ℤ → Type 0

@@ -12,6 +12,7 @@ use Rattle.rb_world.specs.Standing.{Each}
 use Rattle.rb_world.specs.Turn.{tried_at}
 use Rattle.rb_world.specs.World.{Level, Status, Running, Finished, FailedWith, last_of, without_last}
 use Rattle.rb_world.proofs.ListFacts.{none_some, some_same}
+use Rattle.rb_scope.proofs.EachSite.{all_at}
 use Rattle.rb_code.specs.Plain.{Code}
 use Rattle.rb_code.specs.Sound.{Table}
 use Rattle.rb_code.specs.Stands.{IsAlternate, Serves, Settles}
@@ -27,7 +28,7 @@ use Rattle.rb_machine.specs.Known.{IsKnown, IsLoaded, IsTried}
 use Rattle.rb_machine.specs.Channels.{conversation_in}
 use Rattle.rb_machine.specs.Stepping.{IsListed, MayLeave, MayStep}
 use Rattle.rb_machine.specs.Worlds.{CanRise, NoneWaits, counts_of, processes_of, world_of}
-use Rattle.rb_machine.proofs.Changed.{all_of_each, all_there, last_found}
+use Rattle.rb_machine.proofs.Changed.{all_of_each, last_found}
 
 -- a process of the machine is one of the world
 pub process_there : (procs : List Seen) (p : ℕ) (one : Seen) → slice_get procs p ≡ Some one → slice_get (processes_of procs) p ≡ Some one.process
@@ -150,7 +151,7 @@ module _ (c : Code) (table : List Conversation) (loaded : IsLoaded c (membership
       record {
         running = act.running;
         away = act.away;
-        none_waits = all_there (λ (x : Seen). x.waiting ≡ []) procs p one waits e;
+        none_waits = all_at (λ (x : Seen). x.waiting ≡ []) procs p one waits e;
         stands = (
           memberships table,
           record {

@@ -78,6 +78,5 @@ pub mod MoveWork
 -- The laws of turns: what is known of each world of a run orders it, and so its turns keep them.
 pub mod BrokenTalks
 pub mod OrderedRuns
-pub mod RejectionsTold
 pub mod UndoneTurns
 pub mod MembersTogether

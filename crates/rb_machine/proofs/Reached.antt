@@ -3,7 +3,8 @@ use Rattle.std.proofs.Common.{◌≡◌, ◌≢◌, ◌≤◌, ◌<◌, ◌+◌,
 use Rattle.std.proofs.lemmas.Bool.{ne_eqb}
 use Rattle.std.proofs.lemmas.List.{length-map, length-set, reverse-append}
 use Rattle.std.proofs.lemmas.Simd.{map-map}
-use Rattle.rb_world.specs.Plain.{Kept, survivors_from, survivors_of}
+use Rattle.rb_base.specs.declared.kept.Kept.{Kept}
+use Rattle.rb_world.specs.Plain.{survivors_from, survivors_of}
 use Rattle.rb_world.specs.Standing.{Each}
 use Rattle.rb_world.specs.World.{Process, change_at, is_number}
 use Rattle.rb_world.proofs.Erasing.SurvivorsGrow.{survivors_grow}

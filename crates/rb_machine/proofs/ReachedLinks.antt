@@ -1,12 +1,12 @@
 -- One step of the walk over the links: a link is followed, or passed over.
-use Rattle.std.proofs.Common.{◌≡◌, ◌<◌, ◌+◌, ℕ, Bool, true, false, cond, List, [], ◌∷◌, ◌++◌, length, drop, get_or, map, refl, reverse, sym, ap, ◌∙◌, append_assoc}
-use Rattle.std.proofs.lemmas.List.{drop_more, map-append, reverse-append}
-use Rattle.rb_world.specs.Plain.{Kept}
+use Rattle.std.proofs.Common.{◌≡◌, ◌<◌, ◌+◌, ℕ, Bool, true, false, cond, List, [], ◌∷◌, ◌++◌, length, drop, get_or, map, reverse, sym, ap, ◌∙◌, append_assoc}
+use Rattle.std.proofs.lemmas.List.{drop_more}
+use Rattle.rb_base.specs.declared.kept.Kept.{Kept}
+use Rattle.rb_cache.proofs.LawsHold.{map-reverse}
 use Rattle.rb_code.specs.Turn.{Link}
-use Rattle.rb_machine.specs.Survivors.{is_wanted, kept_by, kept_of, next_wanted, reached}
+use Rattle.rb_machine.specs.Survivors.{is_wanted, kept_by, next_wanted, reached}
 use Rattle.rb_machine.specs.Worlds.{link_of}
 use Rattle.rb_machine.specs.declared.links.Link.{Link as Held}
-use Rattle.rb_machine.specs.declared.survivors.Kept.{Kept as HeldKept}
 
 -- what links lead to from a number on
 abbrev pub from : List Held → ℕ → List ℕ → List Kept
@@ -24,38 +24,28 @@ module _ (all : List Held) (i : ℕ) (x : Held) (within : i < length all) (here 
   abbrev next_of : Bool → List ℕ
   next_of b = cond b (next_wanted wanted (link_of x)) wanted
 
-  module _ (j : ℕ) (is_next : j ≡ i + 1) (items : List HeldKept) (whole : List Kept) (h : map kept_of items ++ from all i wanted ≡ whole)
+  module _ (j : ℕ) (is_next : j ≡ i + 1) (items whole : List Kept) (h : items ++ from all i wanted ≡ whole)
       (r : Bool) (answered : r ≡ is_wanted wanted (link_of x)) (later : List ℕ) (then : later ≡ next_of r) where
     -- where a link is followed, its turn was reached
-    pub followed : r ≡ true → (more : List HeldKept) (one : HeldKept) → kept_of one ≡ kept_by (link_of x) → more ≡ items ++ one ∷ []
-        → map kept_of more ++ from all j later ≡ whole
+    pub followed : r ≡ true → (more : List Kept) (one : Kept) → one ≡ kept_by (link_of x) → more ≡ items ++ one ∷ []
+        → more ++ from all j later ≡ whole
     followed so more one is_one is_more =
-        ap (λ (n : ℕ). map kept_of more ++ from all n later) is_next
-        ∙ (ap (λ (ws : List ℕ). map kept_of more ++ from all (i + 1) ws) (then ∙ ap next_of so)
-        ∙ (ap (λ (ks : List HeldKept). map kept_of ks ++ from all (i + 1) (next_of true)) is_more
-        ∙ (ap (λ (ks : List Kept). ks ++ from all (i + 1) (next_of true)) (map-append kept_of items (one ∷ []))
-        ∙ (append_assoc (map kept_of items) (kept_of one ∷ []) (from all (i + 1) (next_of true))
-        ∙ (ap (λ (k : Kept). map kept_of items ++ k ∷ from all (i + 1) (next_of true)) is_one
-        ∙ (ap (λ (ks : List Kept). map kept_of items ++ ks) (sym (met true (sym answered ∙ so))) ∙ h))))))
+        ap (λ (n : ℕ). more ++ from all n later) is_next
+        ∙ (ap (λ (ws : List ℕ). more ++ from all (i + 1) ws) (then ∙ ap next_of so)
+        ∙ (ap (λ (ks : List Kept). ks ++ from all (i + 1) (next_of true)) is_more
+        ∙ (append_assoc items (one ∷ []) (from all (i + 1) (next_of true))
+        ∙ (ap (λ (k : Kept). items ++ k ∷ from all (i + 1) (next_of true)) is_one
+        ∙ (ap (λ (ks : List Kept). items ++ ks) (sym (met true (sym answered ∙ so))) ∙ h)))))
 
     -- and where it is passed over, nothing was
-    pub passed_over : r ≡ false → map kept_of items ++ from all j later ≡ whole
+    pub passed_over : r ≡ false → items ++ from all j later ≡ whole
     passed_over so =
-        ap (λ (n : ℕ). map kept_of items ++ from all n later) is_next
-        ∙ (ap (λ (ws : List ℕ). map kept_of items ++ from all (i + 1) ws) (then ∙ ap next_of so)
-        ∙ (ap (λ (ks : List Kept). map kept_of items ++ ks) (sym (met false (sym answered ∙ so))) ∙ h))
-
-map-reverse : {A B : Type 0} (f : A → B) (xs : List A) → map f (reverse xs) ≡ reverse (map f xs)
-map-reverse f [] = refl
-map-reverse {A} {B} f (x ∷ xs) =
-    ap (map f) (reverse-append (x ∷ []) xs)
-    ∙ (map-append f (reverse xs) (x ∷ [])
-    ∙ (ap (λ (ys : List B). ys ++ f x ∷ []) (map-reverse f xs) ∙ sym (reverse-append (f x ∷ []) (map f xs))))
+        ap (λ (n : ℕ). items ++ from all n later) is_next
+        ∙ (ap (λ (ws : List ℕ). items ++ from all (i + 1) ws) (then ∙ ap next_of so)
+        ∙ (ap (λ (ks : List Kept). items ++ ks) (sym (met false (sym answered ∙ so))) ∙ h))
 
 -- what was reached, from the oldest on
-pub in_order : (links : List Held) (wanted : List ℕ) (kept back : List HeldKept) → map kept_of kept ≡ reached (map link_of (reverse links)) wanted
-    → back ≡ reverse kept → map kept_of back ≡ reverse (reached (reverse (map link_of links)) wanted)
+pub in_order : (links : List Held) (wanted : List ℕ) (kept back : List Kept) → kept ≡ reached (map link_of (reverse links)) wanted
+    → back ≡ reverse kept → back ≡ reverse (reached (reverse (map link_of links)) wanted)
 in_order links wanted kept back is turned =
-    ap (map kept_of) turned
-    ∙ (map-reverse kept_of kept
-    ∙ (ap reverse is ∙ ap (λ (all : List Link). reverse (reached all wanted)) (map-reverse link_of links)))
+    turned ∙ (ap reverse is ∙ ap (λ (all : List Link). reverse (reached all wanted)) (map-reverse link_of links))

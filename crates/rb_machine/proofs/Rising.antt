@@ -31,7 +31,8 @@ use Rattle.rb_code.proofs.Progress.{Progress, left_from, potential}
 use Rattle.rb_code.proofs.Safety.{From, from_here}
 use Rattle.rb_code.proofs.Steps.{goes}
 use Rattle.rb_code.proofs.Weaker.{rank}
-use Rattle.rb_machine.proofs.WordsKept.{word_front, word_left, word_other, word_same}
+use Rattle.rb_code.proofs.Fronts.{word_set, word_other}
+use Rattle.rb_machine.proofs.WordsKept.{word_front, word_left}
 
 -- K is known of the cursor of each channel of the process
 abbrev pub OfCursors : Code → Sight → (ℕ → ℤ → Type 0) → List ℤ → Type 0
@@ -124,7 +125,7 @@ module _ (c : Code) (see : Sight) (K : ℕ → ℤ → Type 0) where
             let high = up in
             subst (K other)
             (ap (λ i. word_at m.words i +ℤ pos 1) is
-            ∙ (sym (word_same m.words (at channel) risen (omega arith)) ∙ ap (word_at (slice_set m.words (at channel) risen)) (sym is)))
+            ∙ (sym (word_set m.words (at channel) risen (omega arith)) ∙ ap (word_at (slice_set m.words (at channel) risen)) (sym is)))
             (rises m same other of_other)
         by (inr (b, apart)) = subst (K other) (sym (word_other m.words (at channel) (at other) risen apart)) (known other of_other)
 

@@ -1,6 +1,6 @@
 -- Rooms and messages of a world, told by the cursors of the two ends of a channel.
 use Rattle.std.proofs.Common.{◌≡◌, ℕ, ◌+◌, ◌<◌, nat_lt, Bool, cond, ℤ, List, [], ◌∷◌, length, map, option_map, slice_get, get_or, unwrap_or, Option, Some, None, refl, ap, sym, subst, ◌∙◌, eq-eqb, arith}
-use Rattle.std.proofs.lemmas.Option.{slice_get-map, slice_get_read, slice_get_within}
+use Rattle.std.proofs.lemmas.Option.{slice_get-map, slice_get_within}
 use Rattle.rb_world.specs.Channels.{has_room, has_room_for, has_room_on, room_from}
 use Rattle.rb_world.specs.Channels.{message_between, message_on, message_there, seen_copy, seen_count, seen_message}
 use Rattle.rb_world.specs.Kind.{Ends, Membership, ReceivesOn, MayReceiveOn}
@@ -8,6 +8,7 @@ use Rattle.rb_world.specs.Slots.{Slots, slot_of}
 use Rattle.rb_world.specs.Standing.{Each}
 use Rattle.rb_world.specs.World.{Level, Process, Talk}
 use Rattle.rb_world.proofs.ListFacts.{slice_get-there}
+use Rattle.rb_scope.proofs.Long.{got}
 use Rattle.rb_code.specs.Memory.{part_of}
 use Rattle.rb_code.specs.Plain.{Code, channel as channel_of, code as plain}
 use Rattle.rb_code.specs.declared.code.ChannelCode.{ChannelCode}
@@ -26,14 +27,10 @@ use Rattle.rb_machine.specs.Worlds.{processes_of}
 pub compared : {A : Type 0} (f : ℕ → ℕ → A) (m n k l : ℕ) → m ≡ k → n ≡ l → f m n ≡ f k l
 compared f m n k l e h = ap (λ x. f x n) e ∙ ap (f k) h
 
--- what was lent of a list stands in it
-pub lent : {A : Type 0} (xs : List A) (k : ℕ) (x : A) → k < length xs → x ≡ get_or xs k x → slice_get xs k ≡ Some x
-lent xs k x h read = slice_get_read xs (length xs) k x refl h read
-
 pub channel_lent : (code : Held) (lists : List ChannelCode) (k : ℕ) (one : ChannelCode) → lists ≡ code.channels.items → k < length lists
     → one ≡ get_or lists k one → slice_get (plain code).channels k ≡ Some (channel_of one)
 channel_lent code lists k one same h read =
-    ap (λ l. slice_get (map channel_of l) k) (sym same) ∙ (slice_get-map channel_of lists k ∙ ap (option_map channel_of) (lent lists k one h read))
+    ap (λ l. slice_get (map channel_of l) k) (sym same) ∙ (slice_get-map channel_of lists k ∙ ap (option_map channel_of) (got lists k one h read))
 
 -- a process by its number, as the world has it
 process_at : (procs : List Seen) (p : ℕ) (o : Option Seen) → slice_get procs p ≡ o

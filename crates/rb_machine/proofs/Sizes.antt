@@ -36,7 +36,7 @@ module _ {S C M : Type 0} (k : Kind S C M) (t p : ℕ) (w : World S C M) where
   turn-bare = turn-each IsBareIfFailed (bare_kept k)
 
 -- as many processes as the code has
-length-opening : (p : ℕ) (parts : List Part) → length (opening_standings p parts) ≡ length parts
+pub length-opening : (p : ℕ) (parts : List Part) → length (opening_standings p parts) ≡ length parts
 length-opening p [] = refl
 length-opening p (part ∷ parts) = ap suc (length-opening (p + 1) parts)
 

@@ -8,28 +8,17 @@ use Rattle.rb_code.specs.Memory.{Memory, cursor_place, part_of, word_at}
 use Rattle.rb_code.specs.Act.{Accepts, Going, Outcome, Sight, Stopped, Trapped as Trap, Unfinished, execute}
 use Rattle.rb_code.specs.Turn.{Common, Copy, Standing, came_to, memory_of, most_steps, settle, settled_by, sight, step}
 use Rattle.rb_code.specs.Sound.{HasTable, Table}
-use Rattle.rb_code.specs.Stands.{Fits, IsAmong, IsLaidOut, IsMet, LoopsFit, ModeFits, OperandsFit, Settles, Stands, StandsAfter, inside_out}
+use Rattle.rb_code.specs.Stands.{IsAmong, IsMet, Settles, Stands, StandsAfter, inside_out}
 use Rattle.rb_code.specs.WellFormed.{ListsChannels}
 use Rattle.rb_code.specs.declared.instr.Instr.TheVariants.{Turn}
 use Rattle.rb_code.proofs.LastOf.{former_is}
 use Rattle.rb_code.proofs.Served.{is_turn, met}
 use Rattle.rb_code.proofs.StandingSteps as standing
+use Rattle.rb_code.proofs.Staying.{settling_fits}
 use Rattle.rb_code.proofs.Weaker.{rank}
 use Rattle.rb_machine.specs.Rising.{RiseAfter, SoundSettlingKeeps, SoundStepsRaise, StaySame}
 use Rattle.rb_machine.proofs.Rising.{KnownIn, comes_known}
 use Rattle.rb_machine.proofs.WordsKept.{natural_risen}
-
--- where a process settles, it stands with nothing else open
-pub settling_fits : (c : Code) (t : Table) (s : Standing) (levels : List (Level Copy)) (see : Sight) → see.process ≡ s.process
-    → (h : Settles c t s levels) → Fits c t see (inside_out levels) s.at h.entry [] (memory_of s [])
-settling_fits c t s levels see same h = record {
-  operands_fit = subst (λ os. OperandsFit os []) (sym h.operands_none) tt;
-  layout = subst (λ p. IsLaidOut c t p (inside_out levels) h.entry s.words s.calls s.touched) (sym same) h.layout;
-  pieces_are = sym h.pieces_none;
-  counters_two = refl;
-  loops_fit = subst (LoopsFit (memory_of s [])) (sym h.loops_none) tt;
-  mode_fits = subst (ModeFits c see s.at) (sym h.mode_is) tt;
-}
 
 module _ (c : Code) (groups : List Membership) (t : Table) (has : HasTable c groups t) (lists : ListsChannels c) where
   -- a step of a process at a `turn`, where the instruction behind it gets what it asks for

@@ -9,13 +9,14 @@ use Rattle.rb_world.specs.Reject.{Happened, fallen, reject}
 use Rattle.rb_world.specs.Turn.{Moved, acts, bounded, by_status, enter_either, enters, freed_lines, is_over, join, lines_freed, most_levels, move, moves, new_level, one_used, open_at, opened, trapped, turn_used, undone, waits}
 use Rattle.rb_world.specs.World.{Level, Process, Status, Running, Finished, FailedWith, Talk, goes_on, process_levels, talk_at, with_process}
 use Rattle.rb_world.proofs.ListFacts.{first_holds, second_holds}
+use Rattle.rb_scope.proofs.EachSite.{all_at}
 use Rattle.rb_code.specs.Plain.{Code}
 use Rattle.rb_code.specs.Turn.{Common, Copy, Standing, want}
 use Rattle.rb_code.specs.WordKind.{word_kind}
 use Rattle.rb_code.specs.WordRun.{WordWorld}
 use Rattle.rb_machine.specs.Telling.{AreFreed, HoldsNone, IsFreed}
 use Rattle.rb_machine.specs.Work.{enters_there, is_entry, is_kept, looking, move_work, named_by_acts, named_by_status, named_in_turn, named_there, named_within, releases_some, releasing, turn_work, undoing}
-use Rattle.rb_machine.proofs.Changed.{all_changed, all_there}
+use Rattle.rb_machine.proofs.Changed.{all_changed}
 use Rattle.rb_machine.proofs.Finished.{no_lines}
 
 -- the move and the release together
@@ -142,7 +143,7 @@ module _ (c : Code) (groups : List Membership) where
     moves_free None w is free e = absurd (no_truth e)
     moves_free (Some q) w is free e =
         let kept = is_kept (by_status Words t p q w q.status).kind in
-        status_free q.status q w (first_holds (is_entry (want c q.state)) kept e) (all_there IsFreed w.processes p q free is) free
+        status_free q.status q w (first_holds (is_entry (want c q.state)) kept e) (all_at IsFreed w.processes p q free is) free
         (second_holds (is_entry (want c q.state)) kept e)
 
   -- an entry that is kept costs nothing

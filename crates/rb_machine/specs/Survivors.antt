@@ -1,14 +1,10 @@
 -- The survivors of a world of the word machine: the turns that its links reach.
 use Rattle.std.specs.Prelude.{ℕ, cond, Bool, List, [], ◌∷◌, map, slice_get, slice_set}
-use Rattle.rb_world.specs.Plain.{Kept, survivors_of}
+use Rattle.rb_base.specs.declared.kept.Kept.{Kept}
+use Rattle.rb_world.specs.Plain.{survivors_of}
 use Rattle.rb_world.specs.World.{is_number}
 use Rattle.rb_code.specs.Turn.{Link, kept_from}
 use Rattle.rb_code.specs.WordRun.{WordWorld}
-use Rattle.rb_machine.specs.declared.survivors.Kept.{Kept as Held}
-
--- a turn that survived, in the words of the meaning
-abbrev pub kept_of : Held → Kept
-kept_of one = record { turn = one.turn; process = one.process; alternate = one.alternate }
 
 -- the turns that the links reach from the last kept turn of each process, in the order of their numbers
 abbrev pub word_survivors : WordWorld → List Kept

@@ -21,4 +21,3 @@ pub mod turn_laws;
 pub mod undone;
 
 pub use machine::Machine;
-pub use survivors::Kept;

@@ -12,7 +12,7 @@ ghost use Rattle.rb_machine.specs.Cascade.{SameGroups};
 ghost use Rattle.rb_machine.specs.Known.{IsLoaded};
 ghost use Rattle.rb_machine.specs.Machine.{HasTurned, IsKeptEntry, opening_seen};
 ghost use Rattle.rb_machine.specs.Moves.{AreAtWork, world};
-ghost use Rattle.rb_machine.specs.Survivors.{kept_of, word_survivors};
+ghost use Rattle.rb_machine.specs.Survivors.{word_survivors};
 ghost use Rattle.rb_machine.specs.Telling.{AreFreed, running_of};
 ghost use Rattle.rb_machine.specs.Work.{enters_there, turn_work};
 ghost use Rattle.rb_machine.specs.Worlds.{NoneWaits, counts_of, kind_with, lines_of, processes_of};
@@ -22,10 +22,10 @@ use crate::loading::load_parts;
 use crate::moves::take_turn;
 use crate::parts::Parts;
 use crate::reading::{sent_on, state_at, taken_on, word_at};
-use crate::survivors::{Kept, survivors};
+use crate::survivors::survivors;
 use crate::telling::{drop_all_released, finish, tell_opening};
 use arrayvec::ArrayVec;
-use rb_base::{Final, Lines, Memory, Nested, Report, State, Steps, TurnKind};
+use rb_base::{Final, Kept, Lines, Memory, Nested, Report, State, Steps, TurnKind};
 use rb_code::Code;
 use std::alloc::Global;
 use std::marker::Model;
@@ -134,7 +134,7 @@ impl<'a, L: Ledger> Machine<'a, L> {
 
     /// The turns that survived so far, in the order of their numbers. It takes memory for their list, and for one number a process.
     pub fn survivors(&self, alloc: Global) -> Result<Vec<Kept>, Memory>
-        ensures { IfOk result (λ kept. map kept_of kept.items ≡ word_survivors self.now.world) }
+        ensures { IfOk result (λ kept. kept.items ≡ word_survivors self.now.world) }
     {
         survivors(alloc, &self.parts)
     }

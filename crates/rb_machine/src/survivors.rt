@@ -4,28 +4,20 @@ ghost use Rattle.std.specs.Prelude.{◌≡◌, ℕ, cond, map, reverse, IfOk};
 ghost use Rattle.rb_proc.specs.Process.{Seen};
 ghost use Rattle.rb_machine.specs.Linked.{AreLinked};
 ghost use Rattle.rb_machine.specs.Moves.{world};
-ghost use Rattle.rb_machine.specs.Survivors.{is_wanted, kept_of, next_wanted, reached, word_survivors};
+ghost use Rattle.rb_machine.specs.Survivors.{is_wanted, next_wanted, reached, word_survivors};
 ghost use Rattle.rb_machine.specs.Worlds.{link_of};
 
 use crate::links::Link;
 use crate::parts::Parts;
-use rb_base::Memory;
+use rb_base::{Kept, Memory};
 use rb_proc::Proc;
 use std::alloc::Global;
 use std::sync::ledger::Ledger;
 
-/// A turn that survived: its number, its process, and the alternate that it started, or 0 where it started none.
-#[derive(Clone, Copy, Debug, PartialEq, Eq)]
-pub struct Kept {
-    pub turn: u32,
-    pub process: u32,
-    pub alternate: u32,
-}
-
 /// The turns that survived, in the order of their numbers.
 pub fn survivors<L: Ledger>(alloc: Global, parts: &Parts<L>) -> Result<Vec<Kept>, Memory>
     requires { (t : ℕ) × AreLinked t (world parts.now) }
-    ensures { IfOk result (λ kept. map kept_of kept.items ≡ word_survivors (world parts.now)) }
+    ensures { IfOk result (λ kept. kept.items ≡ word_survivors (world parts.now)) }
 {
     let mut wanted = last_kept(alloc, &parts.procs)?;
     let mut kept = reach(alloc, &parts.links, &mut wanted)?;
@@ -46,7 +38,7 @@ fn last_kept<L: Ledger>(alloc: Global, procs: &[Proc<L>]) -> Result<Vec<u32>, Me
 
 // The turns that links lead to from the wanted turn of each process, the newest first.
 fn reach(alloc: Global, links: &[Link], wanted: &mut [u32]) -> Result<Vec<Kept>, Memory>
-    ensures { IfOk result (λ kept. map kept_of kept.items ≡ reached (map link_of (reverse links.now)) wanted.old) }
+    ensures { IfOk result (λ kept. kept.items ≡ reached (map link_of (reverse links.now)) wanted.old) }
 {
     let mut kept = Vec::new(alloc);
     for link in links.iter().rev() {

@@ -7,7 +7,7 @@ use Rattle.rb_world.proofs.Members.FewEvents.{IsOfRejections, turn-few, turn-few
 use Rattle.rb_meaning.specs.Meaning.{opening_states, run_of, tree_kind}
 use Rattle.rb_meaning.specs.Laws.{FewEvents, is_rejection, next_turn}
 
-length-opening_states : (tree : Tree) (p : ℕ) (processes : List ProcessDeclaration) → length (opening_states tree p processes) ≡ length processes
+pub length-opening_states : (tree : Tree) (p : ℕ) (processes : List ProcessDeclaration) → length (opening_states tree p processes) ≡ length processes
 length-opening_states tree p [] = refl
 length-opening_states tree p (process ∷ processes) = ap suc (length-opening_states tree (p + 1) processes)
 

@@ -15,6 +15,8 @@ pub mod TreeParts
 pub mod ChannelEnds
 pub mod StartsAndEntries
 pub mod TreeErasable
+-- The variables that lines name.
+pub mod NamedVariables
 -- The laws of the meaning.
 pub mod TreeLaws
 pub mod TreeErasure

@@ -17,7 +17,7 @@ use Rattle.rb_meaning.proofs.KnownOfProcess.{Known}
 use Rattle.rb_meaning.proofs.KnownFacts.{known_settled}
 
 -- two tests at once
-both_hold : (a b : Bool) → a ≡ true → b ≡ true → (a && b) ≡ true
+pub both_hold : (a b : Bool) → a ≡ true → b ≡ true → (a && b) ≡ true
 both_hold true b e e' = e'
 both_hold false b e e' = e
 

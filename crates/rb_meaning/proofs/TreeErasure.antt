@@ -33,7 +33,7 @@ each_opening tree P one p [] r s e = absurd (none_some e)
 each_opening tree P one p (process ∷ processes) zero s e = subst P (some_same e) (one p process)
 each_opening tree P one p (process ∷ processes) (suc r) s e = each_opening tree P one (p + 1) processes r s e
 
-none_taken : (n c : ℕ) → unwrap_or (slice_get (replicate n zero) c) zero ≡ zero
+pub none_taken : (n c : ℕ) → unwrap_or (slice_get (replicate n zero) c) zero ≡ zero
 none_taken zero c = refl
 none_taken (suc n) zero = refl
 none_taken (suc n) (suc c) = none_taken n c

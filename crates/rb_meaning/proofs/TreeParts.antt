@@ -3,7 +3,7 @@ use Rattle.std.proofs.Common.{◌≡◌, ◌+◌, ℕ, ℤ, pos, nat_eq, cond, L
 use Rattle.std.proofs.lemmas.List.{append-nil, length-map}
 use Rattle.rb_syntax.specs.Tree.{Tree}
 use Rattle.rb_world.specs.Kind.{Want, NothingLeft, SendsOn, ReceivesOn, MayReceiveOn, Enters, Starts, Acts}
-use Rattle.rb_world.proofs.Erasing.ErasableKinds.{IsFront, Moves, Parts, plain, receives_on, sends_by, takes_by, takes_if}
+use Rattle.rb_world.proofs.Erasing.ErasableKinds.{IsFront, Moves, Parts, receives_on, sends_by, takes_by, takes_if}
 use Rattle.rb_world.proofs.ListFacts.{none_some, some_same, slice_get-front}
 use Rattle.rb_meaning.specs.Environment.{Environment}
 use Rattle.rb_meaning.specs.State.{State, settle, with_held, with_kept}

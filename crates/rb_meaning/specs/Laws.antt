@@ -1,22 +1,20 @@
 -- The laws of the meaning, of every nested program and every list of turns.
 -- That members of a conversation pass its test line together and go back together, and that conversations nest, is Randell's
 -- (1975); that an alternate which fails leaves no trace is from Horning, Lauer, Melliar-Smith, Randell (1974).
-use Rattle.std.specs.Prelude.{◌≡◌, ◌≢◌, ◌≤◌, ◌+◌, ℕ, suc, Bool, true, false, List, [], ◌∷◌, ◌++◌, length, map, filter, reverse, slice_get, Option, Some, None, Ok}
-use Rattle.rb_base.specs.declared.event.Cause.{Cause}
+use Rattle.std.specs.Prelude.{◌≡◌, ◌≤◌, ◌+◌, ℕ, Bool, true, false, List, [], ◌∷◌, ◌++◌, length, map, filter, reverse, slice_get, Some, Ok}
 use Rattle.rb_base.specs.declared.event.Event.{Event}
 use Rattle.rb_base.specs.declared.event.Event.TheVariants.{Reject, RejectAll, Error, Pass, Done}
-use Rattle.rb_base.specs.declared.event.TurnKind.TheVariants.{Undone}
 use Rattle.rb_syntax.specs.Tree.{RecoveryBlock, Tree}
 use Rattle.rb_world.specs.Kind.{Ends, Kind}
-use Rattle.rb_world.specs.World.{Level, Process, World, is_inside, last_of, process_levels, without_last}
+use Rattle.rb_world.specs.World.{Level, Process, World, without_last}
 use Rattle.rb_world.specs.Channels.{seen_copy, seen_count}
-use Rattle.rb_world.specs.Reject.{next_alternate}
-use Rattle.rb_world.specs.Turn.{Told, is_last_of, opening, run, stands_there, turn}
+use Rattle.rb_world.specs.Turn.{Told, opening, run, turn}
 use Rattle.rb_world.specs.Slots.{Slots, AllLieInSlots, from_slots, with_slots, zero_slots}
 use Rattle.rb_world.specs.Plain.{Ended}
 use Rattle.rb_world.specs.Standing.{is_failed}
 use Rattle.rb_world.specs.Nested.{AreNested}
 use Rattle.rb_world.specs.Present.{IsPresent}
+use Rattle.rb_world.specs.Together.{GoTogether, HasLevel, LeavesOutsiders}
 use Rattle.rb_world.specs.Erased.{Rises, numbered, released_in}
 use Rattle.rb_world.specs.Text.{outs_text, values_text}
 use Rattle.rb_meaning.specs.State.{Item, Perform, StartOf, TestOf, EndBlock, EndCall, State}
@@ -24,7 +22,7 @@ use Rattle.rb_meaning.specs.Groups.{channels_of, facts_of, groups_of}
 use Rattle.rb_meaning.specs.Step.{Nothing}
 use Rattle.rb_meaning.specs.Meaning.{TreeWorld, final_of, opening_states, naming_of, run_of, states_of, survivors, taken_on, tree_kind}
 use Rattle.rb_meaning.specs.PlainRun.{PlainWorld, plain_of, plain_text}
-use Rattle.rb_meaning.specs.Nesting.{IsNested, alternates_of, is_member, members_in}
+use Rattle.rb_meaning.specs.Nesting.{IsNested, alternates_of}
 use Rattle.rb_base.specs.declared.event.TheConstants.{MOST_EVENTS}
 use Rattle.rb_base.specs.declared.limits.TheConstants.{MOST_OPEN_LEVELS}
 
@@ -102,89 +100,18 @@ NothingTakenBack = OfEveryNested TakesNothingBack
 abbrev pub next_turn : Tree → List ℕ → ℕ → TreeWorld × Told
 next_turn tree turns p = turn (tree_kind tree) (length turns + 1) p (run_of tree turns).0
 
--- the outermost conversation that was rejected in a turn, whose rejections are told from the inside out
-abbrev pub further_out : Option ℕ → Option ℕ → Option ℕ
-further_out inner None = inner
-further_out inner (Some c) = Some c
-
-abbrev pub outermost_rejected : List Event → Option ℕ
-outermost_rejected [] = None
-outermost_rejected (Reject p line a cause ∷ events) = outermost_rejected events
-outermost_rejected (RejectAll c a p cause ∷ events) = further_out (Some c) (outermost_rejected events)
-outermost_rejected (Error p cause ∷ events) = outermost_rejected events
-outermost_rejected (Pass c a ∷ events) = outermost_rejected events
-outermost_rejected (Done p ∷ events) = outermost_rejected events
-
--- a process is not inside the conversation, if there is one
-abbrev pub IsOutside : Option ℕ → Process State State → Type 0
-IsOutside None q = Unit {0}
-IsOutside (Some c) q = is_inside c q ≡ false
-
 -- A turn that is undone changes no other process than those inside the outermost conversation that it rejects; where it rejects
 -- none, no other at all.
 abbrev pub KeepsRejectionsInside : Tree → Type 0
-KeepsRejectionsInside tree = (turns : List ℕ) (p r : ℕ) (q : Process State State)
-    → (next_turn tree turns p).1.kind ≡ Undone → IsIn tree turns r q → r ≢ p → IsOutside (outermost_rejected (next_turn tree turns p).1.events) q
-    → slice_get (next_turn tree turns p).0.processes r ≡ Some q
+KeepsRejectionsInside tree = (turns : List ℕ) (p : ℕ) → LeavesOutsiders p (run_of tree turns).0 (next_turn tree turns p)
 
 abbrev pub RejectionsStayInside : Type 0
 RejectionsStayInside = OfEveryNested KeepsRejectionsInside
 
--- an event of a turn
-abbrev pub IsAmong : Event → List Event → Type 0
-IsAmong event events = (i : ℕ) × (slice_get events i ≡ Some event)
-
--- nobody is inside conversation c
-abbrev pub IsEmpty : ℕ → TreeWorld → Type 0
-IsEmpty c w = (r : ℕ) (q : Process State State) → slice_get w.processes r ≡ Some q → is_inside c q ≡ false
-
--- the same level, but for its turns used
-pub record IsSameLevel (level later : Level State) : Type 0 where
-  pub facts : later.facts ≡ level.facts
-  pub alternate : later.alternate ≡ level.alternate
-  pub copy : later.copy ≡ level.copy
-
--- a process's level number i, with the process
-pub record HasLevel (w : TreeWorld) (r i : ℕ) (q : Process State State) (level : Level State) : Type 0 where
-  pub there : slice_get w.processes r ≡ Some q
-  pub level_there : slice_get q.levels i ≡ Some level
-
--- who is inside conversation c keeps its level of it
-abbrev pub KeepTheirLevels : ℕ → TreeWorld → TreeWorld → Type 0
-KeepTheirLevels c w later = (r i : ℕ) (q : Process State State) (level : Level State) → HasLevel w r i q level → level.facts.conversation ≡ Some c
-    → (q' : Process State State) × (level' : Level State) × HasLevel later r i q' level' × IsSameLevel level level'
-
--- who is inside conversation c is put back to its level of it, which goes on to the next alternate
-pub record IsPutBack (level : Level State) (i : ℕ) (q' : Process State State) : Type 0 where
-  pub innermost : length q'.levels ≡ suc i
-  pub next : slice_get q'.levels i ≡ Some (next_alternate level)
-  pub state : q'.state ≡ level.copy
-  pub away : q'.at_line ≡ false
-
-abbrev pub ArePutBack : ℕ → TreeWorld → TreeWorld → Type 0
-ArePutBack c w later = (r i : ℕ) (q : Process State State) (level : Level State) → HasLevel w r i q level → level.facts.conversation ≡ Some c
-    → (q' : Process State State) × (slice_get later.processes r ≡ Some q') × IsPutBack level i q'
-
--- every other member stands at the line of conversation c, and p, a member, is innermost in it
-pub record AllCome (tree : Tree) (c p : ℕ) (w : TreeWorld) : Type 0 where
-  pub others : (m : ℕ) → is_member m (members_in tree c) ≡ true → m ≢ p → stands_there c (slice_get w.processes m) ≡ true
-  pub member : is_member p (members_in tree c) ≡ true
-  pub here : is_last_of c (last_of (process_levels w p)) ≡ true
-
--- What becomes in a turn of p of the levels of conversation c, for all that are inside at once: they stay; or the test line is
--- passed, once all members came to it, and they go; or they are put back; or they go by a rejection.
-pub data GoTogether (tree : Tree) (c p : ℕ) (w later : TreeWorld) (events : List Event) : Type 0 where
-  Stay : KeepTheirLevels c w later → GoTogether tree c p w later events
-  PassTogether : (alternate : ℕ) → IsAmong (Pass c alternate) events → AllCome tree c p w → IsEmpty c later → GoTogether tree c p w later events
-  BackTogether : (alternate : ℕ) (cause : Cause) → IsAmong (RejectAll c alternate p cause) events → ArePutBack c w later
-      → GoTogether tree c p w later events
-  OutTogether : (outer alternate : ℕ) (cause : Cause) → IsAmong (RejectAll outer alternate p cause) events → IsEmpty c later
-      → GoTogether tree c p w later events
-
 -- Members pass the test line together, and go back together.
 abbrev pub PassesTogether : Tree → Type 0
 PassesTogether tree = (turns : List ℕ) (c p : ℕ)
-    → GoTogether tree c p (run_of tree turns).0 (next_turn tree turns p).0 (next_turn tree turns p).1.events
+    → GoTogether (tree_kind tree) c p (run_of tree turns).0 (next_turn tree turns p).0 (next_turn tree turns p).1.events
 
 abbrev pub PassedTogether : Type 0
 PassedTogether = OfEveryNested PassesTogether

@@ -6,7 +6,8 @@ use Rattle.rb_syntax.specs.Tree.{Declaration, ProcessDeclaration, Tree}
 use Rattle.rb_world.specs.Kind.{Kind, Ends}
 use Rattle.rb_world.specs.World.{Status, Process, World}
 use Rattle.rb_world.specs.Turn.{Told, run, opening, told_at_opening}
-use Rattle.rb_world.specs.Plain.{Kept, survivors_of}
+use Rattle.rb_base.specs.declared.kept.Kept.{Kept}
+use Rattle.rb_world.specs.Plain.{survivors_of}
 use Rattle.rb_world.specs.Text.{Naming, ProcessNaming, VariableNaming, Final, told_text, all_told, end_text}
 use Rattle.rb_meaning.specs.Environment.{Environment, frame_of, size_of, global_words}
 use Rattle.rb_meaning.specs.State.{State, performed, settle, with_held, with_kept}

@@ -6,7 +6,8 @@ use Rattle.rb_syntax.specs.Tree.{Tree}
 use Rattle.rb_world.specs.Kind.{Kind}
 use Rattle.rb_world.specs.World.{World}
 use Rattle.rb_world.specs.Turn.{opening}
-use Rattle.rb_world.specs.Plain.{Kept, PlainEnd, Ended, StuckAt, plain_run}
+use Rattle.rb_base.specs.declared.kept.Kept.{Kept}
+use Rattle.rb_world.specs.Plain.{PlainEnd, Ended, StuckAt, plain_run}
 use Rattle.rb_world.specs.Text.{outs_text, values_text}
 use Rattle.rb_meaning.specs.Environment.{Environment}
 use Rattle.rb_meaning.specs.State.{State, settle, with_held}

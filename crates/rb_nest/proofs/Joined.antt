@@ -13,9 +13,10 @@ use Rattle.rb_scope.specs.Limits.{HasDistinctNames}
 use Rattle.rb_scope.specs.Rules.{where_broken}
 use Rattle.rb_scope.proofs.DistinctNames.{same_text}
 use Rattle.rb_scope.proofs.ProgramNames.{place}
+use Rattle.rb_scope.proofs.EachSite.{first-empty, second-empty}
 use Rattle.rb_nest.specs.Nest.{IsNumber}
 use Rattle.rb_nest.specs.Rules.{channel_faults, conversation_faults, joins_in, members_faults, nesting_faults, uses_faults}
-use Rattle.rb_nest.proofs.Accepted.{is_kept, left_empty, right_empty}
+use Rattle.rb_nest.proofs.Accepted.{is_kept}
 
 module _ (tree : Tree) (c p : ℕ) (x : List ℕ) (same : (y : List ℕ) → same_name y x ≡ true → conversation_number tree y ≡ c) where
   -- one `converse` of a member tells how many alternates there are
@@ -59,7 +60,7 @@ member_joins tree x (name ∷ names) many e =
     let p = process_number tree name.text in (
       p,
       is_kept (list_any (joins_in p x) (uses_of tree)) N6 name.place
-          (left_empty (where_broken (not (list_any (joins_in p x) (uses_of tree))) N6 name.place) (members_faults tree x (name ∷ []) names) e),
+          (first-empty (where_broken (not (list_any (joins_in p x) (uses_of tree))) N6 name.place) (members_faults tree x (name ∷ []) names) e),
     )
 
 -- one of several conversations has no fault
@@ -68,9 +69,9 @@ one_kept : (tree : Tree) (conversations : List ConversationDeclaration) (c : ℕ
 one_kept tree [] c one there e = absurd (cc)
 one_kept tree (first ∷ others) zero one there e =
     let is : first ≡ one = cc in
-    ap (conversation_faults tree) (sym is) ∙ left_empty (conversation_faults tree first) (flat_map (conversation_faults tree) others) e
+    ap (conversation_faults tree) (sym is) ∙ first-empty (conversation_faults tree first) (flat_map (conversation_faults tree) others) e
 one_kept tree (first ∷ others) (suc c) one there e =
-    one_kept tree others c one there (right_empty (conversation_faults tree first) (flat_map (conversation_faults tree) others) e)
+    one_kept tree others c one there (second-empty (conversation_faults tree first) (flat_map (conversation_faults tree) others) e)
 
 -- a rule that is not broken
 not_broken : (broken : Bool) (one : Identifier) → where_broken broken N11 one.place ≡ [] → broken ≡ false
@@ -81,13 +82,13 @@ not_broken false one e = refl
 pub conversation_joined : (tree : Tree) (c : ℕ) (one : ConversationDeclaration) → nesting_faults tree ≡ [] → HasDistinctNames tree
     → slice_get tree.conversations c ≡ Some one → IsNumber (alternates_of tree c)
 conversation_joined tree c one none distinct there =
-    let after = right_empty (flat_map (channel_faults tree) tree.channels)
+    let after = second-empty (flat_map (channel_faults tree) tree.channels)
     (flat_map (conversation_faults tree) tree.conversations ++ uses_faults tree [] (uses_of tree)) none in
     let kept = one_kept tree tree.conversations c one there
-    (left_empty (flat_map (conversation_faults tree) tree.conversations) (uses_faults tree [] (uses_of tree)) after) in
+    (first-empty (flat_map (conversation_faults tree) tree.conversations) (uses_faults tree [] (uses_of tree)) after) in
     let few = where_broken (nat_lt (length one.members) 2) N11 one.name.place in
-    let many = not_broken (nat_lt (length one.members) 2) one.name (left_empty few (members_faults tree one.name.text [] one.members) kept) in
-    let joins = member_joins tree one.name.text one.members many (right_empty few (members_faults tree one.name.text [] one.members) kept) in
+    let many = not_broken (nat_lt (length one.members) 2) one.name (first-empty few (members_faults tree one.name.text [] one.members) kept) in
+    let joins = member_joins tree one.name.text one.members many (second-empty few (members_faults tree one.name.text [] one.members) kept) in
     joined_among tree c joins.0 one.name.text (λ y named. ap number_or_zero (
     place
     (λ (conversation : ConversationDeclaration). conversation.name) tree.conversations c one y distinct.conversations there

@@ -1,6 +1,5 @@
 pub mod Accepted
 pub mod FirstFaults
-pub mod Places
 pub mod InTurn
 pub mod After
 pub mod Around

@@ -11,9 +11,9 @@ ghost use Rattle.rb_nest.specs.Rules.{conversation_faults, members_faults};
 ghost use Rattle.rb_nest.specs.Members.{known, known_from, known_of, member_faults, with_members};
 
 use crate::found::note;
-use crate::look_up::process_number;
 use crate::uses::Uses;
 use rb_base::{FaultName, Memory, SourceFault};
+use rb_meaning::numbers::process_number;
 use rb_syntax::{Conversation, Name, Program};
 use std::alloc::Global;
 

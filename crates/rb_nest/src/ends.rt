@@ -9,8 +9,8 @@ ghost use Rattle.rb_nest.specs.Rules.{channel_faults};
 ghost use Rattle.rb_nest.specs.Members.{ends_alone};
 
 use crate::found::note;
-use crate::look_up::process_number;
 use rb_base::{FaultName, Memory, SourceFault};
+use rb_meaning::numbers::process_number;
 use rb_syntax::{Channel, Program};
 use std::alloc::Global;
 

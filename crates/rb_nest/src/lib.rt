@@ -7,7 +7,6 @@ mod ends;
 mod found;
 mod joins;
 pub mod laws;
-mod look_up;
 mod nesting;
 mod processes;
 mod rules;

@@ -14,10 +14,10 @@ ghost use Rattle.rb_nest.specs.Rules.{nesting_faults};
 
 use crate::conversations::facts_of_conversations;
 use crate::ends::ends_of_channels;
-use crate::look_up::process_number;
 use crate::rules::Rules;
 use crate::uses::Uses;
 use rb_base::{Group, Memory, Nested, Refusal, SourceFault};
+use rb_meaning::numbers::process_number;
 use rb_scope::Checked;
 use rb_syntax::{Conversation, Name, Program};
 use std::alloc::Global;

@@ -8,10 +8,10 @@ ghost use Rattle.rb_nest.specs.Memory.{Adds, deed_of, spot_of};
 ghost use Rattle.rb_nest.specs.Summary.{is_join};
 
 use crate::blocks::{Blocks, Joined};
-use crate::look_up::{channel_number, conversation_number};
 use crate::spot::Spot;
 use crate::usage::{Deed, Use};
 use rb_base::Memory;
+use rb_meaning::numbers::{channel_number, conversation_number};
 use rb_syntax::{Block, Name, Recovery, Statement};
 
 /// Adds the uses in a statement.

@@ -9,7 +9,8 @@ use Rattle.rb_world.specs.Kind.{Want, NothingLeft, SendsOn, ReceivesOn, MayRecei
 use Rattle.rb_world.specs.World.{copy_of, goes_on, last_of, settled}
 use Rattle.rb_world.specs.Channels.{has_room, message_there}
 use Rattle.rb_world.specs.Turn.{Moved, accepted, most_levels, new_level, open_at}
-use Rattle.rb_world.specs.Plain.{Kept, has_alternate, no_alternate, plain_acts, plain_receives, plain_stepped, plain_steps, when}
+use Rattle.rb_base.specs.declared.kept.Kept.{Kept}
+use Rattle.rb_world.specs.Plain.{has_alternate, no_alternate, plain_acts, plain_receives, plain_stepped, plain_steps, when}
 use Rattle.rb_meaning.specs.Environment.{rest_of}
 use Rattle.rb_meaning.specs.State.{Item, Perform, StartOf, TestOf, EndBlock, EndCall, State}
 use Rattle.rb_meaning.specs.Step.{Nothing, alternate_number, alternates_in, enter, former, goes, judged, performs, starts_body, step_items, test_in, wants, wants_first}

@@ -4,7 +4,7 @@ use Rattle.std.proofs.lemmas.Option.{get_or_from_slice_get}
 use Rattle.rb_syntax.specs.Tree.{Tree}
 use Rattle.rb_world.specs.World.{change_at, with_process}
 use Rattle.rb_world.specs.Turn.{opening_talks}
-use Rattle.rb_world.specs.Plain.{Kept}
+use Rattle.rb_base.specs.declared.kept.Kept.{Kept}
 use Rattle.rb_meaning.specs.Groups.{groups_of}
 use Rattle.rb_meaning.specs.PlainRun.{PlainWorld}
 use Rattle.rb_walk.specs.declared.halt.Halt.{Halt}

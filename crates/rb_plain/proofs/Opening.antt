@@ -1,9 +1,9 @@
 -- The processes before the first turn, one after another.
-use Rattle.std.proofs.Common.{◌≡◌, ◌<◌, ◌≤◌, ◌+◌, ℕ, List, [], ◌∷◌, ◌++◌, suc, length, map, drop, get_or, refl, sym, ap, ◌∙◌, append_assoc, arith}
+use Rattle.std.proofs.Common.{◌≡◌, ◌<◌, ◌≤◌, ◌+◌, ℕ, List, [], ◌∷◌, ◌++◌, length, map, drop, get_or, sym, ap, ◌∙◌, append_assoc, arith}
 use Rattle.std.proofs.lemmas.List.{length-map, map-append}
 use Rattle.rb_base.specs.declared.names.Names.{Names}
 use Rattle.rb_syntax.specs.Plain.{process_declaration}
-use Rattle.rb_syntax.specs.Tree.{ProcessDeclaration, Tree}
+use Rattle.rb_syntax.specs.Tree.{Tree}
 use Rattle.rb_syntax.specs.declared.program.Process.{Process as Declaration}
 use Rattle.rb_trace.proofs.Ended.{from_item}
 use Rattle.rb_trace.specs.Naming.{naming, process_naming}
@@ -12,6 +12,7 @@ use Rattle.rb_world.specs.Text.{Naming}
 use Rattle.rb_meaning.specs.State.{State}
 use Rattle.rb_meaning.specs.Meaning.{naming_of, opening_state, opening_states, process_named}
 use Rattle.rb_meaning.specs.PlainRun.{EntryPoint, PlainWorld}
+use Rattle.rb_meaning.proofs.FewEventsOfTurns.{length-opening_states}
 use Rattle.rb_plain.specs.declared.process.Process.{Process}
 use Rattle.rb_plain.specs.Worlds.{process_of, unkept_kind, world_of}
 use Rattle.rb_plain.specs.Played.{unkept_opening}
@@ -36,11 +37,6 @@ opened_more tree declared i one made process whole within is new so_far =
     (sym (from_item declared i one within is))
     ∙ so_far
 
--- there are as many as have names
-length_states : (tree : Tree) (p : ℕ) (processes : List ProcessDeclaration) → length (opening_states tree p processes) ≡ length processes
-length_states tree p [] = refl
-length_states tree p (process ∷ processes) = ap suc (length_states tree (p + 1) processes)
-
 pub opened_named : (tree : Tree) (names : Names) (made : List Process) → naming names ≡ naming_of tree → world_of tree made ≡ unkept_opening tree
     → length made ≤ length names.processes.items
 opened_named tree names made named is =
@@ -54,7 +50,7 @@ opened_named tree names made named is =
       names_same,
       length-map made process_of,
       length-map (opening_states tree 0 tree.processes) (λ s. settled (unkept_kind tree) s []),
-      length_states tree 0 tree.processes,
+      length-opening_states tree 0 tree.processes,
       length-map names.processes.items process_naming,
       length-map tree.processes process_named,
     )

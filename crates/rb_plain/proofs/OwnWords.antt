@@ -1,26 +1,24 @@
 -- Over every plain run each process has as many words of its own as it declares; so the variables that are printed lie within them.
-use Rattle.std.proofs.Common.{◌≡◌, ◌+◌, ◌≤◌, ℕ, ℤ, pos, zero, suc, Bool, true, false, cond, List, [], ◌∷◌, ◌++◌, length, map, option_map, slice_get, slice_set, Option, Some, None, Ok, Err, refl, sym, ap, ap₂, ◌∙◌, arith, length-append, subst}
-use Rattle.std.specs.List.{AllByRecursion, flat_map, list_any}
-use Rattle.std.proofs.lemmas.List.{length-replicate, length-set}
+use Rattle.std.proofs.Common.{◌≡◌, ◌+◌, ℕ, ℤ, zero, suc, Bool, true, false, cond, List, [], ◌∷◌, ◌++◌, length, map, slice_get, slice_set, Option, Some, None, Ok, Err, refl, sym, ap, ap₂, ◌∙◌, arith, length-append, subst}
+use Rattle.std.specs.List.{flat_map, list_any}
+use Rattle.std.proofs.lemmas.List.{length-set}
 use Rattle.std.proofs.lemmas.List.Concat.{length-flat_map}
-use Rattle.std.proofs.lemmas.List.Sums.{sum_by-cons}
 use Rattle.rb_base.specs.declared.event.Cause.TheVariants.{Test}
 use Rattle.rb_base.specs.declared.edition.Edition.{Edition}
 use Rattle.rb_base.specs.declared.names.Names.{Names}
 use Rattle.rb_base.specs.declared.names.ProcessNames.{ProcessNames}
-use Rattle.rb_base.specs.declared.names.Variable.{Variable}
-use Rattle.rb_syntax.specs.Tree.{Declaration, Expression, Reference, PrintItem, Command, Assignment, Printing, Sending, Receiving, Conditional, Loop, Invocation, Failure, Recovering, Body, Scope, Otherwise, NoElse, Else, RecoveryBlock, ProcessDeclaration, ProcedureDeclaration, Tree}
-use Rattle.rb_syntax.specs.declared.expression.Number.{Number}
-use Rattle.rb_trace.specs.Fitting.{LiesWithin}
+use Rattle.rb_syntax.specs.Tree.{Expression, Reference, PrintItem, Command, Assignment, Printing, Sending, Receiving, Conditional, Loop, Invocation, Failure, Recovering, Body, Scope, Otherwise, NoElse, Else, RecoveryBlock, ProcessDeclaration, ProcedureDeclaration, Tree}
 use Rattle.rb_trace.specs.Naming.{naming, process_naming, variable_naming}
+use Rattle.rb_trace.proofs.Lying.{variables_within}
 use Rattle.rb_world.specs.Kind.{Went, Held}
 use Rattle.rb_world.specs.World.{Level, Process, World, change_at, copy_of, last_of, settled, without_last}
 use Rattle.rb_world.specs.Turn.{Told, freed, leaves, stands_at, stands_now, state_freed}
-use Rattle.rb_world.specs.Text.{Naming, ProcessNaming, VariableNaming, size_of as size_named}
-use Rattle.rb_world.specs.Plain.{Kept, PlainEnd, Ended, StuckAt}
+use Rattle.rb_world.specs.Text.{Naming, ProcessNaming}
+use Rattle.rb_base.specs.declared.kept.Kept.{Kept}
+use Rattle.rb_world.specs.Plain.{PlainEnd, Ended, StuckAt}
 use Rattle.rb_world.proofs.ListFacts.{heads_same, none_some, some_same, tails_same}
 use Rattle.rb_world.proofs.PlainInduction.{IsPlainInvariant, Plainly, plain_run-keeps}
-use Rattle.rb_meaning.specs.Environment.{Environment, Frame, Stored, frame_of, frame_words, global_words, has, in_running, push_call, push_frame, running_frames, same_name, size_of, stored_among, stored_in, zeros}
+use Rattle.rb_meaning.specs.Environment.{Environment, Frame, frame_of, frame_words, global_words, has, in_running, push_call, push_frame, running_frames, same_name, stored_among, stored_in}
 use Rattle.rb_meaning.specs.Value.{Outcome, is_zero, value}
 use Rattle.rb_meaning.specs.State.{Item, Perform, StartOf, TestOf, EndBlock, EndCall, State, performed, continue_with, with_environment, with_held, settle, settle_items}
 use Rattle.rb_meaning.specs.Step.{Nothing, alternate_number, alternates_in, assigned, bound_to, calls_with, commands_of, former, judged, line_from, performs, place_in, present_value, prints, pushes, pushes_else, put_at, receives, starts_body, step, step_items, takes, test_in, values_in, variables_of, within_words}
@@ -28,6 +26,7 @@ use Rattle.rb_meaning.specs.Groups.{channel_number, procedure_named}
 use Rattle.rb_meaning.specs.Meaning.{naming_of, opening_state, opening_states, process_named, variables_named}
 use Rattle.rb_meaning.specs.PlainRun.{EntryPoint, PlainWorld, environment_at}
 use Rattle.rb_meaning.proofs.StepsKeepRules.{EndsIn, StepsTo, either_ends, judged_either, step_ends, then_ends}
+use Rattle.rb_meaning.proofs.NamedVariables.{named_within}
 use Rattle.rb_plain.specs.Worlds.{unkept_kind}
 use Rattle.rb_plain.specs.Played.{ProcessesLie, own_words, played, unkept_opening, world_in}
 
@@ -256,28 +255,6 @@ ends_long tree turns v e =
     ∙ plain_run-keeps (stay_long tree (map declared_words tree.processes)) [] turns (unkept_opening tree) v ended.0
     (opening_lengths tree 0 tree.processes) ended.1
 
--- a variable is named with as many numbers as it has
-named_size : (size : Option Number) → size_named (option_map (λ (n : Number). size_of (Some n)) size) ≡ size_of size
-named_size None = refl
-named_size (Some number) = refl
-
--- variables that are named from a place on lie in that order
-variables_lie : (at : ℕ) (declared : List Declaration) (items : List Variable) (words : ℕ)
-    → map variable_naming items ≡ variables_named at declared → at + frame_words (frame_of declared) ≤ words
-    → AllByRecursion (LiesWithin words) items
-variables_lie at [] [] words e few = tt
-variables_lie at [] (one ∷ items) words e few = absurd (cc)
-variables_lie at (first ∷ declared) [] words e few = absurd (cc)
-variables_lie at (first ∷ declared) (one ∷ items) words e few =
-    let head = heads_same e in
-    let place : one.at ≡ at = ap (λ (v : VariableNaming). v.at) head in
-    let size : size_named one.size ≡ size_of first.size = ap (λ (v : VariableNaming). size_named v.size) head ∙ named_size first.size in
-    let own = length-replicate (size_of first.size) (pos 0) in
-    let all = sum_by-cons (λ (stored : Stored). length stored.values) (zeros first) (frame_of declared) in (
-      omega (arith, place, size, own, all, few),
-      variables_lie (at + size_of first.size) declared items words (tails_same e) (omega (arith, own, all, few)),
-    )
-
 -- so all variables that are named lie within words of these lengths
 processes_lie : (processes : List ProcessDeclaration) (names : List ProcessNames) (words : List (List ℤ))
     → map process_naming names ≡ map process_named processes → map length words ≡ map declared_words processes → ProcessesLie names words
@@ -290,7 +267,7 @@ processes_lie (process ∷ processes) (one ∷ names) (ws ∷ words) e f =
     let own : map variable_naming one.variables.items ≡ variables_named 0 process.variables =
     ap (λ (named : ProcessNaming). named.variables) (heads_same e) in
     let long : length ws ≡ declared_words process = heads_same f in (
-      variables_lie 0 process.variables one.variables.items (length ws) own (omega (arith, long)),
+      variables_within (length ws) one.variables.items (rw own (named_within (length ws) 0 process.variables (omega (arith, long)))),
       processes_lie processes names words (tails_same e) (tails_same f),
     )
 

@@ -1,8 +1,7 @@
 -- How the kept turns of a text follow from those of its lines.
-use Rattle.std.proofs.Common.{◌≡◌, ℕ, ◌+◌, ◌≤◌, ◌<◌, List, [], ◌∷◌, ◌++◌, length, map, vec_len, Bool, true, false, cond, ◌&&◌, nat_eq, ◌==◌, nat_lt, nat_le, Option, Some, None, Result, Ok, Err, refl, ap, ◌∙◌, sym, subst, arith}
+use Rattle.std.proofs.Common.{◌≡◌, ℕ, ◌+◌, ◌≤◌, ◌<◌, List, [], ◌∷◌, ◌++◌, length, vec_len, Bool, true, false, cond, ◌&&◌, nat_eq, ◌==◌, nat_lt, nat_le, Option, Some, None, Result, Ok, Err, refl, ap, ◌∙◌, sym, subst, arith}
 use Rattle.std.specs.Cmp.Lexicographic.{pointwise}
 use Rattle.std.proofs.lemmas.Bool.Decides.{nat_tests}
-use Rattle.std.proofs.lemmas.List.{map-append}
 use Rattle.std.proofs.lemmas.List.Quantifiers.{position-Some}
 use Rattle.rb_base.specs.declared.names.Names.{Names}
 use Rattle.rb_base.specs.declared.fault.TextFault.{TextFault}
@@ -13,10 +12,9 @@ use Rattle.rb_base.specs.Bytes.{is_name, is_number, digits_value}
 use Rattle.rb_base.specs.Naming.{first_named, process_names}
 use Rattle.rb_base.proofs.Named.{length_process_names}
 use Rattle.rb_sched.specs.Schedule.{lines_of, words_of}
-use Rattle.rb_world.specs.Plain.{Kept}
-use Rattle.rb_plain.specs.declared.record.Kept.{Kept as KeptTurn}
+use Rattle.rb_base.specs.declared.kept.Kept.{Kept}
 use Rattle.rb_plain.specs.Record.{is_counted, kept_after, line_of_words, in_front, after_line, lines_kept, record_of}
-use Rattle.rb_plain.specs.Recorded.{plain_turn, IsKept, AreKept}
+use Rattle.rb_plain.specs.Recorded.{IsKept, AreKept}
 
 -- turns in front of those of the lines after them
 abbrev pub all_in_front : List Kept → Result (List Kept) TextFault → Result (List Kept) TextFault
@@ -40,46 +38,45 @@ all_in_front-Err [] fault = refl
 all_in_front-Err (one ∷ turns) fault = ap (in_front one) (all_in_front-Err turns fault)
 
 -- the turns so far of a text that is read up to a line
-pub record ReadUpTo (names : List (List ℕ)) (text : List ℕ) (turns : List KeptTurn) (last at : ℕ) (rest : List ℕ) : Type 0 where
-  pub goes_on : record_of names text ≡ all_in_front (map plain_turn turns) (lines_kept names last at (lines_of rest))
+pub record ReadUpTo (names : List (List ℕ)) (text : List ℕ) (turns : List Kept) (last at : ℕ) (rest : List ℕ) : Type 0 where
+  pub goes_on : record_of names text ≡ all_in_front turns (lines_kept names last at (lines_of rest))
 
 -- what a text comes to at its next line
-at_line : (names : List (List ℕ)) (text line : List ℕ) (turns : List KeptTurn) (last at : ℕ) (rest after : List ℕ)
+at_line : (names : List (List ℕ)) (text line : List ℕ) (turns : List Kept) (last at : ℕ) (rest after : List ℕ)
     (answer : Result (Option Kept) FaultName)
     → ReadUpTo names text turns last at rest → lines_of rest ≡ line ∷ lines_of after → line_of_words names last (words_of line) ≡ answer
-    → record_of names text ≡ all_in_front (map plain_turn turns) (after_line answer last at (λ n. lines_kept names n (at + 1) (lines_of after)))
+    → record_of names text ≡ all_in_front turns (after_line answer last at (λ n. lines_kept names n (at + 1) (lines_of after)))
 at_line names text line turns last at rest after answer read cut given =
     read.goes_on
-    ∙ ap (λ lines. all_in_front (map plain_turn turns) (lines_kept names last at lines)) cut
-    ∙ ap (λ first. all_in_front (map plain_turn turns) (after_line first last at (λ n. lines_kept names n (at + 1) (lines_of after)))) given
+    ∙ ap (λ lines. all_in_front turns (lines_kept names last at lines)) cut
+    ∙ ap (λ first. all_in_front turns (after_line first last at (λ n. lines_kept names n (at + 1) (lines_of after)))) given
 
 -- a line without a turn is read
-pub read_none : (names : List (List ℕ)) (text line : List ℕ) (turns : List KeptTurn) (last at : ℕ) (rest after : List ℕ)
+pub read_none : (names : List (List ℕ)) (text line : List ℕ) (turns : List Kept) (last at : ℕ) (rest after : List ℕ)
     → ReadUpTo names text turns last at rest → lines_of rest ≡ line ∷ lines_of after → line_of_words names last (words_of line) ≡ Ok None
     → ReadUpTo names text turns last (at + 1) after
 read_none names text line turns last at rest after read cut given =
     record { goes_on = at_line names text line turns last at rest after (Ok None) read cut given }
 
 -- a turn more is read
-pub read_kept : (names : List (List ℕ)) (text line : List ℕ) (turns : List KeptTurn) (last at : ℕ) (rest after : List ℕ) (kept : KeptTurn)
+pub read_kept : (names : List (List ℕ)) (text line : List ℕ) (turns : List Kept) (last at : ℕ) (rest after : List ℕ) (kept : Kept)
     → ReadUpTo names text turns last at rest → lines_of rest ≡ line ∷ lines_of after
-    → line_of_words names last (words_of line) ≡ Ok (Some (plain_turn kept)) → ReadUpTo names text (turns ++ kept ∷ []) kept.turn (at + 1) after
+    → line_of_words names last (words_of line) ≡ Ok (Some kept) → ReadUpTo names text (turns ++ kept ∷ []) kept.turn (at + 1) after
 read_kept names text line turns last at rest after kept read cut given =
     let others = lines_kept names kept.turn (at + 1) (lines_of after) in
     record {
       goes_on =
-          at_line names text line turns last at rest after (Ok (Some (plain_turn kept))) read cut given
-          ∙ all_in_front-append (map plain_turn turns) (plain_turn kept) others
-          ∙ ap (λ front. all_in_front front others) (sym (map-append plain_turn turns (kept ∷ [])));
+          at_line names text line turns last at rest after (Ok (Some kept)) read cut given
+          ∙ all_in_front-append turns kept others;
     }
 
 -- a line has a fault
-pub read_fault : (names : List (List ℕ)) (text line : List ℕ) (turns : List KeptTurn) (last at : ℕ) (rest after : List ℕ) (name : FaultName)
+pub read_fault : (names : List (List ℕ)) (text line : List ℕ) (turns : List Kept) (last at : ℕ) (rest after : List ℕ) (name : FaultName)
     → ReadUpTo names text turns last at rest → lines_of rest ≡ line ∷ lines_of after → line_of_words names last (words_of line) ≡ Err name
     → record_of names text ≡ Err (record { name = name; at = at })
 read_fault names text line turns last at rest after name read cut given =
     at_line names text line turns last at rest after (Err name) read cut given
-    ∙ all_in_front-Err (map plain_turn turns) (record { name = name; at = at })
+    ∙ all_in_front-Err turns (record { name = name; at = at })
 
 -- nothing is left
 none_left : (rest : List ℕ) → true ≡ (length rest == 0) → rest ≡ []
@@ -87,12 +84,12 @@ none_left [] e = refl
 none_left (b ∷ bs) e = absurd (grind (arith, nat_tests))
 
 -- all is read
-pub read_all : (names : List (List ℕ)) (text : List ℕ) (turns : List KeptTurn) (last at : ℕ) (rest : List ℕ) → ReadUpTo names text turns last at rest
-    → true ≡ (length rest == 0) → record_of names text ≡ Ok (map plain_turn turns)
+pub read_all : (names : List (List ℕ)) (text : List ℕ) (turns : List Kept) (last at : ℕ) (rest : List ℕ) → ReadUpTo names text turns last at rest
+    → true ≡ (length rest == 0) → record_of names text ≡ Ok turns
 read_all names text turns last at rest read none =
     read.goes_on
-    ∙ ap (λ r. all_in_front (map plain_turn turns) (lines_kept names last at (lines_of r))) (none_left rest none)
-    ∙ all_in_front-Ok (map plain_turn turns)
+    ∙ ap (λ r. all_in_front turns (lines_kept names last at (lines_of r))) (none_left rest none)
+    ∙ all_in_front-Ok turns
 
 -- both tests hold
 both : (s t : Bool) → true ≡ (s && t) → (s ≡ true) × (t ≡ true)

@@ -1,17 +1,16 @@
 -- What is left of a plain run, turn by turn.
-use Rattle.std.proofs.Common.{◌≡◌, ◌<◌, ◌+◌, ℕ, List, ◌∷◌, ◌++◌, length, map, drop, get_or, option_map, slice_get, Option, Some, None, Result, Ok, Err, refl, sym, ap, ◌∙◌, subst, add-one, drop-cons}
+use Rattle.std.proofs.Common.{◌≡◌, ◌<◌, ◌+◌, ℕ, List, ◌∷◌, ◌++◌, length, drop, get_or, option_map, slice_get, Option, Some, None, Result, Ok, Err, refl, sym, ap, ◌∙◌, subst, add-one, drop-cons}
 use Rattle.std.specs.Result.{IsErrAnd}
 use Rattle.rb_world.specs.World.{with_each}
 use Rattle.rb_world.specs.Turn.{Moved, Told, freed, freed_lines, told}
 use Rattle.rb_world.specs.Text.{Naming, out_lines}
-use Rattle.rb_world.specs.Plain.{Kept, PlainEnd, Ended, StuckAt, plain_moves, plain_on, plain_run, plain_told, plain_turned}
+use Rattle.rb_base.specs.declared.kept.Kept.{Kept}
+use Rattle.rb_world.specs.Plain.{PlainEnd, Ended, StuckAt, plain_moves, plain_on, plain_run, plain_told, plain_turned}
 use Rattle.rb_world.proofs.ListFacts.{none_some, some_same}
 use Rattle.rb_meaning.specs.State.{State}
 use Rattle.rb_meaning.specs.Step.{Nothing}
 use Rattle.rb_syntax.specs.Tree.{Tree}
 use Rattle.rb_meaning.specs.PlainRun.{EntryPoint, PlainWorld}
-use Rattle.rb_plain.specs.declared.record.Kept.{Kept as KeptTurn}
-use Rattle.rb_plain.specs.Recorded.{plain_turn}
 use Rattle.rb_plain.specs.Worlds.{moved_world, unkept_kind}
 use Rattle.rb_plain.specs.Played.{Rehearses, TakesTurn, outs_in, played, stuck_in, world_in}
 use Rattle.rb_plain.specs.declared.answer.PlainAnswer.{PlainAnswer}
@@ -58,46 +57,46 @@ moved_not tree t rest w None e = refl
 moved_not tree t rest w (Some moved) e = absurd (none_some (sym e))
 
 -- the next of the turns that are left
-next_turn : (turns : List KeptTurn) (i : ℕ) (d : KeptTurn) → i < length turns
-    → map plain_turn (drop i turns) ≡ plain_turn (get_or turns i d) ∷ map plain_turn (drop (i + 1) turns)
+next_turn : (turns : List Kept) (i : ℕ) (d : Kept) → i < length turns
+    → drop i turns ≡ get_or turns i d ∷ drop (i + 1) turns
 next_turn turns i d within =
-    ap (map plain_turn) (drop-cons turns i d within) ∙ ap (λ (n : ℕ). plain_turn (get_or turns i d) ∷ map plain_turn (drop n turns)) (sym (add-one i))
+    drop-cons turns i d within ∙ ap (λ (n : ℕ). get_or turns i d ∷ drop n turns) (sym (add-one i))
 
-module _ (tree : Tree) (turns : List KeptTurn) (i : ℕ) (d : KeptTurn) (within : i < length turns) (w : PlainWorld) where
-  abbrev kept : KeptTurn
+module _ (tree : Tree) (turns : List Kept) (i : ℕ) (d : Kept) (within : i < length turns) (w : PlainWorld) where
+  abbrev kept : Kept
   kept = get_or turns i d
 
   -- what is left
   abbrev left : PlainEnd State EntryPoint Nothing
-  left = played tree (map plain_turn (drop i turns)) w
+  left = played tree (drop i turns) w
 
-  same_left : left ≡ played tree (plain_turn kept ∷ map plain_turn (drop (i + 1) turns)) w
+  same_left : left ≡ played tree (kept ∷ drop (i + 1) turns) w
   same_left = ap (λ ts. played tree ts w) (next_turn turns i d within)
 
   -- the turn was taken
-  pub turn_taken : (v u : PlainWorld) → moved_world tree (plain_turn (get_or turns i d)) w ≡ Some v → u ≡ with_each (freed (unkept_kind tree)) v
-      → GoesOn tree (get_or turns i d).turn v (played tree (map plain_turn (drop i turns)) w) (played tree (map plain_turn (drop (i + 1) turns)) u)
+  pub turn_taken : (v u : PlainWorld) → moved_world tree (get_or turns i d) w ≡ Some v → u ≡ with_each (freed (unkept_kind tree)) v
+      → GoesOn tree (get_or turns i d).turn v (played tree (drop i turns) w) (played tree (drop (i + 1) turns) u)
   turn_taken v u e f =
-      let on = moved_on tree kept.turn (map plain_turn (drop (i + 1) turns)) w v u
-      (plain_moves (unkept_kind tree) (plain_turn kept) w (slice_get w.processes kept.process)) e f in
+      let on = moved_on tree kept.turn (drop (i + 1) turns) w v u
+      (plain_moves (unkept_kind tree) kept w (slice_get w.processes kept.process)) e f in
       record { one = on.one; is = same_left ∙ on.is; lines = on.lines }
 
   -- it is stuck
-  turn_stuck : moved_world tree (plain_turn kept) w ≡ None → stuck_in left ≡ Some kept.turn
+  turn_stuck : moved_world tree kept w ≡ None → stuck_in left ≡ Some kept.turn
   turn_stuck e =
-      ap stuck_in (same_left ∙ moved_not tree kept.turn (map plain_turn (drop (i + 1) turns)) w
-      (plain_moves (unkept_kind tree) (plain_turn kept) w (slice_get w.processes kept.process)) e)
+      ap stuck_in (same_left ∙ moved_not tree kept.turn (drop (i + 1) turns) w
+      (plain_moves (unkept_kind tree) kept w (slice_get w.processes kept.process)) e)
 
   -- what is answered where the turn was not taken
-  pub turn_answered : (stuck : Option ℕ) (new : PlainWorld) (answer : PlainAnswer) → stuck ≡ stuck_in (played tree (map plain_turn (drop i turns)) w)
-      → TakesTurn (get_or turns i d).turn (moved_world tree (plain_turn (get_or turns i d)) w) new (Err answer) → Rehearses stuck (Err answer)
+  pub turn_answered : (stuck : Option ℕ) (new : PlainWorld) (answer : PlainAnswer) → stuck ≡ stuck_in (played tree (drop i turns) w)
+      → TakesTurn (get_or turns i d).turn (moved_world tree (get_or turns i d) w) new (Err answer) → Rehearses stuck (Err answer)
   turn_answered stuck new (Stuck t) e h = e ∙ turn_stuck h.0 ∙ ap Some (sym h.1)
   turn_answered stuck new WriteFault e h = absurd h
   turn_answered stuck new Memory e h = tt
 
   -- where no turn is stuck, memory was wanting
-  pub turn_wanting : (new : PlainWorld) (answer : PlainAnswer) → stuck_in (played tree (map plain_turn (drop i turns)) w) ≡ None
-      → TakesTurn (get_or turns i d).turn (moved_world tree (plain_turn (get_or turns i d)) w) new (Err answer) → answer ≡ Memory
+  pub turn_wanting : (new : PlainWorld) (answer : PlainAnswer) → stuck_in (played tree (drop i turns) w) ≡ None
+      → TakesTurn (get_or turns i d).turn (moved_world tree (get_or turns i d) w) new (Err answer) → answer ≡ Memory
   turn_wanting new (Stuck t) e h = absurd (none_some (sym e ∙ turn_stuck h.0))
   turn_wanting new WriteFault e h = absurd h
   turn_wanting new Memory e h = refl

@@ -2,7 +2,8 @@
 use Rattle.std.proofs.Common.{◌≡◌, Bool, true, false, cond, inl, inr, List, slice_get, Option, Some, None, option_map, Result, refl, ap, sym, ◌∙◌, subst}
 use Rattle.std.proofs.lemmas.Option.{slice_get-map}
 use Rattle.rb_syntax.specs.Tree.{Tree}
-use Rattle.rb_world.specs.Plain.{Kept, plain_acts, plain_moves, plain_runs}
+use Rattle.rb_base.specs.declared.kept.Kept.{Kept}
+use Rattle.rb_world.specs.Plain.{plain_acts, plain_moves, plain_runs}
 use Rattle.rb_meaning.specs.Step.{wants_first}
 use Rattle.rb_meaning.specs.PlainRun.{PlainWorld}
 use Rattle.rb_walk.specs.declared.halt.Halt.{Halt}

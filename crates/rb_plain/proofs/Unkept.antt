@@ -10,7 +10,8 @@ use Rattle.rb_world.specs.Kind.{Ends, Trapped, Held}
 use Rattle.rb_world.specs.World.{Process}
 use Rattle.rb_world.specs.Turn.{opening}
 use Rattle.rb_world.specs.Text.{Naming, channel_lines, outs_text, value_lines, values_text}
-use Rattle.rb_world.specs.Plain.{Kept, PlainEnd, Ended, StuckAt, plain_run}
+use Rattle.rb_base.specs.declared.kept.Kept.{Kept}
+use Rattle.rb_world.specs.Plain.{PlainEnd, Ended, StuckAt, plain_run}
 use Rattle.rb_world.proofs.Image.{IsPlainImage, end_image, stepped_image, world_image, process_image}
 use Rattle.rb_world.proofs.ImageRuns.{opening-image, plain_run-image}
 use Rattle.rb_meaning.specs.Environment.{Environment, frame_of, global_words, push_call, push_frame}

@@ -7,7 +7,8 @@ use Rattle.rb_syntax.specs.Tree.{Tree}
 use Rattle.rb_trace.specs.Naming.{naming}
 use Rattle.rb_world.specs.Text.{Naming, values_text}
 use Rattle.rb_world.specs.World.{World}
-use Rattle.rb_world.specs.Plain.{Kept, PlainEnd, Ended, StuckAt}
+use Rattle.rb_base.specs.declared.kept.Kept.{Kept}
+use Rattle.rb_world.specs.Plain.{PlainEnd, Ended, StuckAt}
 use Rattle.rb_world.proofs.ListFacts.{none_some, some_same}
 use Rattle.rb_meaning.specs.State.{State}
 use Rattle.rb_meaning.specs.Step.{Nothing}

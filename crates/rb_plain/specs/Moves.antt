@@ -6,7 +6,8 @@ use Rattle.rb_syntax.specs.Plain.{recovery_block}
 use Rattle.rb_world.specs.Kind.{SendsOn, ReceivesOn, MayReceiveOn, Acts}
 use Rattle.rb_world.specs.World.{Level as Open, Process as Seen, goes_on, settled, with_process}
 use Rattle.rb_world.specs.Turn.{most_levels, new_level}
-use Rattle.rb_world.specs.Plain.{Kept, has_alternate, plain_acts, when}
+use Rattle.rb_base.specs.declared.kept.Kept.{Kept}
+use Rattle.rb_world.specs.Plain.{has_alternate, plain_acts, when}
 use Rattle.rb_meaning.specs.Environment.{rest_of}
 use Rattle.rb_meaning.specs.State.{State, continue_with}
 use Rattle.rb_meaning.specs.Step.{alternate_number, alternates_in, enter, performs, starts_body, wants, wants_first}

@@ -8,7 +8,8 @@ use Rattle.rb_trace.specs.Fitting.{LiesWithin}
 use Rattle.rb_syntax.specs.Tree.{Tree}
 use Rattle.rb_world.specs.World.{World}
 use Rattle.rb_world.specs.Turn.{opening}
-use Rattle.rb_world.specs.Plain.{Kept, PlainEnd, Ended, StuckAt, plain_run}
+use Rattle.rb_base.specs.declared.kept.Kept.{Kept}
+use Rattle.rb_world.specs.Plain.{PlainEnd, Ended, StuckAt, plain_run}
 use Rattle.rb_world.specs.Text.{Naming, outs_text}
 use Rattle.rb_meaning.specs.Environment.{global_words}
 use Rattle.rb_meaning.specs.State.{State}

@@ -8,7 +8,7 @@ use Rattle.rb_base.specs.declared.limits.TheConstants.{MOST_TURNS}
 use Rattle.rb_base.specs.Bytes.{is_name, is_number, digits_value}
 use Rattle.rb_base.specs.Naming.{first_named}
 use Rattle.rb_sched.specs.Schedule.{lines_of, words_of}
-use Rattle.rb_world.specs.Plain.{Kept}
+use Rattle.rb_base.specs.declared.kept.Kept.{Kept}
 
 -- digits whose number lies from 1 to the greatest that turns and alternates may have
 abbrev pub is_counted : List ℕ → Bool

@@ -3,15 +3,10 @@ use Rattle.std.specs.Prelude.{◌≡◌, ℕ, ◌<◌, ◌≤◌, cond, List, []
 use Rattle.rb_base.specs.declared.fault.TextFault.{TextFault}
 use Rattle.rb_base.specs.declared.limits.TheConstants.{MOST_TURNS}
 use Rattle.rb_base.specs.Bytes.{digits_value}
-use Rattle.rb_world.specs.Plain.{Kept}
-use Rattle.rb_plain.specs.declared.record.Kept.{Kept as KeptTurn}
+use Rattle.rb_base.specs.declared.kept.Kept.{Kept}
 use Rattle.rb_plain.specs.declared.record.RecordRefusal.{RecordRefusal}
 use Rattle.rb_plain.specs.declared.record.RecordRefusal.TheVariants.{Fault, Memory}
 use Rattle.rb_plain.specs.Record.{is_counted, record_of}
-
--- a kept turn as a plain run takes it
-abbrev pub plain_turn : KeptTurn → Kept
-plain_turn kept = record { turn = kept.turn; process = kept.process; alternate = kept.alternate }
 
 -- the number of a word that counts
 abbrev pub counted : List ℕ → Option ℕ

@@ -5,7 +5,8 @@ use Rattle.rb_syntax.specs.Plain.{recovery_block}
 use Rattle.rb_world.specs.Kind.{Facts, Kind}
 use Rattle.rb_world.specs.World.{Level as Open, Status, Running, Finished, Process as Seen}
 use Rattle.rb_world.specs.Turn.{opening_talks}
-use Rattle.rb_world.specs.Plain.{Kept, plain_moves}
+use Rattle.rb_base.specs.declared.kept.Kept.{Kept}
+use Rattle.rb_world.specs.Plain.{plain_moves}
 use Rattle.rb_meaning.specs.Environment.{natural}
 use Rattle.rb_meaning.specs.State.{State}
 use Rattle.rb_meaning.specs.Step.{Nothing}

@@ -12,8 +12,8 @@ ghost use Rattle.rb_plain.specs.Worlds.{level_of, unkept_kind, world_of};
 ghost use Rattle.rb_walk.specs.States.{state_of};
 
 use crate::process::{Level, Process};
+use rb_meaning::numbers::process_number;
 use rb_syntax::{Number, Program};
-use rb_walk::numbers::process_number;
 
 /// Whether a send on this channel has room.
 pub(crate) fn has_room<'a>(

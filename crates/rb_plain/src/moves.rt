@@ -14,16 +14,14 @@ ghost use Rattle.rb_meaning.specs.Value.{value};
 ghost use Rattle.rb_walk.specs.Comes.{Judges};
 ghost use Rattle.rb_walk.specs.Items.{StandsFirst};
 ghost use Rattle.rb_plain.specs.Moves.{entered_by, performed_by, skipped, started_by, Becomes, IsReady};
-ghost use Rattle.rb_plain.specs.Recorded.{plain_turn};
 ghost use Rattle.rb_walk.specs.States.{state_of};
 ghost use Rattle.rb_plain.specs.Worlds.{facts_with, level_of, process_of, unkept_kind};
 
 use crate::process::{Level, Process};
-use crate::record::Kept;
-use rb_base::MOST_OPEN_LEVELS;
+use rb_base::{Kept, MOST_OPEN_LEVELS};
+use rb_meaning::numbers::conversation_number;
 use rb_syntax::{Program, Recovery, Statement};
 use rb_walk::Halt;
-use rb_walk::numbers::conversation_number;
 use std::alloc::Global;
 
 impl<'t, 'a> Process<'t, 'a> {
@@ -52,7 +50,7 @@ impl<'t, 'a> Process<'t, 'a> {
         kept: Kept,
     ) -> Result<(), Halt>
         requires { StandsFirst (StartOf (recovery_block block.now)) (state_of self.old.state).items }
-        ensures { Becomes (started_by (tree program.now) (plain_turn kept) (recovery_block block.now) (process_of self.old))
+        ensures { Becomes (started_by (tree program.now) kept (recovery_block block.now) (process_of self.old))
             (process_of self.new) result }
     {
         if !self.has_alternate(kept.alternate) {

@@ -1,19 +1,18 @@
 //! The whole plain run of a record, from its turns to the bytes that it prints.
 
-ghost use Rattle.std.specs.Prelude.{◌≡◌, ℕ, List, map, None, Ok};
+ghost use Rattle.std.specs.Prelude.{◌≡◌, ℕ, List, None, Ok};
 ghost use Rattle.rb_syntax.specs.Plain.{tree};
 ghost use Rattle.rb_trace.specs.Naming.{naming};
 ghost use Rattle.rb_meaning.specs.Meaning.{naming_of};
 ghost use Rattle.rb_meaning.specs.PlainRun.{plain_text};
 ghost use Rattle.rb_plain.specs.Members.{HasMembers};
 ghost use Rattle.rb_plain.specs.Played.{played, stuck_in, unkept_opening, Plays, Writes};
-ghost use Rattle.rb_plain.specs.Recorded.{plain_turn};
 
 use crate::answer::PlainAnswer;
 use crate::playing::{opening, play, rehearse};
-use crate::record::{Kept, Record};
+use crate::record::Record;
 use crate::values::write_values;
-use rb_base::{Names, Nested};
+use rb_base::{Kept, Names, Nested};
 use rb_outside::Sink;
 use rb_syntax::Program;
 use std::alloc::Global;
@@ -48,8 +47,8 @@ fn perform<S: Sink>(
 ) -> Result<(), PlainAnswer>
     requires named { naming names.now ≡ naming_of (tree program.now) }
     requires members { HasMembers (tree program.now) nested.now }
-    requires goes { stuck_in (played (tree program.now) (map plain_turn turns.now) (unkept_opening (tree program.now))) ≡ None }
-    ensures { (text : List ℕ) × (plain_text (tree program.now) (map plain_turn turns.now) ≡ Ok text)
+    requires goes { stuck_in (played (tree program.now) turns.now (unkept_opening (tree program.now))) ≡ None }
+    ensures { (text : List ℕ) × (plain_text (tree program.now) turns.now ≡ Ok text)
         × Writes text (S.written out.old) (S.written out.new) (S.faults out.old) (S.faults out.new) result }
 {
     let mut opened = opening(alloc, program)?;

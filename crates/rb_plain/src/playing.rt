@@ -1,6 +1,6 @@
 //! All turns of a record, taken one after another: once to see whether each of them can be taken, and once to print.
 
-ghost use Rattle.std.specs.Prelude.{◌≡◌, ◌≤◌, length, map, [], None, IfOk, OnOk, Some};
+ghost use Rattle.std.specs.Prelude.{◌≡◌, ◌≤◌, length, [], None, IfOk, OnOk, Some};
 ghost use Rattle.std.specs.List.{flat_map};
 ghost use Rattle.rb_syntax.specs.Plain.{process_declaration, tree};
 ghost use Rattle.rb_outside.specs.Puts.{Puts};
@@ -12,14 +12,12 @@ ghost use Rattle.rb_world.specs.World.{settled, with_each};
 ghost use Rattle.rb_meaning.specs.Meaning.{opening_state};
 ghost use Rattle.rb_plain.specs.Members.{HasMembers};
 ghost use Rattle.rb_plain.specs.Played.{outs_in, played, stuck_in, unkept_opening, world_in, Rehearses, TakesTurn, Writes};
-ghost use Rattle.rb_plain.specs.Recorded.{plain_turn};
 ghost use Rattle.rb_plain.specs.Worlds.{moved_world, process_of, unkept_kind, world_of};
 
 use crate::answer::PlainAnswer;
 use crate::process::Process;
-use crate::record::Kept;
 use crate::turn::take_turn;
-use rb_base::{Memory, Names, Nested};
+use rb_base::{Kept, Memory, Names, Nested};
 use rb_outside::{Failed, Sink};
 use rb_syntax::{Process as Declaration, Program};
 use rb_trace::write_out;
@@ -69,7 +67,7 @@ pub(crate) fn rehearse(
     turns: &[Kept],
 ) -> Result<(), PlainAnswer>
     requires { HasMembers (tree program.now) nested.now }
-    ensures { Rehearses (stuck_in (played (tree program.now) (map plain_turn turns.now) (unkept_opening (tree program.now)))) result }
+    ensures { Rehearses (stuck_in (played (tree program.now) turns.now (unkept_opening (tree program.now)))) result }
 {
     let mut processes = opening(alloc, program)?;
     take_all(alloc, program, nested, turns, &mut processes)
@@ -84,7 +82,7 @@ fn take_all<'t, 'a>(
     processes: &mut [Process<'t, 'a>],
 ) -> Result<(), PlainAnswer>
     requires { HasMembers (tree program.now) nested.now }
-    ensures { Rehearses (stuck_in (played (tree program.now) (map plain_turn turns.now) (world_of (tree program.now) processes.old))) result }
+    ensures { Rehearses (stuck_in (played (tree program.now) turns.now (world_of (tree program.now) processes.old))) result }
 {
     for kept in turns {
         take(alloc, program, nested, processes, *kept)?;
@@ -105,12 +103,12 @@ pub(crate) fn play<'t, 'a, S: Sink>(
 ) -> Result<(), PlainAnswer>
     requires members { HasMembers (tree program.now) nested.now }
     requires few { length processes.old ≤ length names.now.processes.items }
-    requires goes { stuck_in (played (tree program.now) (map plain_turn turns.now) (world_of (tree program.now) processes.old)) ≡ None }
+    requires goes { stuck_in (played (tree program.now) turns.now (world_of (tree program.now) processes.old)) ≡ None }
     ensures text { Writes
-        (outs_in (naming names.now) (played (tree program.now) (map plain_turn turns.now) (world_of (tree program.now) processes.old)))
+        (outs_in (naming names.now) (played (tree program.now) turns.now (world_of (tree program.now) processes.old)))
         (S.written out.old) (S.written out.new) (S.faults out.old) (S.faults out.new) result }
     ensures ends { OnOk result
-        (world_in (played (tree program.now) (map plain_turn turns.now) (world_of (tree program.now) processes.old))
+        (world_in (played (tree program.now) turns.now (world_of (tree program.now) processes.old))
         ≡ Some (world_of (tree program.now) processes.new)) }
 {
     for kept in turns {
@@ -131,7 +129,7 @@ fn take<'t, 'a>(
 ) -> Result<(), PlainAnswer>
     requires { HasMembers (tree program.now) nested.now }
     ensures { TakesTurn kept.turn
-        (moved_world (tree program.now) (plain_turn kept) (world_of (tree program.now) processes.old))
+        (moved_world (tree program.now) kept (world_of (tree program.now) processes.old))
         (world_of (tree program.now) processes.new) result }
 {
     match take_turn(alloc, program, nested, processes, kept) {

@@ -1,25 +1,16 @@
 //! Records: the list of kept turns that a text stands for.
 
-ghost use Rattle.std.specs.Prelude.{◌≡◌, ℕ, ◌<◌, ◌≤◌, ◌^◌, List, length, map, vec_len, Ok, Err, IfOk, MatchResult};
+ghost use Rattle.std.specs.Prelude.{◌≡◌, ℕ, ◌<◌, ◌≤◌, ◌^◌, List, length, vec_len, Ok, Err, IfOk, MatchResult};
 ghost use Rattle.rb_base.specs.Naming.{process_names};
-ghost use Rattle.rb_world.specs.Plain.{Kept as PlainTurn};
+ghost use Rattle.rb_base.specs.declared.kept.Kept.{Kept as PlainTurn};
 ghost use Rattle.rb_plain.specs.Record.{record_of};
-ghost use Rattle.rb_plain.specs.Recorded.{plain_turn, IsRefusedFor, AreKept};
+ghost use Rattle.rb_plain.specs.Recorded.{IsRefusedFor, AreKept};
 
 use crate::record_line::line_turn;
-use rb_base::{MOST_BYTES, MOST_TURNS, Names, TextFault};
+use rb_base::{Kept, MOST_BYTES, MOST_TURNS, Names, TextFault};
 use rb_sched::words::first_line;
 use std::alloc::Global;
 use std::marker::Model;
-
-/// A turn that survived, from 1 on, of a process, from 0 in the order of declaration. Where the turn started a recovery
-/// block, the alternate of the start, from 1 on; 0 elsewhere.
-#[derive(Clone, Copy, Debug, PartialEq, Eq)]
-pub struct Kept {
-    pub turn: u32,
-    pub process: u32,
-    pub alternate: u32,
-}
 
 /// Why a record was not taken.
 #[derive(Clone, Copy, Debug, PartialEq, Eq)]
@@ -36,14 +27,12 @@ pub struct Record {
 }
 
 impl Model for Record {
-    ghost use Rattle.std.specs.Prelude.{List, map};
-    ghost use Rattle.rb_world.specs.Plain.{Kept as PlainTurn};
+    ghost use Rattle.std.specs.Prelude.{List};
+    ghost use Rattle.rb_base.specs.declared.kept.Kept.{Kept as PlainTurn};
 
     ghost Value = { List PlainTurn };
 
-    ghost use Rattle.rb_plain.specs.Recorded.{plain_turn};
-
-    ghost view = { λ r. map plain_turn r.turns.items };
+    ghost view = { λ r. r.turns.items };
 }
 
 impl Record {
@@ -62,7 +51,7 @@ impl Record {
 
     /// The kept turns in order.
     pub fn turns(&self) -> &[Kept]
-        ensures { map plain_turn result.now ≡ self.now }
+        ensures { result.now ≡ self.now }
     {
         self.turns.as_slice()
     }
@@ -73,7 +62,7 @@ impl Record {
 fn kept_turns(alloc: Global, text: &[u8], names: &Names) -> Result<Vec<Kept>, RecordRefusal>
     requires short { length text.now ≤ MOST_BYTES }
     ensures { let turns = record_of (process_names names.now) text.now in
-        MatchResult result (λ kept. turns ≡ Ok (map plain_turn kept.items)) (λ refusal. IsRefusedFor turns refusal) }
+        MatchResult result (λ kept. turns ≡ Ok kept.items) (λ refusal. IsRefusedFor turns refusal) }
 {
     let mut turns = Vec::new(alloc);
     let mut last = 0;

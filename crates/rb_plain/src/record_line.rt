@@ -4,12 +4,11 @@ ghost use Rattle.std.specs.Prelude.{◌≡◌, [], Ok, Err, MatchResult, option_
 ghost use Rattle.rb_base.specs.Naming.{process_names};
 ghost use Rattle.rb_sched.specs.Schedule.{words_from, words_of};
 ghost use Rattle.rb_plain.specs.Record.{line_of_words};
-ghost use Rattle.rb_plain.specs.Recorded.{alternate_in, counted, plain_turn};
+ghost use Rattle.rb_plain.specs.Recorded.{alternate_in, counted};
 
-use crate::record::Kept;
 use rb_base::bytes::is_name;
 use rb_base::numbers::{is_number, number_value};
-use rb_base::{FaultName, MOST_TURNS, Names};
+use rb_base::{FaultName, Kept, MOST_TURNS, Names};
 use rb_sched::words::{next_word, without_comment, without_cr};
 
 /// The number of a word, where it is one from 1 to the greatest that turns and alternates may have.
@@ -42,7 +41,7 @@ fn alternate_in(rest: &[u8]) -> Option<u32>
 pub(crate) fn line_turn(line: &[u8], before: u32, names: &Names) -> Result<Option<Kept>, FaultName>
     ensures { let answer = line_of_words (process_names names.now) before (words_of line.now) in
         MatchResult result
-        (λ kept. answer ≡ Ok (option_map plain_turn kept))
+        (λ kept. answer ≡ Ok kept)
         (λ name. answer ≡ Err name) }
 {
     let Some((turn, rest)) = next_word(without_comment(without_cr(line))) else {

@@ -6,17 +6,15 @@ ghost use Rattle.rb_meaning.specs.State.{Perform, TestOf};
 ghost use Rattle.rb_walk.specs.Items.{IsFirst, StandsFirst};
 ghost use Rattle.rb_plain.specs.Members.{HasMembers};
 ghost use Rattle.rb_plain.specs.Moves.{acted_world, may_give, IsFirstReady, IsReady};
-ghost use Rattle.rb_plain.specs.Recorded.{plain_turn};
 ghost use Rattle.rb_walk.specs.States.{state_of};
 ghost use Rattle.rb_plain.specs.Worlds.{moved_world, process_of, world_of, MovesTo};
 ghost use Rattle.rb_plain.specs.declared.process.Process.{Process as Here};
 
 use crate::channels::{has_room, message_there};
 use crate::process::Process;
-use crate::record::Kept;
 use crate::test_line::accept;
 use crate::want::{Want, want_of};
-use rb_base::Nested;
+use rb_base::{Kept, Nested};
 use rb_syntax::{Program, Recovery, Statement};
 use rb_walk::Halt;
 use rb_walk::items::First;
@@ -31,7 +29,7 @@ pub(crate) fn take_turn<'t, 'a>(
     kept: Kept,
 ) -> Result<(), Halt>
     requires { HasMembers (tree program.now) nested.now }
-    ensures { MovesTo (moved_world (tree program.now) (plain_turn kept) (world_of (tree program.now) processes.old))
+    ensures { MovesTo (moved_world (tree program.now) kept (world_of (tree program.now) processes.old))
         (world_of (tree program.now) processes.new) result }
 {
     match first_ready(processes, kept.process as usize) {
@@ -64,7 +62,7 @@ fn act<'t, 'a>(
     requires process { kept.process < length processes.old }
     requires first { (one : Here) → slice_get processes.old kept.process ≡ Some one → IsReady one × IsFirst (state_of one.state).items first }
     ensures { (one : Here) → slice_get processes.old kept.process ≡ Some one →
-        MovesTo (acted_world (tree program.now) (plain_turn kept) (process_of one) (world_of (tree program.now) processes.old)) (world_of (tree program.now) processes.new) result }
+        MovesTo (acted_world (tree program.now) kept (process_of one) (world_of (tree program.now) processes.old)) (world_of (tree program.now) processes.new) result }
 {
     if !may_give(first, kept.alternate) {
         return Err(Halt::Stuck);
@@ -106,7 +104,7 @@ fn perform<'t, 'a>(
     requires first { (one : Here) → slice_get processes.old kept.process ≡ Some one
         → IsReady one × StandsFirst (Perform (command statement.now)) (state_of one.state).items }
     ensures { (one : Here) → slice_get processes.old kept.process ≡ Some one →
-        MovesTo (acted_world (tree program.now) (plain_turn kept) (process_of one) (world_of (tree program.now) processes.old)) (world_of (tree program.now) processes.new) result }
+        MovesTo (acted_world (tree program.now) kept (process_of one) (world_of (tree program.now) processes.old)) (world_of (tree program.now) processes.new) result }
 {
     let p = kept.process as usize;
     match want_of(program, statement) {
@@ -147,7 +145,7 @@ fn judge<'a>(
     requires first { (one : Here) → slice_get processes.old kept.process ≡ Some one
         → IsReady one × StandsFirst (TestOf (recovery_block block.now)) (state_of one.state).items }
     ensures { (one : Here) → slice_get processes.old kept.process ≡ Some one →
-        MovesTo (acted_world (tree program.now) (plain_turn kept) (process_of one) (world_of (tree program.now) processes.old)) (world_of (tree program.now) processes.new) result }
+        MovesTo (acted_world (tree program.now) kept (process_of one) (world_of (tree program.now) processes.old)) (world_of (tree program.now) processes.new) result }
 {
     let p = kept.process as usize;
     match processes[p].judge(block) {

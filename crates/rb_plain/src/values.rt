@@ -17,11 +17,11 @@ use crate::process::Process;
 use itoa::Buffer;
 use rb_base::names::{ProcessNames, Variable};
 use rb_base::{Memory, Names};
+use rb_meaning::numbers::process_number;
 use rb_outside::{Failed, Sink};
 use rb_syntax::Program;
 use rb_trace::{put_line, write_variable};
 use rb_walk::Environment;
-use rb_walk::numbers::process_number;
 use std::alloc::Global;
 
 /// Writes the variables of each process, and what was sent and taken on each channel.

@@ -6,8 +6,8 @@ ghost use Rattle.rb_syntax.specs.Plain.{command, otherwise, tree};
 ghost use Rattle.rb_meaning.specs.Step.{wants, wants_receipt};
 ghost use Rattle.rb_plain.specs.Moves.{IsWanted};
 
+use rb_meaning::numbers::channel_number;
 use rb_syntax::{Block, Program, Recovery, Statement};
-use rb_walk::numbers::channel_number;
 
 /// What a statement asks for: room on a channel, a message, a message if one is there, a new level, or nothing.
 #[derive(Clone, Copy)]

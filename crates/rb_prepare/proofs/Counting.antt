@@ -1,7 +1,7 @@
 -- Instructions that are counted are there; and lists that keep something at each place.
-use Rattle.std.proofs.Common.{◌≡◌, ℕ, zero, suc, ◌+◌, ◌<◌, ◌≤◌, nat_eq, Bool, true, false, List, [], ◌∷◌, map, slice_get, Option, Some, None, refl, ap, sym, ◌∙◌, subst, true≢false, arith}
+use Rattle.std.proofs.Common.{◌≡◌, ℕ, zero, suc, ◌+◌, ◌<◌, ◌≤◌, nat_eq, Bool, true, false, List, [], ◌∷◌, map, slice_get, Option, Some, None, refl, ap, sym, ◌∙◌, true≢false, arith}
 use Rattle.std.proofs.lemmas.Bool.{eqb-true}
-use Rattle.std.proofs.lemmas.List.Elements.{All-from_recursion, recursion_from_All}
+use Rattle.std.proofs.lemmas.List.Elements.{All-from_recursion}
 use Rattle.std.specs.List.{All, AllByRecursion}
 use Rattle.rb_world.proofs.ListFacts.{none_some, some_same}
 use Rattle.rb_code.specs.StandsFor.{numbers_from, text_numbers}
@@ -17,14 +17,6 @@ each_placed P (x ∷ xs) h = (h zero x refl, each_placed P xs (λ k y at. h (suc
 
 pub all_placed : {A : Type 0} (P : A → Type 0) (xs : List A) → ((k : ℕ) (x : A) → slice_get xs k ≡ Some x → P x) → All P xs
 all_placed P xs h = All-from_recursion P xs (each_placed P xs h)
-
-pub recursion_at : {A : Type 0} (P : A → Type 0) (xs : List A) (k : ℕ) (x : A) → AllByRecursion P xs → slice_get xs k ≡ Some x → P x
-recursion_at P [] k x all at = absurd (none_some at)
-recursion_at P (y ∷ xs) zero x all at = subst P (some_same at) all.0
-recursion_at P (y ∷ xs) (suc k) x all at = recursion_at P xs k x all.1 at
-
-pub all_at_place : {A : Type 0} (P : A → Type 0) (xs : List A) (k : ℕ) (x : A) → All P xs → slice_get xs k ≡ Some x → P x
-all_at_place P xs k x all at = recursion_at P xs k x (recursion_from_All P xs all) at
 
 -- one that is mapped comes of one that is there
 pub mapped_from : {A B : Type 0} (g : A → B) (xs : List A) (k : ℕ) (y : B) → slice_get (map g xs) k ≡ Some y

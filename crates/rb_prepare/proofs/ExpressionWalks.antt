@@ -103,35 +103,8 @@ module _ (c : Code) (tree : Tree) (s : Scene c tree) (plain : (instr : Instr) â†
 
   module _ (k : â„•) (few : k < 2) (low high body : Template) (lows : Walks low) (highs : Walks high) (bodies : Walks body) where
     every_walked : Walks (QuantifiedCode Every k low high body)
-    every_walked a b (
-      loop,
-      (
-        fails,
-        (
-          past,
-          (
-            end,
-            (
-              p,
-              lc,
-              (
-                r,
-                hc,
-                (
-                  d,
-                  range,
-                  (
-                    first,
-                    at_loop,
-                    (d0, bc, (d1, test, (d2, again, (d3, at_yes, (d4, push1, (d5, jump, (d6, at_no, (d7, push0, at_end)))))))),
-                  ),
-                ),
-              ),
-            ),
-          ),
-        ),
-      ),
-    ) =
+    every_walked a b
+        (loop, (fails, (past, (end, (p, lc, (r, hc, (d, range, (first, at_loop, (d0, bc, (d1, test, (d2, again, (d3, at_yes, (d4, push1, (d5, jump, (d6, at_no, (d7, push0, at_end)))))))))))))))) =
         let w = lows a p lc in let h = highs p r hc in let y = bodies first d0 bc in
         let o0 = w.laid.ordered in let o1 = h.laid.ordered in let o2 = y.laid.ordered in
         let e0 = range.1 in let e1 = at_loop.1 in let e2 = test.1 in let e3 = again.1 in let e4 = at_yes.1 in
@@ -168,35 +141,8 @@ module _ (c : Code) (tree : Tree) (s : Scene c tree) (plain : (instr : Instr) â†
         }
 
     some_walked : Walks (QuantifiedCode Any k low high body)
-    some_walked a b (
-      loop,
-      (
-        next,
-        (
-          fails,
-          (
-            end,
-            (
-              p,
-              lc,
-              (
-                r,
-                hc,
-                (
-                  d,
-                  range,
-                  (
-                    first,
-                    at_loop,
-                    (d0, bc, (d1, test, (d2, push1, (d3, jump, (d4, at_next, (d5, again, (d6, at_no, (d7, push0, at_end)))))))),
-                  ),
-                ),
-              ),
-            ),
-          ),
-        ),
-      ),
-    ) =
+    some_walked a b
+        (loop, (next, (fails, (end, (p, lc, (r, hc, (d, range, (first, at_loop, (d0, bc, (d1, test, (d2, push1, (d3, jump, (d4, at_next, (d5, again, (d6, at_no, (d7, push0, at_end)))))))))))))))) =
         let w = lows a p lc in let h = highs p r hc in let y = bodies first d0 bc in
         let o0 = w.laid.ordered in let o1 = h.laid.ordered in let o2 = y.laid.ordered in
         let e0 = range.1 in let e1 = at_loop.1 in let e2 = test.1 in let e3 = push1.1 in let e4 = jump.1 in

@@ -1,10 +1,9 @@
 -- Code that stands for an accepted tree is well formed, with the tree's conversations.
 use Rattle.std.proofs.Common.{◌≡◌, inl, inr, ℕ, zero, suc, ◌+◌, ◌-◌, ◌<◌, ◌≤◌, nat_eq, Bool, true, false, not, List, [], ◌∷◌, length, slice_get, unwrap_or, Option, Some, refl, ap, sym, ◌∙◌, subst, arith}
-use Rattle.std.proofs.lemmas.Bool.{and_parts}
 use Rattle.std.proofs.lemmas.List.{length-map}
 use Rattle.std.proofs.lemmas.List.Elements.{All-from_recursion}
 use Rattle.std.proofs.lemmas.Option.{slice_get_within}
-use Rattle.std.specs.List.{AllByRecursion, list_all}
+use Rattle.std.specs.List.{AllByRecursion}
 use Rattle.rb_base.specs.Limits.{most_words}
 use Rattle.rb_syntax.specs.Tree.{ChannelDeclaration, ConversationDeclaration, Identifier, ProcessDeclaration, Tree}
 use Rattle.rb_world.specs.Kind.{Ends as ChannelEnds, Membership}
@@ -17,7 +16,7 @@ use Rattle.rb_scope.specs.Rules.{most_channel_size}
 use Rattle.rb_scope.specs.Sites.{most_processes}
 use Rattle.rb_scope.specs.Spelled.{IsQuotable}
 use Rattle.rb_scope.specs.declared.slot.Slot.{Slot}
-use Rattle.rb_scope.proofs.EachSite.{all_both}
+use Rattle.rb_scope.proofs.EachSite.{all_both, all_at}
 use Rattle.rb_nest.specs.Rules.{conversation_faults}
 use Rattle.rb_code.specs.Plain.{Block, Code, Part, Procedure}
 use Rattle.rb_code.specs.Memory.{no_part}
@@ -26,25 +25,21 @@ use Rattle.rb_code.specs.StandsFor.{channels_from}
 use Rattle.rb_code.specs.WellFormed.{IsBlock, IsChain, IsGroup, IsPart, IsWellFormed, JoinsTwo, Names, is_entry, is_start, is_test, most_nested}
 use Rattle.rb_code.specs.declared.instr.Instr.{Instr}
 use Rattle.rb_code.specs.declared.instr.Instr.TheVariants.{Text, Jump, JumpZero, Room, Put, There, Take, Call, Enter, Start, Test, Range, Again, Absent}
+use Rattle.rb_code.proofs.WholeRuns.ProcessesBegin.{all_there}
+use Rattle.rb_code.proofs.WholeRuns.ChannelsOfProcesses.{holds_at}
 use Rattle.rb_prepare.proofs.Laid.{BlockLies, Inside, Right, count_all, count_to, one_if}
 use Rattle.rb_prepare.proofs.Walked.{IsPlain}
 use Rattle.rb_prepare.proofs.ProcessWalks.{IsRow}
 use Rattle.rb_prepare.proofs.WholeWalk.{Place, Spread, begin_at, end_at, place_of, spread_counted, spread_long}
 use Rattle.rb_prepare.proofs.OwnTable.{place_at}
 use Rattle.rb_prepare.proofs.Numbers.{has_number, one_of_each}
-use Rattle.rb_prepare.proofs.Counting.{all_at_place, all_placed, counted_there, entry_is, mapped_from, number_at, recursion_at, text_named}
+use Rattle.rb_prepare.proofs.Counting.{all_placed, counted_there, entry_is, mapped_from, number_at, text_named}
 use Rattle.rb_prepare.proofs.FoundNames.{MembersNamed, all_members_named}
 use Rattle.rb_prepare.proofs.NestingKept.{IsOrderly, all_orderly, no_conversation_faults}
 use Rattle.rb_prepare.proofs.PlacedUses.{IsChained, processes_chained}
 use Rattle.rb_prepare.proofs.Groups.{IsKnown, group_formed, none_at}
 use Rattle.rb_prepare.proofs.NamedCode.{code_is_named}
 use Rattle.rb_prepare.proofs.AcceptedCode.{IsCodeOf, as_many_channels, distinct, is_nested, limits, nothing, places, plain_spread, some_table, spread_by, weightless}
-
--- a test that all of a list pass
-passes_at : {A : Type 0} (test : A → Bool) (xs : List A) (k : ℕ) (x : A) → list_all test xs ≡ true → slice_get xs k ≡ Some x → test x ≡ true
-passes_at test [] k x all at = absurd (cc)
-passes_at test (y ∷ xs) zero x all at = subst (λ z. test z ≡ true) (some_same at) (and_parts (test y) (list_all test xs) all).0
-passes_at test (y ∷ xs) (suc k) x all at = passes_at test xs k x (and_parts (test y) (list_all test xs) all).1 at
 
 not_so : (b : Bool) → not b ≡ true → b ≡ false
 not_so false e = refl
@@ -218,7 +213,7 @@ module _ (tree : Tree) (slots : List Slot) (c : Code) (code : IsCodeOf tree slot
       (length c.instrs) spread p p process.0 (omega arith) process.1 in
       let same : place.part ≡ part = some_same (sym place.listed ∙ at) in
       let rows = place.rows in let up = rows.upward in let below' = rows.below in let high' = place.high in
-      let few = (all_at_place (ProcessWithin tree.edition) tree.processes p process.0 (limits tree slots c code).processes process.1).words in
+      let few = (all_there (ProcessWithin tree.edition) tree.processes p process.0 (limits tree slots c code).processes process.1).words in
       subst (λ (q : Part). IsPart c q × (q.channels ≡ channels_from p 0 c.channels)) same (
         record {
           words = subst (λ edition. place.part.words ≤ most_words edition) (sym code.stands.edition_is) (omega (arith, rows.words, few));
@@ -234,10 +229,10 @@ module _ (tree : Tree) (slots : List Slot) (c : Code) (code : IsCodeOf tree slot
   channel_formed k ends at =
       let there = ap (λ cs. slice_get cs k) (sym code.stands.channels_are) ∙ at in
       let from = mapped_from (ends_of tree) tree.channels k ends there in
-      let known = all_at_place (ChannelInFrames tree slots) tree.channels k from.0 code.resolved.channels from.1 in
-      let size = all_at_place (λ (one : ChannelDeclaration). IsFrom1To most_channel_size one.size) tree.channels k from.0
+      let known = all_there (ChannelInFrames tree slots) tree.channels k from.0 code.resolved.channels from.1 in
+      let size = all_there (λ (one : ChannelDeclaration). IsFrom1To most_channel_size one.size) tree.channels k from.0
       (limits tree slots c code).channel_sizes from.1 in
-      let twelfth = passes_at keeps_n12 (channels_of tree) k ends (is_nested tree slots c code).n12 there in
+      let twelfth = holds_at keeps_n12 (channels_of tree) k ends (is_nested tree slots c code).n12 there in
       let sender = known.sender.there in let receiver = known.receiver.there in let many = many_processes in
       let known_ends =
       subst (λ (e : ChannelEnds). (e.sender < length c.processes) × (e.receiver < length c.processes) × (1 ≤ e.size)
@@ -266,7 +261,7 @@ module _ (tree : Tree) (slots : List Slot) (c : Code) (code : IsCodeOf tree slot
       → IsGroup c groups (membership_of tree conversation) × IsChain groups most_nested (Some d)
   conversation_formed d conversation at =
       group_formed tree (distinct tree slots c code) c d conversation many_processes at
-      (recursion_at (MembersNamed tree) tree.conversations d conversation (all_members_named tree code.scoped) at)
+      (all_at (MembersNamed tree) tree.conversations d conversation (all_members_named tree code.scoped) at)
       (none_at (conversation_faults tree) tree.conversations d conversation (no_conversation_faults tree code.nested) at) uses_known
 
   pub code_is_well_formed : IsWellFormed c (groups_of tree)

@@ -1,5 +1,5 @@
 -- The conversations of a tree without a fault of scopes and nesting are formed as sound code asks.
-use Rattle.std.proofs.Common.{◌≡◌, ◌⊎◌, inl, inr, ℕ, zero, suc, ◌+◌, ◌<◌, ◌≤◌, nat_eq, nat_lt, Bool, true, false, cond, not, ◌||◌, List, [], ◌∷◌, length, map, option_map, slice_get, Option, Some, None, refl, ap, sym, ◌∙◌, subst, true≢false, arith}
+use Rattle.std.proofs.Common.{◌≡◌, ℕ, zero, suc, ◌+◌, ◌<◌, ◌≤◌, nat_eq, nat_lt, Bool, true, false, cond, not, ◌||◌, List, [], ◌∷◌, length, map, option_map, slice_get, Option, Some, None, refl, ap, sym, ◌∙◌, subst, true≢false, arith}
 use Rattle.std.proofs.lemmas.Bool.{and_parts, eqb-true, ltb-false, ltb-true, or_parts}
 use Rattle.std.proofs.lemmas.List.{length-map}
 use Rattle.std.proofs.lemmas.List.Elements.{All-from_recursion}
@@ -21,11 +21,12 @@ use Rattle.rb_scope.specs.Limits.{HasDistinctNames}
 use Rattle.rb_scope.specs.Rules.{where_broken}
 use Rattle.rb_scope.proofs.DistinctNames.{same_itself, same_text}
 use Rattle.rb_nest.specs.Rules.{are_among, conversation_faults, conversations_around, joins_in, members_around, members_faults}
-use Rattle.rb_scope.proofs.EachSite.{unbroken}
-use Rattle.rb_nest.proofs.Accepted.{is_kept, left_empty, right_empty}
+use Rattle.rb_scope.proofs.EachSite.{unbroken, first-empty, second-empty}
+use Rattle.rb_nest.proofs.Accepted.{is_kept}
 use Rattle.rb_code.specs.Plain.{Code}
 use Rattle.rb_code.specs.Sound.{IsMember}
 use Rattle.rb_code.specs.WellFormed.{IsChain, IsGroup, most_nested}
+use Rattle.rb_code.proofs.Spots.{is_among}
 use Rattle.rb_prepare.proofs.FoundNames.{NamesProcess}
 use Rattle.rb_prepare.proofs.NestingKept.{IsOrderly, number_named, number_of}
 use Rattle.rb_prepare.proofs.PlacedUses.{ChainedBy, IsChained, chain_more, same_conversation}
@@ -34,8 +35,8 @@ use Rattle.rb_prepare.proofs.PlacedUses.{ChainedBy, IsChained, chain_more, same_
 pub none_at : {A : Type 0} (faults : A → List SourceFault) (all : List A) (i : ℕ) (x : A) → flat_map faults all ≡ []
     → slice_get all i ≡ Some x → faults x ≡ []
 none_at faults [] i x e at = absurd (none_some at)
-none_at faults (y ∷ all) zero x e at = subst (λ z. faults z ≡ []) (some_same at) (left_empty (faults y) (flat_map faults all) e)
-none_at faults (y ∷ all) (suc i) x e at = none_at faults all i x (right_empty (faults y) (flat_map faults all) e) at
+none_at faults (y ∷ all) zero x e at = subst (λ z. faults z ≡ []) (some_same at) (first-empty (faults y) (flat_map faults all) e)
+none_at faults (y ∷ all) (suc i) x e at = none_at faults all i x (second-empty (faults y) (flat_map faults all) e) at
 
 -- one of several that passes a test
 pub any_found : (P : Use → Type 0) (test : Use → Bool) (uses : List Use) → AllByRecursion P uses → list_any test uses ≡ true
@@ -66,16 +67,6 @@ joins_by p x name Receives spot e = absurd (true≢false (sym e))
 
 pub joins_known : (p : ℕ) (x : List ℕ) (one : Use) → joins_in p x one ≡ true → JoinsIn p x one
 joins_known p x one e = joins_by p x one.name one.deed one.spot e
-
--- a member by the test
-is_among : (p : ℕ) (members : List ℕ) → is_member p members ≡ true → IsMember p members
-is_among p [] e = absurd (true≢false (sym e))
-is_among p (m ∷ members) e = by (is_among p members) (nat_eq p m) refl e
-  where
-    by : (list_any (nat_eq p) members ≡ true → IsMember p members) → (b : Bool) → nat_eq p m ≡ b → (b || list_any (nat_eq p) members) ≡ true
-        → (m ≡ p) ⊎ IsMember p members
-    by next true h g = inl (sym (eqb-true p m h))
-    by next false h g = inr (next g)
 
 each_among : (members around : List ℕ) → list_all (λ m. is_member m around) members ≡ true → AllByRecursion (λ m. IsMember m around) members
 each_among [] around e = tt
@@ -139,8 +130,8 @@ module _ (tree : Tree) where
       let joins = list_any (joins_in (number name) x) (uses_of tree) in
       let first = cond again (where_broken true N11 name.place) (where_broken (not joins) N6 name.place) in
       let here = broken_not again N11 name.place (where_broken (not joins) N6 name.place)
-      (left_empty first (members_faults tree x (name ∷ earlier) names) e) in
-      let rest = names_kept x (name ∷ earlier) names (right_empty first (members_faults tree x (name ∷ earlier) names) e) in
+      (first-empty first (members_faults tree x (name ∷ earlier) names) e) in
+      let rest = names_kept x (name ∷ earlier) names (second-empty first (members_faults tree x (name ∷ earlier) names) e) in
       record {
         apart = put_first name names earlier (none_same name earlier here.0) rest.apart.1;
         differ = (rest.apart.0, rest.differ);
@@ -250,12 +241,12 @@ module _ (tree : Tree) where
         two : 2 ≤ length conversation.members
         two = ltb-false (length conversation.members) 2
             (unbroken broken N11 conversation.name.place
-            (left_empty (where_broken broken N11 conversation.name.place)
+            (first-empty (where_broken broken N11 conversation.name.place)
             (members_faults tree conversation.name.text [] conversation.members) faults))
 
         kept : NamesKept conversation.name.text [] conversation.members
         kept = names_kept conversation.name.text [] conversation.members
-            (right_empty (where_broken broken N11 conversation.name.place)
+            (second-empty (where_broken broken N11 conversation.name.place)
             (members_faults tree conversation.name.text [] conversation.members) faults)
 
         found : (one : Use) × IsKnown one × (p : ℕ) × JoinsIn p conversation.name.text one

@@ -5,10 +5,7 @@ use Rattle.std.proofs.lemmas.Bool.{eqb-true, or_parts, and_parts}
 use Rattle.std.proofs.lemmas.List.Sums.{sum_by-cons}
 use Rattle.std.proofs.lemmas.Map.Keys.{IsDistinct-head, IsDistinct-tail}
 use Rattle.std.specs.List.{AllByRecursion, flat_map, list_any}
-use Rattle.rb_base.specs.declared.fault.FaultName.{FaultName}
 use Rattle.rb_base.specs.declared.fault.FaultName.TheVariants.{N1, N2, N3, N4, N5, N7, N8, N9, N10, N13}
-use Rattle.rb_base.specs.declared.fault.SourceFault.{SourceFault}
-use Rattle.rb_base.specs.declared.place.Place.{Place}
 use Rattle.rb_syntax.specs.Tree.{ConversationDeclaration, Identifier, Tree}
 use Rattle.rb_world.proofs.ListFacts.{none_some, some_same}
 use Rattle.rb_world.proofs.Members.PlaceFacts.{position_first}
@@ -16,11 +13,10 @@ use Rattle.rb_meaning.specs.Environment.{same_name}
 use Rattle.rb_meaning.specs.Groups.{conversation_number, number_or_zero}
 use Rattle.rb_meaning.specs.Nesting.{Deed, Joins, Sends, Receives, Spot, Use, if_joins, keeps_n1, keeps_n10, keeps_n2, keeps_n4, keeps_n5, keeps_n8, keeps_n9, uses_of}
 use Rattle.rb_scope.specs.Limits.{AreDistinct, HasDistinctNames}
-use Rattle.rb_scope.specs.Rules.{where_broken}
 use Rattle.rb_scope.proofs.DistinctNames.{same_itself}
-use Rattle.rb_scope.proofs.EachSite.{all_append}
+use Rattle.rb_scope.proofs.EachSite.{all_append, first-empty, second-empty}
 use Rattle.rb_nest.specs.Rules.{channel_faults, conversation_faults, joins_too, keeps_n13, keeps_n3, keeps_n7, nesting_faults, use_faults, uses_faults}
-use Rattle.rb_nest.proofs.Accepted.{is_kept, left_empty, right_empty}
+use Rattle.rb_nest.proofs.Accepted.{is_kept, kept_before, none_after}
 use Rattle.rb_prepare.proofs.FoundNames.{AreNamedUses, JoinsNamed, NamesConversation}
 use Rattle.rb_prepare.proofs.JoinCounts.{count_both, count_joins, if_join, is_join}
 use Rattle.rb_prepare.proofs.Laid.{one_if}
@@ -52,14 +48,6 @@ module _ {A : Type 0} (name : A → Identifier) where
       ap number_or_zero
       (position_first (λ b. same_name (name b).text x) all k a at (ap (λ y. same_name y x) is ∙ same_itself x)
       (λ i b below there. subst (λ y. same_name (name b).text y ≡ false) is (differ all i k b a distinct below there at)))
-
-kept_before : (keeps : Bool) (name : FaultName) (place : Place) (faults : List SourceFault)
-    → where_broken (not keeps) name place ++ faults ≡ [] → keeps ≡ true
-kept_before keeps name place faults e = is_kept keeps name place (left_empty (where_broken (not keeps) name place) faults e)
-
-none_after : (keeps : Bool) (name : FaultName) (place : Place) (faults : List SourceFault)
-    → where_broken (not keeps) name place ++ faults ≡ [] → faults ≡ []
-none_after keeps name place faults e = right_empty (where_broken (not keeps) name place) faults e
 
 module _ (tree : Tree) where
   -- the rules that are asked of a use here, but for the seventh
@@ -97,8 +85,8 @@ module _ (tree : Tree) where
   uses_orderly : (earlier uses : List Use) → uses_faults tree earlier uses ≡ [] → AllByRecursion IsOrderly uses
   uses_orderly earlier [] e = tt
   uses_orderly earlier (one ∷ others) e = (
-    (use_kept earlier one (left_empty (use_faults tree earlier one) (uses_faults tree (earlier ++ one ∷ []) others) e)).orderly,
-    uses_orderly (earlier ++ one ∷ []) others (right_empty (use_faults tree earlier one) (uses_faults tree (earlier ++ one ∷ []) others) e),
+    (use_kept earlier one (first-empty (use_faults tree earlier one) (uses_faults tree (earlier ++ one ∷ []) others) e)).orderly,
+    uses_orderly (earlier ++ one ∷ []) others (second-empty (use_faults tree earlier one) (uses_faults tree (earlier ++ one ∷ []) others) e),
   )
 
   -- a conversation by its number, and the names that stand for it
@@ -190,10 +178,10 @@ module _ (tree : Tree) where
           → count_joins tree d q earlier ≤ 1 → count_joins tree d q (earlier ++ uses) ≤ 1
       joined_once earlier [] e all named few = omega (arith, count_both tree d q earlier [], few)
       joined_once earlier (one ∷ others) e all named few =
-          let kept = use_kept earlier one (left_empty (use_faults tree earlier one) (uses_faults tree (earlier ++ one ∷ []) others) e) in
+          let kept = use_kept earlier one (first-empty (use_faults tree earlier one) (uses_faults tree (earlier ++ one ∷ []) others) e) in
           subst (λ uses. count_joins tree d q uses ≤ 1) (append_snoc earlier one others)
           (joined_once (earlier ++ one ∷ []) others
-          (right_empty (use_faults tree earlier one) (uses_faults tree (earlier ++ one ∷ []) others) e)
+          (second-empty (use_faults tree earlier one) (uses_faults tree (earlier ++ one ∷ []) others) e)
           (all_append (λ (each : Use). JoinsNamed tree each.deed each.name.text) earlier (one ∷ []) all (named.0, tt)) named.1
           (once_more earlier one all named.0 kept.n7 few))
 
@@ -203,14 +191,14 @@ module _ (tree : Tree) where
   -- faults of uses, and of conversations
   pub no_use_faults : nesting_faults tree ≡ [] → uses_faults tree [] (uses_of tree) ≡ []
   no_use_faults e =
-      right_empty (flat_map (conversation_faults tree) tree.conversations) (uses_faults tree [] (uses_of tree))
-      (right_empty (flat_map (channel_faults tree) tree.channels)
+      second-empty (flat_map (conversation_faults tree) tree.conversations) (uses_faults tree [] (uses_of tree))
+      (second-empty (flat_map (channel_faults tree) tree.channels)
       (flat_map (conversation_faults tree) tree.conversations ++ uses_faults tree [] (uses_of tree)) e)
 
   pub no_conversation_faults : nesting_faults tree ≡ [] → flat_map (conversation_faults tree) tree.conversations ≡ []
   no_conversation_faults e =
-      left_empty (flat_map (conversation_faults tree) tree.conversations) (uses_faults tree [] (uses_of tree))
-      (right_empty (flat_map (channel_faults tree) tree.channels)
+      first-empty (flat_map (conversation_faults tree) tree.conversations) (uses_faults tree [] (uses_of tree))
+      (second-empty (flat_map (channel_faults tree) tree.channels)
       (flat_map (conversation_faults tree) tree.conversations ++ uses_faults tree [] (uses_of tree)) e)
 
   pub all_orderly : nesting_faults tree ≡ [] → AllByRecursion IsOrderly (uses_of tree)

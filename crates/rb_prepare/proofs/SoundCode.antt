@@ -11,9 +11,9 @@ use Rattle.rb_meaning.specs.Groups.{conversation_number, groups_of, membership_o
 use Rattle.rb_meaning.specs.Nesting.{outside, uses_in}
 use Rattle.rb_scope.specs.Rules.{where_broken}
 use Rattle.rb_scope.specs.declared.slot.Slot.{Slot}
+use Rattle.rb_scope.proofs.EachSite.{all_at, second-empty}
 use Rattle.rb_base.specs.declared.fault.FaultName.TheVariants.{N11}
 use Rattle.rb_nest.specs.Rules.{conversation_faults, joins_in, members_faults}
-use Rattle.rb_nest.proofs.Accepted.{right_empty}
 use Rattle.rb_code.specs.Plain.{Code}
 use Rattle.rb_code.specs.Sound.{HasTable, IsMember, Table, conversation_of}
 use Rattle.rb_code.specs.WellFormed.{IsSound, Joins, JoinsOnce}
@@ -24,7 +24,7 @@ use Rattle.rb_prepare.proofs.Laid.{count_to, one_if}
 use Rattle.rb_prepare.proofs.Ways.{IsIn}
 use Rattle.rb_prepare.proofs.WholeWalk.{Place, Spread, begin_at, end_at, place_of}
 use Rattle.rb_prepare.proofs.OwnTable.{own_has, own_process, own_table, place_at}
-use Rattle.rb_prepare.proofs.Counting.{counted_once, counted_there, mapped_from, recursion_at}
+use Rattle.rb_prepare.proofs.Counting.{counted_once, counted_there, mapped_from}
 use Rattle.rb_prepare.proofs.FoundNames.{MembersNamed, all_members_named, uses_named}
 use Rattle.rb_prepare.proofs.NestingKept.{all_joined_once, all_orderly, no_conversation_faults, no_use_faults, number_named}
 use Rattle.rb_prepare.proofs.JoinCounts.{is_of, joins_it, main_joins, procedures_joins}
@@ -174,10 +174,10 @@ module _ (tree : Tree) (slots : List Slot) (c : Code) (code : IsCodeOf tree slot
       let from = mapped_from (membership_of tree) tree.conversations d group at in
       let conversation = from.0 in
       let x = conversation.name.text in
-      let named = recursion_at (MembersNamed tree) tree.conversations d conversation (all_members_named tree code.scoped) from.1 in
+      let named = all_at (MembersNamed tree) tree.conversations d conversation (all_members_named tree code.scoped) from.1 in
       let faults = none_at (conversation_faults tree) tree.conversations d conversation (no_conversation_faults tree code.nested) from.1 in
       let kept = names_kept tree x [] conversation.members
-      (right_empty (where_broken (nat_lt (length conversation.members) 2) N11 conversation.name.place)
+      (second-empty (where_broken (nat_lt (length conversation.members) 2) N11 conversation.name.place)
       (members_faults tree x [] conversation.members) faults) in
       let one = member_named tree m x conversation.members named kept.joined
       (subst (λ (g : Membership). IsMember m g.members) (sym from.2) member) in

@@ -1,6 +1,5 @@
 -- The code of statements is walked, and counts what their recovery blocks weigh.
 use Rattle.std.proofs.Common.{◌≡◌, ℕ, ◌+◌, ◌<◌, ◌≤◌, true, false, List, [], ◌∷◌, ◌++◌, length, slice_get, Option, Some, None, ap, sym, ◌∙◌, subst, arith}
-use Rattle.std.proofs.lemmas.Bool.{eqb-true}
 use Rattle.std.proofs.lemmas.List.Elements.{All-head, All-tail}
 use Rattle.std.proofs.lemmas.List.Folds.{list_all-append}
 use Rattle.std.specs.List.{All, list_all}
@@ -9,6 +8,7 @@ use Rattle.rb_syntax.specs.declared.expression.Number.{Number}
 use Rattle.rb_syntax.specs.Tree.{Identifier, Expression, Reference, Refer, Scalar, Element, Printed, Words, Amount, PrintItem, Command, Assignment, Printing, Sending, Receiving, Conditional, Loop, Invocation, Failure, Recovering, Commands, NoCommand, Then, Body, Scope, NoElse, Else, Recovers, Alternates, NoAlternate, Alternate, ProcedureDeclaration, Tree}
 use Rattle.rb_world.specs.World.{is_number}
 use Rattle.rb_world.proofs.ListFacts.{first_holds, none_some, second_holds, some_same}
+use Rattle.rb_world.proofs.LevelFacts.{of_number}
 use Rattle.rb_meaning.specs.Environment.{frame_of, frame_words, natural}
 use Rattle.rb_meaning.specs.Groups.{conversation_number, conversation_of, count_alternates, procedures_of}
 use Rattle.rb_meaning.specs.Nesting.{Spot, Use, alternates_of, inside, joined, keeps_n5, uses_in, uses_in_alternates, uses_in_body, uses_in_command}
@@ -44,10 +44,6 @@ pub many_second : (tree : Tree) (xs ys : List Use) → AsMany tree (xs ++ ys) �
 many_second tree xs ys h =
     second_holds (list_all (keeps_n5 tree) xs) (list_all (keeps_n5 tree) ys) (sym (list_all-append (keeps_n5 tree) xs ys) ∙ h)
 
-is_some : (o : Option ℕ) (n : ℕ) → is_number o n ≡ true → o ≡ Some n
-is_some None n h = absurd (cc)
-is_some (Some m) n h = ap Some (eqb-true m n h)
-
 module _ (c : Code) (tree : Tree) where
   -- what the list of blocks tells of a recovery block, with its place in the code
   block_lies : (slots : List Slot) (conversation : Option Identifier) (line : ℕ) (bound : Number) (alternates : Alternates) (spot : Spot)
@@ -69,7 +65,7 @@ module _ (c : Code) (tree : Tree) where
       by None names as_many d is = absurd (none_some is)
       by (Some name) names as_many d is =
           let same = some_same is in
-          let all = is_some (alternates_of tree (conversation_number tree name.text)) (count_alternates alternates)
+          let all = of_number (alternates_of tree (conversation_number tree name.text)) (count_alternates alternates)
           (first_holds (is_number (alternates_of tree (conversation_number tree name.text)) (count_alternates alternates)) true as_many) in (
             subst (λ k. k < length tree.conversations) same names.there,
             ap (alternates_of tree) (sym same) ∙ all ∙ ap Some (sym many),

@@ -18,7 +18,7 @@ use Rattle.rb_proc.proofs.Backs.{pick}
 use Rattle.rb_proc.proofs.Fronts.{held_cons, held_written}
 use Rattle.rb_proc.proofs.Tied.{copies_long, marks_copied, marks_levels, marks_open, open_long, seen_store, tied_written}
 
-none_there : {A : Type 0} (xs : List A) → length xs ≡ 0 → xs ≡ []
+pub none_there : {A : Type 0} (xs : List A) → length xs ≡ 0 → xs ≡ []
 none_there [] e = refl
 none_there (x ∷ xs) e = absurd (omega arith)
 

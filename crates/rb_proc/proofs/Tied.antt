@@ -8,10 +8,9 @@ use Rattle.rb_base.specs.declared.limits.TheConstants.{MOST_OPEN_CALLS, MOST_OPE
 use Rattle.rb_world.specs.World.{Level, copy_of, last_of, without_last}
 use Rattle.rb_cell.specs.Store.{Store}
 use Rattle.rb_cache.specs.Copies.{Fits, Level as Touched, Limits, RecoveryCache, accepted, change_last, copies, entered, joined, last_copy, open_levels}
-use Rattle.rb_cache.specs.Undo.{Region}
 use Rattle.rb_cache.proofs.Copies.{restored-same}
 use Rattle.rb_cache.proofs.Views.{length-levels, length-restored}
-use Rattle.rb_cache.proofs.LawsHold.{heights_lengths, shrunk}
+use Rattle.rb_cache.proofs.LawsHold.{heights_lengths, shrunk, weaker}
 use Rattle.rb_hold.specs.Held.{TwoLists, held_bytes}
 use Rattle.rb_code.specs.Memory.{OpenCall, held_place, word_at}
 use Rattle.rb_code.specs.Safe.{StayAbove}
@@ -31,10 +30,6 @@ copies_long words cache = length-reverse _ ∙ length-restored words cache.regio
 
 pub open_long : (cache : RecoveryCache) → length (open_levels cache) ≡ length cache.regions
 open_long cache = length-levels cache.regions
-
-fit_more : (m n : ℕ) (rs : List Region) → m ≤ n → AllByRecursion (λ (r : Region). r.height ≤ m) rs → AllByRecursion (λ (r : Region). r.height ≤ n) rs
-fit_more m n [] le a = tt
-fit_more m n (r ∷ rs) le a = (omega (arith, le, a.0), fit_more m n rs le a.1)
 
 abbrev pub IsAbove : Held → Type 0
 IsAbove call = 0 < call.base
@@ -368,7 +363,7 @@ module _ (store : Store) (cache : RecoveryCache) (calls : List Held) (room : ℕ
   more_keeps more = (
     ap reverse (restored-same (length store.words) (store.words ++ more) store.words cache.regions tied.fits
         (take-append-le (length store.words) store.words more (omega arith))),
-    fit_more (length store.words) (length (store.words ++ more)) cache.regions (omega (arith, length-append store.words more)) tied.fits,
+    weaker (length store.words) (length (store.words ++ more)) cache.regions (omega (arith, length-append store.words more)) tied.fits,
   )
 
   -- one call more

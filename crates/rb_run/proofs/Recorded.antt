@@ -1,22 +1,14 @@
 -- The lines of a record, of kept turns in memory.
-use Rattle.std.proofs.Common.{◌≡◌, ℕ, Bool, true, false, List, [], ◌∷◌, ◌++◌, cond, decimal, map, nat_eq, refl, sym}
-use Rattle.std.specs.List.{flat_map}
-use Rattle.std.proofs.lemmas.List.Folds.{flat_map-map}
-use Rattle.rb_world.specs.Plain.{Kept}
-use Rattle.rb_world.specs.Text.{Naming, kept_words, line_of, process_word, record_text}
-use Rattle.rb_machine.specs.Survivors.{kept_of}
-use Rattle.rb_machine.specs.declared.survivors.Kept.{Kept as Held}
+use Rattle.std.proofs.Common.{◌≡◌, ℕ, Bool, true, false, List, [], ◌∷◌, ◌++◌, cond, decimal, nat_eq, refl}
+use Rattle.rb_base.specs.declared.kept.Kept.{Kept}
+use Rattle.rb_world.specs.Text.{Naming, kept_words, line_of, process_word}
 
 -- the line of a kept turn
-abbrev pub line_of_kept : Naming → Held → List ℕ
-line_of_kept names one = line_of (kept_words names (kept_of one))
-
--- those of all of them
-pub lines_of_kept : (names : Naming) (kept : List Held) → flat_map (line_of_kept names) kept ≡ record_text names (map kept_of kept)
-lines_of_kept names kept = sym (flat_map-map (λ (one : Kept). line_of (kept_words names one)) kept_of kept)
+abbrev pub line_of_kept : Naming → Kept → List ℕ
+line_of_kept names one = line_of (kept_words names one)
 
 -- that line in pieces, as they are added
-pub line_in_pieces : (names : Naming) (one : Held)
+pub line_in_pieces : (names : Naming) (one : Kept)
     → decimal one.turn ++ 32 ∷ (process_word names one.process ++ (cond (nat_eq one.alternate 0) [] (32 ∷ decimal one.alternate) ++ 10 ∷ []))
     ≡ line_of_kept names one
 line_in_pieces names one = pieces (nat_eq one.alternate 0)

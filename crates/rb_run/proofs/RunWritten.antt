@@ -1,5 +1,5 @@
 -- The text of a run: turn 0, the turns and the ending, each as it was written.
-use Rattle.std.proofs.Common.{◌≡◌, ℕ, zero, suc, ◌+◌, List, [], ◌∷◌, ◌++◌, length, map, replicate, Option, Result, Ok, Err, IsErr, refl, sym, ap, ◌∙◌, subst}
+use Rattle.std.proofs.Common.{◌≡◌, ℕ, zero, suc, ◌+◌, List, [], ◌++◌, length, map, replicate, Option, Result, Ok, Err, IsErr, refl, sym, ap, ◌∙◌, subst}
 use Rattle.std.proofs.lemmas.List.{length-map, length-replicate}
 use Rattle.std.proofs.lemmas.Simd.{map-map}
 use Rattle.std.proofs.lemmas.Slice.Zip.{AllZip-long}
@@ -19,12 +19,12 @@ use Rattle.rb_world.specs.Text.{Naming, all_told, end_text, out_lines, told_text
 use Rattle.rb_world.specs.Turn.{Told, run, told_at_opening}
 use Rattle.rb_world.specs.World.{Process}
 use Rattle.rb_world.proofs.StandingFacts.{run-size}
-use Rattle.rb_code.specs.Plain.{Part}
 use Rattle.rb_code.specs.Turn.{Copy, Standing}
 use Rattle.rb_code.specs.WellFormed.{IsSound}
 use Rattle.rb_code.specs.WordKind.{word_kind}
 use Rattle.rb_code.specs.WordRun.{WordWorld, counts_sent, counts_taken, opening_of, opening_standings, variable_words, word_final, word_run, word_text}
 use Rattle.rb_machine.specs.Machine.{Seen, opening_seen}
+use Rattle.rb_machine.proofs.Sizes.{length-opening}
 use Rattle.rb_run.specs.Running.{NamesFit, NoneWaits, VariablesLie, ran}
 use Rattle.rb_run.proofs.EndingFits.{ending_fits}
 use Rattle.rb_run.proofs.OwnWords.{runs_own}
@@ -45,10 +45,6 @@ pub opening_text : (names : Naming) (kind : TurnKind) (events : List Event) (wai
     → told_text names 0 (told_of kind events waiting) ≡ told_text names 0 (told_at_opening w)
 opening_text names kind events waiting n w none told =
     text_out names 0 (told_of kind events []) waiting (ap (out_lines names 0 0) none ∙ out_none names 0 0 n) ∙ ap (told_text names 0) told
-
-opening_each : (p : ℕ) (parts : List Part) → length (opening_standings p parts) ≡ length parts
-opening_each p [] = refl
-opening_each p (part ∷ parts) = ap suc (opening_each (p + 1) parts)
 
 -- how a machine ended
 pub is_end : (m : Seen) → IsEndOf (map (λ (q : Process Standing Copy). state_of (q.status, length q.levels)) m.world.processes)
@@ -73,7 +69,7 @@ module _ (old : Seen) (fresh : old ≡ opening_seen old.code old.groups old.most
   processes_each : length old.world.processes ≡ length old.code.processes
   processes_each =
       ap (λ (m : Seen). length m.world.processes) fresh
-      ∙ (length-map (opening_standings 0 old.code.processes) _ ∙ opening_each 0 old.code.processes)
+      ∙ (length-map (opening_standings 0 old.code.processes) _ ∙ length-opening 0 old.code.processes)
 
   pub names_each : length names.processes.items ≡ length old.world.processes
   names_each = sym (AllZip-long VariablesLie names.processes.items old.code.processes fit.processes) ∙ sym processes_each

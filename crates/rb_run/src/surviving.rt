@@ -1,18 +1,18 @@
 //! A run that prints nothing, and then writes which of its turns survived.
 
-ghost use Rattle.std.specs.Prelude.{◌≡◌, ◌+◌, ◌≤◌, length, map};
+ghost use Rattle.std.specs.Prelude.{◌≡◌, ◌+◌, ◌≤◌, length};
 ghost use Rattle.rb_code.specs.WordRun.{word_run};
 ghost use Rattle.rb_trace.specs.Naming.{naming};
 ghost use Rattle.rb_world.specs.Text.{record_text};
 ghost use Rattle.rb_machine.specs.Machine.{opening_seen};
 ghost use Rattle.rb_machine.specs.Work.{turns_work};
-ghost use Rattle.rb_machine.specs.Survivors.{kept_of, word_survivors};
+ghost use Rattle.rb_machine.specs.Survivors.{word_survivors};
 ghost use Rattle.rb_run.specs.Running.{NoneWaits, ran};
 ghost use Rattle.rb_run.specs.Surviving.{IsErasedOver, Survives};
 
 use crate::record::write_record;
-use rb_base::{Names, Report, Steps};
-use rb_machine::{Kept, Machine};
+use rb_base::{Kept, Names, Report, Steps};
+use rb_machine::Machine;
 use rb_outside::{Failed, Sink};
 use rb_sched::Schedule;
 use std::alloc::Global;
@@ -77,7 +77,7 @@ fn take_unseen<L: Ledger>(
 
 // Writes survivors as a record.
 fn write_survivors<S: Sink>(out: &mut S, kept: &[Kept], names: &Names) -> Result<(), Ended>
-    ensures { Survives (record_text (naming names.now) (map kept_of kept.now)) (S.written out.old) (S.written out.new)
+    ensures { Survives (record_text (naming names.now) kept.now) (S.written out.old) (S.written out.new)
         (S.faults out.old) (S.faults out.new) result }
 {
     match write_record(out, kept, names) {

@@ -55,11 +55,11 @@ all_at P (y ∷ xs) zero x all e =
 all_at P (y ∷ xs) (suc i) x all e = all_at P xs i x all.1 e
 
 -- lists without an element, end to end
-first-empty : {A : Type 0} (xs ys : List A) → xs ++ ys ≡ [] → xs ≡ []
+pub first-empty : {A : Type 0} (xs ys : List A) → xs ++ ys ≡ [] → xs ≡ []
 first-empty [] ys e = refl
 first-empty (x ∷ xs) ys e = absurd (cc)
 
-second-empty : {A : Type 0} (xs ys : List A) → xs ++ ys ≡ [] → ys ≡ []
+pub second-empty : {A : Type 0} (xs ys : List A) → xs ++ ys ≡ [] → ys ≡ []
 second-empty [] ys e = e
 second-empty (x ∷ xs) ys e = absurd (cc)
 

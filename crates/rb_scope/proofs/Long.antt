@@ -68,7 +68,7 @@ counted f place most found xs =
     ∙ ap (with_extra found) (twice f place (slice_get xs most))
 
 -- an entry that is there
-got : {A : Type 0} (xs : List A) (k : ℕ) (x : A) → k < length xs → x ≡ get_or xs k x → slice_get xs k ≡ Some x
+pub got : {A : Type 0} (xs : List A) (k : ℕ) (x : A) → k < length xs → x ≡ get_or xs k x → slice_get xs k ≡ Some x
 got [] k x h e = absurd (omega arith)
 got (y ∷ ys) zero x h e = ap Some (sym e)
 got (y ∷ ys) (suc k) x h e = got ys k x (omega arith) e

@@ -1,7 +1,7 @@
 //! Tests of records (rb_plain): the turns that a text lists, and its first fault.
 
-use rb_base::{FaultName, Memory, Names, ProcessNames, Text, TextFault};
-use rb_plain::record::{Kept, Record, RecordRefusal};
+use rb_base::{FaultName, Kept, Memory, Names, ProcessNames, Text, TextFault};
+use rb_plain::record::{Record, RecordRefusal};
 use std::alloc::Global;
 use std::test::Fail;
 

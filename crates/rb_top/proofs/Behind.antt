@@ -1,7 +1,8 @@
 -- What a call through a buffer comes to at the sink behind it.
-use Rattle.std.proofs.Common.{◌≡◌, ℕ, zero, suc, ◌+◌, ◌≤◌, Bool, true, false, ◌&&◌, List, [], ◌∷◌, ◌++◌, length, take, Option, Some, None, refl, sym, ap, subst, ◌∙◌, inl, inr, arith, length-append}
+use Rattle.std.proofs.Common.{◌≡◌, ℕ, zero, suc, ◌+◌, ◌≤◌, Bool, false, ◌&&◌, List, [], ◌∷◌, ◌++◌, length, take, Option, Some, None, refl, sym, ap, subst, ◌∙◌, inl, inr, arith, length-append}
 use Rattle.std.proofs.lemmas.List.{length-take}
 use Rattle.std.proofs.Math.Seq.{take-append_seam, take-length}
+use Rattle.rb_world.proofs.ListFacts.{second_holds}
 use Rattle.rb_outside.specs.Outside.{File, Faults, Start, WrotePart, failed_once, went_well, then_written}
 use Rattle.rb_outside.proofs.Puts.{failed_after}
 use Rattle.rb_top.specs.Words.{Command, Run, Survive, Replay, Check, Compile, Trial, Request}
@@ -65,10 +66,6 @@ nothing_behind (Some x) told (Some w) rest none same waits =
     let inside : w ++ rest ≡ x = cc in
     ap (λ (xs : List ℕ). Some xs) (no_end w rest (inside ∙ none) ∙ sym none)
 
-both_true : (a b : Bool) → (a && b) ≡ true → b ≡ true
-both_true true b e = e
-both_true false b e = absurd (cc)
-
 -- the call as a whole ends as judged where it is seen to end so
 pub complete_behind : (request : Option Request) (old told new : Scene) (status : Status)
     → WhereRequested request old told status → SeenBehind told new → IsComplete request old new status
@@ -111,7 +108,7 @@ seen_last files starts reads w failed f = record {
   read_faults = refl;
   written = refl;
   write_faults = refl;
-  failed_last = both_true failed f.failed_last;
+  failed_last = second_holds failed f.failed_last;
 }
 
 -- the same, where no write failed

@@ -2,15 +2,11 @@
 use Rattle.std.proofs.Common.{◌≡◌, ℕ, ◌+◌, ◌*◌, ◌-◌, ◌^◌, ◌≤◌, cond, List, [], ◌∷◌, Option, Some, None, length, get_or, nat_lt, sym, ap, ◌∙◌, arith}
 use Rattle.std.proofs.lemmas.Bool.Decides.{nat_tests}
 use Rattle.rb_base.specs.Bytes.{digits_value}
+use Rattle.rb_base.proofs.Digits.{digits_value-grows}
 
 -- a number that has 64 bits, or none
 abbrev pub in_64_bits : ℕ → Option ℕ
 in_64_bits n = cond (nat_lt n (2 ^ 64)) (Some n) None
-
--- a value is at least what it began with
-digits_value-grows : (n : ℕ) (digits : List ℕ) → n ≤ digits_value n digits
-digits_value-grows n [] = omega arith
-digits_value-grows n (d ∷ ds) = omega (arith, digits_value-grows (10 * n + (d - 48)) ds)
 
 -- a number with more than 64 bits has only such above it
 above : (n m : ℕ) → n ≤ m → in_64_bits n ≡ None → in_64_bits m ≡ None

@@ -9,7 +9,7 @@ use Rattle.rb_outside.specs.Outside.{Faults}
 use Rattle.rb_syntax.specs.Plain.{tree as tree_of}
 use Rattle.rb_syntax.specs.Tree.{Tree}
 use Rattle.rb_world.specs.Kind.{Membership}
-use Rattle.rb_world.specs.Plain.{Kept}
+use Rattle.rb_base.specs.declared.kept.Kept.{Kept}
 use Rattle.rb_meaning.specs.PlainRun.{plain_text}
 use Rattle.rb_judge.specs.Judged.{IsJudged}
 use Rattle.rb_judge.specs.declared.judging.Judged.{Judged}

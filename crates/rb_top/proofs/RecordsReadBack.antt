@@ -15,7 +15,7 @@ use Rattle.rb_base.specs.declared.limits.TheConstants.{MOST_TURNS}
 use Rattle.rb_base.specs.declared.fault.FaultName.{FaultName}
 use Rattle.rb_base.specs.declared.fault.FaultName.TheVariants.{V1, V3}
 use Rattle.rb_meaning.specs.Environment.{same_name}
-use Rattle.rb_world.specs.Plain.{Kept}
+use Rattle.rb_base.specs.declared.kept.Kept.{Kept}
 use Rattle.rb_world.specs.Text.{Naming, ProcessNaming, kept_words, line_of, process_name, process_word, record_text}
 use Rattle.rb_world.proofs.ListFacts.{none_some, some_same}
 use Rattle.rb_world.proofs.Members.PlaceFacts.{position_first}

@@ -7,7 +7,8 @@ use Rattle.std.proofs.lemmas.Simd.{map-map}
 use Rattle.rb_base.specs.declared.limits.TheConstants.{MOST_TURNS}
 use Rattle.rb_syntax.specs.Tree.{ProcessDeclaration, Tree}
 use Rattle.rb_world.specs.Erased.{RisesFrom}
-use Rattle.rb_world.specs.Plain.{Kept, insert_all, insert_kept, survivors_from}
+use Rattle.rb_base.specs.declared.kept.Kept.{Kept}
+use Rattle.rb_world.specs.Plain.{insert_all, insert_kept, survivors_from}
 use Rattle.rb_world.specs.Standing.{IsStanding}
 use Rattle.rb_world.specs.World.{Process}
 use Rattle.rb_world.proofs.StandingFacts.{standing}

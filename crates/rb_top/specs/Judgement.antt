@@ -4,7 +4,7 @@ use Rattle.rb_base.specs.declared.fault.SourceFault.{SourceFault}
 use Rattle.rb_base.specs.declared.fault.TextFault.{TextFault}
 use Rattle.rb_base.specs.Words.{fault_word}
 use Rattle.rb_syntax.specs.Tree.{Tree}
-use Rattle.rb_world.specs.Plain.{Kept}
+use Rattle.rb_base.specs.declared.kept.Kept.{Kept}
 use Rattle.rb_world.specs.Text.{line_of, record_text}
 use Rattle.rb_world.specs.Turn.{told_at_opening}
 use Rattle.rb_meaning.specs.Meaning.{naming_of, opening_world, run_of, run_text, survivors}

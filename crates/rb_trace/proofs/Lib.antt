@@ -5,3 +5,4 @@ pub mod Released
 pub mod Events
 pub mod Ended
 pub mod Counted
+pub mod Lying

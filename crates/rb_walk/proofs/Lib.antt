@@ -4,7 +4,6 @@ pub mod Calls
 pub mod Innermost
 pub mod Places
 pub mod Spans
-pub mod FirstPlaces
 pub mod Lookups
 pub mod Words
 pub mod Judged

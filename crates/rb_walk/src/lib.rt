@@ -9,7 +9,6 @@ pub mod frames;
 pub mod halt;
 pub mod held;
 pub mod items;
-pub mod numbers;
 mod performing;
 mod room;
 pub mod state;

@@ -10,8 +10,8 @@ ghost use Rattle.rb_walk.specs.Items.{StandsFirst};
 ghost use Rattle.rb_walk.specs.States.{state_of};
 
 use crate::halt::Halt;
-use crate::numbers::channel_number;
 use crate::state::State;
+use rb_meaning::numbers::channel_number;
 use rb_syntax::{Block, Name, Program, Statement, Target};
 use std::alloc::Global;
 

@@ -6,7 +6,8 @@ use Rattle.std.proofs.Math.Path.{subst₃}
 use Rattle.rb_world.specs.Kind.{Kind, Stepped, Trapped, Went, Held}
 use Rattle.rb_world.specs.World.{Level, Process, World, last_of, without_last}
 use Rattle.rb_world.specs.Turn.{Told, opening, run, turn}
-use Rattle.rb_world.specs.Plain.{Kept, PlainEnd, Ended, StuckAt, plain_run, plain_turn}
+use Rattle.rb_base.specs.declared.kept.Kept.{Kept}
+use Rattle.rb_world.specs.Plain.{PlainEnd, Ended, StuckAt, plain_run, plain_turn}
 use Rattle.rb_world.proofs.LastLevels.{last_of-map, without_last-map}
 use Rattle.rb_world.proofs.ListFacts.{heads_same, some_same, tails_same}
 use Rattle.rb_world.proofs.Simulation.{Shared, Related, nothing_known, copies_of, StillMeets, StepsMeet, IsPlainSimulation, IsSimulation}

@@ -14,7 +14,9 @@ pub mod RejectTogether
 pub mod PassTogether
 pub mod LineTogether
 pub mod TurnTogether
+pub mod TurnTold
 pub mod StaysInside
+pub mod RejectionsTold
 -- All worlds of runs are such worlds.
 pub mod OrderedRuns
 -- Each open level of a conversation tries its present alternate.

@@ -7,7 +7,8 @@ use Rattle.rb_world.specs.Kind.{Facts, Kind, Want, NothingLeft, SendsOn, Receive
 use Rattle.rb_world.specs.World.{Level, Status, Running, Finished, FailedWith, Process, World, last_of, talk_at, with_each, copy_of}
 use Rattle.rb_world.specs.Channels.{has_room, message_there}
 use Rattle.rb_world.specs.Turn.{Moved, Told, accepted, accepted_at, all_leave, all_stand, alternate_of, finishes, freed, freed_lines, most_levels, moved_to, open_at, opened, passed, took}
-use Rattle.rb_world.specs.Plain.{Kept, PlainEnd, Ended, StuckAt, has_alternate, no_alternate, plain_acts, plain_moves, plain_on, plain_receives, plain_run, plain_runs, plain_stepped, plain_steps, plain_told, plain_turn, plain_turned, when}
+use Rattle.rb_base.specs.declared.kept.Kept.{Kept}
+use Rattle.rb_world.specs.Plain.{PlainEnd, Ended, StuckAt, has_alternate, no_alternate, plain_acts, plain_moves, plain_on, plain_receives, plain_run, plain_runs, plain_stepped, plain_steps, plain_told, plain_turn, plain_turned, when}
 use Rattle.rb_world.proofs.ListFacts.{first_holds, none_some, second_holds, some_same}
 use Rattle.rb_world.proofs.TurnFacts.{RunsAt, IsReady, ToSend, ToReceive, ToReceiveIfThere, ToStart, ToAct, left_alone, come_to_stand}
 

@@ -5,7 +5,8 @@ use Rattle.rb_world.specs.Kind.{Facts, Kind, Want, NothingLeft, SendsOn, Receive
 use Rattle.rb_world.specs.World.{Level, Status, Running, Finished, FailedWith, Process, World, last_of}
 use Rattle.rb_world.specs.Channels.{has_room, message_there}
 use Rattle.rb_world.specs.Turn.{Moved, Told, most_levels}
-use Rattle.rb_world.specs.Plain.{Kept, PlainEnd, Ended, StuckAt, alternates_of, has_alternate, no_alternate, plain_acts, plain_moves, plain_on, plain_receives, plain_run, plain_runs, plain_stepped, plain_steps, plain_told, plain_turn, plain_turned, when}
+use Rattle.rb_base.specs.declared.kept.Kept.{Kept}
+use Rattle.rb_world.specs.Plain.{PlainEnd, Ended, StuckAt, alternates_of, has_alternate, no_alternate, plain_acts, plain_moves, plain_on, plain_receives, plain_run, plain_runs, plain_stepped, plain_steps, plain_told, plain_turn, plain_turned, when}
 use Rattle.rb_world.proofs.ListFacts.{first_holds, second_holds}
 use Rattle.rb_world.proofs.TurnFacts.{RunsAt, IsReady, ToSend, ToReceive, ToReceiveIfThere, ToStart, ToAct}
 use Rattle.rb_world.proofs.Simulation.{Shared, Related, Knowing, nothing_known, copies_of, IsActing, StepsMeet, IsPlainSimulation}

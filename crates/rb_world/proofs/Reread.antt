@@ -5,7 +5,8 @@ use Rattle.rb_world.specs.Kind.{Kind, Stepped, Trapped, Went, Held}
 use Rattle.rb_world.specs.World.{Level, Process, World}
 use Rattle.rb_world.specs.Channels.{seen_copy}
 use Rattle.rb_world.specs.Turn.{run, turn}
-use Rattle.rb_world.specs.Plain.{Kept, PlainEnd, Ended, StuckAt, plain_run}
+use Rattle.rb_base.specs.declared.kept.Kept.{Kept}
+use Rattle.rb_world.specs.Plain.{PlainEnd, Ended, StuckAt, plain_run}
 use Rattle.rb_world.proofs.Simulation.{Shared, Related, Knowing, nothing_known, copies_of, IsActing, IsReceipt, IsSimulation}
 use Rattle.rb_world.proofs.ProcessesMeet.{WorldsMeet}
 use Rattle.rb_world.proofs.TurnsMeet.{KnowsTurn, turn_meets}

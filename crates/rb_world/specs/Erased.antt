@@ -2,7 +2,7 @@
 -- turns rise.
 use Rattle.std.specs.Prelude.{ℕ, ◌+◌, ◌<◌, List, [], ◌∷◌, ◌++◌, map}
 use Rattle.rb_world.specs.Turn.{Told}
-use Rattle.rb_world.specs.Plain.{Kept}
+use Rattle.rb_base.specs.declared.kept.Kept.{Kept}
 
 -- a released line, with its turn and the number of its process
 pub record Released : Type 0 where

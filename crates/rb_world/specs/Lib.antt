@@ -11,3 +11,4 @@ pub mod Nested
 pub mod Present
 pub mod Slots
 pub mod Erased
+pub mod Together

@@ -1,16 +1,11 @@
 -- The plain run of a record: the turns that survived, taken alone. Nothing is ever rejected, no bound is counted, no
 -- conversation is broken, and the alternate of a start is the record's.
 use Rattle.std.specs.Prelude.{ℕ, ℤ, ◌+◌, nat_eq, nat_le, nat_lt, Bool, true, false, cond, ◌&&◌, List, [], ◌∷◌, length, slice_get, Option, Some, None}
+use Rattle.rb_base.specs.declared.kept.Kept.{Kept}
 use Rattle.rb_world.specs.Kind.{Kind, Want, NothingLeft, SendsOn, ReceivesOn, MayReceiveOn, Enters, Starts, Acts, Stepped, Trapped, Went, Held}
 use Rattle.rb_world.specs.World.{Level, Status, Running, Finished, FailedWith, Process, World, last_of, copy_of}
 use Rattle.rb_world.specs.Channels.{has_room, message_there}
 use Rattle.rb_world.specs.Turn.{Moved, Told, took, open_at, moved_to, accepted, finishes, most_levels}
-
--- a turn that a record keeps: its number, its process, and the alternate that it started or 0
-pub record Kept : Type 0 where
-  pub turn : ℕ
-  pub process : ℕ
-  pub alternate : ℕ
 
 -- what is said where a condition holds, and nothing is said elsewhere.
 abbrev pub when : {A : Type 0} → Bool → Option A → Option A

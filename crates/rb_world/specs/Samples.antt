@@ -7,7 +7,8 @@ use Rattle.rb_world.specs.Kind.{Facts, Kind, Membership, Want, NothingLeft, Ente
 use Rattle.rb_world.specs.World.{World, Level, Running, with_process}
 use Rattle.rb_world.specs.Reject.{reject}
 use Rattle.rb_world.specs.Turn.{Told, move, opening, run, turn_used, undone}
-use Rattle.rb_world.specs.Plain.{Kept, PlainEnd, Ended, StuckAt, plain_run}
+use Rattle.rb_base.specs.declared.kept.Kept.{Kept}
+use Rattle.rb_world.specs.Plain.{PlainEnd, Ended, StuckAt, plain_run}
 use Rattle.rb_world.specs.Standing.{Each, IsStanding}
 
 -- a deed: to print a line, enter a recovery block, start an alternate, end it, or give up

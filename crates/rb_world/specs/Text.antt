@@ -8,7 +8,7 @@ use Rattle.rb_base.specs.declared.event.Event.TheVariants.{Reject, RejectAll, Er
 use Rattle.rb_base.specs.Words.{cause_word}
 use Rattle.rb_world.specs.Turn.{Told}
 use Rattle.rb_world.specs.World.{Status, Running, Finished, FailedWith}
-use Rattle.rb_world.specs.Plain.{Kept}
+use Rattle.rb_base.specs.declared.kept.Kept.{Kept}
 
 -- A process-level variable: its name, its first word among the process's words, and the size of an array.
 pub record VariableNaming : Type 0 where

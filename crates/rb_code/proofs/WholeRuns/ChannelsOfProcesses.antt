@@ -38,7 +38,7 @@ part_for (process ∷ processes) (one ∷ parts) zero many below = (one, refl)
 part_for (process ∷ processes) (one ∷ parts) (suc p) many below = part_for processes parts p many.1 (omega (arith, below))
 
 -- a test that holds of all
-holds_at : {A : Type 0} (test : A → Bool) (xs : List A) (i : ℕ) (x : A) → list_all test xs ≡ true → slice_get xs i ≡ Some x → test x ≡ true
+pub holds_at : {A : Type 0} (test : A → Bool) (xs : List A) (i : ℕ) (x : A) → list_all test xs ≡ true → slice_get xs i ≡ Some x → test x ≡ true
 holds_at test [] i x all e = absurd (none_some e)
 holds_at test (y ∷ xs) zero x all e = ap test (sym (some_same e)) ∙ first_holds (test y) (list_all test xs) all
 holds_at test (y ∷ xs) (suc i) x all e = holds_at test xs i x (second_holds (test y) (list_all test xs) all) e

@@ -22,6 +22,7 @@ use Rattle.rb_meaning.proofs.NestedProgram.{procedures_kept}
 use Rattle.rb_meaning.proofs.StepsChangeMail.{IsPassed, steps_post}
 use Rattle.rb_meaning.proofs.StepsKeepRules.{Continues, Passes, StepsTo, steps_keep}
 use Rattle.rb_meaning.proofs.TreeParts.{moves_by, parts_of}
+use Rattle.rb_meaning.proofs.TreeErasure.{none_taken}
 use Rattle.rb_code.specs.Plain.{Code}
 use Rattle.rb_code.specs.Memory.{OpenCall, cursor_place, part_of, word_at}
 use Rattle.rb_code.specs.WordKind.{cursor_in, sent_by, taken_by}
@@ -60,11 +61,6 @@ pub none_sent : (n channel : ℕ) → length (unwrap_or (slice_get (replicate n 
 none_sent zero channel = refl
 none_sent (suc n) zero = refl
 none_sent (suc n) (suc channel) = none_sent n channel
-
-pub none_taken : (n channel : ℕ) → unwrap_or (slice_get (replicate n zero) channel) zero ≡ zero
-none_taken zero channel = refl
-none_taken (suc n) zero = refl
-none_taken (suc n) (suc channel) = none_taken n channel
 
 pub opening_mail : (tree : Tree) (c : Code) → c.channels ≡ channels_of tree → (p : ℕ) (process : ProcessDeclaration)
     → HasOwnMail c p (opening_state tree p process)

@@ -12,6 +12,7 @@ use Rattle.rb_meaning.specs.Environment.{Environment, frame_of, words}
 use Rattle.rb_meaning.specs.State.{State, performed, settle, settle_items, with_settled}
 use Rattle.rb_meaning.specs.Groups.{procedures_of}
 use Rattle.rb_meaning.specs.Meaning.{opening_state}
+use Rattle.rb_meaning.proofs.TreeErasure.{none_taken}
 use Rattle.rb_scope.specs.Frames.{main_frames, shape_of, shape_words}
 use Rattle.rb_scope.specs.InFrames.{CommandsInFrames, Resolved}
 use Rattle.rb_scope.specs.Limits.{IsWithinLimits, ProcessWithin}
@@ -30,7 +31,7 @@ use Rattle.rb_code.proofs.Lying.{frame_long}
 use Rattle.rb_code.proofs.Meets.{Meets, WordsMeet}
 use Rattle.rb_code.proofs.Pushed.{zeros_flat}
 use Rattle.rb_code.proofs.WholeRuns.MachineSteps.{settle_at_rest}
-use Rattle.rb_code.proofs.WholeRuns.OwnMail.{none_sent, none_taken, opening_mail}
+use Rattle.rb_code.proofs.WholeRuns.OwnMail.{none_sent, opening_mail}
 use Rattle.rb_code.proofs.WholeRuns.PointsLie.{none_left}
 use Rattle.rb_code.proofs.WholeRuns.StandTogether.{StandTogether, Uprightness, Whole}
 use Rattle.rb_code.proofs.WholeRuns.WordsOfStates.{left_at_rest}
@@ -42,7 +43,7 @@ all_there P xs i x all e =
     subst P (some_same (sym (slice_get-get_or xs i x within) ∙ e)) (All-get_or P xs i x within all)
 
 -- zeros
-zero_there : (n k : ℕ) → word_at (replicate n (pos 0)) k ≡ pos 0
+pub zero_there : (n k : ℕ) → word_at (replicate n (pos 0)) k ≡ pos 0
 zero_there zero k = refl
 zero_there (suc n) zero = refl
 zero_there (suc n) (suc k) = zero_there n k

@@ -10,7 +10,7 @@ use Rattle.rb_syntax.specs.declared.expression.Number.{Number}
 use Rattle.rb_syntax.specs.declared.expression.Op.{Op}
 use Rattle.rb_syntax.specs.declared.expression.Quantifier.{Quantifier}
 use Rattle.rb_syntax.specs.Tree.{Identifier, Expression, Literal, Variable, Former, Chained, Quantification, Reference, Refer, Scalar, Element, NoLink, Linked, Declaration, Words, Amount, PrintItem, Command, Assignment, Printing, Sending, Receiving, Conditional, Invocation, Recovering, Commands, NoCommand, Then, Body, Scope, NoElse, Else, Recovers, Alternates, NoAlternate, Alternate, ChannelDeclaration, ConversationDeclaration, ProcedureDeclaration, ProcessDeclaration, Tree}
-use Rattle.rb_world.specs.Plain.{Kept}
+use Rattle.rb_base.specs.declared.kept.Kept.{Kept}
 use Rattle.rb_world.specs.Text.{record_text}
 use Rattle.rb_meaning.specs.Meaning.{run_of, naming_of, survivors}
 

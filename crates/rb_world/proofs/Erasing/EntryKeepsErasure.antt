@@ -6,7 +6,8 @@ use Rattle.rb_world.specs.Kind.{Facts, Enters}
 use Rattle.rb_world.specs.World.{Level, Running, Process, World, change_at, goes_on, with_process}
 use Rattle.rb_world.specs.Nested.{IsLevelOf}
 use Rattle.rb_world.specs.Turn.{Told, most_levels, new_level, open_at}
-use Rattle.rb_world.specs.Plain.{Kept, plain_acts, plain_moves, plain_runs, when}
+use Rattle.rb_base.specs.declared.kept.Kept.{Kept}
+use Rattle.rb_world.specs.Plain.{plain_acts, plain_moves, plain_runs, when}
 use Rattle.rb_world.proofs.TurnFacts.{EntersAt}
 use Rattle.rb_world.proofs.ListFacts.{some_same}
 use Rattle.rb_world.proofs.Invariant.{BothWithin, Opens}

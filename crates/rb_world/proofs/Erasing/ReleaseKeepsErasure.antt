@@ -4,7 +4,8 @@ use Rattle.std.proofs.lemmas.List.{length-map}
 use Rattle.std.proofs.lemmas.Option.{slice_get-map}
 use Rattle.rb_world.specs.World.{Level, Process, World, change_at, with_each}
 use Rattle.rb_world.specs.Turn.{Told, freed, freed_lines, state_freed, told}
-use Rattle.rb_world.specs.Plain.{Kept, plain_run, plain_turned, survivors_of}
+use Rattle.rb_base.specs.declared.kept.Kept.{Kept}
+use Rattle.rb_world.specs.Plain.{plain_run, plain_turned, survivors_of}
 use Rattle.rb_world.specs.Standing.{Each}
 use Rattle.rb_world.specs.Erased.{Released, Rises, numbered, released_from, released_in}
 use Rattle.rb_world.proofs.Invariant.{BothBetween, Releases}

@@ -4,7 +4,8 @@ use Rattle.std.specs.Option.{option_map}
 use Rattle.rb_world.specs.Kind.{Kind, Want, NothingLeft, SendsOn, ReceivesOn, MayReceiveOn, Enters, Starts, Acts, Held}
 use Rattle.rb_world.specs.World.{Level, Running, Process, World, last_of, copy_of}
 use Rattle.rb_world.specs.Turn.{accepted}
-use Rattle.rb_world.specs.Plain.{Kept, plain_acts, plain_moves, plain_runs, plain_stepped, plain_steps, when}
+use Rattle.rb_base.specs.declared.kept.Kept.{Kept}
+use Rattle.rb_world.specs.Plain.{plain_acts, plain_moves, plain_runs, plain_stepped, plain_steps, when}
 use Rattle.rb_world.proofs.TurnFacts.{IsReady, ToSend, ToReceive, ToReceiveIfThere, ToStart, ToAct, StepsAt, alternate_for}
 use Rattle.rb_world.proofs.Erasing.ErasableKinds.{Nothing, Parts, whole, plain, IsErasable, LeavesAlone, SameMail}
 use Rattle.rb_world.proofs.Erasing.Cuts.{plain_level, plain_levels}

@@ -13,7 +13,8 @@ use Rattle.rb_world.specs.Kind.{Ends, Want, SendsOn, ReceivesOn, MayReceiveOn, S
 use Rattle.rb_world.specs.World.{Level, Process, World, last_of, copy_of}
 use Rattle.rb_world.specs.Channels.{has_room, message_there}
 use Rattle.rb_world.specs.Turn.{Moved, accepted, moved_to, took}
-use Rattle.rb_world.specs.Plain.{Kept, alternates_of, has_alternate, no_alternate, plain_acts, plain_moves, plain_receives, plain_runs, plain_stepped, plain_steps, when}
+use Rattle.rb_base.specs.declared.kept.Kept.{Kept}
+use Rattle.rb_world.specs.Plain.{alternates_of, has_alternate, no_alternate, plain_acts, plain_moves, plain_receives, plain_runs, plain_stepped, plain_steps, when}
 use Rattle.rb_world.proofs.LastLevels.{last_of-map}
 use Rattle.rb_world.proofs.TurnFacts.{IsReady, ToSend, ToReceive, ToReceiveIfThere, ToStart, ToAct, StepsAt, alternate_for}
 use Rattle.rb_world.proofs.Erasing.ErasableKinds.{IsErasable, Nothing, Parts, plain, receives_on, whole}

@@ -4,7 +4,8 @@ use Rattle.std.proofs.Common.{◌≡◌, ◌≤◌, ◌<◌, ◌+◌, ℕ, zero,
 use Rattle.rb_world.specs.Kind.{Kind}
 use Rattle.rb_world.specs.World.{World, change_at}
 use Rattle.rb_world.specs.Turn.{Told}
-use Rattle.rb_world.specs.Plain.{Kept, PlainEnd, Ended, StuckAt, insert_all, insert_kept, plain_on, plain_run, plain_told, plain_turn, survivors_from, survivors_of}
+use Rattle.rb_base.specs.declared.kept.Kept.{Kept}
+use Rattle.rb_world.specs.Plain.{PlainEnd, Ended, StuckAt, insert_all, insert_kept, plain_on, plain_run, plain_told, plain_turn, survivors_from, survivors_of}
 use Rattle.rb_world.specs.Standing.{Each}
 use Rattle.rb_world.specs.Erased.{RisesFrom, Rises}
 use Rattle.rb_world.proofs.Erasing.ErasureInvariant.{AreBefore}

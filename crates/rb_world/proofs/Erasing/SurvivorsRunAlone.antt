@@ -4,7 +4,8 @@ use Rattle.std.proofs.Common.{◌≡◌, ◌+◌, ℕ, zero, suc, true, List, []
 use Rattle.std.proofs.lemmas.Option.{slice_get_past}
 use Rattle.rb_world.specs.World.{Level, Process, World, settled}
 use Rattle.rb_world.specs.Turn.{Told, most_levels, opening, run}
-use Rattle.rb_world.specs.Plain.{Kept, Ended, insert_all, plain_run, survivors_from, survivors_of}
+use Rattle.rb_base.specs.declared.kept.Kept.{Kept}
+use Rattle.rb_world.specs.Plain.{Ended, insert_all, plain_run, survivors_from, survivors_of}
 use Rattle.rb_world.specs.Standing.{Each, IsShallow, is_failed}
 use Rattle.rb_world.specs.Erased.{Rises, numbered, released_in}
 use Rattle.rb_world.proofs.Invariant.{BothBetween}

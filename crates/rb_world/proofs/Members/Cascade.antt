@@ -4,18 +4,14 @@ use Rattle.rb_base.specs.declared.event.Cause.{Cause}
 use Rattle.rb_base.specs.declared.event.Event.{Event}
 use Rattle.rb_base.specs.declared.event.Event.TheVariants.{Reject, RejectAll, Error, Pass, Done}
 use Rattle.rb_world.specs.Kind.{Kind, Membership}
-use Rattle.rb_world.specs.World.{Level, Process, World, is_inside}
+use Rattle.rb_world.specs.World.{Level, Process, World}
 use Rattle.rb_world.specs.Reject.{Happened, next_alternate, parent_of}
 use Rattle.rb_world.specs.Nested.{AreNested, IsLevelOf}
+use Rattle.rb_world.specs.Together.{IsOutside}
 
 -- every process of a world has nested levels
 abbrev pub AllNested : {S C M : Type 0} → Kind S C M → World S C M → Type 0
 AllNested {S} {C} {M} k w = (r : ℕ) (q : Process S C) → slice_get w.processes r ≡ Some q → AreNested k.groups q.levels
-
--- a process is not inside the conversation, if there is one
-abbrev pub IsOutsideOf : {S C : Type 0} → Option ℕ → Process S C → Type 0
-IsOutsideOf None q = Unit {0}
-IsOutsideOf (Some c) q = is_inside c q ≡ false
 
 -- A process in a cascade of p, of whose levels so many are left, and in which `last` was the last conversation to be put back.
 -- Its levels up to there are those that it had, and who was outside that conversation is as it was.
@@ -23,7 +19,7 @@ pub record Now {S C M : Type 0} (p left : ℕ) (last : Option ℕ) (r : ℕ) (q 
   pub now : Process S C
   pub there : slice_get w.processes r ≡ Some now
   pub outer : (i : ℕ) → i < left → slice_get now.levels i ≡ slice_get q.levels i
-  pub same : r ≢ p → IsOutsideOf last q → now ≡ q
+  pub same : r ≢ p → IsOutside last q → now ≡ q
 
 -- No conversation was put back yet, and if no level is left p had none of a conversation; or the last one lies in that of
 -- the next level out.
@@ -56,7 +52,7 @@ pub record EndsIn (c p : ℕ) (events : List Event) : Type 0 where
 
 -- nobody else but who is inside a conversation has changed
 abbrev pub LeavesOthers : {S C M : Type 0} → ℕ → Option ℕ → World S C M → World S C M → Type 0
-LeavesOthers {S} {C} {M} p conversation v later = (r : ℕ) (q : Process S C) → slice_get v.processes r ≡ Some q → r ≢ p → IsOutsideOf conversation q
+LeavesOthers {S} {C} {M} p conversation v later = (r : ℕ) (q : Process S C) → slice_get v.processes r ≡ Some q → r ≢ p → IsOutside conversation q
     → slice_get later.processes r ≡ Some q
 
 -- who had a level of a conversation still has it

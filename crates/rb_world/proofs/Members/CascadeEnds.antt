@@ -9,11 +9,12 @@ use Rattle.rb_world.specs.Kind.{Kind}
 use Rattle.rb_world.specs.World.{Level, Process, World, change_at, is_inside, levels_of, process_levels, with_each, with_process}
 use Rattle.rb_world.specs.Reject.{Happened, after_event, all_back, exhausted_next, fallen, fallen_inside, next_alternate, parent_of, private_next, put_back, raised, reject, reject_at, reject_either, together_next, where_inside}
 use Rattle.rb_world.specs.Nested.{AreNested, HasOutside, IsLevelOf}
+use Rattle.rb_world.specs.Together.{IsOutside}
 use Rattle.rb_world.proofs.TurnFacts.{all_broken, all_next, all_spent}
 use Rattle.rb_world.proofs.ListFacts.{none_some, slice_get-change_at, slice_get-change_other, nothing_within}
 use Rattle.rb_world.proofs.LevelFacts.{any_level}
 use Rattle.rb_world.proofs.Members.PlaceFacts.{conversation_out, not_of}
-use Rattle.rb_world.proofs.Members.Cascade.{AllBack, AllFallen, AllNested, Alone, AreBackAt, EndsIn, Ends, HasCome, HaveFallen, IsLast, IsOutsideOf, KeepsTalks, LeavesOthers, NoneYet, Now, OneBefore}
+use Rattle.rb_world.proofs.Members.Cascade.{AllBack, AllFallen, AllNested, Alone, AreBackAt, EndsIn, Ends, HasCome, HaveFallen, IsLast, KeepsTalks, LeavesOthers, NoneYet, Now, OneBefore}
 use Rattle.rb_world.proofs.Members.CascadeSteps.{InsideIt, OutsideIt, Place, changed_inside, inside_parent, is_back, place, place_found, private_come, put_back_outer, stays_outside, together_come}
 
 -- what is looked up after two changes of each element
@@ -63,7 +64,7 @@ module _ {S C M : Type 0} (k : Kind S C M) (p : ℕ) (u : Process S C) (v : Worl
   others_stay last left w f come none r q here other outside =
       let n : Now p left last r q w = come.each r q here in
       slice_get-change_other p f w.processes r other
-      ∙ (n.there ∙ ap Some (n.same other (subst (λ (o : Option ℕ). IsOutsideOf o q) (sym none) tt)))
+      ∙ (n.there ∙ ap Some (n.same other (subst (λ (o : Option ℕ). IsOutside o q) (sym none) tt)))
 
   -- no level is left
   falls-ends : (cause : Cause) (last : Option ℕ) (w : World S C M) → HasCome k p u v 0 last w → IsLast k.groups u.levels 0 last

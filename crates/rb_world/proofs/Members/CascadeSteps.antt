@@ -6,12 +6,13 @@ use Rattle.rb_world.specs.Kind.{Kind, Membership}
 use Rattle.rb_world.specs.World.{Level, Process, World, change_at, is_inside, is_of, with_process}
 use Rattle.rb_world.specs.Reject.{at_place, back_to, next_alternate, parent_of, put_back, raised, where_inside}
 use Rattle.rb_world.specs.Nested.{AreNested, HasOutside, IsLevelOf}
+use Rattle.rb_world.specs.Together.{IsOutside}
 use Rattle.rb_world.proofs.TurnFacts.{all_spent}
 use Rattle.rb_world.proofs.ListFacts.{length-change_at, slice_get-change_at, some_same, slice_get-change_other}
 use Rattle.rb_world.proofs.NestedSame.{same_number}
 use Rattle.rb_world.proofs.LevelFacts.{any_level, one_conversation}
 use Rattle.rb_world.proofs.Members.PlaceFacts.{inside_level, length-take_to, of_passes, passes_of, position_first, position_none, slice_get-take}
-use Rattle.rb_world.proofs.Members.Cascade.{AllNested, HasCome, IsBackAt, IsLast, IsOutsideOf, NoneYet, Now, OneBefore}
+use Rattle.rb_world.proofs.Members.Cascade.{AllNested, HasCome, IsBackAt, IsLast, NoneYet, Now, OneBefore}
 
 -- levels that agree with nested ones as far as a conversation's level have it as their first of the conversation
 not_before : {C : Type 0} (groups : List Membership) (c i j : ℕ) (levels : List (Level C)) (level : Level C)
@@ -97,11 +98,11 @@ module _ {S C M : Type 0} (k : Kind S C M) (p : ℕ) (u : Process S C) (v : Worl
 
   outside_last : (c j : ℕ) (last : Option ℕ) (q : Process S C) → IsLast k.groups u.levels (suc j) last
       → IsLevelOf c u.levels j → AreNested k.groups q.levels
-      → is_inside c q ≡ false → IsOutsideOf last q
-  outside_last c j last q (NoneYet e none) at levels outside = subst (λ (o : Option ℕ). IsOutsideOf o q) (sym e) tt
+      → is_inside c q ≡ false → IsOutside last q
+  outside_last c j last q (NoneYet e none) at levels outside = subst (λ (o : Option ℕ). IsOutside o q) (sym e) tt
   outside_last c j last q (OneBefore b d i e left parent around) at levels outside =
       let same : d ≡ c = one_conversation d c j u.levels (subst (λ (n : ℕ). IsLevelOf d u.levels n) (sym (ap pred left)) around) at in
-      subst (λ (o : Option ℕ). IsOutsideOf o q) (sym e)
+      subst (λ (o : Option ℕ). IsOutside o q) (sym e)
       (not_inside_last b c j q levels (parent ∙ ap Some same) outside (is_inside b q) refl)
 
   place_of : (c j r : ℕ) (last : Option ℕ) (q : Process S C) (w : World S C M) → IsLast k.groups u.levels (suc j) last → IsLevelOf c u.levels j

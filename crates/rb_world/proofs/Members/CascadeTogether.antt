@@ -6,12 +6,13 @@ use Rattle.std.proofs.lemmas.Option.{slice_get_within}
 use Rattle.rb_world.specs.Kind.{Kind}
 use Rattle.rb_world.specs.World.{Process, World, is_inside}
 use Rattle.rb_world.specs.Nested.{IsLevelOf}
+use Rattle.rb_world.specs.Together.{IsEmpty}
 use Rattle.rb_world.proofs.ListFacts.{some_same, slice_get-there}
 use Rattle.rb_world.proofs.NestedSame.{same_number}
 use Rattle.rb_world.proofs.LevelFacts.{any_level}
 use Rattle.rb_world.proofs.Members.PlaceFacts.{PassesAt, any_found, any_none, inside_level, same_around}
 use Rattle.rb_world.proofs.Members.Cascade.{AllNested, LeavesOthers}
-use Rattle.rb_world.proofs.Members.Together.{Carries, IsLeft, Keeps}
+use Rattle.rb_world.proofs.Members.Together.{Carries, Keeps}
 use Rattle.rb_world.proofs.Members.CountedTurns.{carries_same}
 
 -- Where the levels of conversation c stand, and the levels number j of conversation e: in each process with both, that of c is
@@ -128,7 +129,7 @@ module _ {S C M : Type 0} (k : Kind S C M) (p : ℕ) (u : Process S C) (v : Worl
   pub within_left : (c e j r i : ℕ) (q : Process S C) (later : World S C M) → IsLevelOf e u.levels j
       → LeavesOthers p (Some e) v later → LeaveBoth v c e j later
       → slice_get v.processes r ≡ Some q → IsLevelOf c q.levels i → IsLevelOf e q.levels j → j ≤ i
-      → length later.processes ≡ length v.processes → IsLeft c later
+      → length later.processes ≡ length v.processes → IsEmpty c later
   within_left c e j r i q later at others leave here own own' within size s y after =
       let below : s < length later.processes = slice_get_within later.processes s y after in
       let before : (x : Process S C) × (slice_get v.processes s ≡ Some x) = slice_get-there v.processes s (omega arith) in

@@ -7,11 +7,12 @@ use Rattle.rb_world.specs.Kind.{Kind}
 use Rattle.rb_world.specs.World.{Level, Process, World, is_inside, is_of, last_of, levels_of, settled, without_last}
 use Rattle.rb_world.specs.Turn.{all_leave, all_stand, is_last_of, leaves, members_of, passed, stands_at, stands_now, stands_there, turn_used}
 use Rattle.rb_world.specs.Nested.{AreNested, IsLevelOf}
+use Rattle.rb_world.specs.Together.{AllCome, IsEmpty}
 use Rattle.rb_world.proofs.TurnFacts.{RunsAt, come_to_stand}
 use Rattle.rb_world.proofs.ListFacts.{second_holds, slice_get-change_at, some_same, slice_get-change_other}
 use Rattle.rb_world.proofs.Members.PlaceFacts.{inside_level, of_passes, passes_of}
 use Rattle.rb_world.proofs.Members.Outcomes.{counted}
-use Rattle.rb_world.proofs.Members.Together.{AllPass, AllStay, HaveCome, IsLeft, IsOrdered, Together}
+use Rattle.rb_world.proofs.Members.Together.{AllPass, AllStay, IsOrdered, Together}
 use Rattle.rb_world.proofs.Members.CountedTurns.{carries_same, counted_keeps, counted_other, counted_there, keeps_on, level_used, nested_used, own_keeps}
 use Rattle.rb_world.proofs.Members.PassTogether.{LastAt, all_pass, last_at, last_used, leave_keeps, left_not_inside, map_found}
 
@@ -77,7 +78,7 @@ module _ {S C M : Type 0} (k : Kind S C M) (p : ℕ) (q : Process S C) (w : Worl
   left_at c r y all here true stands = last_left c r y here (last_of y.levels) refl (second_holds y.at_line (is_last_of c (last_of y.levels)) stands)
   left_at c r y all here false away = not_standing c r y all here away (is_inside c y) refl
 
-  all_left : (c : ℕ) → all_stand k c stood ≡ true → IsLeft c (all_leave k c stood)
+  all_left : (c : ℕ) → all_stand k c stood ≡ true → IsEmpty c (all_leave k c stood)
   all_left c all r z after =
       let found : (y : Process S C) × (slice_get stood.processes r ≡ Some y) × (leaves k c y ≡ z) =
       map_found (leaves k c) stood.processes r z after in
@@ -85,7 +86,7 @@ module _ {S C M : Type 0} (k : Kind S C M) (p : ℕ) (q : Process S C) (w : Worl
 
   -- all members had come
   have_come : (c : ℕ) (level : Level C) → last_of (turn_used q).levels ≡ Some level → level.facts.conversation ≡ Some c
-      → all_stand k c stood ≡ true → HaveCome k c p w
+      → all_stand k c stood ≡ true → AllCome k c p w
   have_come c level last of_c all =
       let end : LastAt (turn_used q).levels level = last_at (turn_used q).levels level last in
       record {

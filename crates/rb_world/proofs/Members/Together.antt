@@ -1,12 +1,13 @@
 -- What is known of a world before a turn in which levels are nested, and what then becomes of the levels of a conversation in the
 -- turn: of all that are inside at once.
-use Rattle.std.specs.Prelude.{◌≡◌, ◌≢◌, ℕ, suc, nat_eq, true, false, List, [], ◌∷◌, length, slice_get, Some, None}
+use Rattle.std.specs.Prelude.{◌≡◌, ℕ, suc, nat_eq, true, false, List, [], ◌∷◌, length, slice_get, Some, None}
 use Rattle.std.specs.List.{list_any}
 use Rattle.rb_base.specs.declared.event.Event.TheVariants.{Pass}
 use Rattle.rb_world.specs.Kind.{Facts, Kind, Enters}
-use Rattle.rb_world.specs.World.{Level, Process, World, is_inside, last_of, process_levels}
+use Rattle.rb_world.specs.World.{Level, Process, World}
 use Rattle.rb_world.specs.Reject.{next_alternate, parent_of}
-use Rattle.rb_world.specs.Turn.{Moved, freed, is_last_of, members_of, stands_there}
+use Rattle.rb_world.specs.Turn.{Moved, freed, members_of}
+use Rattle.rb_world.specs.Together.{AllCome, IsEmpty}
 use Rattle.rb_world.specs.Standing.{Each}
 use Rattle.rb_world.specs.Nested.{IsLevelOf}
 use Rattle.rb_world.proofs.Members.Cascade.{AllNested, EndsIn}
@@ -36,10 +37,6 @@ abbrev pub Keeps : {S C M : Type 0} → ℕ → World S C M → World S C M → 
 Keeps {S} {C} {M} c w later = (r : ℕ) (q : Process S C) → slice_get w.processes r ≡ Some q
     → (now : Process S C) × (slice_get later.processes r ≡ Some now) × Carries c q.levels now.levels
 
--- nobody is inside a conversation
-abbrev pub IsLeft : {S C M : Type 0} → ℕ → World S C M → Type 0
-IsLeft {S} {C} {M} c w = (r : ℕ) (q : Process S C) → slice_get w.processes r ≡ Some q → is_inside c q ≡ false
-
 -- a process is back at its level number i, which goes on to the next alternate
 pub record IsBack {S C M : Type 0} (k : Kind S C M) (i : ℕ) (level : Level C) (now : Process S C) : Type 0 where
   pub innermost : length now.levels ≡ suc i
@@ -53,15 +50,9 @@ abbrev pub AreBack : {S C M : Type 0} → Kind S C M → ℕ → World S C M →
 AreBack {S} {C} {M} k c w later = (r i : ℕ) (q : Process S C) → slice_get w.processes r ≡ Some q → (at : IsLevelOf c q.levels i)
     → (now : Process S C) × (slice_get later.processes r ≡ Some now) × IsBack k i at.level now
 
--- every other member stands at the line of a conversation, and p, a member, is innermost in it
-pub record HaveCome {S C M : Type 0} (k : Kind S C M) (c p : ℕ) (w : World S C M) : Type 0 where
-  pub others : (m : ℕ) → list_any (nat_eq m) (members_of (slice_get k.groups c)) ≡ true → m ≢ p → stands_there c (slice_get w.processes m) ≡ true
-  pub member : list_any (nat_eq p) (members_of (slice_get k.groups c)) ≡ true
-  pub here : is_last_of c (last_of (process_levels w p)) ≡ true
-
 -- What becomes in a turn of p of the levels of a conversation.
 pub data Together {S C M : Type 0} (k : Kind S C M) (c p : ℕ) (w : World S C M) (moved : Moved S C M) : Type 0 where
   AllStay : Keeps c w moved.world → Together k c p w moved
-  AllPass : (alternate : ℕ) → moved.passes ≡ Pass c alternate ∷ [] → HaveCome k c p w → IsLeft c moved.world → Together k c p w moved
+  AllPass : (alternate : ℕ) → moved.passes ≡ Pass c alternate ∷ [] → AllCome k c p w → IsEmpty c moved.world → Together k c p w moved
   AllGoBack : EndsIn c p moved.rejections → AreBack k c w moved.world → Together k c p w moved
-  AllGoOut : (outer : ℕ) → EndsIn outer p moved.rejections → IsLeft c moved.world → Together k c p w moved
+  AllGoOut : (outer : ℕ) → EndsIn outer p moved.rejections → IsEmpty c moved.world → Together k c p w moved

@@ -10,11 +10,11 @@ use Rattle.rb_code.specs.Plain.{code as plain}
 use Rattle.rb_code.specs.Turn.{want}
 use Rattle.rb_proc.specs.Entries.{entered_process}
 use Rattle.rb_proc.specs.Process.{Seen, kind_of}
+use Rattle.rb_proc.proofs.Leaving.{none_there}
 use Rattle.rb_machine.specs.Moves.{WantsBlock, passes_of}
 use Rattle.rb_machine.specs.Rejections.{changed}
 use Rattle.rb_machine.specs.Worlds.{NoneWaits, memory_of, world_of}
 use Rattle.rb_machine.proofs.Acting.{moved_as}
-use Rattle.rb_machine.proofs.Changed.{no_elements}
 use Rattle.rb_machine.proofs.Entering.{entry_trapped, few_levels, has_failed, has_opened, is_listed, wants_block}
 use Rattle.rb_machine.proofs.KnownHere.{are_quiet, may_reject}
 use Rattle.rb_machine.proofs.QuietProcesses.{waits_at}
@@ -103,7 +103,7 @@ returns-in-None-clause-moved g c facts one there wants =
     record {
       worlds = ap (λ (xs : List Seen). world_of xs c.alternate_for.new.table (memory_of parts.mails.items parts.links.items)) kept ∙ h.world;
       kind = c.without_pass.ensures.kind ∙ h.kind;
-      rejections = no_elements c.args.events.now.items c.requires.none ∙ h.rejections;
+      rejections = none_there c.args.events.now.items c.requires.none ∙ h.rejections;
       passes = ap passes_of c.without_pass.ensures.pass ∙ h.passes;
     }
 
@@ -142,7 +142,7 @@ returns-in-Some-clause-moved g c facts one there wants =
     record {
       worlds = ap (λ (xs : List Seen). world_of xs c.alternate_for.new.table (memory_of parts.mails.items c.open.new.links.items)) kept ∙ h.world;
       kind = c.without_pass-in-Some.ensures.kind ∙ h.kind;
-      rejections = no_elements c.args.events.now.items c.requires.none ∙ h.rejections;
+      rejections = none_there c.args.events.now.items c.requires.none ∙ h.rejections;
       passes = ap passes_of c.without_pass-in-Some.ensures.pass ∙ h.passes;
     }
 

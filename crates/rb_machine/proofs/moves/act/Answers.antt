@@ -5,12 +5,12 @@ use Rattle.rb_world.specs.Kind.{Enters}
 use Rattle.rb_code.specs.Plain.{code as plain}
 use Rattle.rb_code.specs.Turn.{want}
 use Rattle.rb_proc.specs.Process.{Seen}
+use Rattle.rb_proc.proofs.Leaving.{none_there}
 use Rattle.rb_machine.specs.Channels.{AreNumbered}
 use Rattle.rb_machine.specs.Moves.{IsEntryReady, IsReadyAt, ReceivesThere, WantsThere, passes_of, world}
 use Rattle.rb_machine.specs.Work.{is_kept}
 use Rattle.rb_machine.specs.Worlds.{kind_with, memory_of}
 use Rattle.rb_machine.proofs.Acting.{entry_enters, moved_as}
-use Rattle.rb_machine.proofs.Changed.{no_elements}
 use Rattle.rb_machine.proofs.Entering.{wants_block}
 use Rattle.rb_machine.proofs.MoveWork.{looks_stepping, looks_unkept, pays_entry, pays_step, pays_waiting}
 use Rattle.rb_machine.proofs.KnownNumbers.{numbered_at_work}
@@ -70,7 +70,7 @@ returns-in-Idle-clause-moved g c one there =
     (record {
       worlds = refl;
       kind = c.without_pass.ensures.kind;
-      rejections = no_elements c.args.events.now.items c.requires.none;
+      rejections = none_there c.args.events.now.items c.requires.none;
       passes = ap passes_of c.without_pass.ensures.pass;
     })
 
@@ -84,7 +84,7 @@ returns-in-Waits-clause-moved g c one there =
     (record {
       worlds = refl;
       kind = c.without_pass-in-Waits.ensures.kind;
-      rejections = no_elements c.args.events.now.items c.requires.none;
+      rejections = none_there c.args.events.now.items c.requires.none;
       passes = ap passes_of c.without_pass-in-Waits.ensures.pass;
     })
 

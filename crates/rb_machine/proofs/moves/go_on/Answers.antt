@@ -7,10 +7,10 @@ use Rattle.rb_world.proofs.Members.Outcomes.{position_within}
 use Rattle.rb_code.specs.Plain.{code as plain}
 use Rattle.rb_conv.specs.Conversations.{memberships}
 use Rattle.rb_proc.specs.Process.{Seen}
+use Rattle.rb_proc.proofs.Leaving.{none_there}
 use Rattle.rb_machine.specs.Moves.{passes_of, world}
 use Rattle.rb_machine.specs.Worlds.{kind_with, memory_of}
 use Rattle.rb_machine.proofs.Acting.{moved_as}
-use Rattle.rb_machine.proofs.Changed.{no_elements}
 use Rattle.rb_machine.proofs.KnownHere.{are_quiet, may_reject, process_there}
 use Rattle.rb_machine.proofs.MoveWork.{named_away, pays_rest, pays_same, pays_undoing}
 use Rattle.rb_machine.proofs.TurnsTaken.{away_acts, line_waits, overrun_rejects}
@@ -79,7 +79,7 @@ returns-in-None-clause-moved g c one there =
     (record {
       worlds = refl;
       kind = c.without_pass.ensures.kind;
-      rejections = no_elements c.args.events.now.items c.requires.none;
+      rejections = none_there c.args.events.now.items c.requires.none;
       passes = ap passes_of c.without_pass.ensures.pass;
     })
 

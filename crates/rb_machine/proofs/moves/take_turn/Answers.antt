@@ -5,12 +5,12 @@ use Rattle.rb_world.proofs.ListFacts.{some_same}
 use Rattle.rb_code.specs.Plain.{code as plain}
 use Rattle.rb_conv.specs.Conversations.{memberships}
 use Rattle.rb_proc.specs.Process.{Seen}
+use Rattle.rb_proc.proofs.Leaving.{none_there}
 use Rattle.rb_world.specs.Turn.{move}
 use Rattle.rb_machine.specs.Moves.{passes_of, world}
 use Rattle.rb_machine.specs.Turns.{runs_there}
 use Rattle.rb_machine.specs.Worlds.{kind_with, processes_of}
 use Rattle.rb_machine.proofs.Acting.{moved_as}
-use Rattle.rb_machine.proofs.Changed.{no_elements}
 use Rattle.rb_machine.proofs.KnownHere.{process_there}
 use Rattle.rb_machine.proofs.MoveWork.{pays_more, pays_move, running_moves}
 use Rattle.rb_machine.proofs.TurnsTaken.{rests, running_there, runs_counted}
@@ -52,7 +52,7 @@ returns-else-is_running-clause-moved g c =
     (record {
       worlds = refl;
       kind = c.without_pass.ensures.kind;
-      rejections = no_elements c.args.events.now.items c.requires.none;
+      rejections = none_there c.args.events.now.items c.requires.none;
       passes = ap passes_of c.without_pass.ensures.pass;
     })
 

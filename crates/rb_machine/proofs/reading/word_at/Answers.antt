@@ -1,21 +1,21 @@
 use Rattle.std.proofs.Common.{◌<◌, ℤ, List, length, slice_get, Some, ap, sym, subst, ◌∙◌, rules, w64}
 use Rattle.std.proofs.lemmas.Int.{to_z-of_z}
+use Rattle.rb_scope.proofs.Long.{got}
 use Rattle.rb_code.specs.Plain.{code as plain}
 use Rattle.rb_machine.proofs.ReadAt.{variables_there, with_variables}
-use Rattle.rb_machine.proofs.RoomsAndMessages.{lent}
 use Rattle.rb_machine.proofs.reading.word_at.Goals as goal
 
 pub word-requires-clause-at : goal.word-requires-clause-at
 word-requires-clause-at g c =
     let code = plain c.args.code.now in
     let within = with_variables code c.args.procs.now c.args.p c.args.at c.requires.at in
-    let there = lent c.args.procs.now c.args.p c.index-procs-p.result within c.index-procs-p.is in
+    let there = got c.args.procs.now c.args.p c.index-procs-p.result within c.index-procs-p.is in
     subst (λ (words : List ℤ). c.args.at < length words) (variables_there code c.args.procs.now c.args.p c.index-procs-p.result there) c.requires.at
 
 pub returns-clause-word : goal.returns-clause-word
 returns-clause-word g c =
     let code = plain c.args.code.now in
     let within = with_variables code c.args.procs.now c.args.p c.args.at c.requires.at in
-    let there = lent c.args.procs.now c.args.p c.index-procs-p.result within c.index-procs-p.is in
+    let there = got c.args.procs.now c.args.p c.index-procs-p.result within c.index-procs-p.is in
     ap (λ (words : List ℤ). slice_get words c.args.at) (variables_there code c.args.procs.now c.args.p c.index-procs-p.result there)
     ∙ c.word.ensures.word ∙ ap Some (sym (to_z-of_z w64 c.word.result (search rules)))

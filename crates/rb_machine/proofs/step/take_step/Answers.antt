@@ -6,9 +6,9 @@ use Rattle.rb_code.specs.Plain.{code as plain}
 use Rattle.rb_proc.specs.Process.{Seen}
 use Rattle.rb_proc.specs.Sees.{AreSized}
 use Rattle.rb_proc.specs.declared.answers.Outcome.TheVariants as outcome
+use Rattle.rb_proc.proofs.Leaving.{none_there}
 use Rattle.rb_world.proofs.ListFacts.{slice_get-there}
 use Rattle.rb_machine.specs.Worlds.{NoneWaits, memory_of}
-use Rattle.rb_machine.proofs.Changed.{no_elements}
 use Rattle.rb_machine.proofs.InnermostLevel.{alternate_known}
 use Rattle.rb_machine.proofs.StepTaken.{AtStep}
 use Rattle.rb_machine.proofs.StepTaken as step
@@ -145,7 +145,7 @@ returns-in-Trap-clause-moved g c = λ one here.
     let comes = step.comes_as _ c.reject.new.procs c.reject.new.table _ c.step_one.new.mails parts.links.items _ _ None _ final mails
     (step.trap_comes at one here c.step_one.new.mails c.step_one.new.procs c.deref_mut-in-Trap.result.now c.in-Trap.cause stepping
     (c.deref_mut-in-Trap.ensures.value ∙ items) c.reject.new.procs c.reject.new.table c.args.events.now.items c.reject.new.events.items
-    c.levels-left.result (no_elements c.args.events.now.items c.requires.none) left
+    c.levels-left.result (none_there c.args.events.now.items c.requires.none) left
     (c.reject.ensures.happened (plain c.args.code.now) (memory_of c.step_one.new.mails parts.links.items))) in
     record { worlds = comes.0; kind = comes.1; rejections = comes.2; passes = comes.3 }
 
@@ -184,7 +184,7 @@ returns-in-Went-clause-moved g c = λ one here.
     let comes = step.comes_as _ c.keep_turn.new.procs parts.table _ c.step_one.new.mails c.keep_turn.new.links.items _ _ None _ final mails
     (step.went_comes at one here c.step_one.new.mails c.step_one.new.procs stepping c.deref_mut-in-Went.result.now c.keep_turn.new.procs
     c.keep_turn.new.links.items c.args.events.now.items c.index.result.now c.started-alternate.result
-    (no_elements c.args.events.now.items c.requires.none) (c.deref_mut-in-Went.ensures.value ∙ items) c.keep_turn.ensures.processes c.index.ensures
+    (none_there c.args.events.now.items c.requires.none) (c.deref_mut-in-Went.ensures.value ∙ items) c.keep_turn.ensures.processes c.index.ensures
     (alternate_known (plain c.args.code.now) parts.procs.items c.args.p c.index.result.now c.args.wanted c.started-alternate.result
     c.requires.process c.index.ensures c.requires.wanted c.started-alternate.ensures) c.keep_turn.ensures.links) in
     record { worlds = comes.0; kind = comes.1; rejections = comes.2; passes = comes.3 }
@@ -224,7 +224,7 @@ returns-in-Accepts-clause-moved g c = λ one here.
     (step.held_comes at one here c.step_one.new.mails c.step_one.new.procs c.deref_mut-in-Accepts.result.now c.keep_turn-in-Accepts.new.procs
     c.deref_mut-in-Accepts-2.result.now stepping (c.deref_mut-in-Accepts.ensures.value ∙ items) c.keep_turn-in-Accepts.ensures.processes
     (c.deref_mut-in-Accepts-2.ensures.value ∙ kept) c.accept-pass.new.procs c.accept-pass.new.table c.keep_turn-in-Accepts.new.links.items
-    c.args.events.now.items c.accept-pass.result c.index.result.now c.started-alternate.result (no_elements c.args.events.now.items c.requires.none)
+    c.args.events.now.items c.accept-pass.result c.index.result.now c.started-alternate.result (none_there c.args.events.now.items c.requires.none)
     c.index.ensures (alternate_known (plain c.args.code.now) parts.procs.items c.args.p c.index.result.now c.args.wanted c.started-alternate.result
     c.requires.process c.index.ensures c.requires.wanted c.started-alternate.ensures) c.keep_turn-in-Accepts.ensures.links
     (λ y memory e. c.accept-pass.ensures.taken y memory e)) in
@@ -243,7 +243,7 @@ returns-in-Trap-clause-work g c = λ one here.
     c.deref_mut.ensures.value c.deref_mut-2.ensures.value c.step_one.ensures.work in
     work.trap_work at one here c.step_one.new.mails c.step_one.new.procs c.deref_mut-in-Trap.result.now c.in-Trap.cause stepping
     (c.deref_mut-in-Trap.ensures.value ∙ items) c.reject.new.procs _ c.args.events.now.items c.reject.new.events.items c.args.steps.now
-    c.step_one.new.steps c.reject.new.steps (no_elements c.args.events.now.items c.requires.none) final counted c.reject.ensures.work
+    c.step_one.new.steps c.reject.new.steps (none_there c.args.events.now.items c.requires.none) final counted c.reject.ensures.work
 
 pub returns-in-Went-clause-work : goal.returns-in-Went-clause-work
 returns-in-Went-clause-work g c = λ one here.

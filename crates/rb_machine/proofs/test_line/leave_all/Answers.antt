@@ -1,11 +1,12 @@
 use Rattle.std.proofs.Common.{◌≡◌, [], ap, sym, ◌∙◌, subst, get_or}
 use Rattle.std.proofs.lemmas.Option.{slice_get-get_or}
+use Rattle.rb_scope.proofs.EachSite.{all_at}
 use Rattle.rb_code.specs.Plain.{code as plain}
 use Rattle.rb_conv.proofs.Places.{one_more}
 use Rattle.rb_proc.specs.Process.{Seen}
 use Rattle.rb_machine.specs.Stepping.{MayLeave, line_left}
 use Rattle.rb_machine.specs.Work.{named_by_member}
-use Rattle.rb_machine.proofs.Changed.{all_there, rest_there}
+use Rattle.rb_machine.proofs.Changed.{rest_there}
 use Rattle.rb_machine.proofs.LineWork.{all_named, one_more_named}
 use Rattle.rb_machine.proofs.test_line.leave_all.Goals as goal
 
@@ -17,7 +18,7 @@ leave-requires-clause-waits g c =
     let same = rest_there
     (line_left (plain c.args.code.now) c.args.conversation) procs c.loop-proc.procs i x c.loop-proc-test.true c.loop-proc.invariant.left in
     ap (λ (one : Seen). one.waiting) same
-    ∙ all_there (λ (one : Seen). one.waiting ≡ []) procs i (get_or procs i x) c.requires.waits (slice_get-get_or procs i x c.loop-proc-test.true)
+    ∙ all_at (λ (one : Seen). one.waiting ≡ []) procs i (get_or procs i x) c.requires.waits (slice_get-get_or procs i x c.loop-proc-test.true)
 
 pub leave-requires-clause-leave : goal.leave-requires-clause-leave
 leave-requires-clause-leave g c =

@@ -4,11 +4,11 @@ use Rattle.std.proofs.lemmas.List.{with_items_is}
 use Rattle.rb_base.specs.declared.event.Event.{Event}
 use Rattle.rb_world.specs.Reject.{reject}
 use Rattle.rb_proc.specs.Process.{Seen}
+use Rattle.rb_proc.proofs.Leaving.{none_there}
 use Rattle.rb_machine.specs.Cascade.{HasHappened, MayRejectAt}
 use Rattle.rb_machine.specs.Moves.{passes_of, world}
 use Rattle.rb_machine.specs.Work.{levels_put_back, touched_in}
 use Rattle.rb_machine.specs.Worlds.{NoneWaits, kind_with, memory_of, processes_of, world_of}
-use Rattle.rb_machine.proofs.Changed.{no_elements}
 use Rattle.rb_machine.proofs.undone.undo.Goals as goal
 
 pub reject-requires-clause-may : goal.reject-requires-clause-may
@@ -27,7 +27,7 @@ returns-clause-moved g c code =
     record {
       worlds = ap (λ (procs : List Seen). world_of procs c.reject.new.table memory) same ∙ h.world;
       kind = c.without_pass.ensures.kind;
-      rejections = h.told ∙ ap (λ (events : List Event). events ++ (f (world parts)).1) (no_elements c.args.events.now.items c.requires.none);
+      rejections = h.told ∙ ap (λ (events : List Event). events ++ (f (world parts)).1) (none_there c.args.events.now.items c.requires.none);
       passes = ap passes_of c.without_pass.ensures.pass;
     }
 
@@ -48,6 +48,6 @@ returns-clause-work g c =
     let same = with_items_is parts.procs c.reject.new.procs (omega (arith, c.reject.auto.procs, c.deref_mut.ensures.len)) in
     let touched = ap (λ (procs : List Seen). touched_in (processes_of procs)) c.deref_mut.ensures.value in
     let first = ap (λ (procs : List Seen). levels_put_back (processes_of procs) c.args.events.now.items) c.deref_mut.ensures.value in
-    let none = ap (levels_put_back (processes_of parts.procs.items)) (no_elements c.args.events.now.items c.requires.none) in
+    let none = ap (levels_put_back (processes_of parts.procs.items)) (none_there c.args.events.now.items c.requires.none) in
     let then = ap (λ (procs : List Seen). levels_put_back (processes_of procs) c.reject.new.events.items) c.deref_mut.ensures.value in
     rw (c.without_pass.ensures.kind, same) (omega (arith, c.reject.ensures.work))

@@ -1,4 +1,4 @@
-use Rattle.std.proofs.Common.{◌≡◌, ◌∙◌, ◌++◌, Some, Ok, Err, map, ap, refl, sym}
+use Rattle.std.proofs.Common.{◌≡◌, ◌∙◌, ◌++◌, Some, Ok, Err, ap, refl, sym}
 use Rattle.rb_syntax.specs.Plain.{tree}
 use Rattle.rb_trace.specs.Naming.{naming}
 use Rattle.rb_world.specs.Text.{values_text}
@@ -6,7 +6,6 @@ use Rattle.rb_meaning.specs.Meaning.{final_of}
 use Rattle.rb_meaning.specs.PlainRun.{PlainWorld}
 use Rattle.rb_plain.specs.declared.answer.PlainAnswer.TheVariants.{Memory}
 use Rattle.rb_plain.specs.Played.{outs_in, played, unkept_opening, world_in}
-use Rattle.rb_plain.specs.Recorded.{plain_turn}
 use Rattle.rb_plain.specs.Worlds.{world_of}
 use Rattle.rb_plain.proofs.Opening.{opened_named}
 use Rattle.rb_plain.proofs.OwnWords.{ends_lying}
@@ -18,7 +17,7 @@ pub returns-in_err-opened : goal.returns-in_err-opened
 returns-in_err-opened g c =
     let program = tree c.args.program.now in
     let names = c.args.names.now in
-    let turns = map plain_turn c.args.turns.now in
+    let turns = c.args.turns.now in
     let end = played program turns (unkept_opening program) in
     let ends = some_world end c.requires.goes in
     let outs = outs_in (naming names) end in
@@ -41,7 +40,7 @@ pub returns-in_err-play : goal.returns-in_err-play
 returns-in_err-play g c =
     let program = tree c.args.program.now in
     let names = c.args.names.now in
-    let turns = map plain_turn c.args.turns.now in
+    let turns = c.args.turns.now in
     let end = played program turns (unkept_opening program) in
     let same : world_of program c.as_mut_slice-processes.result.now ≡ unkept_opening program =
     ap (world_of program) c.as_mut_slice-processes.ensures.value ∙ c.in_ok-opened.ensures in
@@ -62,7 +61,7 @@ pub write_values-requires-clause-lie : goal.write_values-requires-clause-lie
 write_values-requires-clause-lie g c =
     let program = tree c.args.program.now in
     let names = c.args.names.now in
-    let turns = map plain_turn c.args.turns.now in
+    let turns = c.args.turns.now in
     let end = played program turns (unkept_opening program) in
     let same : world_of program c.as_mut_slice-processes.result.now ≡ unkept_opening program =
     ap (world_of program) c.as_mut_slice-processes.ensures.value ∙ c.in_ok-opened.ensures in
@@ -74,7 +73,7 @@ pub returns : goal.returns
 returns g c =
     let program = tree c.args.program.now in
     let names = c.args.names.now in
-    let turns = map plain_turn c.args.turns.now in
+    let turns = c.args.turns.now in
     let end = played program turns (unkept_opening program) in
     let same : world_of program c.as_mut_slice-processes.result.now ≡ unkept_opening program =
     ap (world_of program) c.as_mut_slice-processes.ensures.value ∙ c.in_ok-opened.ensures in

@@ -1,9 +1,8 @@
-use Rattle.std.proofs.Common.{List, map, subst}
-use Rattle.rb_world.specs.Plain.{Kept}
+use Rattle.std.proofs.Common.{List, subst}
+use Rattle.rb_base.specs.declared.kept.Kept.{Kept}
 use Rattle.rb_syntax.specs.Plain.{tree}
 use Rattle.rb_meaning.specs.PlainRun.{plain_text}
 use Rattle.rb_plain.specs.Played.{Plays}
-use Rattle.rb_plain.specs.Recorded.{plain_turn}
 use Rattle.rb_plain.proofs.WholeText.{rehearsed_plays}
 use Rattle.rb_plain.proofs.plain_run.plain.Goals as goal
 
@@ -14,4 +13,4 @@ returns-in_err-rehearse g c =
     let f = g.S.Sink.faults c.args.out.now in
     subst (λ (turns : List Kept). Plays (plain_text program turns) w w f f c.from_residual.result) c.turns-turns.ensures
     (rehearsed_plays program
-    (map plain_turn c.turns-turns.result.now) w f c.in_err-rehearse.field-0.0 c.from_residual.result c.from_residual.ensures.1 c.in_err-rehearse.ensures)
+    c.turns-turns.result.now w f c.in_err-rehearse.field-0.0 c.from_residual.result c.from_residual.ensures.1 c.in_err-rehearse.ensures)

@@ -1,11 +1,10 @@
-use Rattle.std.proofs.Common.{◌+◌, ◌∙◌, Err, drop, map, refl, sym}
+use Rattle.std.proofs.Common.{◌+◌, ◌∙◌, Err, drop, refl, sym}
 use Rattle.rb_syntax.specs.Plain.{tree}
 use Rattle.rb_trace.specs.Naming.{naming}
 use Rattle.rb_trace.proofs.Written.{written_more, written_part}
 use Rattle.rb_world.specs.Text.{out_lines}
 use Rattle.rb_world.specs.Turn.{freed, freed_lines}
 use Rattle.rb_world.specs.World.{with_each}
-use Rattle.rb_plain.specs.Recorded.{plain_turn}
 use Rattle.rb_plain.specs.Played.{outs_in, played}
 use Rattle.rb_plain.specs.Worlds.{unkept_kind, world_of}
 use Rattle.rb_plain.proofs.TurnsLeft.{outs_next, still_ends, still_stuck, turn_taken, turn_wanting}
@@ -26,7 +25,7 @@ loop-kept-preserved g c =
       goes = sym (still_stuck on) ∙ c.loop-kept.invariant.goes;
       ends = c.loop-kept.invariant.ends ∙ still_ends on;
       text = written_more _ _ (out_lines names _ 0 (freed_lines (unkept_kind program) moved))
-          (outs_in names (played program (map plain_turn (drop (i + 1) turns)) (world_of program c.free_all.new.processes))) _ _ _ _ _ _
+          (outs_in names (played program (drop (i + 1) turns) (world_of program c.free_all.new.processes))) _ _ _ _ _ _
           c.loop-kept.invariant.text (outs_next on names c.loop-kept.invariant.goes) c.in_ok-write_freed.ensures;
     }
 
@@ -53,6 +52,6 @@ returns-in_err-write_freed-clause-text g c =
     moved next c.in_ok-take.ensures refl in
     writes_failed _ _ _ _ _ c.in_err-write_freed.field-0.0 c.from_residual-in_err-write_freed.result c.from_residual-in_err-write_freed.ensures.1
     (written_part _ _ (out_lines names _ 0 (freed_lines (unkept_kind program) moved))
-    (outs_in names (played program (map plain_turn (drop (i + 1) turns)) next)) _ _ _ _ _ _ c.in_err-write_freed.field-0.0
+    (outs_in names (played program (drop (i + 1) turns) next)) _ _ _ _ _ _ c.in_err-write_freed.field-0.0
     (Err c.in_err-write_freed.field-0.0)
     c.loop-kept.invariant.text (outs_next on names c.loop-kept.invariant.goes) c.in_err-write_freed.ensures refl)

@@ -1,8 +1,7 @@
-use Rattle.std.proofs.Common.{◌≡◌, None, drop, map}
+use Rattle.std.proofs.Common.{◌≡◌, None, drop}
 use Rattle.rb_syntax.specs.Plain.{tree}
 use Rattle.rb_trace.specs.Naming.{naming}
 use Rattle.rb_trace.proofs.Written.{Written}
-use Rattle.rb_plain.specs.Recorded.{plain_turn}
 use Rattle.rb_plain.specs.Played.{outs_in, played, stuck_in, world_in}
 use Rattle.rb_plain.specs.Worlds.{world_of}
 use Rattle.rb_plain.proofs.playing.play.Given as goal
@@ -11,8 +10,8 @@ use Rattle.rb_plain.proofs.playing.play.Given as goal
 abbrev pub invariant-loop-kept : goal.invariant-loop-kept
 invariant-loop-kept g l =
     let program = tree l.program in
-    let whole = played program (map plain_turn l.turns) (world_of program l.fn.processes) in
-    let left = played program (map plain_turn (drop l.kept-index l.turns)) (world_of program l.processes) in
+    let whole = played program l.turns (world_of program l.fn.processes) in
+    let left = played program (drop l.kept-index l.turns) (world_of program l.processes) in
     record {
       goes : stuck_in left ≡ None;
       ends : world_in whole ≡ world_in left;

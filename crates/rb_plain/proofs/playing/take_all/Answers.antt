@@ -1,6 +1,5 @@
-use Rattle.std.proofs.Common.{◌∙◌, map}
+use Rattle.std.proofs.Common.{◌∙◌}
 use Rattle.rb_syntax.specs.Plain.{tree}
-use Rattle.rb_plain.specs.Recorded.{plain_turn}
 use Rattle.rb_plain.specs.Played.{played, stuck_in}
 use Rattle.rb_plain.specs.Worlds.{world_of}
 use Rattle.rb_plain.proofs.TurnsLeft.{rehearsed, still_stuck, turn_answered, turn_taken}
@@ -16,7 +15,7 @@ loop-kept-preserved c =
 pub returns-in_err-take : goal.returns-in_err-take
 returns-in_err-take c =
     let program = tree c.args.program.now in
-    let stuck = stuck_in (played program (map plain_turn c.args.turns.now) (world_of program c.args.processes.now)) in
+    let stuck = stuck_in (played program c.args.turns.now (world_of program c.args.processes.now)) in
     rehearsed stuck c.in_err-take.field-0.0 c.from_residual.result c.from_residual.ensures.1
     (turn_answered program c.args.turns.now c.loop-kept.kept-index _ c.loop-kept-test.true (world_of program c.loop-kept.processes)
     stuck (world_of program c.take.new.processes) c.in_err-take.field-0.0 c.loop-kept.invariant c.in_err-take.ensures)

@@ -1,6 +1,5 @@
-use Rattle.std.proofs.Common.{◌≡◌, drop, map}
+use Rattle.std.proofs.Common.{◌≡◌, drop}
 use Rattle.rb_syntax.specs.Plain.{tree}
-use Rattle.rb_plain.specs.Recorded.{plain_turn}
 use Rattle.rb_plain.specs.Played.{played, stuck_in}
 use Rattle.rb_plain.specs.Worlds.{world_of}
 use Rattle.rb_plain.proofs.playing.take_all.Given as goal
@@ -9,5 +8,5 @@ use Rattle.rb_plain.proofs.playing.take_all.Given as goal
 abbrev pub invariant-loop-kept : goal.invariant-loop-kept
 invariant-loop-kept l =
     let program = tree l.program in
-    stuck_in (played program (map plain_turn l.turns) (world_of program l.fn.processes))
-    ≡ stuck_in (played program (map plain_turn (drop l.kept-index l.turns)) (world_of program l.processes))
+    stuck_in (played program l.turns (world_of program l.fn.processes))
+    ≡ stuck_in (played program (drop l.kept-index l.turns) (world_of program l.processes))

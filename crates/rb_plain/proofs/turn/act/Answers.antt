@@ -4,7 +4,6 @@ use Rattle.rb_syntax.specs.Plain.{recovery_block, tree}
 use Rattle.rb_world.specs.World.{settled}
 use Rattle.rb_walk.specs.Items.{IsFirst}
 use Rattle.rb_plain.specs.Moves.{started_by}
-use Rattle.rb_plain.specs.Recorded.{plain_turn}
 use Rattle.rb_walk.specs.States.{state_of}
 use Rattle.rb_plain.specs.Worlds.{process_of, unkept_kind, world_of}
 use Rattle.rb_plain.proofs.ActedWorlds.{ended, end_given, starts}
@@ -16,9 +15,9 @@ returns-in-Start c = λ one there.
     let plain = tree c.args.program.now in
     let processes = c.args.processes.now in
     let block = recovery_block c.in-Start.block.now in
-    moved_there plain (plain_turn c.args.kept) processes one c.index-processes-p.result there (started_by plain (plain_turn c.args.kept) block)
+    moved_there plain c.args.kept processes one c.index-processes-p.result there (started_by plain c.args.kept block)
     c.start.new.self c.start.result
-    (starts plain (plain_turn c.args.kept) (process_of one) (world_of plain processes) block
+    (starts plain c.args.kept (process_of one) (world_of plain processes) block
     (subst (IsFirst (state_of one.state).items) c.in-Start.is (c.requires.first one there).1))
     c.start.ensures
 
@@ -26,7 +25,7 @@ pub returns-in-BlockEnd : goal.returns-in-BlockEnd
 returns-in-BlockEnd c = λ one there.
     let plain = tree c.args.program.now in
     let processes = c.args.processes.now in
-    let kept = plain_turn c.args.kept in
+    let kept = c.args.kept in
     moved_there {A = Unit {0}} plain kept processes one c.index-processes-p-in-BlockEnd.result there
     (λ q. Some (settled (unkept_kind plain) q.state q.levels)) c.settle.new.self (Ok tt)
     (ended plain kept (process_of one) (world_of plain processes)

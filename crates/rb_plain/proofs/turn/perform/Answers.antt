@@ -3,7 +3,6 @@ use Rattle.std.proofs.Common.{None, not, get_or, ap, sym, ◌∙◌}
 use Rattle.std.proofs.lemmas.Option.{slice_get-get_or}
 use Rattle.rb_syntax.specs.Plain.{command, recovery_block, tree}
 use Rattle.rb_plain.specs.Moves.{entered_by, performed_by}
-use Rattle.rb_plain.specs.Recorded.{plain_turn}
 use Rattle.rb_plain.specs.Worlds.{process_of, world_of}
 use Rattle.rb_plain.proofs.ActedWorlds.{acts, enters, may_receive, receives, sends}
 use Rattle.rb_plain.proofs.MovedProcesses.{moved_there}
@@ -38,8 +37,8 @@ returns-in-Level c = λ one there.
     let plain = tree c.args.program.now in
     let processes = c.args.processes.now in
     let block = recovery_block c.in-Level.block.now in
-    moved_there plain (plain_turn c.args.kept) processes one c.index-processes-p.result there (entered_by plain block) c.enter.new.self c.enter.result
-    (enters plain (plain_turn c.args.kept) (process_of one) (world_of plain processes) c.requires.alternate (command c.args.statement.now)
+    moved_there plain c.args.kept processes one c.index-processes-p.result there (entered_by plain block) c.enter.new.self c.enter.result
+    (enters plain c.args.kept (process_of one) (world_of plain processes) c.requires.alternate (command c.args.statement.now)
     (c.requires.first one there).1 block c.in-Level.ensures)
     c.enter.ensures
 
@@ -48,9 +47,9 @@ returns-in-Nothing c = λ one there.
     let plain = tree c.args.program.now in
     let processes = c.args.processes.now in
     let statement = command c.args.statement.now in
-    moved_there plain (plain_turn c.args.kept) processes one c.index-processes-p-in-Nothing.result there (performed_by plain None statement)
+    moved_there plain c.args.kept processes one c.index-processes-p-in-Nothing.result there (performed_by plain None statement)
     c.perform.new.self c.perform.result
-    (acts plain (plain_turn c.args.kept) (process_of one) (world_of plain processes) c.requires.alternate statement
+    (acts plain c.args.kept (process_of one) (world_of plain processes) c.requires.alternate statement
     (c.requires.first one there).1 c.in-Nothing.ensures)
     c.perform.ensures
 
@@ -59,9 +58,9 @@ returns-then-has_room c = λ one there.
     let plain = tree c.args.program.now in
     let processes = c.args.processes.now in
     let statement = command c.args.statement.now in
-    moved_there plain (plain_turn c.args.kept) processes one c.index-processes-p-then-has_room.result there (performed_by plain None statement)
+    moved_there plain c.args.kept processes one c.index-processes-p-then-has_room.result there (performed_by plain None statement)
     c.perform-then-has_room.new.self c.perform-then-has_room.result
-    (sends plain (plain_turn c.args.kept) (process_of one) (world_of plain processes) c.requires.alternate statement
+    (sends plain c.args.kept (process_of one) (world_of plain processes) c.requires.alternate statement
     (c.requires.first one there).1 c.in-Room.channel c.in-Room.ensures (sym c.has_room.ensures ∙ c.if-has_room.true))
     c.perform-then-has_room.ensures
 
@@ -70,10 +69,10 @@ returns-in-MessageOrElse c = λ one there.
     let plain = tree c.args.program.now in
     let processes = c.args.processes.now in
     let statement = command c.args.statement.now in
-    moved_there plain (plain_turn c.args.kept) processes one c.index-processes-p-in-MessageOrElse.result there
+    moved_there plain c.args.kept processes one c.index-processes-p-in-MessageOrElse.result there
     (performed_by plain c.message_there-message-in-MessageOrElse.result statement)
     c.perform-in-MessageOrElse.new.self c.perform-in-MessageOrElse.result
-    (may_receive plain (plain_turn c.args.kept) (process_of one) (world_of plain processes) c.requires.alternate statement
+    (may_receive plain c.args.kept (process_of one) (world_of plain processes) c.requires.alternate statement
     (c.requires.first one there).1 c.in-MessageOrElse.channel c.message_there-message-in-MessageOrElse.result c.in-MessageOrElse.ensures c.message_there-message-in-MessageOrElse.ensures)
     c.perform-in-MessageOrElse.ensures
 
@@ -82,10 +81,10 @@ returns-else-is_none c = λ one there.
     let plain = tree c.args.program.now in
     let processes = c.args.processes.now in
     let statement = command c.args.statement.now in
-    moved_there plain (plain_turn c.args.kept) processes one c.index-processes-p-in-Message.result there
+    moved_there plain c.args.kept processes one c.index-processes-p-in-Message.result there
     (performed_by plain c.message_there-message.result statement)
     c.perform-in-Message.new.self c.perform-in-Message.result
-    (receives plain (plain_turn c.args.kept) (process_of one) (world_of plain processes) c.requires.alternate statement
+    (receives plain c.args.kept (process_of one) (world_of plain processes) c.requires.alternate statement
     (c.requires.first one there).1 c.in-Message.channel c.message_there-message.result c.in-Message.ensures c.message_there-message.ensures
     (c.is_none.ensures ∙ ap not c.if-is_none.false))
     c.perform-in-Message.ensures

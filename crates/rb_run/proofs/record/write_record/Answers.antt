@@ -1,8 +1,7 @@
 -- A record is gathered line by line.
-use Rattle.rb_outside.proofs.Puts.{puts_same}
 use Rattle.rb_trace.specs.Naming.{naming}
 use Rattle.rb_run.proofs.Gathered.{gathers_all, gathers_next, gathered_part, gathered_whole}
-use Rattle.rb_run.proofs.Recorded.{line_of_kept, lines_of_kept}
+use Rattle.rb_run.proofs.Recorded.{line_of_kept}
 use Rattle.rb_run.proofs.record.write_record.Goals as goal
 
 pub loop-turn-init : goal.loop-turn-init
@@ -15,13 +14,11 @@ loop-turn-preserved g c =
 
 pub returns-in_err-add_kept : goal.returns-in_err-add_kept
 returns-in_err-add_kept g c =
-    puts_same _ _ _ _ _ _ _ (lines_of_kept (naming c.args.names.now) c.args.kept.now)
-    (gathered_part (line_of_kept (naming c.args.names.now)) c.args.kept.now _ _ _ _ _ _ _ c.from_residual.result c.from_residual.ensures.0
+    gathered_part (line_of_kept (naming c.args.names.now)) c.args.kept.now _ _ _ _ _ _ _ c.from_residual.result c.from_residual.ensures.0
     (gathers_next (line_of_kept (naming c.args.names.now)) c.args.kept.now c.loop-turn.turn-index _ c.loop-turn-test.true _ _ _ _ _ _ _ _ _ _ _
-    c.loop-turn.invariant c.in_err-add_kept.ensures))
+    c.loop-turn.invariant c.in_err-add_kept.ensures)
 
 pub returns : goal.returns
 returns g c =
-    puts_same _ _ _ _ _ _ _ (lines_of_kept (naming c.args.names.now) c.args.kept.now)
-    (gathered_whole (line_of_kept (naming c.args.names.now)) c.args.kept.now _ _ _ _ _ _ _ _ _ _ _ c.loop-turn-test.false
-    c.loop-turn.invariant c.put.ensures.gathers c.put.ensures.none)
+    gathered_whole (line_of_kept (naming c.args.names.now)) c.args.kept.now _ _ _ _ _ _ _ _ _ _ _ c.loop-turn-test.false
+    c.loop-turn.invariant c.put.ensures.gathers c.put.ensures.none

@@ -1,4 +1,5 @@
-//! The numbers of processes, channels and conversations, each that of the first declaration with the name; an unknown name has the number 0.
+//! The numbers of processes, channels and conversations, each that of the first declaration with the name; an unknown name
+//! has the number 0.
 
 ghost use Rattle.std.specs.Prelude.{◌≡◌, position};
 ghost use Rattle.rb_syntax.specs.Plain.{tree};
@@ -8,7 +9,7 @@ ghost use Rattle.rb_meaning.specs.Groups.{channel_number, conversation_number, p
 use rb_syntax::{Channel, Conversation, Process, Program};
 
 /// The number of a process by its name; 0 where none has it.
-#[tactic(auto, using(crate::proofs::FirstPlaces::position_mapped))]
+#[tactic(auto, using(rb_base::proofs::Named::position_mapped))]
 pub fn process_number(program: &Program<'_>, name: &[u8]) -> usize
     ensures { result ≡ process_number (tree program.now) name.now }
 {
@@ -22,7 +23,7 @@ fn process_place(processes: &[Process<'_>], name: &[u8]) -> Option<usize>
 }
 
 /// The number of a channel by its name; 0 where none has it.
-#[tactic(auto, using(crate::proofs::FirstPlaces::position_mapped))]
+#[tactic(auto, using(rb_base::proofs::Named::position_mapped))]
 pub fn channel_number(program: &Program<'_>, name: &[u8]) -> usize
     ensures { result ≡ channel_number (tree program.now) name.now }
 {
@@ -36,7 +37,7 @@ fn channel_place(channels: &[Channel<'_>], name: &[u8]) -> Option<usize>
 }
 
 /// The number of a conversation by its name; 0 where none has it.
-#[tactic(auto, using(crate::proofs::FirstPlaces::position_mapped))]
+#[tactic(auto, using(rb_base::proofs::Named::position_mapped))]
 pub fn conversation_number(program: &Program<'_>, name: &[u8]) -> usize
     ensures { result ≡ conversation_number (tree program.now) name.now }
 {
