@@ -20,6 +20,10 @@ status_number Memory = 5
 abbrev pub no_text : ℕ
 no_text = 6
 
+-- an exit status of the program: that of an answer, or the one where there are no words
+abbrev pub IsExitStatus : ℕ → Type 0
+IsExitStatus number = ((status : Status) × (number ≡ status_number status)) ⊎ (number ≡ no_text)
+
 -- nothing was written to a sink yet, as far as it tells
 abbrev pub IsUnwritten : Option (List ℕ) → Type 0
 IsUnwritten None = Unit {0}

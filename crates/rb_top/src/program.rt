@@ -1,6 +1,6 @@
 //! The program over the words, the files and the output of the host.
-ghost use Rattle.std.specs.Prelude.{◌≡◌};
-ghost use Rattle.rb_top.specs.Ending.{no_text};
+ghost use Rattle.std.specs.Prelude.{◌≡◌, IfErr};
+ghost use Rattle.rb_top.specs.Ending.{IsExitStatus, no_text};
 
 use crate::ending::carry_out;
 use crate::status::Status;
@@ -16,14 +16,18 @@ const NO_TEXT: u8 = 6;
 /// Runs the program on the words of its command line, the files of the host and standard output, and gives its exit
 /// status: that of the command; 5 also where memory is wanting for the words, and 6 where these are no text. A file that
 /// could not be read is named on standard error.
-pub fn run_program<R: Env + Files + Print + Eprint + AllocGlobal>(rt: &R) -> u8 {
+pub fn run_program<R: Env + Files + Print + Eprint + AllocGlobal>(rt: &R) -> u8
+    ensures { IsExitStatus result }
+{
     match words_given(rt) {
         Ok(words) => carried(rt, &words),
         Err(number) => number,
     }
 }
 
-fn words_given<R: Env + AllocGlobal>(rt: &R) -> Result<Words, u8> {
+fn words_given<R: Env + AllocGlobal>(rt: &R) -> Result<Words, u8>
+    ensures { IfErr result IsExitStatus }
+{
     match env::args(rt) {
         Ok(given) => match Words::after_name(rt.alloc(), given) {
             Ok(words) => Ok(words),
@@ -35,6 +39,7 @@ fn words_given<R: Env + AllocGlobal>(rt: &R) -> Result<Words, u8> {
 
 // The exit status where the system gives no words: for want of memory, or since they are no text.
 fn number_without_words(kind: ErrorKind) -> u8
+    ensures status { IsExitStatus result }
     ensures memory { kind ≡ ErrorKind.OutOfMemory → result ≡ 5 }
     ensures others { (kind ≡ ErrorKind.OutOfMemory → ⊥) → result ≡ no_text }
 {
@@ -45,7 +50,9 @@ fn number_without_words(kind: ErrorKind) -> u8
     }
 }
 
-fn carried<R: Files + Print + Eprint + AllocGlobal>(rt: &R, words: &Words) -> u8 {
+fn carried<R: Files + Print + Eprint + AllocGlobal>(rt: &R, words: &Words) -> u8
+    ensures { IsExitStatus result }
+{
     let mut shelf = HostShelf::new(rt);
     let carried = carry_out(rt.alloc(), words, &mut shelf, HostSink::new(rt));
     if carried.number == Status::ReadFault.number() {
