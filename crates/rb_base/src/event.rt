@@ -120,7 +120,7 @@ pub enum TurnKind {
 #[derive(Debug, Drop)]
 pub struct Report {
     pub kind: TurnKind,
-    pub events: ArrayVec<Event, 96>,
+    pub events: ArrayVec<Event, MOST_EVENTS>,
 }
 
 /// How a process stands at the end; a running one with its number of open levels.

@@ -6,6 +6,7 @@ use Rattle.std.proofs.lemmas.Bool.{or_cases, or_left, and_from, and_parts, not_f
 use Rattle.std.proofs.lemmas.List.{take_at, length-take-le}
 use Rattle.std.proofs.lemmas.List.Folds.{list_all-append}
 use Rattle.std.proofs.lemmas.List.Sums.{take_while-cons, prefix_len-le-length}
+use Rattle.rb_base.specs.Reserved.{is_one_of, is_reserved}
 use Rattle.rb_base.specs.declared.edition.Edition.{Edition}
 use Rattle.rb_base.specs.declared.edition.Edition.TheVariants.{First, Second}
 use Rattle.rb_base.specs.declared.limits.TheConstants.{LARGEST_NUMBER, LONGEST_NAME, LONGEST_TEXT}
@@ -14,7 +15,7 @@ use Rattle.rb_lex.specs.declared.token.Kind.{Kind}
 use Rattle.rb_lex.specs.declared.token.Kind.TheVariants.{Number, Text, Mark, Name, Word}
 use Rattle.rb_base.specs.declared.fault.FaultName.{FaultName}
 use Rattle.rb_base.specs.declared.fault.FaultName.TheVariants.{X1, X2, X3, X4, X5}
-use Rattle.rb_lex.specs.Tokens.{Front, Whole, Faulty, is_one_of, is_reserved, one_marks, two_marks, own_marks, name_front, number_front, text_front, mark_front, front}
+use Rattle.rb_lex.specs.Tokens.{Front, Whole, Faulty, one_marks, two_marks, own_marks, name_front, number_front, text_front, mark_front, front}
 use Rattle.rb_lex.specs.Bytes.{is_printable}
 
 -- no byte is LF

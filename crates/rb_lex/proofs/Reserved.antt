@@ -3,7 +3,7 @@ use Rattle.std.proofs.Common.{◌≡◌, ℕ, ◌==◌, nat_eq, Bool, true, fals
 use Rattle.std.specs.List.{list_any}
 use Rattle.std.specs.Cmp.Lexicographic.{pointwise, same_text}
 use Rattle.std.proofs.lemmas.Bool.{false_from_ne_true, eqb-false}
-use Rattle.rb_lex.specs.Tokens.{is_one_of}
+use Rattle.rb_base.specs.Reserved.{is_one_of}
 use Rattle.rb_lex.specs.Cuts.{of_length}
 
 -- words of another length differ from the text

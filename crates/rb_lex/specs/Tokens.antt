@@ -1,8 +1,8 @@
 -- Tokens: how the bytes of a source are cut. Each token is the longest that fits at its start, and between two tokens
 -- there are only blanks and comments.
 use Rattle.std.specs.Prelude.{◌≡◌, ℕ, pos, ◌+◌, ◌==◌, nat_eq, nat_le, nat_lt, Bool, true, false, not, ◌||◌, cond, List, [], ◌∷◌, length, take, drop, take_while, codes}
-use Rattle.std.specs.List.{list_any}
 use Rattle.std.specs.Cmp.Lexicographic.{pointwise}
+use Rattle.rb_base.specs.Reserved.{is_one_of, is_reserved}
 use Rattle.rb_base.specs.declared.edition.Edition.{Edition}
 use Rattle.rb_base.specs.declared.edition.Edition.TheVariants.{First, Second}
 use Rattle.rb_base.specs.declared.limits.TheConstants.{LARGEST_NUMBER, LONGEST_NAME, LONGEST_TEXT}
@@ -20,27 +20,6 @@ pub record Lexeme : Type 0 where
   pub kind : Kind
   pub text : List ℕ
   pub place : Place
-
--- a text is one of these words
-abbrev pub is_one_of : List (List ℕ) → List ℕ → Bool
-is_one_of words text = list_any (λ word. pointwise nat_eq word text) words
-
--- the reserved words of both editions
-abbrev pub common_words : List (List ℕ)
-common_words = codes "all" ∷ codes "and" ∷ codes "by" ∷ codes "call" ∷ codes "channel" ∷ codes "conversation"
-    ∷ codes "converse" ∷ codes "else" ∷ codes "end" ∷ codes "ensure" ∷ codes "error" ∷ codes "fail" ∷ codes "from"
-    ∷ codes "if" ∷ codes "not" ∷ codes "or" ∷ codes "print" ∷ codes "prior" ∷ codes "procedure" ∷ codes "process"
-    ∷ codes "program" ∷ codes "receive" ∷ codes "send" ∷ codes "size" ∷ codes "to" ∷ codes "var" ∷ codes "while"
-    ∷ codes "within" ∷ []
-
--- the words that an edition reserves beside them
-abbrev pub own_words : Edition → List (List ℕ)
-own_words First = []
-own_words Second = codes "edition" ∷ codes "every" ∷ codes "some" ∷ codes "sum" ∷ []
-
--- whether a name is reserved
-abbrev pub is_reserved : Edition → List ℕ → Bool
-is_reserved edition text = is_one_of common_words text || is_one_of (own_words edition) text
 
 -- the marks of two bytes
 abbrev pub two_marks : List (List ℕ)

@@ -1,7 +1,8 @@
 //! Tokens that are marks, of one byte or two.
 
 ghost use Rattle.std.specs.Prelude.{◌≡◌, ◌≤◌, ◌∷◌, [], ◌||◌, ◌&&◌, length, codes};
-ghost use Rattle.rb_lex.specs.Tokens.{is_one_of, mark_front, one_marks, two_marks, own_marks};
+ghost use Rattle.rb_base.specs.Reserved.{is_one_of};
+ghost use Rattle.rb_lex.specs.Tokens.{mark_front, one_marks, two_marks, own_marks};
 ghost use Rattle.rb_lex.specs.Cuts.{front_of, reach_of};
 
 use crate::cut::{Cut, Stop};

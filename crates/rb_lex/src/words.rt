@@ -3,8 +3,9 @@
 ghost use Rattle.std.specs.Prelude.{◌≡◌, ◌≤◌, length, take_while, map, nat_eq};
 ghost use Rattle.std.specs.List.{prefix_len, list_any};
 ghost use Rattle.std.specs.Cmp.Lexicographic.{pointwise};
+ghost use Rattle.rb_base.specs.Reserved.{common_words, is_one_of, is_reserved, own_words};
 ghost use Rattle.rb_base.specs.Bytes.{is_name_byte};
-ghost use Rattle.rb_lex.specs.Tokens.{name_front, is_reserved, is_one_of, common_words, own_words};
+ghost use Rattle.rb_lex.specs.Tokens.{name_front};
 ghost use Rattle.rb_lex.specs.Cuts.{front_of, reach_of, of_length};
 
 use crate::cut::{Cut, Stop};

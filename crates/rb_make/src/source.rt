@@ -2,6 +2,7 @@
 
 ghost use Rattle.std.specs.Prelude.{◌≡◌, ◌-◌, ◌<◌, ◌≤◌, ◌++◌, IfOk, OnOk};
 ghost use Rattle.std.specs.List.{flat_map, range_with_len};
+ghost use Rattle.rb_base.specs.declared.limits.TheConstants.{MOST_PROCESSES_FIRST};
 ghost use Rattle.rb_make.specs.Trial.{beginning, channel_line, conversation_line, ending, first_process, later_alternate, later_primary, later_process, next_member, sends_on, source};
 
 use crate::piece::Piece::{Bytes, Number};
@@ -15,7 +16,7 @@ pub(crate) struct Sizes {
     pub(crate) processes: u64,
     pub(crate) rounds: u64,
     pub(crate) added: u64,
-    ghost few_processes: { (2 ≤ processes) × (processes ≤ 32) },
+    ghost few_processes: { (2 ≤ processes) × (processes ≤ MOST_PROCESSES_FIRST) },
     ghost few_rounds: { rounds ≤ 50 },
 }
 
@@ -45,7 +46,7 @@ fn push_channels(text: &mut Vec<u8>, sizes: Sizes) -> Result<(), Memory>
 
 #[tactic(auto, unfolding(crate::specs::Trial::channel_line))]
 fn push_channel(text: &mut Vec<u8>, process: u64) -> Result<(), Memory>
-    requires { process < 32 }
+    requires { process < MOST_PROCESSES_FIRST }
     ensures { OnOk result (text.new.items ≡ text.old.items ++ channel_line process) }
 {
     push(

@@ -1,5 +1,5 @@
 use Rattle.std.proofs.Common.{ap, sym, ◌∙◌}
-use Rattle.rb_lex.specs.Tokens.{is_one_of, common_words}
+use Rattle.rb_base.specs.Reserved.{common_words, is_one_of}
 use Rattle.rb_lex.proofs.Reserved.{is_one_of-length, list_any-now}
 use Rattle.rb_lex.proofs.words.is_common_word.Goals as goal
 
