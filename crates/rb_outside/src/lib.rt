@@ -4,6 +4,7 @@
 mod answer;
 pub mod buffered;
 mod calls;
+mod earlier;
 mod faults;
 pub mod host;
 pub mod memory_shelf;

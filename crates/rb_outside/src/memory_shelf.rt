@@ -3,36 +3,31 @@
 ghost use Rattle.std.specs.Prelude.{◌≡◌, ◌+◌, ◌-◌, ◌^◌, ◌<◌, ◌≤◌, ◌⊎◌, ◌++◌, [], min, Some, length, take, drop, IfOk, OnOk, OnErr, is_err};
 ghost use Rattle.rb_outside.specs.Outside.{IsMissing, IsOpen, Starts, FailsToStart, Reads, bytes_of, went_well, failed_once, was_missing};
 ghost use Rattle.rb_outside.specs.InMemory.{fails, start_fails, after_call, after_start, counted_as, piece_of, after_piece, uncalled, started_bytes};
-ghost use Rattle.rb_outside.specs.Started.{stored_files, name_at, closed, all_kept, Finds, IsReading};
-ghost use Rattle.std.specs.Prelude.{◌||◌, ◌==◌, None, MatchOption, cond};
-ghost use Rattle.std.specs.Option.{option_map};
-ghost use Rattle.arrayvec.specs.ArrayVec.{array_vec_len};
+ghost use Rattle.rb_outside.specs.Started.{stored_files, name_at, all_kept, Finds, IsReading};
+ghost use Rattle.std.specs.Prelude.{◌||◌, None, MatchOption};
 
 use crate::calls::Calls;
+use crate::earlier::EarlierStarts;
 use crate::{Failed, Shelf};
-use arrayvec::ArrayVec;
 use std::marker::Model;
-
-/// How many starts before the newest one are kept. With the newest, this is how many starts are told.
-const EARLIER: usize = 63;
 
 /// A start: the place of the file in the list, if a file has the name; how many of its bytes were passed; and whether
 /// the start went well.
-#[derive(Clone, Copy, Default)]
-struct Started {
+#[derive(Clone, Copy)]
+pub(crate) struct Started {
     file: Option<usize>,
     passed: usize,
     went: bool,
 }
 
-/// Files that are kept in memory. Its calls are numbered from 0. It keeps 64 starts in a list of its own, so that no call
-/// takes memory: a start after these fails.
+/// Files that are kept in memory. Its calls are numbered from 0. No call takes memory: only the newest start is kept, and
+/// contracts alone see those before it.
 #[derive(Drop)]
 pub struct MemoryShelf {
     files: Vec<(Vec<u8>, Vec<u8>)>,
     calls: Calls,
     newest: Option<Started>,
-    earlier: ArrayVec<Started, EARLIER>,
+    earlier: EarlierStarts,
     most: usize,
 }
 
@@ -49,11 +44,11 @@ impl Model for MemoryShelf {
           files = files;
           calls = s.calls;
           starts =
-              starts_of files s.newest s.earlier.items;
+              starts_of files s.newest s.earlier.starts;
           most = s.most;
         } };
 
-    ghost invariant = { λ s. (0 < s.most) × AreSound (stored_files s.files.items) s.newest s.earlier.items };
+    ghost invariant = { λ s. (0 < s.most) × AreSound (stored_files s.files.items) s.newest s.earlier.starts };
 }
 
 impl MemoryShelf {
@@ -73,7 +68,7 @@ impl MemoryShelf {
             files,
             calls: Calls::new(failing),
             newest: None,
-            earlier: ArrayVec::new(),
+            earlier: EarlierStarts::new(),
             most,
         }
     }
@@ -86,7 +81,7 @@ impl Shelf for MemoryShelf {
 
     ghost starts = { λ s. s.starts };
 
-    /// It fails exactly where its number is listed, no file has the name, or 64 starts were made.
+    /// It fails exactly where its number is listed or no file has the name.
     fn start(&mut self, name: &str) -> Result<(), Failed>
         ensures exact { is_err result ≡ start_fails self.old name.now }
         ensures after { self.new ≡ after_start self.old name.now }
@@ -94,20 +89,20 @@ impl Shelf for MemoryShelf {
         ensures ok { OnOk result (Starts (Some self.old.files) name.now self.old.starts self.new.starts) }
         ensures quiet { OnOk result (self.new.calls.faults ≡ went_well self.old.calls.faults) }
         ensures err { OnErr result
-            (FailsToStart (Some self.old.files) name.now self.old.starts self.new.starts self.old.calls.faults self.new.calls.faults) }
+            (FailsToStart (Some self.old.files) name.now self.old.starts self.new.starts) }
         ensures failed { OnErr result
             ((self.new.calls.faults ≡ failed_once self.old.calls.faults)
             ⊎ (IsMissing (Some self.old.files) name.now × (self.new.calls.faults ≡ was_missing self.old.calls.faults))) }
     {
         let found = find(self.files.as_slice(), name.as_bytes());
-        let cannot = self.calls.next_fails() || self.earlier.is_full();
+        let fails = self.calls.next_fails();
         let started = Started {
             file: found,
             passed: 0,
-            went: !(cannot || found.is_none()),
+            went: !(fails || found.is_none()),
         };
         tell(&mut self.newest, &mut self.earlier, started);
-        count(&mut self.calls, cannot, found.is_none())
+        count(&mut self.calls, fails, found.is_none())
     }
 
     /// It gives as many bytes as fit, within the most that a piece has. It fails exactly where its number is listed.
@@ -154,32 +149,23 @@ fn find(files: &[(Vec<u8>, Vec<u8>)], name: &[u8]) -> Option<usize>
     None
 }
 
-// Keeps a start as the newest. Where no more are kept, it tells that no file is open.
-fn tell(newest: &mut Option<Started>, earlier: &mut ArrayVec<Started, EARLIER>, started: Started)
-    ensures newest { newest.new ≡ cond (array_vec_len earlier.old == 63) (option_map closed newest.old) (Some started) }
-    ensures earlier { earlier.new.items ≡ cond (array_vec_len earlier.old == 63) earlier.old.items (all_kept newest.old earlier.old.items) }
+// Keeps a start as the newest.
+fn tell(newest: &mut Option<Started>, earlier: &mut EarlierStarts, started: Started)
+    ensures newest { newest.new ≡ Some started }
+    ensures earlier { earlier.new.starts ≡ all_kept newest.old earlier.old.starts }
 {
-    if earlier.is_full() {
-        if let Some(start) = *newest {
-            *newest = Some(Started {
-                went: false,
-                ..start
-            });
-        }
-        return;
-    }
     if let Some(start) = *newest {
-        earlier.insert(0, start);
+        *earlier = EarlierStarts::after(earlier, &start);
     }
     *newest = Some(started);
 }
 
 // Counts a start.
-fn count(calls: &mut Calls, cannot: bool, missing: bool) -> Result<(), Failed>
-    ensures exact { is_err result ≡ (cannot || missing) }
-    ensures after { calls.new ≡ after_call (counted_as cannot missing) calls.old }
+fn count(calls: &mut Calls, fails: bool, missing: bool) -> Result<(), Failed>
+    ensures exact { is_err result ≡ (fails || missing) }
+    ensures after { calls.new ≡ after_call (counted_as fails missing) calls.old }
 {
-    if cannot {
+    if fails {
         calls.fault();
         return Err(Failed);
     }
