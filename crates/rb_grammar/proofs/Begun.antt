@@ -10,7 +10,7 @@ use Rattle.rb_grammar.specs.Operators.{operator, comparison, quantifier}
 use Rattle.rb_grammar.specs.Parts.{Part}
 use Rattle.rb_grammar.specs.Plans.{Done, Call}
 use Rattle.rb_grammar.proofs.Reaching.{Reaches, starts}
-use Rattle.rb_grammar.proofs.Starts.{found_fits}
+use Rattle.rb_grammar.proofs.Accepting.Starts.{found_fits}
 use Rattle.rb_syntax.specs.declared.expression.Op.{Op}
 use Rattle.rb_syntax.specs.declared.expression.Quantifier.{Quantifier}
 use Rattle.rb_syntax.specs.Tree.{Linked}

@@ -15,7 +15,7 @@ use Rattle.rb_grammar.specs.Table.{empty, start}
 use Rattle.rb_grammar.specs.Terminals.{terminal_of}
 use Rattle.rb_grammar.proofs.Ahead.{fits-true}
 use Rattle.rb_grammar.proofs.Reaching.{Reaches, by_terminal, exhausts, exit, missed, seen_from, stops_first}
-use Rattle.rb_grammar.proofs.Running.{run_misses, run_start, run_token}
+use Rattle.rb_grammar.proofs.Accepting.Running.{run_misses, run_start, run_token}
 use Rattle.rb_grammar.proofs.Takes.{name_taken}
 use Rattle.rb_syntax.specs.Tree.{Identifier}
 

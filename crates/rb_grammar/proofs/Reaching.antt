@@ -15,7 +15,7 @@ use Rattle.rb_grammar.specs.Parts.{Part}
 use Rattle.rb_grammar.specs.Plans.{Value, Seen, Plan, Done, Token, Call, bind}
 use Rattle.rb_grammar.specs.Reading.{Position, Misses, TakesLast, Exhausts, Stopped, by_form, by_token, by_memory}
 use Rattle.rb_grammar.specs.Table.{begin, start, empty}
-use Rattle.rb_grammar.proofs.Running.{bind-assoc, run_token, run_misses, run_start, run_empty, run_none, run_begin, run_begin_here}
+use Rattle.rb_grammar.proofs.Accepting.Running.{bind-assoc, run_token, run_misses, run_start, run_empty, run_none, run_begin, run_begin_here}
 use Rattle.rb_syntax.specs.Tree.{Tree}
 
 true_not_false : true ≡ false → ⊥

@@ -24,7 +24,7 @@ use Rattle.rb_meaning.specs.Meaning.{TreeWorld, final_of, opening_states, naming
 use Rattle.rb_meaning.specs.PlainRun.{PlainWorld, plain_of, plain_text}
 use Rattle.rb_meaning.specs.Nesting.{IsNested, alternates_of}
 use Rattle.rb_base.specs.declared.event.TheConstants.{MOST_EVENTS}
-use Rattle.rb_base.specs.declared.limits.TheConstants.{MOST_OPEN_LEVELS}
+use Rattle.rb_base.specs.declared.limits.TheConstants.{MOST_OPEN_LEVELS, MOST_PROCESSES_SECOND}
 
 -- the recovery blocks whose start or acceptance test is left, the innermost first
 abbrev pub blocks_left : List Item → List RecoveryBlock
@@ -137,12 +137,12 @@ is_rejection (Error p cause) = false
 is_rejection (Pass c a) = false
 is_rejection (Done p) = false
 
--- A turn makes at most as many rejections as a process may have levels, and of at most 64 processes it tells at most as many events
+-- A turn makes at most as many rejections as a process may have levels, and of no more processes than a program may have it tells at most as many events
 -- as a report has room for.
 abbrev pub FewEvents : Type 0
 FewEvents = (tree : Tree) (turns : List ℕ) (p : ℕ)
     → (length (filter is_rejection (next_turn tree turns p).1.events) ≤ MOST_OPEN_LEVELS)
-    × (length tree.processes ≤ 64 → length (next_turn tree turns p).1.events ≤ MOST_EVENTS)
+    × (length tree.processes ≤ MOST_PROCESSES_SECOND → length (next_turn tree turns p).1.events ≤ MOST_EVENTS)
 
 -- the opening of a program with a slot for each message that its channels have room for
 abbrev pub SlotWorld : Type 0

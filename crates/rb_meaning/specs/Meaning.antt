@@ -4,7 +4,7 @@ use Rattle.std.specs.Prelude.{ℕ, ℤ, pos, ◌+◌, List, [], ◌∷◌, ◌++
 use Rattle.std.specs.Option.{option_map, unwrap_or}
 use Rattle.rb_syntax.specs.Tree.{Declaration, ProcessDeclaration, Tree}
 use Rattle.rb_world.specs.Kind.{Kind, Ends}
-use Rattle.rb_world.specs.World.{Status, Process, World}
+use Rattle.rb_world.specs.World.{ProcessStatus, Process, World}
 use Rattle.rb_world.specs.Turn.{Told, run, opening, told_at_opening}
 use Rattle.rb_base.specs.declared.kept.Kept.{Kept}
 use Rattle.rb_world.specs.Plain.{survivors_of}
@@ -106,7 +106,7 @@ naming_of tree = record {
 }
 
 -- a process's status, and how many levels it has open.
-abbrev pub standing : {S C : Type 0} → Process S C → Status × ℕ
+abbrev pub standing : {S C : Type 0} → Process S C → ProcessStatus × ℕ
 standing q = (q.status, length q.levels)
 
 -- the states of all processes of a world

@@ -17,11 +17,11 @@ use Rattle.rb_grammar.specs.Parts.{Part}
 use Rattle.rb_grammar.specs.Plans.{Done}
 use Rattle.rb_grammar.specs.Reading.{Position, Exhausts, IsNotRead, IsPlaceOf, is_nothing}
 use Rattle.rb_grammar.specs.Verdict.{RefusedFor, bad_token, stray_token, early_end, deep_bracket, HasTree}
-use Rattle.rb_grammar.proofs.Accepted.{accepted_derives}
-use Rattle.rb_grammar.proofs.Counted.{Given, all_given, last_given, few_none, given, is_given}
-use Rattle.rb_grammar.proofs.GoesOn.{EndsIn, refused_left, first_bad_token, ends_too_early, exhausted_goes_on, nothing_goes_on}
+use Rattle.rb_grammar.proofs.Accepting.Accepted.{accepted_derives}
+use Rattle.rb_grammar.proofs.Depth.Counted.{Given, all_given, last_given, few_none, given, is_given}
+use Rattle.rb_grammar.proofs.Stopping.GoesOn.{EndsIn, refused_left, first_bad_token, ends_too_early, exhausted_goes_on, nothing_goes_on}
 use Rattle.rb_grammar.proofs.Reaching.{at_form, at_token}
-use Rattle.rb_grammar.proofs.Running.{run_done, run_too_long}
+use Rattle.rb_grammar.proofs.Accepting.Running.{run_done, run_too_long}
 use Rattle.rb_syntax.specs.Tree.{Tree}
 
 nothing_left : (left : List Lexeme) → is_nothing left ≡ true → left ≡ []

@@ -12,10 +12,10 @@ use Rattle.rb_grammar.specs.Laws.{GoesOn}
 use Rattle.rb_grammar.specs.Machine.{Outcome, Accepted, Refused, run, whole}
 use Rattle.rb_grammar.specs.Verdict.{MayBegin, HasTree, RefusedFor, bad_token, stray_token, early_end, deep_bracket}
 use Rattle.rb_grammar.specs.VerdictLaws.{HasVerdict, HasOneVerdict}
-use Rattle.rb_grammar.proofs.Accepted.{accepted_derives}
-use Rattle.rb_grammar.proofs.Complete.{one_tree}
-use Rattle.rb_grammar.proofs.Counted.{few_before}
-use Rattle.rb_grammar.proofs.GoesOn.{EndsIn, refused_left, ends_too_early}
+use Rattle.rb_grammar.proofs.Accepting.Accepted.{accepted_derives}
+use Rattle.rb_grammar.proofs.Accepting.Complete.{one_tree}
+use Rattle.rb_grammar.proofs.Depth.Counted.{few_before}
+use Rattle.rb_grammar.proofs.Stopping.GoesOn.{EndsIn, refused_left, ends_too_early}
 use Rattle.rb_parse.proofs.Judged.{begins_on, counted, y1_at, tree_by, fault_by, early_by, stray_by}
 use Rattle.rb_parse.proofs.Splits.{Compared, same, shorter, longer, compared}
 use Rattle.rb_syntax.specs.Tree.{Tree}

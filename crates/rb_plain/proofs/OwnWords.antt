@@ -17,7 +17,7 @@ use Rattle.rb_world.specs.Text.{Naming, ProcessNaming}
 use Rattle.rb_base.specs.declared.kept.Kept.{Kept}
 use Rattle.rb_world.specs.Plain.{PlainEnd, Ended, StuckAt}
 use Rattle.rb_world.proofs.ListFacts.{heads_same, none_some, some_same, tails_same}
-use Rattle.rb_world.proofs.PlainInduction.{IsPlainInvariant, Plainly, plain_run-keeps}
+use Rattle.rb_world.proofs.Keeping.PlainInduction.{IsPlainInvariant, Plainly, plain_run-keeps}
 use Rattle.rb_meaning.specs.Environment.{Environment, Frame, frame_of, frame_words, global_words, has, in_running, push_call, push_frame, running_frames, same_name, stored_among, stored_in}
 use Rattle.rb_meaning.specs.Value.{Outcome, is_zero, value}
 use Rattle.rb_meaning.specs.State.{Item, Perform, StartOf, TestOf, EndBlock, EndCall, State, performed, continue_with, with_environment, with_held, settle, settle_items}
@@ -25,7 +25,7 @@ use Rattle.rb_meaning.specs.Step.{Nothing, alternate_number, alternates_in, assi
 use Rattle.rb_meaning.specs.Groups.{channel_number, procedure_named}
 use Rattle.rb_meaning.specs.Meaning.{naming_of, opening_state, opening_states, process_named, variables_named}
 use Rattle.rb_meaning.specs.PlainRun.{EntryPoint, PlainWorld, environment_at}
-use Rattle.rb_meaning.proofs.StepsKeepRules.{EndsIn, StepsTo, either_ends, judged_either, step_ends, then_ends}
+use Rattle.rb_meaning.proofs.Nesting.StepsKeepRules.{EndsIn, StepsTo, either_ends, judged_either, step_ends, then_ends}
 use Rattle.rb_meaning.proofs.NamedVariables.{named_within}
 use Rattle.rb_plain.specs.Worlds.{unkept_kind}
 use Rattle.rb_plain.specs.Played.{ProcessesLie, own_words, played, unkept_opening, world_in}

@@ -12,8 +12,8 @@ use Rattle.rb_world.specs.Turn.{opening}
 use Rattle.rb_world.specs.Text.{Naming, channel_lines, outs_text, value_lines, values_text}
 use Rattle.rb_base.specs.declared.kept.Kept.{Kept}
 use Rattle.rb_world.specs.Plain.{PlainEnd, Ended, StuckAt, plain_run}
-use Rattle.rb_world.proofs.Image.{IsPlainImage, end_image, stepped_image, world_image, process_image}
-use Rattle.rb_world.proofs.ImageRuns.{opening-image, plain_run-image}
+use Rattle.rb_world.proofs.Relating.Image.{IsPlainImage, end_image, stepped_image, world_image, process_image}
+use Rattle.rb_world.proofs.Relating.ImageRuns.{opening-image, plain_run-image}
 use Rattle.rb_meaning.specs.Environment.{Environment, frame_of, global_words, push_call, push_frame}
 use Rattle.rb_meaning.specs.Value.{Outcome, and_then, is_zero, value}
 use Rattle.rb_meaning.specs.State.{Item, Perform, StartOf, TestOf, EndBlock, EndCall, State, performed, continue_with, with_environment, with_held, with_kept}

@@ -3,7 +3,7 @@ use Rattle.std.specs.Prelude.{◌≡◌, ℕ, Bool, true, false, List, map, slic
 use Rattle.rb_syntax.specs.Tree.{Tree, RecoveryBlock, Recovers}
 use Rattle.rb_syntax.specs.Plain.{recovery_block}
 use Rattle.rb_world.specs.Kind.{Facts, Kind}
-use Rattle.rb_world.specs.World.{Level as Open, Status, Running, Finished, Process as Seen}
+use Rattle.rb_world.specs.World.{Level as Open, ProcessStatus, Running, Finished, Process as Seen}
 use Rattle.rb_world.specs.Turn.{opening_talks}
 use Rattle.rb_base.specs.declared.kept.Kept.{Kept}
 use Rattle.rb_world.specs.Plain.{plain_moves}
@@ -44,7 +44,7 @@ level_of level = record {
 }
 
 -- whether a process is done; none fails in a plain run
-abbrev pub status_of : Bool → Status
+abbrev pub status_of : Bool → ProcessStatus
 status_of true = Finished
 status_of false = Running
 

@@ -10,7 +10,7 @@ use Rattle.rb_base.specs.declared.names.Names.{Names}
 use Rattle.rb_base.specs.declared.names.ProcessNames.{ProcessNames}
 use Rattle.rb_base.specs.Lines.{belonging}
 use Rattle.rb_trace.proofs.Waiting.{from_own}
-use Rattle.rb_world.specs.World.{Status, Running, Finished, FailedWith}
+use Rattle.rb_world.specs.World.{ProcessStatus, Running, Finished, FailedWith}
 use Rattle.rb_world.specs.Text.{ProcessNaming, Final, status_words, process_lines, end_text, values_text, line_of, variable_lines, value_lines, channel_lines}
 use Rattle.rb_trace.specs.Naming.{naming, process_naming}
 use Rattle.rb_trace.specs.Lines.{spaced}
@@ -26,12 +26,12 @@ from_found {X} (one ∷ xs) (suc i) x e =
     from_found xs i x e ∙ ap (λ (n : ℕ). x ∷ drop n xs) (add-one i) ∙ ap (λ (n : ℕ). x ∷ drop n (one ∷ xs)) (sym (add-one (suc i)))
 
 -- a status is printed as its state
-words_same : (status : Status × ℕ) → state_words (state_of status) ≡ status_words status
+words_same : (status : ProcessStatus × ℕ) → state_words (state_of status) ≡ status_words status
 words_same (Running, levels) = refl
 words_same (Finished, levels) = refl
 words_same (FailedWith cause, levels) = refl
 
-processes_same : (processes : List ProcessNaming) (statuses : List (Status × ℕ)) (words : List (List ℤ)) →
+processes_same : (processes : List ProcessNaming) (statuses : List (ProcessStatus × ℕ)) (words : List (List ℤ)) →
     processes_text processes (map state_of statuses) words ≡ process_lines processes statuses words
 processes_same [] statuses words = refl
 processes_same (p ∷ ps) [] words = refl

@@ -2,12 +2,12 @@
 use Rattle.std.specs.Prelude.{◌≡◌, ℕ, ◌+◌, ◌*◌, ℤ, List, [], ◌∷◌, ◌++◌, length, map, sum_by}
 use Rattle.rb_base.specs.declared.event.State.{State}
 use Rattle.rb_base.specs.declared.event.State.TheVariants as state
-use Rattle.rb_world.specs.World.{Status, Running, Finished, FailedWith}
+use Rattle.rb_world.specs.World.{ProcessStatus, Running, Finished, FailedWith}
 use Rattle.rb_world.specs.Text.{Naming, ProcessNaming, VariableNaming, Final, line_of, size_of, variable_lines, channel_lines}
 use Rattle.rb_trace.specs.Ending.{state_words}
 
 -- the state of a process with this status and so many open levels
-abbrev pub state_of : Status × ℕ → State
+abbrev pub state_of : ProcessStatus × ℕ → State
 state_of (Running, levels) = state.Running levels
 state_of (Finished, levels) = state.Done
 state_of (FailedWith cause, levels) = state.Failed

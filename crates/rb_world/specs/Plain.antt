@@ -3,7 +3,7 @@
 use Rattle.std.specs.Prelude.{ℕ, ℤ, ◌+◌, nat_eq, nat_le, nat_lt, Bool, true, false, cond, ◌&&◌, List, [], ◌∷◌, length, slice_get, Option, Some, None}
 use Rattle.rb_base.specs.declared.kept.Kept.{Kept}
 use Rattle.rb_world.specs.Kind.{Kind, Want, NothingLeft, SendsOn, ReceivesOn, MayReceiveOn, Enters, Starts, Acts, Stepped, Trapped, Went, Held}
-use Rattle.rb_world.specs.World.{Level, Status, Running, Finished, FailedWith, Process, World, last_of, copy_of}
+use Rattle.rb_world.specs.World.{Level, ProcessStatus, Running, Finished, FailedWith, Process, World, last_of, copy_of}
 use Rattle.rb_world.specs.Channels.{has_room, message_there}
 use Rattle.rb_world.specs.Turn.{Moved, Told, took, open_at, moved_to, accepted, finishes, most_levels}
 
@@ -55,7 +55,7 @@ plain_acts k kept q w Starts = when (has_alternate kept q) (plain_steps k kept N
 plain_acts k kept q w Acts = when (no_alternate kept) (plain_steps k kept None q w)
 
 -- a running process acts; one at a test line, done or failed leaves the plain run stuck
-abbrev pub plain_runs : {S C M : Type 0} → Kind S C M → Kept → Process S C → World S C M → Status → Option (Moved S C M)
+abbrev pub plain_runs : {S C M : Type 0} → Kind S C M → Kept → Process S C → World S C M → ProcessStatus → Option (Moved S C M)
 plain_runs k kept q w Running = cond q.at_line None (plain_acts k kept q w (k.want q.state))
 plain_runs k kept q w Finished = None
 plain_runs k kept q w (FailedWith cause) = None

@@ -2,7 +2,7 @@
 -- the most levels; a process that has failed has none.
 use Rattle.std.specs.Prelude.{◌≡◌, ◌≤◌, ℕ, Bool, true, false, List, [], length, slice_get, Some}
 use Rattle.rb_world.specs.Kind.{Kind}
-use Rattle.rb_world.specs.World.{Status, Running, Finished, FailedWith, Process, World}
+use Rattle.rb_world.specs.World.{ProcessStatus, Running, Finished, FailedWith, Process, World}
 use Rattle.rb_world.specs.Turn.{most_levels}
 
 -- P holds of each element, by its number
@@ -19,7 +19,7 @@ abbrev pub IsShallow : {S C : Type 0} → ℕ → Process S C → Type 0
 IsShallow p q = length q.levels ≤ most_levels
 
 -- a process has failed
-abbrev pub is_failed : Status → Bool
+abbrev pub is_failed : ProcessStatus → Bool
 is_failed Running = false
 is_failed Finished = false
 is_failed (FailedWith cause) = true

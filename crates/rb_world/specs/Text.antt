@@ -7,7 +7,7 @@ use Rattle.rb_base.specs.declared.event.Event.{Event}
 use Rattle.rb_base.specs.declared.event.Event.TheVariants.{Reject, RejectAll, Error, Pass, Done}
 use Rattle.rb_base.specs.Words.{cause_word}
 use Rattle.rb_world.specs.Turn.{Told}
-use Rattle.rb_world.specs.World.{Status, Running, Finished, FailedWith}
+use Rattle.rb_world.specs.World.{ProcessStatus, Running, Finished, FailedWith}
 use Rattle.rb_base.specs.declared.kept.Kept.{Kept}
 
 -- A process-level variable: its name, its first word among the process's words, and the size of an array.
@@ -89,13 +89,13 @@ outs_text names ((t, one) ∷ others) = out_lines names t 0 one.released ++ outs
 -- How a run ends: each process's status and its number of open levels, the words of its own variables, and for each
 -- channel how many values were sent and taken.
 pub record Final : Type 0 where
-  pub statuses : List (Status × ℕ)
+  pub statuses : List (ProcessStatus × ℕ)
   pub words : List (List ℤ)
   pub sent : List ℕ
   pub taken : List ℕ
 
 -- the words of a status: of a process that still runs, with how many levels are open
-abbrev pub status_words : Status × ℕ → List (List ℕ)
+abbrev pub status_words : ProcessStatus × ℕ → List (List ℕ)
 status_words (Running, levels) = codes "open" ∷ decimal levels ∷ []
 status_words (Finished, levels) = codes "done" ∷ []
 status_words (FailedWith cause, levels) = codes "failed" ∷ []
@@ -115,11 +115,11 @@ abbrev pub variable_lines : ProcessNaming → List ℤ → List ℕ
 variable_lines process words = flat_map (variable_line process.name words) process.variables
 
 -- the line of a process's name and status
-abbrev pub status_line : ProcessNaming → Status × ℕ → List ℕ
+abbrev pub status_line : ProcessNaming → ProcessStatus × ℕ → List ℕ
 status_line process status = line_of (process.name ∷ status_words status)
 
 -- each process's status and variables
-abbrev pub process_lines : List ProcessNaming → List (Status × ℕ) → List (List ℤ) → List ℕ
+abbrev pub process_lines : List ProcessNaming → List (ProcessStatus × ℕ) → List (List ℤ) → List ℕ
 process_lines [] statuses words = []
 process_lines (p ∷ ps) [] words = []
 process_lines (p ∷ ps) (s ∷ ss) [] = []

@@ -12,7 +12,7 @@ use Rattle.rb_base.specs.declared.event.TurnKind.{TurnKind}
 use Rattle.rb_base.specs.declared.event.TurnKind.TheVariants.{Idle, Wait, Took, Undone}
 use Rattle.rb_base.specs.declared.limits.TheConstants.{MOST_OPEN_LEVELS}
 use Rattle.rb_world.specs.Kind.{Facts, Kind, Membership, Want, NothingLeft, SendsOn, ReceivesOn, MayReceiveOn, Enters, Starts, Acts, Stepped, Trapped, Went, Held}
-use Rattle.rb_world.specs.World.{Level, Status, Running, Finished, FailedWith, Process, Talk, World, change_at, last_of, without_last, is_of, process_levels, talk_at, with_process, with_each, with_talks, with_memory, goes_on, settled, copy_of}
+use Rattle.rb_world.specs.World.{Level, ProcessStatus, Running, Finished, FailedWith, Process, Talk, World, change_at, last_of, without_last, is_of, process_levels, talk_at, with_process, with_each, with_talks, with_memory, goes_on, settled, copy_of}
 use Rattle.rb_world.specs.Channels.{has_room, message_there}
 use Rattle.rb_world.specs.Reject.{Happened, first_again, fallen, reject}
 
@@ -194,7 +194,7 @@ abbrev pub runs : {S C M : Type 0} → Kind S C M → ℕ → ℕ → Process S 
 runs k t p q w = bounded k t p q (with_process p (λ _. q) w) (position is_over q.levels)
 
 -- a running process runs; one that is done or has failed idles
-abbrev pub by_status : {S C M : Type 0} → Kind S C M → ℕ → ℕ → Process S C → World S C M → Status → Moved S C M
+abbrev pub by_status : {S C M : Type 0} → Kind S C M → ℕ → ℕ → Process S C → World S C M → ProcessStatus → Moved S C M
 by_status k t p q w Running = runs k t p (turn_used q) w
 by_status k t p q w Finished = idles w
 by_status k t p q w (FailedWith cause) = idles w
@@ -227,7 +227,7 @@ abbrev pub freed_lines : {S C M : Type 0} → Kind S C M → World S C M → Lis
 freed_lines k w = map (λ q. lines_freed k q.state q.levels) w.processes
 
 -- a process that ran before the turn and has failed after it is told as an error.
-abbrev pub error_at : ℕ → Status → Status → List Event
+abbrev pub error_at : ℕ → ProcessStatus → ProcessStatus → List Event
 error_at p Running (FailedWith cause) = Error p cause ∷ []
 error_at p Running Running = []
 error_at p Running Finished = []
@@ -235,7 +235,7 @@ error_at p Finished after = []
 error_at p (FailedWith cause) after = []
 
 -- a process that ran before the turn and has nothing left after it is told as done
-abbrev pub done_at : ℕ → Status → Status → List Event
+abbrev pub done_at : ℕ → ProcessStatus → ProcessStatus → List Event
 done_at p Running Finished = Done p ∷ []
 done_at p Running Running = []
 done_at p Running (FailedWith cause) = []
@@ -243,7 +243,7 @@ done_at p Finished after = []
 done_at p (FailedWith cause) after = []
 
 -- what is told of the processes from number p on, by their statuses before a turn and after it
-abbrev pub compared : {S C : Type 0} → (ℕ → Status → Status → List Event) → ℕ → List (Process S C) → List (Process S C) → List Event
+abbrev pub compared : {S C : Type 0} → (ℕ → ProcessStatus → ProcessStatus → List Event) → ℕ → List (Process S C) → List (Process S C) → List Event
 compared f p [] after = []
 compared f p (q ∷ qs) [] = []
 compared f p (q ∷ qs) (r ∷ rs) = f p q.status r.status ++ compared f (p + 1) qs rs

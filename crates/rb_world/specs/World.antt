@@ -14,17 +14,17 @@ pub record Level (C : Type 0) : Type 0 where
   pub copy : C
 
 -- whether a process still runs, is done, or has failed, and then with which cause
-pub data Status : Type 0 where
-  Running : Status
-  Finished : Status
-  FailedWith : (cause : Cause) → Status
+pub data ProcessStatus : Type 0 where
+  Running : ProcessStatus
+  Finished : ProcessStatus
+  FailedWith : (cause : Cause) → ProcessStatus
 
 -- a process: its present state, its levels from the outside in, whether it stands at the test line of its innermost level
 pub record Process (S C : Type 0) : Type 0 where
   pub state : S
   pub levels : List (Level C)
   pub at_line : Bool
-  pub status : Status
+  pub status : ProcessStatus
 
 -- a conversation: its present alternate, and whether it is broken
 pub record Talk : Type 0 where
@@ -108,7 +108,7 @@ abbrev pub with_memory : {S C M : Type 0} → M → World S C M → World S C M
 with_memory m w = record { processes = w.processes; talks = w.talks; memory = m }
 
 -- a process that has nothing left is done
-abbrev pub status_at : Want → Status
+abbrev pub status_at : Want → ProcessStatus
 status_at NothingLeft = Finished
 status_at (SendsOn c) = Running
 status_at (ReceivesOn c) = Running

@@ -3,19 +3,19 @@
 ghost use Rattle.rb_world.specs.Samples.{CountsAreUnseen, MarksAreUnseen, MarksAreUnseenInRecords, CountedRunsStand, OutermostIsRejected};
 
 /// Images of worlds, at a small kind of process state: steps that are counted beside it change nothing that is told.
-#[tactic(auto, using(crate::proofs::Instances::counting_tells_same))]
+#[tactic(auto, using(crate::proofs::Relating::Instances::counting_tells_same))]
 pub fn counts_are_unseen()
     ensures { CountsAreUnseen }
 {}
 
 /// Related kinds, at a small one: to copy how many lines are held, and to cut them, tells what whole copies tell.
-#[tactic(auto, using(crate::proofs::Instances::marks_tell_same))]
+#[tactic(auto, using(crate::proofs::Relating::Instances::marks_tell_same))]
 pub fn marks_are_unseen()
     ensures { MarksAreUnseen }
 {}
 
 /// The same of the plain run of every record.
-#[tactic(auto, using(crate::proofs::Instances::marks_tell_same_plainly))]
+#[tactic(auto, using(crate::proofs::Relating::Instances::marks_tell_same_plainly))]
 pub fn marks_are_unseen_in_records()
     ensures { MarksAreUnseenInRecords }
 {}

@@ -2,13 +2,13 @@
 -- ground and under what falls need beside it.
 use Rattle.std.proofs.Common.{ℕ}
 use Rattle.rb_world.specs.World.{Process, World}
-use Rattle.rb_world.proofs.Invariant.{BothBetween, BothWithin, Goes, Opens, Accepts, Stands, Leaves, Releases, IsInvariant, IsInvariantUnder, both_kept}
+use Rattle.rb_world.proofs.Keeping.Invariant.{BothBetween, BothWithin, Goes, Opens, Accepts, Stands, Leaves, Releases, IsInvariant, IsInvariantUnder, both_kept}
 use Rattle.rb_world.proofs.Erasing.ErasableKinds.{Nothing, Parts, whole, IsErasable}
-use Rattle.rb_world.proofs.Erasing.ErasureInvariant.{GroundedBefore, GroundedDuring, GroundedAfter, ErasedBefore, ErasedWithin, ErasedAfter}
-use Rattle.rb_world.proofs.Erasing.TurnsNotKept.{erased_rests, erased_uses, erased_overruns, erased_waits, erased_is_gone, erased_tries_next, erased_is_spent, erased_all_try_next, erased_all_are_spent}
-use Rattle.rb_world.proofs.Erasing.BreakingKeepsErasure.{erased_breaks}
-use Rattle.rb_world.proofs.Erasing.NoLevelNoLine.{away_kept}
-use Rattle.rb_world.proofs.Erasing.WhoFails.{AwayBetween, AwayWithin, erased_falls}
+use Rattle.rb_world.proofs.Erasing.Showing.ErasureInvariant.{GroundedBefore, GroundedDuring, GroundedAfter, ErasedBefore, ErasedWithin, ErasedAfter}
+use Rattle.rb_world.proofs.Erasing.GoingBack.TurnsNotKept.{erased_rests, erased_uses, erased_overruns, erased_waits, erased_is_gone, erased_tries_next, erased_is_spent, erased_all_try_next, erased_all_are_spent}
+use Rattle.rb_world.proofs.Erasing.GoingBack.BreakingKeepsErasure.{erased_breaks}
+use Rattle.rb_world.proofs.Erasing.GoingBack.NoLevelNoLine.{away_kept}
+use Rattle.rb_world.proofs.Erasing.GoingBack.WhoFails.{AwayBetween, AwayWithin, erased_falls}
 
 -- what is shown under the ground and beside it
 abbrev pub ErasureIsKept : {S E P : Type 0} → Parts S E P → (ℕ → Process S S → Type 0) → World S P Nothing → Type 0

@@ -2,14 +2,14 @@
 use Rattle.std.proofs.Common.{ℕ, List}
 use Rattle.rb_world.specs.World.{Process, World}
 use Rattle.rb_world.specs.Turn.{opening, run}
-use Rattle.rb_world.proofs.EachProcess.{KeepsEach}
+use Rattle.rb_world.proofs.Keeping.EachProcess.{KeepsEach}
 use Rattle.rb_world.proofs.Erasing.ErasableKinds.{Nothing, Parts, whole, plain, IsErasable}
-use Rattle.rb_world.proofs.Erasing.StepKeepsErasure.{erased_goes}
-use Rattle.rb_world.proofs.Erasing.EntryKeepsErasure.{erased_opens}
-use Rattle.rb_world.proofs.Erasing.AcceptanceKeepsErasure.{erased_accepts}
-use Rattle.rb_world.proofs.Erasing.ArrivalKeepsErasure.{erased_stands}
-use Rattle.rb_world.proofs.Erasing.LeavingKeepsErasure.{erased_leaves}
-use Rattle.rb_world.proofs.Erasing.ReleaseKeepsErasure.{erased_releases}
+use Rattle.rb_world.proofs.Erasing.Stepping.StepKeepsErasure.{erased_goes}
+use Rattle.rb_world.proofs.Erasing.Passing.EntryKeepsErasure.{erased_opens}
+use Rattle.rb_world.proofs.Erasing.Passing.AcceptanceKeepsErasure.{erased_accepts}
+use Rattle.rb_world.proofs.Erasing.Passing.ArrivalKeepsErasure.{erased_stands}
+use Rattle.rb_world.proofs.Erasing.Passing.LeavingKeepsErasure.{erased_leaves}
+use Rattle.rb_world.proofs.Erasing.Releasing.ReleaseKeepsErasure.{erased_releases}
 use Rattle.rb_world.proofs.Erasing.ErasureIsInvariant.{ErasureIsKept, erased_under}
 use Rattle.rb_world.proofs.Erasing.SurvivorsRunAlone.{OpensErasably, RunsAlone, erasure}
 use Rattle.rb_world.proofs.Erasing.ReceiptsStand.{AreBetweenTwo, AreSeen, no_receipt_taken_back}

@@ -8,13 +8,13 @@ use Rattle.rb_world.specs.Channels.{seen_copy, seen_count}
 use Rattle.rb_world.specs.Turn.{Told, most_levels, opening, run}
 use Rattle.rb_world.specs.Standing.{Each, IsShallow}
 use Rattle.rb_world.specs.Nested.{IsLevelOf, AreNested}
-use Rattle.rb_world.proofs.EachProcess.{KeepsEach}
+use Rattle.rb_world.proofs.Keeping.EachProcess.{KeepsEach}
 use Rattle.rb_world.proofs.ListFacts.{none_some, some_same}
 use Rattle.rb_world.proofs.Erasing.ErasableKinds.{Nothing, Parts, whole, plain, IsErasable}
-use Rattle.rb_world.proofs.Erasing.Cuts.{IsConsistent, ShowsOne, with_shown}
-use Rattle.rb_world.proofs.Erasing.ErasureInvariant.{IsGrounded, ShowsCut}
-use Rattle.rb_world.proofs.Erasing.ShownWorlds.{IsShown, get_shown}
-use Rattle.rb_world.proofs.NestedSame.{same_number}
+use Rattle.rb_world.proofs.Erasing.Showing.Cuts.{IsConsistent, ShowsOne, with_shown}
+use Rattle.rb_world.proofs.Erasing.Showing.ErasureInvariant.{IsGrounded, ShowsCut}
+use Rattle.rb_world.proofs.Erasing.Showing.ShownWorlds.{IsShown, get_shown}
+use Rattle.rb_world.proofs.Keeping.NestedSame.{same_number}
 use Rattle.rb_world.proofs.LevelFacts.{any_level, level_at_place, no_place, some_none}
 use Rattle.rb_world.proofs.Erasing.ErasureIsInvariant.{ErasureIsKept}
 use Rattle.rb_world.proofs.Erasing.SurvivorsRunAlone.{OpensErasably, IsShownWhole, all_present, consistent_present, present, run_shown, state_at_level, state_present}

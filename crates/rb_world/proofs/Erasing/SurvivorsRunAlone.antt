@@ -8,19 +8,19 @@ use Rattle.rb_base.specs.declared.kept.Kept.{Kept}
 use Rattle.rb_world.specs.Plain.{Ended, insert_all, plain_run, survivors_from, survivors_of}
 use Rattle.rb_world.specs.Standing.{Each, IsShallow, is_failed}
 use Rattle.rb_world.specs.Erased.{Rises, numbered, released_in}
-use Rattle.rb_world.proofs.Invariant.{BothBetween}
-use Rattle.rb_world.proofs.Induction.{run-keeps}
-use Rattle.rb_world.proofs.EachProcess.{KeepsEach, each_opening_run}
-use Rattle.rb_world.proofs.StandingFacts.{shallow_kept, status_at-whole}
+use Rattle.rb_world.proofs.Keeping.Invariant.{BothBetween}
+use Rattle.rb_world.proofs.Keeping.Induction.{run-keeps}
+use Rattle.rb_world.proofs.Keeping.EachProcess.{KeepsEach, each_opening_run}
+use Rattle.rb_world.proofs.Keeping.StandingFacts.{shallow_kept, status_at-whole}
 use Rattle.rb_world.proofs.ListFacts.{none_some}
 use Rattle.rb_world.proofs.Erasing.ErasableKinds.{Nothing, Parts, whole, plain, IsErasable}
-use Rattle.rb_world.proofs.Erasing.Cuts.{shown_at, ShowsOne, Alive, Lost, Shows, IsConsistent}
-use Rattle.rb_world.proofs.Erasing.ErasureInvariant.{kept_in, AreSent, ShowsCut, AllShown, ErasedBefore, Grounded, GroundedBefore}
+use Rattle.rb_world.proofs.Erasing.Showing.Cuts.{shown_at, ShowsOne, Alive, Lost, Shows, IsConsistent}
+use Rattle.rb_world.proofs.Erasing.Showing.ErasureInvariant.{kept_in, AreSent, ShowsCut, AllShown, ErasedBefore, Grounded, GroundedBefore}
 use Rattle.rb_world.proofs.LevelFacts.{some_none}
-use Rattle.rb_world.proofs.Erasing.Grounded.{grounded_kept, opening_grounded}
-use Rattle.rb_world.proofs.Erasing.SameLinesReleased.{IsImageAt, get_mapped}
-use Rattle.rb_world.proofs.Erasing.NoLevelNoLine.{away_opens}
-use Rattle.rb_world.proofs.Erasing.WhoFails.{AwayBetween}
+use Rattle.rb_world.proofs.Erasing.Grounding.Grounded.{grounded_kept, opening_grounded}
+use Rattle.rb_world.proofs.Erasing.Releasing.SameLinesReleased.{IsImageAt, get_mapped}
+use Rattle.rb_world.proofs.Erasing.GoingBack.NoLevelNoLine.{away_opens}
+use Rattle.rb_world.proofs.Erasing.GoingBack.WhoFails.{AwayBetween}
 use Rattle.rb_world.proofs.Erasing.ErasureIsInvariant.{ErasureIsKept, erased_and_grounded}
 
 -- opening states of which all is known, that kept no turn, hold no line, and took no message

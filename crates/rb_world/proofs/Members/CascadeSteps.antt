@@ -9,7 +9,7 @@ use Rattle.rb_world.specs.Nested.{AreNested, HasOutside, IsLevelOf}
 use Rattle.rb_world.specs.Together.{IsOutside}
 use Rattle.rb_world.proofs.TurnFacts.{all_spent}
 use Rattle.rb_world.proofs.ListFacts.{length-change_at, slice_get-change_at, some_same, slice_get-change_other}
-use Rattle.rb_world.proofs.NestedSame.{same_number}
+use Rattle.rb_world.proofs.Keeping.NestedSame.{same_number}
 use Rattle.rb_world.proofs.LevelFacts.{any_level, one_conversation}
 use Rattle.rb_world.proofs.Members.PlaceFacts.{inside_level, length-take_to, of_passes, passes_of, position_first, position_none, slice_get-take}
 use Rattle.rb_world.proofs.Members.Cascade.{AllNested, HasCome, IsBackAt, IsLast, NoneYet, Now, OneBefore}

@@ -8,7 +8,7 @@ use Rattle.rb_world.specs.World.{Process, World, is_inside}
 use Rattle.rb_world.specs.Nested.{IsLevelOf}
 use Rattle.rb_world.specs.Together.{IsEmpty}
 use Rattle.rb_world.proofs.ListFacts.{some_same, slice_get-there}
-use Rattle.rb_world.proofs.NestedSame.{same_number}
+use Rattle.rb_world.proofs.Keeping.NestedSame.{same_number}
 use Rattle.rb_world.proofs.LevelFacts.{any_level}
 use Rattle.rb_world.proofs.Members.PlaceFacts.{PassesAt, any_found, any_none, inside_level, same_around}
 use Rattle.rb_world.proofs.Members.Cascade.{AllNested, LeavesOthers}

@@ -8,7 +8,7 @@ use Rattle.rb_base.specs.declared.event.Cause.TheVariants.{Inner}
 use Rattle.rb_base.specs.declared.event.Event.{Event}
 use Rattle.rb_base.specs.declared.event.Event.TheVariants.{Error, Done}
 use Rattle.rb_world.specs.Kind.{Kind}
-use Rattle.rb_world.specs.World.{Level, Status, Running, Finished, FailedWith, Process, World, process_levels}
+use Rattle.rb_world.specs.World.{Level, ProcessStatus, Running, Finished, FailedWith, Process, World, process_levels}
 use Rattle.rb_world.specs.Reject.{Happened, all_back, exhausted_next, parent_of, private_next, put_back, reject, reject_at, reject_either, together_next}
 use Rattle.rb_world.specs.World.{with_process}
 use Rattle.rb_world.specs.Turn.{Moved, compared, done_at, error_at, most_levels, move, one_used, told, turn, turn_used}
@@ -80,7 +80,7 @@ module _ {S C M : Type 0} (k : Kind S C M) where
   move-few t p w shallow = move-comes (few_outcomes p w shallow) t
 
 -- of one process an error is told, or that it is done, or nothing
-one_told : (p : ℕ) (s t : Status) → length (error_at p s t) + length (done_at p s t) ≤ 1
+one_told : (p : ℕ) (s t : ProcessStatus) → length (error_at p s t) + length (done_at p s t) ≤ 1
 one_told p Running Running = omega arith
 one_told p Running Finished = omega arith
 one_told p Running (FailedWith cause) = omega arith
@@ -130,21 +130,21 @@ pub record IsOfRejections (test : Event → Bool) : Type 0 where
   pub completions : (p : ℕ) → test (Done p) ≡ false
 
 module _ {test : Event → Bool} (is : IsOfRejections test) where
-  error_fails : (p : ℕ) (s t : Status) → Fails test (error_at p s t)
+  error_fails : (p : ℕ) (s t : ProcessStatus) → Fails test (error_at p s t)
   error_fails p Running Running = tt
   error_fails p Running Finished = tt
   error_fails p Running (FailedWith cause) = (is.errors p cause, tt)
   error_fails p Finished t = tt
   error_fails p (FailedWith cause) t = tt
 
-  done_fails : (p : ℕ) (s t : Status) → Fails test (done_at p s t)
+  done_fails : (p : ℕ) (s t : ProcessStatus) → Fails test (done_at p s t)
   done_fails p Running Running = tt
   done_fails p Running Finished = (is.completions p, tt)
   done_fails p Running (FailedWith cause) = tt
   done_fails p Finished t = tt
   done_fails p (FailedWith cause) t = tt
 
-  compared_fails : {S C : Type 0} (f : ℕ → Status → Status → List Event) → ((p : ℕ) (s t : Status) → Fails test (f p s t))
+  compared_fails : {S C : Type 0} (f : ℕ → ProcessStatus → ProcessStatus → List Event) → ((p : ℕ) (s t : ProcessStatus) → Fails test (f p s t))
       → (p : ℕ) (before after : List (Process S C)) → Fails test (compared f p before after)
   compared_fails f one p [] after = tt
   compared_fails f one p (q ∷ qs) [] = tt

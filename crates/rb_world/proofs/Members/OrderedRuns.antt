@@ -1,18 +1,18 @@
 -- Every world of a run of an erasable kind is ordered: it is grounded, and so its levels are nested and are those of members.
 use Rattle.std.proofs.Common.{◌≡◌, ℕ, Bool, List, [], ◌∷◌, refl, ap, ◌∙◌}
-use Rattle.rb_world.specs.World.{Level, Process, Status, World}
+use Rattle.rb_world.specs.World.{Level, Process, ProcessStatus, World}
 use Rattle.rb_world.specs.Turn.{freed, opening, run}
-use Rattle.rb_world.proofs.Induction.{run-keeps}
-use Rattle.rb_world.proofs.EachProcess.{KeepsEach}
+use Rattle.rb_world.proofs.Keeping.Induction.{run-keeps}
+use Rattle.rb_world.proofs.Keeping.EachProcess.{KeepsEach}
 use Rattle.rb_world.proofs.Erasing.ErasableKinds.{Nothing, Parts, whole, IsErasable}
-use Rattle.rb_world.proofs.Erasing.ErasureInvariant.{Grounded}
-use Rattle.rb_world.proofs.Erasing.Grounded.{grounded_kept, opening_grounded}
+use Rattle.rb_world.proofs.Erasing.Showing.ErasureInvariant.{Grounded}
+use Rattle.rb_world.proofs.Erasing.Grounding.Grounded.{grounded_kept, opening_grounded}
 use Rattle.rb_world.proofs.Erasing.SurvivorsRunAlone.{OpensErasably}
 use Rattle.rb_world.proofs.Members.Together.{IsOrdered}
 
 module _ {S E P : Type 0} {x : Parts S E P} {Known : ℕ → Process S S → Type 0} (keeps : KeepsEach (whole x) Known) (laws : IsErasable x Known) where
   -- who holds no line is as it was once lines were released
-  nothing_freed : (s : S) (levels : List (Level S)) (line : Bool) (status : Status) → (levels ≡ [] → x.held s ≡ [])
+  nothing_freed : (s : S) (levels : List (Level S)) (line : Bool) (status : ProcessStatus) → (levels ≡ [] → x.held s ≡ [])
       → freed (whole x) (record { state = s; levels = levels; at_line = line; status = status })
       ≡ record { state = s; levels = levels; at_line = line; status = status }
   nothing_freed s [] line status none =

@@ -6,7 +6,7 @@ use Rattle.rb_base.specs.declared.event.Cause.{Cause}
 use Rattle.rb_base.specs.declared.event.Cause.TheVariants.{Broken, Depth, Overrun}
 use Rattle.rb_base.specs.declared.event.Event.TheVariants.{Pass}
 use Rattle.rb_world.specs.Kind.{Facts, Kind, Want, NothingLeft, SendsOn, ReceivesOn, MayReceiveOn, Enters, Starts, Acts, Stepped, Trapped, Went, Held}
-use Rattle.rb_world.specs.World.{Level, Status, Running, Finished, FailedWith, Process, Talk, World, last_of, levels_of, talk_at, with_process, copy_of}
+use Rattle.rb_world.specs.World.{Level, ProcessStatus, Running, Finished, FailedWith, Process, Talk, World, last_of, levels_of, talk_at, with_process, copy_of}
 use Rattle.rb_world.specs.Channels.{has_room, message_there}
 use Rattle.rb_world.specs.Reject.{fallen, reject}
 use Rattle.rb_world.specs.Turn.{Moved, accepted, accepted_at, acts, alternate_of, all_leave, all_stand, bounded, by_status, enter_either, idles, is_over, join, most_levels, move, moved_to, moves, opened, passed, receives, runs, stepped, steps, took, trapped, tried_at, turn_used, undone, waits}
@@ -155,7 +155,7 @@ module _ {S C M : Type 0} {k : Kind S C M} {p : ℕ} {w : World S C M} {P : Move
       subst (λ (n : ℕ). P (undone (reject k p n Overrun (counted p q w)))) (sym (add-one j)) (over-comes q j runs e)
   bounded-comes t q runs None e = at_line-comes t q runs q.at_line refl
 
-  by_status-comes : (t : ℕ) (q : Process S C) → slice_get w.processes p ≡ Some q → (status : Status) → q.status ≡ status
+  by_status-comes : (t : ℕ) (q : Process S C) → slice_get w.processes p ≡ Some q → (status : ProcessStatus) → q.status ≡ status
       → P (by_status k t p q w status)
   by_status-comes t q there Running e =
       bounded-comes t q (record { there = there; running = e }) (position is_over (turn_used q).levels) refl

@@ -7,7 +7,7 @@ use Rattle.rb_world.specs.World.{Level, Process, World, is_of, last_of, settled,
 use Rattle.rb_world.specs.Turn.{all_leave, is_last_of, leaves, one_used, stands_at}
 use Rattle.rb_world.specs.Nested.{AreNested, IsLevelOf}
 use Rattle.rb_world.proofs.ListFacts.{first_holds, none_some, second_holds, some_same}
-use Rattle.rb_world.proofs.NestedSame.{same_number}
+use Rattle.rb_world.proofs.Keeping.NestedSame.{same_number}
 use Rattle.rb_world.proofs.Members.PlaceFacts.{inside_level, passes_of}
 use Rattle.rb_world.proofs.Members.Together.{Carries, Keeps}
 

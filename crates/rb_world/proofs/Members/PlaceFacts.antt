@@ -10,7 +10,7 @@ use Rattle.rb_world.specs.World.{Level, is_number, is_of}
 use Rattle.rb_world.specs.Reject.{parent_of}
 use Rattle.rb_world.specs.Nested.{AreNested, HasOutside, IsLevelOf}
 use Rattle.rb_world.proofs.LevelFacts.{of_number, one_conversation}
-use Rattle.rb_world.proofs.NestedSame.{SharesLevel, shares_level}
+use Rattle.rb_world.proofs.Keeping.NestedSame.{SharesLevel, shares_level}
 use Rattle.rb_world.proofs.ListFacts.{none_some, some_same}
 
 -- what is looked up below the end of a list's first elements

@@ -13,9 +13,9 @@ use Rattle.rb_world.specs.Standing.{Each}
 use Rattle.rb_world.specs.Nested.{AreNested, IsLevelOf}
 use Rattle.rb_world.specs.Present.{IsPresent, TryPresent}
 use Rattle.rb_world.proofs.TurnFacts.{Alone, Barred, IsEntry, Joining, MustFall, NoLevelLeft, RunsAt, all_broken, all_next, all_spent, come_to_stand}
-use Rattle.rb_world.proofs.Invariant.{Between, IsInvariantUnder, both_kept}
-use Rattle.rb_world.proofs.Induction.{run-keeps}
-use Rattle.rb_world.proofs.EachProcess.{KeepsEach, each_kept, settled_each}
+use Rattle.rb_world.proofs.Keeping.Invariant.{Between, IsInvariantUnder, both_kept}
+use Rattle.rb_world.proofs.Keeping.Induction.{run-keeps}
+use Rattle.rb_world.proofs.Keeping.EachProcess.{KeepsEach, each_kept, settled_each}
 use Rattle.rb_world.proofs.ListFacts.{Each-change_at, Each-map, none_some, second_holds, slice_get-change_at, slice_get-change_other, nothing_within, some_same}
 use Rattle.rb_world.proofs.LevelFacts.{IsNew, IsOld, IsOldOrNew, any_level, get_more, get_without_last}
 use Rattle.rb_world.proofs.Members.PlaceFacts.{inside_level, length-take_to, passes_of, slice_get-take}

@@ -13,7 +13,7 @@ use Rattle.rb_world.specs.Nested.{AreNested, HasOutside, IsLevelOf}
 use Rattle.rb_world.specs.Present.{IsPresent, TryPresent}
 use Rattle.rb_world.proofs.ListFacts.{none_some, slice_get-change_at, slice_get-change_other, some_same}
 use Rattle.rb_world.proofs.LevelFacts.{any_level, get_take, one_conversation}
-use Rattle.rb_world.proofs.NestedSame.{same_number}
+use Rattle.rb_world.proofs.Keeping.NestedSame.{same_number}
 use Rattle.rb_world.proofs.Members.PlaceFacts.{not_of, slice_get-take}
 use Rattle.rb_world.proofs.Members.PresentTalks.{not_below, not_below_of, talk_beside, talk_changed}
 

@@ -8,7 +8,7 @@ use Rattle.rb_world.specs.Reject.{first_again, is_below, is_under, parent_of, re
 use Rattle.rb_world.specs.Nested.{AreNested, HasOutside, IsLevelOf}
 use Rattle.rb_world.proofs.ListFacts.{slice_get-change_at, slice_get-change_other}
 use Rattle.rb_world.proofs.LevelFacts.{any_level}
-use Rattle.rb_world.proofs.NestedSame.{same_number}
+use Rattle.rb_world.proofs.Keeping.NestedSame.{same_number}
 
 -- a conversation that does not lie below keeps its alternate
 reset_from-other : (below : ℕ → Bool) (d n r : ℕ) (talks : List Talk) → n ≡ d + r → below n ≡ false

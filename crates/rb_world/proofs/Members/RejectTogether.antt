@@ -9,7 +9,7 @@ use Rattle.rb_world.specs.Reject.{Happened, next_alternate}
 use Rattle.rb_world.specs.Turn.{undone}
 use Rattle.rb_world.specs.Nested.{IsLevelOf}
 use Rattle.rb_world.proofs.ListFacts.{some_same}
-use Rattle.rb_world.proofs.NestedSame.{same_number}
+use Rattle.rb_world.proofs.Keeping.NestedSame.{same_number}
 use Rattle.rb_world.proofs.Members.PlaceFacts.{inside_level}
 use Rattle.rb_world.proofs.Members.Cascade.{AllBack, AllFallen, AllNested, Alone, AreBackAt, EndsIn, Ends, HaveFallen, IsBackAt, KeepsTalks, LeavesOthers}
 use Rattle.rb_world.proofs.Members.Together.{AllGoBack, AllGoOut, AllStay, AreBack, Carries, IsBack, Keeps, Together, unused}

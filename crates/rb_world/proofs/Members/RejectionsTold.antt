@@ -5,7 +5,7 @@ use Rattle.rb_base.specs.declared.event.Event.{Event}
 use Rattle.rb_base.specs.declared.event.Event.TheVariants.{Reject, RejectAll, Error, Pass, Done}
 use Rattle.rb_world.specs.Kind.{Kind}
 use Rattle.rb_world.specs.Turn.{Moved, compared, done_at, error_at, move, told, turn}
-use Rattle.rb_world.specs.World.{Process, Running, Finished, FailedWith, Status, World}
+use Rattle.rb_world.specs.World.{Process, Running, Finished, FailedWith, ProcessStatus, World}
 use Rattle.rb_world.specs.Together.{IsOutside, LeavesOutsiders, further_out, outermost_rejected}
 use Rattle.rb_world.proofs.Members.Cascade.{ArePrivate}
 use Rattle.rb_world.proofs.Members.StaysInside.{IsOutermost, StaysInside, move-stays, turn-stays}
@@ -45,21 +45,21 @@ outermost_is p None events private = private_rejected events private
 outermost_is p (Some d) events ends = ap outermost_rejected ends.is ∙ last_rejected ends.inner (RejectAll d ends.alternate p ends.cause) d refl
 
 -- errors and completions reject nothing
-error_rejects : (p : ℕ) (s t : Status) → outermost_rejected (error_at p s t) ≡ None
+error_rejects : (p : ℕ) (s t : ProcessStatus) → outermost_rejected (error_at p s t) ≡ None
 error_rejects p Running Running = refl
 error_rejects p Running Finished = refl
 error_rejects p Running (FailedWith cause) = refl
 error_rejects p Finished t = refl
 error_rejects p (FailedWith cause) t = refl
 
-done_rejects : (p : ℕ) (s t : Status) → outermost_rejected (done_at p s t) ≡ None
+done_rejects : (p : ℕ) (s t : ProcessStatus) → outermost_rejected (done_at p s t) ≡ None
 done_rejects p Running Running = refl
 done_rejects p Running Finished = refl
 done_rejects p Running (FailedWith cause) = refl
 done_rejects p Finished t = refl
 done_rejects p (FailedWith cause) t = refl
 
-compared_reject : {S C : Type 0} (f : ℕ → Status → Status → List Event) → ((p : ℕ) (s t : Status) → outermost_rejected (f p s t) ≡ None)
+compared_reject : {S C : Type 0} (f : ℕ → ProcessStatus → ProcessStatus → List Event) → ((p : ℕ) (s t : ProcessStatus) → outermost_rejected (f p s t) ≡ None)
     → (p : ℕ) (before after : List (Process S C)) → outermost_rejected (compared f p before after) ≡ None
 compared_reject f one p [] after = refl
 compared_reject f one p (q ∷ qs) [] = refl

@@ -7,8 +7,8 @@ use Rattle.rb_world.specs.World.{Level, Process, Talk, World, last_of, talk_at, 
 use Rattle.rb_world.specs.Reject.{fallen, reject}
 use Rattle.rb_world.specs.Turn.{Moved, move, new_level, one_used, turn_used}
 use Rattle.rb_world.specs.Standing.{HasSize}
-use Rattle.rb_world.proofs.Induction.{move-keeps}
-use Rattle.rb_world.proofs.StandingFacts.{size_kept}
+use Rattle.rb_world.proofs.Keeping.Induction.{move-keeps}
+use Rattle.rb_world.proofs.Keeping.StandingFacts.{size_kept}
 use Rattle.rb_world.proofs.TurnFacts.{RunsAt}
 use Rattle.rb_world.proofs.ListFacts.{length-change_at, none_some, some_same}
 use Rattle.rb_world.proofs.Members.Outcomes.{Outcomes, counted, move-comes}

@@ -2,14 +2,14 @@
 use Rattle.std.proofs.Common.{◌≡◌, ℕ, ℤ, Bool, true, false, cond, List, [], ◌∷◌, position, slice_get, option_map, Option, Some, None, refl, sym, ◌∙◌, subst, arith}
 use Rattle.rb_base.specs.declared.event.Cause.TheVariants.{Inner}
 use Rattle.rb_world.specs.Kind.{Ends, Kind, Stepped, Held}
-use Rattle.rb_world.specs.World.{Level, Process, Running, Status, World, change_at, is_inside, is_of, last_of, settled, status_at, with_each, with_memory, with_process, without_last, copy_of}
+use Rattle.rb_world.specs.World.{Level, Process, Running, ProcessStatus, World, change_at, is_inside, is_of, last_of, settled, status_at, with_each, with_memory, with_process, without_last, copy_of}
 use Rattle.rb_world.specs.Reject.{all_back, at_place, broken_talk, fallen, fallen_inside, first_again, next_talk, put_back, raised, reset_below, where_inside}
 use Rattle.rb_world.specs.Turn.{freed, leaves, stands_at, stands_now, turn_used}
 use Rattle.rb_world.specs.Slots.{Slots, with_slots}
 use Rattle.rb_world.proofs.TurnFacts.{StepsAt}
-use Rattle.rb_world.proofs.Invariant.{IsInvariantUnder}
+use Rattle.rb_world.proofs.Keeping.Invariant.{IsInvariantUnder}
 use Rattle.rb_world.proofs.Erasing.ErasableKinds.{Nothing, Parts, whole, IsFront, SameMail, IsErasable}
-use Rattle.rb_world.proofs.Erasing.ErasureInvariant.{Grounded, GroundedWithin, StillGrounded}
+use Rattle.rb_world.proofs.Erasing.Showing.ErasureInvariant.{Grounded, GroundedWithin, StillGrounded}
 use Rattle.rb_world.proofs.Slots.UnderSlots.{bare, held_bare, put_back-bare, steps-bare, went_bare}
 use Rattle.rb_world.proofs.Slots.SlotsKept.{KeepsSlots, fallen_keeps, left_keeps, moved_keeps, opened_keeps, put_back_keeps, raised_keeps, same_front, stays_keeps, used_keeps}
 use Rattle.rb_world.proofs.Slots.SlotsHold.{HoldsOn, Keeping}
@@ -36,7 +36,7 @@ module _ {S E P : Type 0} (x : Parts S E P) (Known : ℕ → Process S S → Typ
   abbrev Before : Process S S → Type 0
   Before q = (i : ℕ) (one : Level S) → slice_get q.levels i ≡ Some one → IsFront x one.copy q.state
 
-  mail_keeps : (q : Process S S) (t : S) (line : Bool) (status : Status) → SameMail x q.state t
+  mail_keeps : (q : Process S S) (t : S) (line : Bool) (status : ProcessStatus) → SameMail x q.state t
       → Keeping x c ends q (record { state = t; levels = q.levels; at_line = line; status = status })
   mail_keeps q t line status mail rise = moved_keeps x c q t line status rise (same_front x c q.state t mail) (omega (arith, mail.taken c))
 
@@ -57,7 +57,7 @@ module _ {S E P : Type 0} (x : Parts S E P) (Known : ℕ → Process S S → Typ
   leaves_keeps q true rise = left_keeps x c q (x.settle q.state) false (status_at (x.want (x.settle q.state))) rise (laws.settles q.state).mail
   leaves_keeps q false rise = stays_keeps x c q rise
 
-  freed_keeps : (s : S) (levels : List (Level S)) (line : Bool) (status : Status)
+  freed_keeps : (s : S) (levels : List (Level S)) (line : Bool) (status : ProcessStatus)
       → Keeping x c ends (record { state = s; levels = levels; at_line = line; status = status })
       (freed slotted (record { state = s; levels = levels; at_line = line; status = status }))
   freed_keeps s [] line status rise =

@@ -2,7 +2,7 @@
 -- fall. The number that room is counted from never lies above a number taken.
 use Rattle.std.proofs.Common.{◌≡◌, ◌≤◌, ◌<◌, ◌+◌, ℕ, zero, suc, Bool, List, [], ◌∷◌, ◌++◌, map, take, slice_get, Option, Some, None, refl, sym, ap, ◌∙◌, subst, add-one, arith}
 use Rattle.rb_base.specs.declared.event.Cause.{Cause}
-use Rattle.rb_world.specs.World.{Level, Process, Status, change_at, without_last}
+use Rattle.rb_world.specs.World.{Level, Process, ProcessStatus, change_at, without_last}
 use Rattle.rb_world.specs.Channels.{room_from}
 use Rattle.rb_world.specs.Reject.{back_to, fallen, next_alternate, put_back, raised}
 use Rattle.rb_world.specs.Turn.{one_used, turn_used}
@@ -55,14 +55,14 @@ module _ {S E P : Type 0} (x : Parts S E P) (c : ℕ) where
   then_over s t [] n level i e below = absurd (none_some e)
   then_over s t (l ∷ ls) n level i e below = below
 
-  pub moved_rises : (q : Process S S) (t : S) (line : Bool) (status : Status) → TakesRise x c q → x.taken q.state c ≤ x.taken t c
+  pub moved_rises : (q : Process S S) (t : S) (line : Bool) (status : ProcessStatus) → TakesRise x c q → x.taken q.state c ≤ x.taken t c
       → TakesRise x c (record { state = t; levels = q.levels; at_line = line; status = status })
   moved_rises q t line status rise more = record {
     now = now_over q.state t q.levels more rise.now;
     then = λ i level e. then_over q.state t q.levels (x.taken level.copy c) level i e (rise.then i level e);
   }
 
-  pub moved_keeps : (q : Process S S) (t : S) (line : Bool) (status : Status) → TakesRise x c q → IsFrontOn x c t q.state
+  pub moved_keeps : (q : Process S S) (t : S) (line : Bool) (status : ProcessStatus) → TakesRise x c q → IsFrontOn x c t q.state
       → x.taken q.state c ≤ x.taken t c
       → KeepsSlots x c q (record { state = t; levels = q.levels; at_line = line; status = status })
   moved_keeps q t line status rise front more = record {
@@ -138,7 +138,7 @@ module _ {S E P : Type 0} (x : Parts S E P) (c : ℕ) where
   then_opened (l ∷ ls) new n last below zero level e = below zero level e
   then_opened (l ∷ ls) new n last below (suc i) level e = then_opened ls new n last (λ k y h. below (suc k) y h) i level e
 
-  pub opened_keeps : (q : Process S S) (t : S) (level : Level S) (line : Bool) (status : Status) → TakesRise x c q
+  pub opened_keeps : (q : Process S S) (t : S) (level : Level S) (line : Bool) (status : ProcessStatus) → TakesRise x c q
       → SameMail x q.state t → level.copy ≡ t
       → KeepsSlots x c q (record { state = t; levels = q.levels ++ level ∷ []; at_line = line; status = status })
   opened_keeps q t level line status rise mail point =
@@ -170,7 +170,7 @@ module _ {S E P : Type 0} (x : Parts S E P) (c : ℕ) where
   then_room s t (l ∷ []) n i level e below = absurd (none_some e)
   then_room s t (l ∷ m ∷ ls) n i level e below = below
 
-  pub left_keeps : (q : Process S S) (t : S) (line : Bool) (status : Status) → TakesRise x c q → SameMail x q.state t
+  pub left_keeps : (q : Process S S) (t : S) (line : Bool) (status : ProcessStatus) → TakesRise x c q → SameMail x q.state t
       → KeepsSlots x c q (record { state = t; levels = without_last q.levels; at_line = line; status = status })
   left_keeps q t line status rise mail = record {
     front = same_front q.state t mail;

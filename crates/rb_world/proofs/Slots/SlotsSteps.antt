@@ -4,7 +4,7 @@ use Rattle.std.proofs.Math.Nat.{mod-lt}
 use Rattle.std.proofs.lemmas.Bool.{eqb-false}
 use Rattle.std.proofs.lemmas.List.{length-set}
 use Rattle.rb_world.specs.Kind.{Ends, Kind, SendsOn, Stepped, Trapped, Went, Held}
-use Rattle.rb_world.specs.World.{Process, Status, World, with_memory, with_process}
+use Rattle.rb_world.specs.World.{Process, ProcessStatus, World, with_memory, with_process}
 use Rattle.rb_world.specs.Channels.{has_room, has_room_for, has_room_on, room_from}
 use Rattle.rb_world.specs.Slots.{Slots, LieInSlots, put_slot, size_on, slot_of, slots_after, stepped_with_slots}
 use Rattle.rb_world.proofs.ListFacts.{some_same, slice_get-change_at}
@@ -63,7 +63,7 @@ module _ {S E P : Type 0} (x : Parts S E P) (Known : ℕ → Process S S → Typ
       (λ a e. subst (λ (b : Process S S). Keeping x c ends b q') (some_same (sym there ∙ e)) keeps))
 
   -- a step that sends nothing on the channel
-  pub unsent : (t alternate : ℕ) (message : Option ℤ) (q : Process S S) (s : S) (status : Status)
+  pub unsent : (t alternate : ℕ) (message : Option ℤ) (q : Process S S) (s : S) (status : ProcessStatus)
       → Moves x message q.state s → sends_by (x.want q.state) c ≡ 0
       → Keeping x c ends q (record { state = kept_state t alternate s; levels = q.levels; at_line = false; status = status })
   unsent t alternate message q s status moves none rise =
@@ -88,7 +88,7 @@ module _ {S E P : Type 0} (x : Parts S E P) (Known : ℕ → Process S S → Typ
       ∙ sym (ap (λ (one : Option Ends). has_room_on (whole x) w c one) declared) ∙ room)
 
   -- the messages of a channel after one was put into its slot
-  module _ (t alternate : ℕ) (message : Option ℤ) (q : Process S S) (s : S) (status : Status) (slots : Slots) (sized : AreSized slots c ends.size)
+  module _ (t alternate : ℕ) (message : Option ℤ) (q : Process S S) (s : S) (status : ProcessStatus) (slots : Slots) (sized : AreSized slots c ends.size)
       (moves : Moves x message q.state s) (one : sends_by (x.want q.state) c ≡ 1) where
     abbrev sent_now : ℕ
     sent_now = x.sent q.state c

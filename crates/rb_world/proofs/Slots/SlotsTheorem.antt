@@ -9,18 +9,18 @@ use Rattle.rb_world.specs.Turn.{Told, opening, run}
 use Rattle.rb_world.specs.Standing.{Each}
 use Rattle.rb_world.specs.Slots.{Slots, AllLieInSlots, from_slots, slot_of, stepped_with_slots, with_slots, zero_slots}
 use Rattle.rb_world.proofs.ListFacts.{none_some, some_same}
-use Rattle.rb_world.proofs.Invariant.{IsInvariant, both_kept}
-use Rattle.rb_world.proofs.Induction.{run-keeps}
-use Rattle.rb_world.proofs.EachProcess.{KeepsEach}
-use Rattle.rb_world.proofs.Simulation.{Knowing, copies_of}
-use Rattle.rb_world.proofs.RunsMeet.{KeepsKnown, WithPast, invariant_knows}
-use Rattle.rb_world.proofs.Image.{IsImage, stepped_image}
-use Rattle.rb_world.proofs.ImageRuns.{opening_run-image}
-use Rattle.rb_world.proofs.Reread.{ReadsSame, run-reread}
+use Rattle.rb_world.proofs.Keeping.Invariant.{IsInvariant, both_kept}
+use Rattle.rb_world.proofs.Keeping.Induction.{run-keeps}
+use Rattle.rb_world.proofs.Keeping.EachProcess.{KeepsEach}
+use Rattle.rb_world.proofs.Relating.Simulation.{Knowing, copies_of}
+use Rattle.rb_world.proofs.Relating.RunsMeet.{KeepsKnown, WithPast, invariant_knows}
+use Rattle.rb_world.proofs.Relating.Image.{IsImage, stepped_image}
+use Rattle.rb_world.proofs.Relating.ImageRuns.{opening_run-image}
+use Rattle.rb_world.proofs.Relating.Reread.{ReadsSame, run-reread}
 use Rattle.rb_world.proofs.Erasing.ErasableKinds.{Nothing, Parts, whole, IsErasable}
-use Rattle.rb_world.proofs.Erasing.ErasureInvariant.{Grounded, GroundedWithin, StillGrounded}
-use Rattle.rb_world.proofs.Erasing.Grounded.{grounded_kept, opening_grounded}
-use Rattle.rb_world.proofs.Erasing.SameLinesReleased.{IsImageAt, get_mapped}
+use Rattle.rb_world.proofs.Erasing.Showing.ErasureInvariant.{Grounded, GroundedWithin, StillGrounded}
+use Rattle.rb_world.proofs.Erasing.Grounding.Grounded.{grounded_kept, opening_grounded}
+use Rattle.rb_world.proofs.Erasing.Releasing.SameLinesReleased.{IsImageAt, get_mapped}
 use Rattle.rb_world.proofs.Slots.UnderSlots.{bare, under_slots}
 use Rattle.rb_world.proofs.Slots.SlotsKept.{TakesRise}
 use Rattle.rb_world.proofs.Slots.SlotsHold.{HoldsOn}

@@ -2,13 +2,13 @@
 use Rattle.std.proofs.Common.{◌≡◌, ℕ, ℤ, Bool, List, [], ◌∷◌, ◌++◌, map, position, slice_get, Option, Some, None, ◌+◌, nat_lt, refl, sym, ap, ap₂, ◌∙◌, subst}
 use Rattle.rb_base.specs.declared.event.Cause.{Cause}
 use Rattle.rb_world.specs.Kind.{Ends, Facts, Kind, Stepped, Trapped, Went, Held}
-use Rattle.rb_world.specs.World.{Level, Process, Status, World, change_at, is_of, last_of, with_process, with_each, with_talks, copy_of}
+use Rattle.rb_world.specs.World.{Level, Process, ProcessStatus, World, change_at, is_of, last_of, with_process, with_each, with_talks, copy_of}
 use Rattle.rb_world.specs.Channels.{has_room_on, has_room_for, message_on, message_between, first_message, room_from, seen_copy}
 use Rattle.rb_world.specs.Reject.{all_back, at_place, back_to, broken_talk, fallen_inside, first_again, next_talk, put_back, raised, where_inside}
 use Rattle.rb_world.specs.Turn.{freed, lines_freed}
 use Rattle.rb_world.specs.Slots.{Slots, stepped_with_slots, with_slots}
 use Rattle.rb_world.proofs.TurnFacts.{RunsAt, MayAct, IsReady, ToSend, ToReceive, ToReceiveIfThere, ToStart, ToAct, StepsAt, IsEntry, Alone, Joining, EntersAt, MustFall, NoLevelLeft, Barred, RejectsAt}
-use Rattle.rb_world.proofs.Invariant.{Between, Within, IsInvariant}
+use Rattle.rb_world.proofs.Keeping.Invariant.{Between, Within, IsInvariant}
 
 -- the world without its slots
 abbrev pub bare : {S C M : Type 0} → World S C (M × Slots) → World S C M
@@ -79,7 +79,7 @@ module _ {S C M : Type 0} (k : Kind S C M) where
   at_place-bare None q = refl
   at_place-bare (Some j) q = put_back-bare j q
 
-  freed-bare : (s : S) (levels : List (Level C)) (line : Bool) (status : Status)
+  freed-bare : (s : S) (levels : List (Level C)) (line : Bool) (status : ProcessStatus)
       → freed (with_slots k) (record { state = s; levels = levels; at_line = line; status = status })
       ≡ freed k (record { state = s; levels = levels; at_line = line; status = status })
   freed-bare s [] line status = refl

@@ -1,7 +1,7 @@
 use Rattle.std.proofs.Common.{refl, sym, pos}
-use Rattle.rb_grammar.proofs.Complete.{number_read}
+use Rattle.rb_grammar.proofs.Accepting.Complete.{number_read}
 use Rattle.rb_grammar.proofs.Reaching.{complete, exit_first, exit_sure, last_start, same_value, starts}
-use Rattle.rb_grammar.proofs.Starts.{no_number}
+use Rattle.rb_grammar.proofs.Accepting.Starts.{no_number}
 use Rattle.rb_grammar.proofs.Takes.{two_is}
 use Rattle.rb_grammar.specs.Parts.{Part}
 use Rattle.rb_lex.specs.Reader.{lexeme_of}

@@ -1,5 +1,5 @@
 use Rattle.rb_meaning.proofs.laws.erasure.Goals as goal
-use Rattle.rb_meaning.proofs.TreeErasure.{erasure}
+use Rattle.rb_meaning.proofs.Trees.TreeErasure.{erasure}
 
 pub returns : goal.returns
 returns c = erasure

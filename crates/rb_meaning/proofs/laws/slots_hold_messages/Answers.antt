@@ -1,5 +1,5 @@
 use Rattle.rb_meaning.proofs.laws.slots_hold_messages.Goals as goal
-use Rattle.rb_meaning.proofs.TreeSlots.{slots_hold_messages}
+use Rattle.rb_meaning.proofs.Trees.TreeSlots.{slots_hold_messages}
 
 pub returns : goal.returns
 returns c = slots_hold_messages

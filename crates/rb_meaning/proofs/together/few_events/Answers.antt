@@ -1,4 +1,4 @@
-use Rattle.rb_meaning.proofs.FewEventsOfTurns.{few_events as few}
+use Rattle.rb_meaning.proofs.Knowing.FewEventsOfTurns.{few_events as few}
 use Rattle.rb_meaning.proofs.together.few_events.Goals as goal
 
 -- src/together.rt:7:1

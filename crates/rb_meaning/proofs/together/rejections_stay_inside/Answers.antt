@@ -1,4 +1,4 @@
-use Rattle.rb_meaning.proofs.RejectionsStayInside.{rejections_stay_inside as stay}
+use Rattle.rb_meaning.proofs.Knowing.RejectionsStayInside.{rejections_stay_inside as stay}
 use Rattle.rb_meaning.proofs.together.rejections_stay_inside.Goals as goal
 
 pub returns : goal.returns

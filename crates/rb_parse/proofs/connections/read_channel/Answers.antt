@@ -2,7 +2,7 @@ use Rattle.std.proofs.Common.{refl, sym, ◌∙◌}
 use Rattle.rb_grammar.proofs.Made.{channel_of}
 use Rattle.rb_grammar.proofs.Pairs.{by_named, exit_two, opens}
 use Rattle.rb_grammar.proofs.Reaching.{by_part, by_terminal, complete, exit_missed, exit_within, same_value}
-use Rattle.rb_grammar.proofs.Starts.{no_channel}
+use Rattle.rb_grammar.proofs.Accepting.Starts.{no_channel}
 use Rattle.rb_grammar.specs.Parts.{Part}
 use Rattle.rb_parse.proofs.connections.read_channel.Goals as goal
 

@@ -1,8 +1,8 @@
 use Rattle.std.proofs.Common.{refl, sym, ◌∙◌, arith}
-use Rattle.rb_grammar.proofs.Forms.{connections_channel, connections_conversation}
+use Rattle.rb_grammar.proofs.Accepting.Forms.{connections_channel, connections_conversation}
 use Rattle.rb_grammar.proofs.Pushing.{channel_step, connections_end, connections_init, conversation_step}
 use Rattle.rb_grammar.proofs.Reaching.{begins_here, by_part, exit_memory, exit_within, within}
-use Rattle.rb_grammar.proofs.Starts.{no_connections, some_channel, some_conversation}
+use Rattle.rb_grammar.proofs.Accepting.Starts.{no_connections, some_channel, some_conversation}
 use Rattle.rb_grammar.specs.Parts.{Part}
 use Rattle.rb_grammar.specs.Table.{channels_after, conversations_after}
 use Rattle.rb_grammar.specs.declared.stop.Stop.TheVariants as stops

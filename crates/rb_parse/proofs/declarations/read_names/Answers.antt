@@ -1,7 +1,7 @@
 use Rattle.std.proofs.Common.{refl, sym, ap, ◌∙◌, arith, ◌∷◌}
 use Rattle.rb_grammar.proofs.Pushing.{names_end, names_init, names_step}
 use Rattle.rb_grammar.proofs.Reaching.{by_terminal, exhausts_within, exit_first, exit_memory, exit_missed, exit_sure, last_start, same_rest, starts, within}
-use Rattle.rb_grammar.proofs.Starts.{no_more_names, no_names}
+use Rattle.rb_grammar.proofs.Accepting.Starts.{no_more_names, no_names}
 use Rattle.rb_grammar.proofs.Takes.{name_taken}
 use Rattle.rb_grammar.specs.Parts.{Part}
 use Rattle.rb_grammar.specs.Plans.{Done}

@@ -1,6 +1,6 @@
 use Rattle.std.proofs.Common.{refl, sym, ap, map, []}
 use Rattle.rb_grammar.proofs.Reaching.{begins_here, by_part, complete, exit_within, passes, same_value}
-use Rattle.rb_grammar.proofs.Starts.{no_parameters, some_names}
+use Rattle.rb_grammar.proofs.Accepting.Starts.{no_parameters, some_names}
 use Rattle.rb_grammar.specs.ExpressionTable.{nothing_after}
 use Rattle.rb_grammar.specs.Parts.{Part}
 use Rattle.rb_syntax.specs.Plain.{identifier}

@@ -1,6 +1,6 @@
 use Rattle.std.proofs.Common.{None, refl, sym, ◌∙◌}
 use Rattle.rb_grammar.proofs.Reaching.{by_part, by_terminal, complete, exit_missed, exit_sure, exit_within, last_start, passes, starts}
-use Rattle.rb_grammar.proofs.Starts.{no_size}
+use Rattle.rb_grammar.proofs.Accepting.Starts.{no_size}
 use Rattle.rb_parse.proofs.declarations.read_size.Goals as goal
 
 pub returns-in_err-take-clause-err : goal.returns-in_err-take-clause-err

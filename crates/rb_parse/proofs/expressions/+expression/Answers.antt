@@ -1,11 +1,11 @@
 use Rattle.std.proofs.Common.{refl, sym, ap, subst, ◌∙◌, arith, [], ◌∷◌, ◌++◌, IfErr}
 use Rattle.rb_grammar.proofs.Begun.{compared_found, link_begun, operator_fits, word_found}
-use Rattle.rb_grammar.proofs.Forms.{atom_place, expression_chain, factor_atom, negation_comparison, quantified_begun}
+use Rattle.rb_grammar.proofs.Accepting.Forms.{atom_place, expression_chain, factor_atom, negation_comparison, quantified_begun}
 use Rattle.rb_grammar.proofs.Pushing.{links_end, links_init, links_step}
 use Rattle.rb_grammar.proofs.Reaching.{begins, by_part, by_terminal, complete, exhausts, exhausts_within, exit_first, exit_memory}
 use Rattle.rb_grammar.proofs.Reaching.{exit_missed, exit_sure, exit_within, last_start, passes, same_value, starts, unread}
 use Rattle.rb_grammar.proofs.Reaching.{within}
-use Rattle.rb_grammar.proofs.Starts.{fits_same, no_place, no_subscript, some_place}
+use Rattle.rb_grammar.proofs.Accepting.Starts.{fits_same, no_place, no_subscript, some_place}
 use Rattle.rb_grammar.proofs.Takes.{name_taken}
 use Rattle.rb_grammar.specs.ExpressionTable.{chain_after, compared_after, nothing_after, quantified_after, start_compared, start_link, variable_after}
 use Rattle.rb_grammar.specs.Machine.{Reads, Stops}

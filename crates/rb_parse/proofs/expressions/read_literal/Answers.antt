@@ -1,5 +1,5 @@
 use Rattle.std.proofs.Common.{refl, sym}
-use Rattle.rb_grammar.proofs.Forms.{atom_literal}
+use Rattle.rb_grammar.proofs.Accepting.Forms.{atom_literal}
 use Rattle.rb_grammar.proofs.Reaching.{begins, by_part, complete, exit_within, same_value}
 use Rattle.rb_grammar.specs.ExpressionTable.{literal_after}
 use Rattle.rb_grammar.specs.Parts.{Part}

@@ -1,4 +1,4 @@
-use Rattle.rb_grammar.proofs.GoesOn.{first_bad_token}
+use Rattle.rb_grammar.proofs.Stopping.GoesOn.{first_bad_token}
 use Rattle.rb_parse.proofs.laws.first_bad_token.Goals as goal
 
 pub returns : goal.returns

@@ -1,4 +1,4 @@
-use Rattle.rb_grammar.proofs.Complete.{one_tree}
+use Rattle.rb_grammar.proofs.Accepting.Complete.{one_tree}
 use Rattle.rb_parse.proofs.laws.has_one_tree.Goals as goal
 
 pub returns : goal.returns

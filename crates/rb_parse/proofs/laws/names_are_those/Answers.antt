@@ -1,4 +1,4 @@
-use Rattle.rb_grammar.proofs.Numbered.{names_are_those}
+use Rattle.rb_grammar.proofs.Numbering.Numbered.{names_are_those}
 use Rattle.rb_parse.proofs.laws.names_are_those.Goals as goal
 
 pub returns : goal.returns

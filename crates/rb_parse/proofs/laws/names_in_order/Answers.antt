@@ -1,4 +1,4 @@
-use Rattle.rb_grammar.proofs.Numbered.{names_in_order}
+use Rattle.rb_grammar.proofs.Numbering.Numbered.{names_in_order}
 use Rattle.rb_parse.proofs.laws.names_in_order.Goals as goal
 
 pub returns : goal.returns

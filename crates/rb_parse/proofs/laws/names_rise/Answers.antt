@@ -1,4 +1,4 @@
-use Rattle.rb_grammar.proofs.Rising.{names_rise}
+use Rattle.rb_grammar.proofs.Numbering.Rising.{names_rise}
 use Rattle.rb_parse.proofs.laws.names_rise.Goals as goal
 
 pub returns : goal.returns

@@ -1,7 +1,7 @@
 use Rattle.std.proofs.Common.{refl, sym, ◌∙◌, arith}
 use Rattle.rb_grammar.proofs.Pushing.{procedures_end, procedures_init, procedures_step}
 use Rattle.rb_grammar.proofs.Reaching.{begins_here, by_part, exit_memory, exit_within, within}
-use Rattle.rb_grammar.proofs.Starts.{no_procedures, some_procedure}
+use Rattle.rb_grammar.proofs.Accepting.Starts.{no_procedures, some_procedure}
 use Rattle.rb_grammar.specs.Parts.{Part}
 use Rattle.rb_grammar.specs.Table.{procedures_after}
 use Rattle.rb_grammar.specs.declared.stop.Stop.TheVariants as stops

@@ -2,7 +2,7 @@ use Rattle.std.proofs.Common.{refl, sym, ap, ◌∙◌, map}
 use Rattle.rb_grammar.proofs.Made.{process_of}
 use Rattle.rb_grammar.proofs.Pairs.{by_named, exit_two, opens}
 use Rattle.rb_grammar.proofs.Reaching.{by_part, by_terminal, complete, exit_missed, exit_within, same_value}
-use Rattle.rb_grammar.proofs.Starts.{no_process}
+use Rattle.rb_grammar.proofs.Accepting.Starts.{no_process}
 use Rattle.rb_grammar.specs.Parts.{Part}
 use Rattle.rb_syntax.specs.Plain.{commands_of, declaration, procedure_declaration}
 use Rattle.rb_parse.proofs.program.read_process.Goals as goal

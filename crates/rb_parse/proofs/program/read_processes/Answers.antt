@@ -1,7 +1,7 @@
 use Rattle.std.proofs.Common.{refl, sym, ◌∙◌, arith}
 use Rattle.rb_grammar.proofs.Pushing.{processes_end, processes_init, processes_step}
 use Rattle.rb_grammar.proofs.Reaching.{begins, begins_here, by_part, exit_memory, exit_within, within}
-use Rattle.rb_grammar.proofs.Starts.{no_more_processes, some_process}
+use Rattle.rb_grammar.proofs.Accepting.Starts.{no_more_processes, some_process}
 use Rattle.rb_grammar.specs.Parts.{Part}
 use Rattle.rb_grammar.specs.Table.{processes_after}
 use Rattle.rb_grammar.specs.declared.stop.Stop.TheVariants as stops

@@ -1,5 +1,5 @@
 use Rattle.std.proofs.Common.{refl, sym, ◌∙◌}
-use Rattle.rb_grammar.proofs.Forms.{program_unmarked}
+use Rattle.rb_grammar.proofs.Accepting.Forms.{program_unmarked}
 use Rattle.rb_grammar.proofs.Reaching.{begins, by_part, by_terminal, complete, exit_missed, exit_sure, exit_within, last_start, starts}
 use Rattle.rb_grammar.specs.ExpressionTable.{nothing_after}
 use Rattle.rb_grammar.specs.Parts.{Part}

@@ -2,7 +2,7 @@ use Rattle.std.proofs.Common.{refl, ◌∙◌}
 use Rattle.rb_grammar.proofs.Made.{made_program}
 use Rattle.rb_grammar.proofs.Pairs.{by_named, by_two, exit_two, opens}
 use Rattle.rb_grammar.proofs.Reaching.{by_part, by_terminal, complete, exit_missed, exit_within, same_value}
-use Rattle.rb_grammar.proofs.Starts.{no_unmarked}
+use Rattle.rb_grammar.proofs.Accepting.Starts.{no_unmarked}
 use Rattle.rb_grammar.specs.Parts.{Part}
 use Rattle.rb_parse.proofs.program.read_unmarked.Goals as goal
 

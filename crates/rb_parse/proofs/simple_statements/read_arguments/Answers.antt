@@ -1,5 +1,5 @@
 use Rattle.std.proofs.Common.{refl, sym, ap, ◌∙◌, map, []}
-use Rattle.rb_grammar.proofs.Forms.{begin_none, begin_some, begin_still}
+use Rattle.rb_grammar.proofs.Accepting.Forms.{begin_none, begin_some, begin_still}
 use Rattle.rb_grammar.proofs.Reaching.{begins_here, by_part, complete, exit_within, passes, same_value}
 use Rattle.rb_grammar.specs.ExpressionTable.{nothing_after, start_expression}
 use Rattle.rb_grammar.specs.Parts.{Part}

@@ -1,5 +1,5 @@
 use Rattle.std.proofs.Common.{refl, sym, ◌∙◌}
-use Rattle.rb_grammar.proofs.Forms.{statement_assignment}
+use Rattle.rb_grammar.proofs.Accepting.Forms.{statement_assignment}
 use Rattle.rb_grammar.proofs.Reaching.{begins, by_part, by_terminal, complete, exit_missed, exit_within, same_value}
 use Rattle.rb_grammar.specs.Parts.{Part}
 use Rattle.rb_grammar.specs.StatementTable.{assignment_after}

@@ -1,7 +1,7 @@
 use Rattle.std.proofs.Common.{refl, sym, ◌∙◌, arith}
 use Rattle.rb_grammar.proofs.Pushing.{values_end, values_init, values_step}
 use Rattle.rb_grammar.proofs.Reaching.{begins, by_part, exhausts_within, exit_memory, exit_sure, exit_within, last_start, starts, within}
-use Rattle.rb_grammar.proofs.Starts.{no_more_expressions}
+use Rattle.rb_grammar.proofs.Accepting.Starts.{no_more_expressions}
 use Rattle.rb_grammar.specs.Parts.{Part}
 use Rattle.rb_grammar.specs.StatementTable.{expressions_after}
 use Rattle.rb_grammar.specs.declared.stop.Stop.TheVariants as stops

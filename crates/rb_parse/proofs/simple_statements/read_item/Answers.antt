@@ -1,7 +1,7 @@
 use Rattle.std.proofs.Common.{refl, sym, ap, ◌∙◌}
-use Rattle.rb_grammar.proofs.Forms.{item_amount}
+use Rattle.rb_grammar.proofs.Accepting.Forms.{item_amount}
 use Rattle.rb_grammar.proofs.Reaching.{begins, by_part, complete, exit_sure, exit_within, last_start, same_value, starts, stops_first}
-use Rattle.rb_grammar.proofs.Starts.{no_item, place_first, text_at}
+use Rattle.rb_grammar.proofs.Accepting.Starts.{no_item, place_first, text_at}
 use Rattle.rb_grammar.specs.Grammar.{between_quotes}
 use Rattle.rb_grammar.specs.Machine.{first_of}
 use Rattle.rb_grammar.specs.Parts.{Part}

@@ -1,12 +1,12 @@
 use Rattle.std.proofs.Common.{None, refl, sym, ap, ◌∙◌, arith}
-use Rattle.rb_grammar.proofs.Forms.{other_alternate, statement_recovery}
+use Rattle.rb_grammar.proofs.Accepting.Forms.{other_alternate, statement_recovery}
 use Rattle.rb_grammar.proofs.Made.{recovery_made}
 use Rattle.rb_grammar.proofs.Pushing.{alternates_end, alternates_init, alternates_step, statements_end, statements_init, statements_step}
 use Rattle.rb_grammar.proofs.Pairs.{by_named, exit_two, opens_sure}
 use Rattle.rb_grammar.proofs.Reaching.{begins, begins_here, by_part, by_terminal, complete, exit_first, exit_memory, exit_missed}
 use Rattle.rb_grammar.proofs.Reaching.{exit_sure, exit_within, last_start, passes, same_value, starts, within}
 use Rattle.rb_grammar.proofs.Receipts.{else_begins, else_stands, no_receipt_end, receipt_else, receipt_wait, wait_begins}
-use Rattle.rb_grammar.proofs.Starts.{no_alternate, no_block, no_else, no_recovery, no_statements, same_statements, some_alternate, some_recovery}
+use Rattle.rb_grammar.proofs.Accepting.Starts.{no_alternate, no_block, no_else, no_recovery, no_statements, same_statements, some_alternate, some_recovery}
 use Rattle.rb_grammar.specs.Finding.{may_not_wait}
 use Rattle.rb_grammar.specs.Grammar.{joined}
 use Rattle.rb_grammar.specs.Parts.{Part}
