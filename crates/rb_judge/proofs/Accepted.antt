@@ -2,7 +2,7 @@
 use Rattle.rb_meaning.specs.Laws.{OfEveryNested}
 use Rattle.rb_meaning.specs.Nesting.{IsNested}
 use Rattle.rb_nest.proofs.Accepted as nesting
-use Rattle.rb_grammar.proofs.Bounded.{trees_are_shallow}
+use Rattle.rb_grammar.proofs.Depth.Bounded.{trees_are_shallow}
 use Rattle.rb_syntax.specs.Tree.{Tree}
 use Rattle.rb_scope.specs.Limits.{HasDistinctNames, IsWithinLimits}
 use Rattle.rb_scope.proofs.DistinctNames.{have_distinct_names}

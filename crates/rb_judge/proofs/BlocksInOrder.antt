@@ -3,7 +3,7 @@ use Rattle.std.proofs.Common.{◌≡◌, ℕ, ◌+◌, List, [], ◌∷◌, leng
 use Rattle.rb_base.specs.declared.place.Place.{Place}
 use Rattle.rb_grammar.specs.Laws.{CountUp}
 use Rattle.rb_grammar.specs.Order.{Recovery, alternates_told, body_told, command_told, commands_told, each, expression_told, otherwise_told, procedure_told, process_told, recoveries_alone, recovery_at, recovery_told}
-use Rattle.rb_grammar.proofs.Numbered.{recoveries_count_up, no_names}
+use Rattle.rb_grammar.proofs.Numbering.Numbered.{recoveries_count_up, no_names}
 use Rattle.rb_syntax.specs.Numbered.{AlternatesNumbered, BodyNumbered, CommandNumbered, CommandsNumbered, OtherwiseNumbered, ProceduresNumbered, ProcessNumbered, ProcessesNumbered, RecoveryNumbered, blocks_in, blocks_in_alternates, blocks_in_body, blocks_in_command, blocks_in_otherwise, blocks_in_procedures, blocks_in_process, blocks_in_processes, blocks_in_recovery}
 use Rattle.rb_syntax.specs.Tree.{Command, Assignment, Printing, Sending, Receiving, Conditional, Loop, Invocation, Failure, Recovering, Commands, NoCommand, Then, Body, Scope, Otherwise, NoElse, Else, RecoveryBlock, Recovers, Alternates, NoAlternate, Alternate, ProcedureDeclaration, ProcessDeclaration}
 use Rattle.rb_judge.specs.Laws.{ParsedAreNumbered}

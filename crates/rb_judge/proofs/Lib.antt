@@ -8,6 +8,7 @@ pub mod NamesInTrees
 pub mod OwnNumbers
 -- How names and texts are spelled.
 pub mod TokensSpelled
+pub mod SourceEditions
 pub mod Spelling
 -- Verdicts, and what holds of accepted sources.
 pub mod Verdicts

@@ -2,12 +2,13 @@
 -- others. This file counts expressions and statements.
 use Rattle.std.proofs.Common.{◌≡◌, ℕ, ◌+◌, List, [], ◌∷◌, ◌++◌, Option, Some, None, arith}
 use Rattle.std.specs.List.{flat_map}
+use Rattle.rb_base.specs.declared.limits.TheConstants.{MOST_ITEMS}
 use Rattle.rb_base.specs.declared.place.Place.{Place}
 use Rattle.rb_grammar.specs.Order.{alternates_told, body_told, command_told, commands_told, declaration_told, each, expression_told, if_named, item_told, links_told, names_alone, otherwise_told, printed_told, recovery_told, reference_told}
 use Rattle.rb_syntax.specs.declared.expression.Number.{Number}
 use Rattle.rb_syntax.specs.Tree.{Identifier, Expression, Literal, Variable, Former, Minus, Negation, Chained, Quantification, Reference, Refer, Scalar, Element, Links, NoLink, Linked, Declaration, Printed, Words, Amount, PrintItem, Command, Assignment, Printing, Sending, Receiving, Conditional, Loop, Invocation, Failure, Recovering, Commands, NoCommand, Then, Body, Scope, Otherwise, NoElse, Else, RecoveryBlock, Recovers, Alternates, NoAlternate, Alternate}
 use Rattle.rb_scope.specs.Scopes.{Declared, variables_from, words_in, words_of}
-use Rattle.rb_scope.specs.Sites.{Site, Declares, Uses, Spot, alternates_sites, body_sites, command_sites, commands_sites, counter, expression_sites, joined_sites, links_sites, list_sites, most_items, otherwise_sites, printed_sites, quantified, recovery_sites, reference_sites, scope_sites, size_sites, tested, within}
+use Rattle.rb_scope.specs.Sites.{Site, Declares, Uses, Spot, alternates_sites, body_sites, command_sites, commands_sites, counter, expression_sites, joined_sites, links_sites, list_sites, otherwise_sites, printed_sites, quantified, recovery_sites, reference_sites, scope_sites, size_sites, tested, within}
 use Rattle.rb_scope.specs.Slots.{number_at}
 use Rattle.rb_scope.specs.declared.slot.Slot.{Slot}
 use Rattle.rb_scope.specs.declared.slot.Slot.TheVariants.{Local}
@@ -135,7 +136,7 @@ mutual
   command_names n spot (Assignment to value) rest =
       both (reference_names n spot AScalar to (expression_told names_alone value rest)) (expression_names n spot value rest)
   command_names n spot (Printing items) rest =
-      both (no_list n (λ item. item.place) most_items 0 items (each (item_told names_alone) items rest)) (items_names n spot items rest)
+      both (no_list n (λ item. item.place) MOST_ITEMS 0 items (each (item_told names_alone) items rest)) (items_names n spot items rest)
   command_names n spot (Sending channel value) rest = using _ channel spot.scopes (expression_names n spot value rest)
   command_names n spot (Receiving channel to otherwise) rest =
       using _ channel spot.scopes

@@ -2,14 +2,15 @@
 -- names of procedures, channels, conversations and processes are counted apart.
 use Rattle.std.proofs.Common.{◌≡◌, ℕ, ◌+◌, true, false, cond, List, [], ◌∷◌, ◌++◌, length, refl, arith}
 use Rattle.std.specs.List.{flat_map}
-use Rattle.rb_base.specs.Limits.{most_words}
+use Rattle.rb_base.specs.declared.limits.TheConstants.{MOST_CONNECTIONS, MOST_PARAMETERS}
+use Rattle.rb_base.specs.Limits.{most_processes, most_words}
 use Rattle.rb_base.specs.declared.place.Place.{Place}
 use Rattle.rb_base.specs.declared.edition.Edition.{Edition}
 use Rattle.rb_grammar.specs.Order.{body_told, channel_told, commands_told, conversation_told, declaration_told, each, names_alone, procedure_told, process_told, tree_names}
 use Rattle.rb_syntax.specs.Tree.{Identifier, Declaration, Body, Scope, ChannelDeclaration, ConversationDeclaration, ProcedureDeclaration, ProcessDeclaration, Tree}
 use Rattle.rb_scope.specs.FirstFault.{is_before}
 use Rattle.rb_scope.specs.Scopes.{Declared, channels_from, conversations_from, in_text_order, parameters_from, procedures_from, process_scope, processes_from, program_scope, take_place, variables_from, words_in, words_of}
-use Rattle.rb_scope.specs.Sites.{Site, Spot, channel_sites, conversation_sites, in_program, list_sites, member_sites, most_connections, most_parameters, most_processes, commands_sites, procedure_sites, process_sites, scope_sites, size_sites, within, words_sites}
+use Rattle.rb_scope.specs.Sites.{Site, Spot, channel_sites, conversation_sites, in_program, list_sites, member_sites, commands_sites, procedure_sites, process_sites, scope_sites, size_sites, within, words_sites}
 use Rattle.rb_scope.specs.Slots.{numbers_in}
 use Rattle.rb_scope.specs.declared.slot.Slot.TheVariants.{Global, Local}
 use Rattle.rb_judge.proofs.Hits.{hit, hits, named}
@@ -61,7 +62,7 @@ procedure_names : (n : ℕ) (spot : Spot) (name : Identifier) (parameters : List
 procedure_names n spot name parameters (Scope variables commands) rest =
     let told : List Identifier = commands_told names_alone commands rest in
     let own : List Declared = variables_from Local (length parameters) variables in
-    both (no_list n (λ one. one.place) most_parameters 0 parameters _)
+    both (no_list n (λ one. one.place) MOST_PARAMETERS 0 parameters _)
     (both (parameters_names n 0 [] parameters (each (declaration_told names_alone) variables told) told own
     (λ before. variables_names n Local (length parameters) before variables told))
     (both (no_sizes n variables told)
@@ -159,17 +160,17 @@ tree_names_hit n tree =
     let ordered = among-in_text_order n (conversations_from 0 tree.conversations) (channels_from 0 tree.channels) in
     let declared = among-append n connections (processes_from 0 tree.processes) in
     let scope = at_scope n [] (program_scope tree) in
-    let no_channels = no_lists n (λ one. one.name.place) most_connections tree.channels in
-    let no_conversations = no_lists n (λ one. one.name.place) most_connections tree.conversations in
+    let no_channels = no_lists n (λ one. one.name.place) MOST_CONNECTIONS tree.channels in
+    let no_conversations = no_lists n (λ one. one.name.place) MOST_CONNECTIONS tree.conversations in
     let no_processes = no_lists n (λ one. one.name.place) (most_processes tree.edition) tree.processes in
     let last : List Site = flat_map (conversation_sites spot) tree.conversations ++ flat_map (process_sites tree.edition spot) tree.processes in
     let fifth : List Site = flat_map (channel_sites spot) tree.channels ++ last in
     let fourth : List Site = list_sites (λ one. one.name.place) (most_processes tree.edition) 0 tree.processes ++ fifth in
-    let third : List Site = list_sites (λ one. one.name.place) most_connections 0 tree.conversations ++ fourth in
-    let second : List Site = list_sites (λ one. one.name.place) most_connections 0 tree.channels ++ third in
+    let third : List Site = list_sites (λ one. one.name.place) MOST_CONNECTIONS 0 tree.conversations ++ fourth in
+    let second : List Site = list_sites (λ one. one.name.place) MOST_CONNECTIONS 0 tree.channels ++ third in
     let with_scope = at_sites-append n (scope_sites [] (program_scope tree)) second in
-    let with_channels = at_sites-append n (list_sites (λ one. one.name.place) most_connections 0 tree.channels) third in
-    let with_conversations = at_sites-append n (list_sites (λ one. one.name.place) most_connections 0 tree.conversations) fourth in
+    let with_channels = at_sites-append n (list_sites (λ one. one.name.place) MOST_CONNECTIONS 0 tree.channels) third in
+    let with_conversations = at_sites-append n (list_sites (λ one. one.name.place) MOST_CONNECTIONS 0 tree.conversations) fourth in
     let with_processes = at_sites-append n (list_sites (λ one. one.name.place) (most_processes tree.edition) 0 tree.processes) fifth in
     let in_channels = at_sites-append n (flat_map (channel_sites spot) tree.channels) last in
     let in_conversations =

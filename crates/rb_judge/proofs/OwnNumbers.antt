@@ -2,7 +2,7 @@
 use Rattle.std.proofs.Common.{◌≡◌, ℕ, length, sym, ◌∙◌, arith}
 use Rattle.std.proofs.lemmas.List.Sorted.{length_permutation}
 use Rattle.rb_grammar.specs.Order.{names_from, tree_names}
-use Rattle.rb_grammar.proofs.Numbered.{names_are_those, names_count_up}
+use Rattle.rb_grammar.proofs.Numbering.Numbered.{names_are_those, names_count_up}
 use Rattle.rb_scope.specs.Slots.{numbers_in}
 use Rattle.rb_judge.specs.Laws.{ParsedHaveOwnNumbers}
 use Rattle.rb_judge.proofs.Hits.{all_within, distinct, hits, named, named_once, none_named_above, same_named}

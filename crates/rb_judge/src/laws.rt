@@ -42,7 +42,7 @@ pub fn accepted_have_distinct_names()
     ensures { OfEveryAccepted HasDistinctNames }
 {}
 
-/// Its declared names are names of at most 64 bytes, and its texts hold at most 256, none of which is a quote or unprintable.
+/// Its declared names are names of at most 64 bytes and no reserved words of its edition, and its texts hold at most 256, none of which is a quote or unprintable.
 pub fn accepted_are_spelled()
     ensures { OfEveryAccepted IsSpelled }
 {}

@@ -9,7 +9,7 @@ use Rattle.rb_base.specs.declared.place.Place.{Place}
 use Rattle.rb_syntax.specs.Tree.{ChannelDeclaration, Tree}
 use Rattle.rb_meaning.specs.Groups.{ends_of}
 use Rattle.rb_meaning.specs.Nesting.{Use, keeps_n1, keeps_n10, keeps_n12, keeps_n2, keeps_n4, keeps_n5, keeps_n8, keeps_n9, uses_of}
-use Rattle.rb_meaning.proofs.NestedProgram.{both_hold}
+use Rattle.rb_meaning.proofs.Nesting.NestedProgram.{both_hold}
 use Rattle.rb_scope.specs.Rules.{where_broken}
 use Rattle.rb_scope.proofs.EachSite.{first-empty, second-empty}
 use Rattle.rb_nest.specs.Laws.{AcceptedAreNested}

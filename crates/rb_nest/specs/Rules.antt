@@ -3,6 +3,7 @@
 -- is Randell's (1975); all else that this crate defines is this project's own.
 use Rattle.std.specs.Prelude.{ℕ, ◌+◌, nat_eq, nat_lt, Bool, true, false, not, cond, ◌&&◌, List, [], ◌∷◌, ◌++◌, length, Option, Some, None}
 use Rattle.std.specs.List.{list_any, list_all, flat_map}
+use Rattle.rb_base.specs.declared.limits.TheConstants.{MOST_NESTED}
 use Rattle.rb_base.specs.declared.fault.SourceFault.{SourceFault}
 use Rattle.rb_base.specs.declared.fault.FaultName.TheVariants.{N1, N2, N3, N4, N5, N6, N7, N8, N9, N10, N11, N12, N13}
 use Rattle.rb_syntax.specs.Tree.{Identifier, ChannelDeclaration, ConversationDeclaration, Tree}
@@ -45,13 +46,9 @@ conversations_around [] = 0
 conversations_around (None ∷ around) = conversations_around around
 conversations_around (Some name ∷ around) = conversations_around around + 1
 
--- the most conversations that stand inside each other
-abbrev pub most_nested : ℕ
-most_nested = 8
-
 -- N13: fewer than so many others are around a `converse`
 abbrev pub keeps_n13 : Use → Bool
-keeps_n13 one = if_joins one.deed (nat_lt (conversations_around one.spot.around) most_nested)
+keeps_n13 one = if_joins one.deed (nat_lt (conversations_around one.spot.around) MOST_NESTED)
 
 -- the rules of a use, before which these uses stand in the text
 abbrev pub use_faults : Tree → List Use → Use → List SourceFault

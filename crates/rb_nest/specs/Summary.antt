@@ -1,6 +1,7 @@
 -- What the rules of nesting ask of a use. The recovery blocks around it are told by the answers that they give.
 use Rattle.std.specs.Prelude.{ℕ, nat_eq, nat_lt, Bool, true, false, not, cond, ◌&&◌, List, [], ◌∷◌, ◌++◌, map, filter, slice_get, Option, Some, None}
 use Rattle.std.specs.List.{list_any, list_all}
+use Rattle.rb_base.specs.declared.limits.TheConstants.{MOST_NESTED}
 use Rattle.rb_base.specs.declared.fault.SourceFault.{SourceFault}
 use Rattle.rb_base.specs.declared.fault.FaultName.TheVariants.{N1, N2, N3, N4, N5, N7, N8, N9, N10, N13}
 use Rattle.rb_syntax.specs.Tree.{Identifier, Tree}
@@ -12,7 +13,7 @@ use Rattle.rb_meaning.specs.Environment.{same_name}
 use Rattle.rb_meaning.specs.Groups.{channel_number, channels_of, conversation_number, conversation_of, groups_of}
 use Rattle.rb_meaning.specs.Nesting.{Deed, Joins, Sends, Receives, Use, alternates_of, have_both, innermost, is_converse, is_end, is_member, is_same_conversation, joined_with, members_in, uses_of}
 use Rattle.rb_scope.specs.Rules.{where_broken}
-use Rattle.rb_nest.specs.Rules.{are_among, conversations_around, most_nested}
+use Rattle.rb_nest.specs.Rules.{are_among, conversations_around}
 
 -- a use: its name with the number that the name has, what is done there, and where; the innermost conversation around, whether
 -- each recovery block around is a `converse`, and whether one conversation more may stand inside those around
@@ -41,7 +42,7 @@ summary tree one = record {
   in_procedure = one.spot.in_procedure;
   within = conversation_of tree (innermost one.spot.around);
   all_converse = list_all is_converse one.spot.around;
-  has_room = nat_lt (conversations_around one.spot.around) most_nested;
+  has_room = nat_lt (conversations_around one.spot.around) MOST_NESTED;
 }
 
 -- all uses of a tree

@@ -3,14 +3,12 @@
 ghost use Rattle.std.specs.Prelude.{◌≡◌, nat_lt, ◌+◌};
 ghost use Rattle.std.specs.List.{list_all};
 ghost use Rattle.rb_meaning.specs.Nesting.{is_converse};
-ghost use Rattle.rb_nest.specs.Rules.{conversations_around, most_nested};
+ghost use Rattle.rb_nest.specs.Rules.{conversations_around};
 ghost use Rattle.rb_nest.specs.Blocks.{blocks_of, numbers_of};
 ghost use Rattle.rb_nest.specs.Answers.{first_answer};
 
+use rb_base::MOST_NESTED;
 use rb_syntax::Name;
-
-/// The most conversations that stand inside each other.
-const MOST_NESTED: usize = 8;
 
 /// The conversation of a recovery block, with its number.
 #[derive(Clone, Copy)]
@@ -57,7 +55,7 @@ impl Blocks<'_, '_> {
 
     /// Whether one conversation more may stand inside those around.
     pub(crate) fn has_room(&self) -> bool
-        ensures { result ≡ nat_lt (conversations_around (blocks_of self.now)) most_nested }
+        ensures { result ≡ nat_lt (conversations_around (blocks_of self.now)) MOST_NESTED }
     {
         let mut conversations = 0;
         let mut rest = self;

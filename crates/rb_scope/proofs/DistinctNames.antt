@@ -1,6 +1,6 @@
 -- In the scope of a program without a fault each name is declared once, so its processes, channels and conversations have names of
 -- their own.
-use Rattle.std.proofs.Common.{◌≡◌, ℕ, ◌+◌, ◌≤◌, Bool, true, false, cond, List, [], ◌∷◌, ◌++◌, map, refl, sym, ap, subst, ◌∙◌, arith}
+use Rattle.std.proofs.Common.{◌≡◌, ℕ, ◌+◌, ◌≤◌, Bool, true, false, cond, List, [], ◌∷◌, ◌++◌, map, refl, sym, ap, ap₂, subst, ◌∙◌, arith}
 use Rattle.std.specs.List.{AllByRecursion, IsDistinct, list_any}
 use Rattle.std.proofs.Math.Seq.{append_snoc}
 use Rattle.std.proofs.lemmas.Bool.{or_parts}
@@ -10,7 +10,7 @@ use Rattle.std.proofs.lemmas.Slice.Eq.{bytes_eq-Decides}
 use Rattle.rb_syntax.specs.Tree.{ChannelDeclaration, ConversationDeclaration, Identifier, ProcessDeclaration, Tree}
 use Rattle.rb_meaning.specs.Environment.{same_name}
 use Rattle.rb_scope.specs.FirstFault.{is_before}
-use Rattle.rb_scope.specs.Limits.{AreDistinct, HasDistinctNames}
+use Rattle.rb_scope.specs.Limits.{AreDistinct, HasDistinctNames, outer_names}
 use Rattle.rb_scope.specs.Rules.{faults_of, is_declared_twice, is_named}
 use Rattle.rb_scope.specs.Scopes.{Declared, channels_from, conversations_from, in_text_order, processes_from, program_scope, take_place}
 use Rattle.rb_scope.specs.Sites.{scope_sites, tree_sites}
@@ -149,6 +149,22 @@ program-once tree kept x =
       count-in_text_order x conversations channels,
     )
 
+-- the names of all three rows
+names-append : (ds es : List Declared) → names_in (ds ++ es) ≡ names_in ds ++ names_in es
+names-append [] es = refl
+names-append (one ∷ others) es = ap (λ xs. one.name.text ∷ xs) (names-append others es)
+
+row_names : (tree : Tree)
+    → names_in (processes_from 0 tree.processes ++ channels_from 0 tree.channels ++ conversations_from 0 tree.conversations) ≡ outer_names tree
+row_names tree =
+    let ps = processes_from 0 tree.processes in
+    let cs = channels_from 0 tree.channels in
+    let ds = conversations_from 0 tree.conversations in
+    names-append (ps ++ cs) ds
+    ∙ ap (λ xs. xs ++ names_in ds) (names-append ps cs ∙ ap₂ ◌++◌ (process_names 0 tree.processes) (channel_names 0 tree.channels))
+    ∙ ap (λ xs. map (λ process. process.name.text) tree.processes ++ map (λ channel. channel.name.text) tree.channels ++ xs)
+    (conversation_names 0 tree.conversations)
+
 pub have_distinct_names : (tree : Tree) → faults_of tree ≡ [] → HasDistinctNames tree
 have_distinct_names tree e =
     let once = program-once tree (all_kept tree e) in record {
@@ -161,4 +177,13 @@ have_distinct_names tree e =
       conversations =
           subst AreDistinct (conversation_names 0 tree.conversations)
           (distinct_names (conversations_from 0 tree.conversations) (λ x. omega (arith, once x)));
+      all =
+          subst AreDistinct (row_names tree)
+          (distinct_names (processes_from 0 tree.processes ++ channels_from 0 tree.channels ++ conversations_from 0 tree.conversations)
+          (λ x. omega (
+            arith,
+            once x,
+            count-append x (processes_from 0 tree.processes ++ channels_from 0 tree.channels) (conversations_from 0 tree.conversations),
+            count-append x (processes_from 0 tree.processes) (channels_from 0 tree.channels),
+          )));
     }

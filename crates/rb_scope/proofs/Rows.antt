@@ -3,12 +3,13 @@
 use Rattle.std.proofs.Common.{◌≡◌, ℕ, pos, ◌+◌, ◌≤◌, Bool, true, false, cond, List, [], ◌∷◌, ◌++◌, length, option_map, replicate, Option, Some, None, refl, sym, ap, subst, ◌∙◌, add-zero, add_assoc, arith}
 use Rattle.std.proofs.lemmas.List.{length-replicate}
 use Rattle.std.proofs.lemmas.List.Sums.{sum_by-cons}
+use Rattle.rb_base.specs.declared.limits.TheConstants.{MOST_ELEMENTS}
 use Rattle.rb_syntax.specs.declared.expression.Number.{Number}
 use Rattle.rb_syntax.specs.Tree.{Declaration, Identifier}
 use Rattle.rb_meaning.specs.Environment.{frame_of, natural, or_else, same_name, size_of}
 use Rattle.rb_meaning.specs.Step.{bound_to}
 use Rattle.rb_scope.specs.Frames.{Sized, lies_in, moved, shape_of, shape_words}
-use Rattle.rb_scope.specs.Scopes.{Declared, declared, declared_in, elements, most_elements, parameters_from, variables_from, words_in, words_of}
+use Rattle.rb_scope.specs.Scopes.{Declared, declared, declared_in, elements, parameters_from, variables_from, words_in, words_of}
 use Rattle.rb_scope.specs.declared.slot.Slot.{Slot}
 use Rattle.rb_scope.specs.declared.slot.Slot.TheVariants.{Local}
 use Rattle.rb_scope.proofs.Uses.{HasArraySize, HaveArraySizes, array_words, same_words}
@@ -16,7 +17,7 @@ use Rattle.rb_scope.proofs.Uses.{HasArraySize, HaveArraySizes, array_words, same
 -- a scalar has one word; an array has as many as it has elements, which are some and not too many
 abbrev pub HasWords : Option ℕ → ℕ → Type 0
 HasWords None words = words ≡ 1
-HasWords (Some n) words = (n ≡ words) × (1 ≤ words) × (words ≤ most_elements)
+HasWords (Some n) words = (n ≡ words) × (1 ≤ words) × (words ≤ MOST_ELEMENTS)
 
 -- A declaration whose slot, of the words of this row, is that of the words that lie there, where the row begins at this word;
 -- or no declaration, and no words

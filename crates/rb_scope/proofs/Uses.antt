@@ -2,10 +2,11 @@
 use Rattle.std.proofs.Common.{◌≡◌, ℕ, ◌≤◌, true, false, not, cond, ◌&&◌, nat_eq, List, [], Option, Some, None, refl, sym, ap, ◌∙◌}
 use Rattle.std.specs.List.{AllByRecursion, flat_map, slice_get}
 use Rattle.std.proofs.lemmas.Bool.{not-false, eqb-true, and_parts, leb-true}
+use Rattle.rb_base.specs.declared.limits.TheConstants.{MOST_ELEMENTS}
 use Rattle.rb_syntax.specs.declared.expression.Number.{Number}
 use Rattle.rb_syntax.specs.Tree.{Declaration, Identifier}
 use Rattle.rb_meaning.specs.Environment.{natural, size_of}
-use Rattle.rb_scope.specs.Scopes.{Declared, is_array_size, most_elements, words_of}
+use Rattle.rb_scope.specs.Scopes.{Declared, is_array_size, words_of}
 use Rattle.rb_scope.specs.Sites.{size_sites}
 use Rattle.rb_scope.specs.Rules.{fits, is_miscalled, misused}
 use Rattle.rb_scope.specs.Slots.{StandsFor}
@@ -65,7 +66,7 @@ same_words None h = refl
 same_words (Some number) h = ap (λ b. cond b (natural number.value) 0) h
 
 -- an array has at least one element, and not too many
-pub array_words : (n : ℕ) → is_array_size n ≡ true → (1 ≤ n) × (n ≤ most_elements)
+pub array_words : (n : ℕ) → is_array_size n ≡ true → (1 ≤ n) × (n ≤ MOST_ELEMENTS)
 array_words n h =
     let both = and_parts _ _ h in
-    (leb-true 1 n both.0, leb-true n most_elements both.1)
+    (leb-true 1 n both.0, leb-true n MOST_ELEMENTS both.1)

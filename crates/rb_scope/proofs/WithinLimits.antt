@@ -4,17 +4,17 @@ use Rattle.std.proofs.lemmas.Bool.{and_parts, eqb-false, leb-true, not-false}
 use Rattle.std.proofs.lemmas.Bool.Decides.{nat_tests}
 use Rattle.std.proofs.lemmas.List.Sums.{sum_by-cons}
 use Rattle.rb_base.specs.declared.edition.Edition.{Edition}
-use Rattle.rb_base.specs.declared.limits.TheConstants.{MOST_TURNS}
+use Rattle.rb_base.specs.declared.limits.TheConstants.{MOST_CHANNEL_SIZE, MOST_CONNECTIONS, MOST_ITEMS, MOST_PARAMETERS, MOST_TURNS}
 use Rattle.rb_base.specs.declared.place.Place.{Place}
-use Rattle.rb_base.specs.Limits.{most_words}
+use Rattle.rb_base.specs.Limits.{most_processes, most_words}
 use Rattle.rb_syntax.specs.declared.expression.Number.{Number}
 use Rattle.rb_syntax.specs.Tree.{Body, ChannelDeclaration, Command, Assignment, Printing, Sending, Receiving, Conditional, Loop, Invocation, Failure, Recovering, Commands, ConversationDeclaration, Declaration, Identifier, NoCommand, PrintItem, Then, Scope, Otherwise, NoElse, Else, RecoveryBlock, Recovers, Alternates, NoAlternate, Alternate, ProcedureDeclaration, ProcessDeclaration, Tree}
 use Rattle.rb_meaning.specs.Environment.{Frame, Stored, frame_of, frame_words, natural}
 use Rattle.rb_scope.specs.Frames.{Sized, shape_of, shape_words}
 use Rattle.rb_scope.specs.Limits.{AlternatesWithin, BodyWithin, CommandWithin, CommandsWithin, IsFrom1To, IsWithinLimits, OtherwiseWithin, ProcedureWithin, ProcessWithin, RecoveryWithin}
-use Rattle.rb_scope.specs.Rules.{faults_of, is_outside, most_channel_size}
+use Rattle.rb_scope.specs.Rules.{faults_of, is_outside}
 use Rattle.rb_scope.specs.Scopes.{variables_from, words_in, words_of}
-use Rattle.rb_scope.specs.Sites.{Bounds, Spot, alternates_sites, body_sites, channel_sites, command_sites, commands_sites, expression_sites, in_program, list_sites, most_connections, most_items, most_parameters, most_processes, otherwise_sites, procedure_sites, process_sites, recovery_sites, scope_sites, tested, within, words_sites}
+use Rattle.rb_scope.specs.Sites.{Bounds, Spot, alternates_sites, body_sites, channel_sites, command_sites, commands_sites, expression_sites, in_program, list_sites, otherwise_sites, procedure_sites, process_sites, recovery_sites, scope_sites, tested, within, words_sites}
 use Rattle.rb_scope.specs.declared.slot.Slot.TheVariants.{Local}
 use Rattle.rb_scope.proofs.EachSite.{AreKept, IsKept, all_kept, all_split, of_parts, unbroken}
 use Rattle.rb_scope.proofs.PartsOfTrees.{process_parts, procedure_parts, tree_parts, within_procedure, within_process}
@@ -69,8 +69,8 @@ mutual
   command_within : (spot : Spot) (c : Command) → AreKept (command_sites spot c) → CommandWithin c
   command_within spot (Assignment to value) all = tt
   command_within spot (Printing items) all =
-      few (λ (item : PrintItem). item.place) most_items items
-      (all_split IsKept (list_sites (λ (item : PrintItem). item.place) most_items 0 items) _ all).0
+      few (λ (item : PrintItem). item.place) MOST_ITEMS items
+      (all_split IsKept (list_sites (λ (item : PrintItem). item.place) MOST_ITEMS 0 items) _ all).0
   command_within spot (Sending channel value) all = tt
   command_within spot (Receiving channel to otherwise) all = otherwise_within spot otherwise (all_split IsKept _ _ all.1).1
   command_within spot (Conditional test body otherwise) all =
@@ -114,7 +114,7 @@ procedure_within : (spot : Spot) (name : Identifier) (parameters : List Identifi
 procedure_within spot name parameters (Scope variables commands) all =
     let procedure : ProcedureDeclaration = record { name = name; parameters = parameters; body = Scope variables commands } in
     let parts = procedure_parts IsKept spot procedure all in record {
-      parameters = few (λ (one : Identifier). one.place) most_parameters parameters parts.parameters;
+      parameters = few (λ (one : Identifier). one.place) MOST_PARAMETERS parameters parts.parameters;
       commands = commands_within (within_procedure procedure spot) commands parts.commands;
     }
 
@@ -134,19 +134,19 @@ process_within edition spot process all =
     }
 
 channel_within : (spot : Spot) (channel : ChannelDeclaration) → AreKept (channel_sites spot channel)
-    → IsFrom1To most_channel_size channel.size
+    → IsFrom1To MOST_CHANNEL_SIZE channel.size
 channel_within spot channel all =
-    from_1 most_channel_size channel.size (unbroken (is_outside most_channel_size channel.size) _ channel.size.place all.1.1.0)
+    from_1 MOST_CHANNEL_SIZE channel.size (unbroken (is_outside MOST_CHANNEL_SIZE channel.size) _ channel.size.place all.1.1.0)
 
 pub within_limits : (tree : Tree) → faults_of tree ≡ [] → IsWithinLimits tree
 within_limits tree e =
     let parts = tree_parts IsKept tree (all_kept tree e) in
     let spot = in_program tree in
-    let Sized : ChannelDeclaration → Type 0 = λ channel. IsFrom1To most_channel_size channel.size in record {
+    let Sized : ChannelDeclaration → Type 0 = λ channel. IsFrom1To MOST_CHANNEL_SIZE channel.size in record {
       few_processes = few (λ (one : ProcessDeclaration). one.name.place) (most_processes tree.edition) tree.processes parts.few_processes;
-      few_channels = few (λ (one : ChannelDeclaration). one.name.place) most_connections tree.channels parts.few_channels;
+      few_channels = few (λ (one : ChannelDeclaration). one.name.place) MOST_CONNECTIONS tree.channels parts.few_channels;
       few_conversations =
-          few (λ (one : ConversationDeclaration). one.name.place) most_connections tree.conversations parts.few_conversations;
+          few (λ (one : ConversationDeclaration). one.name.place) MOST_CONNECTIONS tree.conversations parts.few_conversations;
       channel_sizes = of_parts IsKept (channel_sites spot) Sized tree.channels (channel_within spot) parts.channels;
       processes =
           of_parts IsKept (process_sites tree.edition spot) (ProcessWithin tree.edition) tree.processes (process_within tree.edition spot)

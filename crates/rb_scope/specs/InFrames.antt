@@ -3,11 +3,11 @@
 -- no scopes.
 use Rattle.std.specs.Prelude.{◌≡◌, ℕ, ◌<◌, ◌≤◌, true, List, length, slice_get, Option, Some, None}
 use Rattle.std.specs.List.{All}
+use Rattle.rb_base.specs.declared.limits.TheConstants.{MOST_ELEMENTS}
 use Rattle.rb_syntax.specs.Tree.{Identifier, Expression, Literal, Variable, Former, Minus, Negation, Chained, Quantification, Reference, Refer, Scalar, Element, Links, NoLink, Linked, Printed, Words, Amount, Command, Assignment, Printing, Sending, Receiving, Conditional, Loop, Invocation, Failure, Recovering, Commands, NoCommand, Then, Body, Scope, Otherwise, NoElse, Else, RecoveryBlock, Recovers, Alternates, NoAlternate, Alternate, ChannelDeclaration, ConversationDeclaration, ProcedureDeclaration, ProcessDeclaration, Tree}
 use Rattle.rb_meaning.specs.Step.{commands_of}
 use Rattle.rb_meaning.specs.Groups.{channel_number, conversation_number, process_number, procedure_named, procedures_of}
 use Rattle.rb_scope.specs.Frames.{Frames, Lying, array_slot, counter_among, in_acceptance, in_body, in_limit, lying, main_frames, procedure_frames, pushed, scalar_slot, words_lying}
-use Rattle.rb_scope.specs.Scopes.{most_elements}
 use Rattle.rb_scope.specs.declared.slot.Slot.{Slot}
 use Rattle.rb_scope.specs.declared.slot.Slot.TheVariants.{Process, Channel, Conversation, Procedure, Counter}
 
@@ -27,7 +27,7 @@ pub record IsArray (slots : List Slot) (frames : Frames) (name : Identifier) : T
   pub at : Lying
   pub found : lying frames name.text ≡ Some at
   pub some : 1 ≤ words_lying at
-  pub few : words_lying at ≤ most_elements
+  pub few : words_lying at ≤ MOST_ELEMENTS
   pub slot : slice_get slots name.id ≡ Some (array_slot at)
 
 -- the name is that of a quantified expression around, with its counter, or else of a scalar

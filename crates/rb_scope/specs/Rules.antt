@@ -5,7 +5,7 @@ use Rattle.rb_base.specs.declared.place.Place.{Place}
 use Rattle.rb_base.specs.declared.fault.SourceFault.{SourceFault}
 use Rattle.rb_base.specs.declared.fault.FaultName.{FaultName}
 use Rattle.rb_base.specs.declared.fault.FaultName.TheVariants.{S1, S2, S3, S4, S5, S6, S7, S8, S9, S10, S11}
-use Rattle.rb_base.specs.declared.limits.TheConstants.{MOST_TURNS}
+use Rattle.rb_base.specs.declared.limits.TheConstants.{MOST_CHANNEL_SIZE, MOST_TURNS}
 use Rattle.rb_syntax.specs.declared.expression.Number.{Number}
 use Rattle.rb_syntax.specs.Tree.{Identifier, Tree}
 use Rattle.rb_meaning.specs.Environment.{same_name, natural}
@@ -60,10 +60,6 @@ is_miscalled n (Some one) = fits AProcedure one.slot && not (nat_eq one.paramete
 abbrev pub is_outside : ℕ → Number → Bool
 is_outside most number = not (nat_le 1 (natural number.value) && nat_le (natural number.value) most)
 
--- the greatest size of a channel
-abbrev pub most_channel_size : ℕ
-most_channel_size = 65536
-
 -- The rule of each site. S5: `prior` outside an acceptance test. S6: an array of no element, or of too many. S7: the first that
 -- is too many in a list. S8, S9: a channel's size, a turn bound that is 0 or too great. S10: the first variable with which
 -- those of a process take too many words. S11: a quantified expression within two others.
@@ -74,7 +70,7 @@ broken_at (Calls name n scopes) = where_broken (is_miscalled n (meaning_of name.
 broken_at (LooksBack place in_test) = where_broken (not in_test) S5 place
 broken_at (Sizes size) = where_broken (not (is_array_size (natural size.value))) S6 size.place
 broken_at (Lists most before place) = where_broken (nat_eq before most) S7 place
-broken_at (Channels size) = where_broken (is_outside most_channel_size size) S8 size.place
+broken_at (Channels size) = where_broken (is_outside MOST_CHANNEL_SIZE size) S8 size.place
 broken_at (Bounds bound) = where_broken (is_outside MOST_TURNS bound) S9 bound.place
 broken_at (Takes most before words place) = where_broken (nat_le before most && nat_lt most (before + words)) S10 place
 broken_at (Quantifies around place) = where_broken (nat_le 2 around) S11 place

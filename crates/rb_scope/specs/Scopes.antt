@@ -1,5 +1,6 @@
 -- Scopes, and what a name means: its declaration in the innermost scope around it that has one.
 use Rattle.std.specs.Prelude.{ℕ, ◌+◌, nat_le, Bool, cond, ◌&&◌, List, [], ◌∷◌, ◌++◌, length, Option, Some, None}
+use Rattle.rb_base.specs.declared.limits.TheConstants.{MOST_ELEMENTS}
 use Rattle.rb_syntax.specs.declared.expression.Number.{Number}
 use Rattle.rb_syntax.specs.Tree.{Identifier, Declaration, ChannelDeclaration, ConversationDeclaration, ProcedureDeclaration, ProcessDeclaration, Body, Scope, Tree}
 use Rattle.rb_meaning.specs.Environment.{same_name, natural, or_else}
@@ -17,13 +18,9 @@ pub record Declared : Type 0 where
 abbrev pub declared : Identifier → Slot → Declared
 declared name slot = record { name = name; slot = slot; parameters = 0 }
 
--- the largest array, and the largest channel
-abbrev pub most_elements : ℕ
-most_elements = 1024
-
 -- a size that an array may have
 abbrev pub is_array_size : ℕ → Bool
-is_array_size n = nat_le 1 n && nat_le n most_elements
+is_array_size n = nat_le 1 n && nat_le n MOST_ELEMENTS
 
 -- how many words a variable takes: one, or the size of its array; a size that no array may have counts none
 abbrev pub words_of : Option Number → ℕ

@@ -1,10 +1,10 @@
 -- The sites of a tree: all in it that a rule of scopes or limits speaks of, each with what the rule asks to know.
 use Rattle.std.specs.Prelude.{ℕ, ◌+◌, Bool, true, false, List, [], ◌∷◌, ◌++◌, length, Option, Some, None}
 use Rattle.std.specs.List.{flat_map}
+use Rattle.rb_base.specs.declared.limits.TheConstants.{MOST_CONNECTIONS, MOST_ITEMS, MOST_PARAMETERS}
 use Rattle.rb_base.specs.declared.place.Place.{Place}
 use Rattle.rb_base.specs.declared.edition.Edition.{Edition}
-use Rattle.rb_base.specs.declared.edition.Edition.TheVariants.{First, Second}
-use Rattle.rb_base.specs.Limits.{most_words}
+use Rattle.rb_base.specs.Limits.{most_processes, most_words}
 use Rattle.rb_syntax.specs.declared.expression.Number.{Number}
 use Rattle.rb_syntax.specs.Tree.{Identifier, Expression, Literal, Variable, Former, Minus, Negation, Chained, Quantification, Reference, Refer, Scalar, Element, Links, NoLink, Linked, Declaration, Printed, Words, Amount, Command, Assignment, Printing, Sending, Receiving, Conditional, Loop, Invocation, Failure, Recovering, Commands, NoCommand, Then, Body, Scope, Otherwise, NoElse, Else, RecoveryBlock, Recovers, Alternates, NoAlternate, Alternate, ChannelDeclaration, ConversationDeclaration, ProcedureDeclaration, ProcessDeclaration, Tree}
 use Rattle.rb_scope.specs.Scopes.{Declared, declared, procedure_scope, process_scope, program_scope, variables_from, variables_in, words_in, words_of}
@@ -103,21 +103,6 @@ abbrev pub printed_sites : Spot → Printed → List Site
 printed_sites spot (Words text) = []
 printed_sites spot (Amount value) = expression_sites spot value
 
--- the most items of a `print`, the most parameters of a procedure, and the most channels and conversations of a program
-abbrev pub most_items : ℕ
-most_items = 16
-
-abbrev pub most_parameters : ℕ
-most_parameters = 16
-
-abbrev pub most_connections : ℕ
-most_connections = 64
-
--- the most processes of a program
-abbrev pub most_processes : Edition → ℕ
-most_processes First = 32
-most_processes Second = 64
-
 -- the conversation of a `converse`
 abbrev pub joined_sites : Spot → Option Identifier → List Site
 joined_sites spot None = []
@@ -128,7 +113,7 @@ abbrev mutual
   pub command_sites : Spot → Command → List Site
   command_sites spot (Assignment to value) = reference_sites spot AScalar to ++ expression_sites spot value
   command_sites spot (Printing items) =
-      list_sites (λ item. item.place) most_items 0 items ++ flat_map (λ item. printed_sites spot item.what) items
+      list_sites (λ item. item.place) MOST_ITEMS 0 items ++ flat_map (λ item. printed_sites spot item.what) items
   command_sites spot (Sending channel value) = Uses AChannel channel spot.scopes ∷ expression_sites spot value
   command_sites spot (Receiving channel to otherwise) =
       Uses AChannel channel spot.scopes ∷ reference_sites spot AScalar to ++ otherwise_sites spot otherwise
@@ -178,7 +163,7 @@ in_program tree = record { scopes = program_scope tree ∷ []; taken = 0; quanti
 -- a procedure, whose parameters and own variables are one scope
 abbrev pub procedure_sites : Spot → ProcedureDeclaration → List Site
 procedure_sites spot procedure =
-    list_sites (λ name. name.place) most_parameters 0 procedure.parameters
+    list_sites (λ name. name.place) MOST_PARAMETERS 0 procedure.parameters
     ++ (scope_sites [] (procedure_scope procedure)
     ++ (flat_map (λ one. size_sites one.size) (variables_in procedure.body)
     ++ commands_sites
@@ -218,8 +203,8 @@ conversation_sites spot conversation = member_sites spot conversation.members
 abbrev pub tree_sites : Tree → List Site
 tree_sites tree =
     scope_sites [] (program_scope tree)
-    ++ (list_sites (λ one. one.name.place) most_connections 0 tree.channels
-    ++ (list_sites (λ one. one.name.place) most_connections 0 tree.conversations
+    ++ (list_sites (λ one. one.name.place) MOST_CONNECTIONS 0 tree.channels
+    ++ (list_sites (λ one. one.name.place) MOST_CONNECTIONS 0 tree.conversations
     ++ (list_sites (λ one. one.name.place) (most_processes tree.edition) 0 tree.processes
     ++ (flat_map (channel_sites (in_program tree)) tree.channels
     ++ (flat_map (conversation_sites (in_program tree)) tree.conversations

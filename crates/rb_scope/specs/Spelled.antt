@@ -1,15 +1,17 @@
--- How the names and texts of a tree are spelled: names as a source may have them, and texts as they may stand between quotes. What is
--- reserved for a word of the language is not asked of a name here, as that is the lexer's to say.
-use Rattle.std.specs.Prelude.{◌≡◌, ℕ, ◌≤◌, ◌&&◌, nat_eq, nat_le, Bool, true, not, List, length}
+-- How the names and texts of a tree are spelled: names as a source of its edition may have them, and texts as they may stand between
+-- quotes.
+use Rattle.std.specs.Prelude.{◌≡◌, ℕ, ◌≤◌, ◌&&◌, nat_eq, nat_le, Bool, true, false, not, List, length}
 use Rattle.std.specs.List.{All, list_all}
+use Rattle.rb_base.specs.declared.edition.Edition.{Edition}
+use Rattle.rb_base.specs.Reserved.{is_reserved}
 use Rattle.rb_base.specs.Bytes.{is_name}
 use Rattle.rb_base.specs.declared.limits.TheConstants.{LONGEST_NAME, LONGEST_TEXT}
 use Rattle.rb_syntax.specs.Tree.{Printed, Words, Amount, Command, Assignment, Printing, Sending, Receiving, Conditional, Loop, Invocation, Failure, Recovering, Commands, NoCommand, Then, Body, Scope, Otherwise, NoElse, Else, RecoveryBlock, Recovers, Alternates, NoAlternate, Alternate, ProcedureDeclaration, ProcessDeclaration, Tree}
 use Rattle.rb_meaning.specs.Step.{commands_of}
 
--- a name, but for the words that are reserved
-abbrev pub IsNaming : List ℕ → Type 0
-IsNaming name = (is_name name ≡ true) × (length name ≤ LONGEST_NAME)
+-- a name, which is none of the words that the edition reserves
+abbrev pub IsNaming : Edition → List ℕ → Type 0
+IsNaming edition name = (is_name name ≡ true) × (length name ≤ LONGEST_NAME) × (is_reserved edition name ≡ false)
 
 -- what may stand between the quotes of a text: bytes from the blank to `~` but the quote
 abbrev pub is_quotable : ℕ → Bool
@@ -55,19 +57,19 @@ abbrev mutual
   AlternatesSpelled (Alternate body others) = BodySpelled body × AlternatesSpelled others
 
 -- a procedure: its name and its texts
-pub record ProcedureSpelled (procedure : ProcedureDeclaration) : Type 0 where
-  pub name : IsNaming procedure.name.text
+pub record ProcedureSpelled (edition : Edition) (procedure : ProcedureDeclaration) : Type 0 where
+  pub name : IsNaming edition procedure.name.text
   pub commands : CommandsSpelled (commands_of procedure.body)
 
 -- a process: its name, those of its variables, its procedures and its texts
-pub record ProcessSpelled (process : ProcessDeclaration) : Type 0 where
-  pub name : IsNaming process.name.text
-  pub variables : All (λ variable. IsNaming variable.name.text) process.variables
-  pub procedures : All ProcedureSpelled process.procedures
+pub record ProcessSpelled (edition : Edition) (process : ProcessDeclaration) : Type 0 where
+  pub name : IsNaming edition process.name.text
+  pub variables : All (λ variable. IsNaming edition variable.name.text) process.variables
+  pub procedures : All (ProcedureSpelled edition) process.procedures
   pub commands : CommandsSpelled process.commands
 
 -- The names that lines, listings and schedules speak of, and all texts that are printed, are spelled as a source may spell them.
 pub record IsSpelled (tree : Tree) : Type 0 where
-  pub channels : All (λ channel. IsNaming channel.name.text) tree.channels
-  pub conversations : All (λ conversation. IsNaming conversation.name.text) tree.conversations
-  pub processes : All ProcessSpelled tree.processes
+  pub channels : All (λ channel. IsNaming tree.edition channel.name.text) tree.channels
+  pub conversations : All (λ conversation. IsNaming tree.edition conversation.name.text) tree.conversations
+  pub processes : All (ProcessSpelled tree.edition) tree.processes

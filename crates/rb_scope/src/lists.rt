@@ -1,28 +1,22 @@
 //! Lists that may have so many entries at most. Of those that are too many the first is told.
 
 ghost use Rattle.std.specs.Prelude.{◌≡◌, map};
+ghost use Rattle.rb_base.specs.Limits.{most_processes};
 ghost use Rattle.rb_syntax.specs.Plain.{identifier, print_item, channel_declaration, conversation_declaration, process_declaration};
-ghost use Rattle.rb_scope.specs.Sites.{list_sites, most_items, most_parameters, most_connections, most_processes};
+ghost use Rattle.rb_scope.specs.Sites.{list_sites};
 ghost use Rattle.rb_scope.specs.Finding.{visited};
 
 use crate::finder::Finder;
-use rb_base::{Edition, FaultName};
+use rb_base::{
+    Edition, FaultName, MOST_CONNECTIONS, MOST_ITEMS, MOST_PARAMETERS, MOST_PROCESSES_FIRST,
+    MOST_PROCESSES_SECOND,
+};
 use rb_syntax::{Channel, Conversation, Item, Name, Process};
-
-const MOST_ITEMS: usize = 16;
-
-const MOST_PARAMETERS: usize = 16;
-
-const MOST_CONNECTIONS: usize = 64;
-
-const MOST_PROCESSES_FIRST: usize = 32;
-
-const MOST_PROCESSES_SECOND: usize = 64;
 
 /// Visits the items of a `print` as a list.
 #[tactic(auto, using(crate::proofs::Long::short))]
 pub(crate) fn count_items(items: &[Item<'_>], finder: &mut Finder)
-    ensures { finder.new ≡ visited finder.old (list_sites (λ item. item.place) most_items 0 (map print_item items.now)) }
+    ensures { finder.new ≡ visited finder.old (list_sites (λ item. item.place) MOST_ITEMS 0 (map print_item items.now)) }
 {
     if items.len() > MOST_ITEMS {
         finder.note(true, FaultName::S7, items[MOST_ITEMS].place);
@@ -32,7 +26,7 @@ pub(crate) fn count_items(items: &[Item<'_>], finder: &mut Finder)
 /// Visits the parameters of a procedure as a list.
 #[tactic(auto, using(crate::proofs::Long::short))]
 pub(crate) fn count_parameters(parameters: &[Name<'_>], finder: &mut Finder)
-    ensures { finder.new ≡ visited finder.old (list_sites (λ name. name.place) most_parameters 0 (map identifier parameters.now)) }
+    ensures { finder.new ≡ visited finder.old (list_sites (λ name. name.place) MOST_PARAMETERS 0 (map identifier parameters.now)) }
 {
     if parameters.len() > MOST_PARAMETERS {
         finder.note(true, FaultName::S7, parameters[MOST_PARAMETERS].place);
@@ -42,7 +36,7 @@ pub(crate) fn count_parameters(parameters: &[Name<'_>], finder: &mut Finder)
 /// Visits the channels of a program as a list.
 #[tactic(auto, using(crate::proofs::Long::short))]
 pub(crate) fn count_channels(channels: &[Channel<'_>], finder: &mut Finder)
-    ensures { finder.new ≡ visited finder.old (list_sites (λ one. one.name.place) most_connections 0 (map channel_declaration channels.now)) }
+    ensures { finder.new ≡ visited finder.old (list_sites (λ one. one.name.place) MOST_CONNECTIONS 0 (map channel_declaration channels.now)) }
 {
     if channels.len() > MOST_CONNECTIONS {
         finder.note(true, FaultName::S7, channels[MOST_CONNECTIONS].name.place);
@@ -53,7 +47,7 @@ pub(crate) fn count_channels(channels: &[Channel<'_>], finder: &mut Finder)
 #[tactic(auto, using(crate::proofs::Long::short))]
 pub(crate) fn count_conversations(conversations: &[Conversation<'_>], finder: &mut Finder)
     ensures { finder.new
-        ≡ visited finder.old (list_sites (λ one. one.name.place) most_connections 0 (map conversation_declaration conversations.now)) }
+        ≡ visited finder.old (list_sites (λ one. one.name.place) MOST_CONNECTIONS 0 (map conversation_declaration conversations.now)) }
 {
     if conversations.len() > MOST_CONNECTIONS {
         finder.note(

@@ -8,20 +8,14 @@ ghost use Rattle.rb_scope.specs.Rules.{fits, fits_size, is_outside};
 
 use crate::slot::Slot;
 use crate::want::Want;
-use rb_base::Memory;
+use rb_base::{MOST_ELEMENTS, Memory};
 use rb_syntax::{Number, Var};
-
-/// The greatest number of elements of an array.
-pub(crate) const MOST_ELEMENTS: i64 = 1_024;
-
-/// The greatest size of a channel.
-pub(crate) const MOST_CHANNEL_SIZE: u32 = 65_536;
 
 /// Whether an array may have this size.
 pub(crate) fn is_array_size(size: Number) -> bool
     ensures { result ≡ is_array_size (natural size.value) }
 {
-    size.value >= 1 && size.value <= MOST_ELEMENTS
+    size.value >= 1 && size.value <= i64::from(MOST_ELEMENTS)
 }
 
 /// Whether a number is not from 1 to a greatest.
@@ -34,7 +28,7 @@ pub(crate) fn is_outside(most: u32, number: Number) -> bool
 /// How many words a variable of this size takes.
 pub(crate) fn words_of(size: Option<Number>) -> u32
     ensures words { result ≡ words_of size }
-    ensures few { result ≤ 1024 }
+    ensures few { result ≤ MOST_ELEMENTS }
 {
     match size {
         None => 1,

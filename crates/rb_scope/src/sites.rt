@@ -8,10 +8,10 @@ ghost use Rattle.rb_scope.specs.Memory.{scopes_of};
 ghost use Rattle.rb_scope.specs.Scopes.{Declared};
 
 use crate::finder::Finder;
-use crate::rules::{MOST_CHANNEL_SIZE, fits, is_array_size, is_outside};
+use crate::rules::{fits, is_array_size, is_outside};
 use crate::scope::{Scope, Scopes};
 use crate::want::Want;
-use rb_base::limits::MOST_TURNS;
+use rb_base::limits::{MOST_CHANNEL_SIZE, MOST_TURNS};
 use rb_base::{FaultName, Place};
 use rb_syntax::{Name, Number};
 
