@@ -10,9 +10,9 @@ use Rattle.rb_trace.proofs.Spaced.{line_of-spaced}
 use Rattle.rb_trace.proofs.Ended.{from_item}
 use Rattle.rb_trace.specs.Lines.{spaced, spaced_word}
 use Rattle.rb_world.specs.Text.{Naming, line_of}
-use Rattle.rb_code.specs.Plain.{Block}
-use Rattle.rb_code.specs.Limits.{block_limits}
-use Rattle.rb_code.specs.Listing.{Head, block_kind, block_line, block_lines, heads_past, instr_line, instr_lines, lines_at}
+use Rattle.rb_code.specs.Instructions.Plain.{Block}
+use Rattle.rb_code.specs.Instructions.Limits.{block_limits}
+use Rattle.rb_code.specs.Instructions.Listing.{Head, block_kind, block_line, block_lines, heads_past, instr_line, instr_lines, lines_at}
 use Rattle.rb_code.specs.declared.instr.Instr.{Instr}
 use Rattle.rb_code.specs.declared.instr.Instr.TheVariants.{Turn}
 

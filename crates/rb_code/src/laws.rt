@@ -1,8 +1,9 @@
 //! The laws of code.
 
-ghost use Rattle.rb_code.specs.Laws.{CodeAgreesWithMeaning, SoundCodeAgreesWithMeaning};
-ghost use Rattle.rb_code.specs.OneCode.{OneCodeStands, OneCodeWithSlots};
-ghost use Rattle.rb_code.specs.SoundLaws.{
+ghost use Rattle.rb_code.specs.Agreement.Laws.{CodeAgreesWithMeaning, SoundCodeAgreesWithMeaning};
+ghost use Rattle.rb_code.specs.Agreement.OneCode.{OneCodeStands, OneCodeWithSlots};
+ghost use Rattle.rb_code.specs.SoundCode.ReachedDecided.{ReachedIsDecided};
+ghost use Rattle.rb_code.specs.SoundCode.SoundLaws.{
   CodeOfTreesIsSound,
   SoundRunsEnd,
   SoundRunsStand,
@@ -13,7 +14,7 @@ ghost use Rattle.rb_code.specs.SoundLaws.{
   SoundStepsStand,
   StandingHasSettled,
 };
-ghost use Rattle.rb_code.specs.Stays.{SoundSettlingStays, SoundStepsStay};
+ghost use Rattle.rb_code.specs.SoundCode.Stays.{SoundSettlingStays, SoundStepsStay};
 
 /// Sound code is executed safely: a step of a process that stands in its table finds at each instruction what that needs, and where the
 /// turn may be given up nothing was changed.
@@ -73,4 +74,9 @@ pub fn code_agrees_with_meaning()
 pub fn one_code_stands()
     ensures with_slots { OneCodeWithSlots }
     ensures stands { OneCodeStands }
+{}
+
+/// Each address of an instruction is reached, or it is not.
+pub fn reached_is_decided()
+    ensures { ReachedIsDecided }
 {}

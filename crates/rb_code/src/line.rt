@@ -7,9 +7,9 @@ ghost use Rattle.rb_outside.specs.Puts.{Puts};
 ghost use Rattle.rb_world.specs.Text.{conversation_word, line_of};
 ghost use Rattle.rb_trace.specs.Naming.{naming};
 ghost use Rattle.rb_trace.specs.Lines.{spaced, spaced_word};
-ghost use Rattle.rb_code.specs.Plain.{block as plain_block};
-ghost use Rattle.rb_code.specs.Listing.{block_kind, block_line, instr_line, instr_words, quoted, spot_words};
-ghost use Rattle.rb_code.specs.Limits.{block_limits};
+ghost use Rattle.rb_code.specs.Instructions.Plain.{block as plain_block};
+ghost use Rattle.rb_code.specs.Instructions.Listing.{block_kind, block_line, instr_line, instr_words, quoted, spot_words};
+ghost use Rattle.rb_code.specs.Instructions.Limits.{block_limits};
 ghost use Rattle.rb_code.specs.declared.instr.Instr.TheVariants.{Turn, Add, Sub, Mul, Div, Rem, Eq, Ne, Lt, Le, Gt, Ge, Neg, Not, Bool as ToBool, Item, Print, Return, Fail, Done};
 
 use crate::code::BlockCode;

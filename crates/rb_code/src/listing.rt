@@ -4,9 +4,9 @@ ghost use Rattle.std.specs.Prelude.{◌≡◌, ℕ, List, ◌+◌, ◌^◌, ◌<
 ghost use Rattle.rb_outside.specs.Puts.{Puts};
 ghost use Rattle.rb_world.specs.Text.{line_of, process_word};
 ghost use Rattle.rb_trace.specs.Naming.{naming};
-ghost use Rattle.rb_code.specs.Plain.{block as plain_block, code as plain_code, part};
-ghost use Rattle.rb_code.specs.Listing.{block_lines, heads_from, heads_past, instr_lines, lines_at, listing_text};
-ghost use Rattle.rb_code.specs.Heads.{heads_left};
+ghost use Rattle.rb_code.specs.Instructions.Plain.{block as plain_block, code as plain_code, part};
+ghost use Rattle.rb_code.specs.Instructions.Listing.{block_lines, heads_from, heads_past, instr_lines, lines_at, listing_text};
+ghost use Rattle.rb_code.specs.Instructions.Heads.{heads_left};
 
 use crate::code::{Code, ProcedureCode, ProcessCode};
 use crate::line::{put_block, put_instr_line, put_two};

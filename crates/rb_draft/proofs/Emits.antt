@@ -1,13 +1,13 @@
 -- How code is put together.
 use Rattle.std.proofs.Common.{◌≡◌, ℕ, zero, suc, ◌+◌, ◌≤◌, List, [], ◌∷◌, ◌++◌, Some, length, refl, sym, ap, ◌∙◌, subst, arith, length-append}
 use Rattle.std.specs.Prelude.{false, slice_get, slice_set, option_map}
-use Rattle.rb_code.specs.Plain.{Block, Code}
-use Rattle.rb_code.specs.StandsFor.{numbers_from, text_numbers}
-use Rattle.rb_code.specs.Template.{Template, ◌⨾◌, Empty, One, Only, At, Label, Quoted, WithBlock, Listed}
-use Rattle.rb_code.specs.Forms.{DropCode, FrameCode}
+use Rattle.rb_code.specs.Instructions.Plain.{Block, Code}
+use Rattle.rb_code.specs.Agreement.StandsFor.{numbers_from, text_numbers}
+use Rattle.rb_code.specs.Agreement.Template.{Template, ◌⨾◌, Empty, One, Only, At, Label, Quoted, WithBlock, Listed}
+use Rattle.rb_code.specs.Agreement.Forms.{DropCode, FrameCode}
 use Rattle.rb_code.specs.declared.instr.Instr.{Instr}
 use Rattle.rb_code.specs.declared.instr.Instr.TheVariants.{Drop, Frame, Jump, Text}
-use Rattle.rb_code.proofs.Counted.{get_set_same}
+use Rattle.rb_code.proofs.Agreeing.CountersSet.{get_set_same}
 use Rattle.rb_draft.specs.Output.{Output, added, filled_with, is_text, linked, patched, settled}
 use Rattle.rb_draft.specs.Emits.{Adds, Grows, Keeps, Emits, Placed}
 use Rattle.rb_draft.proofs.Growing.{get_end, get_other, same_length, texts-added, texts-append, texts-set, numbers-append, grows_self, grows_more, keeps_self, follows_self, follows_on, follows_back, includes_front, includes_back, includes_late, includes_early}

@@ -2,8 +2,8 @@
 use Rattle.std.proofs.Common.{◌≡◌, ℕ, zero, suc, ◌+◌, ◌≤◌, List, [], ◌∷◌, ◌++◌, Some, length, refl, sym, ap, ◌∙◌, arith, length-append}
 use Rattle.std.specs.Prelude.{false, slice_get, slice_set, option_map}
 use Rattle.rb_world.proofs.ListFacts.{slice_get-front}
-use Rattle.rb_code.specs.Plain.{Block, Code}
-use Rattle.rb_code.specs.StandsFor.{numbers_from, text_numbers}
+use Rattle.rb_code.specs.Instructions.Plain.{Block, Code}
+use Rattle.rb_code.specs.Agreement.StandsFor.{numbers_from, text_numbers}
 use Rattle.rb_code.specs.declared.instr.Instr.{Instr}
 use Rattle.rb_code.specs.declared.instr.Instr.TheVariants.{Text}
 use Rattle.rb_draft.specs.Output.{Output, is_text}

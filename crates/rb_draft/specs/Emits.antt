@@ -1,9 +1,9 @@
 -- What a call adds to the code, told so that later calls change nothing of it: it is code of a template in every whole code that has,
 -- at the addresses and numbers in question, what this call added.
 use Rattle.std.specs.Prelude.{◌≡◌, ℕ, ◌<◌, ◌≤◌, List, length, slice_get, option_map}
-use Rattle.rb_code.specs.Plain.{Block, Code}
-use Rattle.rb_code.specs.Template.{Template, One}
-use Rattle.rb_code.specs.StandsFor.{numbers_from, text_numbers}
+use Rattle.rb_code.specs.Instructions.Plain.{Block, Code}
+use Rattle.rb_code.specs.Agreement.Template.{Template, One}
+use Rattle.rb_code.specs.Agreement.StandsFor.{numbers_from, text_numbers}
 use Rattle.rb_code.specs.declared.instr.Instr.{Instr}
 use Rattle.rb_draft.specs.Output.{Output, linked}
 

@@ -1,8 +1,8 @@
 -- The code so far, with lists in place of vectors. A call that is not linked yet has its procedure's number in place of an address.
 use Rattle.std.specs.Prelude.{ℕ, Bool, true, false, List, [], ◌∷◌, ◌++◌, map, slice_get, slice_set, option_map}
 use Rattle.std.specs.Option.{unwrap_or}
-use Rattle.rb_code.specs.Plain.{Block, Code, Procedure, block}
-use Rattle.rb_code.specs.Memory.{part_of}
+use Rattle.rb_code.specs.Instructions.Plain.{Block, Code, Procedure, block}
+use Rattle.rb_code.specs.WordMachine.Workspace.{part_of}
 use Rattle.rb_code.specs.declared.instr.Instr.{Instr}
 use Rattle.rb_code.specs.declared.instr.Instr.TheVariants.{Call, Text}
 use Rattle.rb_draft.specs.declared.draft.Draft.{Draft}

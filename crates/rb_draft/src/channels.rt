@@ -2,8 +2,8 @@
 
 ghost use Rattle.std.specs.Prelude.{◌≡◌, ◌++◌, ◌∷◌, [], cond, map, IfOk, OnOk};
 ghost use Rattle.rb_syntax.specs.Plain.{channel_declaration};
-ghost use Rattle.rb_code.specs.Plain.{channel as plain_channel};
-ghost use Rattle.rb_code.specs.StandsFor.{channels_from};
+ghost use Rattle.rb_code.specs.Instructions.Plain.{channel as plain_channel};
+ghost use Rattle.rb_code.specs.Agreement.StandsFor.{channels_from};
 ghost use Rattle.rb_draft.specs.Channels.{ends_by};
 
 use crate::frames::natural;

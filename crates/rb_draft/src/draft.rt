@@ -1,8 +1,8 @@
 //! The code so far, and the steps by which it grows.
 
 ghost use Rattle.std.specs.Prelude.{◌≡◌, ◌<◌, ℕ, false, length, IfOk, OnOk};
-ghost use Rattle.rb_code.specs.Plain.{block as plain_block};
-ghost use Rattle.rb_code.specs.Template.{Quoted};
+ghost use Rattle.rb_code.specs.Instructions.Plain.{block as plain_block};
+ghost use Rattle.rb_code.specs.Agreement.Template.{Quoted};
 ghost use Rattle.rb_draft.specs.Output.{added, filled_with, is_text, linked, output, patched, settled};
 ghost use Rattle.rb_draft.specs.Emits.{Adds, Emits, Placed};
 

@@ -3,7 +3,7 @@
 ghost use Rattle.std.specs.Prelude.{◌≡◌, map, IfOk, OnOk};
 ghost use Rattle.rb_syntax.specs.Plain.{declaration};
 ghost use Rattle.rb_meaning.specs.Environment.{frame_of, frame_words, natural, size_of};
-ghost use Rattle.rb_code.specs.Forms.{DropCode, FrameCode};
+ghost use Rattle.rb_code.specs.Agreement.Forms.{DropCode, FrameCode};
 ghost use Rattle.rb_draft.specs.Output.{output};
 ghost use Rattle.rb_draft.specs.Emits.{Adds};
 

@@ -2,7 +2,7 @@
 
 ghost use Rattle.std.specs.Prelude.{◌≡◌, option_map};
 ghost use Rattle.rb_syntax.specs.Plain.{identifier};
-ghost use Rattle.rb_code.specs.Slots.{channel_of, counter_of, elements_of, procedure_of, quantified_of, spot_of};
+ghost use Rattle.rb_code.specs.Agreement.Slots.{channel_of, counter_of, elements_of, procedure_of, quantified_of, spot_of};
 ghost use Rattle.rb_draft.specs.Lookups.{joined_of, process_of};
 
 use rb_code::Spot;

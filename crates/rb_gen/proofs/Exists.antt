@@ -11,10 +11,10 @@ use Rattle.rb_scope.specs.declared.slot.Slot.{Slot}
 use Rattle.rb_code.specs.declared.instr.Instr.{Instr}
 use Rattle.rb_code.specs.declared.instr.Spot.{Spot}
 use Rattle.rb_code.specs.declared.instr.Instr.TheVariants.{Push, Load, Prior, Bound, LoadAt, PriorAt, Add, Sub, Mul, Div, Rem, Eq, Ne, Lt, Le, Gt, Ge, Neg, Not, Bool, Jump, JumpZero, Range, Again, Counter}
-use Rattle.rb_code.specs.Plain.{Code}
-use Rattle.rb_code.specs.Slots.{counter_of, elements_of, quantified_of, spot_of}
-use Rattle.rb_code.specs.Template.{Template, One, ◌⨾◌, Empty}
-use Rattle.rb_code.specs.Forms.{AndCode, ExpressionCode, LinksCode, OperatorCode, OrCode, QuantifiedCode, ScalarCode, SubscriptCode}
+use Rattle.rb_code.specs.Instructions.Plain.{Code}
+use Rattle.rb_code.specs.Agreement.Slots.{counter_of, elements_of, quantified_of, spot_of}
+use Rattle.rb_code.specs.Agreement.Template.{Template, One, ◌⨾◌, Empty}
+use Rattle.rb_code.specs.Agreement.Forms.{AndCode, ExpressionCode, LinksCode, OperatorCode, OrCode, QuantifiedCode, ScalarCode, SubscriptCode}
 use Rattle.rb_draft.specs.Output.{Output, added, is_text, linked, patched}
 use Rattle.rb_draft.specs.Emits.{Adds, Emits, Placed}
 use Rattle.rb_draft.proofs.Emits.{as_if, at, both, empty, filled, labelled, one}

@@ -14,10 +14,10 @@ use Rattle.rb_scope.specs.InFrames.{ProcessInFrames, Resolved}
 use Rattle.rb_scope.specs.declared.slot.Slot.{Slot}
 use Rattle.rb_code.specs.declared.instr.Instr.{Instr}
 use Rattle.rb_code.specs.declared.instr.Instr.TheVariants.{Done, Fail, Return}
-use Rattle.rb_code.specs.Plain.{Block, Code, Part, Procedure}
-use Rattle.rb_code.specs.Template.{One, ◌⨾◌}
-use Rattle.rb_code.specs.Forms.{CommandsCode, ProceduresCode}
-use Rattle.rb_code.specs.StandsFor.{ProcessesCode, StandsFor, channels_from}
+use Rattle.rb_code.specs.Instructions.Plain.{Block, Code, Part, Procedure}
+use Rattle.rb_code.specs.Agreement.Template.{One, ◌⨾◌}
+use Rattle.rb_code.specs.Agreement.Forms.{CommandsCode, ProceduresCode}
+use Rattle.rb_code.specs.Agreement.StandsFor.{ProcessesCode, StandsFor, channels_from}
 use Rattle.rb_draft.specs.Output.{Output, added, as_it_is, linked, linked_to, patched}
 use Rattle.rb_draft.specs.Emits.{Emits}
 use Rattle.rb_gen.specs.Given.{BodyGiven, ProcessesGiven}

@@ -7,10 +7,10 @@ use Rattle.rb_syntax.specs.Tree.{Identifier, Expression, Reference, Refer, Scala
 use Rattle.rb_meaning.specs.Environment.{frame_of, frame_words, natural}
 use Rattle.rb_scope.specs.declared.slot.Slot.{Slot}
 use Rattle.rb_code.specs.declared.instr.Instr.TheVariants.{Turn, Bound, Store, StoreAt, Jump, JumpZero, Frame, Drop, Text, Item, Print, Room, Put, There, Take, Call, Fail, Enter, Start, Test, Absent}
-use Rattle.rb_code.specs.Plain.{Block}
-use Rattle.rb_code.specs.Slots.{channel_of, elements_of, procedure_of, spot_of}
-use Rattle.rb_code.specs.Template.{Template, One, Quoted}
-use Rattle.rb_code.specs.Forms.{ArgumentsCode, CallCode, Called, DropCode, FrameCode, ItemsCode, PrintedCode, StoreCode, procedure_words}
+use Rattle.rb_code.specs.Instructions.Plain.{Block}
+use Rattle.rb_code.specs.Agreement.Slots.{channel_of, elements_of, procedure_of, spot_of}
+use Rattle.rb_code.specs.Agreement.Template.{Template, One, Quoted}
+use Rattle.rb_code.specs.Agreement.Forms.{ArgumentsCode, CallCode, Called, DropCode, FrameCode, ItemsCode, PrintedCode, StoreCode, procedure_words}
 use Rattle.rb_draft.specs.Output.{Output, added, linked, patched, settled}
 use Rattle.rb_draft.specs.Emits.{Emits}
 use Rattle.rb_draft.specs.Lookups.{joined_of}

@@ -3,9 +3,9 @@ use Rattle.std.proofs.Common.{◌≡◌, ℕ, ◌+◌, ◌<◌, ◌≤◌, List,
 use Rattle.std.specs.Prelude.{slice_get, slice_set, option_map}
 use Rattle.rb_code.specs.declared.instr.Instr.{Instr}
 use Rattle.rb_code.specs.declared.instr.Instr.TheVariants.{Call}
-use Rattle.rb_code.specs.Plain.{Procedure}
-use Rattle.rb_code.specs.StandsFor.{text_numbers}
-use Rattle.rb_code.proofs.Counted.{get_set_same}
+use Rattle.rb_code.specs.Instructions.Plain.{Procedure}
+use Rattle.rb_code.specs.Agreement.StandsFor.{text_numbers}
+use Rattle.rb_code.proofs.Agreeing.CountersSet.{get_set_same}
 use Rattle.rb_draft.specs.Output.{Output, linked_to, patched}
 use Rattle.rb_gen.specs.Writes.{IsLinked}
 use Rattle.rb_draft.proofs.Growing.{get_other, same_length, texts-same}

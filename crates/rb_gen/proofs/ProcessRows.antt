@@ -16,11 +16,11 @@ use Rattle.rb_scope.specs.InFrames.{ProcessInFrames, Resolved}
 use Rattle.rb_scope.specs.declared.slot.Slot.{Slot}
 use Rattle.rb_code.specs.declared.instr.Instr.{Instr}
 use Rattle.rb_code.specs.declared.instr.Instr.TheVariants.{Done, Return}
-use Rattle.rb_code.specs.Memory.{no_part, part_of}
-use Rattle.rb_code.specs.Plain.{Code, Part, Procedure}
-use Rattle.rb_code.specs.Template.{Template, One, ◌⨾◌}
-use Rattle.rb_code.specs.Forms.{CommandsCode, ProceduresCode}
-use Rattle.rb_code.specs.StandsFor.{ProcessesCode, StandsFor, channels_from, numbers_from, text_numbers}
+use Rattle.rb_code.specs.WordMachine.Workspace.{no_part, part_of}
+use Rattle.rb_code.specs.Instructions.Plain.{Code, Part, Procedure}
+use Rattle.rb_code.specs.Agreement.Template.{Template, One, ◌⨾◌}
+use Rattle.rb_code.specs.Agreement.Forms.{CommandsCode, ProceduresCode}
+use Rattle.rb_code.specs.Agreement.StandsFor.{ProcessesCode, StandsFor, channels_from, numbers_from, text_numbers}
 use Rattle.rb_draft.specs.Output.{Output, as_it_is, linked, linked_to}
 use Rattle.rb_draft.specs.Emits.{Adds, Emits, Grows, Keeps, Settles}
 use Rattle.rb_gen.specs.Given.{ProcessesGiven}

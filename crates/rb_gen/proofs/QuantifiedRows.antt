@@ -1,8 +1,8 @@
 -- The code of quantified expressions, as it is put together.
 use Rattle.std.proofs.Common.{◌≡◌, ℕ, length, refl, subst, pos}
 use Rattle.rb_code.specs.declared.instr.Instr.TheVariants.{Add, Again, Jump, JumpZero, Push, Range}
-use Rattle.rb_code.specs.Template.{Template, One}
-use Rattle.rb_code.specs.Forms.{EveryCode, SomeCode, SumCode}
+use Rattle.rb_code.specs.Agreement.Template.{Template, One}
+use Rattle.rb_code.specs.Agreement.Forms.{EveryCode, SomeCode, SumCode}
 use Rattle.rb_draft.specs.Output.{Output, added, patched}
 use Rattle.rb_draft.specs.Emits.{Adds}
 use Rattle.rb_draft.proofs.Emits.{at, both, filled, labelled}

@@ -7,9 +7,9 @@ use Rattle.rb_syntax.specs.Numbered.{blocks_in_alternates, blocks_in_body}
 use Rattle.rb_meaning.specs.Environment.{natural}
 use Rattle.rb_scope.specs.declared.slot.Slot.{Slot}
 use Rattle.rb_code.specs.declared.instr.Instr.TheVariants.{Turn, Jump, Enter, Start, Test}
-use Rattle.rb_code.specs.Plain.{Block}
-use Rattle.rb_code.specs.Template.{One}
-use Rattle.rb_code.specs.Forms.{AlternatesCode, BlockCode, BodyCode, CommandCode, ExpressionCode, OthersCode}
+use Rattle.rb_code.specs.Instructions.Plain.{Block}
+use Rattle.rb_code.specs.Agreement.Template.{One}
+use Rattle.rb_code.specs.Agreement.Forms.{AlternatesCode, BlockCode, BodyCode, CommandCode, ExpressionCode, OthersCode}
 use Rattle.rb_draft.specs.Output.{Output, added, filled_with, patched, settled}
 use Rattle.rb_draft.specs.Emits.{Adds}
 use Rattle.rb_draft.specs.Lookups.{joined_of}

@@ -18,9 +18,9 @@ use Rattle.rb_scope.specs.declared.slot.Slot.{Slot}
 use Rattle.rb_code.specs.declared.instr.Instr.{Instr}
 use Rattle.rb_code.specs.declared.instr.Spot.{Spot}
 use Rattle.rb_code.specs.declared.instr.Instr.TheVariants.{Call, Item, Put, Room, Turn, Push, Prior, Bound, LoadAt, PriorAt, Store, StoreAt, Neg, Not}
-use Rattle.rb_code.specs.Slots.{counter_of, elements_of, quantified_of, spot_of}
-use Rattle.rb_code.specs.Template.{Template, One, ◌⨾◌, Quoted}
-use Rattle.rb_code.specs.Forms.{AndCode, Called, OrCode, PrintedCode, procedure_words, EveryCode, ExpressionCode, LinksCode, OperatorCode, QuantifiedCode, ScalarCode, SomeCode, StoreCode, SubscriptCode, SumCode}
+use Rattle.rb_code.specs.Agreement.Slots.{counter_of, elements_of, quantified_of, spot_of}
+use Rattle.rb_code.specs.Agreement.Template.{Template, One, ◌⨾◌, Quoted}
+use Rattle.rb_code.specs.Agreement.Forms.{AndCode, Called, OrCode, PrintedCode, procedure_words, EveryCode, ExpressionCode, LinksCode, OperatorCode, QuantifiedCode, ScalarCode, SomeCode, StoreCode, SubscriptCode, SumCode}
 use Rattle.rb_draft.specs.Output.{Output, is_text, linked}
 use Rattle.rb_gen.specs.InMemory.{operator}
 use Rattle.rb_draft.specs.Emits.{Adds, Emits, Placed}

@@ -5,7 +5,7 @@ use Rattle.rb_syntax.specs.declared.expression.Expr.{Expr}
 use Rattle.rb_syntax.specs.declared.statement.Item.{Item}
 use Rattle.rb_syntax.specs.Plain.{expression, print_item, printed}
 use Rattle.rb_scope.specs.declared.slot.Slot.{Slot}
-use Rattle.rb_code.specs.Forms.{ArgumentsCode, ExpressionCode, ItemsCode, PrintedCode}
+use Rattle.rb_code.specs.Agreement.Forms.{ArgumentsCode, ExpressionCode, ItemsCode, PrintedCode}
 use Rattle.rb_draft.specs.Output.{Output}
 use Rattle.rb_draft.specs.Emits.{Adds}
 use Rattle.rb_draft.proofs.Emits.{empty}

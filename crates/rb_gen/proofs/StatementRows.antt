@@ -5,9 +5,9 @@ use Rattle.rb_syntax.specs.Numbered.{blocks_in, blocks_in_body, blocks_in_comman
 use Rattle.rb_meaning.specs.Environment.{frame_of, frame_words}
 use Rattle.rb_scope.specs.declared.slot.Slot.{Slot}
 use Rattle.rb_code.specs.declared.instr.Instr.TheVariants.{Turn, There, Take, Room, Put, Absent, Jump, JumpZero, Print, Fail}
-use Rattle.rb_code.specs.Slots.{channel_of}
-use Rattle.rb_code.specs.Template.{One, ◌⨾◌, At, Label}
-use Rattle.rb_code.specs.Forms.{BodyCode, BranchesCode, CallCode, CommandCode, CommandsCode, DropCode, ExpressionCode, FrameCode, ItemsCode, ReceiptCode, StoreCode}
+use Rattle.rb_code.specs.Agreement.Slots.{channel_of}
+use Rattle.rb_code.specs.Agreement.Template.{One, ◌⨾◌, At, Label}
+use Rattle.rb_code.specs.Agreement.Forms.{BodyCode, BranchesCode, CallCode, CommandCode, CommandsCode, DropCode, ExpressionCode, FrameCode, ItemsCode, ReceiptCode, StoreCode}
 use Rattle.rb_draft.specs.Output.{Output, added, linked, patched}
 use Rattle.rb_draft.specs.Emits.{Adds, Emits}
 use Rattle.rb_gen.specs.InMemory.{LeavesTest}

@@ -7,9 +7,9 @@ use Rattle.rb_syntax.specs.declared.expression.Target.{Target}
 use Rattle.rb_syntax.specs.Plain.{expression, subscript}
 use Rattle.rb_syntax.specs.Tree.{Expression}
 use Rattle.rb_scope.specs.declared.slot.Slot.{Slot}
-use Rattle.rb_code.specs.Slots.{counter_of, elements_of, quantified_of, spot_of}
-use Rattle.rb_code.specs.Template.{Template, One, ◌⨾◌}
-use Rattle.rb_code.specs.Forms.{ExpressionCode, ScalarCode, SubscriptCode}
+use Rattle.rb_code.specs.Agreement.Slots.{counter_of, elements_of, quantified_of, spot_of}
+use Rattle.rb_code.specs.Agreement.Template.{Template, One, ◌⨾◌}
+use Rattle.rb_code.specs.Agreement.Forms.{ExpressionCode, ScalarCode, SubscriptCode}
 use Rattle.rb_code.specs.declared.instr.Instr.{Instr}
 use Rattle.rb_code.specs.declared.instr.Instr.TheVariants.{Add, Sub, Mul, Div, Rem, Eq, Ne, Lt, Le, Gt, Ge, Bool, Jump, LoadAt, Prior, PriorAt, Put, Room, Turn}
 use Rattle.rb_draft.specs.Output.{Output, added}

@@ -7,11 +7,11 @@ use Rattle.rb_meaning.specs.Groups.{channels_of}
 use Rattle.rb_meaning.specs.Step.{variables_of}
 use Rattle.rb_world.specs.Kind.{Ends}
 use Rattle.rb_scope.specs.declared.slot.Slot.{Slot}
-use Rattle.rb_code.specs.Memory.{part_of}
-use Rattle.rb_code.specs.Plain.{Code, Part, Procedure}
-use Rattle.rb_code.specs.StandsFor.{ProcessesCode, text_numbers}
-use Rattle.rb_code.specs.Template.{Template, One, ◌⨾◌, At, Label}
-use Rattle.rb_code.specs.Forms.{AlternatesCode, BodyCode, CallCode, CommandCode, CommandsCode, OthersCode, Owner, ProceduresCode}
+use Rattle.rb_code.specs.WordMachine.Workspace.{part_of}
+use Rattle.rb_code.specs.Instructions.Plain.{Code, Part, Procedure}
+use Rattle.rb_code.specs.Agreement.StandsFor.{ProcessesCode, text_numbers}
+use Rattle.rb_code.specs.Agreement.Template.{Template, One, ◌⨾◌, At, Label}
+use Rattle.rb_code.specs.Agreement.Forms.{AlternatesCode, BodyCode, CallCode, CommandCode, CommandsCode, OthersCode, Owner, ProceduresCode}
 use Rattle.rb_code.specs.declared.instr.Instr.TheVariants.{Done, Jump}
 use Rattle.rb_draft.specs.Output.{Output, as_it_is, linked, linked_to}
 use Rattle.rb_draft.specs.Emits.{Emits}

@@ -2,9 +2,9 @@
 
 ghost use Rattle.std.specs.Prelude.{◌≡◌, IfOk, OnOk};
 ghost use Rattle.rb_syntax.specs.Plain.{expression as plain, links_of};
-ghost use Rattle.rb_code.specs.Slots.{elements_of};
-ghost use Rattle.rb_code.specs.Template.{One};
-ghost use Rattle.rb_code.specs.Forms.{AndCode, EveryCode, ExpressionCode, LinksCode, OperatorCode, OrCode, QuantifiedCode, ScalarCode, SomeCode, SumCode};
+ghost use Rattle.rb_code.specs.Agreement.Slots.{elements_of};
+ghost use Rattle.rb_code.specs.Agreement.Template.{One};
+ghost use Rattle.rb_code.specs.Agreement.Forms.{AndCode, EveryCode, ExpressionCode, LinksCode, OperatorCode, OrCode, QuantifiedCode, ScalarCode, SomeCode, SumCode};
 ghost use Rattle.rb_draft.specs.Output.{output};
 ghost use Rattle.rb_draft.specs.Emits.{Adds};
 ghost use Rattle.rb_gen.specs.InMemory.{LeavesTest, PriorCode, ValueCode, operator, over};

@@ -1,7 +1,7 @@
 //! Calls get the addresses of their procedures.
 
 ghost use Rattle.std.specs.Prelude.{◌≡◌, map};
-ghost use Rattle.rb_code.specs.Plain.{procedure as plain_procedure};
+ghost use Rattle.rb_code.specs.Instructions.Plain.{procedure as plain_procedure};
 ghost use Rattle.rb_draft.specs.Output.{linked_to, output, start_among};
 ghost use Rattle.rb_gen.specs.Writes.{IsLinked};
 

@@ -2,7 +2,7 @@
 
 ghost use Rattle.std.specs.Prelude.{◌≡◌, map, IfOk};
 ghost use Rattle.rb_syntax.specs.Plain.{procedure_declaration, process_declaration as declared};
-ghost use Rattle.rb_code.specs.Plain.{channel as plain_channel, part as plain_part, procedure as plain_procedure};
+ghost use Rattle.rb_code.specs.Instructions.Plain.{channel as plain_channel, part as plain_part, procedure as plain_procedure};
 ghost use Rattle.rb_draft.specs.Output.{output};
 ghost use Rattle.rb_gen.specs.Writes.{WritesProcedures, WritesProcess, WritesProcesses, room_of};
 

@@ -4,8 +4,8 @@ ghost use Rattle.std.specs.Prelude.{◌≡◌, length, IfOk};
 ghost use Rattle.rb_syntax.specs.Plain.{tree};
 ghost use Rattle.rb_syntax.specs.Numbered.{IsNumbered};
 ghost use Rattle.rb_scope.specs.InFrames.{Resolved};
-ghost use Rattle.rb_code.specs.Plain.{code};
-ghost use Rattle.rb_code.specs.StandsFor.{StandsFor};
+ghost use Rattle.rb_code.specs.Instructions.Plain.{code};
+ghost use Rattle.rb_code.specs.Agreement.StandsFor.{StandsFor};
 
 use crate::processes::emit_processes;
 use rb_base::Memory;

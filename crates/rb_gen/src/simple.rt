@@ -2,9 +2,9 @@
 
 ghost use Rattle.std.specs.Prelude.{◌≡◌, map, get_or, OnOk};
 ghost use Rattle.rb_syntax.specs.Plain.{expression as plain, identifier, print_item, printed, reference};
-ghost use Rattle.rb_code.specs.Template.{One, ◌⨾◌};
-ghost use Rattle.rb_code.specs.Slots.{channel_of};
-ghost use Rattle.rb_code.specs.Forms.{ArgumentsCode, ExpressionCode, ItemsCode, PrintedCode, StoreCode};
+ghost use Rattle.rb_code.specs.Agreement.Template.{One, ◌⨾◌};
+ghost use Rattle.rb_code.specs.Agreement.Slots.{channel_of};
+ghost use Rattle.rb_code.specs.Agreement.Forms.{ArgumentsCode, ExpressionCode, ItemsCode, PrintedCode, StoreCode};
 ghost use Rattle.rb_draft.specs.Output.{output};
 ghost use Rattle.rb_draft.specs.Emits.{Adds};
 ghost use Rattle.rb_gen.specs.InMemory.{SendCode};

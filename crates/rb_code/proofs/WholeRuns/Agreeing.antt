@@ -5,17 +5,17 @@ use Rattle.rb_syntax.specs.Tree.{ProcessDeclaration, Tree}
 use Rattle.rb_world.specs.Kind.{Facts, Want, NothingLeft, SendsOn, ReceivesOn, MayReceiveOn, Enters, Starts, Acts, Stepped, Trapped, Went, Held}
 use Rattle.rb_world.specs.World.{Running, Process, last_of, without_last}
 use Rattle.rb_world.specs.Slots.{Slots, stepped_with_slots}
-use Rattle.rb_world.proofs.Simulation.{copies_of}
+use Rattle.rb_world.proofs.Relating.Simulation.{copies_of}
 use Rattle.rb_cache.specs.Copies.{accepted}
 use Rattle.rb_meaning.specs.Environment.{global_words}
 use Rattle.rb_meaning.specs.State.{State, settle, with_held, with_kept}
 use Rattle.rb_meaning.specs.Step.{Nothing, enter, held_bytes, step, wants_first}
 use Rattle.rb_meaning.specs.Meaning.{environment_of, opening_state, sent_on, taken_on, tree_kind}
-use Rattle.rb_code.specs.Plain.{Code, Part}
-use Rattle.rb_code.specs.Memory.{held_place, word_at}
-use Rattle.rb_code.specs.Turn.{Common, Copy, Standing, settle as settles, step as steps, want}
-use Rattle.rb_code.specs.WordKind.{copied, entered_at, released, restored, sent_by, taken_by}
-use Rattle.rb_code.specs.WordRun.{opening_standing, variable_words}
+use Rattle.rb_code.specs.Instructions.Plain.{Code, Part}
+use Rattle.rb_code.specs.WordMachine.Workspace.{held_place, word_at}
+use Rattle.rb_code.specs.WordMachine.Turn.{Common, Copy, Standing, settle as settles, step as steps, want}
+use Rattle.rb_code.specs.WordMachine.WordKind.{copied, entered_at, released, restored, sent_by, taken_by}
+use Rattle.rb_code.specs.WordMachine.WordRun.{opening_standing, variable_words}
 use Rattle.rb_code.specs.declared.instr.Instr.TheVariants.{Done, Turn}
 use Rattle.rb_code.proofs.WholeRuns.PointsLie.{LiesWell}
 

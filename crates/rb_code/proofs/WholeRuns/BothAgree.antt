@@ -4,10 +4,10 @@ use Rattle.std.proofs.Common.{◌≡◌, ◌≤◌, ℕ, zero, suc, Bool, List, 
 use Rattle.rb_world.specs.World.{Level, Process}
 use Rattle.rb_world.specs.Slots.{Slots}
 use Rattle.rb_world.proofs.ListFacts.{none_some, some_same}
-use Rattle.rb_world.proofs.Simulation.{Shared, Related, copies_of}
+use Rattle.rb_world.proofs.Relating.Simulation.{Shared, Related, copies_of}
 use Rattle.rb_meaning.specs.State.{State}
 use Rattle.rb_meaning.specs.Step.{Nothing}
-use Rattle.rb_code.specs.Turn.{Common, Copy, Link, Standing}
+use Rattle.rb_code.specs.WordMachine.Turn.{Common, Copy, Link, Standing}
 use Rattle.rb_code.proofs.WholeRuns.KeptTurns.{AreBefore, LeadTo, others_kept}
 use Rattle.rb_code.proofs.WholeRuns.HeldLines.{Grow}
 use Rattle.rb_code.proofs.WholeRuns.Pairs.{Pairs, pairs_become}

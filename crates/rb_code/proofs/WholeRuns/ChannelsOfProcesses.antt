@@ -9,15 +9,15 @@ use Rattle.rb_meaning.specs.Groups.{channels_of, ends_of}
 use Rattle.rb_meaning.specs.Nesting.{IsNested, keeps_n12}
 use Rattle.rb_scope.specs.InFrames.{ChannelInFrames, Resolved}
 use Rattle.rb_scope.specs.declared.slot.Slot.{Slot}
-use Rattle.rb_code.specs.Plain.{Code, Part}
-use Rattle.rb_code.specs.Sound.{IsReceiver, IsSender}
-use Rattle.rb_code.specs.Safe.{IsThere}
-use Rattle.rb_code.specs.Stands.{IsAmong}
-use Rattle.rb_code.specs.Memory.{part_of}
-use Rattle.rb_code.specs.StandsFor.{StandsFor, channels_from}
-use Rattle.rb_code.specs.WellFormed.{ListsChannels}
-use Rattle.rb_code.proofs.Channels.{receives, sends}
-use Rattle.rb_code.proofs.Took.{HasCursors}
+use Rattle.rb_code.specs.Instructions.Plain.{Code, Part}
+use Rattle.rb_code.specs.SoundCode.Sound.{IsReceiver, IsSender}
+use Rattle.rb_code.specs.SoundCode.Safe.{IsThere}
+use Rattle.rb_code.specs.SoundCode.Stands.{IsAmong}
+use Rattle.rb_code.specs.WordMachine.Workspace.{part_of}
+use Rattle.rb_code.specs.Agreement.StandsFor.{StandsFor, channels_from}
+use Rattle.rb_code.specs.SoundCode.WellFormed.{ListsChannels}
+use Rattle.rb_code.proofs.InWords.Channels.{receives, sends}
+use Rattle.rb_code.proofs.Agreeing.StepOutcomes.{HasCursors}
 use Rattle.rb_code.proofs.WholeRuns.Openings.{AsMany, parts_stand}
 use Rattle.rb_code.proofs.WholeRuns.ProcessesBegin.{all_there, stands_at}
 

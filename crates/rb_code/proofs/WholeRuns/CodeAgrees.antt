@@ -6,13 +6,13 @@ use Rattle.rb_meaning.specs.Nesting.{IsNested}
 use Rattle.rb_scope.specs.InFrames.{Resolved}
 use Rattle.rb_scope.specs.Limits.{IsWithinLimits}
 use Rattle.rb_scope.specs.declared.slot.Slot.{Slot}
-use Rattle.rb_code.specs.Laws.{Agrees}
-use Rattle.rb_code.specs.Plain.{Code}
-use Rattle.rb_code.specs.Sound.{HasTable, Table}
-use Rattle.rb_code.specs.StandsFor.{StandsFor}
-use Rattle.rb_code.proofs.Callees.{has_callees}
-use Rattle.rb_code.proofs.StepComes.{steps_come}
-use Rattle.rb_code.proofs.Took.{HasCursors}
+use Rattle.rb_code.specs.Agreement.Laws.{Agrees}
+use Rattle.rb_code.specs.Instructions.Plain.{Code}
+use Rattle.rb_code.specs.SoundCode.Sound.{HasTable, Table}
+use Rattle.rb_code.specs.Agreement.StandsFor.{StandsFor}
+use Rattle.rb_code.proofs.Agreeing.Callees.{has_callees}
+use Rattle.rb_code.proofs.Agreeing.StepComes.{steps_come}
+use Rattle.rb_code.proofs.Agreeing.StepOutcomes.{HasCursors}
 use Rattle.rb_code.proofs.WholeRuns.ChannelsOfProcesses.{has_cursors, lists_channels}
 use Rattle.rb_code.proofs.WholeRuns.TogetherLaws.{code_agrees}
 use Rattle.rb_code.proofs.WholeRuns.UprightByTable.{StandsInTable, table_upright}

@@ -3,21 +3,21 @@ use Rattle.std.proofs.Common.{◌≡◌, ℕ, ℤ, ◌+◌, suc, List, [], ◌�
 use Rattle.std.proofs.lemmas.Option.{slice_get-map}
 use Rattle.rb_syntax.specs.Tree.{Tree}
 use Rattle.rb_world.specs.Kind.{Ends}
-use Rattle.rb_world.specs.World.{Level, Process, Status}
+use Rattle.rb_world.specs.World.{Level, Process, ProcessStatus}
 use Rattle.rb_world.specs.Slots.{Slots}
 use Rattle.rb_world.proofs.ListFacts.{none_some, some_same}
-use Rattle.rb_world.proofs.MarksMeet.{OptionsMeet, SameMarks, same_length}
-use Rattle.rb_world.proofs.ProcessesMeet.{ProcessesMeet, AllMeet, get_meets}
+use Rattle.rb_world.proofs.Relating.MarksMeet.{OptionsMeet, SameMarks, same_length}
+use Rattle.rb_world.proofs.Relating.ProcessesMeet.{ProcessesMeet, AllMeet, get_meets}
 use Rattle.rb_meaning.specs.Environment.{global_words}
 use Rattle.rb_meaning.specs.State.{State}
 use Rattle.rb_meaning.specs.Step.{Nothing}
 use Rattle.rb_meaning.specs.Groups.{channels_of}
 use Rattle.rb_meaning.specs.Meaning.{by_state, count_sent, count_taken, sent_on, standing, taken_on}
-use Rattle.rb_code.specs.Plain.{Code}
-use Rattle.rb_code.specs.Laws.{ProcessAgrees, Tried, tried}
-use Rattle.rb_code.specs.Turn.{Common, Copy, Standing}
-use Rattle.rb_code.specs.WordKind.{sent_by, taken_by}
-use Rattle.rb_code.specs.WordRun.{by_standing, counts_sent, counts_taken, variable_words}
+use Rattle.rb_code.specs.Instructions.Plain.{Code}
+use Rattle.rb_code.specs.Agreement.Laws.{ProcessAgrees, Tried, tried}
+use Rattle.rb_code.specs.WordMachine.Turn.{Common, Copy, Standing}
+use Rattle.rb_code.specs.WordMachine.WordKind.{sent_by, taken_by}
+use Rattle.rb_code.specs.WordMachine.WordRun.{by_standing, counts_sent, counts_taken, variable_words}
 use Rattle.rb_code.proofs.WholeRuns.Agreeing.{Meeting, IsAgreeing}
 use Rattle.rb_code.proofs.WholeRuns.BothAgree.{Agreed}
 
@@ -77,7 +77,7 @@ module _ (tree : Tree) (c : Code) (meets : Meeting) (laws : IsAgreeing tree c me
   statuses_same [] (r ∷ rs) all = absurd all
   statuses_same (q ∷ qs) [] all = absurd all
   statuses_same (q ∷ qs) (r ∷ rs) all =
-      ap₂ (λ (one : Status × ℕ) (others : List (Status × ℕ)). one ∷ others)
+      ap₂ (λ (one : ProcessStatus × ℕ) (others : List (ProcessStatus × ℕ)). one ∷ others)
       (λ i. (sym all.0.statuses i, sym (same_length q.levels r.levels all.0.marks) i)) (statuses_same qs rs all.1)
 
   pub words_same : (qs : List (Process State State)) (rs : List (Process Standing Copy)) → AllAgree qs rs

@@ -6,7 +6,7 @@ use Rattle.rb_world.specs.World.{without_last}
 use Rattle.rb_world.proofs.ListFacts.{none_some, some_same}
 use Rattle.rb_meaning.specs.State.{State}
 use Rattle.rb_meaning.specs.Step.{held_bytes}
-use Rattle.rb_code.specs.Memory.{cut_held}
+use Rattle.rb_code.specs.WordMachine.Workspace.{cut_held}
 
 -- lines that come first in others
 abbrev pub ComeFirst : List (List ℕ) → List (List ℕ) → Type 0

@@ -4,7 +4,7 @@ use Rattle.std.proofs.Common.{◌≡◌, ◌≤◌, ◌<◌, ℕ, suc, cond, eq-
 use Rattle.std.proofs.lemmas.Bool.{ne_eqb}
 use Rattle.rb_world.specs.Standing.{Each}
 use Rattle.rb_world.proofs.LevelFacts.{IsOldOrNew, IsOld, IsNew, get_more}
-use Rattle.rb_code.specs.Turn.{Link, kept_from}
+use Rattle.rb_code.specs.WordMachine.Turn.{Link, kept_from}
 
 -- the number of the last of these turns, and 0 without one
 abbrev pub last_turn : List (ℕ × ℕ) → ℕ

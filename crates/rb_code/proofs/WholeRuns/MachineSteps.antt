@@ -2,9 +2,9 @@
 use Rattle.std.proofs.Common.{◌≡◌, ◌≤◌, inl, inr, ℕ, ◌+◌, zero, suc, [], slice_get, Option, Some, None, refl, ap, ◌∙◌, arith}
 use Rattle.std.specs.Prelude.{ℤ}
 use Rattle.rb_world.specs.Kind.{Stepped, Trapped, Went, Held}
-use Rattle.rb_code.specs.Plain.{Code}
-use Rattle.rb_code.specs.Act.{Accepts, Going, Outcome, Sight, Stopped, Trapped as Trap, Unfinished, act, act_at, execute, then_go}
-use Rattle.rb_code.specs.Turn.{Common, Copy, Standing, came_to, memory_of, most_steps, settle, settled_by, sight, step}
+use Rattle.rb_code.specs.Instructions.Plain.{Code}
+use Rattle.rb_code.specs.WordMachine.Act.{Accepts, Going, Outcome, Sight, Stopped, Trapped as Trap, Unfinished, act, act_at, execute, then_go}
+use Rattle.rb_code.specs.WordMachine.Turn.{Common, Copy, Standing, came_to, memory_of, most_steps, settle, settled_by, sight, step}
 use Rattle.rb_code.specs.declared.instr.Instr.{Instr}
 use Rattle.rb_code.specs.declared.instr.Instr.TheVariants.{Done, Turn}
 use Rattle.rb_code.proofs.WholeRuns.Agreeing.{IsAtRest}

@@ -2,17 +2,17 @@
 use Rattle.std.proofs.Common.{◌≡◌, ℕ, ◌+◌, suc, false, List, [], ◌∷◌, slice_get, Some, None, refl, sym, subst, arith}
 use Rattle.rb_syntax.specs.Tree.{ProcessDeclaration, Tree}
 use Rattle.rb_world.specs.Slots.{Slots, zero_slots}
-use Rattle.rb_world.proofs.RunsMeet.{OpeningsMeet}
+use Rattle.rb_world.proofs.Relating.RunsMeet.{OpeningsMeet}
 use Rattle.rb_meaning.specs.State.{settle}
 use Rattle.rb_meaning.specs.Step.{Nothing}
 use Rattle.rb_meaning.specs.Groups.{channels_of, groups_of}
 use Rattle.rb_meaning.specs.Meaning.{opening_state, opening_states}
 use Rattle.rb_scope.specs.declared.slot.Slot.{Slot}
-use Rattle.rb_code.specs.Plain.{Code, Part}
-use Rattle.rb_code.specs.StandsFor.{ProcessesCode, StandsFor}
-use Rattle.rb_code.specs.Turn.{Common, settle as settles}
-use Rattle.rb_code.specs.WordKind.{word_kind}
-use Rattle.rb_code.specs.WordRun.{opening_standing, opening_standings}
+use Rattle.rb_code.specs.Instructions.Plain.{Code, Part}
+use Rattle.rb_code.specs.Agreement.StandsFor.{ProcessesCode, StandsFor}
+use Rattle.rb_code.specs.WordMachine.Turn.{Common, settle as settles}
+use Rattle.rb_code.specs.WordMachine.WordKind.{word_kind}
+use Rattle.rb_code.specs.WordMachine.WordRun.{opening_standing, opening_standings}
 use Rattle.rb_code.proofs.WholeRuns.KeptTurns.{LeadTo, none_kept}
 use Rattle.rb_code.proofs.WholeRuns.Pairs.{Pairs}
 use Rattle.rb_code.proofs.WholeRuns.Agreeing.{Meeting, IsAgreeing}

@@ -15,18 +15,18 @@ use Rattle.rb_meaning.specs.Groups.{channels_of, ends_of}
 use Rattle.rb_meaning.specs.Laws.{blocks_left}
 use Rattle.rb_meaning.specs.Meaning.{opening_state, sent_on, taken_on}
 use Rattle.rb_meaning.specs.Nesting.{IsNested}
-use Rattle.rb_meaning.proofs.ChannelEnds.{first_receives, first_sends}
-use Rattle.rb_meaning.proofs.KnownOfProcess.{Known}
-use Rattle.rb_meaning.proofs.MailOfSteps.{Posts}
-use Rattle.rb_meaning.proofs.NestedProgram.{procedures_kept}
-use Rattle.rb_meaning.proofs.StepsChangeMail.{IsPassed, steps_post}
-use Rattle.rb_meaning.proofs.StepsKeepRules.{Continues, Passes, StepsTo, steps_keep}
-use Rattle.rb_meaning.proofs.TreeParts.{moves_by, parts_of}
-use Rattle.rb_meaning.proofs.TreeErasure.{none_taken}
-use Rattle.rb_code.specs.Plain.{Code}
-use Rattle.rb_code.specs.Memory.{OpenCall, cursor_place, part_of, word_at}
-use Rattle.rb_code.specs.WordKind.{cursor_in, sent_by, taken_by}
-use Rattle.rb_code.proofs.Meets.{WordsMeet}
+use Rattle.rb_meaning.proofs.Nesting.ChannelEnds.{first_receives, first_sends}
+use Rattle.rb_meaning.proofs.Knowing.KnownOfProcess.{Known}
+use Rattle.rb_meaning.proofs.Trees.MailOfSteps.{Posts}
+use Rattle.rb_meaning.proofs.Nesting.NestedProgram.{procedures_kept}
+use Rattle.rb_meaning.proofs.Trees.StepsChangeMail.{IsPassed, steps_post}
+use Rattle.rb_meaning.proofs.Nesting.StepsKeepRules.{Continues, Passes, StepsTo, steps_keep}
+use Rattle.rb_meaning.proofs.Trees.TreeParts.{moves_by, parts_of}
+use Rattle.rb_meaning.proofs.Trees.TreeErasure.{none_taken}
+use Rattle.rb_code.specs.Instructions.Plain.{Code}
+use Rattle.rb_code.specs.WordMachine.Workspace.{OpenCall, cursor_place, part_of, word_at}
+use Rattle.rb_code.specs.WordMachine.WordKind.{cursor_in, sent_by, taken_by}
+use Rattle.rb_code.proofs.Agreeing.StatesMeet.{WordsMeet}
 
 -- process p has an entry for each channel, and has sent and taken nothing on those of which it is no end
 pub record HasOwnMail (c : Code) (p : ℕ) (s : State) : Type 0 where

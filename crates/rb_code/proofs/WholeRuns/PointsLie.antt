@@ -6,23 +6,23 @@ use Rattle.rb_world.specs.World.{Level, Process, Running, copy_of, last_of, sett
 use Rattle.rb_world.specs.Reject.{back_to}
 use Rattle.rb_world.specs.Turn.{is_last_of, new_level, state_freed}
 use Rattle.rb_world.specs.Standing.{is_failed}
-use Rattle.rb_world.proofs.EachProcess.{KeepsEach}
-use Rattle.rb_world.proofs.ImageRuns.{more-map, take-map}
+use Rattle.rb_world.proofs.Keeping.EachProcess.{KeepsEach}
+use Rattle.rb_world.proofs.Relating.ImageRuns.{more-map, take-map}
 use Rattle.rb_world.proofs.LastLevels.{without_last-map}
 use Rattle.rb_world.proofs.ListFacts.{first_holds, none_some, second_holds, some_same}
-use Rattle.rb_world.proofs.MarksMeet.{copies-front, copies-get, copies-more, copies-next, copies-take, copies-used}
-use Rattle.rb_world.proofs.Simulation.{copies_of}
+use Rattle.rb_world.proofs.Relating.MarksMeet.{copies-front, copies-get, copies-more, copies-next, copies-take, copies-used}
+use Rattle.rb_world.proofs.Relating.Simulation.{copies_of}
 use Rattle.rb_meaning.specs.State.{State, with_kept}
 use Rattle.rb_meaning.specs.Step.{enter, entered_items}
 use Rattle.rb_meaning.specs.Meaning.{environment_of, opening_states, tree_kind}
 use Rattle.rb_meaning.specs.Laws.{with_test}
 use Rattle.rb_meaning.specs.Nesting.{IsNested}
 use Rattle.rb_meaning.proofs.InsideOut.{onto, onto-front, onto-more}
-use Rattle.rb_meaning.proofs.KnownOfProcess.{Known}
-use Rattle.rb_meaning.proofs.KnownFacts.{IsEntered, entered_block, running_last}
-use Rattle.rb_meaning.proofs.KnownIsKept.{known_kept}
-use Rattle.rb_meaning.proofs.NestedProgram.{known_opening, procedures_kept}
-use Rattle.rb_meaning.proofs.TreeErasure.{each_opening}
+use Rattle.rb_meaning.proofs.Knowing.KnownOfProcess.{Known}
+use Rattle.rb_meaning.proofs.Knowing.KnownFacts.{IsEntered, entered_block, running_last}
+use Rattle.rb_meaning.proofs.Knowing.KnownIsKept.{known_kept}
+use Rattle.rb_meaning.proofs.Nesting.NestedProgram.{known_opening, procedures_kept}
+use Rattle.rb_meaning.proofs.Trees.TreeErasure.{each_opening}
 use Rattle.rb_syntax.specs.Tree.{Commands, NoCommand, Then}
 use Rattle.rb_meaning.specs.State.{performed}
 use Rattle.rb_code.proofs.WholeRuns.StacksLeft.{Stacks, held_leaves, left_in, settled_left, stacks_in, stacks_left, went_leaves}

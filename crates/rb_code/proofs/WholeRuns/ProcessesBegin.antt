@@ -12,24 +12,24 @@ use Rattle.rb_meaning.specs.Environment.{Environment, frame_of, words}
 use Rattle.rb_meaning.specs.State.{State, performed, settle, settle_items, with_settled}
 use Rattle.rb_meaning.specs.Groups.{procedures_of}
 use Rattle.rb_meaning.specs.Meaning.{opening_state}
-use Rattle.rb_meaning.proofs.TreeErasure.{none_taken}
+use Rattle.rb_meaning.proofs.Trees.TreeErasure.{none_taken}
 use Rattle.rb_scope.specs.Frames.{main_frames, shape_of, shape_words}
 use Rattle.rb_scope.specs.InFrames.{CommandsInFrames, Resolved}
 use Rattle.rb_scope.specs.Limits.{IsWithinLimits, ProcessWithin}
 use Rattle.rb_scope.specs.declared.slot.Slot.{Slot}
-use Rattle.rb_code.specs.Plain.{Code, Part}
-use Rattle.rb_code.specs.Memory.{body_place, no_part, part_of, variables_place, word_at}
-use Rattle.rb_code.specs.Forms.{CommandsCode, Owner}
-use Rattle.rb_code.specs.StandsFor.{ProcessCode, ProcessesCode, StandsFor}
-use Rattle.rb_code.specs.Turn.{Standing, settle as settles}
-use Rattle.rb_code.specs.WordRun.{opening_standing}
-use Rattle.rb_code.proofs.BlocksBegin.{commands_left}
-use Rattle.rb_code.proofs.Environments.{words_of_frame}
-use Rattle.rb_code.proofs.LaidOut.{Laid, flat_frame}
-use Rattle.rb_code.proofs.Left.{IsSettled, Left, frames_at, owner_of, variables_of_process}
-use Rattle.rb_code.proofs.Lying.{frame_long}
-use Rattle.rb_code.proofs.Meets.{Meets, WordsMeet}
-use Rattle.rb_code.proofs.Pushed.{zeros_flat}
+use Rattle.rb_code.specs.Instructions.Plain.{Code, Part}
+use Rattle.rb_code.specs.WordMachine.Workspace.{body_place, no_part, part_of, variables_place, word_at}
+use Rattle.rb_code.specs.Agreement.Forms.{CommandsCode, Owner}
+use Rattle.rb_code.specs.Agreement.StandsFor.{ProcessCode, ProcessesCode, StandsFor}
+use Rattle.rb_code.specs.WordMachine.Turn.{Standing, settle as settles}
+use Rattle.rb_code.specs.WordMachine.WordRun.{opening_standing}
+use Rattle.rb_code.proofs.Agreeing.BlocksBegin.{commands_left}
+use Rattle.rb_code.proofs.InWords.Environments.{words_of_frame}
+use Rattle.rb_code.proofs.InWords.LaidOut.{Laid, flat_frame}
+use Rattle.rb_code.proofs.Agreeing.TextLeft.{IsSettled, Left, frames_at, owner_of, variables_of_process}
+use Rattle.rb_code.proofs.InWords.VariablesInWords.{frame_long}
+use Rattle.rb_code.proofs.Agreeing.StatesMeet.{Meets, WordsMeet}
+use Rattle.rb_code.proofs.InWords.FramesPushed.{zeros_flat}
 use Rattle.rb_code.proofs.WholeRuns.MachineSteps.{settle_at_rest}
 use Rattle.rb_code.proofs.WholeRuns.OwnMail.{none_sent, opening_mail}
 use Rattle.rb_code.proofs.WholeRuns.PointsLie.{none_left}

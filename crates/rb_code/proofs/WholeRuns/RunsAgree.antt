@@ -7,10 +7,10 @@ use Rattle.rb_world.specs.Channels.{room_from}
 use Rattle.rb_world.specs.Turn.{Told, opening, run, told_at_opening}
 use Rattle.rb_world.specs.Slots.{Slots, slot_of, zero_slots}
 use Rattle.rb_world.specs.Text.{all_told, end_text, told_text}
-use Rattle.rb_world.proofs.Image.{process_image, turn_image}
-use Rattle.rb_world.proofs.ImageRuns.{opening_run-image}
-use Rattle.rb_world.proofs.ProcessesMeet.{WorldsMeet}
-use Rattle.rb_world.proofs.RunsMeet.{RunsMeet, opening_meets, opening_run_meets, same_told_at_opening}
+use Rattle.rb_world.proofs.Relating.Image.{process_image, turn_image}
+use Rattle.rb_world.proofs.Relating.ImageRuns.{opening_run-image}
+use Rattle.rb_world.proofs.Relating.ProcessesMeet.{WorldsMeet}
+use Rattle.rb_world.proofs.Relating.RunsMeet.{RunsMeet, opening_meets, opening_run_meets, same_told_at_opening}
 use Rattle.rb_world.proofs.Slots.SlotsTheorem.{slots_image}
 use Rattle.rb_meaning.specs.State.{State}
 use Rattle.rb_meaning.specs.Step.{Nothing}
@@ -18,13 +18,13 @@ use Rattle.rb_meaning.specs.Groups.{channels_of, groups_of}
 use Rattle.rb_meaning.specs.Meaning.{TreeWorld, final_of, message_number, opening_states, opening_world, run_of, run_text, sent_on, tree_kind}
 use Rattle.rb_meaning.specs.Nesting.{IsNested}
 use Rattle.rb_meaning.specs.Laws.{run_with_slots, slot_opening}
-use Rattle.rb_meaning.proofs.TreeSlots.{slots_hold_messages}
+use Rattle.rb_meaning.proofs.Trees.TreeSlots.{slots_hold_messages}
 use Rattle.rb_scope.specs.declared.slot.Slot.{Slot}
-use Rattle.rb_code.specs.Plain.{Code}
-use Rattle.rb_code.specs.Laws.{Agrees}
-use Rattle.rb_code.specs.StandsFor.{StandsFor}
-use Rattle.rb_code.specs.Turn.{Common}
-use Rattle.rb_code.specs.WordRun.{WordWorld, opening_of, opening_standings, word_final, word_run, word_text}
+use Rattle.rb_code.specs.Instructions.Plain.{Code}
+use Rattle.rb_code.specs.Agreement.Laws.{Agrees}
+use Rattle.rb_code.specs.Agreement.StandsFor.{StandsFor}
+use Rattle.rb_code.specs.WordMachine.Turn.{Common}
+use Rattle.rb_code.specs.WordMachine.WordRun.{WordWorld, opening_of, opening_standings, word_final, word_run, word_text}
 use Rattle.rb_code.proofs.WholeRuns.Agreeing.{Meeting, IsAgreeing}
 use Rattle.rb_code.proofs.WholeRuns.BothAgree.{Agreed, SameSlots}
 use Rattle.rb_code.proofs.WholeRuns.EndsAgree.{each_agrees, same_number, sent_same, statuses_same, taken_same, words_same}

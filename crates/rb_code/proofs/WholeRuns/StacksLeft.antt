@@ -10,10 +10,10 @@ use Rattle.rb_meaning.specs.Value.{Outcome, is_zero, value}
 use Rattle.rb_meaning.specs.State.{Item, Perform, StartOf, TestOf, EndBlock, EndCall, State, performed, continue_with, settle_items, with_environment, with_held}
 use Rattle.rb_meaning.specs.Groups.{channel_number, procedure_named}
 use Rattle.rb_meaning.specs.Step.{Nothing, Result_of_step, bound_to, variables_of, commands_of, present_value, place_in, put_at, line_from, values_in, prints, within_words, pushes, pushes_else, calls_with, receives, performs, starts_body, alternate_number, alternates_in, judged, former, test_in, step, step_items}
-use Rattle.rb_meaning.proofs.StepsKeepRules.{EndsIn, StepsTo, either_ends, step_ends, then_ends, judged_either}
+use Rattle.rb_meaning.proofs.Nesting.StepsKeepRules.{EndsIn, StepsTo, either_ends, step_ends, then_ends, judged_either}
 use Rattle.rb_scope.specs.Frames.{Shape}
-use Rattle.rb_code.proofs.Environments.{store_kept}
-use Rattle.rb_code.proofs.LaidOut.{shapes_of, stacks_of}
+use Rattle.rb_code.proofs.InWords.Environments.{store_kept}
+use Rattle.rb_code.proofs.InWords.LaidOut.{shapes_of, stacks_of}
 
 -- the shapes of the frames of each open call, the running one first, and in each the innermost frame first
 abbrev pub Stacks : Type 0

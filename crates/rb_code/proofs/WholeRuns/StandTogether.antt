@@ -11,17 +11,17 @@ use Rattle.rb_meaning.specs.Step.{Nothing, step, wants_first}
 use Rattle.rb_meaning.specs.Meaning.{environment_of, tree_kind}
 use Rattle.rb_meaning.specs.Laws.{with_test}
 use Rattle.rb_meaning.proofs.InsideOut.{onto}
-use Rattle.rb_meaning.proofs.RecoveryPoints.{IsOwn}
+use Rattle.rb_meaning.proofs.Nesting.RecoveryPoints.{IsOwn}
 use Rattle.rb_scope.specs.declared.slot.Slot.{Slot}
-use Rattle.rb_code.specs.Plain.{Code, Part}
-use Rattle.rb_code.specs.Memory.{Memory}
-use Rattle.rb_code.specs.Act.{Accepts, Sight, Stopped, Trapped as Trap, execute}
-use Rattle.rb_code.specs.Turn.{Common, Copy, Standing, memory_of, most_steps, settle as settles, sight, step as steps, want}
-use Rattle.rb_code.specs.WordKind.{copied, entered_at, released, restored}
-use Rattle.rb_code.specs.WordRun.{opening_standing}
-use Rattle.rb_code.proofs.Leads.{EndsIn, IsFinished}
-use Rattle.rb_code.proofs.Left.{IsSettled}
-use Rattle.rb_code.proofs.Meets.{IsPrior, Meets}
+use Rattle.rb_code.specs.Instructions.Plain.{Code, Part}
+use Rattle.rb_code.specs.WordMachine.Workspace.{Workspace}
+use Rattle.rb_code.specs.WordMachine.Act.{Accepts, Sight, Stopped, Trapped as Trap, execute}
+use Rattle.rb_code.specs.WordMachine.Turn.{Common, Copy, Standing, memory_of, most_steps, settle as settles, sight, step as steps, want}
+use Rattle.rb_code.specs.WordMachine.WordKind.{copied, entered_at, released, restored}
+use Rattle.rb_code.specs.WordMachine.WordRun.{opening_standing}
+use Rattle.rb_code.proofs.Agreeing.Leads.{EndsIn, IsFinished}
+use Rattle.rb_code.proofs.Agreeing.TextLeft.{IsSettled}
+use Rattle.rb_code.proofs.Agreeing.StatesMeet.{IsPrior, Meets}
 use Rattle.rb_code.proofs.WholeRuns.Agreeing.{MayStep, accepted_touched, cut_touched, kept_last}
 use Rattle.rb_code.proofs.WholeRuns.OwnMail.{HasOwnMail}
 use Rattle.rb_code.proofs.WholeRuns.Pairs.{Pairs}
@@ -90,7 +90,7 @@ module _ (tree : Tree) (slots : List Slot) (c : Code) where
   -- a turn stops with what meets the settled state
   pub record StopsWith (u : Standing) (see : Sight) (before : Slots) (t : State) (after : Slots) : Type 0 where
     pub to : ℕ
-    pub later : Memory
+    pub later : Workspace
     pub ends : EndsIn c see (u.at + 1) [] (memory_of u before) (Stopped to later)
     pub meets : Meets tree slots c u.process (settle t) to later.words later.calls
     pub settled : IsSettled (settle t).items
@@ -100,7 +100,7 @@ module _ (tree : Tree) (slots : List Slot) (c : Code) where
   -- a turn ends where a test held
   pub record AcceptsWith (u : Standing) (see : Sight) (before : Slots) (t : State) : Type 0 where
     pub to : ℕ
-    pub later : Memory
+    pub later : Workspace
     pub ends : EndsIn c see (u.at + 1) [] (memory_of u before) (Accepts to later)
     pub meets : Meets tree slots c u.process t to later.words later.calls
     pub held : later.held ≡ t.held

@@ -9,7 +9,7 @@ use Rattle.rb_meaning.specs.Value.{Outcome, is_zero, value}
 use Rattle.rb_meaning.specs.State.{Item, Perform, StartOf, TestOf, EndBlock, EndCall, State, performed, continue_with, with_environment, with_held}
 use Rattle.rb_meaning.specs.Groups.{channel_number, procedure_named}
 use Rattle.rb_meaning.specs.Step.{Nothing, Result_of_step, bound_to, variables_of, commands_of, present_value, place_in, line_from, values_in, prints, within_words, pushes, pushes_else, calls_with, receives, performs, starts_body, alternate_number, alternates_in, judged, former, test_in, step, step_items}
-use Rattle.rb_meaning.proofs.StepsKeepRules.{EndsIn, StepsTo, either_ends, step_ends, then_ends, judged_either}
+use Rattle.rb_meaning.proofs.Nesting.StepsKeepRules.{EndsIn, StepsTo, either_ends, step_ends, then_ends, judged_either}
 use Rattle.rb_code.proofs.WholeRuns.HeldLines.{ComeFirst, first_same}
 
 -- t comes after s in a step: of the same process, with the same kept turns, and the held lines come first in those of t

@@ -6,7 +6,7 @@ use Rattle.rb_world.specs.World.{Process, last_of}
 use Rattle.rb_world.specs.Slots.{Slots, stepped_with_slots}
 use Rattle.rb_world.proofs.LastLevels.{last_of-map}
 use Rattle.rb_world.proofs.ListFacts.{heads_same, none_some, some_same}
-use Rattle.rb_world.proofs.Simulation.{copies_of}
+use Rattle.rb_world.proofs.Relating.Simulation.{copies_of}
 use Rattle.rb_meaning.specs.State.{Item, Perform, StartOf, TestOf, EndBlock, EndCall, State, settle}
 use Rattle.rb_meaning.specs.Step.{Nothing, Result_of_step, step, wants_first}
 use Rattle.rb_meaning.specs.Groups.{channels_of}
@@ -14,12 +14,12 @@ use Rattle.rb_meaning.specs.Meaning.{environment_of, tree_kind}
 use Rattle.rb_meaning.specs.Nesting.{IsNested}
 use Rattle.rb_meaning.proofs.InsideOut.{onto}
 use Rattle.rb_scope.specs.declared.slot.Slot.{Slot}
-use Rattle.rb_code.specs.Plain.{Code}
-use Rattle.rb_code.specs.Act.{Accepts, Outcome, Sight, Stopped, Trapped as Trap, execute}
-use Rattle.rb_code.specs.Turn.{Common, Copy, Standing, came_to, memory_of, most_steps, sight, standing_at, step as steps, want}
-use Rattle.rb_code.proofs.Leads.{EndsIn, IsEnd, enough}
-use Rattle.rb_code.proofs.Meets.{IsPrior, Meets}
-use Rattle.rb_code.proofs.LaidOut.{stacks_of}
+use Rattle.rb_code.specs.Instructions.Plain.{Code}
+use Rattle.rb_code.specs.WordMachine.Act.{Accepts, Outcome, Sight, Stopped, Trapped as Trap, execute}
+use Rattle.rb_code.specs.WordMachine.Turn.{Common, Copy, Standing, came_to, memory_of, most_steps, sight, standing_at, step as steps, want}
+use Rattle.rb_code.proofs.Agreeing.Leads.{EndsIn, IsEnd, enough}
+use Rattle.rb_code.proofs.Agreeing.StatesMeet.{IsPrior, Meets}
+use Rattle.rb_code.proofs.InWords.LaidOut.{stacks_of}
 use Rattle.rb_code.proofs.WholeRuns.Agreeing.{Meeting, MayStep, StepsAgree}
 use Rattle.rb_code.proofs.WholeRuns.OwnMail.{held_mail, same_mail, went_mail}
 use Rattle.rb_code.proofs.WholeRuns.Pairs.{Pairs}

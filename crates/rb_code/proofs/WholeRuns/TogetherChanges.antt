@@ -3,26 +3,26 @@ use Rattle.std.proofs.Common.{◌≡◌, ℕ, ℤ, ◌+◌, suc, Bool, true, fal
 use Rattle.rb_syntax.specs.Tree.{Recovering, RecoveryBlock, Recovers, Tree}
 use Rattle.rb_world.specs.Kind.{Facts, Enters}
 use Rattle.rb_world.specs.World.{last_of, without_last}
-use Rattle.rb_world.proofs.ImageRuns.{more-map, take-map}
+use Rattle.rb_world.proofs.Relating.ImageRuns.{more-map, take-map}
 use Rattle.rb_world.proofs.LastLevels.{without_last-map}
 use Rattle.rb_world.proofs.ListFacts.{none_some}
 use Rattle.rb_meaning.specs.State.{Item, Perform, StartOf, State, settle, with_held, with_kept}
 use Rattle.rb_meaning.specs.Step.{enter, entered_items, wants_first}
 use Rattle.rb_meaning.proofs.InsideOut.{onto, onto-more, onto-some}
-use Rattle.rb_meaning.proofs.KnownFacts.{IsEntered, entered_block}
+use Rattle.rb_meaning.proofs.Knowing.KnownFacts.{IsEntered, entered_block}
 use Rattle.rb_scope.specs.Frames.{Shape}
 use Rattle.rb_scope.specs.declared.slot.Slot.{Slot}
-use Rattle.rb_code.specs.Plain.{Code}
-use Rattle.rb_code.specs.Memory.{OpenCall}
-use Rattle.rb_code.specs.Act.{Sight, Stopped}
-use Rattle.rb_code.specs.Forms.{CommandCode}
-use Rattle.rb_code.specs.Turn.{Copy, Standing, memory_of, most_steps, settled_by, settle as settles, sight, standing_at, want}
-use Rattle.rb_code.specs.WordKind.{copied, entered_at, released, restored}
-use Rattle.rb_code.proofs.LaidOut.{stacks_of}
-use Rattle.rb_code.proofs.Leads.{enough}
-use Rattle.rb_code.proofs.Left.{IsSettled, Left, StartCode, owner_of}
-use Rattle.rb_code.proofs.Meets.{Meets}
-use Rattle.rb_code.proofs.Took.{HasCursors, Reached, arrives}
+use Rattle.rb_code.specs.Instructions.Plain.{Code}
+use Rattle.rb_code.specs.WordMachine.Workspace.{OpenCall}
+use Rattle.rb_code.specs.WordMachine.Act.{Sight, Stopped}
+use Rattle.rb_code.specs.Agreement.Forms.{CommandCode}
+use Rattle.rb_code.specs.WordMachine.Turn.{Copy, Standing, memory_of, most_steps, settled_by, settle as settles, sight, standing_at, want}
+use Rattle.rb_code.specs.WordMachine.WordKind.{copied, entered_at, released, restored}
+use Rattle.rb_code.proofs.InWords.LaidOut.{stacks_of}
+use Rattle.rb_code.proofs.Agreeing.Leads.{enough}
+use Rattle.rb_code.proofs.Agreeing.TextLeft.{IsSettled, Left, StartCode, owner_of}
+use Rattle.rb_code.proofs.Agreeing.StatesMeet.{Meets}
+use Rattle.rb_code.proofs.Agreeing.StepOutcomes.{HasCursors, Reached, arrives}
 use Rattle.rb_code.proofs.WholeRuns.Agreeing.{accepted_touched, cut_touched, kept_last}
 use Rattle.rb_code.proofs.WholeRuns.OwnMail.{same_mail}
 use Rattle.rb_code.proofs.WholeRuns.Pairs.{Pairs, pairs_front, pairs_get, pairs_more, pairs_take}

@@ -3,19 +3,19 @@
 use Rattle.std.proofs.Common.{◌≡◌, ℕ, Bool, false, List, refl, sym, ◌∙◌, subst}
 use Rattle.rb_syntax.specs.Tree.{Tree}
 use Rattle.rb_world.specs.World.{Process}
-use Rattle.rb_world.proofs.Simulation.{copies_of}
+use Rattle.rb_world.proofs.Relating.Simulation.{copies_of}
 use Rattle.rb_meaning.specs.State.{State}
 use Rattle.rb_meaning.specs.Step.{wants_first}
 use Rattle.rb_meaning.specs.Nesting.{IsNested}
 use Rattle.rb_scope.specs.InFrames.{Resolved}
 use Rattle.rb_scope.specs.Limits.{IsWithinLimits}
 use Rattle.rb_scope.specs.declared.slot.Slot.{Slot}
-use Rattle.rb_code.specs.Laws.{Agrees}
-use Rattle.rb_code.specs.Plain.{Code}
-use Rattle.rb_code.specs.StandsFor.{StandsFor}
-use Rattle.rb_code.specs.Turn.{Copy, Standing, want}
-use Rattle.rb_code.proofs.LaidOut.{stacks_of}
-use Rattle.rb_code.proofs.Took.{HasCursors}
+use Rattle.rb_code.specs.Agreement.Laws.{Agrees}
+use Rattle.rb_code.specs.Instructions.Plain.{Code}
+use Rattle.rb_code.specs.Agreement.StandsFor.{StandsFor}
+use Rattle.rb_code.specs.WordMachine.Turn.{Copy, Standing, want}
+use Rattle.rb_code.proofs.InWords.LaidOut.{stacks_of}
+use Rattle.rb_code.proofs.Agreeing.StepOutcomes.{HasCursors}
 use Rattle.rb_code.proofs.WholeRuns.Agreeing.{IsAgreeing}
 use Rattle.rb_code.proofs.WholeRuns.OwnMail.{sent_counts, taken_counts}
 use Rattle.rb_code.proofs.WholeRuns.Pairs.{pairs_get}

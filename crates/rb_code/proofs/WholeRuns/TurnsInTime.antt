@@ -4,12 +4,12 @@ use Rattle.rb_base.specs.declared.event.Cause.{Cause}
 use Rattle.rb_base.specs.declared.event.Cause.TheVariants.{Inner}
 use Rattle.rb_syntax.specs.Tree.{Tree}
 use Rattle.rb_world.specs.Kind.{Went, Held}
-use Rattle.rb_world.specs.World.{Level, Process, Status, change_at, copy_of, goes_on, is_inside, is_of, last_of, settled, with_process, without_last}
+use Rattle.rb_world.specs.World.{Level, Process, ProcessStatus, change_at, copy_of, goes_on, is_inside, is_of, last_of, settled, with_process, without_last}
 use Rattle.rb_world.specs.Reject.{at_place, back_to, fallen, fallen_inside, put_back, raised, where_inside}
 use Rattle.rb_world.specs.Turn.{freed, leaves, new_level, opening, stands_at, stands_now, turn_used}
 use Rattle.rb_world.specs.Standing.{Each}
-use Rattle.rb_world.proofs.Invariant.{IsInvariant}
-use Rattle.rb_world.proofs.EachProcess.{settled_each}
+use Rattle.rb_world.proofs.Keeping.Invariant.{IsInvariant}
+use Rattle.rb_world.proofs.Keeping.EachProcess.{settled_each}
 use Rattle.rb_world.proofs.ListFacts.{none_some, Each-change_at, Each-map}
 use Rattle.rb_world.proofs.LevelFacts.{AreFrom, IsOldOrNew, IsOld, IsNew, get_more, from_next, from_take, from_used, from_without_last}
 use Rattle.rb_meaning.specs.State.{State, with_kept}
@@ -90,7 +90,7 @@ module _ (tree : Tree) where
   leaves_in_time t q true h = record { now = h.now; then = points_from t _ q.levels (from_without_last q.levels) h.then }
   leaves_in_time t q false h = h
 
-  freed_in_time : (t : ℕ) (s : State) (levels : List (Level State)) (line : Bool) (status : Status)
+  freed_in_time : (t : ℕ) (s : State) (levels : List (Level State)) (line : Bool) (status : ProcessStatus)
       → IsInTime t (record { state = s; levels = levels; at_line = line; status = status })
       → IsInTime t (freed (tree_kind tree) (record { state = s; levels = levels; at_line = line; status = status }))
   freed_in_time t s [] line status h = record { now = h.now; then = h.then }

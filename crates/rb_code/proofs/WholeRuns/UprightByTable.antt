@@ -7,25 +7,25 @@ use Rattle.rb_world.specs.Slots.{Slots}
 use Rattle.rb_world.specs.World.{Level, Process, Running, copy_of, last_of, without_last}
 use Rattle.rb_world.specs.Reject.{back_to}
 use Rattle.rb_world.proofs.ListFacts.{none_some, some_same}
-use Rattle.rb_world.proofs.MarksMeet.{copies-front, copies-get, copies-last, copies-more, copies-take, last-front}
-use Rattle.rb_world.proofs.Simulation.{copies_of}
-use Rattle.rb_code.specs.Plain.{Code}
-use Rattle.rb_code.specs.Memory.{held_place}
-use Rattle.rb_code.specs.Act.{Accepts, Going, Outcome, Stopped, Trapped, Unfinished, execute}
-use Rattle.rb_code.specs.Sound.{HasTable, Table}
-use Rattle.rb_code.specs.Safe.{IsThere}
-use Rattle.rb_code.specs.Stands.{ServedBut, Stands, StandsAfter, inside_out}
-use Rattle.rb_code.specs.StandsInRuns.{AllRecover, ProcessStands, StandsNow}
-use Rattle.rb_code.specs.Turn.{Common, Copy, Standing, memory_of, most_steps, settle, sight, step, want}
-use Rattle.rb_code.specs.WellFormed.{ListsChannels}
-use Rattle.rb_code.specs.WordKind.{copied, entered_at, restored, word_kind}
-use Rattle.rb_code.specs.WordRun.{opening_standing}
-use Rattle.rb_code.proofs.Leads.{IsFinished}
-use Rattle.rb_code.proofs.ProcessesStand.{away_stands, processes_stand}
-use Rattle.rb_code.proofs.RunSteps.{run_step_ends, run_step_stands}
-use Rattle.rb_code.proofs.SoundSteps.{safe_ends, settling_is_safe}
-use Rattle.rb_code.proofs.StandingSteps.{settle_stands}
-use Rattle.rb_code.proofs.StandsAgain.{entered_stands, opening_settles, settles_like, stands_like}
+use Rattle.rb_world.proofs.Relating.MarksMeet.{copies-front, copies-get, copies-last, copies-more, copies-take, last-front}
+use Rattle.rb_world.proofs.Relating.Simulation.{copies_of}
+use Rattle.rb_code.specs.Instructions.Plain.{Code}
+use Rattle.rb_code.specs.WordMachine.Workspace.{held_place}
+use Rattle.rb_code.specs.WordMachine.Act.{Accepts, Going, Outcome, Stopped, Trapped, Unfinished, execute}
+use Rattle.rb_code.specs.SoundCode.Sound.{HasTable, Table}
+use Rattle.rb_code.specs.SoundCode.Safe.{IsThere}
+use Rattle.rb_code.specs.SoundCode.Stands.{ServedBut, Stands, StandsAfter, inside_out}
+use Rattle.rb_code.specs.SoundCode.StandsInRuns.{AllRecover, ProcessStands, StandsNow}
+use Rattle.rb_code.specs.WordMachine.Turn.{Common, Copy, Standing, memory_of, most_steps, settle, sight, step, want}
+use Rattle.rb_code.specs.SoundCode.WellFormed.{ListsChannels}
+use Rattle.rb_code.specs.WordMachine.WordKind.{copied, entered_at, restored, word_kind}
+use Rattle.rb_code.specs.WordMachine.WordRun.{opening_standing}
+use Rattle.rb_code.proofs.Agreeing.Leads.{IsFinished}
+use Rattle.rb_code.proofs.Executing.ProcessesStand.{away_stands, processes_stand}
+use Rattle.rb_code.proofs.Executing.RunSteps.{run_step_ends, run_step_stands}
+use Rattle.rb_code.proofs.Executing.SoundSteps.{safe_ends, settling_is_safe}
+use Rattle.rb_code.proofs.Executing.StandingSteps.{settle_stands}
+use Rattle.rb_code.proofs.Executing.StandsAgain.{entered_stands, opening_settles, settles_like, stands_like}
 use Rattle.rb_code.proofs.WholeRuns.Agreeing.{MayStep, accepted_touched, cut_touched, kept_last}
 use Rattle.rb_code.proofs.WholeRuns.StandTogether.{IsUpright}
 

@@ -12,16 +12,16 @@ use Rattle.rb_scope.specs.Frames.{Frames, Shape}
 use Rattle.rb_scope.specs.InFrames.{CommandInFrames}
 use Rattle.rb_scope.specs.declared.slot.Slot.{Slot}
 use Rattle.rb_scope.specs.declared.slot.Slot.TheVariants.{Channel}
-use Rattle.rb_code.specs.Plain.{Block, Code}
-use Rattle.rb_code.specs.Memory.{OpenCall}
-use Rattle.rb_code.specs.Slots.{channel_in, channel_of, counter_of, elements_of, spot_of}
-use Rattle.rb_code.specs.Template.{Template, One}
-use Rattle.rb_code.specs.Forms.{AlternatesCode, ArgumentsCode, BlockCode, BodyCode, BranchesCode, CommandCode, ExpressionCode, ItemsCode, OthersCode, Owner, PrintedCode, QuantifiedCode, ReceiptCode, ScalarCode, StoreCode, SubscriptCode, TellsOf}
-use Rattle.rb_code.specs.Turn.{block_facts, enters, wants_behind, wants_by, wants_there}
+use Rattle.rb_code.specs.Instructions.Plain.{Block, Code}
+use Rattle.rb_code.specs.WordMachine.Workspace.{OpenCall}
+use Rattle.rb_code.specs.Agreement.Slots.{channel_in, channel_of, counter_of, elements_of, spot_of}
+use Rattle.rb_code.specs.Agreement.Template.{Template, One}
+use Rattle.rb_code.specs.Agreement.Forms.{AlternatesCode, ArgumentsCode, BlockCode, BodyCode, BranchesCode, CommandCode, ExpressionCode, ItemsCode, OthersCode, Owner, PrintedCode, QuantifiedCode, ReceiptCode, ScalarCode, StoreCode, SubscriptCode, TellsOf}
+use Rattle.rb_code.specs.WordMachine.Turn.{block_facts, enters, wants_behind, wants_by, wants_there}
 use Rattle.rb_code.specs.declared.instr.Spot.{Spot}
 use Rattle.rb_code.specs.declared.instr.Instr.{Instr}
 use Rattle.rb_code.specs.declared.instr.Instr.TheVariants.{LoadAt, Prior, PriorAt, Take, Turn}
-use Rattle.rb_code.proofs.Left.{IsSettled, Left, StartCode, TestCode, owner_of}
+use Rattle.rb_code.proofs.Agreeing.TextLeft.{IsSettled, Left, StartCode, TestCode, owner_of}
 
 module _ (c : Code) where
   -- the instruction at an address asks this of a turn that begins before it

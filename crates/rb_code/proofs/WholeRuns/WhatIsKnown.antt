@@ -3,10 +3,10 @@ use Rattle.std.proofs.Common.{◌≡◌, ℕ, [], refl}
 use Rattle.rb_syntax.specs.Tree.{Tree}
 use Rattle.rb_world.specs.Slots.{Slots}
 use Rattle.rb_world.specs.Standing.{Each}
-use Rattle.rb_world.proofs.EachProcess.{each_kept, settled_each}
-use Rattle.rb_world.proofs.Simulation.{Knowing}
-use Rattle.rb_world.proofs.RunsMeet.{KeepsKnown, WithPast, invariant_knows}
-use Rattle.rb_world.proofs.Reread.{ReadsSame}
+use Rattle.rb_world.proofs.Keeping.EachProcess.{each_kept, settled_each}
+use Rattle.rb_world.proofs.Relating.Simulation.{Knowing}
+use Rattle.rb_world.proofs.Relating.RunsMeet.{KeepsKnown, WithPast, invariant_knows}
+use Rattle.rb_world.proofs.Relating.Reread.{ReadsSame}
 use Rattle.rb_world.proofs.Slots.UnderSlots.{bare, under_slots}
 use Rattle.rb_world.proofs.Slots.SlotsTheorem.{SlotsKept, SlotsKnown, knows_slots, opening_both, reads_same}
 use Rattle.rb_meaning.specs.State.{State}
@@ -14,11 +14,11 @@ use Rattle.rb_meaning.specs.Step.{Nothing}
 use Rattle.rb_meaning.specs.Meaning.{opening_states, tree_kind}
 use Rattle.rb_meaning.specs.Nesting.{IsNested}
 use Rattle.rb_meaning.specs.Laws.{slot_opening}
-use Rattle.rb_meaning.proofs.KnownIsKept.{known_kept}
-use Rattle.rb_meaning.proofs.NestedProgram.{procedures_kept}
-use Rattle.rb_meaning.proofs.TreeErasable.{erasable}
-use Rattle.rb_meaning.proofs.TreeErasure.{each_opening}
-use Rattle.rb_meaning.proofs.TreeSlots.{opens_with_slots}
+use Rattle.rb_meaning.proofs.Knowing.KnownIsKept.{known_kept}
+use Rattle.rb_meaning.proofs.Nesting.NestedProgram.{procedures_kept}
+use Rattle.rb_meaning.proofs.Trees.TreeErasable.{erasable}
+use Rattle.rb_meaning.proofs.Trees.TreeErasure.{each_opening}
+use Rattle.rb_meaning.proofs.Trees.TreeSlots.{opens_with_slots}
 use Rattle.rb_code.proofs.WholeRuns.PointsLie.{LiesWell, lies_kept, lies_opening}
 use Rattle.rb_code.proofs.WholeRuns.TurnsInTime.{AreInTime, in_time_kept, opening_in_time}
 use Rattle.rb_code.proofs.WholeRuns.WordsSimulate.{IsKnown, SlotWorld, read_slot, read_slot_then, slotted}

@@ -7,17 +7,17 @@ use Rattle.rb_meaning.specs.Environment.{Frame, global_words}
 use Rattle.rb_meaning.specs.State.{Item, Perform, StartOf, TestOf, EndBlock, EndCall, State, with_held, with_kept}
 use Rattle.rb_scope.specs.Frames.{Shape}
 use Rattle.rb_scope.specs.declared.slot.Slot.{Slot}
-use Rattle.rb_code.specs.Plain.{Code}
-use Rattle.rb_code.specs.Memory.{OpenCall, body_place, held_place, part_of, variables_place}
-use Rattle.rb_code.specs.Turn.{Standing}
-use Rattle.rb_code.specs.WordRun.{variable_words}
+use Rattle.rb_code.specs.Instructions.Plain.{Code}
+use Rattle.rb_code.specs.WordMachine.Workspace.{OpenCall, body_place, held_place, part_of, variables_place}
+use Rattle.rb_code.specs.WordMachine.Turn.{Standing}
+use Rattle.rb_code.specs.WordMachine.WordRun.{variable_words}
 use Rattle.rb_code.specs.declared.instr.Instr.TheVariants.{Done, Turn}
-use Rattle.rb_code.proofs.Fronts.{laid_written, word_other, word_set}
-use Rattle.rb_code.proofs.LaidOut.{Based, flat, flat_calls, flat_frame, stacks_of}
-use Rattle.rb_code.proofs.Left.{IsSettled, Left, owner_of}
-use Rattle.rb_code.proofs.Lying.{frame_long}
-use Rattle.rb_code.proofs.Meets.{IsPrior, Meets, WordsMeet}
-use Rattle.rb_code.proofs.Settles.{command_turn, start_turn, test_turn}
+use Rattle.rb_code.proofs.InWords.Fronts.{laid_written, word_other, word_set}
+use Rattle.rb_code.proofs.InWords.LaidOut.{Based, flat, flat_calls, flat_frame, stacks_of}
+use Rattle.rb_code.proofs.Agreeing.TextLeft.{IsSettled, Left, owner_of}
+use Rattle.rb_code.proofs.InWords.VariablesInWords.{frame_long}
+use Rattle.rb_code.proofs.Agreeing.StatesMeet.{IsPrior, Meets, WordsMeet}
+use Rattle.rb_code.proofs.Agreeing.Settles.{command_turn, start_turn, test_turn}
 
 -- the words of a frame, said another way
 frame_words_are : (frame : Frame) → flat_map (λ stored. stored.values) frame ≡ flat_frame frame

@@ -5,18 +5,18 @@ use Rattle.rb_world.specs.Kind.{Ends, Facts, Kind, Want, Stepped, Trapped, Went,
 use Rattle.rb_world.specs.World.{Running, Process, World, last_of, without_last}
 use Rattle.rb_world.specs.Slots.{Slots, slot_of, stepped_with_slots, with_slots}
 use Rattle.rb_world.proofs.TurnFacts.{IsReady, ToSend, ToReceive, ToReceiveIfThere, ToStart, ToAct}
-use Rattle.rb_world.proofs.Simulation.{Knowing, IsActing, StillMeets, StepsMeet, IsSimulation, copies_of}
-use Rattle.rb_world.proofs.Reread.{ReadsSame}
+use Rattle.rb_world.proofs.Relating.Simulation.{Knowing, IsActing, StillMeets, StepsMeet, IsSimulation, copies_of}
+use Rattle.rb_world.proofs.Relating.Reread.{ReadsSame}
 use Rattle.rb_world.proofs.Slots.UnderSlots.{bare}
 use Rattle.rb_meaning.specs.Environment.{natural}
 use Rattle.rb_meaning.specs.State.{State, settle, with_held, with_kept}
 use Rattle.rb_meaning.specs.Step.{Nothing, Result_of_step, enter, held_bytes, step, wants_first}
 use Rattle.rb_meaning.specs.Groups.{channels_of, groups_of}
 use Rattle.rb_meaning.specs.Meaning.{environment_of, tree_kind}
-use Rattle.rb_code.specs.Plain.{Code}
-use Rattle.rb_code.specs.Memory.{cut_held}
-use Rattle.rb_code.specs.Turn.{Common, Copy, Link, Standing, settle as settles, step as steps}
-use Rattle.rb_code.specs.WordKind.{copied, entered_at, released, restored, word_kind}
+use Rattle.rb_code.specs.Instructions.Plain.{Code}
+use Rattle.rb_code.specs.WordMachine.Workspace.{cut_held}
+use Rattle.rb_code.specs.WordMachine.Turn.{Common, Copy, Link, Standing, settle as settles, step as steps}
+use Rattle.rb_code.specs.WordMachine.WordKind.{copied, entered_at, released, restored, word_kind}
 use Rattle.rb_code.proofs.WholeRuns.KeptTurns.{LeadTo, turn_kept}
 use Rattle.rb_code.proofs.WholeRuns.HeldLines.{cut_back, grow_front, grow_get, grow_longer, grow_more, grow_take}
 use Rattle.rb_code.proofs.WholeRuns.Pairs.{Pairs, pairs_front, pairs_get, pairs_more, pairs_take}

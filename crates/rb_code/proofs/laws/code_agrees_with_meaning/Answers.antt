@@ -1,5 +1,5 @@
-use Rattle.rb_code.specs.Laws.{CodeAgreesWithMeaning}
-use Rattle.rb_code.proofs.CodeTables.{code_has_table}
+use Rattle.rb_code.specs.Agreement.Laws.{CodeAgreesWithMeaning}
+use Rattle.rb_code.proofs.Tables.CodeTables.{code_has_table}
 use Rattle.rb_code.proofs.WholeRuns.CodeAgrees.{agrees_by_table}
 use Rattle.rb_code.proofs.laws.code_agrees_with_meaning.Goals as goal
 

@@ -1,4 +1,4 @@
-use Rattle.rb_code.proofs.CodeTables.{code_has_table}
+use Rattle.rb_code.proofs.Tables.CodeTables.{code_has_table}
 use Rattle.rb_code.proofs.laws.code_of_trees_is_sound.Goals as goal
 
 pub returns : goal.returns

@@ -1,4 +1,4 @@
-use Rattle.rb_code.proofs.OneCode.{one_code_stands, one_code_with_slots}
+use Rattle.rb_code.proofs.Alike.OneCode.{one_code_stands, one_code_with_slots}
 use Rattle.rb_code.proofs.laws.one_code_stands.Goals as goal
 
 pub returns : goal.returns

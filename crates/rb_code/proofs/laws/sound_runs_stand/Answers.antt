@@ -1,4 +1,4 @@
-use Rattle.rb_code.proofs.RunsStand.{runs_end, runs_stand}
+use Rattle.rb_code.proofs.Executing.RunsStand.{runs_end, runs_stand}
 use Rattle.rb_code.proofs.laws.sound_runs_stand.Goals as goal
 
 pub returns-clause-stand : goal.returns-clause-stand

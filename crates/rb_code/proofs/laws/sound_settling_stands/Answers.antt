@@ -1,4 +1,4 @@
-use Rattle.rb_code.proofs.SoundSteps.{settling_is_safe, settling_stands, standing_has_settled}
+use Rattle.rb_code.proofs.Executing.SoundSteps.{settling_is_safe, settling_stands, standing_has_settled}
 use Rattle.rb_code.proofs.laws.sound_settling_stands.Goals as goal
 
 pub returns-clause-safe : goal.returns-clause-safe

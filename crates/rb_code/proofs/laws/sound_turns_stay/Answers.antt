@@ -1,4 +1,4 @@
-use Rattle.rb_code.proofs.Staying.{settling_stays, steps_stay}
+use Rattle.rb_code.proofs.Executing.Staying.{settling_stays, steps_stay}
 use Rattle.rb_code.proofs.laws.sound_turns_stay.Goals as goal
 
 pub returns-clause-steps : goal.returns-clause-steps

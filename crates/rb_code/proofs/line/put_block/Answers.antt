@@ -2,9 +2,9 @@ use Rattle.std.proofs.Common.{[], ◌∷◌, ◌++◌, codes, map, decimal}
 use Rattle.rb_outside.proofs.Puts.{puts_both, puts_same, puts_stopped_at}
 use Rattle.rb_trace.specs.Naming.{naming}
 use Rattle.rb_trace.specs.Lines.{spaced}
-use Rattle.rb_code.specs.Limits.{block_limits}
-use Rattle.rb_code.specs.Plain.{block}
-use Rattle.rb_code.specs.Listing.{block_kind}
+use Rattle.rb_code.specs.Instructions.Limits.{block_limits}
+use Rattle.rb_code.specs.Instructions.Plain.{block}
+use Rattle.rb_code.specs.Instructions.Listing.{block_kind}
 use Rattle.rb_code.proofs.Listed.{block_parts}
 use Rattle.rb_code.proofs.line.put_block.Goals as goal
 

@@ -1,7 +1,7 @@
 use Rattle.std.proofs.Common.{ℕ, List, [], ◌∷◌, ◌++◌, map, decimal, ap}
 use Rattle.rb_outside.proofs.Puts.{puts_both, puts_same, puts_stopped_at}
 use Rattle.rb_trace.specs.Lines.{spaced}
-use Rattle.rb_code.specs.Limits.{block_limits}
+use Rattle.rb_code.specs.Instructions.Limits.{block_limits}
 use Rattle.rb_code.proofs.line.put_block_addresses.Goals as goal
 
 pub returns-in_err-put_limits : goal.returns-in_err-put_limits

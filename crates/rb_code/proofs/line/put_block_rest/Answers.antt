@@ -2,8 +2,8 @@ use Rattle.std.proofs.Common.{[], ◌∷◌, ◌++◌, map, decimal}
 use Rattle.rb_outside.proofs.Puts.{puts_both}
 use Rattle.rb_trace.specs.Naming.{naming}
 use Rattle.rb_trace.specs.Lines.{spaced}
-use Rattle.rb_code.specs.Limits.{block_limits}
-use Rattle.rb_code.specs.Listing.{block_kind}
+use Rattle.rb_code.specs.Instructions.Limits.{block_limits}
+use Rattle.rb_code.specs.Instructions.Listing.{block_kind}
 use Rattle.rb_code.proofs.line.put_block_rest.Goals as goal
 
 pub returns : goal.returns

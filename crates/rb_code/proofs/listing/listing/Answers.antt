@@ -1,8 +1,8 @@
 use Rattle.std.proofs.Common.{map}
 use Rattle.rb_outside.proofs.Puts.{puts_both}
 use Rattle.rb_trace.specs.Naming.{naming}
-use Rattle.rb_code.specs.Plain.{block, part}
-use Rattle.rb_code.specs.Listing.{block_lines, heads_from, instr_lines}
+use Rattle.rb_code.specs.Instructions.Plain.{block, part}
+use Rattle.rb_code.specs.Instructions.Listing.{block_lines, heads_from, instr_lines}
 use Rattle.rb_code.proofs.listing.listing.Goals as goal
 
 pub returns : goal.returns

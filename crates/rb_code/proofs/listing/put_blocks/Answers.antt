@@ -1,9 +1,9 @@
 use Rattle.std.proofs.Common.{◌≡◌, ◌+◌, List, drop, map, length, get_or, ap, ◌∙◌, arith}
 use Rattle.rb_trace.specs.Naming.{naming}
 use Rattle.rb_trace.proofs.Written.{written_more, written_part}
-use Rattle.rb_code.specs.Plain.{block}
+use Rattle.rb_code.specs.Instructions.Plain.{block}
 use Rattle.rb_code.specs.declared.code.BlockCode.{BlockCode}
-use Rattle.rb_code.specs.Listing.{block_line, block_lines}
+use Rattle.rb_code.specs.Instructions.Listing.{block_line, block_lines}
 use Rattle.rb_code.proofs.Listed.{block_next}
 use Rattle.rb_code.proofs.listing.put_blocks.Goals as goal
 

@@ -1,8 +1,8 @@
 use Rattle.std.proofs.Common.{map, drop}
 use Rattle.rb_trace.specs.Naming.{naming}
 use Rattle.rb_trace.proofs.Written.{Written}
-use Rattle.rb_code.specs.Plain.{block}
-use Rattle.rb_code.specs.Listing.{block_lines}
+use Rattle.rb_code.specs.Instructions.Plain.{block}
+use Rattle.rb_code.specs.Instructions.Listing.{block_lines}
 use Rattle.rb_code.proofs.listing.put_blocks.Given as goal
 
 -- the recovery blocks from this number on are left to write

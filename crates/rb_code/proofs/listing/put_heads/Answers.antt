@@ -2,8 +2,8 @@ use Rattle.std.proofs.Common.{[], ◌∷◌, ap, ◌∙◌}
 use Rattle.rb_world.specs.Text.{line_of}
 use Rattle.rb_trace.specs.Naming.{naming}
 use Rattle.rb_trace.proofs.Written.{written_more}
-use Rattle.rb_code.specs.Listing.{heads_past, lines_at}
-use Rattle.rb_code.specs.Heads.{heads_left}
+use Rattle.rb_code.specs.Instructions.Listing.{heads_past, lines_at}
+use Rattle.rb_code.specs.Instructions.Heads.{heads_left}
 use Rattle.rb_code.proofs.Listed.{lines_next, past_next, written_stopped}
 use Rattle.rb_code.proofs.listing.put_heads.Goals as goal
 

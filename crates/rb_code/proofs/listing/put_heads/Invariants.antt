@@ -1,8 +1,8 @@
 use Rattle.std.proofs.Common.{◌≡◌, ◌+◌, length}
 use Rattle.rb_trace.specs.Naming.{naming}
 use Rattle.rb_trace.proofs.Written.{Written}
-use Rattle.rb_code.specs.Listing.{heads_past, lines_at}
-use Rattle.rb_code.specs.Heads.{heads_left}
+use Rattle.rb_code.specs.Instructions.Listing.{heads_past, lines_at}
+use Rattle.rb_code.specs.Instructions.Heads.{heads_left}
 use Rattle.rb_code.proofs.listing.put_heads.Given as goal
 
 -- the lines of the heads so far were written

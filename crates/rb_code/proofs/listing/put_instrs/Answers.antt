@@ -1,8 +1,8 @@
 use Rattle.std.proofs.Common.{ℕ, List, ◌++◌, ◌+◌, drop, get_or, refl, sym, ap, ◌∙◌}
 use Rattle.rb_trace.specs.Naming.{naming}
 use Rattle.rb_trace.proofs.Written.{written_more}
-use Rattle.rb_code.specs.Listing.{Head, heads_past, instr_line, instr_lines, lines_at}
-use Rattle.rb_code.specs.Heads.{heads_left}
+use Rattle.rb_code.specs.Instructions.Listing.{Head, heads_past, instr_line, instr_lines, lines_at}
+use Rattle.rb_code.specs.Instructions.Heads.{heads_left}
 use Rattle.rb_code.specs.declared.instr.Instr.TheVariants.{Turn}
 use Rattle.rb_code.proofs.Listed.{instr_next, written_further, written_stopped}
 use Rattle.rb_code.proofs.listing.put_instrs.Goals as goal

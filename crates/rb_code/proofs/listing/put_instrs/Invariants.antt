@@ -1,9 +1,9 @@
 use Rattle.std.proofs.Common.{◌≡◌, ◌+◌, length, drop, map}
 use Rattle.rb_trace.specs.Naming.{naming}
 use Rattle.rb_trace.proofs.Written.{Written}
-use Rattle.rb_code.specs.Plain.{part}
-use Rattle.rb_code.specs.Listing.{heads_from, instr_lines}
-use Rattle.rb_code.specs.Heads.{heads_left}
+use Rattle.rb_code.specs.Instructions.Plain.{part}
+use Rattle.rb_code.specs.Instructions.Listing.{heads_from, instr_lines}
+use Rattle.rb_code.specs.Instructions.Heads.{heads_left}
 use Rattle.rb_code.proofs.listing.put_instrs.Given as goal
 
 -- the instructions from this address on are left to write, and the heads that stand before them

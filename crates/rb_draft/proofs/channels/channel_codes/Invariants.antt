@@ -1,6 +1,6 @@
 use Rattle.std.proofs.Common.{◌≡◌, ◌++◌, length, map}
 use Rattle.rb_syntax.specs.Plain.{channel_declaration}
-use Rattle.rb_code.specs.Plain.{channel}
+use Rattle.rb_code.specs.Instructions.Plain.{channel}
 use Rattle.rb_draft.specs.Channels.{ends_by}
 use Rattle.rb_draft.proofs.channels.channel_codes.Given as goal
 

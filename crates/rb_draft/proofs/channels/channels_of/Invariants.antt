@@ -1,6 +1,6 @@
 use Rattle.std.proofs.Common.{◌≡◌, ◌++◌, length, map}
-use Rattle.rb_code.specs.Plain.{channel}
-use Rattle.rb_code.specs.StandsFor.{channels_from}
+use Rattle.rb_code.specs.Instructions.Plain.{channel}
+use Rattle.rb_code.specs.Agreement.StandsFor.{channels_from}
 use Rattle.rb_draft.proofs.channels.channels_of.Given as goal
 
 -- those so far, and what the others give

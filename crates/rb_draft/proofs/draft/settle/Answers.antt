@@ -1,6 +1,6 @@
 use Rattle.std.proofs.Common.{ap, List}
 use Rattle.std.proofs.lemmas.List.{map-set}
-use Rattle.rb_code.specs.Plain.{Block, block}
+use Rattle.rb_code.specs.Instructions.Plain.{Block, block}
 use Rattle.rb_draft.specs.Output.{Output}
 use Rattle.rb_draft.proofs.draft.settle.Goals as goal
 

@@ -5,7 +5,7 @@ use Rattle.rb_syntax.specs.Plain.{expression as plain, identifier, links_of, sub
 use Rattle.rb_syntax.specs.Tree.{NoLink, Minus, Negation, Chained, Quantification, Element, Linked, Literal, Variable, Former, Refer}
 use Rattle.rb_syntax.proofs.Bridge.{trees}
 use Rattle.rb_code.specs.declared.instr.Instr.TheVariants.{Jump, JumpZero, Prior, LoadAt, PriorAt}
-use Rattle.rb_code.specs.Template.{One}
+use Rattle.rb_code.specs.Agreement.Template.{One}
 use Rattle.rb_draft.proofs.Emits.{labelled, filled, both, at}
 use Rattle.rb_gen.proofs.QuantifiedRows.{every_row, some_row, sum_row}
 use Rattle.rb_gen.proofs.Rows.{same_expression, literal, value, former, minus, negation, chained, quantification, scalar, counted, element, no_link, of_every, of_some, of_sum, one_link, op_and, op_or, simple}

@@ -1,6 +1,6 @@
 use Rattle.std.proofs.Common.{drop}
 use Rattle.rb_syntax.specs.Plain.{links_of}
-use Rattle.rb_code.specs.Forms.{LinksCode}
+use Rattle.rb_code.specs.Agreement.Forms.{LinksCode}
 use Rattle.rb_draft.specs.Output.{Output, output}
 use Rattle.rb_draft.specs.Emits.{Adds}
 use Rattle.rb_gen.proofs.expressions.+expression.Given as goal

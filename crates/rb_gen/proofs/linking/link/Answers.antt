@@ -1,7 +1,7 @@
 use Rattle.std.proofs.Common.{◌≡◌, ◌<◌, arith, ap, ◌∙◌, sym, length, map, Some}
 use Rattle.std.specs.Prelude.{slice_get}
 use Rattle.std.proofs.lemmas.Option.{slice_get-get_or}
-use Rattle.rb_code.specs.Plain.{procedure}
+use Rattle.rb_code.specs.Instructions.Plain.{procedure}
 use Rattle.rb_code.specs.declared.instr.Instr.{Instr}
 use Rattle.rb_draft.specs.Output.{output, patched}
 use Rattle.rb_gen.proofs.LinkSteps.{linked_step}

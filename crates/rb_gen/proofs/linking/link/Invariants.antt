@@ -1,5 +1,5 @@
 use Rattle.std.proofs.Common.{map}
-use Rattle.rb_code.specs.Plain.{procedure}
+use Rattle.rb_code.specs.Instructions.Plain.{procedure}
 use Rattle.rb_draft.specs.Output.{output}
 use Rattle.rb_gen.proofs.LinkSteps.{IsLinkedTo}
 use Rattle.rb_gen.proofs.linking.link.Given as goal

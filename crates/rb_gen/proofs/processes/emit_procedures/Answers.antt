@@ -2,7 +2,7 @@ use Rattle.std.proofs.Common.{List, [], ◌∷◌, ◌++◌, ap, sym, ◌∙◌,
 use Rattle.std.proofs.lemmas.List.{map-append}
 use Rattle.rb_syntax.specs.Plain.{procedure_declaration}
 use Rattle.rb_code.specs.declared.code.ProcedureCode.{ProcedureCode}
-use Rattle.rb_code.specs.Plain.{Procedure, procedure}
+use Rattle.rb_code.specs.Instructions.Plain.{Procedure, procedure}
 use Rattle.rb_draft.specs.Output.{output}
 use Rattle.rb_gen.specs.Writes.{WritesProcedures}
 use Rattle.rb_gen.proofs.Slices.{split, none_left}

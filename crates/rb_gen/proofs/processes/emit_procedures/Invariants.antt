@@ -1,6 +1,6 @@
 use Rattle.std.proofs.Common.{length, map}
 use Rattle.rb_syntax.specs.Plain.{procedure_declaration}
-use Rattle.rb_code.specs.Plain.{procedure}
+use Rattle.rb_code.specs.Instructions.Plain.{procedure}
 use Rattle.rb_draft.specs.Output.{output}
 use Rattle.rb_gen.proofs.ProcessRows.{CompletesProcedures}
 use Rattle.rb_gen.proofs.processes.emit_procedures.Given as goal

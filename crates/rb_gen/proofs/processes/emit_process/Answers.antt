@@ -1,7 +1,7 @@
 use Rattle.std.proofs.Common.{List, ap, ◌∙◌, map, refl}
 use Rattle.rb_syntax.specs.declared.program.Procedure.{Procedure}
 use Rattle.rb_syntax.specs.Plain.{procedure_declaration, process_declaration}
-use Rattle.rb_code.specs.Plain.{procedure}
+use Rattle.rb_code.specs.Instructions.Plain.{procedure}
 use Rattle.rb_gen.specs.Writes.{room_of}
 use Rattle.rb_gen.proofs.ProcessRows.{process_row, same_commands, same_links, same_procedures}
 use Rattle.rb_gen.proofs.processes.emit_process.Goals as goal

@@ -5,7 +5,7 @@ use Rattle.rb_syntax.specs.declared.statement.Var.{Var}
 use Rattle.rb_syntax.specs.Plain.{declaration, process_declaration}
 use Rattle.rb_meaning.specs.Environment.{frame_of, frame_words}
 use Rattle.rb_code.specs.declared.code.ProcessCode.{ProcessCode}
-use Rattle.rb_code.specs.Plain.{Part, channel, part, procedure}
+use Rattle.rb_code.specs.Instructions.Plain.{Part, channel, part, procedure}
 use Rattle.rb_draft.specs.Output.{output}
 use Rattle.rb_gen.specs.Writes.{WritesProcesses}
 use Rattle.rb_gen.proofs.Slices.{split, none_left}

@@ -1,6 +1,6 @@
 use Rattle.std.proofs.Common.{length, map}
 use Rattle.rb_syntax.specs.Plain.{process_declaration}
-use Rattle.rb_code.specs.Plain.{channel, part}
+use Rattle.rb_code.specs.Instructions.Plain.{channel, part}
 use Rattle.rb_draft.specs.Output.{output}
 use Rattle.rb_gen.proofs.ProcessRows.{CompletesProcesses}
 use Rattle.rb_gen.proofs.processes.emit_processes.Given as goal

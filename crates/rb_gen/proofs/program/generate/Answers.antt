@@ -6,7 +6,7 @@ use Rattle.rb_syntax.specs.Plain.{channel_declaration, process_declaration, tree
 use Rattle.rb_scope.specs.declared.slot.Slot.{Slot}
 use Rattle.rb_code.specs.declared.code.Code.{Code}
 use Rattle.rb_code.specs.declared.code.ChannelCode.{ChannelCode}
-use Rattle.rb_code.specs.Plain.{block, channel, code, part}
+use Rattle.rb_code.specs.Instructions.Plain.{block, channel, code, part}
 use Rattle.rb_draft.specs.Channels.{ends_by}
 use Rattle.rb_draft.specs.Output.{Output, output}
 use Rattle.rb_gen.specs.Writes.{WritesProcesses}

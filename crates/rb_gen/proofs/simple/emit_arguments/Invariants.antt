@@ -1,6 +1,6 @@
 use Rattle.std.proofs.Common.{length, map}
 use Rattle.rb_syntax.specs.Plain.{expression}
-use Rattle.rb_code.specs.Forms.{ArgumentsCode}
+use Rattle.rb_code.specs.Agreement.Forms.{ArgumentsCode}
 use Rattle.rb_draft.specs.Output.{Output, output}
 use Rattle.rb_draft.specs.Emits.{Adds}
 use Rattle.rb_gen.proofs.simple.emit_arguments.Given as goal

@@ -1,6 +1,6 @@
 use Rattle.std.proofs.Common.{length, map}
 use Rattle.rb_syntax.specs.Plain.{print_item}
-use Rattle.rb_code.specs.Forms.{ItemsCode}
+use Rattle.rb_code.specs.Agreement.Forms.{ItemsCode}
 use Rattle.rb_draft.specs.Output.{Output, output}
 use Rattle.rb_draft.specs.Emits.{Adds}
 use Rattle.rb_gen.proofs.simple.emit_items.Given as goal

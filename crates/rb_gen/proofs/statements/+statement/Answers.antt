@@ -7,7 +7,7 @@ use Rattle.rb_syntax.specs.declared.statement.Recovery.{Recovery, Recovery-F, ou
 use Rattle.rb_syntax.specs.declared.statement.Statement.{Statement}
 use Rattle.rb_syntax.specs.declared.statement.Block.{Block}
 use Rattle.rb_meaning.specs.Environment.{frame_of, frame_words}
-use Rattle.rb_code.specs.Plain.{Block as Entry}
+use Rattle.rb_code.specs.Instructions.Plain.{Block as Entry}
 use Rattle.rb_code.specs.declared.instr.Instr.TheVariants.{Jump}
 use Rattle.rb_draft.specs.Output.{output, filled_with}
 use Rattle.rb_gen.specs.Writes.{WritesAlternates}

@@ -1,0 +1,24 @@
+-- A step does the same in the meaning and in the machine.
+pub mod AcceptanceTests
+pub mod Alternates
+pub mod Assignments
+pub mod Blocks
+pub mod BlocksBegin
+pub mod Branches
+pub mod Callees
+pub mod Calls
+pub mod ResultsReached
+pub mod CountersSet
+pub mod Expressions
+pub mod Leads
+pub mod TextLeft
+pub mod Loops
+pub mod Mail
+pub mod StatesMeet
+pub mod Printing
+pub mod Quantified
+pub mod Settles
+pub mod Spans
+pub mod StepComes
+pub mod Stores
+pub mod StepOutcomes

@@ -1,0 +1,24 @@
+-- Sound code finds what it needs, and stands again.
+pub mod Steps
+pub mod Needs
+pub mod Safety
+pub mod Progress
+pub mod Weaker
+pub mod CallSteps
+pub mod ChangingSteps
+pub mod PlainSteps
+pub mod StandingSteps
+pub mod SoundSteps
+pub mod StandsAgain
+pub mod OpenLevels
+pub mod Served
+pub mod Staying
+pub mod ProcessesStand
+pub mod RunsStand
+pub mod RunSteps
+pub mod Recovering
+pub mod EndsByCopies
+pub mod RunsEndByCopies
+pub mod LastOf
+pub mod InsideOut
+pub mod SoundRows

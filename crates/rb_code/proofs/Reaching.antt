@@ -1,0 +1,3 @@
+-- Which addresses are reached.
+pub mod Spreading
+pub mod ReachedDecided

@@ -1,0 +1,21 @@
+-- The code of a tree has a table.
+pub mod Tabled
+pub mod Stretches
+pub mod Resting
+pub mod PlainTables
+pub mod OperatorTables
+pub mod ExpressionTables
+pub mod CounterTables
+pub mod LoopStarts
+pub mod StatementTables
+pub mod SimpleTables
+pub mod LineTables
+pub mod BranchTables
+pub mod BlockTables
+pub mod CommandTables
+pub mod ProcessTables
+pub mod WholeTables
+pub mod CodeTables
+pub mod StatementPlaces
+pub mod InRanges
+pub mod Forward
