@@ -14,18 +14,18 @@ use Rattle.rb_scope.proofs.DistinctNames.{have_distinct_names}
 use Rattle.rb_scope.proofs.WithinLimits.{within_limits}
 use Rattle.rb_nest.specs.Rules.{nesting_faults}
 use Rattle.rb_nest.proofs.Accepted.{accepted_are_nested}
-use Rattle.rb_code.specs.Plain.{Block, Code}
-use Rattle.rb_code.specs.RoomInTree.{FewOperands}
-use Rattle.rb_code.specs.Sound.{Entry, HasTable, IsSoundAt, Table}
-use Rattle.rb_code.specs.StandsFor.{StandsFor}
+use Rattle.rb_code.specs.Instructions.Plain.{Block, Code}
+use Rattle.rb_code.specs.Agreement.RoomInTree.{FewOperands}
+use Rattle.rb_code.specs.SoundCode.Sound.{HasTable, Table}
+use Rattle.rb_code.specs.Agreement.StandsFor.{StandsFor}
 use Rattle.rb_code.specs.declared.instr.Instr.{Instr}
 use Rattle.rb_code.specs.declared.instr.Instr.TheVariants.{Enter, Start, Test}
-use Rattle.rb_code.proofs.CodeTables.{code_has_table}
+use Rattle.rb_code.proofs.Tables.CodeTables.{code_has_table}
 use Rattle.rb_judge.specs.HasAlternates.{HasAlternates}
-use Rattle.rb_prepare.proofs.Laid.{one_if}
-use Rattle.rb_prepare.proofs.Walked.{IsPlain}
-use Rattle.rb_prepare.proofs.Weights.{Weight}
-use Rattle.rb_prepare.proofs.WholeWalk.{Spread, ends_of as places_of, spread, whole_entrances}
+use Rattle.rb_prepare.proofs.Walking.Laid.{one_if}
+use Rattle.rb_prepare.proofs.Walking.Walked.{IsPlain}
+use Rattle.rb_prepare.proofs.Joining.Weights.{Weight}
+use Rattle.rb_prepare.proofs.Walking.WholeWalk.{Spread, ends_of as places_of, spread, whole_entrances}
 
 -- Code that stands for an accepted tree.
 pub record IsCodeOf (tree : Tree) (slots : List Slot) (c : Code) : Type 0 where
@@ -58,16 +58,15 @@ module _ (tree : Tree) (slots : List Slot) (c : Code) (code : IsCodeOf tree slot
   pub places : List ℕ
   places = places_of c tree slots 0 tree.processes c.processes 0 (length c.instrs) code.stands.instrs_are
 
-  -- Its processes, with instructions that are counted by a test, and a table that is sound.
-  pub spread_by : (f : Instr → Bool) (w : Weight) (table : Table) → ((x : ℕ) (e : Entry) → table x ≡ Some e → IsSoundAt c (groups_of tree) table x e)
-      → ((instr : Instr) → IsPlain instr → f instr ≡ false)
+  -- Its processes, with instructions that are counted by a test.
+  pub spread_by : (f : Instr → Bool) (w : Weight) → ((instr : Instr) → IsPlain instr → f instr ≡ false)
       → ((number : ℕ) (conversation : Option Identifier) (block : Block) → slice_get c.blocks number ≡ Some block
       → block.conversation ≡ conversation_of tree conversation
       → one_if (f (Enter number)) + (one_if (f (Start number)) + one_if (f (Test number))) ≡ w number conversation)
-      → Spread c tree f w table 0 tree.processes c.processes places 0 (length c.instrs)
+      → Spread c tree f w 0 tree.processes c.processes places 0 (length c.instrs)
   unfolding places
-  spread_by f w table sound plain weighs =
-      spread c tree slots f w table sound plain as_many_channels weighs
+  spread_by f w plain weighs =
+      spread c tree slots f w plain as_many_channels weighs
       (whole_entrances c tree slots code.stands.instrs_are) 0 tree.processes c.processes 0 (length c.instrs)
       (λ i n e. let same : n ≡ i =
       omega (arith, e) in ap (slice_get tree.processes) same) code.resolved limits.processes code.spelled.processes code.alternates
@@ -80,6 +79,5 @@ module _ (tree : Tree) (slots : List Slot) (c : Code) (code : IsCodeOf tree slot
   abbrev pub weightless : Weight
   weightless number conversation = 0
 
-  pub plain_spread : (table : Table) → HasTable c (groups_of tree) table
-      → Spread c tree nothing weightless table 0 tree.processes c.processes places 0 (length c.instrs)
-  plain_spread table has = spread_by nothing weightless table has.each (λ instr plain. refl) (λ number conversation block at is. refl)
+  pub plain_spread : Spread c tree nothing weightless 0 tree.processes c.processes places 0 (length c.instrs)
+  plain_spread = spread_by nothing weightless (λ instr plain. refl) (λ number conversation block at is. refl)

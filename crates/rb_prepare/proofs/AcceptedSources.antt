@@ -9,14 +9,14 @@ use Rattle.rb_judge.specs.Verdict.{IsAccepted}
 use Rattle.rb_judge.proofs.Alternates.{accepted_have_alternates}
 use Rattle.rb_judge.proofs.BlocksInOrder.{parsed_are_numbered}
 use Rattle.rb_judge.proofs.Spelling.{accepted_are_spelled}
-use Rattle.rb_code.specs.Plain.{Code}
-use Rattle.rb_code.specs.StandsFor.{StandsFor}
-use Rattle.rb_code.proofs.CodeTables.{code_has_table}
+use Rattle.rb_code.specs.Instructions.Plain.{Code}
+use Rattle.rb_code.specs.Agreement.StandsFor.{StandsFor}
+use Rattle.rb_code.proofs.Tables.CodeTables.{code_has_table}
 use Rattle.rb_code.proofs.WholeRuns.CodeAgrees.{agrees_by_table}
 use Rattle.rb_prepare.specs.Laws.{AlwaysAgrees, HasCountsOfNest, IsSoundForGroups, OfEveryCode}
 use Rattle.rb_prepare.proofs.AcceptedCode.{IsCodeOf}
-use Rattle.rb_prepare.proofs.CountedAlternates.{counts_known}
-use Rattle.rb_prepare.proofs.RoomFound.{accepted_find_room}
+use Rattle.rb_prepare.proofs.Joining.CountedAlternates.{counts_known}
+use Rattle.rb_prepare.proofs.Operands.RoomFound.{accepted_find_room}
 use Rattle.rb_prepare.proofs.SoundCode.{code_is_sound}
 
 accepted_code : (source : List ℕ) (tree : Tree) (slots : List Slot) (c : Code) → IsAccepted source tree → Resolved tree slots → StandsFor tree slots c
@@ -33,8 +33,8 @@ accepted_code source tree slots c accepted resolved stands = record {
 }
 
 pub accepted_code_is_sound : OfEveryCode IsSoundForGroups
-accepted_code_is_sound source tree slots c accepted resolved stands =
-    code_is_sound tree slots c (accepted_code source tree slots c accepted resolved stands)
+accepted_code_is_sound source tree slots c accepted resolved stands nested nest =
+    code_is_sound tree slots c (accepted_code source tree slots c accepted resolved stands) nested nest
 
 pub accepted_code_has_counts : OfEveryCode HasCountsOfNest
 accepted_code_has_counts source tree slots c accepted resolved stands nested nest b d block at is =

@@ -5,16 +5,16 @@ use Rattle.std.proofs.lemmas.Option.{slice_get_within}
 use Rattle.rb_syntax.specs.Tree.{ProcessDeclaration, Tree}
 use Rattle.rb_world.proofs.ListFacts.{none_some, slice_get-there, some_same}
 use Rattle.rb_meaning.specs.Groups.{groups_of}
-use Rattle.rb_code.specs.Plain.{Code, Part}
-use Rattle.rb_code.specs.Memory.{no_part, part_of}
-use Rattle.rb_code.specs.Sound.{BeginsAs, Each, Entry, FineAt, HasTable, IsProcedureAt, IsSoundAt, MainBegins, Table, alternates_at}
+use Rattle.rb_code.specs.Instructions.Plain.{Code, Part}
+use Rattle.rb_code.specs.WordMachine.Workspace.{no_part, part_of}
+use Rattle.rb_code.specs.SoundCode.Sound.{BeginsAs, Each, Entry, FineAt, HasTable, IsProcedureAt, IsSoundAt, MainBegins, Table, alternates_at}
 use Rattle.rb_code.specs.declared.instr.Instr.{Instr}
 use Rattle.rb_code.specs.declared.instr.Instr.TheVariants.{Jump, JumpZero, Call, Return, Start, Done, Range, Again, Absent}
-use Rattle.rb_prepare.proofs.Laid.{Inside, Right, each_weaker}
-use Rattle.rb_prepare.proofs.Ways.{IsIn, each_more, fine_same, ways, ways_known}
-use Rattle.rb_prepare.proofs.Weights.{Weight}
-use Rattle.rb_prepare.proofs.ProcessWalks.{Ends, IsRow}
-use Rattle.rb_prepare.proofs.WholeWalk.{Place, Spread, begin_at, end_at, found_at, owner, place_of, spread_long}
+use Rattle.rb_prepare.proofs.Walking.Laid.{Inside, Right, each_weaker}
+use Rattle.rb_prepare.proofs.Walking.Ways.{Follows, each_more, fine_same, ways, ways_known}
+use Rattle.rb_prepare.proofs.Joining.Weights.{Weight}
+use Rattle.rb_prepare.proofs.Walking.ProcessWalks.{Ends, IsRow}
+use Rattle.rb_prepare.proofs.Walking.WholeWalk.{Place, Spread, begin_at, end_at, found_at, owner, place_of, spread_long}
 
 -- an entry of process n
 abbrev pub of_process : ℕ → Option Entry → Option Entry
@@ -51,13 +51,13 @@ module _ (c : Code) (tree : Tree) (process low high : ℕ) where
   next a instr up goes (inl e) = absurd (goes e)
   next a instr up goes (inr h) = (omega (arith, up), h)
 
-  ways_inside : (a : ℕ) (instr : Instr) → low ≤ a → low < high → Right c tree process low (high - 1) instr → Ends instr ⊎ (a + 1 < high)
+  ways_inside : (a : ℕ) (instr : Instr) → low ≤ a → low < high → Right c tree process low (high - 1) a instr → Ends instr ⊎ (a + 1 < high)
       → Each (ways c instr a) IsThere
   ways_inside a (Jump to) up some right ends = (target to some right, tt)
   ways_inside a (JumpZero to) up some right ends = (target to some right, (next a (JumpZero to) up (λ e. e) ends, tt))
   ways_inside a (Absent channel to) up some right ends = (target to some right.1, (next a (Absent channel to) up (λ e. e) ends, tt))
   ways_inside a (Range k to) up some right ends = (target to some right.1, (next a (Range k to) up (λ e. e) ends, tt))
-  ways_inside a (Again k to) up some right ends = (target to some right.1, (next a (Again k to) up (λ e. e) ends, tt))
+  ways_inside a (Again k to) up some right ends = (target to some (let up = right.1.0 in omega arith, right.1.1), (next a (Again k to) up (λ e. e) ends, tt))
   ways_inside a (Start number) up some (block, at, lies) ends =
       subst (λ o. Each (alternates_at o) IsThere) (sym at)
       (each_weaker (Inside low (high - 1)) IsThere (λ x h. target x some h) block.alternates lies.alternates)
@@ -65,35 +65,35 @@ module _ (c : Code) (tree : Tree) (process low high : ℕ) where
   ways_inside a Done up some right ends = tt
   ways_inside a other up some right ends = (next a other up (λ e. e) ends, tt)
 
-module _ (c : Code) (tree : Tree) (f : Instr → Bool) (w : Weight) (t : Table) (ends : List ℕ)
-    (spread : Spread c tree f w t 0 tree.processes c.processes ends 0 (length c.instrs)) where
-  abbrev own : Table
-  own = own_table ends t
-
+module _ (c : Code) (tree : Tree) (f : Instr → Bool) (w : Weight) (ends : List ℕ)
+    (spread : Spread c tree f w 0 tree.processes c.processes ends 0 (length c.instrs)) where
   -- the process of an address
   pub place_at : (x : ℕ) → x < length c.instrs → (n : ℕ) × (process : ProcessDeclaration)
-      × (place : Place c tree f w t c.processes ends 0 n n process 0 (length c.instrs)) × (begin_at 0 ends n ≤ x) × (x < end_at 0 ends n)
+      × (place : Place c tree f w c.processes ends 0 n n process 0 (length c.instrs)) × (begin_at 0 ends n ≤ x) × (x < end_at 0 ends n)
   place_at x below =
-      let found = found_at c tree f w t 0 tree.processes c.processes ends 0 (length c.instrs) spread x (omega arith) below in (
+      let found = found_at c tree f w 0 tree.processes c.processes ends 0 (length c.instrs) spread x (omega arith) below in (
         found.index,
         found.process,
-        place_of c tree f w t 0 tree.processes c.processes ends 0
+        place_of c tree f w 0 tree.processes c.processes ends 0
             (length c.instrs) spread found.index found.index found.process (omega arith) found.there,
         found.low,
         found.high,
       )
 
-  module _ (has : HasTable c (groups_of tree) t) where
-    begins_so : (n words : ℕ) (b : ℕ) → owner 0 ends b ≡ n → BeginsAs (t b) n words → BeginsAs (own b) n words
+  module _ (t : Table) (has : HasTable c (groups_of tree) t) where
+    abbrev own : Table
+    own = own_table ends t
+
+    begins_so : (n words : ℕ) (b : ℕ) → owner 0 ends b ≡ n → BeginsAs (t b) n b words → BeginsAs (own b) n b words
     begins_so n words b is h = by (t b) refl h
       where
-        by : (o : Option Entry) → t b ≡ o → BeginsAs o n words → BeginsAs (own b) n words
+        by : (o : Option Entry) → t b ≡ o → BeginsAs o n b words → BeginsAs (own b) n b words
         by None at h = absurd h
         by (Some g) at h =
-            subst (λ o. BeginsAs o n words) (sym (kept_entry (owner 0 ends b) (t b) g at (ap (λ (x : Entry). x.within.process) h ∙ sym is))) h
+            subst (λ o. BeginsAs o n b words) (sym (kept_entry (owner 0 ends b) (t b) g at (ap (λ (x : Entry). x.within.process) h ∙ sym is))) h
 
     module _ (a : ℕ) (e : Entry) (at : t a ≡ Some e) (of : e.within.process ≡ owner 0 ends a) (n : ℕ) (process : ProcessDeclaration)
-        (place : Place c tree f w t c.processes ends 0 n n process 0 (length c.instrs)) (low : begin_at 0 ends n ≤ a)
+        (place : Place c tree f w c.processes ends 0 n n process 0 (length c.instrs)) (low : begin_at 0 ends n ≤ a)
         (high : a < end_at 0 ends n) where
       abbrev first : ℕ
       first = begin_at 0 ends n
@@ -107,13 +107,14 @@ module _ (c : Code) (tree : Tree) (f : Instr → Bool) (w : Weight) (t : Table) 
       row : IsRow c tree n f first last a
       row = place.rows.rows.each a low high
 
-      same : (x : ℕ) → IsIn c (groups_of tree) t e.within x → IsThere c tree n first last x → t x ≡ own x
-      same x (g, there, within) (up, below) =
-          there ∙ sym (kept_entry (owner 0 ends x) (t x) g there (ap (λ v. v.process) within ∙ is_own ∙ sym (place.owned x up below)))
+      same : (x : ℕ) → Follows c (groups_of tree) t e.within e.loops x → IsThere c tree n first last x → t x ≡ own x
+      same x follows (up, below) =
+          follows.there
+          ∙ sym (kept_entry (owner 0 ends x) (t x) follows.entry follows.there (ap (λ v. v.process) follows.within_is ∙ is_own ∙ sym (place.owned x up below)))
 
-      called : (b p m : ℕ) → row.0 ≡ Call b p m → BeginsAs (t b) e.within.process (p + m) → BeginsAs (own b) e.within.process (p + m)
+      called : (b p m : ℕ) → row.0 ≡ Call b p m → BeginsAs (t b) e.within.process b (p + m) → BeginsAs (own b) e.within.process b (p + m)
       called b p m is h =
-          let call : IsProcedureAt (part_of c n).procedures b = subst (Right c tree n first (last - 1)) is row.2 in
+          let call : IsProcedureAt (part_of c n).procedures b = subst (Right c tree n first (last - 1) a) is row.2 in
           let there = place.rows.inside b (subst (λ o. IsProcedureAt (unwrap_or o no_part).procedures b) place.listed call) in
           begins_so e.within.process (p + m) b (place.owned b there.0 there.1 ∙ sym is_own) h
 
@@ -122,7 +123,7 @@ module _ (c : Code) (tree : Tree) (f : Instr → Bool) (w : Weight) (t : Table) 
           let here : FineAt c (groups_of tree) t (Some row.0) a e = subst (λ o. FineAt c (groups_of tree) t o a e) row.1 h in
           subst (λ o. FineAt c (groups_of tree) own o a e) (sym row.1)
           (fine_same c (groups_of tree) t own a e row.0
-          (each_more (ways c row.0 a) (IsIn c (groups_of tree) t e.within) (IsThere c tree n first last) (λ x. t x ≡ own x) same
+          (each_more (ways c row.0 a) (Follows c (groups_of tree) t e.within e.loops) (IsThere c tree n first last) (λ x. t x ≡ own x) same
           (ways_known c (groups_of tree) t a e row.0 here) (ways_inside c tree n first last a row.0 low (omega (arith, low, high)) row.2 row.3))
           called here)
 
@@ -144,10 +145,10 @@ module _ (c : Code) (tree : Tree) (f : Instr → Bool) (w : Weight) (t : Table) 
     -- process number p begins where its place does
     own_begins : (p : ℕ) (part : Part) → slice_get c.processes p ≡ Some part → MainBegins c (groups_of tree) own p part
     own_begins p part at =
-        let long = spread_long c tree f w t 0 tree.processes c.processes ends 0 (length c.instrs) spread in
+        let long = spread_long c tree f w 0 tree.processes c.processes ends 0 (length c.instrs) spread in
         let within = slice_get_within c.processes p part at in
         let process = slice_get-there tree.processes p (omega arith) in
-        let place = place_of c tree f w t 0 tree.processes c.processes ends 0 (length c.instrs) spread p p process.0 (omega arith) process.1 in
+        let place = place_of c tree f w 0 tree.processes c.processes ends 0 (length c.instrs) spread p p process.0 (omega arith) process.1 in
         let same : place.part ≡ part = some_same (sym place.listed ∙ at) in
         let start : part.start ≡ begin_at 0 ends p = ap (λ (q : Part). q.start) (sym same) ∙ place.rows.start in
         let up = place.rows.upward in let below = place.rows.below in

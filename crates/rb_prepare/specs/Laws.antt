@@ -8,19 +8,19 @@ use Rattle.rb_scope.specs.declared.slot.Slot.{Slot}
 use Rattle.rb_nest.specs.Groups.{alternates}
 use Rattle.rb_nest.specs.Nest.{IsNest}
 use Rattle.rb_judge.specs.Verdict.{IsAccepted}
-use Rattle.rb_code.specs.Plain.{Block, Code}
-use Rattle.rb_code.specs.Laws.{Agrees}
-use Rattle.rb_code.specs.StandsFor.{StandsFor}
-use Rattle.rb_code.specs.WellFormed.{IsSound}
+use Rattle.rb_code.specs.Instructions.Plain.{Block, Code}
+use Rattle.rb_code.specs.Agreement.Laws.{Agrees}
+use Rattle.rb_code.specs.Agreement.StandsFor.{StandsFor}
+use Rattle.rb_code.specs.SoundCode.WellFormed.{IsSound}
 
 -- whatever code stands for the tree of an accepted source keeps this
 abbrev pub OfEveryCode : (Tree → Code → Type 0) → Type 0
 OfEveryCode P = (source : List ℕ) (tree : Tree) (slots : List Slot) (c : Code) → IsAccepted source tree → Resolved tree slots
     → StandsFor tree slots c → P tree c
 
--- it is sound, with the conversations of the tree
+-- it is sound, with the conversations of the tree and the numbers of alternates that nesting counts
 abbrev pub IsSoundForGroups : Tree → Code → Type 0
-IsSoundForGroups tree c = IsSound c (groups_of tree)
+IsSoundForGroups tree c = (nested : Nested) → IsNest tree nested → IsSound c (groups_of tree) (alternates nested)
 
 -- it agrees with the tree's meaning, over every list of turns
 abbrev pub AlwaysAgrees : Tree → Code → Type 0

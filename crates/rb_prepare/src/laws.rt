@@ -1,6 +1,6 @@
 //! The laws of the code of accepted sources. These functions have no body, and each promises a law.
 
-ghost use Rattle.rb_code.specs.RoomInTree.{FewOperands};
+ghost use Rattle.rb_code.specs.Agreement.RoomInTree.{FewOperands};
 ghost use Rattle.rb_judge.specs.Laws.{OfEveryAccepted};
 ghost use Rattle.rb_prepare.specs.Laws.{AlwaysAgrees, HasCountsOfNest, IsSoundForGroups, OfEveryCode};
 

@@ -1,4 +1,4 @@
-use Rattle.rb_prepare.proofs.RoomFound.{accepted_find_room}
+use Rattle.rb_prepare.proofs.Operands.RoomFound.{accepted_find_room}
 use Rattle.rb_prepare.proofs.laws.accepted_find_room.Goals as goal
 
 pub returns : goal.returns

@@ -21,7 +21,7 @@ returns-in-Ok-clause-prepared c =
         resolved = judged.resolved;
         frames = judged.frames;
         stands = c.in-Ok.ensures;
-        sound = accepted_code_is_sound c.args.source.now program slots _ judged.accepted judged.frames c.in-Ok.ensures;
+        sound = accepted_code_is_sound c.args.source.now program slots _ judged.accepted judged.frames c.in-Ok.ensures _ judged.conversations;
       };
       conversations = judged.conversations;
     }

@@ -1,4 +1,4 @@
-use Rattle.rb_prepare.proofs.FormedCode.{code_is_well_formed}
+use Rattle.rb_prepare.proofs.Forming.FormedCode.{code_is_well_formed}
 use Rattle.rb_prepare.proofs.sound.code_of_accepted_trees_is_well_formed.Goals as goal
 
 pub returns : goal.returns

@@ -7,13 +7,13 @@ use Rattle.rb_grammar.specs.declared.terminal.Terminal.{Terminal}
 use Rattle.rb_grammar.specs.declared.terminal.Terminal.TheVariants as terminals
 use Rattle.rb_grammar.specs.Grammar.{Point, chain}
 use Rattle.rb_grammar.specs.Operators.{operator}
-use Rattle.rb_grammar.proofs.Room as room
-use Rattle.rb_grammar.proofs.Room.{Keeps, Opens, Closes, around, none, then}
+use Rattle.rb_grammar.proofs.Depth.Room as room
+use Rattle.rb_grammar.proofs.Depth.Room.{Keeps, Opens, Closes, around, none, then}
 use Rattle.rb_syntax.specs.declared.expression.Op.{Op}
 use Rattle.rb_syntax.specs.declared.expression.Op.TheVariants as ops
 use Rattle.rb_syntax.specs.Tree.{Expression, Links, NoLink, Linked}
-use Rattle.rb_code.specs.Operands.{beside}
-use Rattle.rb_prepare.proofs.Pushed.{operands, links_operands, beside_most}
+use Rattle.rb_code.specs.Agreement.Operands.{beside}
+use Rattle.rb_prepare.proofs.Operands.Pushed.{operands, links_operands, beside_most}
 
 -- what stands between two points needs so many at most: 4 for each bracket that may still be opened, and so many more
 pub record Needs (d extra : ℕ) (a b : Point) : Type 0 where

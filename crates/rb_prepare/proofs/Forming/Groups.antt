@@ -5,6 +5,7 @@ use Rattle.std.proofs.lemmas.List.{length-map}
 use Rattle.std.proofs.lemmas.List.Elements.{All-from_recursion}
 use Rattle.std.proofs.lemmas.Option.{slice_get-map, slice_get_within}
 use Rattle.std.specs.List.{All, AllByRecursion, IsDistinct, flat_map, list_all, list_any}
+use Rattle.rb_base.specs.declared.limits.TheConstants.{MOST_NESTED}
 use Rattle.rb_base.specs.declared.fault.FaultName.{FaultName}
 use Rattle.rb_base.specs.declared.fault.FaultName.TheVariants.{N6, N11}
 use Rattle.rb_base.specs.declared.place.Place.{Place}
@@ -23,13 +24,13 @@ use Rattle.rb_scope.proofs.DistinctNames.{same_itself, same_text}
 use Rattle.rb_nest.specs.Rules.{are_among, conversation_faults, conversations_around, joins_in, members_around, members_faults}
 use Rattle.rb_scope.proofs.EachSite.{unbroken, first-empty, second-empty}
 use Rattle.rb_nest.proofs.Accepted.{is_kept}
-use Rattle.rb_code.specs.Plain.{Code}
-use Rattle.rb_code.specs.Sound.{IsMember}
-use Rattle.rb_code.specs.WellFormed.{IsChain, IsGroup, most_nested}
-use Rattle.rb_code.proofs.Spots.{is_among}
-use Rattle.rb_prepare.proofs.FoundNames.{NamesProcess}
-use Rattle.rb_prepare.proofs.NestingKept.{IsOrderly, number_named, number_of}
-use Rattle.rb_prepare.proofs.PlacedUses.{ChainedBy, IsChained, chain_more, same_conversation}
+use Rattle.rb_code.specs.Instructions.Plain.{Code}
+use Rattle.rb_code.specs.SoundCode.Sound.{IsMember}
+use Rattle.rb_code.specs.SoundCode.WellFormed.{IsChain, IsGroup}
+use Rattle.rb_code.proofs.Tables.StatementPlaces.{is_among}
+use Rattle.rb_prepare.proofs.Forming.FoundNames.{NamesProcess}
+use Rattle.rb_prepare.proofs.Forming.NestingKept.{IsOrderly, number_named, number_of}
+use Rattle.rb_prepare.proofs.Forming.PlacedUses.{ChainedBy, IsChained, chain_more, same_conversation}
 
 -- where all of a list have no fault, each has none
 pub none_at : {A : Type 0} (faults : A → List SourceFault) (all : List A) (i : ℕ) (x : A) → flat_map faults all ≡ []
@@ -215,7 +216,7 @@ module _ (tree : Tree) where
     pub group_formed : (c : Code) (i : ℕ) (conversation : ConversationDeclaration) → length c.processes ≡ length tree.processes
         → slice_get tree.conversations i ≡ Some conversation → AreNamed conversation.members → conversation_faults tree conversation ≡ []
         → AllByRecursion IsKnown (uses_of tree)
-        → IsGroup c (groups_of tree) (membership_of tree conversation) × IsChain (groups_of tree) most_nested (Some i)
+        → IsGroup c (groups_of tree) (membership_of tree conversation) × IsChain (groups_of tree) MOST_NESTED (Some i)
     group_formed c i conversation many at named faults known = (
       record {
         two = omega (arith, two, length-map conversation.members (λ (name : Identifier). process_number tree name.text));
@@ -227,8 +228,8 @@ module _ (tree : Tree) where
             (omega (arith, two, length-map conversation.members (λ (name : Identifier). process_number tree name.text)))
             (among_parent d group.members (innermost one.spot.around) (fourth ∙ is) third);
       },
-      subst (λ k. IsChain (groups_of tree) most_nested (Some k)) number_is
-          (chain_more (groups_of tree) (conversations_around one.spot.around + 1) most_nested (Some (conversation_number tree one.name.text)) few
+      subst (λ k. IsChain (groups_of tree) MOST_NESTED (Some k)) number_is
+          (chain_more (groups_of tree) (conversations_around one.spot.around + 1) MOST_NESTED (Some (conversation_number tree one.name.text)) few
           (chain_so one.deed joins.alternates one.name one.spot.around joins.deed found.1.1)),
     )
       where
@@ -281,7 +282,7 @@ module _ (tree : Tree) where
             (are_among (members_in tree (conversation_number tree found.0.name.text))
             (members_around tree (innermost found.0.spot.around))) joins.deed found.1.0.n3)
 
-        few : conversations_around found.0.spot.around + 1 ≤ most_nested
+        few : conversations_around found.0.spot.around + 1 ≤ MOST_NESTED
         few =
             let h = ltb-true (conversations_around found.0.spot.around) 8
             (if_joins_so found.0.deed joins.alternates (nat_lt (conversations_around found.0.spot.around) 8) joins.deed found.1.0.n13) in

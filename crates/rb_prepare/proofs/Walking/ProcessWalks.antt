@@ -1,4 +1,4 @@
--- The code of processes, walked: each instruction stays among the addresses of its process, a table reaches each address of a main body,
+-- The code of processes, walked: each instruction stays among the addresses of its process, its start comes to each address of a main body,
 -- and the instructions of a kind are counted.
 use Rattle.std.proofs.Common.{◌≡◌, ◌⊎◌, inl, inr, ℕ, zero, suc, ◌+◌, ◌-◌, ◌<◌, ◌≤◌, nat_lt, Bool, true, false, List, [], ◌∷◌, length, option_map, slice_get, unwrap_or, Option, Some, refl, ap, sym, ◌∙◌, subst, arith}
 use Rattle.std.proofs.lemmas.Bool.{ltb-false, ltb-true}
@@ -7,7 +7,7 @@ use Rattle.std.specs.List.{All}
 use Rattle.rb_syntax.specs.Tree.{Body, Identifier, ProcedureDeclaration, ProcessDeclaration, Scope, Tree}
 use Rattle.rb_world.proofs.ListFacts.{none_some}
 use Rattle.rb_meaning.specs.Environment.{frame_of, frame_words}
-use Rattle.rb_meaning.specs.Groups.{channels_of, conversation_of, groups_of, procedures_of}
+use Rattle.rb_meaning.specs.Groups.{channels_of, conversation_of, procedures_of}
 use Rattle.rb_meaning.specs.Nesting.{Spot, outside, uses_in, uses_in_body, uses_in_procedures}
 use Rattle.rb_meaning.specs.Step.{commands_of}
 use Rattle.rb_scope.specs.Frames.{main_frames, procedure_frames}
@@ -15,21 +15,21 @@ use Rattle.rb_scope.specs.InFrames.{ProcedureInFrames, ProcessInFrames}
 use Rattle.rb_scope.specs.Limits.{ProcedureWithin, ProcessWithin}
 use Rattle.rb_scope.specs.Spelled.{ProcedureSpelled, ProcessSpelled}
 use Rattle.rb_scope.specs.declared.slot.Slot.{Slot}
-use Rattle.rb_code.specs.Plain.{Block, Code, Part, Procedure}
-use Rattle.rb_code.specs.Memory.{part_of}
-use Rattle.rb_code.specs.Sound.{Entry, IsProcedureAt, IsSoundAt, Table, Within}
-use Rattle.rb_code.specs.Template.{One}
-use Rattle.rb_code.specs.Forms.{Owner, ProceduresCode, procedure_start}
-use Rattle.rb_code.specs.StandsFor.{ProcessCode, channels_from}
+use Rattle.rb_code.specs.Instructions.Plain.{Block, Code, Part, Procedure}
+use Rattle.rb_code.specs.WordMachine.Workspace.{part_of}
+use Rattle.rb_code.specs.SoundCode.Sound.{IsProcedureAt}
+use Rattle.rb_code.specs.Agreement.Template.{One}
+use Rattle.rb_code.specs.Agreement.Forms.{Owner, ProceduresCode, procedure_start}
+use Rattle.rb_code.specs.Agreement.StandsFor.{ProcessCode, channels_from}
 use Rattle.rb_code.specs.declared.instr.Instr.{Instr}
 use Rattle.rb_code.specs.declared.instr.Instr.TheVariants.{Done, Return, Enter, Start, Test}
-use Rattle.rb_code.proofs.ProcessTables.{in_main, in_procedure, owner_by}
+use Rattle.rb_code.proofs.Tables.ProcessTables.{owner_by}
 use Rattle.rb_judge.specs.HasAlternates.{BodyHasAlternates, CommandsHaveAlternates, ProcessHasAlternates}
-use Rattle.rb_prepare.proofs.Laid.{Laid, Right, count_to, laid_one, one_if, right_wider}
-use Rattle.rb_prepare.proofs.Walked.{IsPlain, Scene}
-use Rattle.rb_prepare.proofs.StatementWalks.{AsMany, commands_walked, many_first, many_second}
-use Rattle.rb_prepare.proofs.Ways.{IsIn}
-use Rattle.rb_prepare.proofs.Weights.{Weight, weight_in, weight_in_process, weight_in_procedures}
+use Rattle.rb_prepare.proofs.Walking.Laid.{Laid, Right, count_to, laid_one, one_if, right_wider}
+use Rattle.rb_prepare.proofs.Onward.{AllOnward, itself}
+use Rattle.rb_prepare.proofs.Walking.Walked.{IsPlain, Scene}
+use Rattle.rb_prepare.proofs.Walking.StatementWalks.{AsMany, commands_walked, many_first, many_second}
+use Rattle.rb_prepare.proofs.Joining.Weights.{Weight, weight_in, weight_in_process, weight_in_procedures}
 
 -- an instruction behind which nothing goes on
 abbrev pub Ends : Instr → Type 0
@@ -52,7 +52,7 @@ some_of_body (Scope variables commands) some = some
 module _ (c : Code) (tree : Tree) (process : ℕ) (f : Instr → Bool) where
   -- an instruction of a process from a up to b: it leads nowhere else, and ends, or does not stand last
   abbrev pub IsRow : ℕ → ℕ → ℕ → Type 0
-  IsRow a b x = (instr : Instr) × (slice_get c.instrs x ≡ Some instr) × Right c tree process a (b - 1) instr × (Ends instr ⊎ (x + 1 < b))
+  IsRow a b x = (instr : Instr) × (slice_get c.instrs x ≡ Some instr) × Right c tree process a (b - 1) x instr × (Ends instr ⊎ (x + 1 < b))
 
   -- From p up to q each is one of a process from a up to b, and n pass a test.
   pub record Rows (a b n p q : ℕ) : Type 0 where
@@ -81,17 +81,22 @@ module _ (c : Code) (tree : Tree) (process : ℕ) (f : Instr → Bool) where
     ordered = laid.ordered;
     each = λ x up below.
         let h = laid.each x up below in
-        (h.0, h.1, right_wider c tree process p q a (b - 1) low (omega arith) h.0 h.2, inr (omega arith));
+        (h.0, h.1, right_wider c tree process p q a (b - 1) low (omega arith) x h.0 h.2, inr (omega arith));
     counted = laid.counted;
   }
 
   -- one instruction that ends
-  rows_end : (a b p q : ℕ) (instr : Instr) → One instr c p q → Ends instr → Right c tree process a (b - 1) instr → f instr ≡ false → Rows a b 0 p q
+  rows_end : (a b p q : ℕ) (instr : Instr) → One instr c p q → Ends instr → Right c tree process a (b - 1) p instr → f instr ≡ false → Rows a b 0 p q
   rows_end a b p q instr one ends right none =
       let laid = laid_one c tree process f a (b - 1) 0 p q instr one right (ap one_if none) in record {
         ordered = laid.ordered;
         each = λ x up below.
-            let i = one.1 in let at : p ≡ x = omega arith in (instr, ap (slice_get c.instrs) (sym at) ∙ one.0, right, inl ends);
+            let i = one.1 in let at : p ≡ x = omega arith in (
+              instr,
+              ap (slice_get c.instrs) (sym at) ∙ one.0,
+              subst (λ z. Right c tree process a (b - 1) z instr) at right,
+              inl ends,
+            );
         counted = laid.counted;
       }
 
@@ -119,9 +124,9 @@ procedures_forward c tree slots owner (one ∷ others) entries p q (more, is, (m
     subst (λ es. IsProcedureAt es (start_in es (suc number))) (sym is)
     (inr (procedures_forward c tree slots owner others more r q rest number procedure at))
 
--- A process from a up to b: its main body ends at some address, which a table that reaches the first address reaches from there; its
--- procedures begin there; and each instruction is one of the process.
-pub record ProcessRows (c : Code) (tree : Tree) (f : Instr → Bool) (w : Weight) (table : Table) (p : ℕ)
+-- A process from a up to b: its main body ends at some address, up to which its start comes to each one; its procedures begin there; and
+-- each instruction is one of the process.
+pub record ProcessRows (c : Code) (tree : Tree) (f : Instr → Bool) (w : Weight) (p : ℕ)
     (process : ProcessDeclaration) (part : Part) (a b : ℕ) : Type 0 where
   pub start : part.start ≡ a
   pub words : part.words ≡ frame_words (frame_of process.variables)
@@ -130,12 +135,12 @@ pub record ProcessRows (c : Code) (tree : Tree) (f : Instr → Bool) (w : Weight
   pub upward : a ≤ last
   pub below : last < b
   pub counted : count_to f last c.instrs ≡ count_to f a c.instrs + weight_in w process.commands
-  pub reached : IsIn c (groups_of tree) table (in_main p) a → (x : ℕ) → a ≤ x → x ≤ last → IsIn c (groups_of tree) table (in_main p) x
+  pub done : slice_get c.instrs last ≡ Some Done
+  pub reached : AllOnward c a a last
   pub inside : (to : ℕ) → IsProcedureAt part.procedures to → (a ≤ to) × (to < b)
   pub rows : Rows c tree p f a b (weight_in_process w process) a b
 
-module _ (c : Code) (tree : Tree) (slots : List Slot) (p : ℕ) (process : ProcessDeclaration) (f : Instr → Bool) (w : Weight) (table : Table)
-    (sound : (x : ℕ) (e : Entry) → table x ≡ Some e → IsSoundAt c (groups_of tree) table x e)
+module _ (c : Code) (tree : Tree) (slots : List Slot) (p : ℕ) (process : ProcessDeclaration) (f : Instr → Bool) (w : Weight)
     (plain : (instr : Instr) → IsPlain instr → f instr ≡ false)
     (channels : length c.channels ≡ length tree.channels)
     (weighs : (number : ℕ) (conversation : Option Identifier) (block : Block) → slice_get c.blocks number ≡ Some block
@@ -143,12 +148,12 @@ module _ (c : Code) (tree : Tree) (slots : List Slot) (p : ℕ) (process : Proce
     → one_if (f (Enter number)) + (one_if (f (Start number)) + one_if (f (Test number))) ≡ w number conversation)
     (entrances : (number : ℕ) (procedure : ProcedureDeclaration) → slice_get (procedures_of (slice_get tree.processes p)) number ≡ Some procedure
     → IsProcedureAt (part_of c p).procedures (procedure_start c p number)) where
-  -- the walk of a body of the process
-  abbrev pub scene_in : Within → Scene c tree
-  scene_in within = record { counts = f; table = table; within = within; sound = sound }
+  -- the walk of the process
+  abbrev pub scene : Scene
+  scene = record { counts = f; process = p }
 
   procedures_rows : (a b : ℕ) (procedures : List ProcedureDeclaration) (entries : List Procedure) (x y : ℕ) → a ≤ x → y ≤ b
-      → All (ProcedureInFrames tree slots p process) procedures → All ProcedureWithin procedures → All ProcedureSpelled procedures
+      → All (ProcedureInFrames tree slots p process) procedures → All ProcedureWithin procedures → All (ProcedureSpelled tree.edition) procedures
       → All HasAlternatesIn procedures → AsMany tree (uses_in_procedures p procedures)
       → ProceduresCode tree slots (owner_by p process) procedures entries c x y
       → Rows c tree p f a b (weight_in_procedures w procedures) x y × ((to : ℕ) → IsProcedureAt entries to → (x ≤ to) × (to < y))
@@ -156,15 +161,15 @@ module _ (c : Code) (tree : Tree) (slots : List Slot) (p : ℕ) (process : Proce
       (rows_none c tree p f a b x y here, λ to at. absurd (subst (λ es. IsProcedureAt es to) none at))
   procedures_rows a b (one ∷ others) entries x y low high names limits spelled some many (more, is, (m, code, (r, back, rest))) =
       let uses = uses_in_body (outside p true) one.body in
-      let body = commands_walked c tree (scene_in (in_procedure p)) plain slots p
+      let body = commands_walked c tree scene plain slots p
       (owner_by p process) w channels entrances weighs (procedure_frames process one)
       (outside p true) (commands_of one.body) (All-head (ProcedureInFrames tree slots p process) one others names)
-      (All-head ProcedureWithin one others limits).commands (All-head ProcedureSpelled one others spelled).commands
+      (All-head ProcedureWithin one others limits).commands (All-head (ProcedureSpelled tree.edition) one others spelled).commands
       (some_of_body one.body (All-head HasAlternatesIn one others some))
       (many_of_body tree (outside p true) one.body (many_first tree uses (uses_in_procedures p others) many)) x m code in
       let o = body.laid.ordered in let e = back.1 in
       let next = procedures_rows a b others more r y (omega arith) high (All-tail (ProcedureInFrames tree slots p process) one others names)
-      (All-tail ProcedureWithin one others limits) (All-tail ProcedureSpelled one others spelled) (All-tail HasAlternatesIn one others some)
+      (All-tail ProcedureWithin one others limits) (All-tail (ProcedureSpelled tree.edition) one others spelled) (All-tail HasAlternatesIn one others some)
       (many_second tree uses (uses_in_procedures p others) many) rest in
       let up = next.0.ordered in
       let first = weight_in w (commands_of one.body) in let later = weight_in_procedures w others in (
@@ -174,12 +179,12 @@ module _ (c : Code) (tree : Tree) (slots : List Slot) (p : ℕ) (process : Proce
             (subst (λ es. IsProcedureAt es to) is at),
       )
 
-  pub process_rows : (part : Part) (a b : ℕ) → ProcessInFrames tree slots p process → ProcessWithin tree.edition process → ProcessSpelled process
+  pub process_rows : (part : Part) (a b : ℕ) → ProcessInFrames tree slots p process → ProcessWithin tree.edition process → ProcessSpelled tree.edition process
       → ProcessHasAlternates process → AsMany tree (uses_in_procedures p process.procedures)
       → AsMany tree (uses_in (outside p false) process.commands)
-      → ProcessCode tree slots p process part c a b → ProcessRows c tree f w table p process part a b
+      → ProcessCode tree slots p process part c a b → ProcessRows c tree f w p process part a b
   process_rows part a b names limits spelled some many mains (tells, (m, code, (r, done, rest))) =
-      let main = commands_walked c tree (scene_in (in_main p)) plain slots p (owner_by p process) w channels entrances weighs (main_frames process)
+      let main = commands_walked c tree scene plain slots p (owner_by p process) w channels entrances weighs (main_frames process)
       (outside p false) process.commands names.commands limits.commands spelled.commands some.commands mains a m code in
       let o = main.laid.ordered in let e = done.1 in
       let procedures =
@@ -196,7 +201,8 @@ module _ (c : Code) (tree : Tree) (slots : List Slot) (p : ℕ) (process : Proce
         upward = o;
         below = omega arith;
         counted = main.laid.counted;
-        reached = main.reached;
+        done = done.0;
+        reached = main.reached a itself;
         inside = λ to at. let h = procedures.1 to at in (omega (arith, h.0), h.1);
         rows =
             rows_then c tree p f a b first later a m b (rows_laid c tree p f a b first a m (omega arith) (omega arith) main.laid)

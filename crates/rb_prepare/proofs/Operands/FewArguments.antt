@@ -2,6 +2,7 @@
 use Rattle.std.proofs.Common.{◌≡◌, ℕ, ◌+◌, ◌≤◌, nat_eq, Bool, true, false, not, ◌&&◌, cond, List, [], ◌∷◌, length, Option, Some, None, refl, arith}
 use Rattle.std.specs.List.{AllByRecursion}
 use Rattle.std.proofs.lemmas.Bool.{eqb-true}
+use Rattle.rb_base.specs.declared.limits.TheConstants.{MOST_PARAMETERS}
 use Rattle.rb_base.specs.declared.fault.FaultName.TheVariants.{S3, S4}
 use Rattle.rb_syntax.specs.Tree.{ChannelDeclaration, ConversationDeclaration, Declaration, Identifier, ProcedureDeclaration, ProcessDeclaration, Tree}
 use Rattle.rb_meaning.specs.Environment.{or_else, same_name}
@@ -9,7 +10,7 @@ use Rattle.rb_scope.specs.FirstFault.{is_before}
 use Rattle.rb_scope.specs.Limits.{ProcedureWithin}
 use Rattle.rb_scope.specs.Rules.{fits, is_miscalled, misused}
 use Rattle.rb_scope.specs.Scopes.{Declared, channels_from, conversations_from, declared_in, in_text_order, meaning_of, parameters_from, procedure_scope, procedures_from, process_scope, processes_from, program_scope, take_place, variables_from, variables_in, words_of}
-use Rattle.rb_scope.specs.Sites.{Calls, Uses, most_parameters}
+use Rattle.rb_scope.specs.Sites.{Calls, Uses}
 use Rattle.rb_scope.specs.declared.slot.Slot.{Slot}
 use Rattle.rb_scope.specs.declared.slot.Slot.TheVariants.{Global, Local}
 use Rattle.rb_scope.specs.declared.want.Want.TheVariants.{AProcedure}
@@ -17,7 +18,7 @@ use Rattle.rb_scope.proofs.EachSite.{IsKept, all_append, unbroken}
 
 -- a declaration of few parameters, and scopes of such alone
 abbrev pub TakesFew : Declared → Type 0
-TakesFew one = one.parameters ≤ most_parameters
+TakesFew one = one.parameters ≤ MOST_PARAMETERS
 
 abbrev pub TakeFew : List Declared → Type 0
 TakeFew scope = AllByRecursion TakesFew scope
@@ -52,7 +53,7 @@ counted true false e h = absurd cc
 counted false same e h = absurd cc
 
 few_called : (n : ℕ) (name : Identifier) (meaning : Option Declared) → MeansFew meaning → misused AProcedure name meaning ≡ []
-    → is_miscalled n meaning ≡ false → n ≤ most_parameters
+    → is_miscalled n meaning ≡ false → n ≤ MOST_PARAMETERS
 few_called n name None few used called = absurd cc
 few_called n name (Some one) few used called =
     let fitting = unbroken (not (fits AProcedure one.slot)) S3 name.place used in
@@ -61,7 +62,7 @@ few_called n name (Some one) few used called =
     omega arith
 
 pub few_arguments : (name : Identifier) (n : ℕ) (scopes : List (List Declared)) → ScopesTakeFew scopes
-    → IsKept (Uses AProcedure name scopes) → IsKept (Calls name n scopes) → n ≤ most_parameters
+    → IsKept (Uses AProcedure name scopes) → IsKept (Calls name n scopes) → n ≤ MOST_PARAMETERS
 few_arguments name n scopes few used called =
     let meaning = meaning_of name.text scopes in
     few_called n name meaning (meaning_few name.text scopes few) used (unbroken (is_miscalled n meaning) S4 name.place called)

@@ -2,15 +2,15 @@
 -- room for them where these are few.
 use Rattle.std.proofs.Common.{◌≡◌, ℕ, suc, ◌+◌, ◌≤◌, max, List, [], ◌∷◌, length, refl, arith}
 use Rattle.std.proofs.Math.Nat.{le-max_left, le-max_right}
+use Rattle.rb_base.specs.declared.limits.TheConstants.{MOST_OPERANDS}
 use Rattle.rb_syntax.specs.declared.expression.Op.{Op}
 use Rattle.rb_syntax.specs.declared.expression.Op.TheVariants as op
 use Rattle.rb_syntax.specs.declared.expression.Quantifier.{Quantifier}
 use Rattle.rb_syntax.specs.declared.expression.Quantifier.TheVariants.{Every, Any, Total}
 use Rattle.rb_syntax.specs.Tree.{Expression, Literal, Variable, Former, Minus, Negation, Chained, Quantification, Reference, Refer, Subscript, Scalar, Element, Links, NoLink, Linked}
 use Rattle.rb_grammar.specs.Depth.{deepest}
-use Rattle.rb_code.specs.Sound.{most_operands}
-use Rattle.rb_code.specs.Operands.{HasRoom, LinksHaveRoom, ReferenceHasRoom, beside, summed}
-use Rattle.rb_code.specs.RoomInTree.{ArgumentsHaveRoom}
+use Rattle.rb_code.specs.Agreement.Operands.{HasRoom, LinksHaveRoom, ReferenceHasRoom, beside, summed}
+use Rattle.rb_code.specs.Agreement.RoomInTree.{ArgumentsHaveRoom}
 
 abbrev mutual
   -- a sum keeps one operand while the rest of it is found, and the upper limit stands on the lower one
@@ -67,18 +67,18 @@ summed_most Any n = omega arith
 summed_most Total n = omega arith
 
 mutual
-  pub has_room : (n : ℕ) (e : Expression) → n + operands e ≤ most_operands → HasRoom n e
+  pub has_room : (n : ℕ) (e : Expression) → n + operands e ≤ MOST_OPERANDS → HasRoom n e
   has_room n (Literal number) h = omega arith
   has_room n (Variable reference) h = reference_has_room n reference h
   has_room n (Former place reference) h = reference_has_room n reference h
   has_room n (Minus operand) h = has_room n operand h
   has_room n (Negation operand) h = has_room n operand h
   has_room n (Chained first links) h =
-      let both = neither_above_on n (operands first) (links_operands links) most_operands h in
+      let both = neither_above_on n (operands first) (links_operands links) MOST_OPERANDS h in
       (has_room n first both.0, links_have_room n links both.1)
   has_room n (Quantification kind place name low high body) h =
-      let first = neither_above_on n (operands low + 1) (max (operands high + 2) (operands body + 1)) most_operands h in
-      let others = neither_above_on n (operands high + 2) (operands body + 1) most_operands first.1 in
+      let first = neither_above_on n (operands low + 1) (max (operands high + 2) (operands body + 1)) MOST_OPERANDS h in
+      let others = neither_above_on n (operands high + 2) (operands body + 1) MOST_OPERANDS first.1 in
       let most = summed_most kind n in (
         (let one = first.0 in omega arith),
         has_room (summed kind n) low (let one = first.0 in omega arith),
@@ -86,16 +86,16 @@ mutual
         has_room (summed kind n) body (let three = others.1 in omega arith),
       )
 
-  pub reference_has_room : (n : ℕ) (reference : Reference) → n + reference_operands reference ≤ most_operands
+  pub reference_has_room : (n : ℕ) (reference : Reference) → n + reference_operands reference ≤ MOST_OPERANDS
       → ReferenceHasRoom n reference
   reference_has_room n (Refer name Scalar) h = omega arith
   reference_has_room n (Refer name (Element index)) h = has_room n index h
 
-  links_have_room : (n : ℕ) (links : Links) → n + links_operands links ≤ most_operands → LinksHaveRoom n links
+  links_have_room : (n : ℕ) (links : Links) → n + links_operands links ≤ MOST_OPERANDS → LinksHaveRoom n links
   links_have_room n NoLink h = tt
   links_have_room n (Linked op right links) h =
-      let value = neither_above_on n 1 (max (beside op (operands right)) (links_operands links)) most_operands h in
-      let both = neither_above_on n (beside op (operands right)) (links_operands links) most_operands value.1 in
+      let value = neither_above_on n 1 (max (beside op (operands right)) (links_operands links)) MOST_OPERANDS h in
+      let both = neither_above_on n (beside op (operands right)) (links_operands links) MOST_OPERANDS value.1 in
       let same = beside_adds op n (operands right) in (
         (let one = value.0 in omega arith),
         has_room (beside op n) right (let right_one = both.0 in omega arith),
@@ -103,7 +103,7 @@ mutual
       )
 
 -- each argument stands on those before it
-pub arguments_have_room : (n most : ℕ) (arguments : List Expression) → n + length arguments + most ≤ most_operands
+pub arguments_have_room : (n most : ℕ) (arguments : List Expression) → n + length arguments + most ≤ MOST_OPERANDS
     → deepest operands arguments ≤ most → ArgumentsHaveRoom n arguments
 arguments_have_room n most [] few h = tt
 arguments_have_room n most (argument ∷ arguments) few h =

@@ -4,8 +4,8 @@ use Rattle.std.proofs.lemmas.Bool.Decides.{nat_tests}
 use Rattle.rb_syntax.specs.Numbered.{AlternatesNumbered, BodyNumbered, CommandNumbered, CommandsNumbered, IsNumbered, OtherwiseNumbered, ProceduresNumbered, ProcessNumbered, ProcessesNumbered, RecoveryNumbered, blocks_in, blocks_in_alternates, blocks_in_body, blocks_in_command, blocks_in_otherwise, blocks_in_procedures, blocks_in_process, blocks_in_processes, blocks_in_recovery}
 use Rattle.rb_syntax.specs.Tree.{Command, Assignment, Printing, Sending, Receiving, Conditional, Loop, Invocation, Failure, Recovering, Commands, NoCommand, Then, Body, Scope, Otherwise, NoElse, Else, RecoveryBlock, Recovers, Alternates, NoAlternate, Alternate, ProcedureDeclaration, ProcessDeclaration, Tree}
 use Rattle.rb_meaning.specs.Step.{commands_of}
-use Rattle.rb_prepare.proofs.Laid.{one_if}
-use Rattle.rb_prepare.proofs.Weights.{Weight, weight_in, weight_in_alternates, weight_in_body, weight_in_command, weight_in_otherwise, weight_in_procedures, weight_in_process, weight_in_processes, weight_in_recovery}
+use Rattle.rb_prepare.proofs.Walking.Laid.{one_if}
+use Rattle.rb_prepare.proofs.Joining.Weights.{Weight, weight_in, weight_in_alternates, weight_in_body, weight_in_command, weight_in_otherwise, weight_in_procedures, weight_in_process, weight_in_processes, weight_in_recovery}
 
 module _ (b : ℕ) where
   -- a recovery block weighs 1 if it has this number

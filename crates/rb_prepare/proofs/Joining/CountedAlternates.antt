@@ -9,9 +9,9 @@ use Rattle.rb_meaning.specs.Groups.{groups_of}
 use Rattle.rb_scope.specs.declared.slot.Slot.{Slot}
 use Rattle.rb_nest.specs.Groups.{alternates, membership}
 use Rattle.rb_nest.specs.Nest.{IsNest}
-use Rattle.rb_code.specs.Plain.{Block, Code}
+use Rattle.rb_code.specs.Instructions.Plain.{Block, Code}
 use Rattle.rb_prepare.proofs.AcceptedCode.{IsCodeOf}
-use Rattle.rb_prepare.proofs.FormedCode.{alternates_known, block_formed}
+use Rattle.rb_prepare.proofs.Forming.FormedCode.{alternates_known, block_formed}
 
 -- each conversation has a count
 pub as_many_counts : (tree : Tree) (nested : Nested) → IsNest tree nested → length (alternates nested) ≡ length (groups_of tree)

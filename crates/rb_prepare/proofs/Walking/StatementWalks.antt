@@ -17,20 +17,21 @@ use Rattle.rb_scope.specs.InFrames.{AlternatesInFrames, BodyInFrames, CommandInF
 use Rattle.rb_scope.specs.Limits.{AlternatesWithin, BodyWithin, CommandWithin, CommandsWithin, IsFrom1To}
 use Rattle.rb_scope.specs.Spelled.{AlternatesSpelled, BodySpelled, CommandSpelled, CommandsSpelled, PrintedSpelled}
 use Rattle.rb_scope.specs.declared.slot.Slot.{Slot}
-use Rattle.rb_code.specs.Plain.{Block, Code}
-use Rattle.rb_code.specs.Slots.{channel_in, channel_of, elements_of, procedure_in, procedure_of, spot_of}
-use Rattle.rb_code.specs.Memory.{part_of}
-use Rattle.rb_code.specs.Sound.{Each, IsProcedureAt}
-use Rattle.rb_code.specs.Template.{One, Template}
-use Rattle.rb_code.specs.Forms.{AlternatesCode, ArgumentsCode, BlockCode, BodyCode, BranchesCode, CommandCode, CommandsCode, ExpressionCode, ItemsCode, OthersCode, Owner, PrintedCode, ReceiptCode, StoreCode, TellsOf, procedure_start, procedure_words}
+use Rattle.rb_code.specs.Instructions.Plain.{Block, Code}
+use Rattle.rb_code.specs.Agreement.Slots.{channel_in, channel_of, elements_of, procedure_in, procedure_of, spot_of}
+use Rattle.rb_code.specs.WordMachine.Workspace.{part_of}
+use Rattle.rb_code.specs.SoundCode.Sound.{Each, IsProcedureAt}
+use Rattle.rb_code.specs.Agreement.Template.{One, Template}
+use Rattle.rb_code.specs.Agreement.Forms.{AlternatesCode, ArgumentsCode, BlockCode, BodyCode, BranchesCode, CommandCode, CommandsCode, ExpressionCode, ItemsCode, OthersCode, Owner, PrintedCode, ReceiptCode, StoreCode, TellsOf, procedure_start, procedure_words}
 use Rattle.rb_code.specs.declared.instr.Instr.{Instr}
 use Rattle.rb_code.specs.declared.instr.Instr.TheVariants.{Turn, Bound, Store, StoreAt, Text, Item, Print, Room, Put, Take, Call, Fail, Enter, Start, Test}
 use Rattle.rb_judge.specs.HasAlternates.{AlternatesHaveAlternates, BodyHasAlternates, CommandHasAlternates, CommandsHaveAlternates}
-use Rattle.rb_prepare.proofs.Laid.{BlockLies, Inside, one_if}
-use Rattle.rb_prepare.proofs.Walked.{IsPlain, Reached, Scene, Walked, flat_then, then_one, walked_none, walked_one, walked_then}
-use Rattle.rb_prepare.proofs.ExpressionWalks.{Walks, expression_walked}
-use Rattle.rb_prepare.proofs.FormWalks.{Alternatives, WalksBy, alternative, before, behind, drop_walked, frame_walked, if_else_walked, if_walked, no_alternative, no_other, other_alternative, receive_else_walked, receive_walked, recovery_walked, while_walked}
-use Rattle.rb_prepare.proofs.Weights.{Weight, weight_in, weight_in_alternates, weight_in_body, weight_in_command}
+use Rattle.rb_prepare.proofs.Walking.Laid.{BlockLies, Inside, one_if}
+use Rattle.rb_prepare.proofs.Onward.{Onward}
+use Rattle.rb_prepare.proofs.Walking.Walked.{IsPlain, Scene, Walked, flat_then, then_one, walked_none, walked_one, walked_then}
+use Rattle.rb_prepare.proofs.Walking.ExpressionWalks.{Walks, expression_walked}
+use Rattle.rb_prepare.proofs.Walking.FormWalks.{Alternatives, WalksBy, alternative, before, behind, drop_walked, frame_walked, if_else_walked, if_walked, no_alternative, no_other, other_alternative, receive_else_walked, receive_walked, recovery_walked, while_walked}
+use Rattle.rb_prepare.proofs.Joining.Weights.{Weight, weight_in, weight_in_alternates, weight_in_body, weight_in_command}
 
 -- uses that have as many alternates as the first ones
 abbrev pub AsMany : Tree → List Use → Type 0
@@ -71,11 +72,11 @@ module _ (c : Code) (tree : Tree) where
             ap (alternates_of tree) (sym same) ∙ all ∙ ap Some (sym many),
           )
 
-  module _ (s : Scene c tree) (plain : (instr : Instr) → IsPlain instr → s.counts instr ≡ false) (slots : List Slot) (p : ℕ)
+  module _ (s : Scene) (plain : (instr : Instr) → IsPlain instr → s.counts instr ≡ false) (slots : List Slot) (p : ℕ)
       (owner : Owner) (w : Weight)
       (channels : length c.channels ≡ length tree.channels)
       (entrances : (number : ℕ) (procedure : ProcedureDeclaration) → slice_get (procedures_of (slice_get tree.processes p)) number ≡ Some procedure
-      → IsProcedureAt (part_of c s.within.process).procedures (procedure_start c owner.number number))
+      → IsProcedureAt (part_of c s.process).procedures (procedure_start c owner.number number))
       (weighs : (number : ℕ) (conversation : Option Identifier) (block : Block) → slice_get c.blocks number ≡ Some block
       → block.conversation ≡ conversation_of tree conversation
       → one_if (s.counts (Enter number)) + (one_if (s.counts (Start number)) + one_if (s.counts (Test number))) ≡ w number conversation) where
@@ -219,7 +220,7 @@ module _ (c : Code) (tree : Tree) where
           → AlternatesHaveAlternates alternates → AsMany tree (uses_in_alternates spot alternates)
           → AlternatesCode tree slots owner alternates addresses to c a b
           → Alternatives c tree s plain (weight_in_alternates w alternates) a b (count_alternates alternates) addresses
-          (1 ≤ count_alternates alternates)
+          (λ from. 1 ≤ count_alternates alternates)
       alternates_walked frames spot NoAlternate addresses to a b at names limits spelled some many (none, here) =
           no_alternative c tree s plain a b addresses none here
       alternates_walked frames spot (Alternate body others) addresses to a b at names limits spelled some many (more, is, (m, code, rest)) =
@@ -233,7 +234,7 @@ module _ (c : Code) (tree : Tree) where
           → AlternatesInFrames tree slots p frames alternates → AlternatesWithin alternates → AlternatesSpelled alternates
           → AlternatesHaveAlternates alternates → AsMany tree (uses_in_alternates spot alternates)
           → OthersCode tree slots owner alternates addresses to c a b
-          → Alternatives c tree s plain (weight_in_alternates w alternates) a b (count_alternates alternates) addresses (Reached c tree s a)
+          → Alternatives c tree s plain (weight_in_alternates w alternates) a b (count_alternates alternates) addresses (λ from. Onward c from a)
       others_walked frames spot NoAlternate addresses to a b at names limits spelled some many (none, here) =
           no_other c tree s plain a b addresses none here
       others_walked frames spot (Alternate body others) addresses to a b at names limits spelled some many (d, jump, (more, is, (m, code, rest))) =

@@ -17,9 +17,9 @@ use Rattle.rb_scope.proofs.DistinctNames.{same_itself}
 use Rattle.rb_scope.proofs.EachSite.{all_append, first-empty, second-empty}
 use Rattle.rb_nest.specs.Rules.{channel_faults, conversation_faults, joins_too, keeps_n13, keeps_n3, keeps_n7, nesting_faults, use_faults, uses_faults}
 use Rattle.rb_nest.proofs.Accepted.{is_kept, kept_before, none_after}
-use Rattle.rb_prepare.proofs.FoundNames.{AreNamedUses, JoinsNamed, NamesConversation}
-use Rattle.rb_prepare.proofs.JoinCounts.{count_both, count_joins, if_join, is_join}
-use Rattle.rb_prepare.proofs.Laid.{one_if}
+use Rattle.rb_prepare.proofs.Forming.FoundNames.{AreNamedUses, JoinsNamed, NamesConversation}
+use Rattle.rb_prepare.proofs.Joining.JoinCounts.{count_both, count_joins, if_join, is_join}
+use Rattle.rb_prepare.proofs.Walking.Laid.{one_if}
 
 -- the number of what has a name of its own
 module _ {A : Type 0} (name : A → Identifier) where

@@ -19,11 +19,11 @@ use Rattle.rb_grammar.specs.Grammar.{no_subscript_row, subscript_row, number_row
 use Rattle.rb_grammar.specs.Parts.{Part}
 use Rattle.rb_grammar.specs.Values.{Value}
 use Rattle.rb_grammar.specs.Verdict.{HasTree}
-use Rattle.rb_grammar.proofs.Room.{Keeps, past, opens, closes, past_name, past_number, past_text, past_ensure}
-use Rattle.rb_grammar.proofs.Room.{past_operator, past_comparison, past_quantifier, none, then, around}
+use Rattle.rb_grammar.proofs.Depth.Room.{Keeps, past, opens, closes, past_name, past_number, past_text, past_ensure}
+use Rattle.rb_grammar.proofs.Depth.Room.{past_operator, past_comparison, past_quantifier, none, then, around}
 use Rattle.rb_syntax.specs.Tree.{Identifier, Printed, Words, Amount, PrintItem, Command, Assignment, Printing, Sending, Receiving, Conditional, Loop, Invocation, Failure, Recovering, Commands, NoCommand, Then, Body, Scope, Otherwise, NoElse, Else, RecoveryBlock, Recovers, Alternates, NoAlternate, Alternate, ProcedureDeclaration, ProcessDeclaration, Tree}
-use Rattle.rb_prepare.proofs.Pushed.{operands, reference_operands, subscript_operands, links_operands, beside_most}
-use Rattle.rb_prepare.proofs.Needed.{Needs, flat, nothing, one, behind, before, both, wider, upon, inside, operand_extra, chain_extra, operand_first, chain_some, right_extra, linked, chained}
+use Rattle.rb_prepare.proofs.Operands.Pushed.{operands, reference_operands, subscript_operands, links_operands, beside_most}
+use Rattle.rb_prepare.proofs.Operands.Needed.{Needs, flat, nothing, one, behind, before, both, wider, upon, inside, operand_extra, chain_extra, operand_first, chain_some, right_extra, linked, chained}
 
 -- the most operands that an expression of a part needs
 abbrev pub printed_operands : Printed → ℕ

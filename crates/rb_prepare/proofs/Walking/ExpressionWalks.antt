@@ -1,45 +1,49 @@
 -- The code of an expression is walked, and counts nothing.
-use Rattle.std.proofs.Common.{◌≡◌, ℕ, ◌+◌, ◌<◌, ◌≤◌, pos, false, List, Option, Some, None, ap, sym, ◌∙◌, subst, arith}
+use Rattle.std.proofs.Common.{◌≡◌, ℕ, ◌+◌, ◌<◌, ◌≤◌, pos, false, List, Option, Some, None, refl, ap, sym, ◌∙◌, slice_get, arith}
 use Rattle.rb_syntax.specs.declared.expression.Op.{Op}
 use Rattle.rb_syntax.specs.declared.expression.Op.TheVariants as op
 use Rattle.rb_syntax.specs.declared.expression.Quantifier.{Quantifier}
 use Rattle.rb_syntax.specs.declared.expression.Quantifier.TheVariants.{Every, Any, Total}
-use Rattle.rb_syntax.specs.Tree.{Expression, Literal, Variable, Former, Minus, Negation, Chained, Quantification, Refer, Scalar, Element, Links, NoLink, Linked, Tree}
-use Rattle.rb_scope.specs.Frames.{Frames, in_body, in_limit}
-use Rattle.rb_scope.specs.InFrames.{ExpressionInFrames, LinksInFrames}
+use Rattle.rb_syntax.specs.Tree.{Identifier, Expression, Literal, Variable, Former, Minus, Negation, Chained, Quantification, Refer, Scalar, Element, Links, NoLink, Linked, Tree}
+use Rattle.rb_world.proofs.ListFacts.{none_some, some_same}
+use Rattle.rb_scope.specs.Frames.{Frames, Lying, OfCall, OfProcess, counter_among, in_body, in_limit, scalar_slot}
+use Rattle.rb_scope.specs.InFrames.{ExpressionInFrames, IsValueBy, LinksInFrames}
 use Rattle.rb_scope.specs.declared.slot.Slot.{Slot}
-use Rattle.rb_code.specs.Plain.{Code}
-use Rattle.rb_code.specs.Slots.{counter_of, elements_of, quantified_in, quantified_of, spot_of}
-use Rattle.rb_code.specs.Template.{Template}
-use Rattle.rb_code.specs.Forms.{ExpressionCode, LinksCode, OperatorCode, QuantifiedCode, ScalarCode, SubscriptCode}
+use Rattle.rb_code.specs.Instructions.Plain.{Code}
+use Rattle.rb_code.specs.Agreement.Slots.{counter_in, counter_of, elements_of, quantified_in, quantified_of, spot_of}
+use Rattle.rb_code.specs.Agreement.Template.{Template}
+use Rattle.rb_code.specs.Agreement.Forms.{ExpressionCode, LinksCode, OperatorCode, QuantifiedCode, ScalarCode, SubscriptCode}
 use Rattle.rb_code.specs.declared.instr.Spot.{Spot}
 use Rattle.rb_code.specs.declared.instr.Instr.{Instr}
 use Rattle.rb_code.specs.declared.instr.Instr.TheVariants.{Push, Load, Prior, Bound, LoadAt, PriorAt, Add, Sub, Mul, Div, Rem, Eq, Ne, Lt, Le, Gt, Ge, Neg, Not, Bool as ToBool, Jump, JumpZero, Range, Again, Counter}
-use Rattle.rb_prepare.proofs.Laid.{laid_none}
-use Rattle.rb_prepare.proofs.Walked.{AllReached, IsPlain, Part, Reached, Scene, Walked, flat_then, goes_on, only, part, part_flat, part_one, then_one, up_to, walked_none, walked_one, ways_reached}
+use Rattle.rb_prepare.proofs.Walking.Laid.{LoopStays, laid_none, loop_stays}
+use Rattle.rb_prepare.proofs.Onward.{AllOnward, Onward, and_on, at_last, goes_on, itself, moved_to, only, up_to, ways_onward}
+use Rattle.rb_prepare.proofs.Walking.Walked.{IsPlain, Part, Scene, Walked, flat_then, part, part_flat, part_one, then_one, walked_none, walked_one}
 
-module _ (c : Code) (tree : Tree) (s : Scene c tree) (plain : (instr : Instr) → IsPlain instr → s.counts instr ≡ false) where
+no_counter : (at : Lying) → counter_in (Some (scalar_slot at)) ≡ None
+no_counter (OfProcess at words) = refl
+no_counter (OfCall at words) = refl
+
+-- the counter of a name that stands for one
+few_counters : (slots : List Slot) (frames : Frames) (name : Identifier) (o : Option ℕ) → IsValueBy o slots frames name
+    → (k : ℕ) → counter_of slots name.id ≡ Some k → k < 2
+few_counters slots frames name (Some j) names k e =
+    let same : j ≡ k = some_same (sym (ap counter_in names.0) ∙ e) in let few = names.1 in omega arith
+few_counters slots frames name None names k e =
+    absurd (none_some (sym (ap counter_in names.slot ∙ no_counter names.at) ∙ e))
+
+module _ (c : Code) (tree : Tree) (s : Scene) (plain : (instr : Instr) → IsPlain instr → s.counts instr ≡ false) where
   -- a template is walked, and counts nothing
   abbrev pub Walks : Template → Type 0
   Walks P = (a b : ℕ) → P c a b → Walked c tree s 0 a b
 
   -- a label
   pub nothing : (a b p q : ℕ) → q ≡ p → Part c tree s a b 0 p q
-  nothing a b p q e = laid_none c tree s.within.process s.counts a b p q e
+  nothing a b p q e = laid_none c tree s.process s.counts a b p q e
 
-  -- an address that is reached before others, and the last one
-  pub and_on : (a n b : ℕ) → n ≤ a + 1 → Reached c tree s a → AllReached c tree s n b → AllReached c tree s a b
-  and_on a n b near r all = up_to c tree s a a n b near (only c tree s a r) all
-
-  pub at_last : (a b : ℕ) → b ≡ a → Reached c tree s a → AllReached c tree s a b
-  at_last a b e r = subst (AllReached c tree s a) (sym e) (only c tree s a r)
-
-  pub moved_to : (a b : ℕ) → b ≡ a → Reached c tree s a → Reached c tree s b
-  moved_to a b e r = subst (Reached c tree s) (sym e) r
-
-  scalar_walked : (o : Option ℕ) (spot : Spot) → Walks (ScalarCode o spot)
-  scalar_walked None spot a b one = walked_one c tree s plain a b (Load spot) one tt tt tt
-  scalar_walked (Some k) spot a b one = walked_one c tree s plain a b (Counter k) one tt tt tt
+  scalar_walked : (o : Option ℕ) (spot : Spot) → ((k : ℕ) → o ≡ Some k → k < 2) → Walks (ScalarCode o spot)
+  scalar_walked None spot few a b one = walked_one c tree s plain a b (Load spot) one tt tt tt
+  scalar_walked (Some k) spot few a b one = walked_one c tree s plain a b (Counter k) one (few k refl) tt tt
 
   and_walked : (right : Template) → Walks right → Walks (OperatorCode op.And right)
   and_walked right walks a b (fails, (end, (p, test, (q, code, (r, bool, (u, jump, (v, at_no, (x, push, at_end)))))))) =
@@ -54,13 +58,13 @@ module _ (c : Code) (tree : Tree) (s : Scene c tree) (plain : (instr : Instr) �
             (part_flat c tree s plain a b r u b (part_one c tree s plain a b r u (Jump end) jump (omega arith, omega arith) tt)
             (part_flat c tree s plain a b u v b (nothing a b u v e3)
             (part_flat c tree s plain a b v x b (part_one c tree s plain a b v x (Push (pos 0)) push tt tt) (nothing a b x b e5))))));
-        reached = λ first.
-            let ways = ways_reached c tree s a (JumpZero fails) test.0 first in
-            let all = w.reached (moved_to (a + 1) p e0 ways.1.0) in
-            let behind = goes_on c tree s q r ToBool bool tt (all q o (omega arith)) in
-            let other = moved_to fails v (e3 ∙ to_no) ways.0 in
-            and_on a p b (omega arith) first (up_to c tree s p q r b (omega arith) all (and_on r v b (omega arith) behind
-            (and_on v x b (omega arith) other (at_last x b e5 (goes_on c tree s v x (Push (pos 0)) push tt other)))));
+        reached = λ from first.
+            let ways = ways_onward c from a (JumpZero fails) test.0 first in
+            let all = w.reached from (moved_to c from (a + 1) p e0 (ways.1.0 (omega arith))) in
+            let behind = goes_on c from q r ToBool bool tt (all q o (omega arith)) in
+            let other = moved_to c from fails v (e3 ∙ to_no) (ways.0 (omega arith)) in
+            and_on c from a p b (omega arith) first (up_to c from p q r b (omega arith) all (and_on c from r v b (omega arith) behind
+            (and_on c from v x b (omega arith) other (at_last c from x b e5 (goes_on c from v x (Push (pos 0)) push tt other)))));
       }
 
   or_walked : (right : Template) → Walks right → Walks (OperatorCode op.Or right)
@@ -77,13 +81,13 @@ module _ (c : Code) (tree : Tree) (s : Scene c tree) (plain : (instr : Instr) �
             (part_flat c tree s plain a b r u b (nothing a b r u e3)
             (part_flat c tree s plain a b u v b (part c tree s a b 0 u v (omega arith) (omega arith) w)
             (part_flat c tree s plain a b v x b (part_one c tree s plain a b v x ToBool bool tt tt) (nothing a b x b e5))))));
-        reached = λ first.
-            let ways = ways_reached c tree s a (JumpZero other) test.0 first in
-            let zero = moved_to (a + 1) p e0 ways.1.0 in
-            let one = goes_on c tree s p q (Push (pos 1)) push tt zero in
-            let all = w.reached (moved_to other u (e3 ∙ to_other) ways.0) in
-            and_on a p b (omega arith) first (and_on p q b (omega arith) zero (and_on q u b (omega arith) one
-            (up_to c tree s u v x b (omega arith) all (at_last x b e5 (goes_on c tree s v x ToBool bool tt (all v o (omega arith)))))));
+        reached = λ from first.
+            let ways = ways_onward c from a (JumpZero other) test.0 first in
+            let zero = moved_to c from (a + 1) p e0 (ways.1.0 (omega arith)) in
+            let one = goes_on c from p q (Push (pos 1)) push tt zero in
+            let all = w.reached from (moved_to c from other u (e3 ∙ to_other) (ways.0 (omega arith))) in
+            and_on c from a p b (omega arith) first (and_on c from p q b (omega arith) zero (and_on c from q u b (omega arith) one
+            (up_to c from u v x b (omega arith) all (at_last c from x b e5 (goes_on c from v x ToBool bool tt (all v o (omega arith)))))));
       }
 
   operator_walked : (o : Op) (right : Template) → Walks right → Walks (OperatorCode o right)
@@ -110,11 +114,20 @@ module _ (c : Code) (tree : Tree) (s : Scene c tree) (plain : (instr : Instr) �
         let e0 = range.1 in let e1 = at_loop.1 in let e2 = test.1 in let e3 = again.1 in let e4 = at_yes.1 in
         let e5 = push1.1 in let e6 = jump.1 in let e7 = at_no.1 in let e8 = push0.1 in let e9 = at_end.1 in
         let to_loop = at_loop.0 in let to_yes = at_yes.0 in let to_no = at_no.0 in let to_end = at_end.0 in
+        let turns : (from : ℕ) → Onward c from first → AllOnward c from first d1 = λ from inside.
+        let all = y.reached from inside in
+        let ways = ways_onward c from d0 (JumpZero fails) test.0 (all d0 o2 (omega arith)) in
+        up_to c from first d0 d1 d1 (omega arith) all (only c from d1 (moved_to c from (d0 + 1) d1 e2 (ways.1.0 (omega arith)))) in
+        let stays : LoopStays c k (r + 1) =
+        loop_stays c tree s.process s.counts k r loop first d1 b (omega arith) (omega arith) again.0
+        (part_flat c tree s plain first b first d0 d1 (part c tree s first b 0 first d0 (omega arith) (omega arith) y)
+        (part_one c tree s plain first b d0 d1 (JumpZero fails) test (omega arith, omega arith) tt))
+        (turns first itself) in
         record {
           laid =
               part_flat c tree s plain a b a p b (part c tree s a b 0 a p (omega arith) (omega arith) w)
               (part_flat c tree s plain a b p r b (part c tree s a b 0 p r (omega arith) (omega arith) h)
-              (part_flat c tree s plain a b r d b (part_one c tree s plain a b r d (Range k past) range (few, (omega arith, omega arith)) tt)
+              (part_flat c tree s plain a b r d b (part_one c tree s plain a b r d (Range k past) range (few, (omega arith, omega arith), stays) tt)
               (part_flat c tree s plain a b d first b (nothing a b d first e1)
               (part_flat c tree s plain a b first d0 b (part c tree s a b 0 first d0 (omega arith) (omega arith) y)
               (part_flat c tree s plain a b d0 d1 b (part_one c tree s plain a b d0 d1 (JumpZero fails) test (omega arith, omega arith) tt)
@@ -124,20 +137,19 @@ module _ (c : Code) (tree : Tree) (s : Scene c tree) (plain : (instr : Instr) �
               (part_flat c tree s plain a b d4 d5 b (part_one c tree s plain a b d4 d5 (Jump end) jump (omega arith, omega arith) tt)
               (part_flat c tree s plain a b d5 d6 b (nothing a b d5 d6 e7)
               (part_flat c tree s plain a b d6 d7 b (part_one c tree s plain a b d6 d7 (Push (pos 0)) push0 tt tt) (nothing a b d7 b e9))))))))))));
-          reached = λ begun.
-              let all0 = w.reached begun in
-              let all1 = h.reached (all0 p o0 (omega arith)) in
-              let inside = goes_on c tree s r d (Range k past) range tt (all1 r o1 (omega arith)) in
-              let all2 = y.reached (moved_to d first e1 inside) in
-              let ways = ways_reached c tree s d0 (JumpZero fails) test.0 (all2 d0 o2 (omega arith)) in
-              let on = moved_to (d0 + 1) d1 e2 ways.1.0 in
-              let over = moved_to d2 d3 e4 (goes_on c tree s d1 d2 (Again k loop) again tt on) in
-              let holds = goes_on c tree s d3 d4 (Push (pos 1)) push1 tt over in
-              let zero_there = moved_to fails d6 (e7 ∙ to_no) ways.0 in
-              up_to c tree s a p p b (omega arith) all0 (up_to c tree s p r d b (omega arith) all1 (and_on d first b (omega arith) inside
-              (up_to c tree s first d0 d1 b (omega arith) all2 (and_on d1 d3 b (omega arith) on (and_on d3 d4 b (omega arith) over
-              (and_on d4 d6 b (omega arith) holds (and_on d6 d7 b (omega arith) zero_there
-              (at_last d7 b e9 (goes_on c tree s d6 d7 (Push (pos 0)) push0 tt zero_there)))))))));
+          reached = λ from begun.
+              let all0 = w.reached from begun in
+              let all1 = h.reached from (all0 p o0 (omega arith)) in
+              let inside = goes_on c from r d (Range k past) range tt (all1 r o1 (omega arith)) in
+              let all2 = turns from (moved_to c from d first e1 inside) in
+              let ways = ways_onward c from d0 (JumpZero fails) test.0 (all2 d0 o2 (omega arith)) in
+              let over = moved_to c from d2 d3 e4 (goes_on c from d1 d2 (Again k loop) again tt (all2 d1 (omega arith) (omega arith))) in
+              let holds = goes_on c from d3 d4 (Push (pos 1)) push1 tt over in
+              let zero_there = moved_to c from fails d6 (e7 ∙ to_no) (ways.0 (omega arith)) in
+              up_to c from a p p b (omega arith) all0 (up_to c from p r d b (omega arith) all1 (and_on c from d first b (omega arith) inside
+              (up_to c from first d1 d3 b (omega arith) all2 (and_on c from d3 d4 b (omega arith) over
+              (and_on c from d4 d6 b (omega arith) holds (and_on c from d6 d7 b (omega arith) zero_there
+              (at_last c from d7 b e9 (goes_on c from d6 d7 (Push (pos 0)) push0 tt zero_there))))))));
         }
 
     some_walked : Walks (QuantifiedCode Any k low high body)
@@ -148,11 +160,27 @@ module _ (c : Code) (tree : Tree) (s : Scene c tree) (plain : (instr : Instr) �
         let e0 = range.1 in let e1 = at_loop.1 in let e2 = test.1 in let e3 = push1.1 in let e4 = jump.1 in
         let e5 = at_next.1 in let e6 = again.1 in let e7 = at_no.1 in let e8 = push0.1 in let e9 = at_end.1 in
         let to_loop = at_loop.0 in let to_next = at_next.0 in let to_no = at_no.0 in let to_end = at_end.0 in
+        let turns : (from : ℕ) → Onward c from first → AllOnward c from first d4 = λ from inside.
+        let all = y.reached from inside in
+        let ways = ways_onward c from d0 (JumpZero next) test.0 (all d0 o2 (omega arith)) in
+        let on = moved_to c from (d0 + 1) d1 e2 (ways.1.0 (omega arith)) in
+        let holds = goes_on c from d1 d2 (Push (pos 1)) push1 tt on in
+        let further = moved_to c from next d4 (e5 ∙ to_next) (ways.0 (omega arith)) in
+        up_to c from first d0 d1 d4 (omega arith) all (and_on c from d1 d2 d4 (omega arith) on
+        (and_on c from d2 d4 d4 (omega arith) holds (only c from d4 further))) in
+        let stays : LoopStays c k (r + 1) =
+        loop_stays c tree s.process s.counts k r loop first d4 b (omega arith) (omega arith) again.0
+        (part_flat c tree s plain first b first d0 d4 (part c tree s first b 0 first d0 (omega arith) (omega arith) y)
+        (part_flat c tree s plain first b d0 d1 d4 (part_one c tree s plain first b d0 d1 (JumpZero next) test (omega arith, omega arith) tt)
+        (part_flat c tree s plain first b d1 d2 d4 (part_one c tree s plain first b d1 d2 (Push (pos 1)) push1 tt tt)
+        (part_flat c tree s plain first b d2 d3 d4 (part_one c tree s plain first b d2 d3 (Jump end) jump (omega arith, omega arith) tt)
+        (nothing first b d3 d4 e5)))))
+        (turns first itself) in
         record {
           laid =
               part_flat c tree s plain a b a p b (part c tree s a b 0 a p (omega arith) (omega arith) w)
               (part_flat c tree s plain a b p r b (part c tree s a b 0 p r (omega arith) (omega arith) h)
-              (part_flat c tree s plain a b r d b (part_one c tree s plain a b r d (Range k fails) range (few, (omega arith, omega arith)) tt)
+              (part_flat c tree s plain a b r d b (part_one c tree s plain a b r d (Range k fails) range (few, (omega arith, omega arith), stays) tt)
               (part_flat c tree s plain a b d first b (nothing a b d first e1)
               (part_flat c tree s plain a b first d0 b (part c tree s a b 0 first d0 (omega arith) (omega arith) y)
               (part_flat c tree s plain a b d0 d1 b (part_one c tree s plain a b d0 d1 (JumpZero next) test (omega arith, omega arith) tt)
@@ -162,20 +190,15 @@ module _ (c : Code) (tree : Tree) (s : Scene c tree) (plain : (instr : Instr) �
               (part_flat c tree s plain a b d4 d5 b (part_one c tree s plain a b d4 d5 (Again k loop) again (few, (omega arith, omega arith)) tt)
               (part_flat c tree s plain a b d5 d6 b (nothing a b d5 d6 e7)
               (part_flat c tree s plain a b d6 d7 b (part_one c tree s plain a b d6 d7 (Push (pos 0)) push0 tt tt) (nothing a b d7 b e9))))))))))));
-          reached = λ begun.
-              let all0 = w.reached begun in
-              let all1 = h.reached (all0 p o0 (omega arith)) in
-              let inside = goes_on c tree s r d (Range k fails) range tt (all1 r o1 (omega arith)) in
-              let all2 = y.reached (moved_to d first e1 inside) in
-              let ways = ways_reached c tree s d0 (JumpZero next) test.0 (all2 d0 o2 (omega arith)) in
-              let on = moved_to (d0 + 1) d1 e2 ways.1.0 in
-              let holds = goes_on c tree s d1 d2 (Push (pos 1)) push1 tt on in
-              let further = moved_to next d4 (e5 ∙ to_next) ways.0 in
-              let over = moved_to d5 d6 e7 (goes_on c tree s d4 d5 (Again k loop) again tt further) in
-              up_to c tree s a p p b (omega arith) all0 (up_to c tree s p r d b (omega arith) all1 (and_on d first b (omega arith) inside
-              (up_to c tree s first d0 d1 b (omega arith) all2 (and_on d1 d2 b (omega arith) on (and_on d2 d4 b (omega arith) holds
-              (and_on d4 d6 b (omega arith) further (and_on d6 d7 b (omega arith) over
-              (at_last d7 b e9 (goes_on c tree s d6 d7 (Push (pos 0)) push0 tt over)))))))));
+          reached = λ from begun.
+              let all0 = w.reached from begun in
+              let all1 = h.reached from (all0 p o0 (omega arith)) in
+              let inside = goes_on c from r d (Range k fails) range tt (all1 r o1 (omega arith)) in
+              let all2 = turns from (moved_to c from d first e1 inside) in
+              let over = moved_to c from d5 d6 e7 (goes_on c from d4 d5 (Again k loop) again tt (all2 d4 (omega arith) (omega arith))) in
+              up_to c from a p p b (omega arith) all0 (up_to c from p r d b (omega arith) all1 (and_on c from d first b (omega arith) inside
+              (up_to c from first d4 d6 b (omega arith) all2 (and_on c from d6 d7 b (omega arith) over
+              (at_last c from d7 b e9 (goes_on c from d6 d7 (Push (pos 0)) push0 tt over))))));
         }
 
     sum_walked : Walks (QuantifiedCode Total k low high body)
@@ -184,27 +207,34 @@ module _ (c : Code) (tree : Tree) (s : Scene c tree) (plain : (instr : Instr) �
         let o0 = w.laid.ordered in let o1 = h.laid.ordered in let o2 = y.laid.ordered in
         let e0 = push0.1 in let e1 = range.1 in let e2 = at_loop.1 in let e3 = adds.1 in let e4 = again.1 in let e5 = at_end.1 in
         let to_loop = at_loop.0 in let to_end = at_end.0 in
+        let turns : (from : ℕ) → Onward c from first → AllOnward c from first d1 = λ from inside.
+        let all = y.reached from inside in
+        up_to c from first d0 d1 d1 (omega arith) all (only c from d1 (goes_on c from d0 d1 Add adds tt (all d0 o2 (omega arith)))) in
+        let stays : LoopStays c k (r + 1) =
+        loop_stays c tree s.process s.counts k r loop first d1 b (omega arith) (omega arith) again.0
+        (part_flat c tree s plain first b first d0 d1 (part c tree s first b 0 first d0 (omega arith) (omega arith) y)
+        (part_one c tree s plain first b d0 d1 Add adds tt tt))
+        (turns first itself) in
         record {
           laid =
               part_flat c tree s plain a b a a0 b (part_one c tree s plain a b a a0 (Push (pos 0)) push0 tt tt)
               (part_flat c tree s plain a b a0 p b (part c tree s a b 0 a0 p (omega arith) (omega arith) w)
               (part_flat c tree s plain a b p r b (part c tree s a b 0 p r (omega arith) (omega arith) h)
-              (part_flat c tree s plain a b r d b (part_one c tree s plain a b r d (Range k end) range (few, (omega arith, omega arith)) tt)
+              (part_flat c tree s plain a b r d b (part_one c tree s plain a b r d (Range k end) range (few, (omega arith, omega arith), stays) tt)
               (part_flat c tree s plain a b d first b (nothing a b d first e2)
               (part_flat c tree s plain a b first d0 b (part c tree s a b 0 first d0 (omega arith) (omega arith) y)
               (part_flat c tree s plain a b d0 d1 b (part_one c tree s plain a b d0 d1 Add adds tt tt)
               (part_flat c tree s plain a b d1 d2 b (part_one c tree s plain a b d1 d2 (Again k loop) again (few, (omega arith, omega arith)) tt)
               (nothing a b d2 b e5))))))));
-          reached = λ begun.
-              let all0 = w.reached (goes_on c tree s a a0 (Push (pos 0)) push0 tt begun) in
-              let all1 = h.reached (all0 p o0 (omega arith)) in
-              let inside = goes_on c tree s r d (Range k end) range tt (all1 r o1 (omega arith)) in
-              let all2 = y.reached (moved_to d first e2 inside) in
-              let on = goes_on c tree s d0 d1 Add adds tt (all2 d0 o2 (omega arith)) in
-              and_on a a0 b (omega arith) begun
-              (up_to c tree s a0 p p b (omega arith) all0 (up_to c tree s p r d b (omega arith) all1 (and_on d first b (omega arith) inside
-              (up_to c tree s first d0 d1 b (omega arith) all2 (and_on d1 d2 b (omega arith) on
-              (at_last d2 b e5 (goes_on c tree s d1 d2 (Again k loop) again tt on)))))));
+          reached = λ from begun.
+              let all0 = w.reached from (goes_on c from a a0 (Push (pos 0)) push0 tt begun) in
+              let all1 = h.reached from (all0 p o0 (omega arith)) in
+              let inside = goes_on c from r d (Range k end) range tt (all1 r o1 (omega arith)) in
+              let all2 = turns from (moved_to c from d first e2 inside) in
+              and_on c from a a0 b (omega arith) begun
+              (up_to c from a0 p p b (omega arith) all0 (up_to c from p r d b (omega arith) all1 (and_on c from d first b (omega arith) inside
+              (up_to c from first d1 d2 b (omega arith) all2
+              (at_last c from d2 b e5 (goes_on c from d1 d2 (Again k loop) again tt (all2 d1 (omega arith) (omega arith))))))));
         }
 
     quantified_walked : (kind : Quantifier) → Walks (QuantifiedCode kind k low high body)
@@ -219,7 +249,8 @@ module _ (c : Code) (tree : Tree) (s : Scene c tree) (plain : (instr : Instr) �
       pub expression_walked : (frames : Frames) (e : Expression) → ExpressionInFrames slots frames e → Walks (ExpressionCode slots e)
       expression_walked frames (Literal number) names a b one = walked_one c tree s plain a b (Push number.value) one tt tt tt
       expression_walked frames (Variable (Refer name Scalar)) names a b code =
-          scalar_walked (counter_of slots name.id) (spot_of slots name.id) a b code
+          scalar_walked (counter_of slots name.id) (spot_of slots name.id)
+          (few_counters slots frames name (counter_among frames.counters name.text) names) a b code
       expression_walked frames (Variable (Refer name (Element index))) names a b (m, code, (r, bound, one)) =
           then_one c tree s plain a r b (LoadAt (spot_of slots name.id))
           (then_one c tree s plain a m r (Bound (elements_of slots name.id))

@@ -10,17 +10,17 @@ use Rattle.rb_meaning.specs.Groups.{conversation_number, conversation_of as numb
 use Rattle.rb_meaning.specs.Nesting.{Deed, Joins as JoinDeed, Spot, Use, if_joins, is_converse, outside, uses_in, uses_in_procedures, uses_in_processes, uses_of}
 use Rattle.rb_scope.proofs.EachSite.{all_both, all_split}
 use Rattle.rb_nest.specs.Rules.{joins_in}
-use Rattle.rb_code.specs.Plain.{Block, Code}
-use Rattle.rb_code.specs.Sound.{IsMember, conversation_of}
+use Rattle.rb_code.specs.Instructions.Plain.{Block, Code}
+use Rattle.rb_code.specs.SoundCode.Sound.{IsMember, conversation_of}
 use Rattle.rb_code.specs.declared.instr.Instr.{Instr}
 use Rattle.rb_code.specs.declared.instr.Instr.TheVariants.{Enter}
-use Rattle.rb_prepare.proofs.Laid.{one_if}
-use Rattle.rb_prepare.proofs.Walked.{IsPlain}
-use Rattle.rb_prepare.proofs.FoundNames.{NamesProcess}
-use Rattle.rb_prepare.proofs.NestingKept.{IsOrderly}
-use Rattle.rb_prepare.proofs.PlacedUses.{AreFourth, IsPlaced, fourth_first, fourth_second, main_placed, procedures_placed}
-use Rattle.rb_prepare.proofs.JoinCounts.{count_both, count_joins, if_join, is_join, is_of}
-use Rattle.rb_prepare.proofs.Groups.{AreJoined, AreNamed, any_found, joins_known}
+use Rattle.rb_prepare.proofs.Walking.Laid.{one_if}
+use Rattle.rb_prepare.proofs.Walking.Walked.{IsPlain}
+use Rattle.rb_prepare.proofs.Forming.FoundNames.{NamesProcess}
+use Rattle.rb_prepare.proofs.Forming.NestingKept.{IsOrderly}
+use Rattle.rb_prepare.proofs.Forming.PlacedUses.{AreFourth, IsPlaced, fourth_first, fourth_second, main_placed, procedures_placed}
+use Rattle.rb_prepare.proofs.Joining.JoinCounts.{count_both, count_joins, if_join, is_join, is_of}
+use Rattle.rb_prepare.proofs.Forming.Groups.{AreJoined, AreNamed, any_found, joins_known}
 
 any_split : (test : Use → Bool) (xs ys : List Use) → list_any test (xs ++ ys) ≡ true → (list_any test xs ≡ true) ⊎ (list_any test ys ≡ true)
 any_split test [] ys e = inr e

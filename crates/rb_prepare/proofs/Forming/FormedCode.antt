@@ -4,7 +4,8 @@ use Rattle.std.proofs.lemmas.List.{length-map}
 use Rattle.std.proofs.lemmas.List.Elements.{All-from_recursion}
 use Rattle.std.proofs.lemmas.Option.{slice_get_within}
 use Rattle.std.specs.List.{AllByRecursion}
-use Rattle.rb_base.specs.Limits.{most_words}
+use Rattle.rb_base.specs.declared.limits.TheConstants.{MOST_CHANNEL_SIZE, MOST_NESTED}
+use Rattle.rb_base.specs.Limits.{most_processes, most_words}
 use Rattle.rb_syntax.specs.Tree.{ChannelDeclaration, ConversationDeclaration, Identifier, ProcessDeclaration, Tree}
 use Rattle.rb_world.specs.Kind.{Ends as ChannelEnds, Membership}
 use Rattle.rb_world.proofs.ListFacts.{slice_get-there, some_same}
@@ -12,34 +13,32 @@ use Rattle.rb_meaning.specs.Groups.{channels_of, ends_of, groups_of, membership_
 use Rattle.rb_meaning.specs.Nesting.{alternates_of, keeps_n12, uses_of}
 use Rattle.rb_scope.specs.InFrames.{ChannelInFrames}
 use Rattle.rb_scope.specs.Limits.{IsFrom1To, ProcessWithin}
-use Rattle.rb_scope.specs.Rules.{most_channel_size}
-use Rattle.rb_scope.specs.Sites.{most_processes}
 use Rattle.rb_scope.specs.Spelled.{IsQuotable}
 use Rattle.rb_scope.specs.declared.slot.Slot.{Slot}
 use Rattle.rb_scope.proofs.EachSite.{all_both, all_at}
 use Rattle.rb_nest.specs.Rules.{conversation_faults}
-use Rattle.rb_code.specs.Plain.{Block, Code, Part, Procedure}
-use Rattle.rb_code.specs.Memory.{no_part}
-use Rattle.rb_code.specs.Sound.{Each, HasTable, IsProcedureAt, Table}
-use Rattle.rb_code.specs.StandsFor.{channels_from}
-use Rattle.rb_code.specs.WellFormed.{IsBlock, IsChain, IsGroup, IsPart, IsWellFormed, JoinsTwo, Names, is_entry, is_start, is_test, most_nested}
+use Rattle.rb_code.specs.Instructions.Plain.{Block, Code, Part, Procedure}
+use Rattle.rb_code.specs.WordMachine.Workspace.{no_part}
+use Rattle.rb_code.specs.SoundCode.Sound.{Each, IsProcedureAt}
+use Rattle.rb_code.specs.Agreement.StandsFor.{channels_from}
+use Rattle.rb_code.specs.SoundCode.WellFormed.{IsBlock, IsChain, IsGroup, IsPart, IsWellFormed, JoinsTwo, Names, is_entry, is_start, is_test}
 use Rattle.rb_code.specs.declared.instr.Instr.{Instr}
-use Rattle.rb_code.specs.declared.instr.Instr.TheVariants.{Text, Jump, JumpZero, Room, Put, There, Take, Call, Enter, Start, Test, Range, Again, Absent}
+use Rattle.rb_code.specs.declared.instr.Instr.TheVariants.{Text, Jump, JumpZero, Room, Put, There, Take, Call, Enter, Start, Test, Range, Again, Counter, Absent}
 use Rattle.rb_code.proofs.WholeRuns.ProcessesBegin.{all_there}
 use Rattle.rb_code.proofs.WholeRuns.ChannelsOfProcesses.{holds_at}
-use Rattle.rb_prepare.proofs.Laid.{BlockLies, Inside, Right, count_all, count_to, one_if}
-use Rattle.rb_prepare.proofs.Walked.{IsPlain}
-use Rattle.rb_prepare.proofs.ProcessWalks.{IsRow}
-use Rattle.rb_prepare.proofs.WholeWalk.{Place, Spread, begin_at, end_at, place_of, spread_counted, spread_long}
+use Rattle.rb_prepare.proofs.Walking.Laid.{BlockLies, Inside, Right, count_all, count_to, one_if}
+use Rattle.rb_prepare.proofs.Walking.Walked.{IsPlain}
+use Rattle.rb_prepare.proofs.Walking.ProcessWalks.{IsRow}
+use Rattle.rb_prepare.proofs.Walking.WholeWalk.{Place, Spread, begin_at, end_at, place_of, spread_counted, spread_long}
 use Rattle.rb_prepare.proofs.OwnTable.{place_at}
-use Rattle.rb_prepare.proofs.Numbers.{has_number, one_of_each}
-use Rattle.rb_prepare.proofs.Counting.{all_placed, counted_there, entry_is, mapped_from, number_at, text_named}
-use Rattle.rb_prepare.proofs.FoundNames.{MembersNamed, all_members_named}
-use Rattle.rb_prepare.proofs.NestingKept.{IsOrderly, all_orderly, no_conversation_faults}
-use Rattle.rb_prepare.proofs.PlacedUses.{IsChained, processes_chained}
-use Rattle.rb_prepare.proofs.Groups.{IsKnown, group_formed, none_at}
-use Rattle.rb_prepare.proofs.NamedCode.{code_is_named}
-use Rattle.rb_prepare.proofs.AcceptedCode.{IsCodeOf, as_many_channels, distinct, is_nested, limits, nothing, places, plain_spread, some_table, spread_by, weightless}
+use Rattle.rb_prepare.proofs.Forming.Numbers.{has_number, one_of_each}
+use Rattle.rb_prepare.proofs.Joining.Counting.{all_placed, counted_there, entry_is, mapped_from, number_at, text_named}
+use Rattle.rb_prepare.proofs.Forming.FoundNames.{MembersNamed, all_members_named}
+use Rattle.rb_prepare.proofs.Forming.NestingKept.{IsOrderly, all_orderly, no_conversation_faults}
+use Rattle.rb_prepare.proofs.Forming.PlacedUses.{IsChained, processes_chained}
+use Rattle.rb_prepare.proofs.Forming.Groups.{IsKnown, group_formed, none_at}
+use Rattle.rb_prepare.proofs.Forming.NamedCode.{code_is_named}
+use Rattle.rb_prepare.proofs.AcceptedCode.{IsCodeOf, as_many_channels, distinct, is_nested, limits, nothing, places, plain_spread, spread_by, weightless}
 
 not_so : (b : Bool) → not b ≡ true → b ≡ false
 not_so false e = refl
@@ -70,12 +69,6 @@ module _ (tree : Tree) (slots : List Slot) (c : Code) (code : IsCodeOf tree slot
   abbrev groups : List Membership
   groups = groups_of tree
 
-  abbrev table : Table
-  table = (some_table tree slots c code).0
-
-  abbrev has : HasTable c (groups_of tree) table
-  has = (some_table tree slots c code).1
-
   abbrev ends : List ℕ
   ends = places tree slots c code
 
@@ -85,23 +78,23 @@ module _ (tree : Tree) (slots : List Slot) (c : Code) (code : IsCodeOf tree slot
   abbrev no_weight : ℕ → Option Identifier → ℕ
   no_weight = weightless tree slots c code
 
-  spread : Spread c tree none_counted no_weight table 0 tree.processes c.processes ends 0 (length c.instrs)
-  spread = plain_spread tree slots c code table has
+  spread : Spread c tree none_counted no_weight 0 tree.processes c.processes ends 0 (length c.instrs)
+  spread = plain_spread tree slots c code
 
   pub many_processes : length c.processes ≡ length tree.processes
-  many_processes = spread_long c tree none_counted no_weight table 0 tree.processes c.processes ends 0 (length c.instrs) spread
+  many_processes = spread_long c tree none_counted no_weight 0 tree.processes c.processes ends 0 (length c.instrs) spread
 
   -- an address of the code
   record Here (x : ℕ) : Type 0 where
     number : ℕ
     process : ProcessDeclaration
-    place : Place c tree none_counted no_weight table c.processes ends 0 number number process 0 (length c.instrs)
+    place : Place c tree none_counted no_weight c.processes ends 0 number number process 0 (length c.instrs)
     some : begin_at 0 ends number < end_at 0 ends number
     row : IsRow c tree number none_counted (begin_at 0 ends number) (end_at 0 ends number) x
 
   here : (x : ℕ) → x < length c.instrs → Here x
   here x below =
-      let found = place_at c tree none_counted no_weight table ends spread x below in
+      let found = place_at c tree none_counted no_weight ends spread x below in
       let low = found.3 in let high = found.4 in record {
         number = found.0;
         process = found.1;
@@ -112,10 +105,10 @@ module _ (tree : Tree) (slots : List Slot) (c : Code) (code : IsCodeOf tree slot
 
   -- at an address where an instruction is
   right_at : (x : ℕ) (instr : Instr) → slice_get c.instrs x ≡ Some instr → (h : Here x)
-      × Right c tree h.number (begin_at 0 ends h.number) (end_at 0 ends h.number - 1) instr
+      × Right c tree h.number (begin_at 0 ends h.number) (end_at 0 ends h.number - 1) x instr
   right_at x instr at =
       let h = here x (slice_get_within c.instrs x instr at) in
-      (h, subst (Right c tree h.number (begin_at 0 ends h.number) (end_at 0 ends h.number - 1)) (some_same (sym h.row.1 ∙ at)) h.row.2)
+      (h, subst (Right c tree h.number (begin_at 0 ends h.number) (end_at 0 ends h.number - 1) x) (some_same (sym h.row.1 ∙ at)) h.row.2)
 
   module _ (x : ℕ) (h : Here x) where
     abbrev low : ℕ
@@ -127,7 +120,7 @@ module _ (tree : Tree) (slots : List Slot) (c : Code) (code : IsCodeOf tree slot
     below : (a : ℕ) → Inside low (high - 1) a → a < length c.instrs
     below a (up, to) = let high' = h.place.high in let some = h.some in omega arith
 
-    names_of : (instr : Instr) → Right c tree h.number low (high - 1) instr → Names c instr
+    names_of : (instr : Instr) → Right c tree h.number low (high - 1) x instr → Names c instr
     names_of (Jump a) right = below a right
     names_of (JumpZero a) right = below a right
     names_of (Text k) right = slice_get_within c.texts k right.0 right.1
@@ -143,7 +136,8 @@ module _ (tree : Tree) (slots : List Slot) (c : Code) (code : IsCodeOf tree slot
     names_of (Start b) right = slice_get_within c.blocks b right.0 right.1
     names_of (Test b) right = slice_get_within c.blocks b right.0 right.1
     names_of (Range k a) right = (right.0, below a right.1)
-    names_of (Again k a) right = (right.0, below a right.1)
+    names_of (Again k a) right = (right.0, below a (let up = right.1.0 in omega arith, right.1.1))
+    names_of (Counter k) right = right
     names_of other right = tt
 
   -- how many instructions of a block there are
@@ -151,9 +145,9 @@ module _ (tree : Tree) (slots : List Slot) (c : Code) (code : IsCodeOf tree slot
       → ((number : ℕ) → one_if (f (Enter number)) + (one_if (f (Start number)) + one_if (f (Test number))) ≡ one_if (nat_eq number b))
       → count_to f (length c.instrs) c.instrs ≡ 1
   counted b f below plain weighs =
-      let known = spread_by tree slots c code f (has_number b) table has.each plain (λ number conversation block at is. weighs number) in
+      let known = spread_by tree slots c code f (has_number b) plain (λ number conversation block at is. weighs number) in
       let many = code.stands.one_block_each in
-      spread_counted c tree f (has_number b) table 0 tree.processes c.processes ends 0 (length c.instrs) known
+      spread_counted c tree f (has_number b) 0 tree.processes c.processes ends 0 (length c.instrs) known
       ∙ omega (arith, one_of_each b tree code.numbered (omega arith))
 
   entries_counted : (b : ℕ) → b < length c.blocks → count_to (is_entry b) (length c.instrs) c.instrs ≡ 1
@@ -209,7 +203,7 @@ module _ (tree : Tree) (slots : List Slot) (c : Code) (code : IsCodeOf tree slot
       let within = slice_get_within c.processes p part at in
       let many = many_processes in
       let process = slice_get-there tree.processes p (omega arith) in
-      let place = place_of c tree none_counted no_weight table 0 tree.processes c.processes ends 0
+      let place = place_of c tree none_counted no_weight 0 tree.processes c.processes ends 0
       (length c.instrs) spread p p process.0 (omega arith) process.1 in
       let same : place.part ≡ part = some_same (sym place.listed ∙ at) in
       let rows = place.rows in let up = rows.upward in let below' = rows.below in let high' = place.high in
@@ -230,13 +224,13 @@ module _ (tree : Tree) (slots : List Slot) (c : Code) (code : IsCodeOf tree slot
       let there = ap (λ cs. slice_get cs k) (sym code.stands.channels_are) ∙ at in
       let from = mapped_from (ends_of tree) tree.channels k ends there in
       let known = all_there (ChannelInFrames tree slots) tree.channels k from.0 code.resolved.channels from.1 in
-      let size = all_there (λ (one : ChannelDeclaration). IsFrom1To most_channel_size one.size) tree.channels k from.0
+      let size = all_there (λ (one : ChannelDeclaration). IsFrom1To MOST_CHANNEL_SIZE one.size) tree.channels k from.0
       (limits tree slots c code).channel_sizes from.1 in
       let twelfth = holds_at keeps_n12 (channels_of tree) k ends (is_nested tree slots c code).n12 there in
       let sender = known.sender.there in let receiver = known.receiver.there in let many = many_processes in
       let known_ends =
       subst (λ (e : ChannelEnds). (e.sender < length c.processes) × (e.receiver < length c.processes) × (1 ≤ e.size)
-      × (e.size ≤ most_channel_size)) from.2
+      × (e.size ≤ MOST_CHANNEL_SIZE)) from.2
       (omega arith, omega arith, size.some, size.few) in record {
         sender = known_ends.0;
         receiver = known_ends.1;
@@ -258,7 +252,7 @@ module _ (tree : Tree) (slots : List Slot) (c : Code) (code : IsCodeOf tree slot
       (processes_chained tree 0 tree.processes (is_nested tree slots c code).n4)
 
   conversation_formed : (d : ℕ) (conversation : ConversationDeclaration) → slice_get tree.conversations d ≡ Some conversation
-      → IsGroup c groups (membership_of tree conversation) × IsChain groups most_nested (Some d)
+      → IsGroup c groups (membership_of tree conversation) × IsChain groups MOST_NESTED (Some d)
   conversation_formed d conversation at =
       group_formed tree (distinct tree slots c code) c d conversation many_processes at
       (all_at (MembersNamed tree) tree.conversations d conversation (all_members_named tree code.scoped) at)
@@ -290,6 +284,4 @@ module _ (tree : Tree) (slots : List Slot) (c : Code) (code : IsCodeOf tree slot
     chains = λ d below.
         let there = slice_get-there tree.conversations d (omega (arith, below, length-map tree.conversations (membership_of tree))) in
         (conversation_formed d there.0 there.1).1;
-    alternates =
-        λ b other d one another at there is are. some_same (sym (alternates_known b d one at is) ∙ alternates_known other d another there are);
   }

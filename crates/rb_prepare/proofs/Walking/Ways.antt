@@ -1,23 +1,22 @@
 -- Where each instruction of sound code leads, by its rule; and that a table from which entries are left out is sound if the ways keep theirs.
-use Rattle.std.proofs.Common.{◌≡◌, ℕ, ◌+◌, List, [], ◌∷◌, slice_get, Option, Some, None, refl, subst}
+use Rattle.std.proofs.Common.{◌≡◌, inl, inr, ℕ, ◌+◌, Bool, true, false, cond, List, [], ◌∷◌, filter, slice_get, Option, Some, None, refl, ap, sym, ◌∙◌, subst, true≢false}
 use Rattle.rb_world.specs.Kind.{Membership}
-use Rattle.rb_code.specs.Plain.{Code}
-use Rattle.rb_code.specs.Sound.{BeginsAs, Each, Entry, Fine, Has, InnermostIs, LeadsTo, OpenBlock, Table, Takes2, TopIs, Within, alternates_at, at_address, with_operands}
+use Rattle.rb_code.specs.Instructions.Plain.{Code}
+use Rattle.rb_code.specs.SoundCode.Reached.{successors}
+use Rattle.rb_code.specs.SoundCode.Sound.{BeginsAs, Each, EndIs, Entry, Fine, Has, InnermostIs, IsMember, LeadsTo, Loop, OpenBlock, Table, Takes2, TopIs, Within, alternates_at, at_address, end_of_loop, is_in, with_operands}
+use Rattle.rb_code.specs.SoundCode.WellFormed.{IsOpen}
 use Rattle.rb_code.specs.declared.instr.Spot.{Spot}
 use Rattle.rb_code.specs.declared.instr.Instr.{Instr}
 use Rattle.rb_code.specs.declared.instr.Instr.TheVariants.{Turn, Push, Load, Prior, Bound, LoadAt, PriorAt, Store, StoreAt, Add, Sub, Mul, Div, Rem, Eq, Ne, Lt, Le, Gt, Ge, Neg, Not, Bool as ToBool, Jump, JumpZero, Frame, Drop, Text, Item, Print, Room, Put, There, Take, Call, Return, Fail, Enter, Start, Test, Done, Range, Again, Counter, Absent}
 
--- the addresses to which an instruction may lead within its body
+-- the addresses to which an instruction may lead within its body: all but the procedure that it calls
 abbrev pub ways : Code → Instr → ℕ → List ℕ
-ways c (Jump b) a = b ∷ []
-ways c (JumpZero b) a = b ∷ (a + 1) ∷ []
-ways c (Absent channel b) a = b ∷ (a + 1) ∷ []
-ways c (Range k b) a = b ∷ (a + 1) ∷ []
-ways c (Again k b) a = b ∷ (a + 1) ∷ []
-ways c (Start b) a = alternates_at (slice_get c.blocks b)
-ways c Return a = []
-ways c Done a = []
-ways c other a = (a + 1) ∷ []
+ways c (Call b p n) a = (a + 1) ∷ []
+ways c instr a = successors c instr a
+
+pub way_is_successor : (c : Code) (instr : Instr) (a x : ℕ) → IsMember x (ways c instr a) → IsMember x (successors c instr a)
+way_is_successor c (Call b p n) a x member = inr member
+way_is_successor c instr a x member = member
 
 abbrev Operand : Type 0
 Operand = Option ℕ
@@ -37,6 +36,14 @@ inner_more : (bs : List OpenBlock) (P Q : OpenBlock → List OpenBlock → Type 
 inner_more [] P Q h f = absurd f
 inner_more (b ∷ bs) P Q h f = h b bs f
 
+of_end : (X : Type 0) (end : Option ℕ) (P : ℕ → Type 0) → ((last : ℕ) → P last → X) → EndIs end P → X
+of_end X None P h f = absurd f
+of_end X (Some last) P h f = h last f
+
+end_more : (end : Option ℕ) (P Q : ℕ → Type 0) → ((last : ℕ) → P last → Q last) → EndIs end P → EndIs end Q
+end_more None P Q h f = absurd f
+end_more (Some last) P Q h f = h last f
+
 of_inner : (X : Type 0) (bs : List OpenBlock) (P : OpenBlock → List OpenBlock → Type 0) → ((b : OpenBlock) (around : List OpenBlock) → P b around → X)
     → InnermostIs bs P → X
 of_inner X [] P h f = absurd f
@@ -51,21 +58,54 @@ abbrev in_loop : ℕ → Entry → ℕ → ℕ → List Operand → Entry
 in_loop a e k last operands =
     record (with_operands operands e) { loops = record { counter = k; first = a + 1; last = last } ∷ e.loops }
 
+-- a loop that lies around an address stays open there
+stays_open : (x : ℕ) (loop : Loop) (loops : List Loop) → is_in x loop ≡ true → IsOpen loop loops → IsOpen loop (filter (is_in x) loops)
+stays_open x loop [] around is_open = absurd is_open
+stays_open x loop (inner ∷ loops) around is_open = by (is_in x inner) refl is_open (stays_open x loop loops around)
+  where
+    by : (b : Bool) → is_in x inner ≡ b → IsOpen loop (inner ∷ loops) → (IsOpen loop loops → IsOpen loop (filter (is_in x) loops))
+        → IsOpen loop (cond b (inner ∷ filter (is_in x) loops) (filter (is_in x) loops))
+    by true e (inl is) later = inl is
+    by true e (inr behind) later = inr (later behind)
+    by false e (inl is) later = absurd (true≢false (sym around ∙ ap (is_in x) (sym is) ∙ e))
+    by false e (inr behind) later = later behind
+
 module _ (c : Code) (groups : List Membership) (t : Table) where
   -- the table has an entry of this body there
   abbrev pub IsIn : Within → ℕ → Type 0
   IsIn within x = (g : Entry) × (t x ≡ Some g) × (g.within ≡ within)
 
-  led : (x : ℕ) (e : Entry) → LeadsTo c groups t x e → IsIn e.within x
+  -- the table has an entry of this body there, in which those of these loops are open that lie around the address
+  pub record Follows (within : Within) (loops : List Loop) (x : ℕ) : Type 0 where
+    pub entry : Entry
+    pub there : t x ≡ Some entry
+    pub within_is : entry.within ≡ within
+    pub stay : (loop : Loop) → is_in x loop ≡ true → IsOpen loop loops → IsOpen loop entry.loops
+
+  led : (x : ℕ) (e : Entry) → LeadsTo c groups t x e → Follows e.within e.loops x
   led x e h = by (t x) refl h
     where
-      by : (o : Option Entry) → t x ≡ o → Has o (at_address x e) → IsIn e.within x
+      by : (o : Option Entry) → t x ≡ o → Has o (at_address x e) → Follows e.within e.loops x
       by None at has = absurd has
-      by (Some g) at has = (g, at, has.within)
+      by (Some g) at has = record {
+        entry = g;
+        there = at;
+        within_is = has.within;
+        stay = λ loop around is_open. subst (IsOpen loop) (sym has.loops) (stays_open x loop e.loops around is_open);
+      }
+
+  -- with one loop less
+  without_inner : (within : Within) (loop : Loop) (loops : List Loop) (x : ℕ) → Follows within (loop ∷ loops) x → Follows within loops x
+  without_inner within inner loops x f = record {
+    entry = f.entry;
+    there = f.there;
+    within_is = f.within_is;
+    stay = λ loop around is_open. f.stay loop around (inr is_open);
+  }
 
   module _ (a : ℕ) (e : Entry) where
     abbrev Goes : ℕ → Type 0
-    Goes x = IsIn e.within x
+    Goes x = Follows e.within e.loops x
 
     -- behind one operand, and behind two
     one_top : (P : Operand → List Operand → Type 0) → ((o : Operand) (os : List Operand) → P o os → Goes (a + 1)) → TopIs e.operands P → Goes (a + 1)
@@ -76,13 +116,28 @@ module _ (c : Code) (groups : List Membership) (t : Table) where
         of_top (Goes (a + 1)) e.operands (λ o os. TopIs os (λ p ps. LeadsTo c groups t (a + 1) (with_operands (None ∷ ps) e)))
         (λ o os q. of_top (Goes (a + 1)) os (λ p ps. LeadsTo c groups t (a + 1) (with_operands (None ∷ ps) e)) (λ p ps r. led (a + 1) _ r) q) f
 
+    -- behind a `range` its loop is open
+    pub range_opens : (k b last : ℕ) → end_of_loop c k (a + 1) ≡ Some last → Fine c groups t (Range k b) a e
+        → Follows e.within (record { counter = k; first = a + 1; last = last } ∷ e.loops) (a + 1)
+    range_opens k b last end f =
+        let Opened : Type 0 = Follows e.within (record { counter = k; first = a + 1; last = last } ∷ e.loops) (a + 1) in
+        of_top Opened e.operands _
+        (λ o os q. of_top Opened os _
+        (λ p ps r. led (a + 1) (in_loop a e k last ps)
+        (subst (λ i. EndIs i (λ x. LeadsTo c groups t (a + 1) (in_loop a e k x ps))) end r.2)) q) f.3
+
     branch : (b : ℕ) → Fine c groups t (JumpZero b) a e → Each (b ∷ (a + 1) ∷ []) Goes
     branch b f = of_top (Each (b ∷ (a + 1) ∷ []) Goes) e.operands _ (λ o os q. (led b _ q.1, (led (a + 1) _ q.2, tt))) f
+
+    inside : (k last : ℕ) (ps : List Operand) → LeadsTo c groups t (a + 1) (in_loop a e k last ps) → Goes (a + 1)
+    inside k last ps h =
+        without_inner e.within record { counter = k; first = a + 1; last = last } e.loops (a + 1) (led (a + 1) (in_loop a e k last ps) h)
 
     begins : (k b : ℕ) → Fine c groups t (Range k b) a e → Each (b ∷ (a + 1) ∷ []) Goes
     begins k b f =
         of_top (Each (b ∷ (a + 1) ∷ []) Goes) e.operands _
-        (λ o os q. of_top (Each (b ∷ (a + 1) ∷ []) Goes) os _ (λ p ps r. (led b _ r.1, (led (a + 1) (in_loop a e k r.2.0 ps) r.2.3, tt))) q) f.3
+        (λ o os q. of_top (Each (b ∷ (a + 1) ∷ []) Goes) os _
+        (λ p ps r. (led b _ r.1, (of_end (Goes (a + 1)) (end_of_loop c k (a + 1)) _ (λ last h. inside k last ps h) r.2, tt))) q) f.3
 
     stored : (v : Spot) → Fine c groups t (StoreAt v) a e → Goes (a + 1)
     stored v f =
@@ -131,7 +186,7 @@ module _ (c : Code) (groups : List Membership) (t : Table) where
     ways_known Return f = tt
     ways_known Fail f = (led (a + 1) _ f.1, tt)
     ways_known (Enter b) f = (led (a + 1) _ f.5, tt)
-    ways_known (Start b) f = each_more (alternates_at (slice_get c.blocks b)) _ _ Goes (λ x p q. led x _ p.1) f.3 f.3
+    ways_known (Start b) f = each_more (alternates_at (slice_get c.blocks b)) _ _ Goes (λ x p q. led x _ p) f.3 f.3
     ways_known (Test b) f = (accepts b f, tt)
     ways_known Done f = tt
     ways_known (Range k b) f = begins k b f
@@ -155,7 +210,7 @@ module _ (c : Code) (groups : List Membership) (t : Table) where
 
       -- An instruction keeps its rule in a table that has the same entries where it leads, and where it calls.
       pub fine_same : (instr : Instr) → Each (ways c instr a) Same
-          → ((b p n : ℕ) → instr ≡ Call b p n → BeginsAs (t b) e.within.process (p + n) → BeginsAs (u b) e.within.process (p + n))
+          → ((b p n : ℕ) → instr ≡ Call b p n → BeginsAs (t b) e.within.process b (p + n) → BeginsAs (u b) e.within.process b (p + n))
           → Fine c groups t instr a e → Fine c groups u instr a e
       fine_same Turn s calls f = (f.0, f.1, f.2, moved (a + 1) _ s.0 f.3)
       fine_same (Push n) s calls f = (f.0, moved (a + 1) _ s.0 f.1)
@@ -195,7 +250,7 @@ module _ (c : Code) (groups : List Membership) (t : Table) where
       fine_same Return s calls f = f
       fine_same Fail s calls f = (f.0, moved (a + 1) _ s.0 f.1)
       fine_same (Enter b) s calls f = (f.0, f.1, f.2, f.3, f.4, moved (a + 1) _ s.0 f.5)
-      fine_same (Start b) s calls f = (f.0, f.1, f.2, each_more (alternates_at (slice_get c.blocks b)) _ _ _ (λ x p q. (p.0, moved x _ q p.1)) f.3 s)
+      fine_same (Start b) s calls f = (f.0, f.1, f.2, each_more (alternates_at (slice_get c.blocks b)) _ _ _ (λ x p q. moved x _ q p) f.3 s)
       fine_same (Test b) s calls f = (
         f.0,
         f.1,
@@ -210,7 +265,11 @@ module _ (c : Code) (groups : List Membership) (t : Table) where
         f.2,
         top_more e.operands _ _
             (λ o os q. top_more os _ _
-            (λ p ps r. (r.0, moved b _ s.0 r.1, (r.2.0, r.2.1, r.2.2, moved (a + 1) (in_loop a e k r.2.0 ps) s.1.0 r.2.3))) q) f.3,
+            (λ p ps r. (
+              r.0,
+              moved b _ s.0 r.1,
+              end_more (end_of_loop c k (a + 1)) _ _ (λ last h. moved (a + 1) (in_loop a e k last ps) s.1.0 h) r.2,
+            )) q) f.3,
       )
       fine_same (Again k b) s calls f = (f.0, f.1, moved b _ s.0 f.2, moved (a + 1) _ s.1.0 f.3)
       fine_same (Counter k) s calls f = (f.0, (f.1.0, moved (a + 1) _ s.0 f.1.1))

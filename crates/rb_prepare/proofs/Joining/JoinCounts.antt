@@ -7,8 +7,8 @@ use Rattle.rb_syntax.specs.Tree.{Identifier, Command, Assignment, Printing, Send
 use Rattle.rb_meaning.specs.Groups.{conversation_number, count_alternates}
 use Rattle.rb_meaning.specs.Nesting.{Deed, Joins, Sends, Receives, Spot, Use, inside, joined, outside, uses_in, uses_in_alternates, uses_in_block, uses_in_body, uses_in_command, uses_in_otherwise, uses_in_procedures}
 use Rattle.rb_meaning.specs.Step.{commands_of}
-use Rattle.rb_prepare.proofs.Laid.{one_if}
-use Rattle.rb_prepare.proofs.Weights.{Weight, weight_in, weight_in_alternates, weight_in_body, weight_in_command, weight_in_otherwise, weight_in_procedures, weight_in_recovery}
+use Rattle.rb_prepare.proofs.Walking.Laid.{one_if}
+use Rattle.rb_prepare.proofs.Joining.Weights.{Weight, weight_in, weight_in_alternates, weight_in_body, weight_in_command, weight_in_otherwise, weight_in_procedures, weight_in_recovery}
 
 -- a test of those who join alone
 abbrev pub if_join : Deed → Bool → Bool

@@ -2,6 +2,7 @@
 use Rattle.std.proofs.Common.{◌≤◌, ◌<◌, max, List, [], ◌∷◌, length, arith}
 use Rattle.std.specs.List.{AllByRecursion, flat_map}
 use Rattle.std.proofs.lemmas.List.Elements.{All-from_recursion, recursion_from_All}
+use Rattle.rb_base.specs.declared.limits.TheConstants.{MOST_OPERANDS}
 use Rattle.rb_base.specs.declared.edition.Edition.{Edition}
 use Rattle.rb_syntax.specs.Tree.{Identifier, Expression, Reference, Refer, Scalar, Element, Printed, Words, Amount, PrintItem, Command, Assignment, Printing, Sending, Receiving, Conditional, Loop, Invocation, Failure, Recovering, Commands, NoCommand, Then, Body, Scope, Otherwise, NoElse, Else, RecoveryBlock, Recovers, Alternates, NoAlternate, Alternate, ProcedureDeclaration, ProcessDeclaration}
 use Rattle.rb_grammar.specs.Depth.{deepest}
@@ -13,13 +14,12 @@ use Rattle.rb_scope.specs.declared.slot.Slot.TheVariants.{Local}
 use Rattle.rb_scope.proofs.EachSite.{AreKept, IsKept, all_kept, all_split}
 use Rattle.rb_scope.proofs.PartsOfTrees.{process_parts, procedure_parts, tree_parts, within_procedure, within_process}
 use Rattle.rb_scope.proofs.WithinLimits.{within_limits}
-use Rattle.rb_code.specs.Operands.{HasRoom}
-use Rattle.rb_code.specs.Sound.{most_operands}
-use Rattle.rb_code.specs.RoomInTree.{AlternatesHaveRoom, BodyHasRoom, CommandHasRoom, CommandsHaveRoom, FewOperands, OtherwiseHasRoom, PrintedHasRoom, ProcessHasRoom, RecoveryHasRoom, StoreHasRoom}
+use Rattle.rb_code.specs.Agreement.Operands.{HasRoom}
+use Rattle.rb_code.specs.Agreement.RoomInTree.{AlternatesHaveRoom, BodyHasRoom, CommandHasRoom, CommandsHaveRoom, FewOperands, OtherwiseHasRoom, PrintedHasRoom, ProcessHasRoom, RecoveryHasRoom, StoreHasRoom}
 use Rattle.rb_judge.specs.Laws.{OfEveryAccepted}
-use Rattle.rb_prepare.proofs.FewArguments.{ScopesTakeFew, few_arguments, procedure_few, process_few, program_few, variables_few}
-use Rattle.rb_prepare.proofs.InBrackets.{alternates_operands, body_operands, command_operands, commands_operands, item_operands, most_needed, otherwise_operands, printed_operands, procedure_operands, process_operands, recovery_operands, tree_needs_few}
-use Rattle.rb_prepare.proofs.Pushed.{operands, reference_operands, arguments_have_room, has_room, neither_above}
+use Rattle.rb_prepare.proofs.Operands.FewArguments.{ScopesTakeFew, few_arguments, procedure_few, process_few, program_few, variables_few}
+use Rattle.rb_prepare.proofs.Operands.InBrackets.{alternates_operands, body_operands, command_operands, commands_operands, item_operands, most_needed, otherwise_operands, printed_operands, procedure_operands, process_operands, recovery_operands, tree_needs_few}
+use Rattle.rb_prepare.proofs.Operands.Pushed.{operands, reference_operands, arguments_have_room, has_room, neither_above}
 
 -- an expression that needs few stands on nothing, or on an index
 alone : (e : Expression) → operands e ≤ most_needed → HasRoom 0 e
@@ -33,7 +33,7 @@ store_fits : (to : Reference) (value : Expression) → reference_operands to ≤
 store_fits (Refer name Scalar) value there few = alone value few
 store_fits (Refer name (Element index)) value there few = (alone index there, on_index value few)
 
-receipt_fits : (to : Reference) → reference_operands to ≤ most_needed → StoreHasRoom to (λ n. n < most_operands)
+receipt_fits : (to : Reference) → reference_operands to ≤ most_needed → StoreHasRoom to (λ n. n < MOST_OPERANDS)
 receipt_fits (Refer name Scalar) there = omega arith
 receipt_fits (Refer name (Element index)) there = (alone index there, omega arith)
 

@@ -5,26 +5,26 @@ use Rattle.std.proofs.lemmas.List.Elements.{All-head, All-tail}
 use Rattle.std.specs.List.{All}
 use Rattle.rb_syntax.specs.Tree.{Identifier, ProcedureDeclaration, ProcessDeclaration, Tree}
 use Rattle.rb_world.proofs.ListFacts.{none_some, some_same}
-use Rattle.rb_meaning.specs.Groups.{conversation_of, groups_of, procedures_of}
+use Rattle.rb_meaning.specs.Groups.{conversation_of, procedures_of}
 use Rattle.rb_meaning.specs.Nesting.{outside, uses_in, uses_in_procedures, uses_in_processes}
 use Rattle.rb_scope.specs.InFrames.{Resolved}
 use Rattle.rb_scope.specs.Limits.{ProcessWithin}
 use Rattle.rb_scope.specs.Spelled.{ProcessSpelled}
 use Rattle.rb_scope.specs.declared.slot.Slot.{Slot}
-use Rattle.rb_code.specs.Plain.{Block, Code, Part}
-use Rattle.rb_code.specs.Memory.{no_part, part_of}
-use Rattle.rb_code.specs.Sound.{Entry, IsProcedureAt, IsSoundAt, Table}
-use Rattle.rb_code.specs.Forms.{procedure_start}
-use Rattle.rb_code.specs.StandsFor.{ProcessesCode}
+use Rattle.rb_code.specs.Instructions.Plain.{Block, Code, Part}
+use Rattle.rb_code.specs.WordMachine.Workspace.{no_part, part_of}
+use Rattle.rb_code.specs.SoundCode.Sound.{IsProcedureAt}
+use Rattle.rb_code.specs.Agreement.Forms.{procedure_start}
+use Rattle.rb_code.specs.Agreement.StandsFor.{ProcessesCode}
 use Rattle.rb_code.specs.declared.instr.Instr.{Instr}
 use Rattle.rb_code.specs.declared.instr.Instr.TheVariants.{Enter, Start, Test}
-use Rattle.rb_code.proofs.ProcessTables.{owner_by}
+use Rattle.rb_code.proofs.Tables.ProcessTables.{owner_by}
 use Rattle.rb_judge.specs.HasAlternates.{ProcessHasAlternates}
-use Rattle.rb_prepare.proofs.Laid.{count_to, one_if}
-use Rattle.rb_prepare.proofs.Walked.{IsPlain}
-use Rattle.rb_prepare.proofs.StatementWalks.{AsMany, many_first, many_second}
-use Rattle.rb_prepare.proofs.ProcessWalks.{ProcessRows, procedures_forward, process_rows, start_in}
-use Rattle.rb_prepare.proofs.Weights.{Weight, weight_in_processes}
+use Rattle.rb_prepare.proofs.Walking.Laid.{count_to, one_if}
+use Rattle.rb_prepare.proofs.Walking.Walked.{IsPlain}
+use Rattle.rb_prepare.proofs.Walking.StatementWalks.{AsMany, many_first, many_second}
+use Rattle.rb_prepare.proofs.Walking.ProcessWalks.{ProcessRows, procedures_forward, process_rows, start_in}
+use Rattle.rb_prepare.proofs.Joining.Weights.{Weight, weight_in_processes}
 
 -- where each process ends
 pub ends_of : (c : Code) (tree : Tree) (slots : List Slot) (p : ℕ) (processes : List ProcessDeclaration) (parts : List Part) (a b : ℕ)
@@ -48,13 +48,13 @@ end_at a [] i = a
 end_at a (m ∷ ends) zero = m
 end_at a (m ∷ ends) (suc i) = end_at m ends i
 
-module _ (c : Code) (tree : Tree) (f : Instr → Bool) (w : Weight) (table : Table) where
+module _ (c : Code) (tree : Tree) (f : Instr → Bool) (w : Weight) where
   -- the processes from number p on, one after another
   abbrev pub Spread : ℕ → List ProcessDeclaration → List Part → List ℕ → ℕ → ℕ → Type 0
   Spread p [] parts ends a b = (parts ≡ []) × (b ≡ a)
   Spread p (process ∷ others) parts [] a b = ⊥
   Spread p (process ∷ others) parts (m ∷ ends) a b =
-      (part : Part) × (more : List Part) × (parts ≡ part ∷ more) × ProcessRows c tree f w table p process part a m
+      (part : Part) × (more : List Part) × (parts ≡ part ∷ more) × ProcessRows c tree f w p process part a m
       × Spread (p + 1) others more ends m b
 
   pub spread_up : (p : ℕ) (processes : List ProcessDeclaration) (parts : List Part) (ends : List ℕ) (a b : ℕ)
@@ -84,7 +84,7 @@ module _ (c : Code) (tree : Tree) (f : Instr → Bool) (w : Weight) (table : Tab
     pub listed : slice_get parts i ≡ Some part
     pub low : a ≤ begin_at a ends i
     pub high : end_at a ends i ≤ b
-    pub rows : ProcessRows c tree f w table n process part (begin_at a ends i) (end_at a ends i)
+    pub rows : ProcessRows c tree f w n process part (begin_at a ends i) (end_at a ends i)
     pub owned : (x : ℕ) → begin_at a ends i ≤ x → x < end_at a ends i → owner p ends x ≡ n
 
   owned_later : (p m n x : ℕ) (ends : List ℕ) → m ≤ x → owner (p + 1) ends x ≡ n → owner p (m ∷ ends) x ≡ n
@@ -185,8 +185,7 @@ whole_entrances c tree slots code p number procedure there = by (slice_get tree.
     by (Some process) at there =
         entrances_of c tree slots 0 tree.processes c.processes 0 (length c.instrs) code p number process procedure at there
 
-module _ (c : Code) (tree : Tree) (slots : List Slot) (f : Instr → Bool) (w : Weight) (table : Table)
-    (sound : (x : ℕ) (e : Entry) → table x ≡ Some e → IsSoundAt c (groups_of tree) table x e)
+module _ (c : Code) (tree : Tree) (slots : List Slot) (f : Instr → Bool) (w : Weight)
     (plain : (instr : Instr) → IsPlain instr → f instr ≡ false)
     (channels : length c.channels ≡ length tree.channels)
     (weighs : (number : ℕ) (conversation : Option Identifier) (block : Block) → slice_get c.blocks number ≡ Some block
@@ -196,9 +195,9 @@ module _ (c : Code) (tree : Tree) (slots : List Slot) (f : Instr → Bool) (w : 
     → IsProcedureAt (part_of c p).procedures (procedure_start c p number)) where
   pub spread : (p : ℕ) (processes : List ProcessDeclaration) (parts : List Part) (a b : ℕ)
       → ((i n : ℕ) → n ≡ p + i → slice_get tree.processes n ≡ slice_get processes i)
-      → Resolved tree slots → All (ProcessWithin tree.edition) processes → All ProcessSpelled processes → All ProcessHasAlternates processes
+      → Resolved tree slots → All (ProcessWithin tree.edition) processes → All (ProcessSpelled tree.edition) processes → All ProcessHasAlternates processes
       → AsMany tree (uses_in_processes p processes) → (code : ProcessesCode tree slots p processes parts c a b)
-      → Spread c tree f w table p processes parts (ends_of c tree slots p processes parts a b code) a b
+      → Spread c tree f w p processes parts (ends_of c tree slots p processes parts a b code) a b
   unfolding ends_of
   spread p [] parts a b texts resolved limits spelled some many code = code
   spread p (process ∷ others) parts a b texts resolved limits spelled some many (part, more, is, (m, code, rest)) =
@@ -210,11 +209,11 @@ module _ (c : Code) (tree : Tree) (slots : List Slot) (f : Instr → Bool) (w : 
         part,
         more,
         is,
-        process_rows c tree slots p process f w table sound plain channels weighs (entrances p) part a m (resolved.processes p process there)
-            (All-head (ProcessWithin tree.edition) process others limits) (All-head ProcessSpelled process others spelled)
+        process_rows c tree slots p process f w plain channels weighs (entrances p) part a m (resolved.processes p process there)
+            (All-head (ProcessWithin tree.edition) process others limits) (All-head (ProcessSpelled tree.edition) process others spelled)
             (All-head ProcessHasAlternates process others some) (many_first tree procedures (main ++ later) many)
             (many_first tree main later behind) code,
         spread (p + 1) others more m b (λ i n e. texts (suc i) n (omega arith)) resolved (All-tail (ProcessWithin tree.edition) process others limits)
-            (All-tail ProcessSpelled process others spelled) (All-tail ProcessHasAlternates process others some)
+            (All-tail (ProcessSpelled tree.edition) process others spelled) (All-tail ProcessHasAlternates process others some)
             (many_second tree main later behind) rest,
       )

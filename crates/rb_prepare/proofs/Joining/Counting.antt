@@ -4,11 +4,11 @@ use Rattle.std.proofs.lemmas.Bool.{eqb-true}
 use Rattle.std.proofs.lemmas.List.Elements.{All-from_recursion}
 use Rattle.std.specs.List.{All, AllByRecursion}
 use Rattle.rb_world.proofs.ListFacts.{none_some, some_same}
-use Rattle.rb_code.specs.StandsFor.{numbers_from, text_numbers}
-use Rattle.rb_code.specs.WellFormed.{is_entry}
+use Rattle.rb_code.specs.Agreement.StandsFor.{numbers_from, text_numbers}
+use Rattle.rb_code.specs.SoundCode.WellFormed.{is_entry}
 use Rattle.rb_code.specs.declared.instr.Instr.{Instr}
 use Rattle.rb_code.specs.declared.instr.Instr.TheVariants.{Enter, Text}
-use Rattle.rb_prepare.proofs.Laid.{count_one, count_to, one_if}
+use Rattle.rb_prepare.proofs.Walking.Laid.{count_one, count_to, one_if}
 
 -- what holds at each place of a list holds of all
 each_placed : {A : Type 0} (P : A → Type 0) (xs : List A) → ((k : ℕ) (x : A) → slice_get xs k ≡ Some x → P x) → AllByRecursion P xs

@@ -11,7 +11,7 @@ use Rattle.rb_meaning.specs.Groups.{conversation_number, conversation_of, count_
 use Rattle.rb_meaning.specs.Nesting.{Deed, Joins, Sends, Receives, Spot, Use, innermost, inside, is_same_conversation, keeps_n4, outside, uses_in, uses_in_alternates, uses_in_block, uses_in_body, uses_in_command, uses_in_otherwise, uses_in_procedures, uses_in_processes}
 use Rattle.rb_scope.proofs.EachSite.{all_append, all_weaker}
 use Rattle.rb_nest.specs.Rules.{conversations_around}
-use Rattle.rb_code.specs.WellFormed.{IsChain}
+use Rattle.rb_code.specs.SoundCode.WellFormed.{IsChain}
 
 -- two conversations that are the same
 pub same_conversation : (o p : Option ℕ) → is_same_conversation o p ≡ true → o ≡ p
