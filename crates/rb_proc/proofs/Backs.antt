@@ -9,8 +9,8 @@ use Rattle.rb_world.specs.World.{Level}
 use Rattle.rb_cell.specs.Store.{Store}
 use Rattle.rb_cache.specs.Copies.{Fits, Level as Touched, Limits, RecoveryCache, accepted, change_last, copies, entered, joined, last_or, open_levels}
 use Rattle.rb_hold.specs.Held.{IsLengthOf, TwoLists, held_bytes}
-use Rattle.rb_code.specs.Memory.{cut_held, held_place, word_at}
-use Rattle.rb_code.specs.Turn.{Copy}
+use Rattle.rb_code.specs.WordMachine.Workspace.{cut_held, held_place, word_at}
+use Rattle.rb_code.specs.WordMachine.Turn.{Copy}
 use Rattle.rb_proc.specs.Contents.{Contents, IsMarkOf, PutBack, back_at}
 use Rattle.rb_proc.specs.declared.recoverable.LevelMark.{LevelMark}
 use Rattle.rb_proc.specs.declared.recoverable.OpenCall.{OpenCall as Held}

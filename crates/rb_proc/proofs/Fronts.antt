@@ -6,7 +6,7 @@ use Rattle.std.proofs.lemmas.List.{reverse-append, length-append, take_at}
 use Rattle.std.proofs.lemmas.List.Sums.{sum_by-cons}
 use Rattle.rb_meaning.specs.Environment.{natural}
 use Rattle.rb_hold.specs.Held.{IsLengthOf, held_bytes}
-use Rattle.rb_code.specs.Memory.{cut_held, held_place, word_at}
+use Rattle.rb_code.specs.WordMachine.Workspace.{cut_held, held_place, word_at}
 use Rattle.rb_proc.specs.Inside.{Fronts, IsFront, told}
 
 -- where the cut has its bytes, what follows does not matter

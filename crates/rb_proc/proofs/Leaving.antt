@@ -8,8 +8,8 @@ use Rattle.rb_world.specs.World.{Level, change_at}
 use Rattle.rb_cell.specs.Store.{Store}
 use Rattle.rb_cache.specs.Copies.{Fits, Level as Touched, Limits, RecoveryCache, change_last, copies, joined, open_levels}
 use Rattle.rb_hold.specs.Held.{TwoLists, held_bytes}
-use Rattle.rb_code.specs.Memory.{held_place, word_at}
-use Rattle.rb_code.specs.Turn.{Copy}
+use Rattle.rb_code.specs.WordMachine.Workspace.{held_place, word_at}
+use Rattle.rb_code.specs.WordMachine.Turn.{Copy}
 use Rattle.rb_proc.specs.Contents.{Contents, IsBelowLast, TellsHeld}
 use Rattle.rb_proc.specs.declared.recoverable.LevelMark.{LevelMark}
 use Rattle.rb_proc.specs.declared.recoverable.OpenCall.{OpenCall as Held}

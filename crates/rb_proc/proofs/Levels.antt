@@ -6,8 +6,8 @@ use Rattle.std.proofs.lemmas.Option.{unwrap_or-slice_get}
 use Rattle.rb_world.specs.World.{Level, copy_of, last_of, without_last}
 use Rattle.rb_world.specs.Turn.{tried_at}
 use Rattle.rb_cache.specs.Copies.{last_or}
-use Rattle.rb_code.specs.Memory.{word_at}
-use Rattle.rb_code.specs.Turn.{Copy, prior_words}
+use Rattle.rb_code.specs.WordMachine.Workspace.{word_at}
+use Rattle.rb_code.specs.WordMachine.Turn.{Copy, prior_words}
 use Rattle.rb_proc.specs.declared.recoverable.LevelMark.{LevelMark}
 use Rattle.rb_proc.specs.declared.recoverable.OpenCall.{OpenCall as Held}
 use Rattle.rb_proc.specs.Inside.{Rise, calls_at, calls_of, level_of, levels_of}

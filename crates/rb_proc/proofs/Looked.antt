@@ -10,10 +10,10 @@ use Rattle.rb_world.specs.World.{Level, copy_of, is_of, last_of}
 use Rattle.rb_cell.specs.Store.{Store}
 use Rattle.rb_cache.specs.Copies.{RecoveryCache, copies, copy_at, open_levels}
 use Rattle.rb_hold.specs.Held.{TwoLists}
-use Rattle.rb_code.specs.Plain.{Code}
-use Rattle.rb_code.specs.Memory.{word_at}
-use Rattle.rb_code.specs.Turn.{Copy, prior_words}
-use Rattle.rb_code.specs.WordKind.{cursor_in}
+use Rattle.rb_code.specs.Instructions.Plain.{Code}
+use Rattle.rb_code.specs.WordMachine.Workspace.{word_at}
+use Rattle.rb_code.specs.WordMachine.Turn.{Copy, prior_words}
+use Rattle.rb_code.specs.WordMachine.WordKind.{cursor_in}
 use Rattle.rb_proc.specs.Contents.{Contents}
 use Rattle.rb_proc.specs.Inside.{IsTied, Rise, calls_at, contents, height_at, level_of, levels_of}
 use Rattle.rb_proc.specs.Marks.{is_last_mark_in, is_mark_in, is_mark_over, mark_used}

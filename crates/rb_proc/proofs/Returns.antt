@@ -5,10 +5,10 @@ use Rattle.rb_world.specs.World.{Level, copy_of, last_of}
 use Rattle.rb_cell.specs.Store.{Store}
 use Rattle.rb_cache.specs.Copies.{RecoveryCache, copies, open_levels}
 use Rattle.rb_hold.specs.Held.{TwoLists}
-use Rattle.rb_code.specs.Memory.{OpenCall}
-use Rattle.rb_code.specs.Safe.{HasCall, StayAbove}
-use Rattle.rb_code.specs.Stays.{entry_calls}
-use Rattle.rb_code.specs.Turn.{Copy}
+use Rattle.rb_code.specs.WordMachine.Workspace.{OpenCall}
+use Rattle.rb_code.specs.SoundCode.Safe.{HasCall, StayAbove}
+use Rattle.rb_code.specs.SoundCode.Stays.{entry_calls}
+use Rattle.rb_code.specs.WordMachine.Turn.{Copy}
 use Rattle.rb_proc.specs.Contents.{Contents}
 use Rattle.rb_proc.specs.declared.recoverable.LevelMark.{LevelMark}
 use Rattle.rb_proc.specs.declared.recoverable.OpenCall.{OpenCall as Held}

@@ -2,7 +2,7 @@
 use Rattle.std.proofs.Common.{◌≡◌, ℕ, zero, suc, ◌≤◌, ℤ, List, [], ◌∷◌, ◌++◌, map, length, take, refl, subst, arith}
 use Rattle.std.specs.List.{AllByRecursion}
 use Rattle.rb_cache.specs.Copies.{Level as Touched}
-use Rattle.rb_code.specs.Safe.{StayAbove}
+use Rattle.rb_code.specs.SoundCode.Safe.{StayAbove}
 use Rattle.rb_proc.specs.Inside.{Rise, first_or}
 
 -- none is above the last one

@@ -6,13 +6,13 @@ use Rattle.rb_meaning.specs.Environment.{natural}
 use Rattle.rb_world.specs.Slots.{Slots}
 use Rattle.rb_world.specs.World.{Level}
 use Rattle.rb_cache.specs.Copies.{Level as Touched}
-use Rattle.rb_code.specs.Plain.{Code}
-use Rattle.rb_code.specs.Memory.{Counting, Memory, OpenCall, cursor_place, word_at}
-use Rattle.rb_code.specs.Act.{Accepts, Going, Outcome, Sight, Stopped, Trapped, Unfinished, act, act_at, execute, here, then_go}
-use Rattle.rb_code.specs.Safe.{IsUnchanged, Ready, ReadyAt, Safe, SafeOn, counted, steps_left}
-use Rattle.rb_code.specs.Stays.{CursorStays, HasEnough, Stays, StaysOn}
-use Rattle.rb_code.specs.Stands.{IsAmong}
-use Rattle.rb_code.specs.Turn.{Copy}
+use Rattle.rb_code.specs.Instructions.Plain.{Code}
+use Rattle.rb_code.specs.WordMachine.Workspace.{Counting, Workspace, OpenCall, cursor_place, word_at}
+use Rattle.rb_code.specs.WordMachine.Act.{Accepts, Going, Outcome, Sight, Stopped, Trapped, Unfinished, act, act_at, execute, here, then_go}
+use Rattle.rb_code.specs.SoundCode.Safe.{IsUnchanged, Ready, ReadyAt, Safe, SafeOn, counted, steps_left}
+use Rattle.rb_code.specs.SoundCode.Stays.{CursorStays, HasEnough, Stays, StaysOn}
+use Rattle.rb_code.specs.SoundCode.Stands.{IsAmong}
+use Rattle.rb_code.specs.WordMachine.Turn.{Copy}
 use Rattle.rb_code.specs.declared.instr.Instr.{Instr}
 use Rattle.rb_code.specs.declared.instr.Instr.TheVariants.{Put, Take}
 use Rattle.rb_proc.specs.Acts.{CursorRises, LeavesEnough}
@@ -20,9 +20,9 @@ use Rattle.rb_proc.specs.Contents.{Contents}
 use Rattle.rb_proc.specs.Outcomes.{mem}
 use Rattle.rb_proc.specs.Work.{named, named_along, named_at, named_from}
 
-module _ (c : Code) (see : Sight) (P : Memory → Type 0) (calls : ℕ) (start : List ℤ) where
+module _ (c : Code) (see : Sight) (P : Workspace → Type 0) (calls : ℕ) (start : List ℤ) where
   -- a run of at most so many instructions that is safe from here, and comes to what the whole comes to
-  pub record Runs (most : ℕ) (end : Outcome) (a : ℕ) (xs : List ℤ) (m : Memory) : Type 0 where
+  pub record Runs (most : ℕ) (end : Outcome) (a : ℕ) (xs : List ℤ) (m : Workspace) : Type 0 where
     pub n : ℕ
     pub within : n ≤ most
     pub safe : Safe c see P n a xs m
@@ -30,13 +30,13 @@ module _ (c : Code) (see : Sight) (P : Memory → Type 0) (calls : ℕ) (start :
     pub comes : execute c see n a xs m ≡ end
 
   -- a safe run has so many instructions left, whatever more it is given
-  count_same : (n k a : ℕ) (xs : List ℤ) (m : Memory) → n ≤ k → Safe c see P n a xs m → steps_left c see k a xs m ≡ steps_left c see n a xs m
+  count_same : (n k a : ℕ) (xs : List ℤ) (m : Workspace) → n ≤ k → Safe c see P n a xs m → steps_left c see k a xs m ≡ steps_left c see n a xs m
   count_same zero k a xs m le safe = absurd safe
   count_same (suc n) zero a xs m le safe = absurd (omega arith)
   count_same (suc n) (suc k) a xs m le safe =
       by (λ b ys later s. count_same n k b ys later (omega arith) s) (act_at c see (slice_get c.instrs a) a xs m) safe.1
     where
-      by : ((b : ℕ) (ys : List ℤ) (later : Memory) → Safe c see P n b ys later → steps_left c see k b ys later ≡ steps_left c see n b ys later)
+      by : ((b : ℕ) (ys : List ℤ) (later : Workspace) → Safe c see P n b ys later → steps_left c see k b ys later ≡ steps_left c see n b ys later)
           → (o : Outcome) → SafeOn c see P m o (Safe c see P n) → counted c see o (steps_left c see k) ≡ counted c see o (steps_left c see n)
       by next (Going b ys later) s = ap suc (next b ys later s)
       by next (Stopped b later) s = refl
@@ -44,7 +44,7 @@ module _ (c : Code) (see : Sight) (P : Memory → Type 0) (calls : ℕ) (start :
       by next (Trapped cause) s = refl
       by next Unfinished s = absurd s
 
-  module _ (most a : ℕ) (xs : List ℤ) (m : Memory) (end : Outcome) (runs : Runs most end a xs m) where
+  module _ (most a : ℕ) (xs : List ℤ) (m : Workspace) (end : Outcome) (runs : Runs most end a xs m) where
     pub in_code : a < length c.instrs
     in_code = at runs.n runs.safe
       where
@@ -99,7 +99,7 @@ module _ (c : Code) (see : Sight) (P : Memory → Type 0) (calls : ℕ) (start :
       pub leaves : LeavesEnough calls (act c see i a xs m)
       leaves = at runs.n runs.safe runs.stays
         where
-          enough : (n : ℕ) (b : ℕ) (ys : List ℤ) (later : Memory) → Stays c see calls start n b ys later → HasEnough calls later
+          enough : (n : ℕ) (b : ℕ) (ys : List ℤ) (later : Workspace) → Stays c see calls start n b ys later → HasEnough calls later
           enough zero b ys later s = s.0
           enough (suc n) b ys later s = s.0.0
 
@@ -131,7 +131,7 @@ module _ (c : Code) (see : Sight) (P : Memory → Type 0) (calls : ℕ) (start :
           at (suc n) safe = omega (arith, names (act c see i a xs m) refl n)
 
       -- it goes on, and names what this instruction does and what the rest does
-      module _ (b : ℕ) (ys : List ℤ) (later : Memory) (e : Going b ys later ≡ act c see i a xs m) where
+      module _ (b : ℕ) (ys : List ℤ) (later : Workspace) (e : Going b ys later ≡ act c see i a xs m) where
         pub onward : (rest : Runs most end b ys later) × (named_along c see runs.n a xs m ≡ named i + named_along c see rest.n b ys later)
         onward = at runs.n runs.within runs.safe runs.stays runs.comes
           where
@@ -169,7 +169,7 @@ module _ (c : Code) (see : Sight) (P : Memory → Type 0) (calls : ℕ) (start :
       pub over : (o : Outcome) → o ≡ act c see i a xs m → IsOver o → o ≡ end
       over o e h = at runs.n runs.safe runs.comes
         where
-          stays_over : (o : Outcome) (next : ℕ → List ℤ → Memory → Outcome) → IsOver o → then_go o next ≡ o
+          stays_over : (o : Outcome) (next : ℕ → List ℤ → Workspace → Outcome) → IsOver o → then_go o next ≡ o
           stays_over (Going b ys later) next h = absurd h
           stays_over (Stopped b later) next h = refl
           stays_over (Accepts b later) next h = refl
@@ -189,7 +189,7 @@ module _ (c : Code) (see : Sight) (P : Memory → Type 0) (calls : ℕ) (start :
       pub unchanged : (o : Outcome) → o ≡ act c see i a xs m → IsNothing o → P m
       unchanged o e h = at runs.n runs.safe
         where
-          on : (o : Outcome) (next : ℕ → List ℤ → Memory → Type 0) → IsNothing o → SafeOn c see P m o next → P m
+          on : (o : Outcome) (next : ℕ → List ℤ → Workspace → Type 0) → IsNothing o → SafeOn c see P m o next → P m
           on (Going b ys later) next h s = absurd h
           on (Stopped b later) next h s = absurd h
           on (Accepts b later) next h s = s

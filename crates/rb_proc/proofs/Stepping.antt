@@ -5,31 +5,31 @@ use Rattle.std.specs.Option.{unwrap_or}
 use Rattle.rb_base.specs.declared.event.Cause.{Cause}
 use Rattle.rb_world.specs.Kind.{Ends, Want, NothingLeft, SendsOn, ReceivesOn, MayReceiveOn, Enters, Starts, Acts}
 use Rattle.rb_world.specs.Slots.{Slots, slot_of}
-use Rattle.rb_world.specs.World.{Level, Process, Status as Stands, copy_of, goes_on, last_of, settled, status_at}
-use Rattle.rb_code.specs.Plain.{Code}
-use Rattle.rb_code.specs.Memory.{Counting, Memory, no_counters}
-use Rattle.rb_code.specs.Act.{Accepts, Going, Outcome as Came, Sight as Seen, Stopped, Trapped, Unfinished, execute, move}
-use Rattle.rb_code.specs.Turn.{Copy, Standing, came_to, memory_of, most_steps, prior_words, settled_by, sight, standing_at, want, wants_there}
+use Rattle.rb_world.specs.World.{Level, Process, ProcessStatus as Stands, copy_of, goes_on, last_of, settled, status_at}
+use Rattle.rb_code.specs.Instructions.Plain.{Code}
+use Rattle.rb_code.specs.WordMachine.Workspace.{Counting, Workspace, no_counters}
+use Rattle.rb_code.specs.WordMachine.Act.{Accepts, Going, Outcome as Came, Sight as Seen, Stopped, Trapped, Unfinished, execute, move}
+use Rattle.rb_code.specs.WordMachine.Turn.{Copy, Standing, came_to, memory_of, most_steps, prior_words, settled_by, sight, standing_at, want, wants_there}
 use Rattle.rb_world.specs.Kind.{Membership}
-use Rattle.rb_code.specs.Safe.{IsUnchanged, Safe, SafeOn}
-use Rattle.rb_code.specs.Stands.{Serves, SettlesSoundly, StandsSoundly}
-use Rattle.rb_code.specs.Stays.{Stays, entry_calls}
-use Rattle.rb_code.proofs.SoundSteps.{settling_is_safe, steps_are_safe}
-use Rattle.rb_code.proofs.Staying.{settling_stays, steps_stay}
+use Rattle.rb_code.specs.SoundCode.Safe.{IsUnchanged, Safe, SafeOn}
+use Rattle.rb_code.specs.SoundCode.Stands.{Serves, SettlesSoundly, StandsSoundly}
+use Rattle.rb_code.specs.SoundCode.Stays.{Stays, entry_calls}
+use Rattle.rb_code.proofs.Executing.SoundSteps.{settling_is_safe, steps_are_safe}
+use Rattle.rb_code.proofs.Executing.Staying.{settling_stays, steps_stay}
 use Rattle.rb_proc.specs.Contents.{Contents}
-use Rattle.rb_bench.specs.Outcomes.{ended_of, stop_at}
+use Rattle.rb_operands.specs.Outcomes.{ended_of, stop_at}
 use Rattle.rb_proc.specs.Outcomes.{mem, whole}
 use Rattle.rb_proc.specs.Runs.{CursorsRise, KeepsEnded}
 use Rattle.rb_proc.specs.Statuses.{status_of}
-use Rattle.rb_bench.specs.declared.next.Ended.{Ended}
-use Rattle.rb_bench.specs.declared.next.Ended.TheVariants as ended
-use Rattle.rb_bench.specs.Pieces.{piece_text}
+use Rattle.rb_operands.specs.declared.next.Ended.{Ended}
+use Rattle.rb_operands.specs.declared.next.Ended.TheVariants as ended
+use Rattle.rb_operands.specs.Pieces.{piece_text}
 use Rattle.rb_proc.specs.ProcessInside.{seen, standing}
 use Rattle.rb_proc.specs.Sees.{FitSizes, see_of}
-use Rattle.rb_proc.specs.declared.answers.Status.{Status}
+use Rattle.rb_proc.specs.declared.answers.ProcessStatus.{ProcessStatus}
 use Rattle.rb_proc.specs.declared.answers.Wanted.{Wanted}
-use Rattle.rb_bench.specs.declared.bench.Bench.{Bench}
-use Rattle.rb_bench.specs.declared.line.Piece.{Piece}
+use Rattle.rb_operands.specs.declared.bench.Bench.{Bench}
+use Rattle.rb_operands.specs.declared.line.Piece.{Piece}
 use Rattle.rb_proc.specs.declared.sight.Sight.{Sight}
 use Rattle.rb_proc.specs.Given.{alternate_by, message_by}
 use Rattle.rb_proc.specs.Process.{StepsTo, alternate_for, kind_of, message_for, step_of, wanted_by}
@@ -82,13 +82,13 @@ module _ (c : Code) (q : Process Standing Copy) (slots : Slots) (there : Bool) w
       (message_for c q.state slots there (want c q.state)))
       (most_steps c) (q.state.at + 1) [] (memory_of q.state slots)
 
-  pub stop_comes : (at : ℕ) (w : Memory) (r : Process Standing Copy) (after : Slots) → Stopped at w ≡ whole_step
+  pub stop_comes : (at : ℕ) (w : Workspace) (r : Process Standing Copy) (after : Slots) → Stopped at w ≡ whole_step
       → r ≡ goes_on (kind_of c) (standing_at at w q.state) q.levels → after ≡ w.slots
       → StepsTo c q slots (step_of c q slots there) outcome.Went r after
   stop_comes at w r after e r_is after_is =
       subst (λ (o : Came). StepsTo c q slots (came_to q.state (record { slots = slots; links = [] }) o) outcome.Went r after) e (r_is, after_is)
 
-  pub accept_comes : (at : ℕ) (w : Memory) (r : Process Standing Copy) (after : Slots) → Accepts at w ≡ whole_step
+  pub accept_comes : (at : ℕ) (w : Workspace) (r : Process Standing Copy) (after : Slots) → Accepts at w ≡ whole_step
       → r ≡ record q { state = standing_at at w q.state } → after ≡ slots
       → StepsTo c q slots (step_of c q slots there) outcome.Accepts r after
   accept_comes at w r after e r_is after_is =
@@ -102,7 +102,7 @@ module _ (c : Code) (q : Process Standing Copy) (slots : Slots) (there : Bool) w
       (refl, r_is, after_is)
 
 -- A step of a process by its parts: what it is given is what the word machine is given.
-module _ (c : Code) (r : Contents) (process at kept : ℕ) (at_line : Bool) (status : Status) (slots : Slots) (there : Bool)
+module _ (c : Code) (r : Contents) (process at kept : ℕ) (at_line : Bool) (status : ProcessStatus) (slots : Slots) (there : Bool)
     (bench : Bench) (sg : Sight)
     (w : Wanted) (alt : ℕ) (msg : Option ℤ) (want_ok : w ≡ wanted_by (want c (standing r process at kept))) (alt_ok : alt ≡ alternate_by w r.levels)
     (msg_ok : msg ≡ message_by c process r.words slots there w) (process_ok : sg.process ≡ process) (message_ok : sg.message ≡ msg)
@@ -146,7 +146,7 @@ module _ (c : Code) (r : Contents) (process at kept : ℕ) (at_line : Bool) (sta
       (whole c.texts bench r slots))
       (sym sight_is)
       (subst
-      (λ (m : Memory). Safe c (sight now.state alternate_now (copy_of (last_of now.levels)) message_now) (IsUnchanged m)
+      (λ (m : Workspace). Safe c (sight now.state alternate_now (copy_of (last_of now.levels)) message_now) (IsUnchanged m)
       (most_steps c) (at + 1) bench.operands m)
       (sym memory_is)
       (subst
@@ -165,7 +165,7 @@ module _ (c : Code) (r : Contents) (process at kept : ℕ) (at_line : Bool) (sta
       (at + 1) bench.operands (whole c.texts bench r slots))
       (sym sight_is)
       (subst
-      (λ (m : Memory). Stays c (sight now.state alternate_now (copy_of (last_of now.levels)) message_now)
+      (λ (m : Workspace). Stays c (sight now.state alternate_now (copy_of (last_of now.levels)) message_now)
       (entry_calls (copy_of (last_of r.levels))) r.words (most_steps c) (at + 1) bench.operands m)
       (sym memory_is)
       (subst
@@ -175,11 +175,11 @@ module _ (c : Code) (r : Contents) (process at kept : ℕ) (at_line : Bool) (sta
       (steps_stay c groups now.state now.levels alternate_now message_now slots stands serves)))
 
   -- so whatever is made of it is what is made of that
-  as_given : {A : Type 0} (f : Seen → Memory → List ℤ → A) → f (see_of sg r.levels) (whole c.texts bench r slots) bench.operands
+  as_given : {A : Type 0} (f : Seen → Workspace → List ℤ → A) → f (see_of sg r.levels) (whole c.texts bench r slots) bench.operands
       ≡ f (sight now.state alternate_now (copy_of (last_of now.levels)) message_now) (memory_of now.state slots) []
   as_given f =
       ap (λ (see : Seen). f see (whole c.texts bench r slots) bench.operands) sight_is
-      ∙ ap (λ (m : Memory). f (sight now.state alternate_now (copy_of (last_of now.levels)) message_now) m bench.operands) memory_is
+      ∙ ap (λ (m : Workspace). f (sight now.state alternate_now (copy_of (last_of now.levels)) message_now) m bench.operands) memory_is
       ∙ ap (λ (xs : List ℤ). f (sight now.state alternate_now (copy_of (last_of now.levels)) message_now) (memory_of now.state slots) xs) operands_ok
 
   pub executes : execute c (see_of sg r.levels) (most_steps c) (at + 1) bench.operands (whole c.texts bench r slots) ≡ whole_step c now slots there
@@ -190,13 +190,13 @@ module _ (c : Code) (r : Contents) (process at kept : ℕ) (at_line : Bool) (sta
   step_named = as_given (λ see m xs. named_along c see (most_steps c) (at + 1) xs m)
 
 -- what is safe stays so where less is asked
-safe_weaker : (c : Code) (see : Seen) (P Q : Memory → Type 0) → ((m : Memory) → P m → Q m)
-    → (n a : ℕ) (xs : List ℤ) (m : Memory) → Safe c see P n a xs m
+safe_weaker : (c : Code) (see : Seen) (P Q : Workspace → Type 0) → ((m : Workspace) → P m → Q m)
+    → (n a : ℕ) (xs : List ℤ) (m : Workspace) → Safe c see P n a xs m
     → Safe c see Q n a xs m
 safe_weaker c see P Q f zero a xs m s = absurd s
 safe_weaker c see P Q f (suc n) a xs m s = (s.0, on (λ b ys later k. safe_weaker c see P Q f n b ys later k) (move c see a xs m) s.1)
   where
-    on : ((b : ℕ) (ys : List ℤ) (later : Memory) → Safe c see P n b ys later → Safe c see Q n b ys later)
+    on : ((b : ℕ) (ys : List ℤ) (later : Workspace) → Safe c see P n b ys later → Safe c see Q n b ys later)
         → (o : Came) → SafeOn c see P m o (Safe c see P n) → SafeOn c see Q m o (Safe c see Q n)
     on next (Going b ys later) k = next b ys later k
     on next (Stopped b later) k = tt
@@ -238,11 +238,11 @@ module _ (c : Code) (r : Contents) (process at kept : ℕ) (bench : Bench) (sg :
       ap (λ (ps : List Piece). mem r (map (piece_text c.texts) ps) bench.counters []) pieces_ok
       ∙ ap (λ (cs : List (Option Counting)). mem r [] cs []) counters_ok
 
-  settling_given : {A : Type 0} (f : Seen → Memory → List ℤ → A)
+  settling_given : {A : Type 0} (f : Seen → Workspace → List ℤ → A)
       → f (see_of sg r.levels) (whole c.texts bench r []) bench.operands ≡ f sees (memory_of state_now []) []
   settling_given f =
       ap (λ (see : Seen). f see (whole c.texts bench r []) bench.operands) settling_sight
-      ∙ ap (λ (m : Memory). f sees m bench.operands) settling_memory ∙ ap (λ (xs : List ℤ). f sees (memory_of state_now []) xs) operands_ok
+      ∙ ap (λ (m : Workspace). f sees m bench.operands) settling_memory ∙ ap (λ (xs : List ℤ). f sees (memory_of state_now []) xs) operands_ok
 
   pub settle_named : named_along c (see_of sg r.levels) (most_steps c) at bench.operands (whole c.texts bench r [])
       ≡ named_settling c state_now r.levels
@@ -254,7 +254,7 @@ module _ (c : Code) (r : Contents) (process at kept : ℕ) (bench : Bench) (sg :
       subst
       (λ (see : Seen). Safe c see (IsUnchanged (whole c.texts bench r [])) (most_steps c) at bench.operands (whole c.texts bench r []))
       (sym settling_sight)
-      (subst (λ (m : Memory). Safe c sees (IsUnchanged m) (most_steps c) at bench.operands m) (sym settling_memory)
+      (subst (λ (m : Workspace). Safe c sees (IsUnchanged m) (most_steps c) at bench.operands m) (sym settling_memory)
       (subst (λ (xs : List ℤ). Safe c sees (IsUnchanged (memory_of state_now [])) (most_steps c) at xs (memory_of state_now [])) (sym operands_ok)
       (safe_weaker c sees (λ m. ⊥) (IsUnchanged (memory_of state_now [])) (λ m k. absurd k) (most_steps c) at [] (memory_of state_now [])
       (settling_is_safe c groups state_now r.levels settles))))
@@ -266,14 +266,14 @@ module _ (c : Code) (r : Contents) (process at kept : ℕ) (bench : Bench) (sg :
       (λ (see : Seen). Stays c see (entry_calls (copy_of (last_of r.levels))) [] (most_steps c) at bench.operands
       (whole c.texts bench r []))
       (sym settling_sight)
-      (subst (λ (m : Memory). Stays c sees (entry_calls (copy_of (last_of r.levels))) [] (most_steps c) at bench.operands m) (sym settling_memory)
+      (subst (λ (m : Workspace). Stays c sees (entry_calls (copy_of (last_of r.levels))) [] (most_steps c) at bench.operands m) (sym settling_memory)
       (subst
       (λ (xs : List ℤ). Stays c sees (entry_calls (copy_of (last_of r.levels))) [] (most_steps c) at xs (memory_of state_now []))
       (sym operands_ok)
       (settling_stays c groups state_now r.levels [] settles)))
 
   pub settle_comes : (came : Ended) (after : Contents) (pieces : List (List ℕ)) (counters : List (Option Counting))
-      (slots : Slots) (st : Status) (waiting : List (List ℕ))
+      (slots : Slots) (st : ProcessStatus) (waiting : List (List ℕ))
       → ended_of came (mem after pieces counters slots) ≡ execute c (see_of sg r.levels) (most_steps c) at bench.operands (whole c.texts bench r [])
       → KeepsEnded came r after [] slots
       → status_of st ≡ status_at (wants_there c (slice_get c.instrs (stop_at came at)) (slice_get c.instrs (stop_at came at + 1)))
@@ -302,7 +302,7 @@ module _ (c : Code) (r : Contents) (process at kept : ℕ) (bench : Bench) (sg :
       by (ended.Trap cause) k q = same 0 k.0 q
 
   pub settle_seen : (came : Ended) (after : Contents) (pieces : List (List ℕ)) (counters : List (Option Counting))
-      (slots : Slots) (st : Status) (to : ℕ)
+      (slots : Slots) (st : ProcessStatus) (to : ℕ)
       → ended_of came (mem after pieces counters slots) ≡ execute c (see_of sg r.levels) (most_steps c) at bench.operands (whole c.texts bench r [])
       → KeepsEnded came r after [] slots → to ≡ stop_at came at
       → status_of st ≡ status_at (wants_there c (slice_get c.instrs to) (slice_get c.instrs (to + 1)))

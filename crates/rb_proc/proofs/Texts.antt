@@ -4,11 +4,11 @@ use Rattle.std.specs.Prelude.{slice_get}
 use Rattle.std.specs.Option.{unwrap_or}
 use Rattle.std.proofs.lemmas.List.{map-append}
 use Rattle.rb_world.specs.Slots.{Slots}
-use Rattle.rb_code.specs.Act.{Going, Outcome, if_there}
-use Rattle.rb_bench.specs.LineSeen.{LineSeen}
-use Rattle.rb_bench.specs.Pieces.{piece_text}
-use Rattle.rb_bench.specs.declared.bench.Bench.{Bench}
-use Rattle.rb_bench.specs.declared.line.Piece.TheVariants.{Text}
+use Rattle.rb_code.specs.WordMachine.Act.{Going, Outcome, if_there}
+use Rattle.rb_operands.specs.LineSeen.{LineSeen}
+use Rattle.rb_operands.specs.Pieces.{piece_text}
+use Rattle.rb_operands.specs.declared.bench.Bench.{Bench}
+use Rattle.rb_operands.specs.declared.line.Piece.TheVariants.{Text}
 use Rattle.rb_proc.specs.Contents.{Contents}
 use Rattle.rb_proc.specs.Outcomes.{mem}
 

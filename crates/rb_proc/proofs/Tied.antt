@@ -12,9 +12,9 @@ use Rattle.rb_cache.proofs.Copies.{restored-same}
 use Rattle.rb_cache.proofs.Views.{length-levels, length-restored}
 use Rattle.rb_cache.proofs.LawsHold.{heights_lengths, shrunk, weaker}
 use Rattle.rb_hold.specs.Held.{TwoLists, held_bytes}
-use Rattle.rb_code.specs.Memory.{OpenCall, held_place, word_at}
-use Rattle.rb_code.specs.Safe.{StayAbove}
-use Rattle.rb_code.specs.Turn.{Copy, prior_words}
+use Rattle.rb_code.specs.WordMachine.Workspace.{OpenCall, held_place, word_at}
+use Rattle.rb_code.specs.SoundCode.Safe.{StayAbove}
+use Rattle.rb_code.specs.WordMachine.Turn.{Copy, prior_words}
 use Rattle.rb_proc.specs.Contents.{Contents}
 use Rattle.rb_proc.specs.Places.{most_places}
 use Rattle.rb_proc.specs.declared.recoverable.LevelMark.{LevelMark}

@@ -1,10 +1,10 @@
 -- What one instruction asks of whoever executes it beside what it is ready for.
 use Rattle.std.specs.Prelude.{ℕ, ◌-◌, ◌<◌, ◌^◌, ℤ, List}
 use Rattle.rb_meaning.specs.Environment.{natural}
-use Rattle.rb_code.specs.Plain.{Code}
-use Rattle.rb_code.specs.Memory.{cursor_place, word_at}
-use Rattle.rb_code.specs.Act.{Accepts, Going, Outcome, Sight, Stopped, Trapped, Unfinished, here}
-use Rattle.rb_code.specs.Stays.{HasEnough}
+use Rattle.rb_code.specs.Instructions.Plain.{Code}
+use Rattle.rb_code.specs.WordMachine.Workspace.{cursor_place, word_at}
+use Rattle.rb_code.specs.WordMachine.Act.{Accepts, Going, Outcome, Sight, Stopped, Trapped, Unfinished, here}
+use Rattle.rb_code.specs.SoundCode.Stays.{HasEnough}
 use Rattle.rb_code.specs.declared.instr.Instr.{Instr}
 use Rattle.rb_code.specs.declared.instr.Instr.TheVariants.{Put, Take}
 

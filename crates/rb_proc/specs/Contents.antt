@@ -4,8 +4,8 @@ use Rattle.rb_meaning.specs.Environment.{natural}
 use Rattle.rb_world.specs.Kind.{Facts}
 use Rattle.rb_world.specs.World.{Level}
 use Rattle.rb_cache.specs.Copies.{Level as Touched, change_last, entered, joined}
-use Rattle.rb_code.specs.Memory.{OpenCall, cut_held, held_place, word_at}
-use Rattle.rb_code.specs.Turn.{Copy}
+use Rattle.rb_code.specs.WordMachine.Workspace.{OpenCall, cut_held, held_place, word_at}
+use Rattle.rb_code.specs.WordMachine.Turn.{Copy}
 use Rattle.rb_proc.specs.declared.recoverable.BlockFacts.{BlockFacts}
 use Rattle.rb_proc.specs.declared.recoverable.LevelMark.{LevelMark}
 

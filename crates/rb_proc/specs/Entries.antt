@@ -3,9 +3,9 @@ use Rattle.std.specs.Prelude.{◌≡◌, ℕ, [], ◌∷◌, ◌++◌, Option, S
 use Rattle.rb_world.specs.Kind.{Facts, Want, Enters}
 use Rattle.rb_world.specs.Turn.{new_level}
 use Rattle.rb_world.specs.World.{Process, goes_on}
-use Rattle.rb_code.specs.Plain.{Code}
-use Rattle.rb_code.specs.Turn.{Copy, Standing}
-use Rattle.rb_code.specs.WordKind.{entered_at}
+use Rattle.rb_code.specs.Instructions.Plain.{Code}
+use Rattle.rb_code.specs.WordMachine.Turn.{Copy, Standing}
+use Rattle.rb_code.specs.WordMachine.WordKind.{entered_at}
 use Rattle.rb_proc.specs.Contents.{facts_of}
 use Rattle.rb_proc.specs.Process.{kind_of}
 use Rattle.rb_proc.specs.declared.recoverable.BlockFacts.{BlockFacts}

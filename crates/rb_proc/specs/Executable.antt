@@ -1,9 +1,9 @@
 -- Code that is executed: what its lists are, for what the machine keeps in words of 32 bits.
 use Rattle.std.specs.Prelude.{◌≡◌, ◌+◌, ◌<◌, ◌≤◌, ◌^◌, ℕ, length, slice_get, Some}
 use Rattle.rb_base.specs.Limits.{most_words}
-use Rattle.rb_code.specs.Plain.{Block, Code}
-use Rattle.rb_code.specs.Memory.{part_of, variables_place}
-use Rattle.rb_bench.specs.Pieces.{AreTexts}
+use Rattle.rb_code.specs.Instructions.Plain.{Block, Code}
+use Rattle.rb_code.specs.WordMachine.Workspace.{part_of, variables_place}
+use Rattle.rb_operands.specs.Pieces.{AreTexts}
 use Rattle.rb_proc.specs.Places.{most_places}
 
 -- no more instructions than addresses, texts that may stand in a line, and for each process no more channels and words than places; and

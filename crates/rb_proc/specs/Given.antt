@@ -3,9 +3,9 @@ use Rattle.std.specs.Prelude.{ℕ, ℤ, Bool, cond, List, Option, Some, None}
 use Rattle.rb_world.specs.Slots.{Slots, slot_of}
 use Rattle.rb_world.specs.Turn.{tried_at}
 use Rattle.rb_world.specs.World.{Level, last_of}
-use Rattle.rb_code.specs.Plain.{Code}
-use Rattle.rb_code.specs.Turn.{Copy}
-use Rattle.rb_code.specs.WordKind.{cursor_in}
+use Rattle.rb_code.specs.Instructions.Plain.{Code}
+use Rattle.rb_code.specs.WordMachine.Turn.{Copy}
+use Rattle.rb_code.specs.WordMachine.WordKind.{cursor_in}
 use Rattle.rb_proc.specs.declared.answers.Wanted.{Wanted}
 use Rattle.rb_proc.specs.declared.answers.Wanted.TheVariants as wanted
 

@@ -7,8 +7,8 @@ use Rattle.rb_world.specs.World.{Level}
 use Rattle.rb_cell.specs.Store.{Store}
 use Rattle.rb_cache.specs.Copies.{RecoveryCache, Fits, copies, open_levels}
 use Rattle.rb_hold.specs.Held.{TwoLists, held_bytes}
-use Rattle.rb_code.specs.Memory.{OpenCall, cut_held, held_place, word_at}
-use Rattle.rb_code.specs.Turn.{Copy}
+use Rattle.rb_code.specs.WordMachine.Workspace.{OpenCall, cut_held, held_place, word_at}
+use Rattle.rb_code.specs.WordMachine.Turn.{Copy}
 use Rattle.rb_proc.specs.Places.{most_places}
 use Rattle.rb_proc.specs.Contents.{Contents, facts_of}
 use Rattle.rb_proc.specs.declared.recoverable.LevelMark.{LevelMark}

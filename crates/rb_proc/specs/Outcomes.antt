@@ -1,15 +1,15 @@
 -- What instructions work on, and what stays where one does not go on.
 use Rattle.std.specs.Prelude.{◌≡◌, ℕ, List, map, Option}
 use Rattle.rb_world.specs.Slots.{Slots}
-use Rattle.rb_code.specs.Memory.{Counting, Memory}
+use Rattle.rb_code.specs.WordMachine.Workspace.{Counting, Workspace}
 use Rattle.rb_proc.specs.Contents.{Contents}
-use Rattle.rb_bench.specs.Pieces.{piece_text}
-use Rattle.rb_bench.specs.declared.bench.Bench.{Bench}
-use Rattle.rb_bench.specs.declared.next.Next.{Next}
-use Rattle.rb_bench.specs.declared.next.Next.TheVariants as next
+use Rattle.rb_operands.specs.Pieces.{piece_text}
+use Rattle.rb_operands.specs.declared.bench.Bench.{Bench}
+use Rattle.rb_operands.specs.declared.next.Next.{Next}
+use Rattle.rb_operands.specs.declared.next.Next.TheVariants as next
 
 -- what instructions work on
-abbrev pub mem : Contents → List (List ℕ) → List (Option Counting) → Slots → Memory
+abbrev pub mem : Contents → List (List ℕ) → List (Option Counting) → Slots → Workspace
 mem r pieces counters slots = record {
   words = r.words;
   calls = r.calls;
@@ -23,7 +23,7 @@ mem r pieces counters slots = record {
 abbrev pub pieces_in : List (List ℕ) → Bench → List (List ℕ)
 pieces_in texts bench = map (piece_text texts) bench.line.pieces
 
-abbrev pub whole : List (List ℕ) → Bench → Contents → Slots → Memory
+abbrev pub whole : List (List ℕ) → Bench → Contents → Slots → Workspace
 whole texts bench r slots = mem r (pieces_in texts bench) bench.counters slots
 
 -- levels and released lines stay, and all stays unless it goes on

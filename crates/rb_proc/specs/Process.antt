@@ -2,12 +2,12 @@
 -- the released lines that wait. What each call does is told in the words of the turn of a world.
 use Rattle.std.specs.Prelude.{◌≡◌, ℕ, ℤ, cond, Bool, List, [], Option, Some, None}
 use Rattle.rb_world.specs.Kind.{Kind, Want, NothingLeft, SendsOn, ReceivesOn, MayReceiveOn, Enters, Starts, Acts, Stepped, Trapped, Went, Held}
-use Rattle.rb_world.specs.World.{Level, Status, Running, Finished, FailedWith, Process, copy_of, last_of, goes_on}
+use Rattle.rb_world.specs.World.{Level, ProcessStatus, Running, Finished, FailedWith, Process, copy_of, last_of, goes_on}
 use Rattle.rb_world.specs.Slots.{Slots, slot_of}
 use Rattle.rb_world.specs.Turn.{tried_at}
-use Rattle.rb_code.specs.Plain.{Code}
-use Rattle.rb_code.specs.Turn.{Common, Copy, Standing, step, want}
-use Rattle.rb_code.specs.WordKind.{cursor_in, word_kind}
+use Rattle.rb_code.specs.Instructions.Plain.{Code}
+use Rattle.rb_code.specs.WordMachine.Turn.{Common, Copy, Standing, step, want}
+use Rattle.rb_code.specs.WordMachine.WordKind.{cursor_in, word_kind}
 use Rattle.rb_proc.specs.declared.answers.Wanted.{Wanted}
 use Rattle.rb_proc.specs.declared.answers.Wanted.TheVariants as wanted
 use Rattle.rb_proc.specs.declared.answers.Outcome.{Outcome}
@@ -33,7 +33,7 @@ wanted_by Starts = wanted.Start
 wanted_by Acts = wanted.Step
 
 -- what a process wants
-abbrev pub wanted_now : Code → Status → Bool → Standing → Wanted
+abbrev pub wanted_now : Code → ProcessStatus → Bool → Standing → Wanted
 wanted_now c Running at_line s = cond at_line wanted.Line (wanted_by (want c s))
 wanted_now c Finished at_line s = wanted.Idle
 wanted_now c (FailedWith cause) at_line s = wanted.Idle

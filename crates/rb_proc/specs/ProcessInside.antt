@@ -1,10 +1,10 @@
 -- What the parts of a process stand for.
 use Rattle.std.specs.Prelude.{ℕ, Bool}
-use Rattle.rb_code.specs.Turn.{Standing}
+use Rattle.rb_code.specs.WordMachine.Turn.{Standing}
 use Rattle.rb_proc.specs.Contents.{Contents}
 use Rattle.rb_proc.specs.Process.{Seen}
 use Rattle.rb_proc.specs.Statuses.{status_of}
-use Rattle.rb_proc.specs.declared.answers.Status.{Status}
+use Rattle.rb_proc.specs.declared.answers.ProcessStatus.{ProcessStatus}
 
 abbrev pub standing : Contents → ℕ → ℕ → ℕ → Standing
 standing r process at last_kept = record {
@@ -17,7 +17,7 @@ standing r process at last_kept = record {
   touched = r.touched;
 }
 
-abbrev pub seen : Contents → ℕ → ℕ → ℕ → Bool → Status → Seen
+abbrev pub seen : Contents → ℕ → ℕ → ℕ → Bool → ProcessStatus → Seen
 seen r process at last_kept at_line status = record {
   process = record { state = standing r process at last_kept; levels = r.levels; at_line = at_line; status = status_of status };
   waiting = r.waiting;

@@ -2,12 +2,12 @@
 use Rattle.std.specs.Prelude.{◌≡◌, ℕ, ◌-◌, ◌<◌, ◌^◌, ℤ, List}
 use Rattle.rb_meaning.specs.Environment.{natural}
 use Rattle.rb_world.specs.Slots.{Slots}
-use Rattle.rb_code.specs.Plain.{Code}
-use Rattle.rb_code.specs.Memory.{cursor_place, part_of, word_at}
-use Rattle.rb_code.specs.Stands.{IsAmong}
+use Rattle.rb_code.specs.Instructions.Plain.{Code}
+use Rattle.rb_code.specs.WordMachine.Workspace.{cursor_place, part_of, word_at}
+use Rattle.rb_code.specs.SoundCode.Stands.{IsAmong}
 use Rattle.rb_proc.specs.Contents.{Contents}
-use Rattle.rb_bench.specs.declared.next.Ended.{Ended}
-use Rattle.rb_bench.specs.declared.next.Ended.TheVariants as ended
+use Rattle.rb_operands.specs.declared.next.Ended.{Ended}
+use Rattle.rb_operands.specs.declared.next.Ended.TheVariants as ended
 
 -- the cursors of a process can rise
 abbrev pub CursorsRise : Code → ℕ → List ℤ → Type 0

@@ -4,10 +4,10 @@ use Rattle.rb_base.specs.Limits.{most_words}
 use Rattle.rb_world.specs.Kind.{Ends}
 use Rattle.rb_world.specs.Slots.{Slots}
 use Rattle.rb_world.specs.World.{Level, copy_of, last_of}
-use Rattle.rb_code.specs.Plain.{Code}
-use Rattle.rb_code.specs.Memory.{body_place, part_of, variables_place}
-use Rattle.rb_code.specs.Act.{Sight as Seen}
-use Rattle.rb_code.specs.Turn.{Copy, prior_words}
+use Rattle.rb_code.specs.Instructions.Plain.{Code}
+use Rattle.rb_code.specs.WordMachine.Workspace.{body_place, part_of, variables_place}
+use Rattle.rb_code.specs.WordMachine.Act.{Sight as Seen}
+use Rattle.rb_code.specs.WordMachine.Turn.{Copy, prior_words}
 use Rattle.rb_proc.specs.Places.{most_places}
 use Rattle.rb_proc.specs.declared.sight.Sight.{Sight}
 

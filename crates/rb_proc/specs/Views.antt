@@ -2,9 +2,9 @@
 use Rattle.std.specs.Prelude.{◌≡◌, ℕ, Option, Some, None}
 use Rattle.rb_world.specs.Kind.{Facts}
 use Rattle.rb_world.specs.World.{Level}
-use Rattle.rb_code.specs.Plain.{Code}
-use Rattle.rb_code.specs.Turn.{Copy}
-use Rattle.rb_code.specs.WordKind.{cursor_in}
+use Rattle.rb_code.specs.Instructions.Plain.{Code}
+use Rattle.rb_code.specs.WordMachine.Turn.{Copy}
+use Rattle.rb_code.specs.WordMachine.WordKind.{cursor_in}
 use Rattle.rb_proc.specs.declared.answers.LevelView.{LevelView}
 
 abbrev pub facts_seen : LevelView → Facts

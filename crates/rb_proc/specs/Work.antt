@@ -3,10 +3,10 @@ use Rattle.std.specs.Prelude.{ℕ, zero, suc, ◌+◌, ℤ, Bool, List, [], leng
 use Rattle.rb_world.specs.Slots.{Slots}
 use Rattle.rb_world.specs.World.{Level, Process, copy_of, last_of}
 use Rattle.rb_cache.specs.Copies.{Level as Touched}
-use Rattle.rb_code.specs.Act.{Outcome, Going, Stopped, Accepts, Trapped, Unfinished, Sight, move}
-use Rattle.rb_code.specs.Memory.{Memory}
-use Rattle.rb_code.specs.Plain.{Code}
-use Rattle.rb_code.specs.Turn.{Copy, Standing, memory_of, most_steps, sight, want}
+use Rattle.rb_code.specs.WordMachine.Act.{Outcome, Going, Stopped, Accepts, Trapped, Unfinished, Sight, move}
+use Rattle.rb_code.specs.WordMachine.Workspace.{Workspace}
+use Rattle.rb_code.specs.Instructions.Plain.{Code}
+use Rattle.rb_code.specs.WordMachine.Turn.{Copy, Standing, memory_of, most_steps, sight, want}
 use Rattle.rb_code.specs.declared.instr.Instr.{Instr}
 use Rattle.rb_code.specs.declared.instr.Instr.TheVariants.{Load, Prior, LoadAt, PriorAt, Store, StoreAt, Frame, Print, Room, Put, There, Take, Call, Absent}
 use Rattle.rb_proc.specs.Process.{alternate_for, message_for}
@@ -35,7 +35,7 @@ named_at None = 0
 named_at (Some one) = named one
 
 -- what is named from where an instruction leads
-abbrev pub named_from : Outcome → (ℕ → List ℤ → Memory → ℕ) → ℕ
+abbrev pub named_from : Outcome → (ℕ → List ℤ → Workspace → ℕ) → ℕ
 named_from (Going a operands m) next = next a operands m
 named_from (Stopped a m) next = 0
 named_from (Accepts a m) next = 0
@@ -43,7 +43,7 @@ named_from (Trapped cause) next = 0
 named_from Unfinished next = 0
 
 -- how many words the instructions name that are carried out from an address on, of which there are at most n
-abbrev pub named_along : Code → Sight → ℕ → ℕ → List ℤ → Memory → ℕ
+abbrev pub named_along : Code → Sight → ℕ → ℕ → List ℤ → Workspace → ℕ
 named_along c see zero a operands m = 0
 named_along c see (suc n) a operands m = named_at (slice_get c.instrs a) + named_from (move c see a operands m) (named_along c see n)
 

@@ -49,7 +49,7 @@ pub struct LevelView {
 
 /// Whether a process runs, is done, or has failed.
 #[derive(Clone, Copy, Debug, PartialEq, Eq)]
-pub enum Status {
+pub enum ProcessStatus {
     Running,
     Finished,
     Failed(Cause),

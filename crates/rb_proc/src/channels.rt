@@ -1,23 +1,24 @@
 //! Instructions on channels and lines.
 
 ghost use Rattle.std.specs.Prelude.{◌≡◌, ℕ, ◌+◌, ◌-◌, ◌<◌, ◌≤◌, ◌^◌, ◌+ℤ◌, ℤ, pos, cond, List, [], ◌∷◌, map, length, Option};
+ghost use Rattle.rb_base.specs.declared.limits.TheConstants.{MOST_OPERANDS};
 ghost use Rattle.rb_meaning.specs.Environment.{natural as count};
 ghost use Rattle.rb_world.specs.Slots.{Slots, put_slot};
-ghost use Rattle.rb_code.specs.Plain.{Code as Plain, code as plain};
-ghost use Rattle.rb_code.specs.Memory.{Counting as Counts, cursor_place, held_place, part_of, place_among, variables_place, word_at};
-ghost use Rattle.rb_code.specs.Act.{Going, Sight as Seen, if_there, joined_pieces, on_top, printed, put, risen};
-ghost use Rattle.rb_bench.specs.Outcomes.{outcome_of};
+ghost use Rattle.rb_code.specs.Instructions.Plain.{Code as Plain, code as plain};
+ghost use Rattle.rb_code.specs.WordMachine.Workspace.{Counting as Counts, cursor_place, held_place, part_of, place_among, variables_place, word_at};
+ghost use Rattle.rb_code.specs.WordMachine.Act.{Going, Sight as Seen, if_there, joined_pieces, on_top, printed, put, risen};
+ghost use Rattle.rb_operands.specs.Outcomes.{outcome_of};
 ghost use Rattle.rb_proc.specs.Outcomes.{Keeps, mem};
-ghost use Rattle.rb_bench.specs.Pieces.{AreTexts, piece_text};
+ghost use Rattle.rb_operands.specs.Pieces.{AreTexts, piece_text};
 ghost use Rattle.rb_proc.specs.Sees.{AreSized, IsTurnOf};
 
 use crate::recoverable::{Recoverable, natural};
 use rb_base::{Cause, Steps, Text};
-use rb_bench::Next;
-use rb_bench::line::Line;
-use rb_bench::operands::Operands;
 use rb_code::Code;
 use rb_mail::Mail;
+use rb_operands::Next;
+use rb_operands::line::Line;
+use rb_operands::operands::Operands;
 use std::sync::ledger::Ledger;
 
 /// The place of a channel's cursor among the words of a process.
@@ -115,7 +116,7 @@ pub fn take_message<L: Ledger>(
 ) -> Next
     requires at { at + 1 < 2 ^ 32 }
     requires process { process < length code.now.processes.items }
-    requires room { length operands.old < 512 }
+    requires room { length operands.old < MOST_OPERANDS }
     requires there { cursor_place (part_of (plain code.now) process) channel < length memory.old.words }
     requires low { count (word_at memory.old.words (cursor_place (part_of (plain code.now) process) channel)) < 2 ^ 32 - 1 }
     ensures moved { (see : Seen) (pieces : List (List ℕ)) (counters : List (Option Counts)) (slots : Slots)

@@ -2,15 +2,15 @@
 
 ghost use Rattle.std.specs.Prelude.{◌≡◌, ℕ, ◌+◌, ◌*◌, ◌<◌, ◌≤◌, ◌^◌, ℤ, List, [], length, map, slice_get};
 ghost use Rattle.rb_world.specs.World.{copy_of, last_of};
-ghost use Rattle.rb_code.specs.Plain.{code as plain};
-ghost use Rattle.rb_code.specs.Memory.{Memory};
-ghost use Rattle.rb_code.specs.Act.{Going, act as acted, alternate_address, if_there};
-ghost use Rattle.rb_code.specs.Safe.{Ready};
-ghost use Rattle.rb_code.specs.Stays.{HasEnough, entry_calls};
+ghost use Rattle.rb_code.specs.Instructions.Plain.{code as plain};
+ghost use Rattle.rb_code.specs.WordMachine.Workspace.{Workspace};
+ghost use Rattle.rb_code.specs.WordMachine.Act.{Going, act as acted, alternate_address, if_there};
+ghost use Rattle.rb_code.specs.SoundCode.Safe.{Ready};
+ghost use Rattle.rb_code.specs.SoundCode.Stays.{HasEnough, entry_calls};
 ghost use Rattle.rb_proc.specs.Acts.{CursorRises, LeavesEnough};
-ghost use Rattle.rb_bench.specs.Outcomes.{outcome_of};
+ghost use Rattle.rb_operands.specs.Outcomes.{outcome_of};
 ghost use Rattle.rb_proc.specs.Outcomes.{Keeps, whole};
-ghost use Rattle.rb_bench.specs.Pieces.{AreTexts};
+ghost use Rattle.rb_operands.specs.Pieces.{AreTexts};
 ghost use Rattle.rb_proc.specs.Sees.{AreSized, IsTurnOf, see_of};
 ghost use Rattle.rb_proc.specs.Work.{named};
 
@@ -21,19 +21,19 @@ use crate::words::{
     call, drop_words, frame, go_back, load, load_at, prior, prior_at, store, store_at,
 };
 use rb_base::{Cause, Steps};
-use rb_bench::calculate::{
-    again, bound, counter, jump_zero, negate, operate, push, range, test, test_zero,
-};
-use rb_bench::line::Piece;
-use rb_bench::{Bench, Next};
 use rb_code::{Code, Instr};
 use rb_mail::Mail;
+use rb_operands::calculate::{
+    again, bound, counter, jump_zero, negate, operate, push, range, test, test_zero,
+};
+use rb_operands::line::Piece;
+use rb_operands::{Bench, Next};
 use rb_syntax::Op;
 use std::sync::ledger::Ledger;
 
 /// Goes to an alternate of a recovery block, counted from 1.
 fn start(code: &Code, block: u32, alternate: u32) -> Next
-    ensures { (a : ℕ) (operands : List ℤ) (m : Memory)
+    ensures { (a : ℕ) (operands : List ℤ) (m : Workspace)
         → outcome_of result a operands m
         ≡ if_there (alternate_address (slice_get (plain code.now).blocks block) alternate) (λ to. Going to operands m) }
 {

@@ -12,5 +12,5 @@ pub mod sight;
 pub mod wants;
 pub mod words;
 
-pub use answers::{LevelView, Outcome, Status, Wanted};
+pub use answers::{LevelView, Outcome, ProcessStatus, Wanted};
 pub use process::Proc;

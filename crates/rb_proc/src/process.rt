@@ -3,24 +3,24 @@
 ghost use Rattle.std.specs.Prelude.{◌≡◌, ℕ, ◌+◌, ◌-◌, ◌*◌, ◌<◌, ◌≤◌, ◌^◌, false, List, [], ◌∷◌, ◌++◌, length, position, drop, slice_get, Some, IfOk, option_copied};
 ghost use Rattle.std.specs.Borrow.{sem};
 ghost use Rattle.std.specs.Io.BufRead.{Rests};
-ghost use Rattle.rb_base.specs.declared.limits.TheConstants.{MOST_HELD_BYTES};
+ghost use Rattle.rb_base.specs.declared.limits.TheConstants.{MOST_HELD_BYTES, MOST_OPEN_LEVELS};
 ghost use Rattle.rb_world.specs.Kind.{Membership};
 ghost use Rattle.rb_world.specs.Reject.{fallen, put_back as put_back_at, raised};
 ghost use Rattle.rb_world.specs.Standing.{Each};
 ghost use Rattle.rb_world.specs.Turn.{freed, is_over, lines_freed, stands_at, stands_now, turn_used};
 ghost use Rattle.rb_world.specs.World.{Running, is_of, settled, without_last};
 ghost use Rattle.rb_cache.specs.Copies.{accepted};
-ghost use Rattle.rb_code.specs.Plain.{Code as Plain, code as plain};
-ghost use Rattle.rb_code.specs.Stands.{Serves, SettlesSoundly, StandsSoundly};
-ghost use Rattle.rb_code.specs.Turn.{want as wanted_in};
+ghost use Rattle.rb_code.specs.Instructions.Plain.{Code as Plain, code as plain};
+ghost use Rattle.rb_code.specs.SoundCode.Stands.{Serves, SettlesSoundly, StandsSoundly};
+ghost use Rattle.rb_code.specs.WordMachine.Turn.{want as wanted_in};
 ghost use Rattle.rb_trace.specs.Ended.{state_of};
-ghost use Rattle.rb_code.specs.Memory.{part_of};
-ghost use Rattle.rb_code.specs.WordKind.{cursor_in};
-ghost use Rattle.rb_code.specs.WordRun.{opening_standing, variable_words};
+ghost use Rattle.rb_code.specs.WordMachine.Workspace.{part_of};
+ghost use Rattle.rb_code.specs.WordMachine.WordKind.{cursor_in};
+ghost use Rattle.rb_code.specs.WordMachine.WordRun.{opening_standing, variable_words};
 ghost use Rattle.rb_proc.specs.Contents.{IsBelowLast};
 ghost use Rattle.rb_proc.specs.Entries.{EntersAs};
 ghost use Rattle.rb_proc.specs.Executable.{IsExecutable};
-ghost use Rattle.rb_bench.specs.Outcomes.{stop_at};
+ghost use Rattle.rb_operands.specs.Outcomes.{stop_at};
 ghost use Rattle.rb_proc.specs.Runs.{CursorsRise};
 ghost use Rattle.rb_proc.specs.Sees.{AreSized};
 ghost use Rattle.rb_proc.specs.Statuses.{status_of};
@@ -28,16 +28,16 @@ ghost use Rattle.rb_proc.specs.Views.{CursorThen, IsViewOf};
 ghost use Rattle.rb_proc.specs.Process.{Seen, StepsTo, alternate_for, kind_of, message_for, step_of, wanted_by, wanted_of};
 ghost use Rattle.rb_proc.specs.Work.{named_in_step, named_settling, places_touched};
 
-use crate::answers::{LevelView, Outcome, Status, Wanted};
+use crate::answers::{LevelView, Outcome, ProcessStatus, Wanted};
 use crate::channels::{cursor_place as place_of_cursor, first_variable};
 use crate::recoverable::{Recoverable, natural};
 use crate::run::run;
 use crate::sight::Sight;
 use crate::wants::{alternate_of, cursor_of, entry_at, message_of, status_here, want_at};
 use rb_base::{Cause, Memory, State, Steps};
-use rb_bench::{Bench, Ended};
 use rb_code::Code;
 use rb_mail::Mail;
+use rb_operands::{Bench, Ended};
 use std::alloc::Global;
 use std::marker::Model;
 use std::sync::ledger::Ledger;
@@ -51,7 +51,7 @@ pub struct Proc<L: Ledger> {
     at: u32,
     last_kept: u32,
     at_line: bool,
-    status: Status,
+    status: ProcessStatus,
 }
 
 impl<L: Ledger> Model for Proc<L> {
@@ -96,7 +96,7 @@ impl<L: Ledger> Proc<L> {
             at: start_of(code, process),
             last_kept: 0,
             at_line: false,
-            status: Status::Running,
+            status: ProcessStatus::Running,
         };
         proc.settle(code, steps);
         Ok(proc)
@@ -108,9 +108,9 @@ impl<L: Ledger> Proc<L> {
         ensures { result ≡ wanted_of (plain code.now) self.now.process }
     {
         match self.status {
-            Status::Running if self.at_line => Wanted::Line,
-            Status::Running => want_at(code, self.at),
-            Status::Finished | Status::Failed(_) => Wanted::Idle,
+            ProcessStatus::Running if self.at_line => Wanted::Line,
+            ProcessStatus::Running => want_at(code, self.at),
+            ProcessStatus::Finished | ProcessStatus::Failed(_) => Wanted::Idle,
         }
     }
 
@@ -119,9 +119,9 @@ impl<L: Ledger> Proc<L> {
         ensures { result ≡ state_of (self.now.process.status, length self.now.process.levels) }
     {
         match self.status {
-            Status::Running => State::Running(self.memory.levels()),
-            Status::Finished => State::Done,
-            Status::Failed(_) => State::Failed,
+            ProcessStatus::Running => State::Running(self.memory.levels()),
+            ProcessStatus::Finished => State::Done,
+            ProcessStatus::Failed(_) => State::Failed,
         }
     }
 
@@ -307,13 +307,13 @@ impl<L: Ledger> Proc<L> {
         ensures { self.new ≡ record self.old { process = stands_now self.old.process.state self.old.process.levels } }
     {
         self.at_line = true;
-        self.status = Status::Running;
+        self.status = ProcessStatus::Running;
     }
 
     /// Enters the recovery block that stands next, if one does, at an alternate; the turn is the last kept one of the level's copy.
     pub fn enter(&mut self, code: &Code, alternate: u32, turn: u32)
         requires code { IsExecutable (plain code.now) }
-        requires room { length self.old.process.levels < 32 }
+        requires room { length self.old.process.levels < MOST_OPEN_LEVELS }
         ensures process { EntersAs (plain code.now)
             (wanted_in (plain code.now) self.old.process.state) alternate turn self.old.process self.new.process }
         ensures waiting { self.new.waiting ≡ self.old.waiting }
@@ -356,7 +356,7 @@ impl<L: Ledger> Proc<L> {
     {
         self.memory.forget_levels();
         self.at_line = false;
-        self.status = Status::Failed(cause);
+        self.status = ProcessStatus::Failed(cause);
     }
 
     /// Its held lines are released if no level is open. Where one is, or no line is held, nothing is touched.
@@ -433,7 +433,7 @@ impl<L: Ledger> Proc<L> {
     }
 
     /// Whether it runs, is done, or has failed, and then with which cause.
-    pub fn status(&self) -> Status
+    pub fn status(&self) -> ProcessStatus
         ensures { status_of result ≡ self.now.process.status }
     {
         self.status

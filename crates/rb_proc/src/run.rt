@@ -1,16 +1,16 @@
 //! All instructions up to an end.
 
 ghost use Rattle.std.specs.Prelude.{◌≡◌, ◌+◌, ◌*◌, ◌<◌, ◌≤◌, ◌^◌, ℤ, List, [], length};
-ghost use Rattle.rb_code.specs.Plain.{code as plain};
-ghost use Rattle.rb_code.specs.Act.{execute};
-ghost use Rattle.rb_code.specs.Safe.{IsUnchanged, Safe};
-ghost use Rattle.rb_code.specs.Stays.{Stays, entry_calls};
-ghost use Rattle.rb_code.specs.Turn.{most_steps};
+ghost use Rattle.rb_code.specs.Instructions.Plain.{code as plain};
+ghost use Rattle.rb_code.specs.WordMachine.Act.{execute};
+ghost use Rattle.rb_code.specs.SoundCode.Safe.{IsUnchanged, Safe};
+ghost use Rattle.rb_code.specs.SoundCode.Stays.{Stays, entry_calls};
+ghost use Rattle.rb_code.specs.WordMachine.Turn.{most_steps};
 ghost use Rattle.rb_world.specs.World.{copy_of, last_of};
 ghost use Rattle.rb_proc.specs.Runs.{CursorsRise, KeepsEnded};
-ghost use Rattle.rb_bench.specs.Outcomes.{ended_of};
+ghost use Rattle.rb_operands.specs.Outcomes.{ended_of};
 ghost use Rattle.rb_proc.specs.Outcomes.{whole};
-ghost use Rattle.rb_bench.specs.Pieces.{AreTexts};
+ghost use Rattle.rb_operands.specs.Pieces.{AreTexts};
 ghost use Rattle.rb_proc.specs.Sees.{AreSized, IsTurnOf, see_of};
 ghost use Rattle.rb_proc.specs.Work.{named_along};
 
@@ -18,9 +18,9 @@ use crate::instruction::act;
 use crate::recoverable::Recoverable;
 use crate::sight::Sight;
 use rb_base::Steps;
-use rb_bench::{Bench, Ended, Next};
 use rb_code::Code;
 use rb_mail::Mail;
+use rb_operands::{Bench, Ended, Next};
 use std::sync::ledger::Ledger;
 
 /// Carries out the instructions from an address on, up to an end. At most three ticks for each word that they name.

@@ -1,10 +1,10 @@
 //! What a turn sees beside what it changes, and where its words lie.
 
 ghost use Rattle.std.specs.Prelude.{◌≡◌, ℕ, ◌+◌, ◌<◌, ◌≤◌, ◌^◌, length};
-ghost use Rattle.rb_code.specs.Act.{place};
-ghost use Rattle.rb_code.specs.Plain.{Code as Plain, code as plain};
+ghost use Rattle.rb_code.specs.WordMachine.Act.{place};
+ghost use Rattle.rb_code.specs.Instructions.Plain.{Code as Plain, code as plain};
 ghost use Rattle.rb_base.specs.Limits.{most_words};
-ghost use Rattle.rb_code.specs.Memory.{part_of, variables_place};
+ghost use Rattle.rb_code.specs.WordMachine.Workspace.{part_of, variables_place};
 ghost use Rattle.rb_proc.specs.Places.{most_places};
 ghost use Rattle.rb_proc.specs.Sees.{IsTurnOf, see_of};
 

@@ -2,10 +2,10 @@
 
 ghost use Rattle.std.specs.Prelude.{◌≡◌, ◌+◌, ◌<◌, ◌≤◌, ◌^◌, length, slice_get, IfSome};
 ghost use Rattle.rb_world.specs.World.{status_at};
-ghost use Rattle.rb_code.specs.Plain.{code as plain};
-ghost use Rattle.rb_code.specs.Turn.{enters, wants_by, wants_there};
+ghost use Rattle.rb_code.specs.Instructions.Plain.{code as plain};
+ghost use Rattle.rb_code.specs.WordMachine.Turn.{enters, wants_by, wants_there};
 ghost use Rattle.rb_world.specs.Slots.{slot_of};
-ghost use Rattle.rb_code.specs.WordKind.{cursor_in};
+ghost use Rattle.rb_code.specs.WordMachine.WordKind.{cursor_in};
 ghost use Rattle.rb_proc.specs.Process.{wanted_by};
 ghost use Rattle.rb_proc.specs.Entries.{EntryIs};
 ghost use Rattle.rb_proc.specs.Executable.{IsExecutable};
@@ -13,7 +13,7 @@ ghost use Rattle.rb_proc.specs.Given.{alternate_by, message_by};
 ghost use Rattle.rb_proc.specs.Sees.{AreSized};
 ghost use Rattle.rb_proc.specs.Statuses.{status_of};
 
-use crate::answers::{Status, Wanted};
+use crate::answers::{ProcessStatus, Wanted};
 use crate::channels::cursor_place;
 use crate::recoverable::{BlockFacts, Recoverable, natural};
 use rb_base::Steps;
@@ -51,13 +51,13 @@ fn want_of(code: &Code, instr: Instr) -> Wanted
 }
 
 /// Whether a process that stands at an address is done.
-pub fn status_here(code: &Code, at: u32) -> Status
+pub fn status_here(code: &Code, at: u32) -> ProcessStatus
     ensures { status_of result
         ≡ status_at (wants_there (plain code.now) (slice_get (plain code.now).instrs at) (slice_get (plain code.now).instrs (at + 1))) }
 {
     match code.instrs.get(at as usize) {
-        Some(Instr::Done) => Status::Finished,
-        _ => Status::Running,
+        Some(Instr::Done) => ProcessStatus::Finished,
+        _ => ProcessStatus::Running,
     }
 }
 

@@ -1,25 +1,26 @@
 //! Instructions on the words and the calls of a process.
 
 ghost use Rattle.std.specs.Prelude.{◌≡◌, ℕ, ◌+◌, ◌-◌, ◌*◌, ◌<◌, ◌≤◌, ◌^◌, ℤ, pos, cond, nat_le, List, [], ◌∷◌, length, Option};
+ghost use Rattle.rb_base.specs.declared.limits.TheConstants.{MOST_OPERANDS};
 ghost use Rattle.rb_base.specs.declared.event.Cause.TheVariants.{Calls, Stack};
 ghost use Rattle.rb_meaning.specs.Environment.{natural};
 ghost use Rattle.rb_meaning.specs.Step.{most_calls};
 ghost use Rattle.rb_world.specs.Slots.{Slots};
 ghost use Rattle.rb_world.specs.World.{copy_of, last_of};
-ghost use Rattle.rb_code.specs.Plain.{Code as Plain};
-ghost use Rattle.rb_code.specs.Memory.{Counting as Counts, Memory, called, dropped, framed, word_at, written};
-ghost use Rattle.rb_code.specs.Act.{Going, Sight as Seen, Trapped, arguments, below, on_top, returned};
-ghost use Rattle.rb_code.specs.Safe.{HasCall, HasTop, StayAbove};
-ghost use Rattle.rb_code.specs.Stays.{entry_calls};
-ghost use Rattle.rb_code.specs.Turn.{prior_words};
-ghost use Rattle.rb_bench.specs.Outcomes.{outcome_of};
+ghost use Rattle.rb_code.specs.Instructions.Plain.{Code as Plain};
+ghost use Rattle.rb_code.specs.WordMachine.Workspace.{Counting as Counts, Workspace, called, dropped, framed, word_at, written};
+ghost use Rattle.rb_code.specs.WordMachine.Act.{Going, Sight as Seen, Trapped, arguments, below, on_top, returned};
+ghost use Rattle.rb_code.specs.SoundCode.Safe.{HasCall, HasTop, StayAbove};
+ghost use Rattle.rb_code.specs.SoundCode.Stays.{entry_calls};
+ghost use Rattle.rb_code.specs.WordMachine.Turn.{prior_words};
+ghost use Rattle.rb_operands.specs.Outcomes.{outcome_of};
 ghost use Rattle.rb_proc.specs.Outcomes.{Keeps, mem};
 ghost use Rattle.rb_proc.specs.Places.{most_places};
 
 use crate::recoverable::Recoverable;
 use rb_base::{Cause, Steps};
-use rb_bench::Next;
-use rb_bench::operands::Operands;
+use rb_operands::Next;
+use rb_operands::operands::Operands;
 use std::sync::ledger::Ledger;
 
 /// Pushes a word.
@@ -31,9 +32,9 @@ pub fn load<L: Ledger>(
     steps: &mut Steps<L>,
 ) -> Next
     requires at { at + 1 < 2 ^ 32 }
-    requires room { length operands.old < 512 }
+    requires room { length operands.old < MOST_OPERANDS }
     requires there { from < length memory.now.words }
-    ensures moved { (m : Memory) → outcome_of result at operands.new m ≡ Going (at + 1) (word_at memory.now.words from ∷ operands.old) m }
+    ensures moved { (m : Workspace) → outcome_of result at operands.new m ≡ Going (at + 1) (word_at memory.now.words from ∷ operands.old) m }
     ensures ticks { steps.new ≤ steps.old + 1 }
 {
     let word = memory.load(from, steps);
@@ -50,9 +51,9 @@ pub fn prior<L: Ledger>(
     steps: &mut Steps<L>,
 ) -> Next
     requires at { at + 1 < 2 ^ 32 }
-    requires room { length operands.old < 512 }
+    requires room { length operands.old < MOST_OPERANDS }
     requires there { from < length (prior_words (copy_of (last_of memory.now.levels))) }
-    ensures moved { (m : Memory)
+    ensures moved { (m : Workspace)
         → outcome_of result at operands.new m
         ≡ Going (at + 1) (word_at (prior_words (copy_of (last_of memory.now.levels))) from ∷ operands.old) m }
     ensures ticks { steps.new ≤ steps.old + 1 }
@@ -73,7 +74,7 @@ pub fn load_at<L: Ledger>(
     requires at { at + 1 < 2 ^ 32 }
     requires small { first < 2 ^ 33 }
     requires there { HasTop operands.old (λ i rest. (k : ℕ) × (i ≡ pos k) × (first + k < length memory.now.words)) }
-    ensures moved { (m : Memory)
+    ensures moved { (m : Workspace)
         → outcome_of result at operands.new m
         ≡ on_top operands.old (λ i rest. Going (at + 1) (word_at memory.now.words (first + natural i) ∷ rest) m) }
     ensures ticks { steps.new ≤ steps.old + 1 }
@@ -96,7 +97,7 @@ pub fn prior_at<L: Ledger>(
     requires small { first < 2 ^ 33 }
     requires there { HasTop operands.old
         (λ i rest. (k : ℕ) × (i ≡ pos k) × (first + k < length (prior_words (copy_of (last_of memory.now.levels))))) }
-    ensures moved { (m : Memory)
+    ensures moved { (m : Workspace)
         → outcome_of result at operands.new m
         ≡ on_top operands.old
         (λ i rest. Going (at + 1) (word_at (prior_words (copy_of (last_of memory.now.levels))) (first + natural i) ∷ rest) m) }

@@ -1,5 +1,5 @@
 use Rattle.std.proofs.Common.{◌≡◌, ◌+◌, drop}
-use Rattle.rb_code.specs.Memory.{place_among}
+use Rattle.rb_code.specs.WordMachine.Workspace.{place_among}
 use Rattle.rb_proc.proofs.channels.place_among.Given as goal
 
 abbrev pub invariant-loop-place : goal.invariant-loop-place

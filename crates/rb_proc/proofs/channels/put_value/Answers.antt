@@ -1,5 +1,5 @@
 use Rattle.std.proofs.Common.{rules}
-use Rattle.rb_code.specs.Plain.{code as plain}
+use Rattle.rb_code.specs.Instructions.Plain.{code as plain}
 use Rattle.rb_proc.proofs.Mailed.{put_comes}
 use Rattle.rb_proc.proofs.channels.put_value.Goals as goal
 

@@ -1,11 +1,11 @@
 use Rattle.std.proofs.Common.{◌≡◌, ℕ, List, map, refl, ap, sym, ◌∙◌, subst}
-use Rattle.rb_code.specs.Plain.{code as plain}
-use Rattle.rb_code.specs.Act.{act as acted}
-use Rattle.rb_code.specs.Safe.{Ready}
+use Rattle.rb_code.specs.Instructions.Plain.{code as plain}
+use Rattle.rb_code.specs.WordMachine.Act.{act as acted}
+use Rattle.rb_code.specs.SoundCode.Safe.{Ready}
 use Rattle.rb_code.specs.declared.instr.Instr.{Instr}
-use Rattle.rb_bench.specs.Outcomes.{outcome_of}
+use Rattle.rb_operands.specs.Outcomes.{outcome_of}
 use Rattle.rb_proc.specs.Outcomes.{mem, pieces_in, whole}
-use Rattle.rb_bench.specs.Pieces.{piece_text}
+use Rattle.rb_operands.specs.Pieces.{piece_text}
 use Rattle.rb_code.specs.declared.instr.Instr.TheVariants.{Print}
 use Rattle.rb_proc.specs.Sees.{see_of}
 use Rattle.rb_proc.proofs.Texts.{text_comes}

@@ -1,10 +1,10 @@
 use Rattle.std.proofs.Common.{◌≡◌, ℕ, ◌≤◌, List, refl, ap, sym, ◌∙◌, subst, arith}
 use Rattle.rb_world.specs.World.{Level, copy_of, last_of}
-use Rattle.rb_code.specs.Plain.{code as plain}
-use Rattle.rb_code.specs.Act.{Accepts, Going, Stopped, Trapped, act as acted, execute}
-use Rattle.rb_code.specs.Safe.{IsUnchanged, Ready}
-use Rattle.rb_code.specs.Stays.{entry_calls}
-use Rattle.rb_code.specs.Turn.{Copy, most_steps}
+use Rattle.rb_code.specs.Instructions.Plain.{code as plain}
+use Rattle.rb_code.specs.WordMachine.Act.{Accepts, Going, Stopped, Trapped, act as acted, execute}
+use Rattle.rb_code.specs.SoundCode.Safe.{IsUnchanged, Ready}
+use Rattle.rb_code.specs.SoundCode.Stays.{entry_calls}
+use Rattle.rb_code.specs.WordMachine.Turn.{Copy, most_steps}
 use Rattle.rb_proc.specs.Acts.{CursorRises, LeavesEnough}
 use Rattle.rb_proc.specs.Contents.{Contents}
 use Rattle.rb_proc.specs.Outcomes.{pieces_in, whole}

@@ -1,11 +1,11 @@
 use Rattle.rb_proc.specs.Runs.{CursorsRise}
 use Rattle.std.proofs.Common.{ℤ, List, ◌≡◌, ◌≤◌, ◌+◌, ◌*◌}
 use Rattle.rb_world.specs.World.{copy_of, last_of}
-use Rattle.rb_code.specs.Plain.{code as plain}
-use Rattle.rb_code.specs.Act.{execute}
-use Rattle.rb_code.specs.Safe.{IsUnchanged, steps_left}
-use Rattle.rb_code.specs.Stays.{entry_calls}
-use Rattle.rb_code.specs.Turn.{most_steps}
+use Rattle.rb_code.specs.Instructions.Plain.{code as plain}
+use Rattle.rb_code.specs.WordMachine.Act.{execute}
+use Rattle.rb_code.specs.SoundCode.Safe.{IsUnchanged, steps_left}
+use Rattle.rb_code.specs.SoundCode.Stays.{entry_calls}
+use Rattle.rb_code.specs.WordMachine.Turn.{most_steps}
 use Rattle.rb_proc.specs.Outcomes.{whole}
 use Rattle.rb_proc.specs.Sees.{AreSized, see_of}
 use Rattle.rb_proc.specs.Work.{named_along}

@@ -1,8 +1,8 @@
 use Rattle.std.proofs.Common.{◌≡◌, ℕ, length, ap, sym, subst, arith, rules}
 use Rattle.std.specs.Prelude.{Option, Some, None}
 use Rattle.rb_world.specs.Kind.{Facts}
-use Rattle.rb_code.specs.Plain.{Block, block}
-use Rattle.rb_code.specs.Turn.{enters}
+use Rattle.rb_code.specs.Instructions.Plain.{Block, block}
+use Rattle.rb_code.specs.WordMachine.Turn.{enters}
 use Rattle.rb_proc.specs.Entries.{EntryIs}
 use Rattle.rb_proc.specs.declared.recoverable.BlockFacts.{BlockFacts}
 use Rattle.rb_proc.proofs.Entered.{mapped_none, mapped_there}

@@ -1,7 +1,7 @@
 use Rattle.std.proofs.Common.{ℕ, w64, ap, ◌∙◌, arith, rules}
 use Rattle.std.proofs.lemmas.Int.{to_z-of_z}
 use Rattle.rb_world.specs.Slots.{slot_of}
-use Rattle.rb_code.specs.Plain.{code as plain}
+use Rattle.rb_code.specs.Instructions.Plain.{code as plain}
 use Rattle.rb_proc.proofs.Stepping.{slot_none, slot_there}
 use Rattle.rb_proc.proofs.wants.message_in.Goals as goal
 

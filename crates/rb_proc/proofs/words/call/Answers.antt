@@ -1,5 +1,5 @@
 use Rattle.std.proofs.Common.{ℤ, List, length, arith, ap, ◌∙◌}
-use Rattle.rb_bench.proofs.Tops.{arguments_long}
+use Rattle.rb_operands.proofs.Tops.{arguments_long}
 use Rattle.rb_proc.proofs.words.call.Goals as goal
 
 pub open_call-requires-clause-words : goal.open_call-requires-clause-words

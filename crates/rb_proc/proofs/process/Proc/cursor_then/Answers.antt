@@ -3,9 +3,9 @@ use Rattle.std.specs.Prelude.{slice_get}
 use Rattle.std.proofs.lemmas.Int.{to_z-of_z}
 use Rattle.rb_world.specs.World.{copy_of}
 use Rattle.rb_meaning.specs.Environment.{natural}
-use Rattle.rb_code.specs.Plain.{code as plain}
-use Rattle.rb_code.specs.Memory.{word_at}
-use Rattle.rb_code.specs.Turn.{prior_words}
+use Rattle.rb_code.specs.Instructions.Plain.{code as plain}
+use Rattle.rb_code.specs.WordMachine.Workspace.{word_at}
+use Rattle.rb_code.specs.WordMachine.Turn.{prior_words}
 use Rattle.rb_proc.specs.Process.{Seen}
 use Rattle.rb_proc.specs.Views.{CursorThen}
 use Rattle.rb_proc.proofs.Looked.{cursor_there}

@@ -1,8 +1,8 @@
 use Rattle.std.proofs.Common.{◌≤◌, ◌+◌, ◌*◌, [], List, ap, sym, ◌∙◌, subst, arith}
 use Rattle.rb_world.specs.Kind.{Membership}
 use Rattle.rb_world.specs.World.{settled}
-use Rattle.rb_code.specs.Plain.{code as plain}
-use Rattle.rb_code.specs.Stands.{SettlesSoundly}
+use Rattle.rb_code.specs.Instructions.Plain.{code as plain}
+use Rattle.rb_code.specs.SoundCode.Stands.{SettlesSoundly}
 use Rattle.rb_proc.specs.Outcomes.{pieces_in}
 use Rattle.rb_proc.specs.Process.{Seen, kind_of}
 use Rattle.rb_proc.specs.Work.{named_settling}

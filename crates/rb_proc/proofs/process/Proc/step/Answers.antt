@@ -1,9 +1,9 @@
 use Rattle.std.proofs.Common.{◌≡◌, ℕ, ◌+◌, ◌*◌, ◌≤◌, false, List, refl, ap, sym, ◌∙◌, subst, arith}
 use Rattle.rb_world.specs.Kind.{Membership}
-use Rattle.rb_world.specs.World.{Level, Status as Stands}
-use Rattle.rb_code.specs.Plain.{code as plain}
-use Rattle.rb_code.specs.Stands.{Serves, StandsSoundly}
-use Rattle.rb_code.specs.Turn.{Copy, want}
+use Rattle.rb_world.specs.World.{Level, ProcessStatus as Stands}
+use Rattle.rb_code.specs.Instructions.Plain.{code as plain}
+use Rattle.rb_code.specs.SoundCode.Stands.{Serves, StandsSoundly}
+use Rattle.rb_code.specs.WordMachine.Turn.{Copy, want}
 use Rattle.rb_proc.specs.Contents.{Contents}
 use Rattle.rb_proc.specs.Outcomes.{whole}
 use Rattle.rb_proc.specs.Runs.{CursorsRise}

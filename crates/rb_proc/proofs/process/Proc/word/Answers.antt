@@ -1,9 +1,9 @@
 use Rattle.std.proofs.Common.{ℕ, ◌+◌, ◌<◌, ℤ, w64, length, ap, sym, ◌∙◌, subst, rules}
 use Rattle.std.specs.Prelude.{slice_get, Some}
 use Rattle.std.proofs.lemmas.Int.{to_z-of_z}
-use Rattle.rb_code.specs.Plain.{code as plain}
-use Rattle.rb_code.specs.Memory.{part_of, variables_place, word_at}
-use Rattle.rb_code.specs.WordRun.{variable_words}
+use Rattle.rb_code.specs.Instructions.Plain.{code as plain}
+use Rattle.rb_code.specs.WordMachine.Workspace.{part_of, variables_place, word_at}
+use Rattle.rb_code.specs.WordMachine.WordRun.{variable_words}
 use Rattle.rb_proc.specs.Process.{Seen}
 use Rattle.rb_proc.proofs.Looked.{word_there}
 use Rattle.rb_proc.proofs.process.Proc.word.Goals as goal

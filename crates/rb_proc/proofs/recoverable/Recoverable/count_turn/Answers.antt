@@ -5,7 +5,7 @@ use Rattle.rb_world.specs.Standing.{Each}
 use Rattle.rb_world.specs.Turn.{is_over, one_used}
 use Rattle.rb_world.specs.World.{Level}
 use Rattle.rb_cache.specs.Copies.{copies}
-use Rattle.rb_code.specs.Turn.{Copy}
+use Rattle.rb_code.specs.WordMachine.Turn.{Copy}
 use Rattle.rb_proc.specs.Contents.{Contents}
 use Rattle.rb_proc.specs.Inside.{IsTied, contents, levels_of}
 use Rattle.rb_proc.specs.Marks.{is_mark_over, mark_used}

@@ -1,5 +1,5 @@
 use Rattle.std.proofs.Common.{◌-◌, length, take, ap, sym, ◌∙◌, subst, arith}
-use Rattle.rb_code.specs.Safe.{StayAbove}
+use Rattle.rb_code.specs.SoundCode.Safe.{StayAbove}
 use Rattle.rb_proc.specs.Contents.{Contents}
 use Rattle.rb_proc.proofs.Tied.{seen_cut, tied_cut}
 use Rattle.rb_proc.proofs.recoverable.Recoverable.drop_frame.Goals as goal

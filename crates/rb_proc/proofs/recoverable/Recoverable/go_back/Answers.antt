@@ -1,8 +1,8 @@
 use Rattle.std.proofs.Common.{◌≡◌, ◌<◌, ◌≤◌, ◌++◌, [], ◌∷◌, List, length, take, refl, ap, sym, ◌∙◌, subst, arith}
 use Rattle.std.specs.Prelude.{vec_capacity}
 use Rattle.rb_world.specs.World.{copy_of, last_of}
-use Rattle.rb_code.specs.Safe.{HasCall, StayAbove}
-use Rattle.rb_code.specs.Stays.{entry_calls}
+use Rattle.rb_code.specs.SoundCode.Safe.{HasCall, StayAbove}
+use Rattle.rb_code.specs.SoundCode.Stays.{entry_calls}
 use Rattle.rb_proc.specs.Contents.{Contents}
 use Rattle.rb_proc.specs.declared.recoverable.OpenCall.{OpenCall as Held}
 use Rattle.rb_proc.specs.Inside.{IsTied, call_of, calls_of, contents}

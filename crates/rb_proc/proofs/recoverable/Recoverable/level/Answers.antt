@@ -2,7 +2,7 @@ use Rattle.std.proofs.Common.{[], length, ap, sym, ◌∙◌, subst, arith}
 use Rattle.std.specs.Prelude.{get_or, slice_get, Option, Some}
 use Rattle.rb_world.specs.World.{Level}
 use Rattle.rb_cache.specs.Copies.{copies}
-use Rattle.rb_code.specs.Turn.{Copy}
+use Rattle.rb_code.specs.WordMachine.Turn.{Copy}
 use Rattle.rb_proc.specs.Contents.{Contents}
 use Rattle.rb_proc.specs.Inside.{level_of}
 use Rattle.rb_proc.specs.Views.{IsViewOf}

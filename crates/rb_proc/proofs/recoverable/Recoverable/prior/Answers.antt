@@ -2,8 +2,8 @@ use Rattle.std.proofs.Common.{ℤ, List, ◌<◌, length, pos, w64, ap, sym, ◌
 use Rattle.std.specs.Prelude.{get_or}
 use Rattle.std.proofs.lemmas.Int.{to_z-of_z}
 use Rattle.rb_world.specs.World.{copy_of, last_of}
-use Rattle.rb_code.specs.Turn.{prior_words}
-use Rattle.rb_code.specs.Memory.{word_at}
+use Rattle.rb_code.specs.WordMachine.Turn.{prior_words}
+use Rattle.rb_code.specs.WordMachine.Workspace.{word_at}
 use Rattle.rb_proc.specs.Contents.{Contents}
 use Rattle.rb_proc.proofs.Levels.{word_is}
 use Rattle.rb_proc.proofs.Tied.{last_copy_is, prior_long, prior_there}

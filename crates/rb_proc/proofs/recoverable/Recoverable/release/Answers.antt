@@ -1,7 +1,7 @@
 use Rattle.std.proofs.Common.{[], pos, length, ap, sym, ◌∙◌, subst}
 use Rattle.std.specs.Prelude.{slice_set, vec_capacity}
 use Rattle.rb_hold.specs.Held.{TwoLists}
-use Rattle.rb_code.specs.Memory.{held_place}
+use Rattle.rb_code.specs.WordMachine.Workspace.{held_place}
 use Rattle.rb_proc.specs.Contents.{Contents}
 use Rattle.rb_proc.specs.Inside.{IsTied, contents}
 use Rattle.rb_proc.proofs.Leaving.{seen_release, tied_release}
