@@ -5,9 +5,9 @@ use Rattle.rb_base.specs.Lines.{belonging}
 use Rattle.rb_base.specs.declared.event.State.{State}
 use Rattle.rb_trace.specs.Ended.{state_of}
 use Rattle.rb_world.specs.World.{Process}
-use Rattle.rb_code.specs.Plain.{Code}
-use Rattle.rb_code.specs.Turn.{Copy, Standing}
-use Rattle.rb_code.specs.WordRun.{variable_words}
+use Rattle.rb_code.specs.Instructions.Plain.{Code}
+use Rattle.rb_code.specs.WordMachine.Turn.{Copy, Standing}
+use Rattle.rb_code.specs.WordMachine.WordRun.{variable_words}
 use Rattle.rb_proc.specs.Process.{Seen}
 use Rattle.rb_machine.specs.Reading.{states_of, variables_of}
 use Rattle.rb_machine.specs.Worlds.{processes_of}

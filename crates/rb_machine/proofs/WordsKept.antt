@@ -5,7 +5,7 @@ use Rattle.std.proofs.Math.IntN.{+ℤ_one, suc_ℤ}
 use Rattle.rb_world.proofs.ListFacts.{slice_get-front}
 use Rattle.rb_world.proofs.Members.PlaceFacts.{slice_get-take}
 use Rattle.rb_meaning.specs.Environment.{natural}
-use Rattle.rb_code.specs.Memory.{word_at}
+use Rattle.rb_code.specs.WordMachine.Workspace.{word_at}
 
 -- words come behind it, or go
 pub word_front : (words more : List ℤ) (place : ℕ) → place < length words → word_at (words ++ more) place ≡ word_at words place

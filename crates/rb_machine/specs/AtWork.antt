@@ -1,15 +1,15 @@
 -- What holds of the machine's parts between two turns, and in a turn once it was counted.
 use Rattle.std.specs.Prelude.{◌≡◌, ◌<◌, ◌≤◌, ◌+◌, ◌-◌, ◌^◌, ℕ, Bool, true, false, List, length, slice_get, Some}
-use Rattle.rb_base.specs.declared.limits.TheConstants.{MOST_TURNS}
 use Rattle.rb_world.specs.Kind.{Want, NothingLeft, SendsOn, ReceivesOn, MayReceiveOn, Enters, Starts, Acts}
 use Rattle.rb_world.specs.Slots.{Slots}
 use Rattle.rb_world.specs.World.{Running}
-use Rattle.rb_code.specs.Plain.{Block, Code}
+use Rattle.rb_code.specs.Instructions.Plain.{Block, Code}
+use Rattle.rb_code.specs.SoundCode.WellFormed.{IsSound}
 use Rattle.rb_conv.specs.Conversations.{Conversation, memberships}
 use Rattle.rb_proc.specs.Executable.{IsExecutable}
 use Rattle.rb_proc.specs.Process.{Seen}
 use Rattle.rb_proc.specs.Sees.{AreSized}
-use Rattle.rb_machine.specs.Known.{IsKnown, IsLoaded}
+use Rattle.rb_machine.specs.Known.{IsKnown}
 use Rattle.rb_machine.specs.Worlds.{counts_of, memory_of, world_of}
 use Rattle.rb_machine.specs.declared.links.Link.{Link}
 
@@ -21,10 +21,10 @@ HasFewAlternates c = (b : ℕ) (block : Block) → slice_get c.blocks b ≡ Some
 pub record IsAtWork (c : Code) (t : ℕ) (procs : List Seen) (table : List Conversation) (slots : Slots) (links : List Link) : Type 0 where
   pub executable : IsExecutable c
   pub few : HasFewAlternates c
-  pub loaded : IsLoaded c (memberships table) (counts_of table)
-  pub known : IsKnown c (memberships table) (counts_of table) loaded.sound.table t (world_of procs table (memory_of slots links))
+  pub sound : IsSound c (memberships table) (counts_of table)
+  pub known : IsKnown c (memberships table) (counts_of table) sound.table t (world_of procs table (memory_of slots links))
   pub sized : AreSized c slots
-  pub turns : t ≤ MOST_TURNS + 2
+  pub turns : t < 2 ^ 32
 
 -- process number p is there, runs, and stands at no test line
 pub record MayActNow (one : Seen) : Type 0 where

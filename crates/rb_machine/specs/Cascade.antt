@@ -5,8 +5,8 @@ use Rattle.rb_base.specs.declared.event.Event.{Event}
 use Rattle.rb_world.specs.Nested.{AreNested, IsLevelOf}
 use Rattle.rb_world.specs.Reject.{Happened}
 use Rattle.rb_world.specs.World.{Level}
-use Rattle.rb_code.specs.Turn.{Common, Copy, Standing}
-use Rattle.rb_code.specs.WordRun.{WordWorld}
+use Rattle.rb_code.specs.WordMachine.Turn.{Common, Copy, Standing}
+use Rattle.rb_code.specs.WordMachine.WordRun.{WordWorld}
 use Rattle.rb_conv.specs.Conversations.{Conversation, conversation_at, memberships}
 use Rattle.rb_proc.specs.Process.{Seen}
 use Rattle.rb_machine.specs.Worlds.{CanRise, NoneWaits, counts_of, world_of}

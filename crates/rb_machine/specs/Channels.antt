@@ -4,12 +4,12 @@ use Rattle.std.specs.Option.{option_map, unwrap_or}
 use Rattle.rb_world.specs.Slots.{Slots, slot_of}
 use Rattle.rb_world.specs.Standing.{Each}
 use Rattle.rb_world.specs.World.{Level, Process}
-use Rattle.rb_code.specs.Plain.{Code}
-use Rattle.rb_code.specs.Memory.{part_of, variables_place}
-use Rattle.rb_code.specs.Stands.{IsAmong}
-use Rattle.rb_code.specs.Turn.{Copy, Standing}
-use Rattle.rb_code.specs.WellFormed.{ListsChannels}
-use Rattle.rb_code.specs.WordKind.{cursor_in}
+use Rattle.rb_code.specs.Instructions.Plain.{Code}
+use Rattle.rb_code.specs.WordMachine.Workspace.{part_of, variables_place}
+use Rattle.rb_code.specs.SoundCode.Stands.{IsAmong}
+use Rattle.rb_code.specs.WordMachine.Turn.{Copy, Standing}
+use Rattle.rb_code.specs.SoundCode.WellFormed.{ListsChannels}
+use Rattle.rb_code.specs.WordMachine.WordKind.{cursor_in}
 use Rattle.rb_proc.specs.Process.{Seen}
 
 -- a copy has the held length and all cursors of its process

@@ -1,7 +1,7 @@
 -- What the entry of a recovery block asks for, and the alternate at which it is entered.
 use Rattle.std.specs.Prelude.{◌≡◌, ◌<◌, ℕ, cond, List, length, slice_get, Option, Some, None}
 use Rattle.rb_world.specs.World.{Talk}
-use Rattle.rb_code.specs.Plain.{Block, Code}
+use Rattle.rb_code.specs.Instructions.Plain.{Block, Code}
 use Rattle.rb_conv.specs.Conversations.{Conversation, conversation_at}
 
 -- the block is there, and so is its conversation, if it has one

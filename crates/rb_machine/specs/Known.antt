@@ -9,26 +9,19 @@ use Rattle.rb_world.specs.Present.{TryPresent}
 use Rattle.rb_world.specs.Standing.{Each, IsBareIfFailed, IsShallow}
 use Rattle.rb_world.specs.Turn.{members_of}
 use Rattle.rb_world.specs.World.{Level, Process, Talk}
-use Rattle.rb_code.specs.Memory.{cursor_place, part_of, word_at}
-use Rattle.rb_code.specs.Plain.{Block, Code}
-use Rattle.rb_code.specs.Sound.{Table}
-use Rattle.rb_code.specs.Stands.{IsAmong}
-use Rattle.rb_code.specs.StandsInRuns.{ProcessStands}
-use Rattle.rb_code.specs.Turn.{Copy, Standing, block_facts}
-use Rattle.rb_code.specs.WellFormed.{IsSound}
-use Rattle.rb_code.specs.WordRun.{WordWorld}
+use Rattle.rb_code.specs.WordMachine.Workspace.{cursor_place, part_of, word_at}
+use Rattle.rb_code.specs.Instructions.Plain.{Block, Code}
+use Rattle.rb_code.specs.SoundCode.Sound.{Table}
+use Rattle.rb_code.specs.SoundCode.Stands.{IsAmong}
+use Rattle.rb_code.specs.SoundCode.StandsInRuns.{ProcessStands}
+use Rattle.rb_code.specs.WordMachine.Turn.{Copy, Standing, block_facts}
+use Rattle.rb_code.specs.SoundCode.WellFormed.{IsSound}
+use Rattle.rb_code.specs.WordMachine.WordRun.{WordWorld}
 use Rattle.rb_machine.specs.Linked.{AreLinked}
 
--- Of each conversation it is known how many alternates its blocks have.
-abbrev pub HasCounts : Code → List ℕ → Type 0
-HasCounts c counts = (b d : ℕ) (block : Block) → slice_get c.blocks b ≡ Some block → block.conversation ≡ Some d
-    → slice_get counts d ≡ Some (length block.alternates)
-
--- Sound code with its conversations, and how many alternates each of these has.
-pub record IsLoaded (c : Code) (groups : List Membership) (counts : List ℕ) : Type 0 where
-  pub sound : IsSound c groups
-  pub as_many : length counts ≡ length groups
-  pub counted : HasCounts c counts
+-- there are numbers of alternates of its conversations with which the code is sound
+abbrev pub IsSoundFor : Code → List Membership → Type 0
+IsSoundFor c groups = (counts : List ℕ) × IsSound c groups counts
 
 -- each level of a conversation is one of a member's
 abbrev pub OfMembers : {C : Type 0} → List Membership → ℕ → List (Level C) → Type 0

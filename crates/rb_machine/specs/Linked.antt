@@ -3,8 +3,8 @@
 use Rattle.std.specs.Prelude.{◌≡◌, ◌<◌, ℕ, List, [], ◌∷◌}
 use Rattle.rb_world.specs.Standing.{Each}
 use Rattle.rb_world.specs.World.{Process}
-use Rattle.rb_code.specs.Turn.{Copy, Link, Standing}
-use Rattle.rb_code.specs.WordRun.{WordWorld}
+use Rattle.rb_code.specs.WordMachine.Turn.{Copy, Link, Standing}
+use Rattle.rb_code.specs.WordMachine.WordRun.{WordWorld}
 
 -- the turns of links fall from below a number, the newest first, and none is 0
 abbrev pub Fall : ℕ → List Link → Type 0

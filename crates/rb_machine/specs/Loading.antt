@@ -2,11 +2,11 @@
 use Rattle.std.specs.Prelude.{ℕ, ◌<◌, List, [], length}
 use Rattle.rb_world.specs.Kind.{Membership}
 use Rattle.rb_world.specs.World.{settled}
-use Rattle.rb_code.specs.Memory.{part_of}
-use Rattle.rb_code.specs.Plain.{Code}
-use Rattle.rb_code.specs.Stands.{SettlesSoundly}
-use Rattle.rb_code.specs.Turn.{Standing}
-use Rattle.rb_code.specs.WordRun.{opening_standing}
+use Rattle.rb_code.specs.WordMachine.Workspace.{part_of}
+use Rattle.rb_code.specs.Instructions.Plain.{Code}
+use Rattle.rb_code.specs.SoundCode.Stands.{SettlesSoundly}
+use Rattle.rb_code.specs.WordMachine.Turn.{Standing}
+use Rattle.rb_code.specs.WordMachine.WordRun.{opening_standing}
 use Rattle.rb_proc.specs.Process.{Seen, kind_of}
 
 -- each process settles at the address of its body

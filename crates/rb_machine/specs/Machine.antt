@@ -1,12 +1,11 @@
 -- The machine as contracts see it: its code and its conversations, the world of the word machine that it stands for, the released lines
 -- that wait, how many turns it has taken, and how many it may take.
-use Rattle.std.specs.Prelude.{◌≡◌, ◌≤◌, ◌+◌, ℕ, Bool, true, false, List, [], ◌∷◌, length, replicate, slice_get}
-use Rattle.rb_base.specs.declared.limits.TheConstants.{MOST_TURNS}
+use Rattle.std.specs.Prelude.{◌≡◌, ◌<◌, ◌≤◌, ◌+◌, ◌-◌, ◌^◌, ℕ, Bool, true, false, List, [], ◌∷◌, length, replicate, slice_get}
 use Rattle.rb_world.specs.Kind.{Membership}
 use Rattle.rb_world.specs.Turn.{Told, turn}
-use Rattle.rb_code.specs.Plain.{Code}
-use Rattle.rb_code.specs.WordKind.{word_kind}
-use Rattle.rb_code.specs.WordRun.{WordWorld, opening_of, word_run}
+use Rattle.rb_code.specs.Instructions.Plain.{Code}
+use Rattle.rb_code.specs.WordMachine.WordKind.{word_kind}
+use Rattle.rb_code.specs.WordMachine.WordRun.{WordWorld, opening_of, word_run}
 use Rattle.rb_conv.specs.Conversations.{memberships}
 use Rattle.rb_machine.specs.AtWork.{IsAtWork}
 use Rattle.rb_machine.specs.Moves.{world}
@@ -43,7 +42,7 @@ pub record IsTied {L : Type 0} (c : Code) (parts : Parts L) (running : List Bool
   pub links_few : links ≤ taken
   pub links_room : most ≤ room
   pub taken_few : taken ≤ most
-  pub most_few : most ≤ MOST_TURNS
+  pub most_few : most < 2 ^ 32 - 1
 
 -- before the first turn
 abbrev pub opening_seen : Code → List Membership → ℕ → Seen

@@ -1,15 +1,16 @@
 -- What a turn of a world comes to, before lines are released, as the machine's parts have it.
 use Rattle.std.specs.Prelude.{◌≡◌, ◌≤◌, ◌+◌, ℕ, List, [], ◌∷◌, length, slice_get, Option, Some, None}
+use Rattle.rb_base.specs.declared.limits.TheConstants.{MOST_OPEN_LEVELS}
 use Rattle.rb_base.specs.declared.event.Event.{Event}
 use Rattle.rb_world.specs.Kind.{Membership, Want, NothingLeft, SendsOn, ReceivesOn, MayReceiveOn, Enters, Starts, Acts}
 use Rattle.rb_world.specs.Slots.{Slots}
 use Rattle.rb_world.specs.Turn.{Moved, acts, idles, steps, waits}
 use Rattle.rb_world.specs.World.{Process}
-use Rattle.rb_code.specs.Plain.{Code}
-use Rattle.rb_code.specs.Sound.{IsReceiver}
-use Rattle.rb_code.specs.Turn.{Common, Copy, Standing, want}
-use Rattle.rb_code.specs.WordKind.{word_kind}
-use Rattle.rb_code.specs.WordRun.{WordWorld}
+use Rattle.rb_code.specs.Instructions.Plain.{Code}
+use Rattle.rb_code.specs.SoundCode.Sound.{IsReceiver}
+use Rattle.rb_code.specs.WordMachine.Turn.{Common, Copy, Standing, want}
+use Rattle.rb_code.specs.WordMachine.WordKind.{word_kind}
+use Rattle.rb_code.specs.WordMachine.WordRun.{WordWorld}
 use Rattle.rb_conv.specs.Conversations.{Conversation, memberships}
 use Rattle.rb_proc.specs.Process.{Seen, alternate_for, message_for, wanted_by}
 use Rattle.rb_proc.specs.declared.answers.Wanted.{Wanted}
@@ -54,7 +55,7 @@ pub record IsLeft {L : Type 0} (c : Code) (before after : Parts L) (events : Lis
   pub waits : NoneWaits after.procs.items
   pub groups : SameGroups before.table after.table
   pub sized : AreSized c after.mails.items
-  pub few : length (passes_of came.pass) + length events ≤ 32
+  pub few : length (passes_of came.pass) + length events ≤ MOST_OPEN_LEVELS
 
 -- a block is entered, which has this number
 abbrev pub WantsBlock : ℕ → Want → Type 0

@@ -6,12 +6,12 @@ use Rattle.rb_base.specs.declared.event.State.{State}
 use Rattle.rb_trace.specs.Ended.{state_of}
 use Rattle.rb_world.specs.Standing.{Each}
 use Rattle.rb_world.specs.World.{Process}
-use Rattle.rb_code.specs.Memory.{part_of}
-use Rattle.rb_code.specs.Plain.{Code}
-use Rattle.rb_code.specs.Stands.{IsAmong}
-use Rattle.rb_code.specs.Turn.{Copy, Standing}
-use Rattle.rb_code.specs.WellFormed.{JoinsTwo}
-use Rattle.rb_code.specs.WordRun.{counts_sent, counts_taken, variable_words}
+use Rattle.rb_code.specs.WordMachine.Workspace.{part_of}
+use Rattle.rb_code.specs.Instructions.Plain.{Code}
+use Rattle.rb_code.specs.SoundCode.Stands.{IsAmong}
+use Rattle.rb_code.specs.WordMachine.Turn.{Copy, Standing}
+use Rattle.rb_code.specs.SoundCode.WellFormed.{JoinsTwo}
+use Rattle.rb_code.specs.WordMachine.WordRun.{counts_sent, counts_taken, variable_words}
 use Rattle.rb_proc.specs.Process.{Seen}
 use Rattle.rb_machine.specs.Channels.{AreNumbered}
 use Rattle.rb_machine.specs.Known.{CursorsBelow}

@@ -7,8 +7,8 @@ use Rattle.rb_base.specs.declared.event.Event.TheVariants.{Reject, RejectAll}
 use Rattle.rb_world.specs.Kind.{Kind}
 use Rattle.rb_world.specs.Reject.{after_event, fallen_inside, put_back, raised, reject, where_inside}
 use Rattle.rb_world.specs.World.{Process, World}
-use Rattle.rb_code.specs.Plain.{Code}
-use Rattle.rb_code.specs.Turn.{Common, Copy, Standing}
+use Rattle.rb_code.specs.Instructions.Plain.{Code}
+use Rattle.rb_code.specs.WordMachine.Turn.{Common, Copy, Standing}
 use Rattle.rb_conv.specs.Conversations.{Conversation}
 use Rattle.rb_proc.specs.declared.answers.LevelView.{LevelView}
 use Rattle.rb_proc.specs.Process.{Seen}

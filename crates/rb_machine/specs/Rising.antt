@@ -2,11 +2,11 @@
 use Rattle.std.specs.Prelude.{◌≡◌, ℕ, ◌+◌, ◌≤◌, ℤ, List, Option}
 use Rattle.rb_world.specs.Kind.{Membership, Stepped, Trapped, Went, Held}
 use Rattle.rb_world.specs.World.{Level, copy_of, last_of}
-use Rattle.rb_code.specs.Plain.{Code}
-use Rattle.rb_code.specs.Memory.{part_of}
-use Rattle.rb_code.specs.Stands.{IsAmong, Serves, SettlesSoundly, StandsSoundly}
-use Rattle.rb_code.specs.Turn.{Common, Copy, Standing, settle, step, want}
-use Rattle.rb_code.specs.WordKind.{cursor_in}
+use Rattle.rb_code.specs.Instructions.Plain.{Code}
+use Rattle.rb_code.specs.WordMachine.Workspace.{part_of}
+use Rattle.rb_code.specs.SoundCode.Stands.{IsAmong, Serves, SettlesSoundly, StandsSoundly}
+use Rattle.rb_code.specs.WordMachine.Turn.{Common, Copy, Standing, settle, step, want}
+use Rattle.rb_code.specs.WordMachine.WordKind.{cursor_in}
 
 -- each cursor of process p among its later words is at most one above that among its words
 abbrev pub RiseByOne : Code → ℕ → List ℤ → List ℤ → Type 0

@@ -7,9 +7,9 @@ use Rattle.rb_world.specs.Kind.{Membership}
 use Rattle.rb_world.specs.Slots.{Slots}
 use Rattle.rb_world.specs.Turn.{Moved, leaves, stands_now}
 use Rattle.rb_world.specs.World.{Level, Process, Running, change_at, settled, without_last}
-use Rattle.rb_code.specs.Plain.{Code}
-use Rattle.rb_code.specs.Stands.{Serves, SettlesSoundly, StandsSoundly}
-use Rattle.rb_code.specs.Turn.{Common, Copy, Standing, want}
+use Rattle.rb_code.specs.Instructions.Plain.{Code}
+use Rattle.rb_code.specs.SoundCode.Stands.{Serves, SettlesSoundly, StandsSoundly}
+use Rattle.rb_code.specs.WordMachine.Turn.{Common, Copy, Standing, want}
 use Rattle.rb_conv.specs.Conversations.{Conversation}
 use Rattle.rb_proc.specs.Process.{Seen, StepsTo, alternate_for, kind_of, message_for, step_of}
 use Rattle.rb_proc.specs.Runs.{CursorsRise}

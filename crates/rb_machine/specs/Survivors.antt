@@ -3,8 +3,8 @@ use Rattle.std.specs.Prelude.{ℕ, cond, Bool, List, [], ◌∷◌, map, slice_g
 use Rattle.rb_base.specs.declared.kept.Kept.{Kept}
 use Rattle.rb_world.specs.Plain.{survivors_of}
 use Rattle.rb_world.specs.World.{is_number}
-use Rattle.rb_code.specs.Turn.{Link, kept_from}
-use Rattle.rb_code.specs.WordRun.{WordWorld}
+use Rattle.rb_code.specs.WordMachine.Turn.{Link, kept_from}
+use Rattle.rb_code.specs.WordMachine.WordRun.{WordWorld}
 
 -- the turns that the links reach from the last kept turn of each process, in the order of their numbers
 abbrev pub word_survivors : WordWorld → List Kept

@@ -5,17 +5,17 @@ use Rattle.rb_base.specs.declared.event.Event.{Event}
 use Rattle.rb_base.specs.declared.event.TurnKind.{TurnKind}
 use Rattle.rb_base.specs.declared.event.TurnKind.TheVariants.{Idle, Wait, Took, Undone}
 use Rattle.rb_world.specs.Turn.{compared, done_at, error_at, freed, lines_freed}
-use Rattle.rb_world.specs.World.{Level, Process, Status, Running, Finished, FailedWith}
-use Rattle.rb_code.specs.Plain.{Code}
-use Rattle.rb_code.specs.Turn.{Copy, Standing}
-use Rattle.rb_code.specs.WordKind.{released}
+use Rattle.rb_world.specs.World.{Level, Process, ProcessStatus, Running, Finished, FailedWith}
+use Rattle.rb_code.specs.Instructions.Plain.{Code}
+use Rattle.rb_code.specs.WordMachine.Turn.{Copy, Standing}
+use Rattle.rb_code.specs.WordMachine.WordKind.{released}
 use Rattle.rb_proc.specs.Process.{Seen, kind_of}
 use Rattle.rb_machine.specs.Moves.{passes_of}
 use Rattle.rb_machine.specs.declared.telling.Ending.{Ending}
 use Rattle.rb_machine.specs.declared.telling.Ending.TheVariants as ending
 
 -- who runs
-abbrev pub is_running : Status → Bool
+abbrev pub is_running : ProcessStatus → Bool
 is_running Running = true
 is_running Finished = false
 is_running (FailedWith cause) = false
@@ -29,12 +29,12 @@ ends_told before after pass =
     compared error_at 0 before after ++ (passes_of pass ++ compared done_at 0 before after)
 
 -- what is told of one kind of ending, by the status of a process before a turn and after it
-abbrev pub ended_at : Ending → ℕ → Status → Status → List Event
+abbrev pub ended_at : Ending → ℕ → ProcessStatus → ProcessStatus → List Event
 ended_at ending.Failed = error_at
 ended_at ending.Done = done_at
 
 -- the same by whether the process ran before the turn
-abbrev pub ended_if : Ending → ℕ → Bool → Status → List Event
+abbrev pub ended_if : Ending → ℕ → Bool → ProcessStatus → List Event
 ended_if one p ran after = cond ran (ended_at one p Running after) []
 
 -- what is told of the processes from number p on, by who ran before the turn

@@ -5,14 +5,14 @@ use Rattle.std.specs.Prelude.{◌+◌, ℕ, List, length}
 use Rattle.rb_world.specs.Kind.{Membership}
 use Rattle.rb_world.specs.Turn.{Told, turn}
 use Rattle.rb_world.specs.Together.{GoTogether, LeavesOutsiders}
-use Rattle.rb_code.specs.Plain.{Code}
-use Rattle.rb_code.specs.WordKind.{word_kind}
-use Rattle.rb_code.specs.WordRun.{WordWorld, word_run}
-use Rattle.rb_machine.specs.Known.{IsLoaded}
+use Rattle.rb_code.specs.Instructions.Plain.{Code}
+use Rattle.rb_code.specs.SoundCode.WellFormed.{IsSound}
+use Rattle.rb_code.specs.WordMachine.WordKind.{word_kind}
+use Rattle.rb_code.specs.WordMachine.WordRun.{WordWorld, word_run}
 
 -- each sound code keeps this, with its conversations
 abbrev pub OfSoundCode : (Code → List Membership → Type 0) → Type 0
-OfSoundCode P = (c : Code) (groups : List Membership) (counts : List ℕ) → IsLoaded c groups counts → P c groups
+OfSoundCode P = (c : Code) (groups : List Membership) (counts : List ℕ) → IsSound c groups counts → P c groups
 
 -- the world after these turns
 abbrev pub world_after : Code → List Membership → List ℕ → WordWorld

@@ -1,7 +1,7 @@
 -- Whose turn it is.
 use Rattle.std.specs.Prelude.{Bool, false, Option, Some, None}
 use Rattle.rb_world.specs.World.{Process}
-use Rattle.rb_code.specs.Turn.{Copy, Standing}
+use Rattle.rb_code.specs.WordMachine.Turn.{Copy, Standing}
 use Rattle.rb_machine.specs.Telling.{is_running}
 
 -- a process is there, and runs

@@ -8,12 +8,12 @@ use Rattle.rb_base.specs.declared.event.TurnKind.TheVariants.{Idle, Wait, Took, 
 use Rattle.rb_world.specs.Channels.{has_room, message_there}
 use Rattle.rb_world.specs.Kind.{Membership, Stepped, Trapped, Went, Held, Want, NothingLeft, SendsOn, ReceivesOn, MayReceiveOn, Enters, Starts, Acts}
 use Rattle.rb_world.specs.Turn.{Moved, all_stand, freed_lines, is_over, move, stands_at, stands_now, tried_at, turn, turn_used}
-use Rattle.rb_world.specs.World.{Level, Process, Status, Running, Finished, FailedWith, copy_of, is_inside, last_of, with_process, without_last}
+use Rattle.rb_world.specs.World.{Level, Process, ProcessStatus, Running, Finished, FailedWith, copy_of, is_inside, last_of, with_process, without_last}
 use Rattle.rb_cache.specs.Copies.{accepted}
-use Rattle.rb_code.specs.Plain.{Code}
-use Rattle.rb_code.specs.Turn.{Common, Copy, Standing, step, want}
-use Rattle.rb_code.specs.WordKind.{kept, word_kind}
-use Rattle.rb_code.specs.WordRun.{WordWorld}
+use Rattle.rb_code.specs.Instructions.Plain.{Code}
+use Rattle.rb_code.specs.WordMachine.Turn.{Common, Copy, Standing, step, want}
+use Rattle.rb_code.specs.WordMachine.WordKind.{kept, word_kind}
+use Rattle.rb_code.specs.WordMachine.WordRun.{WordWorld}
 use Rattle.rb_proc.specs.Work.{named_by_step, named_settling, places_touched}
 
 -- the words that are named on the way to the next turn of a process whose innermost level goes by acceptance
@@ -73,7 +73,7 @@ module _ (c : Code) (groups : List Membership) where
   abbrev pub named_running : ℕ → ℕ → Process Standing Copy → WordWorld → ℕ
   named_running t p q w = named_within t p q (with_process p (λ _. q) w) (position is_over q.levels)
 
-  abbrev pub named_by_status : ℕ → ℕ → Process Standing Copy → WordWorld → Status → ℕ
+  abbrev pub named_by_status : ℕ → ℕ → Process Standing Copy → WordWorld → ProcessStatus → ℕ
   named_by_status t p q w Running = named_running t p (turn_used q) w
   named_by_status t p q w Finished = 0
   named_by_status t p q w (FailedWith cause) = 0

@@ -2,8 +2,8 @@
 
 ghost use Rattle.std.specs.Prelude.{◌≡◌, ℕ, ◌+◌, ◌<◌, ◌≤◌, ◌++◌, ◌∷◌, ◌&&◌, [], not, nat_eq, nat_lt, map, length, slice_get, IsTrue};
 ghost use Rattle.rb_world.specs.Reject.{fallen_inside, put_back, raised, reject, where_inside};
-ghost use Rattle.rb_code.specs.Plain.{Code as Plain};
-ghost use Rattle.rb_code.specs.Turn.{Common};
+ghost use Rattle.rb_code.specs.Instructions.Plain.{Code as Plain};
+ghost use Rattle.rb_code.specs.WordMachine.Turn.{Common};
 ghost use Rattle.rb_conv.specs.Conversations.{conversation_at};
 ghost use Rattle.rb_conv.specs.Reject.{has_next, rejected};
 ghost use Rattle.rb_proc.specs.Process.{kind_of};
@@ -13,7 +13,7 @@ ghost use Rattle.rb_machine.specs.Work.{Undoes, inside, inside_one, touched_by, 
 ghost use Rattle.rb_machine.specs.Worlds.{CanRise, NoneWaits, kind_with, processes_of};
 
 use arrayvec::ArrayVec;
-use rb_base::{Cause, Event, Steps};
+use rb_base::{Cause, Event, MOST_EVENTS, Steps};
 use rb_conv::Table;
 use rb_proc::{LevelView, Proc};
 use std::sync::ledger::Ledger;
@@ -26,13 +26,13 @@ pub fn reject<L: Ledger>(
     p: u32,
     left: u32,
     cause: Cause,
-    events: &mut ArrayVec<Event, 96>,
+    events: &mut ArrayVec<Event, MOST_EVENTS>,
     steps: &mut Steps<L>,
 )
     requires process { p < length procs.old }
     requires may { MayRejectAt procs.old table.old p left }
     requires quiet { AreQuiet procs.old }
-    requires room { length events.old.items + left ≤ 96 }
+    requires room { length events.old.items + left ≤ MOST_EVENTS }
     ensures happened { (c : Plain) (memory : Common)
         → HasHappened
         (reject (kind_with c table.old) p left cause) memory procs.old table.old events.old.items procs.new table.new events.new.items }
@@ -58,13 +58,13 @@ fn reject_level<L: Ledger>(
     p: u32,
     inner: u32,
     cause: Cause,
-    events: &mut ArrayVec<Event, 96>,
+    events: &mut ArrayVec<Event, MOST_EVENTS>,
     steps: &mut Steps<L>,
 ) -> bool
     requires process { p < length procs.old }
     requires may { MayRejectAt procs.old table.old p (inner + 1) }
     requires quiet { AreQuiet procs.old }
-    requires room { length events.old.items < 96 }
+    requires room { length events.old.items < MOST_EVENTS }
     ensures rejected { HasRejected p inner cause result procs.old table.old events.old.items procs.new table.new events.new.items }
     ensures may { IsTrue result → MayRejectAt procs.new table.new p inner }
     ensures quiet { IsTrue result → AreQuiet procs.new }

@@ -4,10 +4,10 @@ ghost use Rattle.std.specs.Prelude.{◌≡◌, ℕ, ◌+◌, ◌<◌, ◌≤◌,
 ghost use Rattle.rb_world.specs.Channels.{has_room, message_there, seen_copy};
 ghost use Rattle.rb_world.specs.Kind.{Membership};
 ghost use Rattle.rb_world.specs.World.{Talk, is_shared};
-ghost use Rattle.rb_code.specs.Plain.{code as plain};
-ghost use Rattle.rb_code.specs.Sound.{IsReceiver};
-ghost use Rattle.rb_code.specs.Turn.{Common};
-ghost use Rattle.rb_code.specs.WordKind.{word_kind};
+ghost use Rattle.rb_code.specs.Instructions.Plain.{code as plain};
+ghost use Rattle.rb_code.specs.SoundCode.Sound.{IsReceiver};
+ghost use Rattle.rb_code.specs.WordMachine.Turn.{Common};
+ghost use Rattle.rb_code.specs.WordMachine.WordKind.{word_kind};
 ghost use Rattle.rb_machine.specs.Channels.{AreNumbered, HasCursor, IsCopyAt, conversation_in, cursor_at, message_given, outermost_copy};
 ghost use Rattle.rb_machine.specs.Worlds.{processes_of};
 

@@ -1,14 +1,15 @@
 //! The entry of a recovery block, alone or as a member of a conversation.
 
 ghost use Rattle.std.specs.Prelude.{◌≡◌, ◌+◌, ◌<◌, ◌≤◌, [], ◌∷◌, ◌++◌, length, slice_get, vec_len, vec_capacity, Some};
+ghost use Rattle.rb_base.specs.declared.limits.TheConstants.{MOST_OPEN_LEVELS};
 ghost use Rattle.rb_base.specs.declared.event.Cause.TheVariants.{Broken};
 ghost use Rattle.rb_world.specs.Kind.{Facts, Enters};
 ghost use Rattle.rb_world.specs.Reject.{fallen};
 ghost use Rattle.rb_world.specs.Turn.{enters};
 ghost use Rattle.rb_world.specs.World.{change_at};
-ghost use Rattle.rb_code.specs.Plain.{Code as Plain, code as plain};
-ghost use Rattle.rb_code.specs.Sound.{conversation_of};
-ghost use Rattle.rb_code.specs.Turn.{want};
+ghost use Rattle.rb_code.specs.Instructions.Plain.{Code as Plain, code as plain};
+ghost use Rattle.rb_code.specs.SoundCode.Sound.{conversation_of};
+ghost use Rattle.rb_code.specs.WordMachine.Turn.{want};
 ghost use Rattle.rb_conv.specs.Conversations.{conversation_at, talks};
 ghost use Rattle.rb_proc.specs.Entries.{entered_process};
 ghost use Rattle.rb_proc.specs.Executable.{IsExecutable};
@@ -26,7 +27,7 @@ use crate::links::{Link, add};
 use crate::parts::Parts;
 use crate::undone::undo;
 use arrayvec::ArrayVec;
-use rb_base::{Cause, Event, MOST_OPEN_LEVELS, Steps, TurnKind};
+use rb_base::{Cause, Event, MOST_EVENTS, MOST_OPEN_LEVELS, Steps, TurnKind};
 use rb_code::Code;
 use rb_conv::Table;
 use rb_proc::Proc;
@@ -40,7 +41,7 @@ pub fn enter<L: Ledger>(
     turn: u32,
     p: u32,
     block: u32,
-    events: &mut ArrayVec<Event, 96>,
+    events: &mut ArrayVec<Event, MOST_EVENTS>,
     steps: &mut Steps<L>,
 ) -> Came
     requires work { AreAtWork (plain code.now) (turn + 1) parts.old }
@@ -116,7 +117,7 @@ fn open<L: Ledger>(
 )
     requires code { IsExecutable (plain code.now) }
     requires process { p < length procs.old }
-    requires shallow { (one : Seen) → slice_get procs.old p ≡ Some one → length one.process.levels < 32 }
+    requires shallow { (one : Seen) → slice_get procs.old p ≡ Some one → length one.process.levels < MOST_OPEN_LEVELS }
     requires room { vec_len links.old < vec_capacity links.old }
     ensures processes { (one : Seen) (facts : Facts) → slice_get procs.old p ≡ Some one
         → want (plain code.now) one.process.state ≡ Enters facts

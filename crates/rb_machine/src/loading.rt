@@ -2,15 +2,14 @@
 
 ghost use Rattle.std.specs.Prelude.{◌≡◌, ◌<◌, ◌≤◌, ◌-◌, ◌^◌, nat_lt, true, false, length, map, vec_len, vec_capacity, IfOk};
 ghost use Rattle.std.specs.List.{All, list_all};
-ghost use Rattle.rb_base.specs.declared.limits.TheConstants.{MOST_TURNS};
 ghost use Rattle.rb_world.specs.Slots.{zero_slots};
 ghost use Rattle.rb_code.specs.declared.code.ChannelCode.{ChannelCode as Channel};
-ghost use Rattle.rb_code.specs.Plain.{channel, code as plain};
-ghost use Rattle.rb_code.specs.WordRun.{opening_standings};
+ghost use Rattle.rb_code.specs.Instructions.Plain.{channel, code as plain};
+ghost use Rattle.rb_code.specs.SoundCode.WellFormed.{IsSound};
+ghost use Rattle.rb_code.specs.WordMachine.WordRun.{opening_standings};
 ghost use Rattle.rb_conv.specs.Conversations.{memberships, opening};
 ghost use Rattle.rb_proc.specs.Executable.{IsExecutable};
 ghost use Rattle.rb_machine.specs.AtWork.{HasFewAlternates};
-ghost use Rattle.rb_machine.specs.Known.{IsLoaded};
 ghost use Rattle.rb_machine.specs.Loading.{AllSettle, first_seen};
 ghost use Rattle.rb_machine.specs.Machine.{IsTied, opening_seen, seen};
 ghost use Rattle.rb_machine.specs.Telling.{running_of};
@@ -42,8 +41,8 @@ pub fn load_parts<L: Ledger>(
     turns: u32,
     steps: &mut Steps<L>,
 ) -> Result<Loaded<L>, Memory>
-    requires loaded { IsLoaded (plain code.now) (memberships (opening nested.now)) (counts_of (opening nested.now)) }
-    requires turns { turns ≤ MOST_TURNS }
+    requires sound { IsSound (plain code.now) (memberships (opening nested.now)) (counts_of (opening nested.now)) }
+    requires turns { turns < 2 ^ 32 - 1 }
     ensures seen { IfOk result
         (λ loaded. seen (plain code.now) loaded.parts 0 turns ≡ opening_seen (plain code.now) (memberships (opening nested.now)) turns) }
     ensures tied { IfOk result

@@ -1,15 +1,15 @@
 //! The machine: a program's processes, channels and conversations, turn by turn.
 
-ghost use Rattle.std.specs.Prelude.{◌≡◌, ◌+◌, ◌*◌, ◌<◌, ◌≤◌, true, false, [], length, map, replicate, slice_get, sum_by, vec_len, vec_capacity, IfOk};
-ghost use Rattle.rb_base.specs.declared.limits.TheConstants.{MOST_HELD_BYTES, MOST_TURNS};
-ghost use Rattle.rb_code.specs.Plain.{code as plain};
-ghost use Rattle.rb_code.specs.WellFormed.{IsSound};
+ghost use Rattle.std.specs.Prelude.{◌≡◌, ◌+◌, ◌-◌, ◌*◌, ◌<◌, ◌≤◌, ◌^◌, true, false, [], length, map, replicate, slice_get, sum_by, vec_len, vec_capacity, IfOk};
+ghost use Rattle.rb_base.specs.declared.limits.TheConstants.{MOST_HELD_BYTES, MOST_PROCESSES_SECOND};
+ghost use Rattle.rb_code.specs.Instructions.Plain.{code as plain};
+ghost use Rattle.rb_code.specs.SoundCode.WellFormed.{IsSound};
 ghost use Rattle.rb_conv.specs.Conversations.{memberships, opening};
 ghost use Rattle.rb_trace.specs.Report.{told_of};
 ghost use Rattle.rb_world.specs.Turn.{told_at_opening, turn};
 ghost use Rattle.rb_machine.specs.AtWork.{IsAtWork};
 ghost use Rattle.rb_machine.specs.Cascade.{SameGroups};
-ghost use Rattle.rb_machine.specs.Known.{IsLoaded};
+ghost use Rattle.rb_machine.specs.Known.{IsSoundFor};
 ghost use Rattle.rb_machine.specs.Machine.{HasTurned, IsKeptEntry, opening_seen};
 ghost use Rattle.rb_machine.specs.Moves.{AreAtWork, world};
 ghost use Rattle.rb_machine.specs.Survivors.{word_survivors};
@@ -45,7 +45,7 @@ pub struct Machine<'a, L: Ledger> {
 
 impl<'a, L: Ledger> Model for Machine<'a, L> {
     ghost use Rattle.std.specs.Prelude.{vec_len, vec_capacity};
-    ghost use Rattle.rb_code.specs.Plain.{code as plain};
+    ghost use Rattle.rb_code.specs.Instructions.Plain.{code as plain};
     ghost use Rattle.rb_machine.specs.Machine.{Seen, seen, IsTied};
 
     ghost Value = { Seen };
@@ -66,8 +66,8 @@ impl<'a, L: Ledger> Machine<'a, L> {
         turns: u32,
         steps: &mut Steps<L>,
     ) -> Result<Self, Memory>
-        requires loaded { IsLoaded (plain code.now) (memberships (opening nested.now)) (counts_of (opening nested.now)) }
-        requires turns { turns ≤ MOST_TURNS }
+        requires sound { IsSound (plain code.now) (memberships (opening nested.now)) (counts_of (opening nested.now)) }
+        requires turns { turns < 2 ^ 32 - 1 }
         ensures { IfOk result (λ machine. machine ≡ opening_seen (plain code.now) (memberships (opening nested.now)) turns) }
     {
         let loaded = load_parts(alloc, code, nested, turns, steps)?;
@@ -86,8 +86,8 @@ impl<'a, L: Ledger> Machine<'a, L> {
     pub fn opening(&self) -> Report
         requires { self.now.taken ≡ 0 }
         ensures told { told_of result.kind result.events.items [] ≡ told_at_opening self.now.world }
-        ensures sound { IsSound self.now.code self.now.groups }
-        ensures few { self.now.most ≤ MOST_TURNS }
+        ensures sound { IsSoundFor self.now.code self.now.groups }
+        ensures few { self.now.most < 2 ^ 32 - 1 }
     {
         let mut events = ArrayVec::new();
         tell_opening(&self.parts.procs, &mut events);
@@ -122,7 +122,7 @@ impl<'a, L: Ledger> Machine<'a, L> {
     /// Forgets the released lines that wait, and answers how many they were.
     pub fn drop_released(&mut self) -> u32
         ensures count { result ≡ sum_by length self.old.waiting }
-        ensures few { result ≤ 64 * MOST_HELD_BYTES }
+        ensures few { result ≤ MOST_PROCESSES_SECOND * MOST_HELD_BYTES }
         ensures machine { self.new ≡ record self.old { waiting = replicate (length self.old.waiting) [] } }
     {
         if !self.released {
@@ -214,7 +214,7 @@ fn turn<L: Ledger>(
     requires work { AreAtWork (plain code.now) number parts.old }
     requires running { running.old ≡ running_of (processes_of parts.old.procs.items) }
     requires room { vec_len parts.old.links < vec_capacity parts.old.links }
-    requires few { number ≤ MOST_TURNS }
+    requires few { number < 2 ^ 32 - 1 }
     requires freed { AreFreed (processes_of parts.old.procs.items) }
     ensures turned { (world parts.new, told_of report.new.kind report.new.events.items (lines_of parts.new.procs.items))
         ≡ turn (kind_with (plain code.now) parts.old.table) number p (world parts.old) }

@@ -1,14 +1,13 @@
 //! What a process does in its turn: it waits, steps, enters, or is rejected since a level has used up its turns.
 
 ghost use Rattle.std.specs.Prelude.{◌≡◌, ◌+◌, ◌*◌, ◌-◌, ◌<◌, ◌≤◌, ◌^◌, [], length, position, slice_get, vec_len, vec_capacity, Some};
-ghost use Rattle.rb_base.specs.declared.limits.TheConstants.{MOST_TURNS};
 ghost use Rattle.rb_world.specs.Kind.{SendsOn, ReceivesOn, MayReceiveOn};
 ghost use Rattle.rb_world.specs.Standing.{Each};
 ghost use Rattle.rb_world.specs.Turn.{acts, bounded, is_over, move, runs, turn_used};
 ghost use Rattle.rb_world.specs.World.{Running, change_at};
-ghost use Rattle.rb_code.specs.Plain.{code as plain};
-ghost use Rattle.rb_code.specs.Sound.{IsReceiver};
-ghost use Rattle.rb_code.specs.Turn.{want};
+ghost use Rattle.rb_code.specs.Instructions.Plain.{code as plain};
+ghost use Rattle.rb_code.specs.SoundCode.Sound.{IsReceiver};
+ghost use Rattle.rb_code.specs.WordMachine.Turn.{want};
 ghost use Rattle.rb_conv.specs.Conversations.{memberships};
 ghost use Rattle.rb_proc.specs.Process.{Seen};
 ghost use Rattle.rb_machine.specs.AtWork.{MayAct};
@@ -26,9 +25,9 @@ use crate::parts::Parts;
 use crate::step::take_step;
 use crate::undone::undo;
 use arrayvec::ArrayVec;
-use rb_base::{Cause, Event, Steps, TurnKind};
+use rb_base::{Cause, Event, MOST_EVENTS, Steps, TurnKind};
 use rb_code::Code;
-use rb_proc::{Proc, Status, Wanted};
+use rb_proc::{Proc, ProcessStatus, Wanted};
 use std::sync::ledger::Ledger;
 
 /// What a process is ready for in its turn.
@@ -50,7 +49,7 @@ pub fn act<L: Ledger>(
     parts: &mut Parts<L>,
     turn: u32,
     p: u32,
-    events: &mut ArrayVec<Event, 96>,
+    events: &mut ArrayVec<Event, MOST_EVENTS>,
     steps: &mut Steps<L>,
 ) -> Came
     requires work { AreAtWork (plain code.now) (turn + 1) parts.old }
@@ -172,11 +171,11 @@ pub fn take_turn<L: Ledger>(
     parts: &mut Parts<L>,
     turn: u32,
     p: u32,
-    events: &mut ArrayVec<Event, 96>,
+    events: &mut ArrayVec<Event, MOST_EVENTS>,
     steps: &mut Steps<L>,
 ) -> Came
     requires work { AreAtWork (plain code.now) turn parts.old }
-    requires turns { turn ≤ MOST_TURNS }
+    requires turns { turn < 2 ^ 32 - 1 }
     requires room { vec_len parts.old.links < vec_capacity parts.old.links }
     requires none { length events.old.items ≡ 0 }
     ensures moved { HasMoved parts.new events.new.items result (move (kind_with (plain code.now) parts.old.table) turn p (world parts.old)) }
@@ -200,7 +199,7 @@ fn is_running<L: Ledger>(procs: &[Proc<L>], p: u32) -> bool
 {
     match procs.get(p as usize) {
         None => false,
-        Some(proc) => matches!(proc.status(), Status::Running),
+        Some(proc) => matches!(proc.status(), ProcessStatus::Running),
     }
 }
 
@@ -210,11 +209,11 @@ fn run<L: Ledger>(
     parts: &mut Parts<L>,
     turn: u32,
     p: u32,
-    events: &mut ArrayVec<Event, 96>,
+    events: &mut ArrayVec<Event, MOST_EVENTS>,
     steps: &mut Steps<L>,
 ) -> Came
     requires work { AreAtWork (plain code.now) turn parts.old }
-    requires turns { turn ≤ MOST_TURNS }
+    requires turns { turn < 2 ^ 32 - 1 }
     requires process { p < length parts.old.procs.items }
     requires running { (one : Seen) → slice_get parts.old.procs.items p ≡ Some one → one.process.status ≡ Running }
     requires room { vec_len parts.old.links < vec_capacity parts.old.links }
@@ -251,7 +250,7 @@ fn go_on<L: Ledger>(
     turn: u32,
     p: u32,
     over: Option<u32>,
-    events: &mut ArrayVec<Event, 96>,
+    events: &mut ArrayVec<Event, MOST_EVENTS>,
     steps: &mut Steps<L>,
 ) -> Came
     requires work { AreAtWork (plain code.now) (turn + 1) parts.old }

@@ -3,8 +3,8 @@
 ghost use Rattle.std.specs.Prelude.{◌≡◌, ◌+◌, ◌*◌, ◌<◌, ◌≤◌, [], ◌∷◌, ◌++◌, length, slice_get, vec_len, vec_capacity, Some};
 ghost use Rattle.rb_world.specs.Turn.{steps as stepping};
 ghost use Rattle.rb_world.specs.World.{change_at};
-ghost use Rattle.rb_code.specs.Plain.{code as plain};
-ghost use Rattle.rb_code.specs.Turn.{want};
+ghost use Rattle.rb_code.specs.Instructions.Plain.{code as plain};
+ghost use Rattle.rb_code.specs.WordMachine.Turn.{want};
 ghost use Rattle.rb_proc.specs.Executable.{IsExecutable};
 ghost use Rattle.rb_proc.specs.Process.{Seen, alternate_for, message_for};
 ghost use Rattle.rb_proc.specs.Sees.{AreSized};
@@ -23,7 +23,7 @@ use crate::links::{Link, add};
 use crate::parts::Parts;
 use crate::test_line::accept;
 use arrayvec::ArrayVec;
-use rb_base::{Event, Steps, TurnKind};
+use rb_base::{Event, MOST_EVENTS, Steps, TurnKind};
 use rb_code::Code;
 use rb_mail::Mail;
 use rb_proc::{Outcome, Proc, Wanted};
@@ -93,7 +93,7 @@ pub fn take_step<L: Ledger>(
     p: u32,
     wanted: Wanted,
     there: bool,
-    events: &mut ArrayVec<Event, 96>,
+    events: &mut ArrayVec<Event, MOST_EVENTS>,
     steps: &mut Steps<L>,
 ) -> Came
     requires work { AreAtWork (plain code.now) (turn + 1) parts.old }

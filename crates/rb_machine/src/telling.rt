@@ -6,9 +6,9 @@ ghost use Rattle.rb_base.specs.declared.limits.TheConstants.{MOST_HELD_BYTES};
 ghost use Rattle.rb_world.specs.Kind.{Membership};
 ghost use Rattle.rb_world.specs.Turn.{finished_at, freed, lines_freed};
 ghost use Rattle.rb_world.specs.World.{Process};
-ghost use Rattle.rb_code.specs.Plain.{Code as Plain};
-ghost use Rattle.rb_code.specs.Turn.{Copy, Standing};
-ghost use Rattle.rb_code.specs.WordKind.{word_kind};
+ghost use Rattle.rb_code.specs.Instructions.Plain.{Code as Plain};
+ghost use Rattle.rb_code.specs.WordMachine.Turn.{Copy, Standing};
+ghost use Rattle.rb_code.specs.WordMachine.WordKind.{word_kind};
 ghost use Rattle.rb_proc.specs.Process.{Seen};
 ghost use Rattle.rb_proc.specs.Statuses.{status_of};
 ghost use Rattle.rb_machine.specs.Moves.{passes_of};
@@ -17,8 +17,8 @@ ghost use Rattle.rb_machine.specs.Work.{releases_some, releasing};
 ghost use Rattle.rb_machine.specs.Worlds.{NoneWaits, lines_of, processes_of};
 
 use arrayvec::ArrayVec;
-use rb_base::{Event, Steps};
-use rb_proc::{Proc, Status};
+use rb_base::{Event, MOST_EVENTS, MOST_PROCESSES_SECOND, Steps};
+use rb_proc::{Proc, ProcessStatus};
 use std::sync::ledger::Ledger;
 
 /// How a process can end, and is told to.
@@ -34,11 +34,11 @@ pub fn tell<L: Ledger>(
     procs: &[Proc<L>],
     running: &mut [bool],
     pass: Option<Event>,
-    events: &mut ArrayVec<Event, 96>,
+    events: &mut ArrayVec<Event, MOST_EVENTS>,
 )
     requires as_many { length running.old ≡ length procs.now }
     requires numbered { length procs.now < 2 ^ 32 }
-    requires room { length events.old.items + (length (passes_of pass) + length procs.now) ≤ 96 }
+    requires room { length events.old.items + (length (passes_of pass) + length procs.now) ≤ MOST_EVENTS }
     ensures told { (before : List (Process Standing Copy)) → running_of before ≡ running.old
         → events.new.items ≡ events.old.items ++ ends_told before (processes_of procs.now) pass }
     ensures running { running.new ≡ running_of (processes_of procs.now) }
@@ -50,12 +50,12 @@ pub fn tell<L: Ledger>(
 }
 
 /// Who is done before the first turn.
-pub fn tell_opening<L: Ledger>(procs: &[Proc<L>], events: &mut ArrayVec<Event, 96>)
-    requires few { length procs.now ≤ 64 }
+pub fn tell_opening<L: Ledger>(procs: &[Proc<L>], events: &mut ArrayVec<Event, MOST_EVENTS>)
+    requires few { length procs.now ≤ MOST_PROCESSES_SECOND }
     requires none { length events.old.items ≡ 0 }
     ensures { events.new.items ≡ finished_at 0 (processes_of procs.now) }
 {
-    let running = [true; 64];
+    let running = [true; MOST_PROCESSES_SECOND];
     tell_ended(procs, &running[..procs.len()], Ending::Done, events);
 }
 
@@ -67,12 +67,12 @@ pub fn finish<L: Ledger>(
     p: u32,
     alone: bool,
     pass: Option<Event>,
-    events: &mut ArrayVec<Event, 96>,
+    events: &mut ArrayVec<Event, MOST_EVENTS>,
     steps: &mut Steps<L>,
 ) -> bool
     requires as_many { length running.old ≡ length procs.old }
     requires numbered { length procs.old < 2 ^ 32 }
-    requires room { length events.old.items + (length (passes_of pass) + length procs.old) ≤ 96 }
+    requires room { length events.old.items + (length (passes_of pass) + length procs.old) ≤ MOST_EVENTS }
     requires waits { NoneWaits procs.old }
     requires alone { alone ≡ true → (passes_of pass ≡ []) × WasAlone p running.old (processes_of procs.old) }
     ensures told { (before : List (Process Standing Copy)) → running_of before ≡ running.old
@@ -97,11 +97,11 @@ fn finish_one<L: Ledger>(
     procs: &mut [Proc<L>],
     running: &mut [bool],
     p: u32,
-    events: &mut ArrayVec<Event, 96>,
+    events: &mut ArrayVec<Event, MOST_EVENTS>,
     steps: &mut Steps<L>,
 ) -> bool
     requires as_many { length running.old ≡ length procs.old }
-    requires room { length events.old.items + length procs.old ≤ 96 }
+    requires room { length events.old.items + length procs.old ≤ MOST_EVENTS }
     requires waits { NoneWaits procs.old }
     requires alone { WasAlone p running.old (processes_of procs.old) }
     ensures told { events.new.items
@@ -123,7 +123,7 @@ fn finish_one<L: Ledger>(
 }
 
 // The event of a process that has ended, if it ran.
-fn ending_of(process: u32, ran: bool, status: Status) -> Option<Event>
+fn ending_of(process: u32, ran: bool, status: ProcessStatus) -> Option<Event>
     ensures event { option_to_list result
         ≡ ended_if Ending.Failed process ran (status_of status) ++ ended_if Ending.Done process ran (status_of status) }
     ensures one { length (option_to_list result) ≤ 1 }
@@ -132,9 +132,9 @@ fn ending_of(process: u32, ran: bool, status: Status) -> Option<Event>
         return None;
     }
     match status {
-        Status::Running => None,
-        Status::Finished => Some(Event::Done { process }),
-        Status::Failed(cause) => Some(Event::Error { process, cause }),
+        ProcessStatus::Running => None,
+        ProcessStatus::Finished => Some(Event::Done { process }),
+        ProcessStatus::Failed(cause) => Some(Event::Error { process, cause }),
     }
 }
 
@@ -155,11 +155,11 @@ fn tell_ended<L: Ledger>(
     procs: &[Proc<L>],
     running: &[bool],
     ending: Ending,
-    events: &mut ArrayVec<Event, 96>,
+    events: &mut ArrayVec<Event, MOST_EVENTS>,
 )
     requires as_many { length running.now ≡ length procs.now }
     requires numbered { length procs.now < 2 ^ 32 }
-    requires room { length events.old.items + length (ended_by ending 0 running.now (processes_of procs.now)) ≤ 96 }
+    requires room { length events.old.items + length (ended_by ending 0 running.now (processes_of procs.now)) ≤ MOST_EVENTS }
     ensures { events.new.items ≡ events.old.items ++ ended_by ending 0 running.now (processes_of procs.now) }
 {
     for (p, proc) in procs.iter().enumerate() {
@@ -171,22 +171,22 @@ fn tell_ended<L: Ledger>(
 }
 
 // The event of a process that has ended so, if it ran.
-fn event_of(ending: Ending, process: u32, ran: bool, status: Status) -> Option<Event>
+fn event_of(ending: Ending, process: u32, ran: bool, status: ProcessStatus) -> Option<Event>
     ensures { option_to_list result ≡ ended_if ending process ran (status_of status) }
 {
     if !ran {
         return None;
     }
     match (ending, status) {
-        (Ending::Failed, Status::Failed(cause)) => Some(Event::Error { process, cause }),
-        (Ending::Done, Status::Finished) => Some(Event::Done { process }),
+        (Ending::Failed, ProcessStatus::Failed(cause)) => Some(Event::Error { process, cause }),
+        (Ending::Done, ProcessStatus::Finished) => Some(Event::Done { process }),
         _ => None,
     }
 }
 
 // Adds an event, if there is one.
-fn add(events: &mut ArrayVec<Event, 96>, event: Option<Event>)
-    requires { length events.old.items + length (option_to_list event) ≤ 96 }
+fn add(events: &mut ArrayVec<Event, MOST_EVENTS>, event: Option<Event>)
+    requires { length events.old.items + length (option_to_list event) ≤ MOST_EVENTS }
     ensures { events.new.items ≡ events.old.items ++ option_to_list event }
 {
     if let Some(event) = event {
@@ -204,12 +204,12 @@ pub(crate) fn note_running<L: Ledger>(procs: &[Proc<L>], running: &mut [bool])
     }
 }
 
-fn runs(status: Status) -> bool
+fn runs(status: ProcessStatus) -> bool
     ensures { result ≡ is_running (status_of status) }
 {
     match status {
-        Status::Running => true,
-        Status::Finished | Status::Failed(_) => false,
+        ProcessStatus::Running => true,
+        ProcessStatus::Finished | ProcessStatus::Failed(_) => false,
     }
 }
 
@@ -228,9 +228,9 @@ pub fn release_all<L: Ledger>(procs: &mut [Proc<L>], steps: &mut Steps<L>)
 
 /// Forgets the released lines of each process, and answers how many they were.
 pub fn drop_all_released<L: Ledger>(procs: &mut [Proc<L>]) -> u32
-    requires few { length procs.old ≤ 64 }
+    requires few { length procs.old ≤ MOST_PROCESSES_SECOND }
     ensures count { result ≡ sum_by length (lines_of procs.old) }
-    ensures few { result ≤ 64 * MOST_HELD_BYTES }
+    ensures few { result ≤ MOST_PROCESSES_SECOND * MOST_HELD_BYTES }
     ensures processes { processes_of procs.new ≡ processes_of procs.old }
     ensures none { lines_of procs.new ≡ replicate (length procs.old) [] }
 {

@@ -5,8 +5,8 @@ ghost use Rattle.std.specs.Prelude.{◌≡◌, ◌+◌, ◌*◌, ◌<◌, ◌≤
 ghost use Rattle.rb_world.specs.Standing.{Each};
 ghost use Rattle.rb_world.specs.Turn.{accepted, all_stand, at_test_line, stands_there};
 ghost use Rattle.rb_world.specs.World.{change_at, last_of};
-ghost use Rattle.rb_code.specs.Plain.{Code as Plain, code as plain};
-ghost use Rattle.rb_code.specs.Turn.{Common};
+ghost use Rattle.rb_code.specs.Instructions.Plain.{Code as Plain, code as plain};
+ghost use Rattle.rb_code.specs.WordMachine.Turn.{Common};
 ghost use Rattle.rb_conv.specs.Conversations.{memberships};
 ghost use Rattle.rb_proc.specs.Executable.{IsExecutable};
 ghost use Rattle.rb_proc.specs.Process.{Seen};

@@ -1,9 +1,10 @@
 //! Turns that end in rejections.
 
 ghost use Rattle.std.specs.Prelude.{◌≡◌, ◌+◌, ◌<◌, ◌≤◌, length};
+ghost use Rattle.rb_base.specs.declared.limits.TheConstants.{MOST_OPEN_LEVELS};
 ghost use Rattle.rb_world.specs.Reject.{reject};
 ghost use Rattle.rb_world.specs.Turn.{undone};
-ghost use Rattle.rb_code.specs.Plain.{Code as Plain};
+ghost use Rattle.rb_code.specs.Instructions.Plain.{Code as Plain};
 ghost use Rattle.rb_proc.specs.Sees.{AreSized};
 ghost use Rattle.rb_machine.specs.Cascade.{AreQuiet, MayRejectAt};
 ghost use Rattle.rb_machine.specs.Moves.{HasMoved, IsLeft, world};
@@ -14,7 +15,7 @@ use crate::came::Came;
 use crate::cascade::reject;
 use crate::parts::Parts;
 use arrayvec::ArrayVec;
-use rb_base::{Cause, Event, Steps, TurnKind};
+use rb_base::{Cause, Event, MOST_EVENTS, Steps, TurnKind};
 use std::sync::ledger::Ledger;
 
 /// Ends a turn by rejecting process p from the innermost of its first `left` levels on.
@@ -23,13 +24,13 @@ pub fn undo<L: Ledger>(
     p: u32,
     left: u32,
     cause: Cause,
-    events: &mut ArrayVec<Event, 96>,
+    events: &mut ArrayVec<Event, MOST_EVENTS>,
     steps: &mut Steps<L>,
 ) -> Came
     requires process { p < length parts.old.procs.items }
     requires may { MayRejectAt parts.old.procs.items parts.old.table p left }
     requires quiet { AreQuiet parts.old.procs.items }
-    requires few { left ≤ 32 }
+    requires few { left ≤ MOST_OPEN_LEVELS }
     requires none { length events.old.items ≡ 0 }
     ensures moved { (c : Plain)
         → HasMoved parts.new events.new.items result (undone (reject (kind_with c parts.old.table) p left cause (world parts.old))) }

@@ -11,14 +11,14 @@ use Rattle.rb_trace.specs.Fitting.{Fits, LiesWithin, ProcessFits}
 use Rattle.rb_world.specs.Kind.{Membership}
 use Rattle.rb_world.specs.Standing.{Each}
 use Rattle.rb_world.specs.World.{Process}
-use Rattle.rb_code.specs.Memory.{no_part, part_of}
-use Rattle.rb_code.specs.Plain.{Code, Part}
-use Rattle.rb_code.specs.Turn.{Copy, Standing}
-use Rattle.rb_code.specs.WellFormed.{IsPart, IsSound}
-use Rattle.rb_code.specs.WordRun.{WordWorld, counts_sent, counts_taken, variable_words}
+use Rattle.rb_code.specs.WordMachine.Workspace.{no_part, part_of}
+use Rattle.rb_code.specs.Instructions.Plain.{Code, Part}
+use Rattle.rb_code.specs.WordMachine.Turn.{Copy, Standing}
+use Rattle.rb_code.specs.SoundCode.WellFormed.{IsPart, IsSound}
+use Rattle.rb_code.specs.WordMachine.WordRun.{WordWorld, counts_sent, counts_taken, variable_words}
 use Rattle.rb_code.proofs.WholeRuns.ProcessesBegin.{all_there}
 use Rattle.rb_run.specs.Running.{NamesFit, VariablesLie}
-use Rattle.rb_machine.proofs.LentAtWork.{sent_each, taken_each}
+use Rattle.rb_machine.proofs.Releasing.LentAtWork.{sent_each, taken_each}
 use Rattle.rb_run.proofs.OwnWords.{HasOwnWords, variables_long}
 
 words_few : (edition : Edition) (n : ℕ) → n ≤ most_words edition → n < 2 ^ 32
@@ -56,12 +56,13 @@ module _ (c : Code) (few : (p : ℕ) (part : Part) → slice_get c.processes p �
             (λ r x e. subst (λ (n : ℕ). HasOwnWords c n x) (next r) (own (suc r) x e)),
       )
 
-pub ending_fits : (c : Code) (groups : List Membership) (names : Names) (w : WordWorld) → IsSound c groups → NamesFit c names
+pub ending_fits : (c : Code) (groups : List Membership) (counts : List ℕ) (names : Names) (w : WordWorld) → IsSound c groups counts
+    → NamesFit c names
     → length w.processes ≡ length c.processes → Each (HasOwnWords c) w.processes
     → Fits names (map (λ (q : Process Standing Copy). variable_words c q.state) w.processes)
     (counts_sent c (map (λ (q : Process Standing Copy). q.state) w.processes) 0 c.channels)
     (counts_taken c (map (λ (q : Process Standing Copy). q.state) w.processes) 0 c.channels)
-ending_fits c groups names w sound fit as_many own =
+ending_fits c groups counts names w sound fit as_many own =
     let own_number : (r : ℕ) → r ≡ 0 + r = λ r. omega arith in
     record {
       processes = all_fit c

@@ -7,6 +7,7 @@ pub mod NamesFit
 pub mod Completes
 pub mod TurnsTaken
 pub mod RunWritten
+pub mod AsMeant
 -- Lines that are counted, and records that are written.
 pub mod Counted
 pub mod Gathered

@@ -14,8 +14,8 @@ use Rattle.rb_meaning.proofs.NamedVariables.{named_within}
 use Rattle.rb_trace.specs.Naming.{naming, process_naming, variable_naming}
 use Rattle.rb_trace.proofs.Lying.{variables_within}
 use Rattle.rb_scope.specs.declared.slot.Slot.{Slot}
-use Rattle.rb_code.specs.Plain.{Code, Part}
-use Rattle.rb_code.specs.StandsFor.{ProcessesCode, StandsFor}
+use Rattle.rb_code.specs.Instructions.Plain.{Code, Part}
+use Rattle.rb_code.specs.Agreement.StandsFor.{ProcessesCode, StandsFor}
 use Rattle.rb_run.specs.Running.{NamesFit, VariablesLie}
 
 module _ (tree : Tree) (slots : List Slot) (c : Code) where

@@ -7,22 +7,22 @@ use Rattle.rb_world.specs.Reject.{back_to}
 use Rattle.rb_world.specs.Slots.{zero_slots}
 use Rattle.rb_world.specs.Standing.{Each, is_failed}
 use Rattle.rb_world.specs.Turn.{freed, stands_now}
-use Rattle.rb_world.specs.World.{Level, Process, Status, Running, Finished, FailedWith, copy_of, goes_on, last_of, settled, without_last}
-use Rattle.rb_world.proofs.EachProcess.{KeepsEach, each_opening_run}
+use Rattle.rb_world.specs.World.{Level, Process, ProcessStatus, Running, Finished, FailedWith, copy_of, goes_on, last_of, settled, without_last}
+use Rattle.rb_world.proofs.Keeping.EachProcess.{KeepsEach, each_opening_run}
 use Rattle.rb_world.proofs.ListFacts.{none_some, some_same}
-use Rattle.rb_world.proofs.StandingFacts.{status_at-whole}
-use Rattle.rb_code.specs.Memory.{body_place, part_of, variables_place}
-use Rattle.rb_code.specs.Plain.{Code, Part}
-use Rattle.rb_code.specs.Sound.{HasTable, Table}
-use Rattle.rb_code.specs.Stands.{IsLaidOut, Levels, Settles, Stands, inside_out}
-use Rattle.rb_code.specs.StandsInRuns.{ProcessStands, StandsNow}
-use Rattle.rb_code.specs.Turn.{Common, Copy, Standing, step}
-use Rattle.rb_code.specs.WellFormed.{IsSound, ListsChannels}
-use Rattle.rb_code.specs.WordKind.{entered_at, word_kind}
-use Rattle.rb_code.specs.WordRun.{opening_standing, opening_standings, variable_words, word_run}
-use Rattle.rb_code.proofs.OpenLevels.{bases_rise}
-use Rattle.rb_code.proofs.ProcessesStand.{copy_stands, processes_stand, settled_stands}
-use Rattle.rb_code.proofs.StandsAgain.{opening_settles}
+use Rattle.rb_world.proofs.Keeping.StandingFacts.{status_at-whole}
+use Rattle.rb_code.specs.WordMachine.Workspace.{body_place, part_of, variables_place}
+use Rattle.rb_code.specs.Instructions.Plain.{Code, Part}
+use Rattle.rb_code.specs.SoundCode.Sound.{HasTable, Table}
+use Rattle.rb_code.specs.SoundCode.Stands.{IsLaidOut, Levels, Settles, Stands, inside_out}
+use Rattle.rb_code.specs.SoundCode.StandsInRuns.{ProcessStands, StandsNow}
+use Rattle.rb_code.specs.WordMachine.Turn.{Common, Copy, Standing, step}
+use Rattle.rb_code.specs.SoundCode.WellFormed.{IsSound, ListsChannels}
+use Rattle.rb_code.specs.WordMachine.WordKind.{entered_at, word_kind}
+use Rattle.rb_code.specs.WordMachine.WordRun.{opening_standing, opening_standings, variable_words, word_run}
+use Rattle.rb_code.proofs.Executing.OpenLevels.{bases_rise}
+use Rattle.rb_code.proofs.Executing.ProcessesStand.{copy_stands, processes_stand, settled_stands}
+use Rattle.rb_code.proofs.Executing.StandsAgain.{opening_settles}
 use Rattle.rb_code.proofs.WholeRuns.MachineSteps.{LeavesLinks, settle_same, step_leaves}
 
 -- at least the words of the cursors and of the variables
@@ -46,7 +46,7 @@ module _ (c : Code) (t : Table) where
   settles_own s levels h = laid_own s (inside_out levels) h.entry h.layout
 
   -- who stands and has not failed has its own words
-  now_own : (status : Status) (at_line : Bool) (s : Standing) (levels : List (Level Copy)) → is_failed status ≡ false
+  now_own : (status : ProcessStatus) (at_line : Bool) (s : Standing) (levels : List (Level Copy)) → is_failed status ≡ false
       → StandsNow c t status at_line s levels → AreOwn c s
   now_own (FailedWith cause) at_line s levels whole h = absurd (true≢false whole)
   now_own Running false s levels whole h = stands_own s levels h
@@ -89,7 +89,7 @@ module _ (c : Code) (groups : List Membership) (t : Table) (has : HasTable c gro
   settled_whole p s levels number h =
       whole p (settled Words s levels) (status_at-whole _) ((settle_same c (copy_of (last_of levels)) s).process ∙ number) h
 
-  freed_keeps : (p : ℕ) (s : Standing) (levels : List (Level Copy)) (at_line : Bool) (status : Status)
+  freed_keeps : (p : ℕ) (s : Standing) (levels : List (Level Copy)) (at_line : Bool) (status : ProcessStatus)
       → Keeps c t p (record { state = s; levels = levels; at_line = at_line; status = status })
       → Keeps c t p (freed Words (record { state = s; levels = levels; at_line = at_line; status = status }))
   freed_keeps p s [] at_line status h = record {
@@ -165,9 +165,9 @@ module _ (c : Code) (groups : List Membership) (t : Table) (has : HasTable c gro
       each_opening_run keeps turns (opening_standings 0 c.processes) (record { slots = zero_slots c.channels; links = [] }) first_keeps
 
 -- so it is in every run
-pub runs_own : (c : Code) (groups : List Membership) → IsSound c groups → (turns : List ℕ)
+pub runs_own : (c : Code) (groups : List Membership) (counts : List ℕ) → IsSound c groups counts → (turns : List ℕ)
     → Each (HasOwnWords c) (word_run c groups turns).0.processes
-runs_own c groups sound turns r q e = (runs_keep c groups sound.table sound.has sound.well.lists turns r q e).has
+runs_own c groups counts sound turns r q e = (runs_keep c groups sound.table sound.has sound.well.lists turns r q e).has
 
 -- then the words of the variables are as many as the code says
 pub variables_long : (c : Code) (s : Standing) → AreOwn c s → length (variable_words c s) ≡ (part_of c s.process).words

@@ -7,25 +7,26 @@ use Rattle.rb_world.specs.Kind.{Ends, Facts}
 use Rattle.rb_world.specs.Slots.{zero_slots}
 use Rattle.rb_world.specs.World.{Level, Process, is_shared}
 use Rattle.rb_world.proofs.ListFacts.{none_some, some_same}
-use Rattle.rb_world.proofs.MarksMeet.{OptionsMeet, SameMarks}
-use Rattle.rb_world.proofs.ProcessesMeet.{ProcessesMeet, cond_meets, get_meets}
-use Rattle.rb_world.proofs.RunsMeet.{RunsMeet, opening_run_meets}
-use Rattle.rb_world.proofs.Simulation.{copies_of}
+use Rattle.rb_world.proofs.Relating.MarksMeet.{OptionsMeet, SameMarks}
+use Rattle.rb_world.proofs.Relating.ProcessesMeet.{ProcessesMeet, cond_meets, get_meets}
+use Rattle.rb_world.proofs.Relating.RunsMeet.{RunsMeet, opening_run_meets}
+use Rattle.rb_world.proofs.Relating.Simulation.{copies_of}
 use Rattle.rb_meaning.specs.Groups.{channels_of, groups_of}
 use Rattle.rb_meaning.specs.Laws.{TakesNothingBack, run_with_slots}
 use Rattle.rb_meaning.specs.Meaning.{opening_states, run_of, sent_on, taken_on, tree_kind}
 use Rattle.rb_meaning.specs.Nesting.{IsNested}
 use Rattle.rb_meaning.specs.State.{State}
-use Rattle.rb_meaning.proofs.TreeErasure.{nothing_taken_back}
+use Rattle.rb_meaning.proofs.Trees.TreeErasure.{nothing_taken_back}
 use Rattle.rb_scope.specs.declared.slot.Slot.{Slot}
 use Rattle.rb_judge.proofs.Accepted.{accepted_are_nested, accepted_are_within_limits}
-use Rattle.rb_code.specs.Plain.{Code}
-use Rattle.rb_code.specs.StandsFor.{StandsFor}
-use Rattle.rb_code.specs.Turn.{Common, Copy, Standing}
-use Rattle.rb_code.specs.WordKind.{sent_by, taken_by, word_kind}
-use Rattle.rb_code.specs.WordRun.{WordWorld, opening_standings, word_run}
-use Rattle.rb_code.proofs.Callees.{has_callees}
-use Rattle.rb_code.proofs.StepComes.{steps_come}
+use Rattle.rb_code.specs.Instructions.Plain.{Code}
+use Rattle.rb_code.specs.Agreement.StandsFor.{StandsFor}
+use Rattle.rb_code.specs.WordMachine.Turn.{Common, Copy, Standing}
+use Rattle.rb_code.specs.WordMachine.WordKind.{sent_by, taken_by, word_kind}
+use Rattle.rb_code.specs.WordMachine.WordRun.{WordWorld, opening_standings, word_run}
+use Rattle.rb_code.proofs.Agreeing.Callees.{has_callees}
+use Rattle.rb_code.proofs.Tables.CodeTables.{code_has_table}
+use Rattle.rb_code.proofs.Agreeing.StepComes.{steps_come}
 use Rattle.rb_code.proofs.WholeRuns.Agreeing.{IsAgreeing, Meeting}
 use Rattle.rb_code.proofs.WholeRuns.BothAgree.{Agreed, SameSlots}
 use Rattle.rb_code.proofs.WholeRuns.ChannelsOfProcesses.{has_cursors, lists_channels}
@@ -35,7 +36,7 @@ use Rattle.rb_code.proofs.WholeRuns.TogetherLaws.{together_agrees}
 use Rattle.rb_code.proofs.WholeRuns.UprightByTable.{StandsInTable, table_upright}
 use Rattle.rb_code.proofs.WholeRuns.WhatIsKnown.{along, known_first, reading, reads}
 use Rattle.rb_code.proofs.WholeRuns.WordsSimulate.{SlotWorld, words_simulate}
-use Rattle.rb_prepare.proofs.AcceptedSources.{accepted_code_is_sound}
+use Rattle.rb_prepare.proofs.Operands.RoomFound.{accepted_find_room}
 use Rattle.rb_run.specs.Laws.{NothingTakenBack}
 
 -- what one of two options has the other has
@@ -137,11 +138,11 @@ pub receipts_stand : NothingTakenBack
 receipts_stand source tree slots c accepted resolved stands turns =
     let limits = accepted_are_within_limits source tree accepted in
     let nested = accepted_are_nested source tree accepted in
-    let sound = accepted_code_is_sound source tree slots c accepted resolved stands in
+    let tabled = code_has_table c tree slots resolved limits nested (accepted_find_room source tree accepted) stands in
     let lists = lists_channels tree slots c stands nested resolved in
     let cursors = has_cursors tree slots c stands nested resolved in
     let come = steps_come tree slots c cursors stands.edition_is stands.channels_are (has_callees tree slots c stands resolved) in
     receipts tree slots c _
-    (together_agrees tree slots c resolved limits nested stands cursors come (StandsInTable c (groups_of tree) sound.table sound.has lists)
-    (table_upright c (groups_of tree) sound.table sound.has lists))
+    (together_agrees tree slots c resolved limits nested stands cursors come (StandsInTable c (groups_of tree) tabled.0 tabled.1 lists)
+    (table_upright c (groups_of tree) tabled.0 tabled.1 lists))
     nested stands turns

@@ -18,13 +18,13 @@ use Rattle.rb_meaning.specs.Meaning.{standing}
 use Rattle.rb_world.specs.Text.{Naming, all_told, end_text, out_lines, told_text}
 use Rattle.rb_world.specs.Turn.{Told, run, told_at_opening}
 use Rattle.rb_world.specs.World.{Process}
-use Rattle.rb_world.proofs.StandingFacts.{run-size}
-use Rattle.rb_code.specs.Turn.{Copy, Standing}
-use Rattle.rb_code.specs.WellFormed.{IsSound}
-use Rattle.rb_code.specs.WordKind.{word_kind}
-use Rattle.rb_code.specs.WordRun.{WordWorld, counts_sent, counts_taken, opening_of, opening_standings, variable_words, word_final, word_run, word_text}
+use Rattle.rb_world.proofs.Keeping.StandingFacts.{run-size}
+use Rattle.rb_code.specs.WordMachine.Turn.{Copy, Standing}
+use Rattle.rb_code.specs.WordMachine.WordKind.{word_kind}
+use Rattle.rb_code.specs.WordMachine.WordRun.{WordWorld, counts_sent, counts_taken, opening_of, opening_standings, variable_words, word_final, word_run, word_text}
+use Rattle.rb_machine.specs.Known.{IsSoundFor}
 use Rattle.rb_machine.specs.Machine.{Seen, opening_seen}
-use Rattle.rb_machine.proofs.Sizes.{length-opening}
+use Rattle.rb_machine.proofs.Knowing.Sizes.{length-opening}
 use Rattle.rb_run.specs.Running.{NamesFit, NoneWaits, VariablesLie, ran}
 use Rattle.rb_run.proofs.EndingFits.{ending_fits}
 use Rattle.rb_run.proofs.OwnWords.{runs_own}
@@ -122,15 +122,15 @@ module _ (old : Seen) (fresh : old ≡ opening_seen old.code old.groups old.most
         pub states_each : {A : Type 0} (f : Process Standing Copy → A) → length (map f later.world.processes) ≡ length names.processes.items
         states_each f = length-map later.world.processes f ∙ same_later ∙ sym names_each
 
-        pub end_fits : IsSound old.code old.groups
+        pub end_fits : IsSoundFor old.code old.groups
             → Fits names (map (λ (q : Process Standing Copy). variable_words later.code q.state) later.world.processes)
             (counts_sent later.code (map (λ (q : Process Standing Copy). q.state) later.world.processes) 0 later.code.channels)
             (counts_taken later.code (map (λ (q : Process Standing Copy). q.state) later.world.processes) 0 later.code.channels)
-        end_fits sound =
+        end_fits (counts, sound) =
             let w = (word_run old.code old.groups all).0 in
             let as_many : length w.processes ≡ length old.code.processes =
             ap (λ (v : WordWorld). length v.processes) (sym world_later) ∙ same_later ∙ processes_each in
-            let at_end = ending_fits old.code old.groups names w sound fit as_many (runs_own old.code old.groups sound all) in
+            let at_end = ending_fits old.code old.groups counts names w sound fit as_many (runs_own old.code old.groups counts sound all) in
             subst (λ c. Fits names (map (λ (q : Process Standing Copy). variable_words c q.state) later.world.processes)
             (counts_sent c (map (λ (q : Process Standing Copy). q.state) later.world.processes) 0 c.channels)
             (counts_taken c (map (λ (q : Process Standing Copy). q.state) later.world.processes) 0 c.channels)) (sym code_later)

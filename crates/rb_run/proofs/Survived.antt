@@ -12,12 +12,12 @@ use Rattle.rb_meaning.specs.Groups.{groups_of}
 use Rattle.rb_meaning.specs.Laws.{IsAlwaysErased}
 use Rattle.rb_meaning.specs.Meaning.{run_of, survivors}
 use Rattle.rb_meaning.specs.State.{State}
-use Rattle.rb_meaning.proofs.TreeErasure.{erasure}
+use Rattle.rb_meaning.proofs.Trees.TreeErasure.{erasure}
 use Rattle.rb_judge.proofs.Accepted.{of_accepted}
-use Rattle.rb_code.specs.Laws.{Agrees}
-use Rattle.rb_code.specs.Plain.{Code}
-use Rattle.rb_code.specs.Turn.{Copy, Standing, kept_from}
-use Rattle.rb_code.specs.WordRun.{word_run}
+use Rattle.rb_code.specs.Agreement.Laws.{Agrees}
+use Rattle.rb_code.specs.Instructions.Plain.{Code}
+use Rattle.rb_code.specs.WordMachine.Turn.{Copy, Standing, kept_from}
+use Rattle.rb_code.specs.WordMachine.WordRun.{word_run}
 use Rattle.rb_prepare.proofs.AcceptedSources.{accepted_code_agrees}
 use Rattle.rb_machine.specs.Survivors.{word_survivors}
 use Rattle.rb_run.specs.Surviving.{IsErasedOver, Survives}

@@ -8,8 +8,8 @@ use Rattle.rb_world.specs.Kind.{Kind}
 use Rattle.rb_world.specs.World.{World}
 use Rattle.rb_world.specs.Text.{Naming, all_told, told_text}
 use Rattle.rb_world.specs.Turn.{Told, run, turn}
-use Rattle.rb_world.proofs.StandingFacts.{run-size}
-use Rattle.rb_code.specs.WordKind.{word_kind}
+use Rattle.rb_world.proofs.Keeping.StandingFacts.{run-size}
+use Rattle.rb_code.specs.WordMachine.WordKind.{word_kind}
 use Rattle.rb_machine.specs.Machine.{HasTurned, Seen, turned}
 use Rattle.rb_run.specs.Running.{NoneWaits, ran}
 use Rattle.rb_run.proofs.Completes.{Remains, remains_same, remains_less, remains_none, remains_stopped}

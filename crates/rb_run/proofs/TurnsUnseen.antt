@@ -5,9 +5,9 @@ use Rattle.rb_base.specs.declared.event.Event.{Event}
 use Rattle.rb_meaning.specs.Laws.{is_rejection}
 use Rattle.rb_world.specs.Text.{is_done}
 use Rattle.rb_world.specs.Turn.{Told, run}
-use Rattle.rb_code.specs.WordKind.{word_kind}
+use Rattle.rb_code.specs.WordMachine.WordKind.{word_kind}
 use Rattle.rb_machine.specs.Machine.{HasTurned, Seen, opening_seen}
-use Rattle.rb_machine.proofs.Sizes.{opening-processes}
+use Rattle.rb_machine.proofs.Knowing.Sizes.{opening-processes}
 use Rattle.rb_run.specs.Counting.{AreBelow, Counted, IsMore, both_counted, counts, events_told, is_error, is_pass, lines_told, told_counts}
 use Rattle.rb_run.specs.Running.{NoneWaits}
 use Rattle.rb_run.specs.declared.counting.Counts.{Counts}
@@ -56,7 +56,7 @@ pub record HasRoom (turns : ℕ) (c : Counts) : Type 0 where
   pub error : c.error + turns * 4194304 < 2 ^ 63
   pub done : c.done + turns * 4194304 < 2 ^ 63
 
-pub room_first : (turns : ℕ) (c : Counts) → turns ≤ 1000000 → AreBelow (2 ^ 32) c → HasRoom turns c
+pub room_first : (turns : ℕ) (c : Counts) → turns < 2 ^ 32 → AreBelow (2 ^ 32) c → HasRoom turns c
 room_first turns c few below = record {
   out = omega (arith, below.out);
   reject = omega (arith, below.reject);

@@ -5,10 +5,10 @@ use Rattle.rb_world.specs.Channels.{seen_copy, seen_count}
 use Rattle.rb_world.specs.Kind.{Ends}
 use Rattle.rb_world.specs.World.{Process}
 use Rattle.rb_meaning.specs.Groups.{groups_of}
-use Rattle.rb_code.specs.Plain.{Code}
-use Rattle.rb_code.specs.Turn.{Copy, Standing}
-use Rattle.rb_code.specs.WordKind.{taken_by, word_kind}
-use Rattle.rb_code.specs.WordRun.{word_run}
+use Rattle.rb_code.specs.Instructions.Plain.{Code}
+use Rattle.rb_code.specs.WordMachine.Turn.{Copy, Standing}
+use Rattle.rb_code.specs.WordMachine.WordKind.{taken_by, word_kind}
+use Rattle.rb_code.specs.WordMachine.WordRun.{word_run}
 use Rattle.rb_prepare.specs.Laws.{OfEveryCode}
 
 -- process number p of the world of the word machine after these turns

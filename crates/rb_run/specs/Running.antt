@@ -6,8 +6,8 @@ use Rattle.rb_base.specs.declared.names.Names.{Names}
 use Rattle.rb_base.specs.declared.names.ProcessNames.{ProcessNames}
 use Rattle.rb_trace.specs.Fitting.{LiesWithin}
 use Rattle.rb_world.specs.Turn.{run}
-use Rattle.rb_code.specs.Plain.{Code, Part}
-use Rattle.rb_code.specs.WordKind.{word_kind}
+use Rattle.rb_code.specs.Instructions.Plain.{Code, Part}
+use Rattle.rb_code.specs.WordMachine.WordKind.{word_kind}
 use Rattle.rb_machine.specs.Machine.{Seen}
 
 -- no released line waits

@@ -1,19 +1,14 @@
 -- What the call that writes the survivors of a run comes to.
 use Rattle.std.specs.Prelude.{◌≡◌, ℕ, List, Option, Result, Ok, Err}
-use Rattle.rb_syntax.specs.Tree.{Tree}
 use Rattle.rb_outside.specs.Outside.{Faults}
 use Rattle.rb_outside.specs.Puts.{Puts}
 use Rattle.rb_world.specs.Kind.{Membership}
-use Rattle.rb_meaning.specs.Groups.{groups_of}
 use Rattle.rb_meaning.specs.Laws.{IsErased}
 use Rattle.rb_meaning.specs.Meaning.{run_of, survivors}
-use Rattle.rb_scope.specs.InFrames.{Resolved}
-use Rattle.rb_scope.specs.declared.slot.Slot.{Slot}
-use Rattle.rb_judge.specs.Verdict.{IsAccepted}
-use Rattle.rb_code.specs.Plain.{Code}
-use Rattle.rb_code.specs.StandsFor.{StandsFor}
-use Rattle.rb_code.specs.WordRun.{word_run}
+use Rattle.rb_code.specs.Instructions.Plain.{Code}
+use Rattle.rb_code.specs.WordMachine.WordRun.{word_run}
 use Rattle.rb_machine.specs.Survivors.{word_survivors}
+use Rattle.rb_run.specs.Sources.{OfItsSource}
 use Rattle.rb_run.specs.declared.surviving.Ended.{Ended}
 use Rattle.rb_run.specs.declared.surviving.Ended.TheVariants.{WriteFault, Memory}
 
@@ -26,6 +21,5 @@ Survives text old new before after (Err Memory) = (new ≡ old) × (after ≡ be
 -- Of whatever accepted source code stands for: the survivors of its word machine are those of the meaning, and a plain run of them ends in
 -- the same states, and releases the same lines in the same turns.
 abbrev pub IsErasedOver : Code → List Membership → List ℕ → Type 0
-IsErasedOver c groups turns = (source : List ℕ) (tree : Tree) (slots : List Slot) → IsAccepted source tree → Resolved tree slots
-    → StandsFor tree slots c → groups ≡ groups_of tree
-    → (word_survivors (word_run c groups turns).0 ≡ survivors (run_of tree turns).0) × IsErased tree turns
+IsErasedOver c groups turns =
+    OfItsSource c groups (λ tree. (word_survivors (word_run c groups turns).0 ≡ survivors (run_of tree turns).0) × IsErased tree turns)

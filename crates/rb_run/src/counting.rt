@@ -1,9 +1,9 @@
 //! A run that prints nothing, and counts the lines that it would print.
 
-ghost use Rattle.std.specs.Prelude.{◌≡◌, ◌+◌, ◌-◌, ◌^◌, ◌≤◌, [], ◌∷◌, length};
-ghost use Rattle.rb_base.specs.declared.limits.TheConstants.{MOST_TURNS};
-ghost use Rattle.rb_code.specs.WordKind.{word_kind};
-ghost use Rattle.rb_code.specs.WordRun.{opening_of, word_run};
+ghost use Rattle.std.specs.Prelude.{◌≡◌, ◌+◌, ◌-◌, ◌^◌, ◌<◌, ◌≤◌, [], ◌∷◌, length};
+ghost use Rattle.rb_base.specs.declared.event.TheConstants.{MOST_EVENTS};
+ghost use Rattle.rb_code.specs.WordMachine.WordKind.{word_kind};
+ghost use Rattle.rb_code.specs.WordMachine.WordRun.{opening_of, word_run};
 ghost use Rattle.rb_world.specs.Turn.{run as run_from, told_at_opening};
 ghost use Rattle.rb_machine.specs.Machine.{opening_seen};
 ghost use Rattle.rb_machine.specs.Work.{turns_work};
@@ -59,7 +59,7 @@ fn count_turns<L: Ledger>(
 )
     requires waits { NoneWaits machine.old }
     requires turns { machine.old.taken + length schedule.left ≤ machine.old.most }
-    requires few { machine.old.most ≤ MOST_TURNS }
+    requires few { machine.old.most < 2 ^ 32 - 1 }
     requires room { AreBelow (2 ^ 32) tally.old }
     ensures counts { counts tally.new
         ≡ both_counted (counts tally.old)
@@ -92,7 +92,7 @@ impl Counts {
     // Adds the lines of one turn: its events, and so many released lines.
     fn add(&mut self, events: &[Event], released: u32)
         requires room { AreBelow (2 ^ 63) self.old }
-        requires few { length events.now ≤ 96 }
+        requires few { length events.now ≤ MOST_EVENTS }
         ensures { IsMore self.old released events.now self.new }
     {
         self.out += u64::from(released);

@@ -1,8 +1,9 @@
 //! A run of a loaded machine over a schedule, from its turns to the bytes that it prints.
 
 ghost use Rattle.std.specs.Prelude.{◌≡◌, ℕ, ◌+◌, ◌<◌, ◌≤◌, ◌++◌, false, [], length, replicate, OnOk};
-ghost use Rattle.rb_code.specs.WordKind.{word_kind};
-ghost use Rattle.rb_code.specs.WordRun.{word_text};
+ghost use Rattle.rb_code.specs.WordMachine.WordKind.{word_kind};
+ghost use Rattle.rb_code.specs.WordMachine.WordRun.{word_text};
+ghost use Rattle.rb_meaning.specs.Meaning.{run_text};
 ghost use Rattle.rb_outside.specs.Puts.{Puts};
 ghost use Rattle.rb_trace.specs.Ended.{numbers_printed};
 ghost use Rattle.rb_trace.specs.Naming.{naming};
@@ -12,6 +13,7 @@ ghost use Rattle.rb_world.specs.Turn.{run as run_from};
 ghost use Rattle.rb_machine.specs.Machine.{opening_seen};
 ghost use Rattle.rb_machine.specs.Work.{turns_work};
 ghost use Rattle.rb_run.specs.Running.{HasNoLines, NoneWaits, NamesFit, ran};
+ghost use Rattle.rb_run.specs.Sources.{OfItsSource};
 
 use rb_base::{Names, Report, Steps};
 use rb_machine::Machine;
@@ -21,7 +23,8 @@ use rb_trace::{write_end, write_report};
 use std::sync::ledger::Ledger;
 
 /// Runs a machine that was just loaded over a schedule that was just read, and writes the run's text. It takes no memory: it answers Ok
-/// with the whole text written, or Failed where a write failed, with a prefix written. Its ticks are at most those of its turns, and one
+/// with the whole text written, or Failed where a write failed, with a prefix written. Of code that stands for an accepted source that is
+/// the text that the meaning gives. Its ticks are at most those of its turns, and one
 /// for each number that the ending prints.
 pub fn run<S: Sink, L: Ledger>(
     machine: &mut Machine<'_, L>,
@@ -37,6 +40,8 @@ pub fn run<S: Sink, L: Ledger>(
     requires turns { length schedule.left ≤ machine.old.most }
     ensures text { Puts (word_text machine.old.code machine.old.groups schedule.entry.all) (S.written out.old)
         (S.written out.new) (S.faults out.old) (S.faults out.new) result }
+    ensures meant { OfItsSource machine.old.code machine.old.groups (λ tree.
+        Puts (run_text tree schedule.entry.all) (S.written out.old) (S.written out.new) (S.faults out.old) (S.faults out.new) result) }
     ensures work { steps.new
         ≤ steps.old + turns_work machine.old.code machine.old.groups 1 schedule.entry.all machine.old.world
         + numbers_printed (naming names.now) }

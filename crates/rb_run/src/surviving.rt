@@ -1,7 +1,7 @@
 //! A run that prints nothing, and then writes which of its turns survived.
 
 ghost use Rattle.std.specs.Prelude.{◌≡◌, ◌+◌, ◌≤◌, length};
-ghost use Rattle.rb_code.specs.WordRun.{word_run};
+ghost use Rattle.rb_code.specs.WordMachine.WordRun.{word_run};
 ghost use Rattle.rb_trace.specs.Naming.{naming};
 ghost use Rattle.rb_world.specs.Text.{record_text};
 ghost use Rattle.rb_machine.specs.Machine.{opening_seen};

@@ -1,14 +1,14 @@
 use Rattle.std.proofs.Common.{◌≡◌, ◌+◌, ◌-◌, [], subst, arith}
 use Rattle.rb_base.specs.declared.event.Cause.TheVariants.{Inner}
 use Rattle.rb_world.specs.Reject.{fallen, reject}
-use Rattle.rb_code.specs.Turn.{Common}
+use Rattle.rb_code.specs.WordMachine.Turn.{Common}
 use Rattle.rb_proc.specs.Process.{kind_of}
 use Rattle.rb_machine.specs.Cascade.{MayRejectAt}
 use Rattle.rb_machine.specs.Work.{touched_by}
 use Rattle.rb_machine.specs.Worlds.{kind_with, processes_of, world_of}
-use Rattle.rb_machine.proofs.CascadeEnds.{falls, falls_quietly, one_told}
-use Rattle.rb_machine.proofs.SomeCode.{some_code}
-use Rattle.rb_machine.proofs.UndoingWork.{one_fewer, touched_fallen, undoes_further}
+use Rattle.rb_machine.proofs.Rejecting.CascadeEnds.{falls, falls_quietly, one_told}
+use Rattle.rb_machine.proofs.Beginning.SomeCode.{some_code}
+use Rattle.rb_machine.proofs.Working.UndoingWork.{one_fewer, touched_fallen, undoes_further}
 use Rattle.rb_machine.proofs.cascade.+reject.Goals as goal
 
 pub returns-then-left-eq0-clause-happened : goal.returns-then-left-eq0-clause-happened

@@ -5,7 +5,7 @@ use Rattle.rb_world.specs.Reject.{fallen}
 use Rattle.rb_world.specs.World.{is_inside}
 use Rattle.rb_proc.specs.Process.{kind_of}
 use Rattle.rb_machine.specs.Rejections.{changed}
-use Rattle.rb_machine.proofs.WhoIsInside.{inside_by_place}
+use Rattle.rb_machine.proofs.Rejecting.WhoIsInside.{inside_by_place}
 use Rattle.rb_machine.proofs.cascade.fail_at.Goals as goal
 
 pub returns-then-is_some : goal.returns-then-is_some

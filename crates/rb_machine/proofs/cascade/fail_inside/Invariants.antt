@@ -1,6 +1,6 @@
 use Rattle.std.proofs.Common.{◌≡◌, ◌++◌, map, take, drop}
 use Rattle.rb_world.specs.Reject.{fallen_inside}
-use Rattle.rb_code.specs.Plain.{Code}
+use Rattle.rb_code.specs.Instructions.Plain.{Code}
 use Rattle.rb_proc.specs.Process.{kind_of}
 use Rattle.rb_machine.specs.Rejections.{changed}
 use Rattle.rb_machine.proofs.cascade.fail_inside.Given as goal

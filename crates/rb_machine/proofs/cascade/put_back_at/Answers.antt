@@ -2,7 +2,7 @@ use Rattle.std.proofs.Common.{◌≡◌, Bool, true, cond, sym, ap, ◌∙◌, a
 use Rattle.std.specs.Option.{is_some}
 use Rattle.rb_world.specs.World.{is_inside}
 use Rattle.rb_machine.specs.Work.{inside_one}
-use Rattle.rb_machine.proofs.WhoIsInside.{inside_by_place}
+use Rattle.rb_machine.proofs.Rejecting.WhoIsInside.{inside_by_place}
 use Rattle.rb_machine.proofs.cascade.put_back_at.Goals as goal
 
 pub returns-in-Some-clause-work : goal.returns-in-Some-clause-work

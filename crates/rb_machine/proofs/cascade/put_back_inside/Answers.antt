@@ -8,8 +8,8 @@ use Rattle.rb_machine.specs.Work.{inside}
 use Rattle.rb_machine.specs.Worlds.{processes_of}
 use Rattle.rb_machine.proofs.Changed.{rest_there}
 use Rattle.rb_machine.proofs.InOrder.{all_in_order, rest_fewer, rest_more}
-use Rattle.rb_machine.proofs.SomeCode.{some_code}
-use Rattle.rb_machine.proofs.UndoingWork.{one_back}
+use Rattle.rb_machine.proofs.Beginning.SomeCode.{some_code}
+use Rattle.rb_machine.proofs.Working.UndoingWork.{one_back}
 use Rattle.rb_machine.proofs.cascade.put_back_inside.Goals as goal
 
 pub loop-proc-preserved : goal.loop-proc-preserved

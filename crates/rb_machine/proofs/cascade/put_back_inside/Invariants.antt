@@ -1,6 +1,6 @@
 use Rattle.std.proofs.Common.{◌≡◌, ◌+◌, ◌≤◌, ◌++◌, map, take, drop}
 use Rattle.rb_world.specs.Reject.{put_back, where_inside}
-use Rattle.rb_code.specs.Plain.{Code}
+use Rattle.rb_code.specs.Instructions.Plain.{Code}
 use Rattle.rb_proc.specs.Process.{kind_of}
 use Rattle.rb_machine.specs.Rejections.{changed}
 use Rattle.rb_machine.specs.Work.{inside, touched_in}

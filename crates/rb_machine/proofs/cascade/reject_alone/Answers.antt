@@ -1,8 +1,8 @@
 use Rattle.std.proofs.Common.{◌<◌, length, ap, sym, subst, arith}
 use Rattle.rb_proc.specs.Process.{Seen, kind_of}
 use Rattle.rb_machine.specs.Work.{touched_by}
-use Rattle.rb_machine.proofs.QuietProcesses.{Rises, back_within, below_last, rises_put_back}
-use Rattle.rb_machine.proofs.SomeCode.{some_code}
+use Rattle.rb_machine.proofs.Rejecting.QuietProcesses.{Rises, back_within, below_last, rises_put_back}
+use Rattle.rb_machine.proofs.Beginning.SomeCode.{some_code}
 use Rattle.rb_machine.proofs.cascade.reject_alone.Goals as goal
 
 pub raise-requires-clause-level : goal.raise-requires-clause-level

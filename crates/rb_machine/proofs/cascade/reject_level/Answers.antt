@@ -4,10 +4,10 @@ use Rattle.rb_conv.specs.Reject.{has_next}
 use Rattle.rb_proc.specs.Process.{kind_of}
 use Rattle.rb_machine.specs.Rejections.{tried_alone, tried_together}
 use Rattle.rb_machine.specs.Work.{inside_one}
-use Rattle.rb_machine.proofs.LevelRejected.{alone_may, alone_quiet, alone_rejected, alone_waits, conversation_there}
-use Rattle.rb_machine.proofs.LevelRejected.{same_groups, together_may, together_quiet, together_rejected, together_waits}
-use Rattle.rb_machine.proofs.SomeCode.{some_code}
-use Rattle.rb_machine.proofs.UndoingWork.{all_fewer, alone_undoes, inside_alone, inside_together, one_fewer, together_undoes}
+use Rattle.rb_machine.proofs.Rejecting.LevelRejected.{alone_may, alone_quiet, alone_rejected, alone_waits, conversation_there}
+use Rattle.rb_machine.proofs.Rejecting.LevelRejected.{same_groups, together_may, together_quiet, together_rejected, together_waits}
+use Rattle.rb_machine.proofs.Beginning.SomeCode.{some_code}
+use Rattle.rb_machine.proofs.Working.UndoingWork.{all_fewer, alone_undoes, inside_alone, inside_together, one_fewer, together_undoes}
 use Rattle.rb_machine.proofs.cascade.reject_level.Goals as goal
 
 pub reject_together-requires-clause-conversation :

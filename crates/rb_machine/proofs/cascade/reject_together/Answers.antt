@@ -6,10 +6,10 @@ use Rattle.rb_proc.specs.Process.{kind_of}
 use Rattle.rb_machine.specs.Cascade.{AreQuiet}
 use Rattle.rb_machine.specs.Rejections.{changed, tried_together}
 use Rattle.rb_machine.specs.Work.{touched_by}
-use Rattle.rb_machine.proofs.QuietProcesses.{quiet_each, rises_inside}
-use Rattle.rb_machine.proofs.RejectedLevels.{map_twice}
-use Rattle.rb_machine.proofs.SomeCode.{some_code}
-use Rattle.rb_machine.proofs.UndoingWork.{all_fewer, touched_fallen_inside, touched_raised}
+use Rattle.rb_machine.proofs.Rejecting.QuietProcesses.{quiet_each, rises_inside}
+use Rattle.rb_machine.proofs.Rejecting.RejectedLevels.{map_twice}
+use Rattle.rb_machine.proofs.Beginning.SomeCode.{some_code}
+use Rattle.rb_machine.proofs.Working.UndoingWork.{all_fewer, touched_fallen_inside, touched_raised}
 use Rattle.rb_machine.proofs.cascade.reject_together.Goals as goal
 
 pub raise_inside-requires : goal.raise_inside-requires

@@ -3,7 +3,7 @@ use Rattle.std.proofs.Common.{◌≡◌, ◌<◌, true, false, length, slice_get
 use Rattle.rb_world.specs.World.{is_shared}
 use Rattle.rb_world.proofs.ListFacts.{slice_get-there}
 use Rattle.rb_machine.specs.Channels.{conversation_in}
-use Rattle.rb_machine.proofs.SeenCopies.{own_is_seen, shared_passes}
+use Rattle.rb_machine.proofs.Passing.SeenCopies.{own_is_seen, shared_passes}
 use Rattle.rb_machine.proofs.channels.first_own_level.Goals as goal
 
 pub returns-then-not-is_shared : goal.returns-then-not-is_shared

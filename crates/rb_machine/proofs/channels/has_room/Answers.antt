@@ -1,8 +1,8 @@
 -- The two ends, as they were looked up, and the room between them.
 use Rattle.std.proofs.Common.{◌∙◌, sym, nat_lt, ◌+◌}
 use Rattle.rb_scope.proofs.Long.{got}
-use Rattle.rb_code.specs.Plain.{code as plain, channel as channel_of}
-use Rattle.rb_machine.proofs.RoomsAndMessages.{channel_lent, compared, receiver_has_cursor, room_is}
+use Rattle.rb_code.specs.Instructions.Plain.{code as plain, channel as channel_of}
+use Rattle.rb_machine.proofs.Passing.RoomsAndMessages.{channel_lent, compared, receiver_has_cursor, room_is}
 use Rattle.rb_machine.proofs.channels.has_room.Goals as goal
 
 pub room_from-from-requires : goal.room_from-from-requires

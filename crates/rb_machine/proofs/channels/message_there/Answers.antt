@@ -2,9 +2,9 @@
 use Rattle.std.proofs.Common.{◌∙◌, sym, nat_lt, arith}
 use Rattle.std.proofs.lemmas.List.{length-map}
 use Rattle.rb_scope.proofs.Long.{got}
-use Rattle.rb_code.specs.Plain.{code as plain, channel as channel_of, part}
+use Rattle.rb_code.specs.Instructions.Plain.{code as plain, channel as channel_of, part}
 use Rattle.rb_machine.specs.Channels.{message_given}
-use Rattle.rb_machine.proofs.RoomsAndMessages.{channel_lent, compared, is_of_code, message_is, sender_has_cursor}
+use Rattle.rb_machine.proofs.Passing.RoomsAndMessages.{channel_lent, compared, is_of_code, message_is, sender_has_cursor}
 use Rattle.rb_machine.proofs.channels.message_there.Goals as goal
 
 pub seen_count-seen-requires : goal.seen_count-seen-requires

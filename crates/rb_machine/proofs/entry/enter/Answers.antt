@@ -6,18 +6,18 @@ use Rattle.rb_base.specs.declared.event.Cause.TheVariants.{Broken}
 use Rattle.rb_world.specs.Reject.{fallen}
 use Rattle.rb_world.specs.World.{change_at}
 use Rattle.rb_world.proofs.ListFacts.{some_same}
-use Rattle.rb_code.specs.Plain.{code as plain}
-use Rattle.rb_code.specs.Turn.{want}
+use Rattle.rb_code.specs.Instructions.Plain.{code as plain}
+use Rattle.rb_code.specs.WordMachine.Turn.{want}
 use Rattle.rb_proc.specs.Entries.{entered_process}
 use Rattle.rb_proc.specs.Process.{Seen, kind_of}
 use Rattle.rb_proc.proofs.Leaving.{none_there}
 use Rattle.rb_machine.specs.Moves.{WantsBlock, passes_of}
 use Rattle.rb_machine.specs.Rejections.{changed}
 use Rattle.rb_machine.specs.Worlds.{NoneWaits, memory_of, world_of}
-use Rattle.rb_machine.proofs.Acting.{moved_as}
-use Rattle.rb_machine.proofs.Entering.{entry_trapped, few_levels, has_failed, has_opened, is_listed, wants_block}
-use Rattle.rb_machine.proofs.KnownHere.{are_quiet, may_reject}
-use Rattle.rb_machine.proofs.QuietProcesses.{waits_at}
+use Rattle.rb_machine.proofs.Turning.Acting.{moved_as}
+use Rattle.rb_machine.proofs.Turning.Entering.{entry_trapped, few_levels, has_failed, has_opened, is_listed, wants_block}
+use Rattle.rb_machine.proofs.Knowing.KnownHere.{are_quiet, may_reject}
+use Rattle.rb_machine.proofs.Rejecting.QuietProcesses.{waits_at}
 use Rattle.rb_machine.proofs.entry.enter.Goals as goal
 
 pub undo-requires-clause-may : goal.undo-requires-clause-may
@@ -26,7 +26,7 @@ undo-requires-clause-may g c =
     let procs = parts.procs.items in
     let work = c.requires.work.work in
     let here = slice_get_read procs (length procs) c.args.p c.index.result.now refl c.requires.process c.index.ensures in
-    may_reject (plain c.args.code.now) parts.table work.loaded (c.args.turn + 1) procs (memory_of parts.mails.items parts.links.items) work.known
+    may_reject (plain c.args.code.now) parts.table work.sound (c.args.turn + 1) procs (memory_of parts.mails.items parts.links.items) work.known
     c.args.p c.levels-levels.result
     (λ one there. omega (arith, c.levels-levels.ensures, ap (λ (x : Seen). length x.process.levels) (some_same (sym here ∙ there))))
 
@@ -34,7 +34,7 @@ pub undo-requires-clause-quiet : goal.undo-requires-clause-quiet
 undo-requires-clause-quiet g c =
     let parts = c.args.parts.now in
     let work = c.requires.work.work in
-    are_quiet (plain c.args.code.now) parts.table work.loaded (c.args.turn + 1) parts.procs.items (memory_of parts.mails.items parts.links.items)
+    are_quiet (plain c.args.code.now) parts.table work.sound (c.args.turn + 1) parts.procs.items (memory_of parts.mails.items parts.links.items)
     work.known work.few c.requires.work.waits
 
 pub undo-requires-clause-few : goal.undo-requires-clause-few

@@ -1,5 +1,5 @@
 -- Who joins a conversation changes neither alternates nor members.
-use Rattle.rb_machine.proofs.Entering.{joined_groups, joined_talks}
+use Rattle.rb_machine.proofs.Turning.Entering.{joined_groups, joined_talks}
 use Rattle.rb_machine.proofs.entry.join.Goals as goal
 
 pub returns-then-enter-clause-talks : goal.returns-then-enter-clause-talks

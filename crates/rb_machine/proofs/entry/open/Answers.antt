@@ -2,13 +2,13 @@
 use Rattle.std.proofs.Common.{◌≡◌, ap, sym, ◌∙◌, get_or, set, subst}
 use Rattle.std.proofs.lemmas.Option.{get_or_from_slice_get}
 use Rattle.rb_world.specs.Kind.{Enters}
-use Rattle.rb_code.specs.Plain.{code as plain}
-use Rattle.rb_code.specs.Turn.{want}
+use Rattle.rb_code.specs.Instructions.Plain.{code as plain}
+use Rattle.rb_code.specs.WordMachine.Turn.{want}
 use Rattle.rb_conv.proofs.Places.{set-changes}
 use Rattle.rb_proc.specs.Entries.{entered_process}
 use Rattle.rb_proc.specs.Process.{Seen}
 use Rattle.rb_machine.specs.Rejections.{changed}
-use Rattle.rb_machine.proofs.Entering.{entered_seen, entry_link}
+use Rattle.rb_machine.proofs.Turning.Entering.{entered_seen, entry_link}
 use Rattle.rb_machine.proofs.entry.open.Goals as goal
 
 pub returns-clause-processes : goal.returns-clause-processes

@@ -1,4 +1,4 @@
-use Rattle.rb_machine.proofs.InnermostLevel.{innermost_seen}
+use Rattle.rb_machine.proofs.Turning.InnermostLevel.{innermost_seen}
 use Rattle.rb_machine.proofs.innermost.innermost.Goals as goal
 
 pub returns : goal.returns

@@ -1,7 +1,7 @@
 use Rattle.std.proofs.Common.{ap, sym, ◌∙◌}
 use Rattle.rb_proc.specs.Given.{alternate_by}
 use Rattle.rb_proc.specs.declared.answers.Wanted.{Wanted}
-use Rattle.rb_machine.proofs.InnermostLevel.{tried_seen}
+use Rattle.rb_machine.proofs.Turning.InnermostLevel.{tried_seen}
 use Rattle.rb_machine.proofs.innermost.started.Goals as goal
 
 pub returns-in-Start : goal.returns-in-Start

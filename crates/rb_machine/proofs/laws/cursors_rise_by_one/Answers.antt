@@ -1,4 +1,4 @@
-use Rattle.rb_machine.proofs.StepsRise.{settling_keeps, steps_raise}
+use Rattle.rb_machine.proofs.Knowing.StepsRise.{settling_keeps, steps_raise}
 use Rattle.rb_machine.proofs.laws.cursors_rise_by_one.Goals as goal
 
 pub returns-clause-steps : goal.returns-clause-steps

@@ -1,5 +1,5 @@
 -- No block has too many alternates if none of the blocks in memory has.
-use Rattle.rb_machine.proofs.ExecutableCode.{few_alternates}
+use Rattle.rb_machine.proofs.Beginning.ExecutableCode.{few_alternates}
 use Rattle.rb_machine.proofs.loading.is_numbered.Goals as goal
 
 pub returns-then-len-clause-alternates : goal.returns-then-len-clause-alternates

@@ -2,51 +2,51 @@
 use Rattle.std.proofs.Common.{List, length, map, ap, sym, ◌∙◌, subst, arith}
 use Rattle.std.specs.List.{All}
 use Rattle.rb_world.specs.Slots.{zero_slots}
-use Rattle.rb_code.specs.Plain.{channel, code as plain}
-use Rattle.rb_code.specs.WellFormed.{JoinsTwo}
+use Rattle.rb_code.specs.Instructions.Plain.{channel, code as plain}
+use Rattle.rb_code.specs.SoundCode.WellFormed.{JoinsTwo}
 use Rattle.rb_code.specs.declared.code.ChannelCode.{ChannelCode}
 use Rattle.rb_conv.specs.Conversations.{memberships, opening}
 use Rattle.rb_proc.specs.Process.{Seen}
 use Rattle.rb_machine.specs.Machine.{Seen as Machine}
 use Rattle.rb_machine.specs.Telling.{running_of}
 use Rattle.rb_machine.specs.Worlds.{processes_of}
-use Rattle.rb_machine.proofs.ExecutableCode.{is_executable}
-use Rattle.rb_machine.proofs.Opens.{channels_sized, opens_as, opens_at_work, opens_freed, settles}
-use Rattle.rb_machine.proofs.TurnOfParts.{none_wait}
+use Rattle.rb_machine.proofs.Beginning.ExecutableCode.{is_executable}
+use Rattle.rb_machine.proofs.Beginning.Opens.{channels_sized, opens_as, opens_at_work, opens_freed, settles}
+use Rattle.rb_machine.proofs.Turning.TurnOfParts.{none_wait}
 use Rattle.rb_machine.proofs.loading.load_parts.Goals as goal
 
 pub load_processes-requires-clause-code : goal.load_processes-requires-clause-code
 load_processes-requires-clause-code g c =
-    is_executable (plain c.args.code.now) (memberships (opening c.args.nested.now)) c.requires.loaded.sound.well
+    is_executable (plain c.args.code.now) (memberships (opening c.args.nested.now)) c.requires.sound.well
     (c.is_numbered.ensures.instructions c.if-not-is_numbered.false) (c.is_numbered.ensures.alternates c.if-not-is_numbered.false)
 
 pub load_processes-requires-clause-settle : goal.load_processes-requires-clause-settle
-load_processes-requires-clause-settle g c = settles (plain c.args.code.now) c.args.nested.now c.requires.loaded
+load_processes-requires-clause-settle g c = settles (plain c.args.code.now) c.args.nested.now c.requires.sound
 
 pub load_mails-requires : goal.load_mails-requires
 load_mails-requires g c =
     channels_sized (plain c.args.code.now) c.deref.result.now
     (subst (λ (channels : List ChannelCode). All (JoinsTwo (plain c.args.code.now)) (map channel channels)) (sym c.deref.ensures.value)
-    c.requires.loaded.sound.well.channels)
+    c.requires.sound.well.channels)
 
 pub returns-clause-seen : goal.returns-clause-seen
 returns-clause-seen g c =
-    opens_as (plain c.args.code.now) c.args.nested.now c.requires.loaded c.args.turns _ _ _ _ c.in_ok-procs.ensures
+    opens_as (plain c.args.code.now) c.args.nested.now c.requires.sound c.args.turns _ _ _ _ c.in_ok-procs.ensures
     c.in_ok-table.ensures.opening
     (c.in_ok-mails.ensures ∙ ap (λ (channels : List ChannelCode). zero_slots (map channel channels)) c.deref.ensures.value)
     c.in_ok-links.ensures.items
 
 pub returns-clause-tied : goal.returns-clause-tied
 returns-clause-tied g c = record {
-  work = opens_at_work (plain c.args.code.now) c.args.nested.now c.requires.loaded _ _ _ _
-      (is_executable (plain c.args.code.now) (memberships (opening c.args.nested.now)) c.requires.loaded.sound.well
+  work = opens_at_work (plain c.args.code.now) c.args.nested.now c.requires.sound _ _ _ _
+      (is_executable (plain c.args.code.now) (memberships (opening c.args.nested.now)) c.requires.sound.well
       (c.is_numbered.ensures.instructions c.if-not-is_numbered.false) (c.is_numbered.ensures.alternates c.if-not-is_numbered.false))
       (c.is_numbered.ensures.alternates c.if-not-is_numbered.false) c.in_ok-procs.ensures
       c.in_ok-table.ensures.opening
       (c.in_ok-mails.ensures ∙ ap (λ (channels : List ChannelCode). zero_slots (map channel channels)) c.deref.ensures.value)
       c.in_ok-links.ensures.items;
   running_is = c.in_ok-running.ensures ∙ ap (λ (procs : List Seen). running_of (processes_of procs)) c.deref-2.ensures.value;
-  freed = opens_freed (plain c.args.code.now) c.args.nested.now c.requires.loaded _ c.in_ok-procs.ensures;
+  freed = opens_freed (plain c.args.code.now) c.args.nested.now c.requires.sound _ c.in_ok-procs.ensures;
   none_waits = λ _. none_wait _ (length (plain c.args.code.now).processes) (ap (λ (machine : Machine). machine.waiting) (returns-clause-seen g c));
   links_few = omega (arith, c.in_ok-links.ensures.len);
   links_room = omega (arith, c.in_ok-links.ensures.capacity);

@@ -1,8 +1,8 @@
 -- The next process is pushed.
 use Rattle.std.proofs.Common.{arith}
 use Rattle.std.proofs.lemmas.List.{length-map}
-use Rattle.rb_code.specs.Plain.{code as plain, part}
-use Rattle.rb_machine.proofs.FirstProcesses.{one_more_pushed}
+use Rattle.rb_code.specs.Instructions.Plain.{code as plain, part}
+use Rattle.rb_machine.proofs.Beginning.FirstProcesses.{one_more_pushed}
 use Rattle.rb_machine.proofs.loading.load_processes.Goals as goal
 
 pub loop-process-preserved : goal.loop-process-preserved

@@ -1,7 +1,7 @@
 -- So far each process is as it is before its first turn.
 use Rattle.std.proofs.Common.{◌≡◌, map, take}
-use Rattle.rb_code.specs.Plain.{code as plain}
-use Rattle.rb_code.specs.WordRun.{opening_standings}
+use Rattle.rb_code.specs.Instructions.Plain.{code as plain}
+use Rattle.rb_code.specs.WordMachine.WordRun.{opening_standings}
 use Rattle.rb_machine.specs.Loading.{first_seen}
 use Rattle.rb_machine.proofs.loading.load_processes.Given as goal
 

@@ -3,19 +3,19 @@ use Rattle.std.proofs.Common.{List, ◌++◌, length, map, ap, sym, ◌∙◌, s
 use Rattle.std.proofs.lemmas.List.{with_items_is}
 use Rattle.rb_world.specs.Turn.{Told, freed, freed_lines, lines_freed}
 use Rattle.rb_world.specs.World.{Process}
-use Rattle.rb_code.specs.Turn.{Copy, Standing}
-use Rattle.rb_code.specs.WordKind.{word_kind}
-use Rattle.rb_code.specs.Plain.{code as plain}
-use Rattle.rb_code.specs.WordRun.{WordWorld}
+use Rattle.rb_code.specs.WordMachine.Turn.{Copy, Standing}
+use Rattle.rb_code.specs.WordMachine.WordKind.{word_kind}
+use Rattle.rb_code.specs.Instructions.Plain.{code as plain}
+use Rattle.rb_code.specs.WordMachine.WordRun.{WordWorld}
 use Rattle.rb_conv.specs.Conversations.{memberships}
 use Rattle.rb_proc.specs.Process.{Seen}
 use Rattle.rb_machine.specs.Moves.{passes_of, world}
 use Rattle.rb_machine.specs.Telling.{AreFreed, WasAlone, ends_told, running_of}
 use Rattle.rb_machine.specs.Worlds.{NoneWaits, lines_of, processes_of}
-use Rattle.rb_machine.proofs.Alone.{no_passes}
-use Rattle.rb_machine.proofs.Finished.{all_freed}
-use Rattle.rb_machine.proofs.TurnOfParts.{few_after, running_after, running_as_many, turns_to, was_alone, works_on}
-use Rattle.rb_machine.proofs.TurnWork.{entry_adds_nothing, turn_costs}
+use Rattle.rb_machine.proofs.Together.Alone.{no_passes}
+use Rattle.rb_machine.proofs.Releasing.Finished.{all_freed}
+use Rattle.rb_machine.proofs.Turning.TurnOfParts.{few_after, running_after, running_as_many, turns_to, was_alone, works_on}
+use Rattle.rb_machine.proofs.Working.TurnWork.{entry_adds_nothing, turn_costs}
 use Rattle.rb_machine.proofs.machine.turn.Goals as goal
 
 pub finish-requires-clause-as_many : goal.finish-requires-clause-as_many

@@ -2,19 +2,19 @@
 use Rattle.std.proofs.Common.{◌≡◌, ◌+◌, List, ap, sym, ◌∙◌, subst, refl}
 use Rattle.rb_world.proofs.ListFacts.{some_same}
 use Rattle.rb_world.specs.Kind.{Enters}
-use Rattle.rb_code.specs.Plain.{code as plain}
-use Rattle.rb_code.specs.Turn.{want}
+use Rattle.rb_code.specs.Instructions.Plain.{code as plain}
+use Rattle.rb_code.specs.WordMachine.Turn.{want}
 use Rattle.rb_proc.specs.Process.{Seen}
 use Rattle.rb_proc.proofs.Leaving.{none_there}
 use Rattle.rb_machine.specs.Channels.{AreNumbered}
 use Rattle.rb_machine.specs.Moves.{IsEntryReady, IsReadyAt, ReceivesThere, WantsThere, passes_of, world}
 use Rattle.rb_machine.specs.Work.{is_kept}
 use Rattle.rb_machine.specs.Worlds.{kind_with, memory_of}
-use Rattle.rb_machine.proofs.Acting.{entry_enters, moved_as}
-use Rattle.rb_machine.proofs.Entering.{wants_block}
-use Rattle.rb_machine.proofs.MoveWork.{looks_stepping, looks_unkept, pays_entry, pays_step, pays_waiting}
-use Rattle.rb_machine.proofs.KnownNumbers.{numbered_at_work}
-use Rattle.rb_machine.proofs.ReadyFor.{receives_there, wants_read}
+use Rattle.rb_machine.proofs.Turning.Acting.{entry_enters, moved_as}
+use Rattle.rb_machine.proofs.Turning.Entering.{wants_block}
+use Rattle.rb_machine.proofs.Working.MoveWork.{looks_stepping, looks_unkept, pays_entry, pays_step, pays_waiting}
+use Rattle.rb_machine.proofs.Knowing.KnownNumbers.{numbered_at_work}
+use Rattle.rb_machine.proofs.Turning.ReadyFor.{receives_there, wants_read}
 use Rattle.rb_machine.proofs.moves.act.Goals as goal
 
 pub ready-requires-clause-numbered : goal.ready-requires-clause-numbered

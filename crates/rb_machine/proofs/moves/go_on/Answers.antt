@@ -4,16 +4,16 @@ use Rattle.std.proofs.lemmas.Option.{slice_get_read}
 use Rattle.rb_world.specs.Turn.{is_over}
 use Rattle.rb_world.proofs.ListFacts.{slice_get-there, some_same}
 use Rattle.rb_world.proofs.Members.Outcomes.{position_within}
-use Rattle.rb_code.specs.Plain.{code as plain}
+use Rattle.rb_code.specs.Instructions.Plain.{code as plain}
 use Rattle.rb_conv.specs.Conversations.{memberships}
 use Rattle.rb_proc.specs.Process.{Seen}
 use Rattle.rb_proc.proofs.Leaving.{none_there}
 use Rattle.rb_machine.specs.Moves.{passes_of, world}
 use Rattle.rb_machine.specs.Worlds.{kind_with, memory_of}
-use Rattle.rb_machine.proofs.Acting.{moved_as}
-use Rattle.rb_machine.proofs.KnownHere.{are_quiet, may_reject, process_there}
-use Rattle.rb_machine.proofs.MoveWork.{named_away, pays_rest, pays_same, pays_undoing}
-use Rattle.rb_machine.proofs.TurnsTaken.{away_acts, line_waits, overrun_rejects}
+use Rattle.rb_machine.proofs.Turning.Acting.{moved_as}
+use Rattle.rb_machine.proofs.Knowing.KnownHere.{are_quiet, may_reject, process_there}
+use Rattle.rb_machine.proofs.Working.MoveWork.{named_away, pays_rest, pays_same, pays_undoing}
+use Rattle.rb_machine.proofs.Turning.TurnsTaken.{away_acts, line_waits, overrun_rejects}
 use Rattle.rb_machine.proofs.moves.go_on.Goals as goal
 
 pub overflow_add-level : goal.overflow_add-level
@@ -28,7 +28,7 @@ pub undo-requires-clause-may : goal.undo-requires-clause-may
 undo-requires-clause-may g c =
     let parts = c.args.parts.now in
     let work = c.requires.work.work in
-    may_reject (plain c.args.code.now) parts.table work.loaded (c.args.turn + 1) parts.procs.items (memory_of parts.mails.items parts.links.items)
+    may_reject (plain c.args.code.now) parts.table work.sound (c.args.turn + 1) parts.procs.items (memory_of parts.mails.items parts.links.items)
     work.known c.args.p (c.in-Some.level + 1)
     (λ one there. omega (arith, position_within is_over one.process.levels c.in-Some.level (sym (c.requires.over one there) ∙ c.in-Some.is)))
 
@@ -36,7 +36,7 @@ pub undo-requires-clause-quiet : goal.undo-requires-clause-quiet
 undo-requires-clause-quiet g c =
     let parts = c.args.parts.now in
     let work = c.requires.work.work in
-    are_quiet (plain c.args.code.now) parts.table work.loaded (c.args.turn + 1) parts.procs.items (memory_of parts.mails.items parts.links.items)
+    are_quiet (plain c.args.code.now) parts.table work.sound (c.args.turn + 1) parts.procs.items (memory_of parts.mails.items parts.links.items)
     work.known work.few c.requires.work.waits
 
 pub undo-requires-clause-few : goal.undo-requires-clause-few

@@ -1,7 +1,7 @@
 -- A look for a message is always ready.
-use Rattle.rb_code.specs.Plain.{code as plain}
+use Rattle.rb_code.specs.Instructions.Plain.{code as plain}
 use Rattle.rb_conv.specs.Conversations.{memberships, talks}
-use Rattle.rb_machine.proofs.ReadyFor.{look_ready}
+use Rattle.rb_machine.proofs.Turning.ReadyFor.{look_ready}
 use Rattle.rb_machine.proofs.moves.look.Goals as goal
 
 pub returns-clause-ready : goal.returns-clause-ready

@@ -1,12 +1,12 @@
 -- Each answer tells what the process is ready for.
 use Rattle.std.proofs.Common.{ap, sym, ◌∙◌}
 use Rattle.rb_world.proofs.ListFacts.{slice_get-there}
-use Rattle.rb_code.specs.Plain.{code as plain}
-use Rattle.rb_code.specs.Turn.{want}
-use Rattle.rb_machine.proofs.Acting.{is_maybe, is_message, is_room}
+use Rattle.rb_code.specs.Instructions.Plain.{code as plain}
+use Rattle.rb_code.specs.WordMachine.Turn.{want}
+use Rattle.rb_machine.proofs.Turning.Acting.{is_maybe, is_message, is_room}
 use Rattle.rb_machine.specs.Work.{is_entry}
-use Rattle.rb_machine.proofs.MoveWork.{is_no_entry}
-use Rattle.rb_machine.proofs.ReadyFor.{enters_ready, idles_ready, receiver_here, receiver_if_here, steps_ready}
+use Rattle.rb_machine.proofs.Working.MoveWork.{is_no_entry}
+use Rattle.rb_machine.proofs.Turning.ReadyFor.{enters_ready, idles_ready, receiver_here, receiver_if_here, steps_ready}
 use Rattle.rb_machine.proofs.moves.ready.Goals as goal
 
 pub send-requires-clause-wants : goal.send-requires-clause-wants

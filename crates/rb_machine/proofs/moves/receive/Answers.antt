@@ -1,7 +1,7 @@
 -- A receipt is ready where a message is there.
-use Rattle.rb_code.specs.Plain.{code as plain}
+use Rattle.rb_code.specs.Instructions.Plain.{code as plain}
 use Rattle.rb_conv.specs.Conversations.{memberships, talks}
-use Rattle.rb_machine.proofs.ReadyFor.{receipt_ready, receipt_unready}
+use Rattle.rb_machine.proofs.Turning.ReadyFor.{receipt_ready, receipt_unready}
 use Rattle.rb_machine.proofs.moves.receive.Goals as goal
 
 pub returns-then-message_there-clause-ready : goal.returns-then-message_there-clause-ready

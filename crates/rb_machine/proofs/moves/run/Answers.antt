@@ -4,18 +4,18 @@ use Rattle.std.proofs.lemmas.List.{with_items_is}
 use Rattle.rb_world.specs.Turn.{bounded, is_over, turn_used}
 use Rattle.rb_world.specs.World.{Process, change_at}
 use Rattle.rb_world.proofs.ListFacts.{slice_get-change_at, slice_get-there}
-use Rattle.rb_code.specs.Plain.{code as plain}
-use Rattle.rb_code.specs.Turn.{Copy, Standing}
-use Rattle.rb_code.specs.WordRun.{WordWorld}
+use Rattle.rb_code.specs.Instructions.Plain.{code as plain}
+use Rattle.rb_code.specs.WordMachine.Turn.{Copy, Standing}
+use Rattle.rb_code.specs.WordMachine.WordRun.{WordWorld}
 use Rattle.rb_conv.specs.Conversations.{memberships}
 use Rattle.rb_proc.specs.Process.{Seen}
 use Rattle.rb_machine.specs.Rejections.{changed}
 use Rattle.rb_machine.specs.Work.{named_within, undoing}
 use Rattle.rb_machine.specs.Worlds.{NoneWaits, kind_with, processes_of}
-use Rattle.rb_machine.proofs.Acting.{moved_as}
-use Rattle.rb_machine.proofs.CountedTurns.{counted_there, counted_work, counted_world, few_used}
-use Rattle.rb_machine.proofs.MoveWork.{counted_undoing, pays_same}
-use Rattle.rb_machine.proofs.QuietProcesses.{waits_at}
+use Rattle.rb_machine.proofs.Turning.Acting.{moved_as}
+use Rattle.rb_machine.proofs.Knowing.CountedTurns.{counted_there, counted_work, counted_world, few_used}
+use Rattle.rb_machine.proofs.Working.MoveWork.{counted_undoing, pays_same}
+use Rattle.rb_machine.proofs.Rejecting.QuietProcesses.{waits_at}
 use Rattle.rb_machine.proofs.SeenWorlds.{processes_at}
 use Rattle.rb_machine.proofs.moves.run.Goals as goal
 

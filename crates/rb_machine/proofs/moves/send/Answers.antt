@@ -1,8 +1,8 @@
 -- A send is ready where there is room.
 use Rattle.std.proofs.Common.{sym, ◌∙◌}
-use Rattle.rb_code.specs.Plain.{code as plain}
+use Rattle.rb_code.specs.Instructions.Plain.{code as plain}
 use Rattle.rb_conv.specs.Conversations.{memberships, talks}
-use Rattle.rb_machine.proofs.ReadyFor.{send_ready, send_unready}
+use Rattle.rb_machine.proofs.Turning.ReadyFor.{send_ready, send_unready}
 use Rattle.rb_machine.proofs.moves.send.Goals as goal
 
 pub returns-then-has_room-clause-ready : goal.returns-then-has_room-clause-ready

@@ -2,7 +2,7 @@
 use Rattle.std.proofs.Common.{ap, sym, ◌∙◌, refl, List, slice_get}
 use Rattle.std.proofs.lemmas.Option.{slice_get_within}
 use Rattle.rb_world.proofs.ListFacts.{some_same}
-use Rattle.rb_code.specs.Plain.{code as plain}
+use Rattle.rb_code.specs.Instructions.Plain.{code as plain}
 use Rattle.rb_conv.specs.Conversations.{memberships}
 use Rattle.rb_proc.specs.Process.{Seen}
 use Rattle.rb_proc.proofs.Leaving.{none_there}
@@ -10,10 +10,10 @@ use Rattle.rb_world.specs.Turn.{move}
 use Rattle.rb_machine.specs.Moves.{passes_of, world}
 use Rattle.rb_machine.specs.Turns.{runs_there}
 use Rattle.rb_machine.specs.Worlds.{kind_with, processes_of}
-use Rattle.rb_machine.proofs.Acting.{moved_as}
-use Rattle.rb_machine.proofs.KnownHere.{process_there}
-use Rattle.rb_machine.proofs.MoveWork.{pays_more, pays_move, running_moves}
-use Rattle.rb_machine.proofs.TurnsTaken.{rests, running_there, runs_counted}
+use Rattle.rb_machine.proofs.Turning.Acting.{moved_as}
+use Rattle.rb_machine.proofs.Knowing.KnownHere.{process_there}
+use Rattle.rb_machine.proofs.Working.MoveWork.{pays_more, pays_move, running_moves}
+use Rattle.rb_machine.proofs.Turning.TurnsTaken.{rests, running_there, runs_counted}
 use Rattle.rb_machine.proofs.moves.take_turn.Goals as goal
 
 pub run-requires-clause-process : goal.run-requires-clause-process

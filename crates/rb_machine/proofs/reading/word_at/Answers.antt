@@ -1,7 +1,7 @@
 use Rattle.std.proofs.Common.{◌<◌, ℤ, List, length, slice_get, Some, ap, sym, subst, ◌∙◌, rules, w64}
 use Rattle.std.proofs.lemmas.Int.{to_z-of_z}
 use Rattle.rb_scope.proofs.Long.{got}
-use Rattle.rb_code.specs.Plain.{code as plain}
+use Rattle.rb_code.specs.Instructions.Plain.{code as plain}
 use Rattle.rb_machine.proofs.ReadAt.{variables_there, with_variables}
 use Rattle.rb_machine.proofs.reading.word_at.Goals as goal
 

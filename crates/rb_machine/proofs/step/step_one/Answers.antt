@@ -1,6 +1,6 @@
 use Rattle.std.proofs.Common.{ℕ, ◌+◌, ◌*◌, ◌≤◌, List, ap, ◌∙◌, subst, get_or}
 use Rattle.std.proofs.lemmas.Option.{get_or_from_slice_get, slice_get-get_or}
-use Rattle.rb_code.specs.Plain.{code as plain}
+use Rattle.rb_code.specs.Instructions.Plain.{code as plain}
 use Rattle.rb_conv.proofs.Places.{set-changes}
 use Rattle.rb_proc.specs.Process.{Seen, StepsTo, step_of}
 use Rattle.rb_proc.specs.Work.{named_in_step}

@@ -2,18 +2,18 @@
 use Rattle.std.proofs.Common.{List, None, get_or, slice_get, refl, ap, sym, ◌∙◌, subst, arith}
 use Rattle.std.proofs.lemmas.List.{with_items_is}
 use Rattle.std.specs.Vec.{with_items}
-use Rattle.rb_code.specs.Plain.{code as plain}
+use Rattle.rb_code.specs.Instructions.Plain.{code as plain}
 use Rattle.rb_proc.specs.Process.{Seen}
 use Rattle.rb_proc.specs.Sees.{AreSized}
 use Rattle.rb_proc.specs.declared.answers.Outcome.TheVariants as outcome
 use Rattle.rb_proc.proofs.Leaving.{none_there}
 use Rattle.rb_world.proofs.ListFacts.{slice_get-there}
 use Rattle.rb_machine.specs.Worlds.{NoneWaits, memory_of}
-use Rattle.rb_machine.proofs.InnermostLevel.{alternate_known}
-use Rattle.rb_machine.proofs.StepTaken.{AtStep}
-use Rattle.rb_machine.proofs.StepTaken as step
-use Rattle.rb_machine.proofs.StepWork as work
-use Rattle.rb_machine.proofs.TestLines.{same_table}
+use Rattle.rb_machine.proofs.Turning.InnermostLevel.{alternate_known}
+use Rattle.rb_machine.proofs.Turning.StepTaken.{AtStep}
+use Rattle.rb_machine.proofs.Turning.StepTaken as step
+use Rattle.rb_machine.proofs.Working.StepWork as work
+use Rattle.rb_machine.proofs.Turning.TestLines.{same_table}
 use Rattle.rb_machine.proofs.step.take_step.Goals as goal
 
 pub step_one-requires-clause-may : goal.step_one-requires-clause-may

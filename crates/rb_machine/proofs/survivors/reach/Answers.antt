@@ -3,7 +3,7 @@ use Rattle.std.proofs.Common.{length, reverse, refl}
 use Rattle.std.proofs.lemmas.Iterator.Adapters.{YieldsList-from_rev_slice}
 use Rattle.std.proofs.lemmas.Iterator.Consumers.{YieldsList-turn}
 use Rattle.std.proofs.lemmas.List.{length_push}
-use Rattle.rb_machine.proofs.ReachedLinks.{followed, passed_over}
+use Rattle.rb_machine.proofs.Linking.ReachedLinks.{followed, passed_over}
 use Rattle.rb_machine.proofs.survivors.reach.Goals as goal
 
 pub loop-link-preserved-in-Continue-1 : goal.loop-link-preserved-in-Continue-1

@@ -2,7 +2,7 @@
 use Rattle.std.proofs.Common.{◌≡◌, ◌++◌, length, map, reverse}
 use Rattle.rb_machine.specs.Survivors.{reached}
 use Rattle.rb_machine.specs.Worlds.{link_of}
-use Rattle.rb_machine.proofs.ReachedLinks.{from}
+use Rattle.rb_machine.proofs.Linking.ReachedLinks.{from}
 use Rattle.rb_machine.proofs.survivors.reach.Given as goal
 
 abbrev pub invariant-loop-link : goal.invariant-loop-link

@@ -4,8 +4,8 @@ use Rattle.rb_machine.specs.Moves.{world}
 use Rattle.rb_machine.specs.Survivors.{reached}
 use Rattle.rb_machine.specs.Worlds.{link_of}
 use Rattle.rb_machine.specs.declared.links.Link.{Link}
-use Rattle.rb_machine.proofs.Reached.{last_of_each, walk_survives}
-use Rattle.rb_machine.proofs.ReachedLinks.{in_order}
+use Rattle.rb_machine.proofs.Linking.Reached.{last_of_each, walk_survives}
+use Rattle.rb_machine.proofs.Linking.ReachedLinks.{in_order}
 use Rattle.rb_machine.proofs.survivors.survivors.Goals as goal
 
 pub returns : goal.returns

@@ -1,7 +1,7 @@
 -- One process after the other.
 use Rattle.std.proofs.Common.{arith}
-use Rattle.rb_machine.proofs.Dropped.{all_counted, none_waits, one_more_counted, one_more_quiet, processes_quiet}
-use Rattle.rb_machine.proofs.Released.{others_left}
+use Rattle.rb_machine.proofs.Releasing.Dropped.{all_counted, none_waits, one_more_counted, one_more_quiet, processes_quiet}
+use Rattle.rb_machine.proofs.Releasing.Released.{others_left}
 use Rattle.rb_machine.proofs.telling.drop_all_released.Goals as goal
 
 pub overflow_add-count : goal.overflow_add-count

@@ -1,7 +1,7 @@
 -- The lines of the processes so far were counted and forgotten, and the processes behind are as they were.
 use Rattle.std.proofs.Common.{◌≡◌, ◌*◌, ◌≤◌, ◌++◌, map, drop, take, sum_by}
 use Rattle.rb_base.specs.declared.limits.TheConstants.{MOST_HELD_BYTES}
-use Rattle.rb_machine.proofs.Dropped.{lines_in, quiet}
+use Rattle.rb_machine.proofs.Releasing.Dropped.{lines_in, quiet}
 use Rattle.rb_machine.proofs.telling.drop_all_released.Given as goal
 
 abbrev pub invariant-loop-proc : goal.invariant-loop-proc

@@ -2,8 +2,8 @@
 use Rattle.std.proofs.Common.{List, ◌++◌, ap, ◌∙◌}
 use Rattle.rb_base.specs.declared.event.Event.{Event}
 use Rattle.rb_machine.specs.Worlds.{processes_of}
-use Rattle.rb_machine.proofs.Finished.{told_as}
-use Rattle.rb_machine.proofs.Released.{lines_of_freed, processes_freed}
+use Rattle.rb_machine.proofs.Releasing.Finished.{told_as}
+use Rattle.rb_machine.proofs.Releasing.Released.{lines_of_freed, processes_freed}
 use Rattle.rb_machine.proofs.telling.finish.Goals as goal
 
 pub finish_one-requires-clause-alone : goal.finish_one-requires-clause-alone

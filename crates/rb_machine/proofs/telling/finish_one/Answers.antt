@@ -1,12 +1,12 @@
 -- What is looked at of one process is all that there is to see.
 use Rattle.std.proofs.Common.{◌++◌, get_or, false, ap, sym, ◌∙◌, arith}
 use Rattle.std.specs.Option.{option_to_list}
-use Rattle.rb_world.specs.World.{Status}
+use Rattle.rb_world.specs.World.{ProcessStatus}
 use Rattle.rb_proc.specs.Process.{Seen}
 use Rattle.rb_machine.specs.Telling.{ended_if, freed_one, is_running}
 use Rattle.rb_machine.specs.declared.telling.Ending.TheVariants as ending
-use Rattle.rb_machine.proofs.Finished.{none_after, noted_beyond, noted_here, released_beyond, released_here, told_beyond, told_here}
-use Rattle.rb_machine.proofs.ReleaseWork.{one_releases}
+use Rattle.rb_machine.proofs.Releasing.Finished.{none_after, noted_beyond, noted_here, released_beyond, released_here, told_beyond, told_here}
+use Rattle.rb_machine.proofs.Working.ReleaseWork.{one_releases}
 use Rattle.rb_machine.proofs.telling.finish_one.Goals as goal
 
 pub returns-then-place-procs-clause-told : goal.returns-then-place-procs-clause-told
@@ -29,7 +29,7 @@ returns-clause-told g c =
     ∙ told_here p c.args.running.now c.args.procs.now c.requires.alone c.index-procs-place.result c.if-place-procs.false c.index-procs-place.is
     c.requires.as_many c.args.events.now.items (option_to_list c.ending_of.result)
     (c.ending_of.ensures.event
-    ∙ ap (λ (status : Status). ended_if ending.Failed p ran status ++ ended_if ending.Done p ran status)
+    ∙ ap (λ (status : ProcessStatus). ended_if ending.Failed p ran status ++ ended_if ending.Done p ran status)
     (c.status-status.ensures ∙ ap (λ (one : Seen). one.process.status) (sym c.index-procs-place.is)))
 
 pub returns-clause-running : goal.returns-clause-running

@@ -1,7 +1,7 @@
 use Rattle.std.proofs.Common.{ap, sym, ◌∙◌}
 use Rattle.std.proofs.lemmas.Simd.{map-map}
 use Rattle.rb_world.specs.World.{Process}
-use Rattle.rb_code.specs.Turn.{Copy, Standing}
+use Rattle.rb_code.specs.WordMachine.Turn.{Copy, Standing}
 use Rattle.rb_proc.specs.Process.{Seen}
 use Rattle.rb_machine.specs.Telling.{is_running}
 use Rattle.rb_machine.proofs.Written.{all_written, more_written}

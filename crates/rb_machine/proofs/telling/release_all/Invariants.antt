@@ -1,7 +1,7 @@
 use Rattle.std.proofs.Common.{◌≡◌, ◌+◌, ◌*◌, ◌≤◌, ◌++◌, map, drop, sum_by, take}
-use Rattle.rb_code.specs.Plain.{Code}
+use Rattle.rb_code.specs.Instructions.Plain.{Code}
 use Rattle.rb_machine.specs.Telling.{freed_one}
-use Rattle.rb_machine.proofs.ReleaseWork.{releases}
+use Rattle.rb_machine.proofs.Working.ReleaseWork.{releases}
 use Rattle.rb_machine.proofs.telling.release_all.Given as goal
 
 -- the processes behind the present one are as they were

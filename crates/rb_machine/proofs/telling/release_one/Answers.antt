@@ -1,8 +1,8 @@
 -- Where there is nothing to tell no line waits, and no word is touched.
 use Rattle.std.proofs.Common.{ap, ◌∙◌}
 use Rattle.rb_proc.specs.Process.{Seen}
-use Rattle.rb_machine.proofs.ReleaseWork.{one_release}
-use Rattle.rb_machine.proofs.SomeCode.{some_code}
+use Rattle.rb_machine.proofs.Working.ReleaseWork.{one_release}
+use Rattle.rb_machine.proofs.Beginning.SomeCode.{some_code}
 use Rattle.rb_machine.proofs.telling.release_one.Goals as goal
 
 pub returns-clause-none_waits : goal.returns-clause-none_waits

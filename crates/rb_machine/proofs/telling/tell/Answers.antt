@@ -1,5 +1,5 @@
 use Rattle.rb_machine.specs.Moves.{passes_of}
-use Rattle.rb_machine.proofs.EndsTold.{all_told, done_fit, errors_fit, pass_fits}
+use Rattle.rb_machine.proofs.Releasing.EndsTold.{all_told, done_fit, errors_fit, pass_fits}
 use Rattle.rb_machine.proofs.telling.tell.Goals as goal
 
 pub tell_ended-requires-clause-room : goal.tell_ended-requires-clause-room

@@ -1,4 +1,4 @@
-use Rattle.rb_machine.proofs.EndsTold.{told_fits, told_more}
+use Rattle.rb_machine.proofs.Releasing.EndsTold.{told_fits, told_more}
 use Rattle.rb_machine.proofs.telling.tell_ended.Goals as goal
 
 pub add-requires : goal.add-requires

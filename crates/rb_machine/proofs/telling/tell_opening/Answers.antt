@@ -1,5 +1,5 @@
 use Rattle.std.proofs.Common.{◌∙◌}
-use Rattle.rb_machine.proofs.EndsTold.{done_told, few_done}
+use Rattle.rb_machine.proofs.Releasing.EndsTold.{done_told, few_done}
 use Rattle.rb_machine.proofs.telling.tell_opening.Goals as goal
 
 pub tell_ended-requires-clause-room : goal.tell_ended-requires-clause-room

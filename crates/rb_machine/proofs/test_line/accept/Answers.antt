@@ -1,12 +1,12 @@
 use Rattle.std.proofs.Common.{ap, sym, ◌∙◌}
 use Rattle.std.proofs.lemmas.Option.{get_or_from_slice_get}
-use Rattle.rb_code.specs.Plain.{code as plain}
+use Rattle.rb_code.specs.Instructions.Plain.{code as plain}
 use Rattle.rb_proc.specs.Process.{Seen}
 use Rattle.rb_world.specs.World.{last_of}
 use Rattle.rb_machine.specs.Channels.{conversation_in}
 use Rattle.rb_machine.specs.Stepping.{}
-use Rattle.rb_machine.proofs.TestLines.{alone_taken, gone_waits, stood_leave, stood_waits, together_taken}
-use Rattle.rb_machine.proofs.LineWork.{alone_named, together_named}
+use Rattle.rb_machine.proofs.Turning.TestLines.{alone_taken, gone_waits, stood_leave, stood_waits, together_taken}
+use Rattle.rb_machine.proofs.Working.LineWork.{alone_named, together_named}
 use Rattle.rb_machine.proofs.test_line.accept.Goals as goal
 
 pub pass_line-requires-clause-waits : goal.pass_line-requires-clause-waits

@@ -4,7 +4,7 @@ use Rattle.std.specs.List.{list_all}
 use Rattle.rb_conv.specs.Conversations.{conversation_at, membership}
 use Rattle.rb_world.specs.Turn.{stands_there}
 use Rattle.rb_machine.specs.Worlds.{processes_of}
-use Rattle.rb_machine.proofs.TestLines.{all_more, members_there, not_all}
+use Rattle.rb_machine.proofs.Turning.TestLines.{all_more, members_there, not_all}
 use Rattle.rb_machine.proofs.test_line.all_stand.Goals as goal
 
 pub returns-then-not-stands_there : goal.returns-then-not-stands_there

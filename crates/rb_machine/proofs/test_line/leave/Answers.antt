@@ -1,6 +1,6 @@
-use Rattle.rb_code.specs.Plain.{code as plain}
+use Rattle.rb_code.specs.Instructions.Plain.{code as plain}
 use Rattle.std.proofs.Common.{sym, ◌∙◌}
-use Rattle.rb_machine.proofs.LineWork.{member_leaves}
+use Rattle.rb_machine.proofs.Working.LineWork.{member_leaves}
 use Rattle.rb_machine.proofs.test_line.leave.Goals as goal
 
 pub returns-then-stands_at-clause-work : goal.returns-then-stands_at-clause-work

@@ -1,13 +1,13 @@
 use Rattle.std.proofs.Common.{◌≡◌, [], ap, sym, ◌∙◌, subst, get_or}
 use Rattle.std.proofs.lemmas.Option.{slice_get-get_or}
 use Rattle.rb_scope.proofs.EachSite.{all_at}
-use Rattle.rb_code.specs.Plain.{code as plain}
+use Rattle.rb_code.specs.Instructions.Plain.{code as plain}
 use Rattle.rb_conv.proofs.Places.{one_more}
 use Rattle.rb_proc.specs.Process.{Seen}
 use Rattle.rb_machine.specs.Stepping.{MayLeave, line_left}
 use Rattle.rb_machine.specs.Work.{named_by_member}
 use Rattle.rb_machine.proofs.Changed.{rest_there}
-use Rattle.rb_machine.proofs.LineWork.{all_named, one_more_named}
+use Rattle.rb_machine.proofs.Working.LineWork.{all_named, one_more_named}
 use Rattle.rb_machine.proofs.test_line.leave_all.Goals as goal
 
 pub leave-requires-clause-waits : goal.leave-requires-clause-waits

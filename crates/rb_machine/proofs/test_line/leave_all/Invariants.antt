@@ -1,6 +1,6 @@
 -- Those who came first have left the line, and the others are as they were; and what was named on their way is paid.
 use Rattle.std.proofs.Common.{◌≡◌, ◌+◌, ◌*◌, ◌≤◌, ◌++◌, map, take, drop, sum_by}
-use Rattle.rb_code.specs.Plain.{code as plain}
+use Rattle.rb_code.specs.Instructions.Plain.{code as plain}
 use Rattle.rb_machine.specs.Stepping.{line_left}
 use Rattle.rb_machine.specs.Work.{named_by_member}
 use Rattle.rb_machine.specs.Worlds.{processes_of}

@@ -1,7 +1,7 @@
 use Rattle.std.proofs.Common.{sym, ◌∙◌}
-use Rattle.rb_code.specs.Plain.{code as plain}
-use Rattle.rb_machine.proofs.LineWork.{line_named}
-use Rattle.rb_machine.proofs.TestLines.{left_waits, line_passed, line_waits, pass_same}
+use Rattle.rb_code.specs.Instructions.Plain.{code as plain}
+use Rattle.rb_machine.proofs.Working.LineWork.{line_named}
+use Rattle.rb_machine.proofs.Turning.TestLines.{left_waits, line_passed, line_waits, pass_same}
 use Rattle.rb_machine.proofs.test_line.pass_line.Goals as goal
 
 pub returns-then-not-all_stand-clause-taken : goal.returns-then-not-all_stand-clause-taken

@@ -4,7 +4,8 @@ use Rattle.rb_trace.specs.Ended.{state_of}
 use Rattle.rb_trace.specs.Naming.{naming}
 use Rattle.rb_trace.specs.Report.{told_of}
 use Rattle.rb_world.specs.Text.{end_text, told_text}
-use Rattle.rb_code.specs.WordRun.{word_final}
+use Rattle.rb_code.specs.WordMachine.WordRun.{word_final}
+use Rattle.rb_run.proofs.AsMeant.{written_as_meant}
 use Rattle.rb_run.proofs.RunWritten.{end_fits, ending_text, first_text, is_end, named_now, states_each, stopped_at_first, stopped_at_second, turns_text, waits_now, written_whole}
 use Rattle.rb_run.proofs.TurnsTaken.{turns_left}
 use Rattle.rb_run.proofs.TurnsWork.{work_first}
@@ -97,3 +98,16 @@ returns-clause-work g c =
       c.write_end.ensures.work,
       work_first c.args.machine.now c.write_report.new.lines c.requires.fresh c.write_report.ensures.rest c.args.schedule.left c.args.schedule.all c.requires.whole,
     )
+
+-- So it is in the meaning of its source.
+pub returns-in_err-write_report-clause-meant : goal.returns-in_err-write_report-clause-meant
+returns-in_err-write_report-clause-meant g c =
+    written_as_meant c.args.machine.now.code c.args.machine.now.groups c.args.schedule.all _ _ _ _ _ (returns-in_err-write_report-clause-text g c)
+
+pub returns-in_err-take_turns-clause-meant : goal.returns-in_err-take_turns-clause-meant
+returns-in_err-take_turns-clause-meant g c =
+    written_as_meant c.args.machine.now.code c.args.machine.now.groups c.args.schedule.all _ _ _ _ _ (returns-in_err-take_turns-clause-text g c)
+
+pub returns-clause-meant : goal.returns-clause-meant
+returns-clause-meant g c =
+    written_as_meant c.args.machine.now.code c.args.machine.now.groups c.args.schedule.all _ _ _ _ _ (returns-clause-text g c)

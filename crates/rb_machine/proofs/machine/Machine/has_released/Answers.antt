@@ -3,7 +3,7 @@ use Rattle.std.proofs.Common.{[], length, replicate, ap, sym, ◌∙◌}
 use Rattle.std.proofs.lemmas.List.{length-map}
 use Rattle.rb_proc.specs.Process.{Seen as Process}
 use Rattle.rb_machine.specs.Machine.{Seen}
-use Rattle.rb_machine.proofs.LentAtWork.{waits_none}
+use Rattle.rb_machine.proofs.Releasing.LentAtWork.{waits_none}
 use Rattle.rb_machine.proofs.machine.Machine.has_released.Goals as goal
 
 pub returns : goal.returns

@@ -1,12 +1,12 @@
 -- The parts are at work before the next turn, and no line waits.
 use Rattle.std.proofs.Common.{length, slice_get, ap, sym, ◌∙◌, subst}
 use Rattle.rb_world.specs.Turn.{Told}
-use Rattle.rb_code.specs.Plain.{code as plain}
-use Rattle.rb_code.specs.WordRun.{WordWorld}
+use Rattle.rb_code.specs.Instructions.Plain.{code as plain}
+use Rattle.rb_code.specs.WordMachine.WordRun.{WordWorld}
 use Rattle.rb_machine.specs.Machine.{IsKeptEntry, Seen}
 use Rattle.rb_machine.specs.Work.{enters_there}
 use Rattle.rb_machine.specs.Worlds.{processes_of}
-use Rattle.rb_machine.proofs.TurnOfParts.{none_wait}
+use Rattle.rb_machine.proofs.Turning.TurnOfParts.{none_wait}
 use Rattle.rb_machine.proofs.machine.Machine.turn.Goals as goal
 
 pub turn-self-inside-requires-clause-work : goal.turn-self-inside-requires-clause-work

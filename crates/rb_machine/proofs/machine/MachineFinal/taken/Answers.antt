@@ -1,10 +1,10 @@
 -- What is asked to count the values taken from a channel.
 use Rattle.std.proofs.Common.{◌<◌, ap, length, ◌∙◌, sym, subst}
-use Rattle.rb_code.specs.Plain.{code as plain}
+use Rattle.rb_code.specs.Instructions.Plain.{code as plain}
 use Rattle.rb_machine.specs.Machine.{Seen}
 use Rattle.rb_machine.specs.Reading.{AreCounted, taken_of}
-use Rattle.rb_machine.proofs.CountedAtWork.{counted_at_work}
-use Rattle.rb_machine.proofs.LentAtWork.{taken_each}
+use Rattle.rb_machine.proofs.Passing.CountedAtWork.{counted_at_work}
+use Rattle.rb_machine.proofs.Releasing.LentAtWork.{taken_each}
 use Rattle.rb_machine.proofs.machine.MachineFinal.taken.Goals as goal
 
 pub taken_on-requires-clause-counted : goal.taken_on-requires-clause-counted

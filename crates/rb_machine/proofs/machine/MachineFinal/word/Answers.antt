@@ -1,8 +1,8 @@
 -- What is asked to read a word of a process.
 use Rattle.std.proofs.Common.{sym, subst}
-use Rattle.rb_code.specs.Plain.{code as plain}
+use Rattle.rb_code.specs.Instructions.Plain.{code as plain}
 use Rattle.rb_machine.specs.Channels.{AreNumbered}
-use Rattle.rb_machine.proofs.KnownNumbers.{numbered_at_work}
+use Rattle.rb_machine.proofs.Knowing.KnownNumbers.{numbered_at_work}
 use Rattle.rb_machine.proofs.machine.MachineFinal.word.Goals as goal
 
 pub word_at-requires-clause-numbered : goal.word_at-requires-clause-numbered

@@ -1,6 +1,6 @@
 -- The parts of a machine are tied again once a line was lent.
-use Rattle.rb_code.specs.Plain.{code as plain}
-use Rattle.rb_machine.proofs.LentAtWork.{tied_again}
+use Rattle.rb_code.specs.Instructions.Plain.{code as plain}
+use Rattle.rb_machine.proofs.Releasing.LentAtWork.{tied_again}
 use Rattle.rb_machine.proofs.machine.MachineLines.released.Goals as goal
 
 pub invariant_of-self : goal.invariant_of-self

@@ -1,5 +1,5 @@
 use Rattle.std.proofs.Common.{refl}
-use Rattle.rb_machine.proofs.LinesLent.{has_lent, line_lent}
+use Rattle.rb_machine.proofs.Releasing.LinesLent.{has_lent, line_lent}
 use Rattle.rb_machine.proofs.parts.Parts.released.Goals as goal
 
 pub returns : goal.returns

@@ -1,0 +1,157 @@
+-- Turns that levels used and cursors lie below numbers: whatever a turn does to one process, they do so again.
+use Rattle.std.proofs.Common.{◌≡◌, ℕ, ◌+◌, ◌<◌, ◌≤◌, ℤ, pos, Bool, true, false, cond, List, [], ◌∷◌, ◌++◌, map, position, slice_get, slice_set, take, Option, Some, None, refl, ap, sym, subst, arith}
+use Rattle.rb_base.specs.declared.event.Cause.{Cause}
+use Rattle.rb_base.specs.declared.event.Cause.TheVariants.{Inner}
+use Rattle.rb_world.specs.Kind.{Facts, Kind, Membership}
+use Rattle.rb_world.specs.Reject.{at_place, back_to, fallen, fallen_inside, next_alternate, put_back, raised, where_inside}
+use Rattle.rb_world.specs.Standing.{Each}
+use Rattle.rb_world.specs.Turn.{freed, new_level, one_used, turn_used}
+use Rattle.rb_world.specs.World.{Level, Process, ProcessStatus, change_at, goes_on, is_inside, is_of, without_last}
+use Rattle.rb_world.proofs.LevelFacts.{AreFrom, IsNew, IsOld, IsOldOrNew, from_next, from_take, from_used, from_without_last, get_more, get_take, get_without_last}
+use Rattle.rb_world.proofs.ListFacts.{Each-change_at, none_some}
+use Rattle.rb_world.proofs.Members.PassTogether.{map_found}
+use Rattle.rb_meaning.specs.Environment.{natural}
+use Rattle.rb_code.specs.WordMachine.Workspace.{cursor_place, held_place, part_of}
+use Rattle.rb_code.specs.Instructions.Plain.{Code}
+use Rattle.rb_code.specs.WordMachine.Turn.{Common, Copy, Standing}
+use Rattle.rb_code.specs.WordMachine.WordKind.{word_kind}
+use Rattle.rb_code.proofs.InWords.Fronts.{word_other}
+use Rattle.rb_machine.specs.Known.{CursorsBelow, IsBelow}
+use Rattle.rb_machine.specs.Rising.{StaySame}
+
+module _ (c : Code) where
+  -- below a larger number
+  pub cursors_weaker : (p messages most : ℕ) (words : List ℤ) → messages ≤ most → CursorsBelow c p messages words → CursorsBelow c p most words
+  cursors_weaker p messages most words le h channel among = omega (arith, h channel among)
+
+  pub weaker : (turns more messages most p : ℕ) (q : Process Standing Copy) → turns ≤ more → messages ≤ most
+      → IsBelow c turns messages p q → IsBelow c more most p q
+  weaker turns more messages most p q le few h = record {
+    used = λ i level e. omega (arith, h.used i level e);
+    cursors = cursors_weaker p messages most q.state.words few h.cursors;
+    copied = λ i level e. cursors_weaker p messages most level.copy.words few (h.copied i level e);
+  }
+
+  -- cursors that are the same
+  pub cursors_same : (p messages : ℕ) (words later : List ℤ) → StaySame c p words later → CursorsBelow c p messages words
+      → CursorsBelow c p messages later
+  cursors_same p messages words later same h channel among = omega (arith, same channel among, h channel among)
+
+  -- levels with the copies of others
+  copied_from : (p messages : ℕ) (levels old : List (Level Copy)) → AreFrom levels old
+      → Each (λ _ level. CursorsBelow c p messages level.copy.words) old → Each (λ _ level. CursorsBelow c p messages level.copy.words) levels
+  copied_from p messages levels old from h i level e =
+      let found = from i level e in
+      subst (λ (copy : Copy). CursorsBelow c p messages copy.words) found.same (h i found.level found.there)
+
+  module _ (groups : List Membership) (turns messages p : ℕ) where
+    abbrev k : Kind Standing Copy Common
+    k = word_kind c groups
+
+    abbrev Below : Process Standing Copy → Type 0
+    Below = IsBelow c turns messages p
+
+    -- a turn is counted
+    pub used_below : (q : Process Standing Copy) → Below q → IsBelow c (turns + 1) messages p (turn_used q)
+    used_below q h = record {
+      used = λ i level e.
+          let found = map_found one_used q.levels i level e in
+          subst (λ (one : Level Copy). one.used < turns + 1) found.2 (omega (arith, h.used i found.0 found.1));
+      cursors = h.cursors;
+      copied = copied_from p messages (map one_used q.levels) q.levels (from_used q.levels) h.copied;
+    }
+
+    -- a copy is put back
+    pub back_below : (j : ℕ) (q : Process Standing Copy) → Below q → Below (put_back k j q)
+    back_below j q h = by (slice_get q.levels j) refl
+      where
+        by : (o : Option (Level Copy)) → slice_get q.levels j ≡ o → Below (back_to k j q o)
+        by None e = h
+        by (Some level) e = record {
+          used = λ i one there. h.used i one (get_take (j + 1) q.levels i one there).1;
+          cursors = h.copied j level e;
+          copied = copied_from p messages (take (j + 1) q.levels) q.levels (from_take (j + 1) q.levels) h.copied;
+        }
+
+    -- a level goes on to its next alternate
+    pub raised_below : 0 < turns → (j : ℕ) (q : Process Standing Copy) → Below q → Below (raised j q)
+    raised_below some j q h = record {
+      used = Each-change_at (λ _ level. level.used < turns) j next_alternate q.levels h.used (λ level e. some);
+      cursors = h.cursors;
+      copied = copied_from p messages (change_at j next_alternate q.levels) q.levels (from_next j q.levels) h.copied;
+    }
+
+    -- a process fails
+    pub fallen_below : (cause : Cause) (q : Process Standing Copy) → Below q → Below (fallen k cause q)
+    fallen_below cause q h = record { used = λ i level e. none i level e; cursors = h.cursors; copied = λ i level e. none i level e }
+      where
+        none : {A : Type 0} (i : ℕ) (level : Level Copy) → slice_get [] i ≡ Some level → A
+        none i level e = absurd (none_some e)
+
+    -- held lines are released
+    pub freed_below : (q : Process Standing Copy) → Below q → Below (freed k q)
+    freed_below q h = by q.levels h.used h.copied
+      where
+        by : (levels : List (Level Copy)) → Each (λ _ level. level.used < turns) levels
+            → Each (λ _ level. CursorsBelow c p messages level.copy.words) levels
+            → Below (freed k (record { state = q.state; levels = levels; at_line = q.at_line; status = q.status }))
+        by [] used copied = record {
+          used = used;
+          cursors = cursors_same p messages q.state.words (slice_set q.state.words held_place (pos 0))
+              (λ channel among. ap natural (word_other q.state.words held_place (cursor_place (part_of c p) channel) (pos 0) (λ e. omega arith)))
+              h.cursors;
+          copied = copied;
+        }
+        by (level ∷ levels) used copied = record { used = used; cursors = h.cursors; copied = copied }
+
+    -- whoever is inside a conversation is changed
+    pub inside_below : (f : ℕ → Process Standing Copy → Process Standing Copy) → ((j : ℕ) (q : Process Standing Copy) → Below q → Below (f j q))
+        → (d : ℕ) (q : Process Standing Copy) → Below q → Below (where_inside f d q)
+    inside_below f one d q h = by (position (is_of d) q.levels)
+      where
+        by : (place : Option ℕ) → Below (at_place f place q)
+        by None = h
+        by (Some j) = one j q h
+
+    pub fallen_inside_below : (d : ℕ) (q : Process Standing Copy) → Below q → Below (fallen_inside k d q)
+    fallen_inside_below d q h = by (is_inside d q)
+      where
+        by : (inside : Bool) → Below (cond inside (fallen k Inner q) q)
+        by true = fallen_below Inner q h
+        by false = h
+
+    -- a block is entered
+    pub entered_below : 0 < turns → (s : Standing) (facts : Facts) (alternate : ℕ) (q : Process Standing Copy) → s.words ≡ q.state.words
+        → Below q → Below (goes_on k s (q.levels ++ new_level k facts alternate s ∷ []))
+    entered_below some s facts alternate q same h = record {
+      used = λ i level e. used i level (get_more q.levels new i level e);
+      cursors = here;
+      copied = λ i level e. copied i level (get_more q.levels new i level e);
+    }
+      where
+        new : Level Copy
+        new = new_level k facts alternate s
+
+        here : CursorsBelow c p messages s.words
+        here = subst (CursorsBelow c p messages) (sym same) h.cursors
+
+        used : (i : ℕ) (level : Level Copy) → IsOldOrNew q.levels new i level → level.used < turns
+        used i level (IsOld e) = h.used i level e
+        used i level (IsNew e is) = subst (λ (one : Level Copy). one.used < turns) is some
+
+        copied : (i : ℕ) (level : Level Copy) → IsOldOrNew q.levels new i level → CursorsBelow c p messages level.copy.words
+        copied i level (IsOld e) = h.copied i level e
+        copied i level (IsNew e is) = subst (λ (one : Level Copy). CursorsBelow c p messages one.copy.words) is here
+
+    -- the process has other words, and its levels or all but the innermost
+    pub moved_below : (s : Standing) (at_line : Bool) (status : ProcessStatus) (q : Process Standing Copy) → CursorsBelow c p messages s.words → Below q
+        → Below (record { state = s; levels = q.levels; at_line = at_line; status = status })
+    moved_below s at_line status q here h = record { used = h.used; cursors = here; copied = h.copied }
+
+    pub left_below : (s : Standing) (at_line : Bool) (status : ProcessStatus) (q : Process Standing Copy) → CursorsBelow c p messages s.words → Below q
+        → Below (record { state = s; levels = without_last q.levels; at_line = at_line; status = status })
+    left_below s at_line status q here h = record {
+      used = λ i level e. h.used i level (get_without_last q.levels i level e);
+      cursors = here;
+      copied = copied_from p messages (without_last q.levels) q.levels (from_without_last q.levels) h.copied;
+    }

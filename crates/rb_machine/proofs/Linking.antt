@@ -1,0 +1,4 @@
+-- The links of kept turns, and the survivors.
+pub mod LinkedTurns
+pub mod Reached
+pub mod ReachedLinks

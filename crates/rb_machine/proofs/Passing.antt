@@ -1,0 +1,6 @@
+-- Messages and their counts.
+pub mod CountedAtWork
+pub mod CountsRead
+pub mod Receivers
+pub mod RoomsAndMessages
+pub mod SeenCopies

@@ -1,0 +1,11 @@
+-- One turn of the parts, by what stands first in the process.
+pub mod Acting
+pub mod Entering
+pub mod TakenSteps
+pub mod TestLines
+pub mod TurnsTaken
+pub mod TurnOfParts
+pub mod StepTaken
+pub mod ReadyFor
+pub mod InnermostLevel
+pub mod StepFacts

@@ -1,0 +1,183 @@
+-- The work of a move: what a process that looks at itself pays for, the words that a step names, and what a rejection of counted levels costs.
+use Rattle.std.proofs.Common.{◌≡◌, ◌⊎◌, inl, inr, ℕ, zero, suc, ◌+◌, ◌*◌, ◌≤◌, ℤ, Bool, true, false, cond, ◌&&◌, ◌||◌, List, [], ◌∷◌, map, Option, Some, None, position, slice_get, sum_by, refl, ap, sym, ◌∙◌, subst, true≢false, arith}
+use Rattle.std.specs.List.{list_any}
+use Rattle.std.proofs.lemmas.Bool.{and_right}
+use Rattle.std.proofs.lemmas.List.Sums.{sum_by-cons}
+use Rattle.rb_base.specs.declared.event.Event.{Event}
+use Rattle.rb_base.specs.declared.event.Event.TheVariants.{Reject, RejectAll, Error, Pass, Done}
+use Rattle.rb_base.specs.declared.event.TurnKind.{TurnKind}
+use Rattle.rb_world.specs.Channels.{has_room, message_there}
+use Rattle.rb_world.specs.Kind.{Membership, Want, NothingLeft, SendsOn, ReceivesOn, MayReceiveOn, Enters, Starts, Acts}
+use Rattle.rb_world.specs.Slots.{Slots}
+use Rattle.rb_world.specs.Turn.{Moved, is_over, one_used, turn_used}
+use Rattle.rb_world.specs.World.{Level, Process, Running, change_at, is_of}
+use Rattle.rb_code.specs.Instructions.Plain.{Code}
+use Rattle.rb_code.specs.WordMachine.Turn.{Common, Copy, Standing, want}
+use Rattle.rb_code.specs.WordMachine.WordKind.{word_kind}
+use Rattle.rb_code.specs.WordMachine.WordRun.{WordWorld}
+use Rattle.rb_proc.specs.Process.{Seen, alternate_for, message_for, wanted_by}
+use Rattle.rb_proc.specs.declared.answers.Wanted.{Wanted}
+use Rattle.rb_proc.specs.declared.answers.Wanted.TheVariants as wanted
+use Rattle.rb_machine.specs.AtWork.{IsStep}
+use Rattle.rb_machine.specs.Moves.{HasMoved, IsEntryReady, IsReadyAt, world}
+use Rattle.rb_machine.specs.Work.{enters_there, inside_one, is_entry, is_kept, levels_put_back, looking, move_work, named_by_acts, named_by_receipt, named_by_status, named_by_steps, named_in_turn, named_running, named_there, named_within, places_put_back, put_back_by, touched_by, touched_in, undoing}
+use Rattle.rb_machine.specs.declared.came.Came.{Came}
+use Rattle.rb_machine.specs.declared.moves.ReadyFor.{ReadyFor}
+use Rattle.rb_machine.specs.declared.moves.ReadyFor.TheVariants as ready
+use Rattle.rb_machine.specs.declared.parts.Parts.{Parts}
+use Rattle.rb_machine.proofs.Turning.Acting.{is_start, is_step}
+use Rattle.rb_machine.proofs.Turning.Entering.{wants_block}
+
+-- who steps enters nothing
+pub step_is_no_entry : (there : Bool) (w : Want) → IsStep there w → is_entry w ≡ false
+step_is_no_entry there NothingLeft h = absurd h
+step_is_no_entry there (SendsOn channel) h = refl
+step_is_no_entry there (ReceivesOn channel) h = refl
+step_is_no_entry there (MayReceiveOn channel) h = refl
+step_is_no_entry there (Enters facts) h = absurd h
+step_is_no_entry there Starts h = refl
+step_is_no_entry there Acts h = refl
+
+-- and who enters nothing is ready for no entry
+pub is_no_entry : (c : Code) (procs : List Seen) (p : ℕ) (one : ReadyFor) (x : Seen) → IsReadyAt c procs p one → slice_get procs p ≡ Some x
+    → is_entry (want c x.process.state) ≡ false → IsEntryReady one → ⊥
+is_no_entry c procs p (ready.Enters b) x at there none entry =
+    let found = wants_block b (want c x.process.state) (at x [] (record { slots = []; links = [] }) 0 there) in
+    true≢false (ap is_entry (sym found.1) ∙ none)
+is_no_entry c procs p ready.Idle x at there none entry = entry
+is_no_entry c procs p ready.Waits x at there none entry = entry
+is_no_entry c procs p (ready.Steps there) x at here none entry = entry
+
+module _ (c : Code) (q : Process Standing Copy) (kind : TurnKind) where
+  -- a turn that is not kept pays four ticks for looking, and so does a step
+  pub looks_unkept : is_kept kind ≡ false → looking (enters_there c kind (Some q)) ≡ 4
+  looks_unkept e = ap looking (and_right (is_entry (want c q.state)) (is_kept kind) e)
+
+  pub looks_stepping : (there : Bool) → IsStep there (want c q.state) → looking (enters_there c kind (Some q)) ≡ 4
+  looks_stepping there step = ap (λ (entry : Bool). looking (entry && is_kept kind)) (step_is_no_entry there (want c q.state) step)
+
+-- the words that are named in a turn
+module _ (c : Code) (groups : List Membership) (t p : ℕ) (q : Process Standing Copy) (w : WordWorld) where
+  -- where no level is over its bound, away from a line, they are those of what stands first
+  pub named_away : (over : Option ℕ) → over ≡ position is_over q.levels → over ≡ None → q.at_line ≡ false
+      → named_within c groups t p q w (position is_over q.levels) ≡ named_by_acts c groups t p q w (want c q.state)
+  named_away over e none away =
+      ap (named_within c groups t p q w) (sym e ∙ none) ∙ ap (λ (b : Bool). cond b 0 (named_by_acts c groups t p q w (want c q.state))) away
+
+  -- and where that is a step, they are those of the step
+  module _ (slots : Slots) where
+    abbrev NamesBy : Bool → Want → Type 0
+    NamesBy there x =
+        named_by_acts c groups t p q w x ≡ named_by_steps c groups t p (alternate_for x q.levels) (message_for c q.state slots there x) q w
+
+    pub send_names : (channel : ℕ) → want c q.state ≡ SendsOn channel → has_room (word_kind c groups) w channel ≡ true
+        → NamesBy false (want c q.state)
+    send_names channel wants room =
+        subst (NamesBy false) (sym wants) (ap (λ (b : Bool). cond b (named_by_steps c groups t p 0 None q w) 0) room)
+
+    pub receipt_names : (channel : ℕ) → want c q.state ≡ ReceivesOn channel
+        → message_there (word_kind c groups) w channel ≡ message_for c q.state slots true (ReceivesOn channel) → NamesBy true (want c q.state)
+    receipt_names channel wants there = subst (NamesBy true) (sym wants) (ap (named_by_receipt c groups t p q w) there)
+
+    pub look_names : (there : Bool) (channel : ℕ) → want c q.state ≡ MayReceiveOn channel
+        → message_there (word_kind c groups) w channel ≡ message_for c q.state slots there (MayReceiveOn channel) → NamesBy there (want c q.state)
+    look_names there channel wants is =
+        subst (NamesBy there) (sym wants) (ap (λ (message : Option ℤ). named_by_steps c groups t p 0 message q w) is)
+
+    pub step_names : (answer : Wanted) → wanted_by (want c q.state) ≡ answer → (answer ≡ wanted.Start) ⊎ (answer ≡ wanted.Step)
+        → NamesBy false (want c q.state)
+    step_names answer e (inl start) = subst (NamesBy false) (sym (is_start (want c q.state) (e ∙ start))) refl
+    step_names answer e (inr step) = subst (NamesBy false) (sym (is_step (want c q.state) (e ∙ step))) refl
+
+-- ticks of looking, of the words that are named, and of going back add up
+pub pays_waiting : (old now look names back : ℕ) → now ≤ old + 2 → look ≡ 4 → now ≤ old + look + 3 * names + back
+pays_waiting old now look names back ready e = omega (arith, ready, e)
+
+pub pays_entry : (old now done look names back : ℕ) → now ≤ old → done ≤ now + back → done ≤ old + look + 3 * names + back
+pays_entry old now done look names back entry work = omega (arith, entry, work)
+
+pub pays_undoing : (old done look names back : ℕ) → done ≤ old + back → done ≤ old + look + 3 * names + back
+pays_undoing old done look names back work = omega (arith, work)
+
+pub pays_step : (old now done look names same back : ℕ) → now ≤ old + 2 → done ≤ now + 1 + 3 * same + back → look ≡ 4 → names ≡ same
+    → done ≤ old + look + 3 * names + back
+pays_step old now done look names same back ready work e is = omega (arith, ready, work, e, is)
+
+pub pays_same : (old done look names same back again : ℕ) → done ≤ old + look + 3 * same + again → names ≡ same → back ≡ again
+    → done ≤ old + look + 3 * names + back
+pays_same old done look names same back again work e is = omega (arith, work, e, is)
+
+pub pays_move : (old done look names back move : ℕ) → done ≤ old + look + 3 * names + back → look + 3 * names + back ≡ move → done ≤ old + move
+pays_move old done look names back move work e = omega (arith, work, e)
+
+pub pays_rest : (old look names back : ℕ) → old ≤ old + look + 3 * names + back
+pays_rest old look names back = omega arith
+
+pub pays_more : (old more : ℕ) → old ≤ old + more
+pays_more old more = omega arith
+
+-- A turn that was counted changes no sum over the processes that does not see how many turns a level has used.
+sum_changed : {A : Type 0} (f : A → ℕ) (g : A → A) → ((x : A) → f (g x) ≡ f x) → (p : ℕ) (xs : List A)
+    → sum_by f (change_at p g xs) ≡ sum_by f xs
+sum_changed f g same p [] = refl
+sum_changed f g same zero (x ∷ xs) =
+    sum_by-cons f (g x) xs ∙ (ap (λ (n : ℕ). n + sum_by f xs) (same x) ∙ sym (sum_by-cons f x xs))
+sum_changed f g same (suc p) (x ∷ xs) =
+    sum_by-cons f x (change_at p g xs) ∙ (ap (λ (n : ℕ). f x + n) (sum_changed f g same p xs) ∙ sym (sum_by-cons f x xs))
+
+sum_alike : {A : Type 0} (f g : A → ℕ) → ((x : A) → f x ≡ g x) → (xs : List A) → sum_by f xs ≡ sum_by g xs
+sum_alike f g same [] = refl
+sum_alike f g same (x ∷ xs) =
+    sum_by-cons f x xs ∙ (ap (λ (n : ℕ). n + sum_by f xs) (same x)
+    ∙ (ap (λ (n : ℕ). g x + n) (sum_alike f g same xs) ∙ sym (sum_by-cons g x xs)))
+
+used_of : (x : ℕ) (levels : List (Level Copy)) → list_any (is_of x) (map one_used levels) ≡ list_any (is_of x) levels
+used_of x [] = refl
+used_of x (level ∷ levels) = ap (λ (b : Bool). is_of x level || b) (used_of x levels)
+
+used_inside : (x : ℕ) (q : Process Standing Copy) → inside_one x (turn_used q) ≡ inside_one x q
+used_inside x q = ap (λ (b : Bool). cond b 1 0) (used_of x q.levels)
+
+module _ (p : ℕ) (processes : List (Process Standing Copy)) where
+  counted_touched : touched_in (change_at p turn_used processes) ≡ touched_in processes
+  counted_touched = sum_changed touched_by turn_used (λ q. refl) p processes
+
+  counted_back : (event : Event) → put_back_by (change_at p turn_used processes) event ≡ put_back_by processes event
+  counted_back (Reject r line alternate cause) = refl
+  counted_back (RejectAll x alternate by cause) = sum_changed (inside_one x) turn_used (used_inside x) p processes
+  counted_back (Error r cause) = refl
+  counted_back (Pass x alternate) = refl
+  counted_back (Done r) = refl
+
+  counted_levels : (events : List Event) → levels_put_back (change_at p turn_used processes) events ≡ levels_put_back processes events
+  counted_levels = sum_alike (put_back_by (change_at p turn_used processes)) (put_back_by processes) counted_back
+
+  -- so going back costs what it costs before the turn was counted
+  pub counted_undoing : (kind : TurnKind) (events : List Event) (after : List (Process Standing Copy))
+      → undoing kind (change_at p turn_used processes) events after ≡ undoing kind processes events after
+  counted_undoing kind events after =
+      ap (λ (n : ℕ). places_put_back kind n (touched_in after) + 4 * levels_put_back (change_at p turn_used processes) events) counted_touched
+      ∙ ap (λ (n : ℕ). places_put_back kind (touched_in processes) (touched_in after) + 4 * n) (counted_levels events)
+
+-- the work of a running process is that of its move
+module _ (c : Code) (groups : List Membership) (t p : ℕ) (before : WordWorld) (q : Process Standing Copy)
+    (there : slice_get before.processes p ≡ Some q)
+    (running : q.status ≡ Running) where
+  abbrev Costs : TurnKind → Option (Process Standing Copy) → ℕ → List Event → WordWorld → ℕ
+  Costs kind o names events after =
+      looking (enters_there c kind o) + 3 * names + undoing kind before.processes events after.processes
+
+  named_of_running : named_running c groups t p (turn_used q) before ≡ named_in_turn c groups t p before
+  named_of_running = ap (named_by_status c groups t p q before) (sym running) ∙ ap (named_there c groups t p before) (sym there)
+
+  pub running_moves : {L : Type 0} (parts : Parts L) (events : List Event) (came : Came) (moved : Moved Standing Copy Common)
+      → HasMoved parts events came moved
+      → Costs came.kind (Some q) (named_running c groups t p (turn_used q) before) events (world parts) ≡ move_work c groups t p before moved
+  running_moves parts events came moved has =
+      let names = named_running c groups t p (turn_used q) before in
+      ap (λ (kind : TurnKind). Costs kind (Some q) names events (world parts)) has.kind
+      ∙ (ap (λ (o : Option (Process Standing Copy)). Costs moved.kind o names events (world parts)) (sym there)
+      ∙ (ap (λ (n : ℕ). Costs moved.kind (slice_get before.processes p) n events (world parts)) named_of_running
+      ∙ (ap (λ (es : List Event). Costs moved.kind (slice_get before.processes p) (named_in_turn c groups t p before) es (world parts)) has.rejections
+      ∙ ap (λ (after : WordWorld). Costs moved.kind (slice_get before.processes p)
+      (named_in_turn c groups t p before) moved.rejections after) has.worlds)))
