@@ -28,7 +28,7 @@ use Rattle.rb_scope.specs.Resolved.{IsResolved}
 use Rattle.rb_scope.specs.Sites.{tree_sites}
 use Rattle.rb_scope.proofs.Answer.{slots_found}
 use Rattle.rb_scope.proofs.ResolvedInFrames.{resolved_in_frames}
-use Rattle.rb_code.specs.Listing.{listing_text}
+use Rattle.rb_code.specs.Instructions.Listing.{listing_text}
 use Rattle.rb_gen.proofs.ExistsProcesses.{code_exists}
 
 -- ---- a source

@@ -3,7 +3,7 @@ use Rattle.std.proofs.Common.{◌≡◌, ◌⊎◌, ℕ, ◌+◌, ◌<◌, ◌�
 use Rattle.std.proofs.lemmas.List.{take_all}
 use Rattle.std.proofs.lemmas.Bool.{cases_lt}
 use Rattle.rb_outside.specs.declared.Failed.{Failed}
-use Rattle.rb_outside.specs.Outside.{File, Faults, Start, WrotePart, bytes_of, named, shut, told_starts, failed_once, was_missing}
+use Rattle.rb_outside.specs.Outside.{File, Faults, Start, WrotePart, bytes_of, named, failed_once, was_missing}
 use Rattle.rb_outside.specs.Puts.{Puts}
 use Rattle.rb_outside.proofs.Puts.{failed_after}
 use Rattle.rb_run.specs.Surviving.{Survives}
@@ -16,8 +16,8 @@ use Rattle.rb_top.specs.declared.read.Unread.TheVariants as unread
 use Rattle.rb_top.specs.declared.status.Status.{Status}
 use Rattle.rb_top.specs.declared.status.Status.TheVariants.{Done, Refused, Usage, ReadFault, WriteFault, Memory}
 use Rattle.rb_top.specs.Judgement.{Judgement, ReadsOn, RefusedWith, Writes, Judges}
-use Rattle.rb_top.specs.Answers.{Scene, WritesNothing, WritesFront, WritesByThen, piece_bytes, IsRead, nothing_yet, one_more, Ended, EndedIn, StoppedAt}
-use Rattle.rb_top.specs.Answers.{StoppedByFault, told, untold, StoppedByFaultIn, StoppedByMissing, StoppedByMissingIn, RanOut, between, within}
+use Rattle.rb_top.specs.Answers.{Scene, WritesNothing, WritesFront, WritesByThen, piece_bytes, IsRead, nothing_yet, one_more}
+use Rattle.rb_top.specs.Answers.{none_read, one_read, Ended, EndedIn, StoppedAt, StoppedByFault, StoppedByFaultIn, StoppedByMissing, StoppedByMissingIn, RanOut, between, within}
 use Rattle.rb_top.specs.Answers.{RanOutIn, ReadFails, by_fault, by_missing, WithRequest, WhereRequested}
 use Rattle.rb_top.specs.Read.{WasRead, WasReadIn, StandsAt, StandsAtIn, StopsForFault, StopsForFaultIn, StopsForMemory, OnUnread}
 use Rattle.rb_top.specs.Read as stops
@@ -72,7 +72,7 @@ module _ (files : List File) (name bytes : List ℕ) (most : ℕ) (others now : 
 
 -- at first none were
 pub nothing_read : (files : Option (List File)) (request : Request) (old : List Start) → HasReadIn files request [] request.files old old
-nothing_read None request old = tt
+nothing_read None request old = none_read
 nothing_read (Some files) request old = record { starts = []; read = nothing_yet; started = refl }
 
 module _ (files : List File) (request : Request) (texts : List (List ℕ)) (next : Wanted) (rest : List Wanted) (old mid now : List Start)
@@ -104,16 +104,13 @@ module _ (files : List File) (request : Request) (texts : List (List ℕ)) (next
       ((r1 ≡ failed_once r0) × StoppedByFault files request old now) ⊎ ((r1 ≡ was_missing r0) × StoppedByMissing files request old now)
   stops_by_fault r0 r1 (stops.at_start failed started) =
       let last : Start = record { file = named files next.name; passed = 0; went = false } in
-      inl (failed, told next last (stopped_at last refl (omega arith) started))
-  stops_by_fault r0 r1 (stops.untold one) =
-      let many : told_starts ≤ length (since.starts ++ old) = subst (λ (xs : List Start). told_starts ≤ length xs) since.started one.many in
-      inl (one.counted, untold texts next rest since.starts since.read goes_on many (one.closed ∙ ap shut since.started))
+      inl (failed, record { next = next; last = last; stopped = stopped_at last refl (omega arith) started })
   stops_by_fault r0 r1 (stops.missing was gone started) =
       let last : Start = record { file = named files next.name; passed = 0; went = false } in
       inr (was, record { next = next; last = last; stopped = stopped_at last refl (omega arith) started; missing = gone })
   stops_by_fault r0 r1 (stops.within failed at) =
       let last : Start = record { file = named files next.name; passed = at.passed; went = true } in
-      inl (failed, told next last (stopped_at last refl at.not_far at.started))
+      inl (failed, record { next = next; last = last; stopped = stopped_at last refl at.not_far at.started })
 
   -- for want of memory
   stops_by_memory : StandsAt files next.name (next.most + piece_bytes) mid now → RanOut files request old now
@@ -127,7 +124,7 @@ pub reads_text : (files : Option (List File)) (request : Request) (texts : List 
     HasReadIn files request texts (next ∷ rest) old mid → Judges request.command texts ReadsOn
     → WasReadIn files next.name next.most bytes mid now → length bytes ≤ next.most →
     HasReadIn files request (texts ++ bytes ∷ []) rest old now
-reads_text None request texts next rest old mid now bytes since goes_on was short = tt
+reads_text None request texts next rest old mid now bytes since goes_on was short = one_read texts next rest bytes since goes_on
 reads_text (Some files) request texts next rest old mid now bytes since goes_on was short =
     let whole = read_whole files next.name bytes next.most mid now was short in
     read_more files request texts next rest old mid now since goes_on bytes (length bytes) whole.0 whole.1 was.started
@@ -138,7 +135,7 @@ reads_long : (files : Option (List File)) (request : Request) (texts : List (Lis
     HasReadIn files request texts (next ∷ rest) old mid → Judges request.command texts ReadsOn
     → WasReadIn files next.name next.most bytes mid now → next.most < length bytes →
     (text : List ℕ) × (next.most < length text) × HasReadIn files request (texts ++ text ∷ []) rest old now
-reads_long None request texts next rest old mid now bytes since goes_on was long = (bytes, long, tt)
+reads_long None request texts next rest old mid now bytes since goes_on was long = (bytes, long, one_read texts next rest bytes since goes_on)
 reads_long (Some files) request texts next rest old mid now bytes since goes_on was long = (
   was.all,
   read_long files next.name bytes next.most mid now was long,
@@ -162,7 +159,8 @@ pub read_fails : (files : Option (List File)) (request : Request) (texts : List 
     → StopsForFaultIn files next.name next.most mid now r0 r1 →
     ReadFails request (record { files = files; starts = old; read_faults = r0; written = w0; write_faults = f0 })
     (record { files = others; starts = now; read_faults = r1; written = w1; write_faults = f1 })
-read_fails None request texts next rest old mid now others r0 r1 f0 f1 w0 w1 since goes_on failed = by_fault failed tt
+read_fails None request texts next rest old mid now others r0 r1 f0 f1 w0 w1 since goes_on failed =
+    by_fault failed (record { texts = texts; next = next; rest = rest; read = since; goes_on = goes_on })
 read_fails (Some files) request texts next rest old mid now others r0 r1 f0 f1 w0 w1 since goes_on stops =
     fault_answer files request others old now r0 r1 f0 f1 w0 w1 (stops_by_fault files request texts next rest old mid now since goes_on r0 r1 stops)
 
@@ -182,7 +180,7 @@ read_runs_out (Some files) request texts next rest old mid now since goes_on at 
 ends_with : (files : Option (List File)) (request : Request) (texts : List (List ℕ)) (rest : List Wanted)
     (old now : List Start) (judgement : Judgement) →
     HasReadIn files request texts rest old now → Judges request.command texts judgement → EndedIn files request old now judgement
-ends_with None request texts rest old now judgement since judged = tt
+ends_with None request texts rest old now judgement since judged = record { texts = texts; rest = rest; read = since; judged = judged }
 ends_with (Some files) request texts rest old now judgement since judged = record {
   texts = texts;
   rest = rest;
@@ -356,12 +354,12 @@ read_again (Some files) name bytes most old mid was =
 
 ended_of : (files : Option (List File)) (request : Request) (a b new : List Start) (judgement : Judgement) → AreStarts files a b
     → EndedIn files request a new judgement → EndedIn files request b new judgement
-ended_of None request a b new judgement same h = tt
+ended_of None request a b new judgement same h = h
 ended_of (Some files) request a b new judgement same h = subst (λ (st : List Start). Ended files request st new judgement) same h
 
 fault_of : (files : Option (List File)) (request : Request) (a b new : List Start) → AreStarts files a b
     → StoppedByFaultIn files request a new → StoppedByFaultIn files request b new
-fault_of None request a b new same h = tt
+fault_of None request a b new same h = h
 fault_of (Some files) request a b new same h = subst (λ (st : List Start). StoppedByFault files request st new) same h
 
 missing_of : (files : Option (List File)) (request : Request) (a b new : List Start) → AreStarts files a b

@@ -17,8 +17,8 @@ use Rattle.rb_top.specs.Judgement.{PlainGoesOn, reads_record, record_refused, pl
 use Rattle.rb_top.specs.Laws.{AreJudgedOnce}
 use Rattle.rb_judge.proofs.BlocksInOrder.{parsed_are_numbered}
 use Rattle.rb_judge.proofs.Verdicts.{have_one_verdict}
-use Rattle.rb_code.specs.Listing.{listing_text}
-use Rattle.rb_code.proofs.OneCode.{one_code_stands}
+use Rattle.rb_code.specs.Instructions.Listing.{listing_text}
+use Rattle.rb_code.proofs.Alike.OneCode.{one_code_stands}
 
 not_both_lengths : (text : List ℕ) {P : Type 0} → MOST_BYTES < length text → length text ≤ MOST_BYTES → P
 not_both_lengths text long short = absurd (omega (arith, long, short))

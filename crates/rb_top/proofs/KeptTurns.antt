@@ -9,9 +9,9 @@ use Rattle.rb_world.specs.Reject.{all_back, at_place, back_to, broken_talk, fall
 use Rattle.rb_world.specs.Standing.{Each}
 use Rattle.rb_world.specs.Turn.{all_leave, freed, leaves, moved_to, new_level, one_used, opened, opening_talks, stands_at, stands_now, state_freed, tried_at, turn_used}
 use Rattle.rb_world.specs.World.{Level, Process, Talk, change_at, copy_of, goes_on, is_inside, is_of, last_of, settled, with_memory, with_process, without_last}
-use Rattle.rb_world.proofs.EachProcess.{settled_each}
-use Rattle.rb_world.proofs.Induction.{run-keeps}
-use Rattle.rb_world.proofs.Invariant.{IsInvariant}
+use Rattle.rb_world.proofs.Keeping.EachProcess.{settled_each}
+use Rattle.rb_world.proofs.Keeping.Induction.{run-keeps}
+use Rattle.rb_world.proofs.Keeping.Invariant.{IsInvariant}
 use Rattle.rb_world.proofs.LevelFacts.{IsOldOrNew, IsOld, IsNew, get_more, get_take, get_without_last}
 use Rattle.rb_world.proofs.ListFacts.{Each-change_at, Each-map, none_some, some_same}
 use Rattle.rb_world.proofs.TurnFacts.{IsEntry, Alone, Joining, StepsAt, all_broken, all_next, all_spent, alternate_for, come_to_stand}
@@ -19,10 +19,10 @@ use Rattle.rb_meaning.specs.Environment.{Environment}
 use Rattle.rb_meaning.specs.Meaning.{TreeWorld, environment_of, opening_states, opening_world, run_of, tree_kind}
 use Rattle.rb_meaning.specs.State.{State, with_kept}
 use Rattle.rb_meaning.specs.Step.{Nothing, Result_of_step, enter, step, wants_first}
-use Rattle.rb_meaning.proofs.MailOfSteps.{Posts, Quiet, Posted, Collected}
-use Rattle.rb_meaning.proofs.StepsChangeMail.{IsPassed, steps_post}
-use Rattle.rb_meaning.proofs.StepsKeepRules.{StepsTo}
-use Rattle.rb_meaning.proofs.TreeErasure.{each_opening}
+use Rattle.rb_meaning.proofs.Trees.MailOfSteps.{Posts, Quiet, Posted, Collected}
+use Rattle.rb_meaning.proofs.Trees.StepsChangeMail.{IsPassed, steps_post}
+use Rattle.rb_meaning.proofs.Nesting.StepsKeepRules.{StepsTo}
+use Rattle.rb_meaning.proofs.Trees.TreeErasure.{each_opening}
 
 -- a kept turn is before turn t, and started no alternate above its own number
 pub record IsBefore (t : ℕ) (one : ℕ × ℕ) : Type 0 where

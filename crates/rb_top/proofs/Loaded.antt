@@ -1,7 +1,7 @@
 -- What an accepted source gives to the machine: its conversations, each with its count of alternates, and a run whose text, survivors and
 -- counts are those of the source's tree.
 use Rattle.std.proofs.Common.{◌≡◌, ℕ, zero, suc, ◌+◌, List, [], ◌∷◌, ◌++◌, length, map, slice_get, Some, refl, sym, ap, ap₂, subst, ◌∙◌}
-use Rattle.std.proofs.lemmas.List.{length-map, map-id}
+use Rattle.std.proofs.lemmas.List.{map-id}
 use Rattle.std.proofs.lemmas.Simd.{map-map}
 use Rattle.rb_base.specs.declared.names.Group.{Group}
 use Rattle.rb_base.specs.declared.names.Nested.{Nested}
@@ -14,26 +14,26 @@ use Rattle.rb_world.specs.Text.{Naming, record_text}
 use Rattle.rb_meaning.specs.Groups.{groups_of}
 use Rattle.rb_meaning.specs.Meaning.{naming_of, opening_world, run_text}
 use Rattle.rb_nest.specs.Groups.{alternates, membership as membership_told}
-use Rattle.rb_code.specs.Plain.{code}
-use Rattle.rb_code.specs.WellFormed.{IsSound}
-use Rattle.rb_code.specs.Laws.{Agrees}
-use Rattle.rb_code.specs.WordRun.{opening_of, word_run, word_text}
+use Rattle.rb_code.specs.Instructions.Plain.{code}
+use Rattle.rb_code.specs.SoundCode.WellFormed.{IsSound}
+use Rattle.rb_code.specs.Agreement.Laws.{Agrees}
+use Rattle.rb_code.specs.WordMachine.WordRun.{opening_of, word_run, word_text}
 use Rattle.rb_conv.specs.Conversations.{Conversation, membership, memberships, opened, opening, outsider}
 use Rattle.rb_conv.specs.declared.member.Member.{Member}
 use Rattle.rb_prepare.specs.Prepared.{IsPrepared}
 use Rattle.rb_prepare.specs.declared.preparing.Prepared.{Prepared}
-use Rattle.rb_prepare.proofs.AcceptedSources.{accepted_code_agrees, accepted_code_has_counts}
+use Rattle.rb_prepare.proofs.AcceptedSources.{accepted_code_agrees}
 use Rattle.rb_run.specs.Running.{NamesFit}
 use Rattle.rb_run.proofs.NamesFit.{names_fit}
-use Rattle.rb_machine.specs.Known.{HasCounts, IsLoaded}
 use Rattle.rb_machine.specs.Survivors.{word_survivors}
 use Rattle.rb_machine.specs.Worlds.{counts_of}
 use Rattle.rb_run.specs.Counting.{told_counts}
+use Rattle.rb_run.proofs.AsMeant.{text_as_meant}
 use Rattle.rb_run.proofs.Survived.{erased_over}
 use Rattle.rb_top.specs.Judgement.{run_counts, survivors_text}
 use Rattle.rb_top.specs.Products.{text_for, word_counts, word_text_for}
-use Rattle.rb_top.specs.declared.over.Product.{Product}
-use Rattle.rb_top.specs.declared.over.Product.TheVariants.{Text, Survivors}
+use Rattle.rb_top.specs.declared.over_schedule.Product.{Product}
+use Rattle.rb_top.specs.declared.over_schedule.Product.TheVariants.{Text, Survivors}
 
 -- at the opening a conversation has the members and the parent that it was given
 opened_group : (group : Group) → membership (opened group) ≡ membership_told group
@@ -65,26 +65,18 @@ module _ (source : List ℕ) (prepared : Prepared) (accepted : IsPrepared source
   groups_are : memberships (opening prepared.nested) ≡ groups_of accepted.tree
   groups_are = opened_groups prepared.nested.conversations.items ∙ accepted.conversations.groups
 
-  pub is_loaded : IsLoaded (code prepared.code) (memberships (opening prepared.nested)) (counts_of (opening prepared.nested))
-  is_loaded = record {
-    sound = subst (IsSound (code prepared.code)) (sym groups_are) accepted.is_code.sound;
-    as_many =
-        length-map (opening prepared.nested) (λ (one : Conversation). one.alternates) ∙ sym (length-map (opening prepared.nested) membership);
-    counted =
-        subst (HasCounts (code prepared.code)) (sym (opened_counts prepared.nested))
-        (accepted_code_has_counts source accepted.tree accepted.slots
-        (code prepared.code) accepted.accepted accepted.is_code.frames accepted.is_code.stands
-        prepared.nested accepted.conversations);
-  }
+  pub is_sound : IsSound (code prepared.code) (memberships (opening prepared.nested)) (counts_of (opening prepared.nested))
+  is_sound =
+      subst (λ (groups : List Membership). IsSound (code prepared.code) groups (counts_of (opening prepared.nested))) (sym groups_are)
+      (subst (IsSound (code prepared.code) (groups_of accepted.tree)) (sym (opened_counts prepared.nested)) accepted.is_code.sound)
 
   pub code_names_fit : NamesFit (code prepared.code) prepared.code.names
   code_names_fit = names_fit accepted.tree accepted.slots (code prepared.code) prepared.code.names accepted.is_code.stands refl
 
   pub runs_as_meant : (turns : List ℕ) → word_text (code prepared.code) (memberships (opening prepared.nested)) turns ≡ run_text accepted.tree turns
   runs_as_meant turns =
-      ap (λ (groups : List Membership). word_text (code prepared.code) groups turns) groups_are
-      ∙ (accepted_code_agrees source accepted.tree accepted.slots
-      (code prepared.code) accepted.accepted accepted.is_code.frames accepted.is_code.stands turns).text
+      text_as_meant (code prepared.code) (memberships (opening prepared.nested)) turns source accepted.tree accepted.slots
+      accepted.accepted accepted.is_code.frames accepted.is_code.stands groups_are
 
   -- its survivors are those of the tree
   survivors_as_meant : (turns : List ℕ)

@@ -10,8 +10,8 @@ use Rattle.rb_prepare.specs.Prepared.{IsPrepared}
 use Rattle.rb_prepare.specs.declared.preparing.Prepared.{Prepared}
 use Rattle.rb_top.specs.Words.{Command, Replay, Wanted, Request, plain_of, text_named}
 use Rattle.rb_top.specs.Products.{command_for, request_for, text_for}
-use Rattle.rb_top.specs.declared.over.Product.{Product}
-use Rattle.rb_top.specs.declared.over.Product.TheVariants.{Text, Survivors}
+use Rattle.rb_top.specs.declared.over_schedule.Product.{Product}
+use Rattle.rb_top.specs.declared.over_schedule.Product.TheVariants.{Text, Survivors}
 use Rattle.rb_top.specs.declared.status.Status.{Status}
 use Rattle.rb_top.specs.declared.status.Status.TheVariants.{Done, Refused, Usage, ReadFault, WriteFault, Memory}
 use Rattle.rb_top.specs.Judgement.{Judgement, ReadsOn, RefusedWith, Writes, long_source, bad_source, Accepted, long_schedule, bad_schedule, long_record, bad_record, stuck_record}

@@ -4,6 +4,7 @@ use Rattle.std.specs.List.{All, AllByRecursion}
 use Rattle.std.proofs.lemmas.List.{length-map}
 use Rattle.std.proofs.lemmas.List.Elements.{All-head, All-tail}
 use Rattle.std.proofs.lemmas.Simd.{map-map}
+use Rattle.rb_base.specs.declared.edition.Edition.{Edition}
 use Rattle.rb_base.specs.declared.limits.TheConstants.{MOST_TURNS}
 use Rattle.rb_syntax.specs.Tree.{ProcessDeclaration, Tree}
 use Rattle.rb_world.specs.Erased.{RisesFrom}
@@ -11,11 +12,11 @@ use Rattle.rb_base.specs.declared.kept.Kept.{Kept}
 use Rattle.rb_world.specs.Plain.{insert_all, insert_kept, survivors_from}
 use Rattle.rb_world.specs.Standing.{IsStanding}
 use Rattle.rb_world.specs.World.{Process}
-use Rattle.rb_world.proofs.StandingFacts.{standing}
+use Rattle.rb_world.proofs.Keeping.StandingFacts.{standing}
 use Rattle.rb_meaning.specs.Laws.{IsAlwaysErased}
 use Rattle.rb_meaning.specs.Meaning.{TreeWorld, naming_of, opening_states, process_named, run_of, survivors, tree_kind}
 use Rattle.rb_meaning.specs.State.{State}
-use Rattle.rb_meaning.proofs.TreeErasure.{erasure}
+use Rattle.rb_meaning.proofs.Trees.TreeErasure.{erasure}
 use Rattle.rb_scope.specs.Limits.{AreDistinct}
 use Rattle.rb_scope.specs.Spelled.{ProcessSpelled}
 use Rattle.rb_judge.specs.Verdict.{IsAccepted}
@@ -85,10 +86,13 @@ module _ (t n : ℕ) where
 names_again : (tree : Tree) → names_in (naming_of tree) ≡ names_of tree
 names_again tree = map-map (λ process. process.name) process_named tree.processes
 
-spelled_names : (processes : List ProcessDeclaration) → All ProcessSpelled processes → AreNames (map (λ process. process.name.text) processes)
-spelled_names [] all = tt
-spelled_names (process ∷ processes) all =
-    ((All-head ProcessSpelled process processes all).name.0, spelled_names processes (All-tail ProcessSpelled process processes all))
+spelled_names : (edition : Edition) (processes : List ProcessDeclaration) → All (ProcessSpelled edition) processes
+    → AreNames (map (λ process. process.name.text) processes)
+spelled_names edition [] all = tt
+spelled_names edition (process ∷ processes) all = (
+  (All-head (ProcessSpelled edition) process processes all).name.0,
+  spelled_names edition processes (All-tail (ProcessSpelled edition) process processes all),
+)
 
 -- ---- an accepted source
 
@@ -120,6 +124,6 @@ module _ (source : List ℕ) (tree : Tree) (accepted : IsAccepted source tree) (
       sym (ap (λ (names : List (List ℕ)). length names) (names_again tree) ∙ length-map tree.processes (λ process. process.name.text)) in
       ap (λ (names : List (List ℕ)). record_of names (survivors_text tree turns)) (sym (names_again tree))
       ∙ records_read_back (naming_of tree)
-      (subst AreNames (sym (names_again tree)) (spelled_names tree.processes (accepted_are_spelled source tree accepted).processes))
+      (subst AreNames (sym (names_again tree)) (spelled_names tree.edition tree.processes (accepted_are_spelled source tree accepted).processes))
       (subst AreDistinct (sym (names_again tree)) (accepted_have_distinct_names source tree accepted).processes)
       (survivors last) (subst (λ (n : ℕ). AreKept n 0 (survivors last)) many survivors_are_kept)

@@ -3,7 +3,7 @@ use Rattle.std.proofs.Common.{◌≡◌, ◌∙◌, ℕ, List, [], ◌∷◌, �
 use Rattle.rb_syntax.specs.Tree.{Tree}
 use Rattle.rb_meaning.specs.Laws.{IsErasedInText}
 use Rattle.rb_meaning.specs.Meaning.{run_of, run_text, survivors}
-use Rattle.rb_meaning.proofs.ErasedText.{erasure_in_text}
+use Rattle.rb_meaning.proofs.Trees.ErasedText.{erasure_in_text}
 use Rattle.rb_judge.proofs.Accepted.{of_accepted}
 use Rattle.rb_plain.specs.Record.{record_of}
 use Rattle.rb_sched.proofs.Walk.{turns_known}

@@ -1,6 +1,6 @@
 -- What the top call answers when, what it has written by then, and which files it has started, and how far it has read them.
-use Rattle.std.specs.Prelude.{◌≡◌, ◌⊎◌, ℕ, ◌+◌, ◌<◌, ◌≤◌, true, List, [], ◌∷◌, ◌++◌, length, Option, Some, None}
-use Rattle.rb_outside.specs.Outside.{File, Start, Faults, WrotePart, bytes_of, named, shut, told_starts, failed_once, was_missing, then_written}
+use Rattle.std.specs.Prelude.{◌≡◌, ◌⊎◌, ℕ, ◌+◌, ◌<◌, ◌≤◌, true, List, [], ◌∷◌, ◌++◌, length, drop, Option, Some, None}
+use Rattle.rb_outside.specs.Outside.{File, Start, Faults, WrotePart, bytes_of, named, failed_once, was_missing, then_written}
 use Rattle.rb_top.specs.Words.{Command, Run, Survive, Replay, Check, Compile, Trial, Wanted, Request}
 use Rattle.rb_top.specs.Judgement.{Judgement, ReadsOn, RefusedWith, Writes, Judges, usage_line}
 use Rattle.rb_top.specs.declared.status.Status.{Status}
@@ -13,6 +13,27 @@ pub record Scene : Type 0 where
   pub read_faults : Faults
   pub written : Option (List ℕ)
   pub write_faults : Faults
+
+-- the scene of a shelf and a sink, by what each tells
+abbrev pub scene_of : {F S : Type 0} → (F → Option (List File)) → (F → List Start) → (F → Faults) →
+    (S → Option (List ℕ)) → (S → Faults) → F → S → Scene
+scene_of files starts read_faults written write_faults shelf out = record {
+  files = files shelf;
+  starts = starts shelf;
+  read_faults = read_faults shelf;
+  written = written out;
+  write_faults = write_faults out;
+}
+
+-- the same before the newest start
+abbrev pub before_start : Scene → Scene
+before_start scene = record {
+  files = scene.files;
+  starts = drop 1 scene.starts;
+  read_faults = scene.read_faults;
+  written = scene.written;
+  write_faults = scene.write_faults;
+}
 
 -- a file is read in pieces of so many bytes, at most
 abbrev pub piece_bytes : ℕ
@@ -53,13 +74,11 @@ pub record StoppedAt (files : List File) (request : Request) (old new : List Sta
   pub not_far : last.passed ≤ next.most + piece_bytes
   pub started : new ≡ last ∷ starts ++ old
 
--- It stopped at its next file for a fault: of a start or a piece that is told, or of a start that is not, since so many are
--- told already.
-pub data StoppedByFault (files : List File) (request : Request) (old new : List Start) : Type 0 where
-  told : (next : Wanted) (last : Start) → StoppedAt files request old new next last → StoppedByFault files request old new
-  untold : (texts : List (List ℕ)) (next : Wanted) (rest : List Wanted) (starts : List Start) →
-      HasRead files request texts (next ∷ rest) starts → Judges request.command texts ReadsOn →
-      told_starts ≤ length (starts ++ old) → new ≡ shut (starts ++ old) → StoppedByFault files request old new
+-- it stopped at its next file, for a fault of a start or of a piece
+pub record StoppedByFault (files : List File) (request : Request) (old new : List Start) : Type 0 where
+  pub next : Wanted
+  pub last : Start
+  pub stopped : StoppedAt files request old new next last
 
 -- it stopped at its next file, which is not there
 pub record StoppedByMissing (files : List File) (request : Request) (old new : List Start) : Type 0 where
@@ -74,14 +93,37 @@ pub data RanOut (files : List File) (request : Request) (old new : List Start) :
       new ≡ starts ++ old → RanOut files request old new
   within : (next : Wanted) (last : Start) → StoppedAt files request old new next last → last.went ≡ true → RanOut files request old new
 
--- each of these where the shelf tells its files; where it does not, nothing is known
+-- Where a shelf tells no files: the command has read these texts, one after another, each after those before it let the command
+-- read on, and these files are left. From where the texts came is not told.
+pub data HasReadUntold (request : Request) : List (List ℕ) → List Wanted → Type 0 where
+  none_read : HasReadUntold request [] request.files
+  one_read : (texts : List (List ℕ)) (wanted : Wanted) (rest : List Wanted) (bytes : List ℕ) →
+      HasReadUntold request texts (wanted ∷ rest) → Judges request.command texts ReadsOn →
+      HasReadUntold request (texts ++ bytes ∷ []) rest
+
+-- the command ended with this judgement of the texts that it has read, from wherever
+pub record EndedUntold (request : Request) (judgement : Judgement) : Type 0 where
+  pub texts : List (List ℕ)
+  pub rest : List Wanted
+  pub read : HasReadUntold request texts rest
+  pub judged : Judges request.command texts judgement
+
+-- it stopped at its next file, which it wanted after these texts
+pub record StoppedUntold (request : Request) : Type 0 where
+  pub texts : List (List ℕ)
+  pub next : Wanted
+  pub rest : List Wanted
+  pub read : HasReadUntold request texts (next ∷ rest)
+  pub goes_on : Judges request.command texts ReadsOn
+
+-- how the command ended, whether the shelf tells its files or not
 abbrev pub EndedIn : Option (List File) → Request → List Start → List Start → Judgement → Type 0
-EndedIn None request old new judgement = Unit {0}
+EndedIn None request old new judgement = EndedUntold request judgement
 EndedIn (Some files) request old new judgement = Ended files request old new judgement
 
 -- the same of a stop for a fault
 abbrev pub StoppedByFaultIn : Option (List File) → Request → List Start → List Start → Type 0
-StoppedByFaultIn None request old new = Unit {0}
+StoppedByFaultIn None request old new = StoppedUntold request
 StoppedByFaultIn (Some files) request old new = StoppedByFault files request old new
 
 -- the same of a stop at a file that is not there, of which only a shelf that tells its files may speak
@@ -89,7 +131,7 @@ abbrev pub StoppedByMissingIn : Option (List File) → Request → List Start �
 StoppedByMissingIn None request old new = ⊥
 StoppedByMissingIn (Some files) request old new = StoppedByMissing files request old new
 
--- the same of want of memory
+-- the same of want of memory, which may come at any time, so that nothing is known where no files are told
 abbrev pub RanOutIn : Option (List File) → Request → List Start → List Start → Type 0
 RanOutIn None request old new = Unit {0}
 RanOutIn (Some files) request old new = RanOut files request old new

@@ -14,9 +14,9 @@ use Rattle.rb_judge.specs.Verdict.{IsAccepted, IsRefusedFor}
 use Rattle.rb_scope.specs.InFrames.{Resolved}
 use Rattle.rb_scope.specs.Resolved.{IsResolved}
 use Rattle.rb_scope.specs.declared.slot.Slot.{Slot}
-use Rattle.rb_code.specs.Plain.{Code}
-use Rattle.rb_code.specs.Listing.{listing_text}
-use Rattle.rb_code.specs.StandsFor.{StandsFor}
+use Rattle.rb_code.specs.Instructions.Plain.{Code}
+use Rattle.rb_code.specs.Instructions.Listing.{listing_text}
+use Rattle.rb_code.specs.Agreement.StandsFor.{StandsFor}
 use Rattle.rb_sched.specs.Schedule.{schedule_of}
 use Rattle.rb_plain.specs.Record.{record_of}
 use Rattle.rb_make.specs.Trial.{processes_of, schedule_of as made_schedule, source_of}

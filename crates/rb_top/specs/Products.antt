@@ -5,14 +5,14 @@ use Rattle.rb_world.specs.Kind.{Membership}
 use Rattle.rb_world.specs.Text.{record_text}
 use Rattle.rb_world.specs.Turn.{told_at_opening}
 use Rattle.rb_meaning.specs.Meaning.{run_text}
-use Rattle.rb_code.specs.Plain.{Code}
-use Rattle.rb_code.specs.WordRun.{opening_of, word_run, word_text}
+use Rattle.rb_code.specs.Instructions.Plain.{Code}
+use Rattle.rb_code.specs.WordMachine.WordRun.{opening_of, word_run, word_text}
 use Rattle.rb_machine.specs.Survivors.{word_survivors}
 use Rattle.rb_run.specs.Counting.{Counted, told_counts}
 use Rattle.rb_top.specs.Words.{Command, Run, Survive, Request, text_named}
 use Rattle.rb_top.specs.Judgement.{survivors_text}
-use Rattle.rb_top.specs.declared.over.Product.{Product}
-use Rattle.rb_top.specs.declared.over.Product.TheVariants.{Text, Survivors}
+use Rattle.rb_top.specs.declared.over_schedule.Product.{Product}
+use Rattle.rb_top.specs.declared.over_schedule.Product.TheVariants.{Text, Survivors}
 
 -- the command that makes it
 abbrev pub command_for : Product → Command

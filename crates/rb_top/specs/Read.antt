@@ -1,6 +1,6 @@
 -- A file as it is read, piece after piece.
 use Rattle.std.specs.Prelude.{◌≡◌, ◌≤◌, ◌+◌, ℕ, true, false, List, ◌∷◌, length, take, Option, Some, None, Result, Ok, Err}
-use Rattle.rb_outside.specs.Outside.{File, Faults, Start, IsOpen, IsUntold, begun, bytes_of, named, failed_once, was_missing}
+use Rattle.rb_outside.specs.Outside.{File, Faults, Start, IsOpen, begun, bytes_of, named, failed_once, was_missing}
 use Rattle.rb_top.specs.Answers.{IsRead, piece_bytes}
 use Rattle.rb_top.specs.declared.read.Unread.{Unread}
 use Rattle.rb_top.specs.declared.read.Unread.TheVariants.{Fault, Memory}
@@ -64,10 +64,9 @@ abbrev pub WasReadIn : Option (List File) → List ℕ → ℕ → List ℕ → 
 WasReadIn None name most bytes others now = Unit {0}
 WasReadIn (Some files) name most bytes others now = WasRead files name most bytes others now
 
--- A fault stopped the reading of a file: at its start, which is told or not, or which no file answered; or at a piece.
+-- a fault stopped the reading of a file: at its start, or since no file has the name, or at a piece
 pub data StopsForFault (files : List File) (name : List ℕ) (most : ℕ) (old new : List Start) (before after : Faults) : Type 0 where
   at_start : after ≡ failed_once before → new ≡ begun files name false ∷ old → StopsForFault files name most old new before after
-  untold : IsUntold old new before after → StopsForFault files name most old new before after
   missing : after ≡ was_missing before → bytes_of files name ≡ None → new ≡ begun files name false ∷ old
       → StopsForFault files name most old new before after
   within : after ≡ failed_once before → StandsAt files name (most + piece_bytes) old new → StopsForFault files name most old new before after

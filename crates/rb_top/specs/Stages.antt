@@ -7,7 +7,7 @@ use Rattle.rb_prepare.specs.Prepared.{IsPrepared}
 use Rattle.rb_prepare.specs.declared.preparing.Prepared.{Prepared}
 use Rattle.rb_top.specs.Judgement.{Judgement, ReadsOn, OverSchedule, RefusedWith, Writes, SourceRefused}
 use Rattle.rb_top.specs.Words.{Wanted, Request}
-use Rattle.rb_top.specs.Answers.{HasRead}
+use Rattle.rb_top.specs.Answers.{HasRead, HasReadUntold}
 use Rattle.rb_run.specs.declared.surviving.Ended.{Ended}
 use Rattle.rb_run.specs.declared.surviving.Ended.TheVariants as ended
 use Rattle.rb_top.specs.declared.read.Unread.{Unread}
@@ -21,9 +21,9 @@ pub record HasReadSince (files : List File) (request : Request) (texts : List (L
   pub read : HasRead files request texts rest starts
   pub started : now ≡ starts ++ old
 
--- the same, where files are told
+-- the same, whether files are told or not
 abbrev pub HasReadIn : Option (List File) → Request → List (List ℕ) → List Wanted → List Start → List Start → Type 0
-HasReadIn None request texts rest old now = Unit {0}
+HasReadIn None request texts rest old now = HasReadUntold request texts rest
 HasReadIn (Some files) request texts rest old now = HasReadSince files request texts rest old now
 
 -- The command has read a source of at most as many bytes as a text may have, and of it this was found; these files are left.

@@ -1,7 +1,7 @@
 //! The command `code`.
 ghost use Rattle.std.specs.Prelude.{◌≡◌, [], ◌∷◌};
 ghost use Rattle.rb_top.specs.Words.{code_of};
-ghost use Rattle.rb_top.specs.Answers.{Scene, WithRequest};
+ghost use Rattle.rb_top.specs.Answers.{scene_of, WithRequest};
 ghost use Rattle.rb_top.specs.Judgement.{JudgesSource, CodeGoesOn};
 ghost use Rattle.rb_top.specs.Stages.{StageEnds};
 
@@ -22,8 +22,8 @@ pub fn code_file<F: Shelf, S: Sink>(
 ) -> Status
     ensures files { F.files shelf.new ≡ F.files shelf.old }
     ensures answers { WithRequest (code_of source.now)
-        (record { files = F.files shelf.old; starts = F.starts shelf.old; read_faults = F.faults shelf.old; written = S.written out.old; write_faults = S.faults out.old })
-        (record { files = F.files shelf.new; starts = F.starts shelf.new; read_faults = F.faults shelf.new; written = S.written out.new; write_faults = S.faults out.new })
+        (scene_of F.files F.starts F.faults S.written S.faults shelf.old out.old)
+        (scene_of F.files F.starts F.faults S.written S.faults shelf.new out.new)
         result }
 {
     match read_file(alloc, shelf, source, MOST_BYTES) {

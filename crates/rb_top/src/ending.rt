@@ -2,6 +2,7 @@
 ghost use Rattle.std.specs.Prelude.{◌≡◌};
 ghost use Rattle.rb_outside.specs.Outside.{went_well};
 ghost use Rattle.rb_top.specs.Words.{request_of};
+ghost use Rattle.rb_top.specs.Answers.{scene_of};
 ghost use Rattle.rb_top.specs.Ending.{IsUnwritten, EndsWithNumber, Finishes};
 
 use crate::status::{Status, status_after};
@@ -29,8 +30,8 @@ pub fn carry_out<F: Shelf, S: Sink + Drop>(
     requires { IsUnwritten (S.written out) }
     ensures files { F.files shelf.new ≡ F.files shelf.old }
     ensures ends { EndsWithNumber (request_of words.now)
-        (record { files = F.files shelf.old; starts = F.starts shelf.old; read_faults = F.faults shelf.old; written = S.written out; write_faults = went_well (S.faults out) })
-        (record { files = F.files shelf.new; starts = F.starts shelf.new; read_faults = F.faults shelf.new; written = S.written result.sink; write_faults = S.faults result.sink })
+        (scene_of F.files F.starts F.faults S.written (λ sink. went_well (S.faults sink)) shelf.old out)
+        (scene_of F.files F.starts F.faults S.written S.faults shelf.new result.sink)
         result.number }
 {
     let Ok(memory) = buffer_memory(alloc) else {

@@ -1,5 +1,5 @@
 //! Laws of judgements.
-ghost use Rattle.rb_top.specs.Laws.{AreJudged, AreJudgedOnce, SurvivorsReplay};
+ghost use Rattle.rb_top.specs.Laws.{AreJudged, AreJudgedOnce, SurvivorsEndAlike, SurvivorsReplay};
 
 /// The texts of a command's files are judged in one way at most: it is refused with one line, or writes one text.
 pub fn are_judged_once()
@@ -14,4 +14,9 @@ pub fn are_judged()
 /// What `plain` writes of what `survive` wrote has the `out` lines of `run`, in their order, and its values.
 pub fn survivors_replay()
     ensures { SurvivorsReplay }
+{}
+
+/// Of every accepted source the survivors of a run, run alone, come to the end to which the run came.
+pub fn survivors_end_alike()
+    ensures { SurvivorsEndAlike }
 {}

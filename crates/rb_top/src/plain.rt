@@ -6,7 +6,7 @@ ghost use Rattle.rb_syntax.specs.Plain.{tree};
 ghost use Rattle.rb_plain.specs.Record.{record_of};
 ghost use Rattle.rb_plain.specs.Recorded.{IsRefusedFor};
 ghost use Rattle.rb_top.specs.Words.{plain_of, text_named};
-ghost use Rattle.rb_top.specs.Answers.{Scene, WithRequest};
+ghost use Rattle.rb_top.specs.Answers.{scene_of, before_start, WithRequest};
 ghost use Rattle.rb_top.specs.Judgement.{PlainGoesOn, names_of};
 ghost use Rattle.rb_top.specs.Read.{WasReadIn};
 ghost use Rattle.rb_top.specs.Stages.{HasSource, WritingStageEnds};
@@ -32,8 +32,8 @@ pub fn plain_files<F: Shelf, S: Sink>(
 ) -> Status
     ensures files { F.files shelf.new ≡ F.files shelf.old }
     ensures answers { WithRequest (plain_of source.now kept.now)
-        (record { files = F.files shelf.old; starts = F.starts shelf.old; read_faults = F.faults shelf.old; written = S.written out.old; write_faults = S.faults out.old })
-        (record { files = F.files shelf.new; starts = F.starts shelf.new; read_faults = F.faults shelf.new; written = S.written out.new; write_faults = S.faults out.new })
+        (scene_of F.files F.starts F.faults S.written S.faults shelf.old out.old)
+        (scene_of F.files F.starts F.faults S.written S.faults shelf.new out.new)
         result }
 {
     match read_file(alloc, shelf, source, MOST_BYTES) {
@@ -54,8 +54,8 @@ fn plain_source<F: Shelf, S: Sink>(
     requires { WasReadIn (F.files shelf.old) source.now MOST_BYTES bytes.now (drop 1 (F.starts shelf.old)) (F.starts shelf.old) }
     ensures files { F.files shelf.new ≡ F.files shelf.old }
     ensures answers { WithRequest (plain_of source.now kept.now)
-        (record { files = F.files shelf.old; starts = drop 1 (F.starts shelf.old); read_faults = F.faults shelf.old; written = S.written out.old; write_faults = S.faults out.old })
-        (record { files = F.files shelf.new; starts = F.starts shelf.new; read_faults = F.faults shelf.new; written = S.written out.new; write_faults = S.faults out.new })
+        (before_start (scene_of F.files F.starts F.faults S.written S.faults shelf.old out.old))
+        (scene_of F.files F.starts F.faults S.written S.faults shelf.new out.new)
         result }
 {
     match judged_source(alloc, bytes, out) {
@@ -77,8 +77,8 @@ fn read_record<F: Shelf, S: Sink>(
         (text_named kept.now ∷ []) (drop 1 (F.starts shelf.old)) (F.starts shelf.old) }
     ensures files { F.files shelf.new ≡ F.files shelf.old }
     ensures answers { WithRequest (plain_of source.now kept.now)
-        (record { files = F.files shelf.old; starts = drop 1 (F.starts shelf.old); read_faults = F.faults shelf.old; written = S.written out.old; write_faults = S.faults out.old })
-        (record { files = F.files shelf.new; starts = F.starts shelf.new; read_faults = F.faults shelf.new; written = S.written out.new; write_faults = S.faults out.new })
+        (before_start (scene_of F.files F.starts F.faults S.written S.faults shelf.old out.old))
+        (scene_of F.files F.starts F.faults S.written S.faults shelf.new out.new)
         result }
 {
     let _ = source;

@@ -3,12 +3,11 @@ ghost use Rattle.std.specs.Prelude.{◌≡◌};
 ghost use Rattle.rb_top.specs.Words.{request_of};
 ghost use Rattle.rb_top.specs.Asked.{asked};
 ghost use Rattle.rb_top.specs.Complete.{IsComplete};
-ghost use Rattle.rb_top.specs.Answers.{Scene, WithRequest, WhereRequested};
-ghost use Rattle.rb_top.specs.Laws.{SurvivorsEndAlike};
+ghost use Rattle.rb_top.specs.Answers.{scene_of, WithRequest, WhereRequested};
 
 use crate::check::check_file;
 use crate::code::code_file;
-use crate::over::{Product, over_files};
+use crate::over_schedule::{Product, over_files};
 use crate::plain::plain_files;
 use crate::refuse::put_usage;
 use crate::request::{Request, requested};
@@ -29,8 +28,6 @@ use std::alloc::Global;
 /// written; after a read or a write that failed there was no other. By `complete` a call whose files stand on the shelf,
 /// and in which no count of faults rose, ends as the verdict on the texts says, or for want of memory. A count that stood
 /// at its last value before the call counts as risen, so `complete` says nothing there, and `answers` says what may come.
-/// By `erased` the record that `survive` writes of an accepted source runs alone to the end to which `run` came.
-#[tactic(auto, using(crate::proofs::ErasedAccepted::survivors_end_alike))]
 pub fn command<F: Shelf, S: Sink>(
     alloc: Global,
     words: &Words,
@@ -39,14 +36,13 @@ pub fn command<F: Shelf, S: Sink>(
 ) -> Status
     ensures files { F.files shelf.new ≡ F.files shelf.old }
     ensures answers { WhereRequested (request_of words.now)
-        (record { files = F.files shelf.old; starts = F.starts shelf.old; read_faults = F.faults shelf.old; written = S.written out.old; write_faults = S.faults out.old })
-        (record { files = F.files shelf.new; starts = F.starts shelf.new; read_faults = F.faults shelf.new; written = S.written out.new; write_faults = S.faults out.new })
+        (scene_of F.files F.starts F.faults S.written S.faults shelf.old out.old)
+        (scene_of F.files F.starts F.faults S.written S.faults shelf.new out.new)
         result }
     ensures complete { IsComplete (request_of words.now)
-        (record { files = F.files shelf.old; starts = F.starts shelf.old; read_faults = F.faults shelf.old; written = S.written out.old; write_faults = S.faults out.old })
-        (record { files = F.files shelf.new; starts = F.starts shelf.new; read_faults = F.faults shelf.new; written = S.written out.new; write_faults = S.faults out.new })
+        (scene_of F.files F.starts F.faults S.written S.faults shelf.old out.old)
+        (scene_of F.files F.starts F.faults S.written S.faults shelf.new out.new)
         result }
-    ensures erased { SurvivorsEndAlike }
 {
     let Ok(given) = requested(alloc, words) else {
         return Status::Memory;
@@ -65,8 +61,8 @@ fn answer<F: Shelf, S: Sink>(
 ) -> Status
     ensures files { F.files shelf.new ≡ F.files shelf.old }
     ensures answers { WithRequest (asked request.entry)
-        (record { files = F.files shelf.old; starts = F.starts shelf.old; read_faults = F.faults shelf.old; written = S.written out.old; write_faults = S.faults out.old })
-        (record { files = F.files shelf.new; starts = F.starts shelf.new; read_faults = F.faults shelf.new; written = S.written out.new; write_faults = S.faults out.new })
+        (scene_of F.files F.starts F.faults S.written S.faults shelf.old out.old)
+        (scene_of F.files F.starts F.faults S.written S.faults shelf.new out.new)
         result }
 {
     match request {

@@ -1,7 +1,7 @@
 //! The command `trial`.
 ghost use Rattle.std.specs.Prelude.{◌≡◌, ◌≤◌, ◌<◌, ℕ, List, [], length};
 ghost use Rattle.rb_base.specs.declared.limits.TheConstants.{MOST_BYTES, MOST_TURNS};
-ghost use Rattle.rb_code.specs.Plain.{code as plain};
+ghost use Rattle.rb_code.specs.Instructions.Plain.{code as plain};
 ghost use Rattle.rb_conv.specs.Conversations.{memberships, opening};
 ghost use Rattle.rb_make.specs.Trial.{schedule_of as made_schedule, source_of};
 ghost use Rattle.rb_prepare.specs.Prepared.{IsPrepared};

@@ -1,5 +1,5 @@
 use Rattle.std.proofs.Common.{[], ◌∷◌, refl}
-use Rattle.rb_code.specs.Plain.{code}
+use Rattle.rb_code.specs.Instructions.Plain.{code}
 use Rattle.rb_top.specs.Judgement.{JudgesSource, CodeGoesOn, lists, source_accepted}
 use Rattle.rb_top.specs.Stages.{EndsForSource}
 use Rattle.rb_top.proofs.Answering.{text_ends}

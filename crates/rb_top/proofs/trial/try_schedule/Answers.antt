@@ -1,5 +1,5 @@
 use Rattle.std.proofs.Common.{◌≡◌, length, ap}
-use Rattle.rb_code.specs.Plain.{code}
+use Rattle.rb_code.specs.Instructions.Plain.{code}
 use Rattle.rb_conv.specs.Conversations.{memberships, opening}
 use Rattle.rb_top.specs.Judgement.{Writes, summary_of, summary_text, text_line}
 use Rattle.rb_top.specs.Products.{word_counts}

@@ -1,16 +1,16 @@
 use Rattle.std.proofs.Common.{◌≡◌, ℕ, length, sym, ap, ap₂, ◌∙◌}
-use Rattle.rb_code.specs.Plain.{code}
+use Rattle.rb_code.specs.Instructions.Plain.{code}
 use Rattle.rb_conv.specs.Conversations.{memberships, opening}
 use Rattle.rb_machine.specs.Machine.{Seen, opening_seen}
 use Rattle.rb_run.specs.Counting.{Counted, counts}
 use Rattle.rb_top.specs.Judgement.{Writes, summary_of}
 use Rattle.rb_top.specs.Products.{word_counts}
 use Rattle.rb_top.proofs.Answering.{text_ends}
-use Rattle.rb_top.proofs.Loaded.{is_loaded}
+use Rattle.rb_top.proofs.Loaded.{is_sound}
 use Rattle.rb_top.proofs.trial.try_turns.Goals as goal
 
-pub load-requires-clause-loaded : goal.load-requires-clause-loaded
-load-requires-clause-loaded g c = is_loaded c.requires.prepared.0 c.args.prepared.now c.requires.prepared.1
+pub load-requires-clause-sound : goal.load-requires-clause-sound
+load-requires-clause-sound g c = is_sound c.requires.prepared.0 c.args.prepared.now c.requires.prepared.1
 
 pub count-counts-requires-clause-fresh : goal.count-counts-requires-clause-fresh
 count-counts-requires-clause-fresh g c =

@@ -6,7 +6,7 @@ use Rattle.rb_top.specs.Judgement.{JudgesSource, OverSchedule, ReadsOn, at_first
 use Rattle.rb_top.specs.Stages.{EndsForSource}
 use Rattle.rb_top.proofs.Answering.{nothing_read}
 use Rattle.rb_top.proofs.Sources.{judges_for, source_ends, source_judged, source_read, stage_as}
-use Rattle.rb_top.proofs.over.over_source.Goals as goal
+use Rattle.rb_top.proofs.over_schedule.over_source.Goals as goal
 
 pub returns-in-Err-clause-answers : goal.returns-in-Err-clause-answers
 returns-in-Err-clause-answers g c =

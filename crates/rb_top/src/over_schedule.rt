@@ -1,22 +1,22 @@
 //! The commands `run` and `survive`, which read a source and a schedule for it.
 ghost use Rattle.std.specs.Prelude.{◌≡◌, ◌≤◌, ℕ, List, [], ◌∷◌, drop, length};
 ghost use Rattle.rb_base.specs.declared.limits.TheConstants.{MOST_BYTES, MOST_TURNS};
-ghost use Rattle.rb_code.specs.Plain.{code as plain};
+ghost use Rattle.rb_code.specs.Instructions.Plain.{code as plain};
 ghost use Rattle.rb_conv.specs.Conversations.{memberships, opening};
 ghost use Rattle.rb_prepare.specs.Prepared.{IsPrepared};
 ghost use Rattle.rb_top.specs.Words.{text_named};
 ghost use Rattle.rb_top.specs.Products.{request_for, text_for, word_text_for};
-ghost use Rattle.rb_top.specs.Answers.{Scene, WithRequest};
+ghost use Rattle.rb_top.specs.Answers.{scene_of, before_start, WithRequest};
 ghost use Rattle.rb_top.specs.Judgement.{Writes};
 ghost use Rattle.rb_top.specs.Read.{WasReadIn};
 ghost use Rattle.rb_top.specs.Stages.{EndsForSchedule, HasSource, StageEnds};
 
 use crate::read::read_file;
 use crate::refuse::{refuse_long, refuse_text};
-use crate::run::run_turns;
+use crate::run_turns::run_turns;
 use crate::source::prepared_source;
 use crate::status::{Status, status_after};
-use crate::survive::survive_turns;
+use crate::survive_turns::survive_turns;
 use rb_base::MOST_BYTES;
 use rb_outside::{Shelf, Sink};
 use rb_prepare::Prepared;
@@ -45,8 +45,8 @@ pub fn over_files<F: Shelf, S: Sink>(
 ) -> Status
     ensures files { F.files shelf.new ≡ F.files shelf.old }
     ensures answers { WithRequest (request_for product source.now schedule.now)
-        (record { files = F.files shelf.old; starts = F.starts shelf.old; read_faults = F.faults shelf.old; written = S.written out.old; write_faults = S.faults out.old })
-        (record { files = F.files shelf.new; starts = F.starts shelf.new; read_faults = F.faults shelf.new; written = S.written out.new; write_faults = S.faults out.new })
+        (scene_of F.files F.starts F.faults S.written S.faults shelf.old out.old)
+        (scene_of F.files F.starts F.faults S.written S.faults shelf.new out.new)
         result }
 {
     match read_file(alloc, shelf, source, MOST_BYTES) {
@@ -76,8 +76,8 @@ fn over_source<F: Shelf, S: Sink>(
     requires { WasReadIn (F.files shelf.old) source.now MOST_BYTES bytes.now (drop 1 (F.starts shelf.old)) (F.starts shelf.old) }
     ensures files { F.files shelf.new ≡ F.files shelf.old }
     ensures answers { WithRequest (request_for product source.now schedule.now)
-        (record { files = F.files shelf.old; starts = drop 1 (F.starts shelf.old); read_faults = F.faults shelf.old; written = S.written out.old; write_faults = S.faults out.old })
-        (record { files = F.files shelf.new; starts = F.starts shelf.new; read_faults = F.faults shelf.new; written = S.written out.new; write_faults = S.faults out.new })
+        (before_start (scene_of F.files F.starts F.faults S.written S.faults shelf.old out.old))
+        (scene_of F.files F.starts F.faults S.written S.faults shelf.new out.new)
         result }
 {
     match prepared_source(alloc, bytes, out) {
@@ -101,8 +101,8 @@ fn read_schedule<F: Shelf, S: Sink>(
         (F.starts shelf.old) }
     ensures files { F.files shelf.new ≡ F.files shelf.old }
     ensures answers { WithRequest (request_for product source.now schedule.now)
-        (record { files = F.files shelf.old; starts = drop 1 (F.starts shelf.old); read_faults = F.faults shelf.old; written = S.written out.old; write_faults = S.faults out.old })
-        (record { files = F.files shelf.new; starts = F.starts shelf.new; read_faults = F.faults shelf.new; written = S.written out.new; write_faults = S.faults out.new })
+        (before_start (scene_of F.files F.starts F.faults S.written S.faults shelf.old out.old))
+        (scene_of F.files F.starts F.faults S.written S.faults shelf.new out.new)
         result }
 {
     let _ = source;

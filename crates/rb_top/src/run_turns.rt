@@ -1,8 +1,8 @@
 //! The last stage of `run`: a source runs over the turns of a schedule.
 ghost use Rattle.std.specs.Prelude.{◌≡◌, ◌≤◌, ◌<◌, ℕ, List, length};
 ghost use Rattle.rb_base.specs.declared.limits.TheConstants.{MOST_TURNS};
-ghost use Rattle.rb_code.specs.Plain.{code as plain};
-ghost use Rattle.rb_code.specs.WordRun.{word_text};
+ghost use Rattle.rb_code.specs.Instructions.Plain.{code as plain};
+ghost use Rattle.rb_code.specs.WordMachine.WordRun.{word_text};
 ghost use Rattle.rb_conv.specs.Conversations.{memberships, opening};
 ghost use Rattle.rb_prepare.specs.Prepared.{IsPrepared};
 ghost use Rattle.rb_top.specs.Judgement.{Writes};

@@ -3,7 +3,7 @@ use Rattle.rb_top.specs.Words.{text_named}
 use Rattle.rb_top.specs.Products.{request_for}
 use Rattle.rb_top.proofs.Answering.{unread_ends}
 use Rattle.rb_top.proofs.Sources.{schedule_judged, schedule_wanted}
-use Rattle.rb_top.proofs.over.read_schedule.Goals as goal
+use Rattle.rb_top.proofs.over_schedule.read_schedule.Goals as goal
 
 pub over_schedule-requires : goal.over_schedule-requires
 over_schedule-requires g c = (c.requires.source, c.requires.accepted)

@@ -8,7 +8,7 @@ use Rattle.rb_top.specs.Judgement.{ReadsOn, at_first}
 use Rattle.rb_top.specs.Read.{WasReadIn}
 use Rattle.rb_top.proofs.Answering.{nothing_read, unread_ends, resumed, read_others, read_again}
 use Rattle.rb_top.proofs.Sources.{judges_for}
-use Rattle.rb_top.proofs.over.over_files.Goals as goal
+use Rattle.rb_top.proofs.over_schedule.over_files.Goals as goal
 
 pub over_source-requires : goal.over_source-requires
 over_source-requires g c =

@@ -1,16 +1,16 @@
 use Rattle.std.proofs.Common.{◌≡◌, sym, ap, subst, ◌∙◌}
-use Rattle.rb_code.specs.Plain.{code}
-use Rattle.rb_code.specs.WordRun.{word_text}
+use Rattle.rb_code.specs.Instructions.Plain.{code}
+use Rattle.rb_code.specs.WordMachine.WordRun.{word_text}
 use Rattle.rb_conv.specs.Conversations.{memberships, opening}
 use Rattle.rb_machine.specs.Machine.{Seen, opening_seen}
 use Rattle.rb_run.specs.Running.{NamesFit}
 use Rattle.rb_top.specs.Judgement.{Writes}
 use Rattle.rb_top.proofs.Answering.{text_ends}
-use Rattle.rb_top.proofs.Loaded.{code_names_fit, is_loaded}
-use Rattle.rb_top.proofs.run.run_turns.Goals as goal
+use Rattle.rb_top.proofs.Loaded.{code_names_fit, is_sound}
+use Rattle.rb_top.proofs.run_turns.run_turns.Goals as goal
 
-pub load-requires-clause-loaded : goal.load-requires-clause-loaded
-load-requires-clause-loaded g c = is_loaded c.requires.prepared.0 c.args.prepared.now c.requires.prepared.1
+pub load-requires-clause-sound : goal.load-requires-clause-sound
+load-requires-clause-sound g c = is_sound c.requires.prepared.0 c.args.prepared.now c.requires.prepared.1
 
 pub run-requires-clause-fresh : goal.run-requires-clause-fresh
 run-requires-clause-fresh g c =

@@ -1,4 +1,4 @@
-use Rattle.rb_top.proofs.over.over_turns.Given as goal
+use Rattle.rb_top.proofs.over_schedule.over_turns.Given as goal
 
 abbrev pub ghosts-run_turns : goal.ghosts-run_turns
 ghosts-run_turns g a = record { name = a.blank.name; parts = a.blank.parts }

@@ -1,17 +1,17 @@
 use Rattle.std.proofs.Common.{◌≡◌, sym, ap, ◌∙◌}
-use Rattle.rb_code.specs.Plain.{code}
-use Rattle.rb_code.specs.WordRun.{word_run}
+use Rattle.rb_code.specs.Instructions.Plain.{code}
+use Rattle.rb_code.specs.WordMachine.WordRun.{word_run}
 use Rattle.rb_conv.specs.Conversations.{memberships, opening}
 use Rattle.rb_machine.specs.Machine.{Seen, opening_seen}
 use Rattle.rb_machine.specs.Survivors.{word_survivors}
 use Rattle.rb_world.specs.Text.{record_text}
 use Rattle.rb_top.specs.Judgement.{Writes}
 use Rattle.rb_top.proofs.Answering.{survival_ends}
-use Rattle.rb_top.proofs.Loaded.{is_loaded}
-use Rattle.rb_top.proofs.survive.survive_turns.Goals as goal
+use Rattle.rb_top.proofs.Loaded.{is_sound}
+use Rattle.rb_top.proofs.survive_turns.survive_turns.Goals as goal
 
-pub load-requires-clause-loaded : goal.load-requires-clause-loaded
-load-requires-clause-loaded g c = is_loaded c.requires.prepared.0 c.args.prepared.now c.requires.prepared.1
+pub load-requires-clause-sound : goal.load-requires-clause-sound
+load-requires-clause-sound g c = is_sound c.requires.prepared.0 c.args.prepared.now c.requires.prepared.1
 
 pub survive-requires-clause-fresh : goal.survive-requires-clause-fresh
 survive-requires-clause-fresh g c =

@@ -1,8 +1,8 @@
 //! The last stage of `survive`: a source runs over the turns of a schedule with nothing printed, and its survivors are written.
 ghost use Rattle.std.specs.Prelude.{◌≡◌, ◌≤◌, ◌<◌, ℕ, List, length};
 ghost use Rattle.rb_base.specs.declared.limits.TheConstants.{MOST_TURNS};
-ghost use Rattle.rb_code.specs.Plain.{code as plain};
-ghost use Rattle.rb_code.specs.WordRun.{word_run};
+ghost use Rattle.rb_code.specs.Instructions.Plain.{code as plain};
+ghost use Rattle.rb_code.specs.WordMachine.WordRun.{word_run};
 ghost use Rattle.rb_conv.specs.Conversations.{memberships, opening};
 ghost use Rattle.rb_machine.specs.Survivors.{word_survivors};
 ghost use Rattle.rb_prepare.specs.Prepared.{IsPrepared};
