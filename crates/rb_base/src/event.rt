@@ -60,7 +60,7 @@ impl Cause {
 }
 
 /// What one turn did that is printed, beside released lines.
-#[derive(Clone, Copy, Debug, PartialEq, Eq)]
+#[derive(Clone, Copy)]
 pub enum Event {
     /// An alternate of the `ensure` whose word stands on the line is rejected.
     Reject {
@@ -108,7 +108,7 @@ pub const MOST_EVENTS: usize = 96;
 
 /// What a turn came to: nothing to do, a wait, a turn that was taken, or one that ended in a rejection,
 /// a trap or a failure.
-#[derive(Clone, Copy, Debug, PartialEq, Eq)]
+#[derive(Clone, Copy)]
 pub enum TurnKind {
     Idle,
     Wait,
@@ -117,7 +117,7 @@ pub enum TurnKind {
 }
 
 /// What one turn came to, and its events in the order in which they are printed.
-#[derive(Debug, Drop)]
+#[derive(Drop)]
 pub struct Report {
     pub kind: TurnKind,
     pub events: ArrayVec<Event, MOST_EVENTS>,

@@ -135,7 +135,7 @@ pub struct TextFault {
 }
 
 /// Why a source was not taken.
-#[derive(Clone, Copy, Debug, PartialEq, Eq)]
+#[derive(Clone, Copy, Debug)]
 pub enum Refusal {
     Fault(SourceFault),
     Memory,

@@ -6,7 +6,7 @@ use crate::text::Text;
 
 /// The names of a program that its printed lines and its schedules speak of, in the order of declaration. Each of them
 /// has a number of 32 bits.
-#[derive(Debug, Drop)]
+#[derive(Drop)]
 pub struct Names {
     pub processes: Vec<ProcessNames>,
     pub channels: Vec<Text>,
@@ -17,7 +17,7 @@ pub struct Names {
 }
 
 /// A process's name, and its process-level variables in order.
-#[derive(Debug, Drop)]
+#[derive(Drop)]
 pub struct ProcessNames {
     pub name: Text,
     pub variables: Vec<Variable>,
@@ -25,7 +25,7 @@ pub struct ProcessNames {
 
 /// A process-level variable: its name, its first word among the process's variables, and the number of
 /// elements of an array.
-#[derive(Debug, Drop)]
+#[derive(Drop)]
 pub struct Variable {
     pub name: Text,
     pub at: u32,
@@ -33,7 +33,7 @@ pub struct Variable {
 }
 
 /// The conversations of a program, in the order of declaration. Each of them has a number of 32 bits.
-#[derive(Debug, Drop)]
+#[derive(Drop)]
 pub struct Nested {
     pub conversations: Vec<Group>,
     ghost few: { vec_len conversations < 2 ^ 32 },
@@ -41,7 +41,7 @@ pub struct Nested {
 
 /// A conversation: its members in the order of declaration, the conversation right around it, and its
 /// number of alternates.
-#[derive(Debug, Drop)]
+#[derive(Drop)]
 pub struct Group {
     pub members: Vec<u32>,
     pub parent: Option<u32>,

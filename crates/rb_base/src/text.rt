@@ -22,7 +22,7 @@ impl<T: Drop> From<AllocFailed<T>> for Memory {
 }
 
 /// Bytes of one's own, as a name or a text of a source. Contracts see the list of the bytes.
-#[derive(Debug, Drop)]
+#[derive(Drop)]
 pub struct Text {
     bytes: Vec<u8>,
 }

@@ -4,7 +4,7 @@ use crate::instr::Instr;
 use rb_base::{Edition, Names, Text};
 
 /// The code of a program. Addresses are places in the list of instructions, from 0.
-#[derive(Debug, Drop)]
+#[derive(Drop)]
 pub struct Code {
     pub edition: Edition,
     pub instrs: Vec<Instr>,
@@ -17,7 +17,7 @@ pub struct Code {
 
 /// A process: the address of its body, how many words its variables have, the channels of which it is an end, in order, and its
 /// procedures.
-#[derive(Debug, Drop)]
+#[derive(Drop)]
 pub struct ProcessCode {
     pub start: u32,
     pub words: u32,
@@ -26,7 +26,7 @@ pub struct ProcessCode {
 }
 
 /// A procedure: its name and its first address.
-#[derive(Debug, Drop)]
+#[derive(Drop)]
 pub struct ProcedureCode {
     pub name: Text,
     pub start: u32,
@@ -34,7 +34,7 @@ pub struct ProcedureCode {
 
 /// A recovery block: the line of its word `ensure`, its conversation if it has one, its turn bound, and the addresses of the `turn`
 /// before its `start`, of the `turn` before its acceptance test, and of its alternates in order.
-#[derive(Debug, Drop)]
+#[derive(Drop)]
 pub struct BlockCode {
     pub line: u32,
     pub conversation: Option<u32>,
@@ -45,7 +45,7 @@ pub struct BlockCode {
 }
 
 /// A channel: the numbers of its sender and its receiver, and its size.
-#[derive(Clone, Copy, Debug, PartialEq, Eq)]
+#[derive(Clone, Copy)]
 pub struct ChannelCode {
     pub sender: u32,
     pub receiver: u32,

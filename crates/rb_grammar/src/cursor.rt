@@ -19,7 +19,7 @@ use std::marker::Model;
 
 /// Stands before a token of a source, and knows which. Contracts see the tokens left, how they end, and how many
 /// names and recoveries came before. A bracket with which too many are open is the last token, and a fault follows.
-#[derive(Debug, Drop)]
+#[derive(Drop)]
 pub struct Cursor<'a> {
     lexer: Lexer<'a>,
     ahead: Option<Token<'a>>,

@@ -1,7 +1,7 @@
 //! The levels of operators.
 /// How strongly operators bind, from the weakest on. Those of one level make one chain; a comparison, which stands
 /// between `and` and the sums, has one operator at most and is no level.
-#[derive(Clone, Copy, Debug, PartialEq, Eq)]
+#[derive(Clone, Copy)]
 pub enum Level {
     /// `or`
     Disjunction,

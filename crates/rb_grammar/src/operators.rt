@@ -8,14 +8,14 @@ use crate::terminal::Terminal;
 use rb_syntax::{Op, Quantifier};
 
 /// An operator, and the token that it is.
-#[derive(Clone, Copy, Debug)]
+#[derive(Clone, Copy)]
 pub struct Operator {
     pub terminal: Terminal,
     pub op: Op,
 }
 
 /// The word of a quantified expression, and the token that it is.
-#[derive(Clone, Copy, Debug)]
+#[derive(Clone, Copy)]
 pub struct Word {
     pub terminal: Terminal,
     pub kind: Quantifier,

@@ -3,7 +3,7 @@ use rb_base::SourceFault;
 use std::alloc::AllocFailed;
 
 /// Why the reading of a part stopped.
-#[derive(Clone, Copy, Debug)]
+#[derive(Clone, Copy)]
 pub enum Stop {
     /// The last token was taken, and this fault follows: the next token's own, or that of a bracket too many.
     Token(SourceFault),

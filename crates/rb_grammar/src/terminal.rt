@@ -7,7 +7,7 @@ ghost use Rattle.rb_grammar.specs.Spellings.{spelling_of};
 use rb_lex::{Kind, Token};
 
 /// What a token is to the grammar: a name, a number, a text, or which word or mark.
-#[derive(Clone, Copy, Debug, PartialEq, Eq)]
+#[derive(Clone, Copy)]
 pub enum Terminal {
     Name,
     Number,

@@ -11,7 +11,7 @@ use std::alloc::Global;
 
 /// An accepted source: its tree with what each name stands for, its conversations, and the names that lines and schedules
 /// speak of.
-#[derive(Debug, Drop)]
+#[derive(Drop)]
 pub struct Judged<'a> {
     pub checked: Checked<'a>,
     pub nested: Nested,

@@ -13,7 +13,7 @@ use std::marker::Model;
 
 /// Reads the tokens of a source, one at a time. Contracts see the edition, the place of the next byte and
 /// the bytes left.
-#[derive(Debug, Drop)]
+#[derive(Drop)]
 pub struct Lexer<'a> {
     edition: Edition,
     place: Place,

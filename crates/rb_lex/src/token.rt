@@ -14,7 +14,7 @@ pub enum Kind {
 }
 
 /// A token: its kind, its whole slice of the source, quotes included, and the place of its first byte.
-#[derive(Clone, Copy, Debug)]
+#[derive(Clone, Copy)]
 pub struct Token<'a> {
     pub kind: Kind,
     pub text: &'a [u8],

@@ -7,7 +7,7 @@ ghost use Rattle.rb_machine.specs.Telling.{is_alone};
 use rb_base::{Event, TurnKind};
 
 /// The kind of a turn, and the event of a test line that was passed in it.
-#[derive(Clone, Copy, Debug, PartialEq, Eq)]
+#[derive(Clone, Copy)]
 pub struct Came {
     pub kind: TurnKind,
     pub pass: Option<Event>,

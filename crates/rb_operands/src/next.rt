@@ -3,7 +3,7 @@
 use rb_base::Cause;
 
 /// Where one instruction leads.
-#[derive(Clone, Copy, Debug)]
+#[derive(Clone, Copy)]
 pub enum Next {
     /// On at an address.
     Go(u32),
@@ -15,7 +15,7 @@ pub enum Next {
 }
 
 /// Where all instructions up to an end lead.
-#[derive(Clone, Copy, Debug)]
+#[derive(Clone, Copy)]
 pub enum Ended {
     /// The turn is over at an address.
     Stop(u32),

@@ -11,7 +11,7 @@ use rb_syntax::{Channel, Conversation};
 use std::alloc::Global;
 
 /// The channels and conversations of a program.
-#[derive(Debug, Drop)]
+#[derive(Drop)]
 pub(crate) struct Connections<'a> {
     pub(crate) channels: Vec<Channel<'a>>,
     pub(crate) conversations: Vec<Conversation<'a>>,

@@ -3,7 +3,7 @@
 use rb_outside::Failed;
 
 /// Why a plain run wrote no whole text.
-#[derive(Clone, Copy, Debug, PartialEq, Eq)]
+#[derive(Clone, Copy)]
 pub enum PlainAnswer {
     /// The turn of this number could not be taken.
     Stuck(u32),

@@ -21,7 +21,7 @@ pub enum RecordRefusal {
 }
 
 /// The kept turns of a run, in the order of their numbers. Contracts see their list.
-#[derive(Debug, Drop)]
+#[derive(Drop)]
 pub struct Record {
     turns: Vec<Kept>,
 }

@@ -11,7 +11,7 @@ use rb_judge::judge;
 use std::alloc::Global;
 
 /// An accepted source as it is executed: its code, with the names that lines and schedules speak of, and its conversations.
-#[derive(Debug, Drop)]
+#[derive(Drop)]
 pub struct Prepared {
     pub code: Code,
     pub nested: Nested,

@@ -3,7 +3,7 @@
 use rb_base::Cause;
 
 /// What a process wants of its next turn.
-#[derive(Clone, Copy, Debug, PartialEq, Eq)]
+#[derive(Clone, Copy)]
 pub enum Wanted {
     /// It is done, or has failed.
     Idle,
@@ -24,7 +24,7 @@ pub enum Wanted {
 }
 
 /// What a step came to.
-#[derive(Clone, Copy, Debug, PartialEq, Eq)]
+#[derive(Clone, Copy)]
 pub enum Outcome {
     /// The process goes on.
     Went,
@@ -36,7 +36,7 @@ pub enum Outcome {
 
 /// An open level as callers see it: of its recovery block the number, the line of its word `ensure`, the conversation if it has one, the
 /// turn bound and how many alternates it has; then the alternate that is tried, counted from 1, and the turns that the level used.
-#[derive(Clone, Copy, Debug, PartialEq, Eq)]
+#[derive(Clone, Copy)]
 pub struct LevelView {
     pub block: u32,
     pub line: u32,
@@ -48,7 +48,7 @@ pub struct LevelView {
 }
 
 /// Whether a process runs, is done, or has failed.
-#[derive(Clone, Copy, Debug, PartialEq, Eq)]
+#[derive(Clone, Copy)]
 pub enum ProcessStatus {
     Running,
     Finished,

@@ -16,7 +16,7 @@ use rb_sched::Schedule;
 use std::sync::ledger::Ledger;
 
 /// How many lines of each kind a run prints: released lines, rejections, passes of a test line, errors, and ends of processes.
-#[derive(Clone, Copy, Debug, PartialEq, Eq)]
+#[derive(Clone, Copy)]
 pub struct Counts {
     pub out: u64,
     pub reject: u64,

@@ -16,7 +16,7 @@ use rb_syntax::Program;
 use std::alloc::Global;
 
 /// A program whose names are resolved: what each name stands for, by the number of the name.
-#[derive(Debug, Drop)]
+#[derive(Drop)]
 pub struct Checked<'a> {
     pub program: Program<'a>,
     pub slots: Vec<Slot>,

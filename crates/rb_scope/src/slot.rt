@@ -2,7 +2,7 @@
 
 /// What a name of a source stands for. Processes, channels, conversations are numbered in the program, procedures in their
 /// process, each from 0 in the order of declaration.
-#[derive(Clone, Copy, Debug, PartialEq, Eq)]
+#[derive(Clone, Copy)]
 pub enum Slot {
     /// The name of the program itself, which belongs to no scope.
     ProgramName,

@@ -1,7 +1,7 @@
 //! What the use of a name asks for.
 
 /// What a use of a name wants it to stand for.
-#[derive(Clone, Copy, Debug, PartialEq, Eq)]
+#[derive(Clone, Copy)]
 pub enum Want {
     AProcess,
     AChannel,

@@ -3,7 +3,7 @@
 use rb_base::Place;
 
 /// A name where it stands. `id` numbers all names of the text from 0 in order.
-#[derive(Clone, Copy, Debug)]
+#[derive(Clone, Copy)]
 pub struct Name<'a> {
     pub text: &'a [u8],
     pub place: Place,
@@ -11,7 +11,7 @@ pub struct Name<'a> {
 }
 
 /// A number where it stands. It is not negative.
-#[derive(Clone, Copy, Debug, PartialEq, Eq)]
+#[derive(Clone, Copy)]
 pub struct Number {
     pub value: i64,
     pub place: Place,
@@ -19,7 +19,7 @@ pub struct Number {
 
 /// A variable, or an element of an array.
 #[cycle(expression)]
-#[derive(Debug, Drop)]
+#[derive(Drop)]
 pub struct Target<'a> {
     pub name: Name<'a>,
     pub index: Option<Box<Expr<'a>>>,
@@ -27,7 +27,7 @@ pub struct Target<'a> {
 
 /// An expression. Parentheses leave no node of their own.
 #[cycle(expression)]
-#[derive(Debug, Drop)]
+#[derive(Drop)]
 pub enum Expr<'a> {
     Number(Number),
     Value(Target<'a>),
@@ -42,7 +42,7 @@ pub enum Expr<'a> {
 
 /// An operator and its right operand.
 #[cycle(expression)]
-#[derive(Debug, Drop)]
+#[derive(Drop)]
 pub struct Link<'a> {
     pub op: Op,
     pub right: Expr<'a>,
@@ -50,7 +50,7 @@ pub struct Link<'a> {
 
 /// An expression over the numbers from `low` to `high`, which `name` stands for in the body.
 #[cycle(expression)]
-#[derive(Debug, Drop)]
+#[derive(Drop)]
 pub struct Quantified<'a> {
     pub kind: Quantifier,
     pub place: Place,
@@ -61,7 +61,7 @@ pub struct Quantified<'a> {
 }
 
 /// The words `every`, `some` and `sum`.
-#[derive(Clone, Copy, Debug, PartialEq, Eq)]
+#[derive(Clone, Copy)]
 pub enum Quantifier {
     Every,
     Any,
@@ -69,7 +69,7 @@ pub enum Quantifier {
 }
 
 /// An operator of two operands.
-#[derive(Clone, Copy, Debug, PartialEq, Eq)]
+#[derive(Clone, Copy)]
 pub enum Op {
     Or,
     And,

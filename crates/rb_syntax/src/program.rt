@@ -5,7 +5,7 @@ use crate::statement::{Block, Statement, Var};
 use rb_base::Edition;
 
 /// A whole program: `names` is the number of names in the text, `blocks` that of its recoveries.
-#[derive(Debug, Drop)]
+#[derive(Drop)]
 pub struct Program<'a> {
     pub name: Name<'a>,
     pub channels: Vec<Channel<'a>>,
@@ -17,7 +17,7 @@ pub struct Program<'a> {
 }
 
 /// A channel from one process to another, with room for `size` values.
-#[derive(Clone, Copy, Debug)]
+#[derive(Clone, Copy)]
 pub struct Channel<'a> {
     pub name: Name<'a>,
     pub sender: Name<'a>,
@@ -26,14 +26,14 @@ pub struct Channel<'a> {
 }
 
 /// A conversation and its members.
-#[derive(Debug, Drop)]
+#[derive(Drop)]
 pub struct Conversation<'a> {
     pub name: Name<'a>,
     pub members: Vec<Name<'a>>,
 }
 
 /// A process.
-#[derive(Debug, Drop)]
+#[derive(Drop)]
 pub struct Process<'a> {
     pub name: Name<'a>,
     pub vars: Vec<Var<'a>>,
@@ -42,7 +42,7 @@ pub struct Process<'a> {
 }
 
 /// A procedure of a process.
-#[derive(Debug, Drop)]
+#[derive(Drop)]
 pub struct Procedure<'a> {
     pub name: Name<'a>,
     pub params: Vec<Name<'a>>,

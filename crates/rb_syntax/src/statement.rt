@@ -4,7 +4,7 @@ use crate::expression::{Expr, Name, Number, Target};
 use rb_base::Place;
 
 /// A declaration of a variable, or of an array with its number of elements.
-#[derive(Clone, Copy, Debug)]
+#[derive(Clone, Copy)]
 pub struct Var<'a> {
     pub name: Name<'a>,
     pub size: Option<Number>,
@@ -12,7 +12,7 @@ pub struct Var<'a> {
 
 /// A block, which is a scope of its own.
 #[cycle(statement)]
-#[derive(Debug, Drop)]
+#[derive(Drop)]
 pub struct Block<'a> {
     pub vars: Vec<Var<'a>>,
     pub body: Vec<Statement<'a>>,
@@ -20,7 +20,7 @@ pub struct Block<'a> {
 
 /// A statement.
 #[cycle(statement)]
-#[derive(Debug, Drop)]
+#[derive(Drop)]
 pub enum Statement<'a> {
     Assign(Target<'a>, Expr<'a>),
     Print(Vec<Item<'a>>),
@@ -37,7 +37,7 @@ pub enum Statement<'a> {
 /// A recovery block, or a member's part of a conversation. Recoveries are numbered from 0 in the order of
 /// their word `ensure`, whose place this is.
 #[cycle(statement)]
-#[derive(Debug, Drop)]
+#[derive(Drop)]
 pub struct Recovery<'a> {
     pub number: u32,
     pub conversation: Option<Name<'a>>,
@@ -48,14 +48,14 @@ pub struct Recovery<'a> {
 }
 
 /// An item of a `print`, with the place of its first token.
-#[derive(Debug, Drop)]
+#[derive(Drop)]
 pub struct Item<'a> {
     pub place: Place,
     pub what: ItemKind<'a>,
 }
 
 /// A text, without its quotes, or a value.
-#[derive(Debug, Drop)]
+#[derive(Drop)]
 pub enum ItemKind<'a> {
     Text(&'a [u8]),
     Value(Expr<'a>),

@@ -26,7 +26,7 @@ use std::marker::Brand;
 use std::sync::ledger::Blank;
 
 /// What a command makes of a source and a schedule for it.
-#[derive(Clone, Copy, Debug, PartialEq, Eq)]
+#[derive(Clone, Copy)]
 pub enum Product {
     /// The text of the run, for `run`.
     Text,

@@ -13,7 +13,7 @@ use std::alloc::Global;
 const PIECE: usize = 4096;
 
 /// Why a file was not read.
-#[derive(Clone, Copy, Debug, PartialEq, Eq)]
+#[derive(Clone, Copy)]
 pub enum Unread {
     Fault,
     Memory,

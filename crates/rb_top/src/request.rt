@@ -15,7 +15,7 @@ use rb_base::Memory;
 use std::alloc::{AllocError, Global};
 
 /// What the words ask for, with the names of the files that are read for it.
-#[derive(Clone, Copy, Debug)]
+#[derive(Clone, Copy)]
 pub enum Request<'a> {
     /// The run of a source over a schedule.
     Run { source: &'a str, schedule: &'a str },

@@ -3,7 +3,7 @@
 use std::alloc::{AllocError, AllocFailed};
 
 /// A kept turn could not be taken: a trap, a wait, a test that does not hold, or an alternate that does not fit; or memory was short.
-#[derive(Clone, Copy, Debug, PartialEq, Eq)]
+#[derive(Clone, Copy)]
 pub enum Halt {
     Stuck,
     Memory,
