@@ -32,32 +32,18 @@ pub(crate) fn visit_expression<'a>(
 {
     match expression {
         Expr::Number(_) => Ok(()),
-        Expr::Value(target) => {
-            visit_reference(alloc, target, Want::AValue, spot, finder)?;
-            Ok(())
-        }
+        Expr::Value(target) => visit_reference(alloc, target, Want::AValue, spot, finder),
         Expr::Prior(place, target) => {
             looks_back(finder, *place, spot.in_test);
-            visit_reference(alloc, target, Want::AScalar, spot, finder)?;
-            Ok(())
+            visit_reference(alloc, target, Want::AScalar, spot, finder)
         }
-        Expr::Neg(operand) => {
-            visit_expression(alloc, operand, spot, finder)?;
-            Ok(())
-        }
-        Expr::Not(operand) => {
-            visit_expression(alloc, operand, spot, finder)?;
-            Ok(())
-        }
+        Expr::Neg(operand) => visit_expression(alloc, operand, spot, finder),
+        Expr::Not(operand) => visit_expression(alloc, operand, spot, finder),
         Expr::Chain(first, links) => {
             visit_expression(alloc, first, spot, finder)?;
-            visit_links(alloc, links, spot, finder)?;
-            Ok(())
+            visit_links(alloc, links, spot, finder)
         }
-        Expr::Quantified(quantified) => {
-            visit_quantified(alloc, quantified, spot, finder)?;
-            Ok(())
-        }
+        Expr::Quantified(quantified) => visit_quantified(alloc, quantified, spot, finder),
     }
 }
 
@@ -132,12 +118,13 @@ fn visit_quantified<'a>(
         slot: Slot::Counter(spot.quantified),
         parameters: 0,
     };
+    let quantified = sum(spot.quantified, 1)?;
     quantifies(finder, spot.quantified, over.place);
     let scope = counter_scope(alloc, one, finder)?;
     let limits = Spot {
         scopes: spot.scopes,
         taken: spot.taken,
-        quantified: sum(spot.quantified, 1)?,
+        quantified,
         in_test: spot.in_test,
     };
     visit_expression(alloc, &over.low, &limits, finder)?;
@@ -149,6 +136,5 @@ fn visit_quantified<'a>(
         quantified: limits.quantified,
         in_test: limits.in_test,
     };
-    visit_expression(alloc, &over.body, &body, finder)?;
-    Ok(())
+    visit_expression(alloc, &over.body, &body, finder)
 }

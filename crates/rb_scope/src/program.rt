@@ -38,9 +38,9 @@ fn procedure_scope<'a>(
         (scope_sites [] (procedure_scope (procedure_declaration procedure.now))
         ++ flat_map (λ one. size_sites one.size) (map declaration procedure.now.block.vars.items))) }
 {
+    let first = count(procedure.params.len())?;
     let mut declared = Vec::new(alloc);
     add_parameters(&mut declared, &procedure.params)?;
-    let first = count(procedure.params.len())?;
     add_variables(&mut declared, Kind::OfCall, first, &procedure.block.vars)?;
     let scope = scope_of(alloc, declared, finder)?;
     visit_sizes(&procedure.block.vars, finder);
@@ -57,20 +57,20 @@ fn visit_procedure<'a>(
 ) -> Result<(), Memory>
     ensures { OnOk result (finder.new ≡ visited finder.old (procedure_sites (spot_of spot.now) (procedure_declaration procedure.now))) }
 {
-    count_parameters(&procedure.params, finder);
-    let scope = procedure_scope(alloc, procedure, finder)?;
-    let scopes = Scopes::Within(&scope, spot.scopes);
     let parameters = count(procedure.params.len())?;
     let variables = words_in(&procedure.block.vars)?;
     let words = sum(parameters, variables)?;
+    let taken = sum(spot.taken, words)?;
+    count_parameters(&procedure.params, finder);
+    let scope = procedure_scope(alloc, procedure, finder)?;
+    let scopes = Scopes::Within(&scope, spot.scopes);
     let inner = Spot {
         scopes: &scopes,
-        taken: sum(spot.taken, words)?,
+        taken,
         quantified: spot.quantified,
         in_test: spot.in_test,
     };
-    visit_statements(alloc, &procedure.block.body, &inner, finder)?;
-    Ok(())
+    visit_statements(alloc, &procedure.block.body, &inner, finder)
 }
 
 /// Visits the sites of procedures in order.
@@ -131,8 +131,7 @@ fn visit_process<'a>(
         in_test: spot.in_test,
     };
     visit_procedures(alloc, &process.procedures, &inner, finder)?;
-    visit_statements(alloc, &process.body, &inner, finder)?;
-    Ok(())
+    visit_statements(alloc, &process.body, &inner, finder)
 }
 
 /// Visits the sites of processes in order.
@@ -233,6 +232,5 @@ pub(crate) fn visit_program<'a>(
     };
     visit_channels(&program.channels, &spot, finder);
     visit_conversations(&program.conversations, &spot, finder);
-    visit_processes(alloc, program.edition, &program.processes, &spot, finder)?;
-    Ok(())
+    visit_processes(alloc, program.edition, &program.processes, &spot, finder)
 }

@@ -31,43 +31,27 @@ fn visit_statement<'a>(
     ensures { OnOk result (finder.new ≡ visited finder.old (command_sites (spot_of spot.now) (command statement.now))) }
 {
     match statement {
-        Statement::Assign(target, value) => {
-            visit_assignment(alloc, target, value, spot, finder)?;
-            Ok(())
-        }
-        Statement::Print(items) => {
-            visit_printing(alloc, items, spot, finder)?;
-            Ok(())
-        }
-        Statement::Send(channel, value) => {
-            visit_sending(alloc, *channel, value, spot, finder)?;
-            Ok(())
-        }
+        Statement::Assign(target, value) => visit_assignment(alloc, target, value, spot, finder),
+        Statement::Print(items) => visit_printing(alloc, items, spot, finder),
+        Statement::Send(channel, value) => visit_sending(alloc, *channel, value, spot, finder),
         Statement::Receive(channel, target, otherwise) => {
             visit_receipt(alloc, *channel, target, spot, finder)?;
-            visit_otherwise(alloc, otherwise, spot, finder)?;
-            Ok(())
+            visit_otherwise(alloc, otherwise, spot, finder)
         }
         Statement::If(test, block, otherwise) => {
             visit_expression(alloc, test, spot, finder)?;
             visit_block(alloc, block, spot, finder)?;
-            visit_otherwise(alloc, otherwise, spot, finder)?;
-            Ok(())
+            visit_otherwise(alloc, otherwise, spot, finder)
         }
         Statement::While(test, block) => {
             visit_expression(alloc, test, spot, finder)?;
-            visit_block(alloc, block, spot, finder)?;
-            Ok(())
+            visit_block(alloc, block, spot, finder)
         }
         Statement::Call(procedure, arguments) => {
-            visit_call(alloc, *procedure, arguments, spot, finder)?;
-            Ok(())
+            visit_call(alloc, *procedure, arguments, spot, finder)
         }
         Statement::Fail => Ok(()),
-        Statement::Recover(recovery) => {
-            visit_recovery(alloc, recovery, spot, finder)?;
-            Ok(())
-        }
+        Statement::Recover(recovery) => visit_recovery(alloc, recovery, spot, finder),
     }
 }
 
@@ -84,10 +68,7 @@ fn visit_otherwise<'a>(
 {
     match otherwise {
         None => Ok(()),
-        Some(block) => {
-            visit_block(alloc, block, spot, finder)?;
-            Ok(())
-        }
+        Some(block) => visit_block(alloc, block, spot, finder),
     }
 }
 
@@ -119,17 +100,17 @@ fn visit_block<'a>(
 ) -> Result<(), Memory>
     ensures { OnOk result (finder.new ≡ visited finder.old (body_sites (spot_of spot.now) (plain_body block.now))) }
 {
+    let words = words_in(&block.vars)?;
+    let taken = sum(spot.taken, words)?;
     let scope = block_scope(alloc, &block.vars, spot.taken, finder)?;
     let scopes = Scopes::Within(&scope, spot.scopes);
-    let words = words_in(&block.vars)?;
     let inner = Spot {
         scopes: &scopes,
-        taken: sum(spot.taken, words)?,
+        taken,
         quantified: spot.quantified,
         in_test: spot.in_test,
     };
-    visit_statements(alloc, &block.body, &inner, finder)?;
-    Ok(())
+    visit_statements(alloc, &block.body, &inner, finder)
 }
 
 /// Visits the sites of a recovery block, whose test stands outside its alternates.
@@ -152,8 +133,7 @@ fn visit_recovery<'a>(
     };
     visit_expression(alloc, &recovery.test, &test, finder)?;
     bounds(finder, recovery.bound);
-    visit_alternates(alloc, &recovery.alternates, spot, finder)?;
-    Ok(())
+    visit_alternates(alloc, &recovery.alternates, spot, finder)
 }
 
 /// Visits the name of the conversation that is joined, if one is.
