@@ -51,8 +51,7 @@ fn uses_in_process<'a>(
         in_procedure: false,
         around: &around,
     };
-    uses_in_statements(&process.body, &outside, uses)?;
-    Ok(())
+    uses_in_statements(&process.body, &outside, uses)
 }
 
 /// Adds the uses in procedures in order.

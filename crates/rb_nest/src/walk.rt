@@ -27,30 +27,19 @@ fn uses_in_statement<'a>(
     match statement {
         Statement::Assign(_, _) => Ok(()),
         Statement::Print(_) => Ok(()),
-        Statement::Send(channel, _) => {
-            add_message(*channel, Deed::Sends, spot, uses)?;
-            Ok(())
-        }
+        Statement::Send(channel, _) => add_message(*channel, Deed::Sends, spot, uses),
         Statement::Receive(channel, _, otherwise) => {
             add_message(*channel, Deed::Receives, spot, uses)?;
-            uses_in_otherwise(otherwise, spot, uses)?;
-            Ok(())
+            uses_in_otherwise(otherwise, spot, uses)
         }
         Statement::If(_, block, otherwise) => {
             uses_in_block(block, spot, uses)?;
-            uses_in_otherwise(otherwise, spot, uses)?;
-            Ok(())
+            uses_in_otherwise(otherwise, spot, uses)
         }
-        Statement::While(_, block) => {
-            uses_in_block(block, spot, uses)?;
-            Ok(())
-        }
+        Statement::While(_, block) => uses_in_block(block, spot, uses),
         Statement::Call(_, _) => Ok(()),
         Statement::Fail => Ok(()),
-        Statement::Recover(recovery) => {
-            uses_in_recovery(recovery, spot, uses)?;
-            Ok(())
-        }
+        Statement::Recover(recovery) => uses_in_recovery(recovery, spot, uses),
     }
 }
 
@@ -80,8 +69,7 @@ pub(crate) fn uses_in_block<'a>(
 ) -> Result<(), Memory>
     ensures { OnOk result (Adds spot.now uses.old.items uses.new.items (uses_in_body (spot_of spot.now) (plain_body block.now))) }
 {
-    uses_in_statements(&block.body, spot, uses)?;
-    Ok(())
+    uses_in_statements(&block.body, spot, uses)
 }
 
 /// Adds the uses in an `else`, if there is one.
@@ -96,10 +84,7 @@ fn uses_in_otherwise<'a>(
 {
     match otherwise {
         None => Ok(()),
-        Some(block) => {
-            uses_in_block(block, spot, uses)?;
-            Ok(())
-        }
+        Some(block) => uses_in_block(block, spot, uses),
     }
 }
 
@@ -121,8 +106,7 @@ fn uses_in_recovery<'a>(
         in_procedure: spot.in_procedure,
         around: &around,
     };
-    uses_in_alternates(&recovery.alternates, &inside, uses)?;
-    Ok(())
+    uses_in_alternates(&recovery.alternates, &inside, uses)
 }
 
 /// Adds the uses in alternates in order.
