@@ -1,5 +1,7 @@
 -- How deep the functions call one another before a token is taken.
 pub mod Measures
+-- What a function hands on that ends in a call.
+pub mod Handed
 -- Each text has one verdict, and what the parser answers is this one.
 pub mod Judged
 pub mod Splits

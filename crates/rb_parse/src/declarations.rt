@@ -84,8 +84,7 @@ pub(crate) fn read_parameters<'a>(
     ensures shorter { OnOk result (length cursor.new.point.left ≤ length cursor.old.point.left) }
 {
     if cursor.stands_at(Terminal::Name) {
-        let names = read_names(alloc, cursor)?;
-        Ok(names)
+        read_names(alloc, cursor)
     } else {
         Ok(Vec::new(alloc))
     }

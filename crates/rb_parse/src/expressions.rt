@@ -25,10 +25,7 @@ pub(crate) fn read_expression<'a>(alloc: Global, cursor: &mut Cursor<'a>) -> Res
 {
     match find_quantifier(cursor.look()) {
         Some(word) => read_quantified(alloc, cursor, word),
-        None => {
-            let value = read_chain(alloc, cursor, Level::Disjunction)?;
-            Ok(value)
-        }
+        None => read_chain(alloc, cursor, Level::Disjunction),
     }
 }
 
@@ -85,8 +82,7 @@ fn read_chain<'a>(alloc: Global, cursor: &mut Cursor<'a>, level: Level) -> Resul
 {
     let first = read_operand(alloc, cursor, level)?;
     let links = read_links(alloc, cursor, level)?;
-    let value = chain(alloc, first, links)?;
-    Ok(value)
+    chain(alloc, first, links)
 }
 
 #[cycle(expression)]
@@ -117,22 +113,10 @@ fn read_operand<'a>(alloc: Global, cursor: &mut Cursor<'a>, level: Level) -> Res
     ensures shorter { OnOk result (length cursor.new.point.left < length cursor.old.point.left) }
 {
     match level {
-        Level::Disjunction => {
-            let conjunction = read_chain(alloc, cursor, Level::Conjunction)?;
-            Ok(conjunction)
-        }
-        Level::Conjunction => {
-            let negation = read_negation(alloc, cursor)?;
-            Ok(negation)
-        }
-        Level::Sum => {
-            let product = read_chain(alloc, cursor, Level::Product)?;
-            Ok(product)
-        }
-        Level::Product => {
-            let factor = read_factor(alloc, cursor)?;
-            Ok(factor)
-        }
+        Level::Disjunction => read_chain(alloc, cursor, Level::Conjunction),
+        Level::Conjunction => read_negation(alloc, cursor),
+        Level::Sum => read_chain(alloc, cursor, Level::Product),
+        Level::Product => read_factor(alloc, cursor),
     }
 }
 
@@ -150,8 +134,7 @@ fn read_negation<'a>(alloc: Global, cursor: &mut Cursor<'a>) -> Result<Expr<'a>,
         let held = Box::new(alloc, operand)?;
         Ok(Expr::Not(held))
     } else {
-        let value = read_comparison(alloc, cursor)?;
-        Ok(value)
+        read_comparison(alloc, cursor)
     }
 }
 
@@ -164,8 +147,7 @@ fn read_comparison<'a>(alloc: Global, cursor: &mut Cursor<'a>) -> Result<Expr<'a
 {
     let left = read_chain(alloc, cursor, Level::Sum)?;
     let links = read_compared(alloc, cursor)?;
-    let value = chain(alloc, left, links)?;
-    Ok(value)
+    chain(alloc, left, links)
 }
 
 #[cycle(expression)]
@@ -229,8 +211,7 @@ fn read_factor<'a>(alloc: Global, cursor: &mut Cursor<'a>) -> Result<Expr<'a>, S
         let held = Box::new(alloc, operand)?;
         Ok(Expr::Neg(held))
     } else {
-        let value = read_atom(alloc, cursor)?;
-        Ok(value)
+        read_atom(alloc, cursor)
     }
 }
 

@@ -24,11 +24,9 @@ pub(crate) fn read_program<'a>(alloc: Global, cursor: &mut Cursor<'a>) -> Result
         cursor.take(Terminal::Edition)?;
         cursor.take(Terminal::Two)?;
         cursor.take(Terminal::Semicolon)?;
-        let second = read_unmarked(alloc, cursor, Edition::Second)?;
-        Ok(second)
+        read_unmarked(alloc, cursor, Edition::Second)
     } else {
-        let first = read_unmarked(alloc, cursor, Edition::First)?;
-        Ok(first)
+        read_unmarked(alloc, cursor, Edition::First)
     }
 }
 

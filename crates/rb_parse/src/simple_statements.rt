@@ -159,8 +159,7 @@ fn read_arguments<'a>(alloc: Global, cursor: &mut Cursor<'a>) -> Result<Vec<Expr
     ensures shorter { OnOk result (length cursor.new.point.left ≤ length cursor.old.point.left) }
 {
     if begins_expression(cursor.look()) {
-        let values = read_expressions(alloc, cursor)?;
-        Ok(values)
+        read_expressions(alloc, cursor)
     } else {
         Ok(Vec::new(alloc))
     }

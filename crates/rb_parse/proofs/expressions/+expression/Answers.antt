@@ -1,4 +1,4 @@
-use Rattle.std.proofs.Common.{refl, sym, ap, subst, ◌∙◌, arith, [], ◌∷◌, ◌++◌, IfErr}
+use Rattle.std.proofs.Common.{refl, sym, ap, subst, ◌∙◌, arith, [], ◌∷◌, ◌++◌, IfErr, IfOk}
 use Rattle.rb_grammar.proofs.Begun.{compared_found, link_begun, operator_fits, word_found}
 use Rattle.rb_grammar.proofs.Accepting.Forms.{atom_place, expression_chain, factor_atom, negation_comparison, quantified_begun}
 use Rattle.rb_grammar.proofs.Pushing.{links_end, links_init, links_step}
@@ -17,18 +17,19 @@ use Rattle.rb_syntax.specs.Plain.{expression, links_of, subscript}
 use Rattle.rb_syntax.specs.Tree.{Element, Minus, Negation, NoLink, Quantification, Refer, Scalar}
 use Rattle.rb_grammar.specs.declared.stop.Stop.TheVariants as stops
 use Rattle.rb_grammar.specs.declared.level.Level.TheVariants as levels
+use Rattle.rb_parse.proofs.Handed.{last_made, last_read, last_stopped, last_unmade}
 use Rattle.rb_parse.proofs.expressions.+expression.Goals as goal
 
-pub read_expression-returns-in_err-value-in-None-clause-err : goal.read_expression-returns-in_err-value-in-None-clause-err
-read_expression-returns-in_err-value-in-None-clause-err t c =
-    exit_within c.from_residual.result c.from_residual.ensures.1 refl
-    (begins (Part.Chain levels.Disjunction) c.args.cursor.now.point nothing_after
-    (expression_chain _ (ap quantifier (sym c.look.ensures) ∙ c.in-None.ensures)) refl refl) c.in_err-value-in-None.ensures.err
+pub read_expression-returns-in-None-clause-err : goal.read_expression-returns-in-None-clause-err
+read_expression-returns-in-None-clause-err t c =
+    last_stopped _ c.read_chain.result refl (begins (Part.Chain levels.Disjunction) c.args.cursor.now.point nothing_after
+    (expression_chain _ (ap quantifier (sym c.look.ensures) ∙ c.in-None.ensures)) refl refl) c.read_chain.ensures.err
 
-pub read_expression-returns-in_ok-value-in-None-clause-ok : goal.read_expression-returns-in_ok-value-in-None-clause-ok
-read_expression-returns-in_ok-value-in-None-clause-ok t c =
-    complete (by_part (begins (Part.Chain levels.Disjunction) c.args.cursor.now.point nothing_after
-    (expression_chain _ (ap quantifier (sym c.look.ensures) ∙ c.in-None.ensures)) refl refl) c.in_ok-value-in-None.ensures.ok)
+pub read_expression-returns-in-None-clause-ok : goal.read_expression-returns-in-None-clause-ok
+read_expression-returns-in-None-clause-ok t c =
+    last_read _ c.read_chain.result expression expression (λ _. refl)
+    (begins (Part.Chain levels.Disjunction) c.args.cursor.now.point nothing_after
+    (expression_chain _ (ap quantifier (sym c.look.ensures) ∙ c.in-None.ensures)) refl refl) c.read_chain.ensures.ok
 
 pub read_quantified-returns-in_err-token-clause-err : goal.read_quantified-returns-in_err-token-clause-err
 read_quantified-returns-in_err-token-clause-err t c =
@@ -134,15 +135,15 @@ read_chain-returns-in_err-links-clause-err t c =
     (by_part (begins (Part.Operand c.args.level) c.args.cursor.now.point (chain_after c.args.level) refl refl refl)
     c.in_ok-first.ensures.ok) c.in_err-links.ensures.err
 
-pub read_chain-returns-in_err-value-clause-err : goal.read_chain-returns-in_err-value-clause-err
-read_chain-returns-in_err-value-clause-err t c =
-    exit_memory _ _ _ c.from_residual-in_err-value.result _ c.from_residual-in_err-value.ensures.1 c.in_err-value.ensures.err
+pub read_chain-returns-clause-err : goal.read_chain-returns-clause-err
+read_chain-returns-clause-err t c =
+    last_unmade _ _ _ c.chain.result c.chain.ensures.err
 
 pub read_chain-returns-clause-ok : goal.read_chain-returns-clause-ok
 read_chain-returns-clause-ok t c =
-    same_value (sym c.in_ok-value.ensures.ok) (complete (by_part
-    (by_part (begins (Part.Operand c.args.level) c.args.cursor.now.point (chain_after c.args.level) refl refl refl)
-    c.in_ok-first.ensures.ok) c.in_ok-links.ensures.ok))
+    last_made c.chain.result expression (complete (by_part (by_part
+    (begins (Part.Operand c.args.level) c.args.cursor.now.point (chain_after c.args.level) refl refl refl)
+    c.in_ok-first.ensures.ok) c.in_ok-links.ensures.ok)) c.chain.ensures.ok
 
 pub read_links-links-init : goal.read_links-links-init
 read_links-links-init t c =
@@ -186,64 +187,53 @@ read_links-returns-clause-ok t c =
     (ap (λ first. start_link c.args.level (operator first c.args.level)) (sym c.look.ensures) ∙ ap (start_link c.args.level)
     c.in_default.ensures)
 
-pub read_operand-returns-in_err-conjunction-in-Disjunction-clause-err : goal.read_operand-returns-in_err-conjunction-in-Disjunction-clause-err
-read_operand-returns-in_err-conjunction-in-Disjunction-clause-err t c =
-    subst (λ level. IfErr c.from_residual.result (Stopped (Stops (Part.Operand level) c.args.cursor.now.point
+pub read_operand-returns-in-Disjunction-clause-err : goal.read_operand-returns-in-Disjunction-clause-err
+read_operand-returns-in-Disjunction-clause-err t c =
+    subst (λ level. IfErr c.read_chain.result (Stopped (Stops (Part.Operand level) c.args.cursor.now.point
     c.read_chain.new.cursor.point) (Exhausts (Part.Operand level) c.args.cursor.now.point) c.args.cursor.now.ending))
-    (sym c.in-Disjunction.is) (exit_within c.from_residual.result c.from_residual.ensures.1 refl
-    (begins (Part.Chain levels.Conjunction) c.args.cursor.now.point nothing_after refl refl refl)
-    c.in_err-conjunction-in-Disjunction.ensures.err)
+    (sym c.in-Disjunction.is) (last_stopped _ c.read_chain.result refl (begins (Part.Chain levels.Conjunction) c.args.cursor.now.point nothing_after refl refl refl) c.read_chain.ensures.err)
 
-pub read_operand-returns-in_ok-conjunction-in-Disjunction-clause-ok : goal.read_operand-returns-in_ok-conjunction-in-Disjunction-clause-ok
-read_operand-returns-in_ok-conjunction-in-Disjunction-clause-ok t c =
-    subst (λ level. Reads (Part.Operand level) (expression c.in_ok-conjunction-in-Disjunction.conjunction) c.args.cursor.now.point
-    c.read_chain.new.cursor.point) (sym c.in-Disjunction.is)
-    (complete (by_part (begins (Part.Chain levels.Conjunction) c.args.cursor.now.point nothing_after refl refl refl)
-    c.in_ok-conjunction-in-Disjunction.ensures.ok))
+pub read_operand-returns-in-Disjunction-clause-ok : goal.read_operand-returns-in-Disjunction-clause-ok
+read_operand-returns-in-Disjunction-clause-ok t c =
+    subst (λ level. IfOk c.read_chain.result (λ value. Reads (Part.Operand level) (expression value) c.args.cursor.now.point
+    c.read_chain.new.cursor.point)) (sym c.in-Disjunction.is) (last_read _ c.read_chain.result expression
+    expression (λ _. refl) (begins (Part.Chain levels.Conjunction) c.args.cursor.now.point nothing_after refl refl refl) c.read_chain.ensures.ok)
 
-pub read_operand-returns-in_err-negation-in-Conjunction-clause-err : goal.read_operand-returns-in_err-negation-in-Conjunction-clause-err
-read_operand-returns-in_err-negation-in-Conjunction-clause-err t c =
-    subst (λ level. IfErr c.from_residual-in_err-negation-in-Conjunction.result
-    (Stopped (Stops (Part.Operand level) c.args.cursor.now.point c.read_negation.new.cursor.point)
-    (Exhausts (Part.Operand level) c.args.cursor.now.point) c.args.cursor.now.ending)) (sym c.in-Conjunction.is)
-    (exit_within c.from_residual-in_err-negation-in-Conjunction.result c.from_residual-in_err-negation-in-Conjunction.ensures.1
-    refl (begins Part.Negation c.args.cursor.now.point nothing_after refl refl refl) c.in_err-negation-in-Conjunction.ensures.err)
+pub read_operand-returns-in-Conjunction-clause-err : goal.read_operand-returns-in-Conjunction-clause-err
+read_operand-returns-in-Conjunction-clause-err t c =
+    subst (λ level. IfErr c.read_negation.result (Stopped (Stops (Part.Operand level) c.args.cursor.now.point
+    c.read_negation.new.cursor.point) (Exhausts (Part.Operand level) c.args.cursor.now.point) c.args.cursor.now.ending))
+    (sym c.in-Conjunction.is) (last_stopped _ c.read_negation.result refl (begins Part.Negation c.args.cursor.now.point nothing_after refl refl refl) c.read_negation.ensures.err)
 
-pub read_operand-returns-in_ok-negation-in-Conjunction-clause-ok : goal.read_operand-returns-in_ok-negation-in-Conjunction-clause-ok
-read_operand-returns-in_ok-negation-in-Conjunction-clause-ok t c =
-    subst (λ level. Reads (Part.Operand level) (expression c.in_ok-negation-in-Conjunction.negation) c.args.cursor.now.point
-    c.read_negation.new.cursor.point) (sym c.in-Conjunction.is)
-    (complete (by_part (begins Part.Negation c.args.cursor.now.point nothing_after refl refl refl)
-    c.in_ok-negation-in-Conjunction.ensures.ok))
+pub read_operand-returns-in-Conjunction-clause-ok : goal.read_operand-returns-in-Conjunction-clause-ok
+read_operand-returns-in-Conjunction-clause-ok t c =
+    subst (λ level. IfOk c.read_negation.result (λ value. Reads (Part.Operand level) (expression value) c.args.cursor.now.point
+    c.read_negation.new.cursor.point)) (sym c.in-Conjunction.is) (last_read _ c.read_negation.result expression
+    expression (λ _. refl) (begins Part.Negation c.args.cursor.now.point nothing_after refl refl refl) c.read_negation.ensures.ok)
 
-pub read_operand-returns-in_err-product-in-Sum-clause-err : goal.read_operand-returns-in_err-product-in-Sum-clause-err
-read_operand-returns-in_err-product-in-Sum-clause-err t c =
-    subst (λ level. IfErr c.from_residual-in_err-product-in-Sum.result
-    (Stopped (Stops (Part.Operand level) c.args.cursor.now.point c.read_chain-in-Sum.new.cursor.point)
-    (Exhausts (Part.Operand level) c.args.cursor.now.point) c.args.cursor.now.ending)) (sym c.in-Sum.is)
-    (exit_within c.from_residual-in_err-product-in-Sum.result c.from_residual-in_err-product-in-Sum.ensures.1 refl
-    (begins (Part.Chain levels.Product) c.args.cursor.now.point nothing_after refl refl refl) c.in_err-product-in-Sum.ensures.err)
+pub read_operand-returns-in-Sum-clause-err : goal.read_operand-returns-in-Sum-clause-err
+read_operand-returns-in-Sum-clause-err t c =
+    subst (λ level. IfErr c.read_chain-in-Sum.result (Stopped (Stops (Part.Operand level) c.args.cursor.now.point
+    c.read_chain-in-Sum.new.cursor.point) (Exhausts (Part.Operand level) c.args.cursor.now.point) c.args.cursor.now.ending))
+    (sym c.in-Sum.is) (last_stopped _ c.read_chain-in-Sum.result refl (begins (Part.Chain levels.Product) c.args.cursor.now.point nothing_after refl refl refl) c.read_chain-in-Sum.ensures.err)
 
-pub read_operand-returns-in_ok-product-in-Sum-clause-ok : goal.read_operand-returns-in_ok-product-in-Sum-clause-ok
-read_operand-returns-in_ok-product-in-Sum-clause-ok t c =
-    subst (λ level. Reads (Part.Operand level) (expression c.in_ok-product-in-Sum.product) c.args.cursor.now.point
-    c.read_chain-in-Sum.new.cursor.point) (sym c.in-Sum.is)
-    (complete (by_part (begins (Part.Chain levels.Product) c.args.cursor.now.point nothing_after refl refl refl)
-    c.in_ok-product-in-Sum.ensures.ok))
+pub read_operand-returns-in-Sum-clause-ok : goal.read_operand-returns-in-Sum-clause-ok
+read_operand-returns-in-Sum-clause-ok t c =
+    subst (λ level. IfOk c.read_chain-in-Sum.result (λ value. Reads (Part.Operand level) (expression value) c.args.cursor.now.point
+    c.read_chain-in-Sum.new.cursor.point)) (sym c.in-Sum.is) (last_read _ c.read_chain-in-Sum.result expression
+    expression (λ _. refl) (begins (Part.Chain levels.Product) c.args.cursor.now.point nothing_after refl refl refl) c.read_chain-in-Sum.ensures.ok)
 
-pub read_operand-returns-in_err-factor-in-Product-clause-err : goal.read_operand-returns-in_err-factor-in-Product-clause-err
-read_operand-returns-in_err-factor-in-Product-clause-err t c =
-    subst (λ level. IfErr c.from_residual-in_err-factor-in-Product.result
-    (Stopped (Stops (Part.Operand level) c.args.cursor.now.point c.read_factor.new.cursor.point)
-    (Exhausts (Part.Operand level) c.args.cursor.now.point) c.args.cursor.now.ending)) (sym c.in-Product.is)
-    (exit_within c.from_residual-in_err-factor-in-Product.result c.from_residual-in_err-factor-in-Product.ensures.1 refl
-    (begins Part.Factor c.args.cursor.now.point nothing_after refl refl refl) c.in_err-factor-in-Product.ensures.err)
+pub read_operand-returns-in-Product-clause-err : goal.read_operand-returns-in-Product-clause-err
+read_operand-returns-in-Product-clause-err t c =
+    subst (λ level. IfErr c.read_factor.result (Stopped (Stops (Part.Operand level) c.args.cursor.now.point
+    c.read_factor.new.cursor.point) (Exhausts (Part.Operand level) c.args.cursor.now.point) c.args.cursor.now.ending))
+    (sym c.in-Product.is) (last_stopped _ c.read_factor.result refl (begins Part.Factor c.args.cursor.now.point nothing_after refl refl refl) c.read_factor.ensures.err)
 
-pub read_operand-returns-in_ok-factor-in-Product-clause-ok : goal.read_operand-returns-in_ok-factor-in-Product-clause-ok
-read_operand-returns-in_ok-factor-in-Product-clause-ok t c =
-    subst (λ level. Reads (Part.Operand level) (expression c.in_ok-factor-in-Product.factor) c.args.cursor.now.point
-    c.read_factor.new.cursor.point) (sym c.in-Product.is) (complete
-    (by_part (begins Part.Factor c.args.cursor.now.point nothing_after refl refl refl) c.in_ok-factor-in-Product.ensures.ok))
+pub read_operand-returns-in-Product-clause-ok : goal.read_operand-returns-in-Product-clause-ok
+read_operand-returns-in-Product-clause-ok t c =
+    subst (λ level. IfOk c.read_factor.result (λ value. Reads (Part.Operand level) (expression value) c.args.cursor.now.point
+    c.read_factor.new.cursor.point)) (sym c.in-Product.is) (last_read _ c.read_factor.result expression
+    expression (λ _. refl) (begins Part.Factor c.args.cursor.now.point nothing_after refl refl refl) c.read_factor.ensures.ok)
 
 pub read_negation-returns-in_err-take-clause-err : goal.read_negation-returns-in_err-take-clause-err
 read_negation-returns-in_err-take-clause-err t c =
@@ -263,16 +253,15 @@ read_negation-returns-in_ok-held-clause-ok t c =
     same_value (ap (λ e. Negation (expression e)) (sym c.in_ok-held.ensures.ok) ∙ sym (expression_not c.in_ok-held.held))
     (complete (by_part (starts _ refl c.in_ok-take.ensures.ok) c.in_ok-operand.ensures.ok))
 
-pub read_negation-returns-in_err-value-clause-err : goal.read_negation-returns-in_err-value-clause-err
-read_negation-returns-in_err-value-clause-err t c =
-    exit_within c.from_residual-in_err-value.result c.from_residual-in_err-value.ensures.1 refl
-    (begins Part.Comparison c.args.cursor.now.point nothing_after (negation_comparison _ (sym c.if-stands_at.ensures)) refl refl)
-    c.in_err-value.ensures.err
+pub read_negation-returns-else-stands_at-clause-err : goal.read_negation-returns-else-stands_at-clause-err
+read_negation-returns-else-stands_at-clause-err t c =
+    last_stopped _ c.read_comparison.result refl
+    (begins Part.Comparison c.args.cursor.now.point nothing_after (negation_comparison _ (sym c.if-stands_at.ensures)) refl refl) c.read_comparison.ensures.err
 
-pub read_negation-returns-in_ok-value-clause-ok : goal.read_negation-returns-in_ok-value-clause-ok
-read_negation-returns-in_ok-value-clause-ok t c =
-    complete (by_part (begins Part.Comparison c.args.cursor.now.point nothing_after
-    (negation_comparison _ (sym c.if-stands_at.ensures)) refl refl) c.in_ok-value.ensures.ok)
+pub read_negation-returns-else-stands_at-clause-ok : goal.read_negation-returns-else-stands_at-clause-ok
+read_negation-returns-else-stands_at-clause-ok t c =
+    last_read _ c.read_comparison.result expression expression (λ _. refl)
+    (begins Part.Comparison c.args.cursor.now.point nothing_after (negation_comparison _ (sym c.if-stands_at.ensures)) refl refl) c.read_comparison.ensures.ok
 
 pub read_comparison-returns-in_err-left-clause-err : goal.read_comparison-returns-in_err-left-clause-err
 read_comparison-returns-in_err-left-clause-err t c =
@@ -285,15 +274,15 @@ read_comparison-returns-in_err-links-clause-err t c =
     (by_part (begins (Part.Chain levels.Sum) c.args.cursor.now.point compared_after refl refl refl) c.in_ok-left.ensures.ok)
     c.in_err-links.ensures.err
 
-pub read_comparison-returns-in_err-value-clause-err : goal.read_comparison-returns-in_err-value-clause-err
-read_comparison-returns-in_err-value-clause-err t c =
-    exit_memory _ _ _ c.from_residual-in_err-value.result _ c.from_residual-in_err-value.ensures.1 c.in_err-value.ensures.err
+pub read_comparison-returns-clause-err : goal.read_comparison-returns-clause-err
+read_comparison-returns-clause-err t c =
+    last_unmade _ _ _ c.chain.result c.chain.ensures.err
 
 pub read_comparison-returns-clause-ok : goal.read_comparison-returns-clause-ok
 read_comparison-returns-clause-ok t c =
-    same_value (sym c.in_ok-value.ensures.ok) (complete (by_part
-    (by_part (begins (Part.Chain levels.Sum) c.args.cursor.now.point compared_after refl refl refl) c.in_ok-left.ensures.ok)
-    c.in_ok-links.ensures.ok))
+    last_made c.chain.result expression (complete (by_part (by_part
+    (begins (Part.Chain levels.Sum) c.args.cursor.now.point compared_after refl refl refl) c.in_ok-left.ensures.ok)
+    c.in_ok-links.ensures.ok)) c.chain.ensures.ok
 
 pub read_compared-returns-in-None-clause-ok : goal.read_compared-returns-in-None-clause-ok
 read_compared-returns-in-None-clause-ok t c =
@@ -338,16 +327,15 @@ read_factor-returns-in_ok-held-clause-ok t c =
     same_value (ap (λ e. Minus (expression e)) (sym c.in_ok-held.ensures.ok) ∙ sym (expression_neg c.in_ok-held.held))
     (complete (by_part (starts _ refl c.in_ok-take.ensures.ok) c.in_ok-operand.ensures.ok))
 
-pub read_factor-returns-in_err-value-clause-err : goal.read_factor-returns-in_err-value-clause-err
-read_factor-returns-in_err-value-clause-err t c =
-    exit_within c.from_residual-in_err-value.result c.from_residual-in_err-value.ensures.1 refl
-    (begins Part.Atom c.args.cursor.now.point nothing_after (factor_atom _ (sym c.if-stands_at.ensures)) refl refl)
-    c.in_err-value.ensures.err
+pub read_factor-returns-else-stands_at-clause-err : goal.read_factor-returns-else-stands_at-clause-err
+read_factor-returns-else-stands_at-clause-err t c =
+    last_stopped _ c.read_atom.result refl
+    (begins Part.Atom c.args.cursor.now.point nothing_after (factor_atom _ (sym c.if-stands_at.ensures)) refl refl) c.read_atom.ensures.err
 
-pub read_factor-returns-in_ok-value-clause-ok : goal.read_factor-returns-in_ok-value-clause-ok
-read_factor-returns-in_ok-value-clause-ok t c =
-    complete (by_part (begins Part.Atom c.args.cursor.now.point nothing_after (factor_atom _ (sym c.if-stands_at.ensures)) refl
-    refl) c.in_ok-value.ensures.ok)
+pub read_factor-returns-else-stands_at-clause-ok : goal.read_factor-returns-else-stands_at-clause-ok
+read_factor-returns-else-stands_at-clause-ok t c =
+    last_read _ c.read_atom.result expression expression (λ _. refl)
+    (begins Part.Atom c.args.cursor.now.point nothing_after (factor_atom _ (sym c.if-stands_at.ensures)) refl refl) c.read_atom.ensures.ok
 
 pub read_atom-returns-in_err-target-clause-err : goal.read_atom-returns-in_err-target-clause-err
 read_atom-returns-in_err-target-clause-err t c =
