@@ -39,6 +39,6 @@ impl Bench {
     {
         self.operands.clear();
         self.line.clear();
-        self.counters = Counters::new();
+        self.counters.clear();
     }
 }

@@ -43,6 +43,14 @@ impl Counters {
         }
     }
 
+    /// None is set any more.
+    pub fn clear(&mut self)
+        ensures { self.new ≡ no_counters }
+    {
+        self.first = None;
+        self.second = None;
+    }
+
     /// A counter by its number, if it is set.
     pub fn get(&self, k: u32) -> Option<Counting>
         ensures { option_map counting_of result ≡ unwrap_or (slice_get self.now k) None }

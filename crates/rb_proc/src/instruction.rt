@@ -47,6 +47,7 @@ fn start(code: &Code, block: u32, alternate: u32) -> Next
 }
 
 /// Carries one instruction out. At most three ticks for each word that it names.
+#[inline(always)]
 pub fn act<L: Ledger>(
     code: &Code,
     sight: &Sight,

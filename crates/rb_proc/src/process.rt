@@ -261,6 +261,7 @@ impl<L: Ledger> Proc<L> {
     }
 
     // Carries out what stands before the next `turn`, and costs none.
+    #[inline(never)]
     fn settle(&mut self, code: &Code, steps: &mut Steps<L>)
         requires code { IsExecutable (plain code.now) }
         requires none_waits { self.old.waiting ≡ [] }

@@ -10,7 +10,7 @@ mod lines;
 mod putting_back;
 mod words;
 
-use rb_base::{MOST_OPEN_LEVELS, Memory, Steps};
+use rb_base::{MOST_OPEN_CALLS, MOST_OPEN_LEVELS, Memory, Steps};
 use rb_cache::Cache;
 use rb_cell::Cells;
 use rb_hold::Hold;
@@ -84,7 +84,7 @@ impl<L: Ledger> Recoverable<L> {
     {
         let mut cells = Cells::new(alloc, MOST_PLACES)?;
         let cache = Cache::new(alloc, MOST_OPEN_LEVELS, MOST_PLACES)?;
-        let calls = Vec::with_capacity(alloc, 256)?;
+        let calls = Vec::with_capacity(alloc, MOST_OPEN_CALLS as usize)?;
         let marks = Vec::with_capacity(alloc, MOST_OPEN_LEVELS as usize)?;
         let hold = Hold::new(alloc)?;
         cells.push_zeros(words, steps);

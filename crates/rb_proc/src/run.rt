@@ -24,6 +24,7 @@ use rb_operands::{Bench, Ended, Next};
 use std::sync::ledger::Ledger;
 
 /// Carries out the instructions from an address on, up to an end. At most three ticks for each word that they name.
+#[inline(always)]
 pub fn run<L: Ledger>(
     code: &Code,
     sight: &Sight,

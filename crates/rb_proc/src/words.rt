@@ -18,7 +18,7 @@ ghost use Rattle.rb_proc.specs.Outcomes.{Keeps, mem};
 ghost use Rattle.rb_proc.specs.Places.{most_places};
 
 use crate::recoverable::Recoverable;
-use rb_base::{Cause, Steps};
+use rb_base::{Cause, MOST_OPEN_CALLS, Steps};
 use rb_operands::Next;
 use rb_operands::operands::Operands;
 use std::sync::ledger::Ledger;
@@ -221,7 +221,7 @@ pub fn call<L: Ledger>(
     ensures kept { (slots : Slots) → Keeps result memory.old memory.new slots slots }
     ensures ticks { steps.new ≤ steps.old + 2 * (count + zeros) }
 {
-    if memory.open_calls() >= 256 {
+    if memory.open_calls() >= MOST_OPEN_CALLS as usize {
         return Next::Trap(Cause::Calls);
     }
     if u64::from(memory.height()) + (u64::from(count) + u64::from(zeros)) > u64::from(most) {

@@ -1,6 +1,7 @@
 //! The open calls of a process, whose words lie on top of the others.
 
 ghost use Rattle.std.specs.Prelude.{◌≡◌, ◌+◌, ◌*◌, ◌<◌, ◌≤◌, pos, List, ◌∷◌, ◌++◌, length, take, replicate};
+ghost use Rattle.rb_base.specs.declared.limits.TheConstants.{MOST_OPEN_CALLS};
 ghost use Rattle.rb_world.specs.World.{last_of, copy_of};
 ghost use Rattle.rb_code.specs.Instructions.Plain.{Part};
 ghost use Rattle.rb_code.specs.WordMachine.Workspace.{OpenCall as Opened, base_of, body_place};
@@ -38,7 +39,7 @@ impl<L: Ledger> Recoverable<L> {
 
     /// Opens a call with these arguments and so many zeros as its words.
     pub fn open_call(&mut self, back: u32, arguments: &[i64], zeros: u32, steps: &mut Steps<L>)
-        requires calls { length self.old.calls < 256 }
+        requires calls { length self.old.calls < MOST_OPEN_CALLS }
         requires words { length self.old.words + (length arguments.now + zeros) ≤ most_places }
         ensures call { self.new ≡ record self.old {
           words = self.old.words ++ (arguments.now ++ replicate zeros (pos 0));

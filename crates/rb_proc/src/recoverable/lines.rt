@@ -47,7 +47,7 @@ impl<L: Ledger> Recoverable<L> {
         ensures { MatchBool result ((length self.now.levels ≡ 0) × (0 < length self.now.held))
             (released_by self.now.levels self.now ≡ record self.now { waiting = [] }) }
     {
-        self.levels() == 0 && self.holds()
+        self.holds() && self.levels() == 0
     }
 
     // Releases all held lines, where no level is open.
