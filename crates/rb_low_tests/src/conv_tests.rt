@@ -5,7 +5,6 @@ ghost use Rattle.std.specs.Prelude.{◌≡◌, ◌<◌, length, IfOk, vec_len};
 use rb_base::{Group, Memory, Nested};
 use rb_conv::Table;
 use std::alloc::Global;
-use std::test::Fail;
 
 // 64 conversations of the processes 0 to 63, in chains of eight.
 fn chains(alloc: Global) -> Result<Nested, Memory>
@@ -52,35 +51,38 @@ fn all_but_one_arrive(table: &mut Table, c: u32) -> bool
     is_last
 }
 
+fn table_of_chains(alloc: Global) -> Result<Table, Memory>
+    ensures { IfOk result (λ table. length table ≡ 64) }
+{
+    let nested = chains(alloc)?;
+    Table::new(alloc, &nested)
+}
+
 #[test]
-fn a_chain_is_rejected(rt: HostRuntime) -> Result<(), Fail> {
-    let nested = chains(rt.alloc())?;
-    let mut table = Table::new(rt.alloc(), &nested)?;
+fn a_chain_is_rejected(rt: HostRuntime) {
+    let mut table = table_of_chains(rt.alloc()).expect(&rt, "memory");
     last_chain_is_entered(&mut table);
     assert!(rt; table.inside(56, 0) && table.inside(63, 63) && !table.inside(55, 0));
     assert!(rt; !table.arrive(56, 63));
     assert!(rt; table.reject(56));
     assert!(rt; table.inside(56, 63) && !table.at_line(56, 63) && !table.inside(57, 0));
     assert!(rt; !table.inside(63, 63));
-    assert_eq!(rt; (table.alternate(56), table.alternate(63)), (2, 1));
+    assert!(rt; table.alternate(56) == 2 && table.alternate(63) == 1);
     assert!(rt; !table.reject(56));
     assert!(rt; table.broken(56) && !table.broken(57) && !table.inside(56, 0));
     assert!(rt; !table.enter(56, 0) && table.enter(57, 0));
-    Ok(())
 }
 
 #[test]
-fn a_line_is_passed(rt: HostRuntime) -> Result<(), Fail> {
-    let nested = chains(rt.alloc())?;
-    let mut table = Table::new(rt.alloc(), &nested)?;
+fn a_line_is_passed(rt: HostRuntime) {
+    let mut table = table_of_chains(rt.alloc()).expect(&rt, "memory");
     all_enter(&mut table, 1);
     assert!(rt; table.reject(1));
     assert!(rt; !all_but_one_arrive(&mut table, 1));
     assert!(rt; table.arrive(1, 63) && table.at_line(1, 0) && table.inside(1, 0));
     table.pass(1);
     assert!(rt; !table.at_line(1, 0) && !table.inside(1, 0));
-    assert_eq!(rt; table.alternate(1), 1);
+    assert!(rt; table.alternate(1) == 1);
     assert!(rt; table.enter(1, 5) && table.reject(1) && !table.reject(1));
     assert!(rt; !table.broken(1) && !table.inside(1, 5));
-    Ok(())
 }

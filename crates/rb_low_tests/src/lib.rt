@@ -29,6 +29,12 @@ mod mail_tests;
 #[cfg(test)]
 mod make_tests;
 #[cfg(test)]
+mod names;
+#[cfg(test)]
+mod pieces;
+#[cfg(test)]
+mod samples;
+#[cfg(test)]
 mod sched_tests;
 #[cfg(test)]
 mod sink_tests;

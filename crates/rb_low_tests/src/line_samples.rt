@@ -1,37 +1,12 @@
-//! Small implementations of `Lines` and `Final`, met through a bound.
+//! What stands behind `Lines` and `Final` is met through a bound.
 
-ghost use Rattle.std.specs.Prelude.{◌≡◌, ℕ, ◌+◌, ◌<◌, ◌≤◌, [], ◌∷◌, length, drop, slice_get, Some};
+ghost use Rattle.std.specs.Prelude.{◌≡◌, ℕ, ◌+◌, ◌<◌, ◌≤◌, length, slice_get, Some};
 ghost use Rattle.rb_base.specs.Lines.{belonging, without_next};
 
-use rb_base::{Final, Lines, State, Steps, Text};
+use crate::samples::{Ended, Queue};
+use rb_base::{Final, Lines, State, Steps};
 use std::marker::{Brand, PhantomData};
 use std::sync::ledger::{Blank, Ledger};
-use std::test::Fail;
-
-// The lines of one process, of which so many were lent.
-#[derive(Drop)]
-struct Queue {
-    lines: Vec<Text>,
-    lent: usize,
-    mark: u8,
-}
-
-impl Lines for Queue {
-    ghost waiting = { λ queue. drop queue.lent queue.lines.items ∷ [] };
-
-    ghost Rest = { ℕ };
-
-    ghost rest = { λ queue. queue.mark };
-
-    fn released(&mut self, _p: u32) -> Option<&[u8]> {
-        let lent = self.lent;
-        if lent >= self.lines.len() {
-            return None;
-        }
-        self.lent = lent + 1;
-        Some(self.lines[lent].as_bytes())
-    }
-}
 
 // The length of the next line of process 0, if one waits.
 fn next_length<M: Lines>(lines: &mut M) -> Option<usize>
@@ -46,61 +21,15 @@ fn next_length<M: Lines>(lines: &mut M) -> Option<usize>
 }
 
 #[test]
-fn lends_each_line_once(rt: HostRuntime) -> Result<(), Fail> {
-    let alloc = rt.alloc();
-    let mut lines = Vec::new(alloc);
-    for bytes in [b"".as_slice(), b"two words", b"three"] {
-        lines.push(Text::from_slice(alloc, bytes)?)?;
-    }
-    let mut queue = Queue {
-        lines,
-        lent: 0,
-        mark: 7,
-    };
-    for length in [Some(0), Some(9), Some(5), None, None] {
-        assert_eq!(rt; next_length(&mut queue), length);
-    }
-    assert_eq!(rt; queue.mark, 7);
-    Ok(())
-}
-
-// The end of one process with one word, over one channel.
-#[derive(Drop)]
-struct Ended<L: Ledger> {
-    state: State,
-    word: i64,
-    sent: u8,
-    ledger: PhantomData<L>,
-}
-
-impl<L: Ledger> Final for Ended<L> {
-    type Ledger = L;
-
-    ghost states = { λ end. end.state ∷ [] };
-
-    ghost words = { λ end. (end.word ∷ []) ∷ [] };
-
-    ghost sent = { λ end. end.sent ∷ [] };
-
-    ghost taken = { λ end. end.sent ∷ [] };
-
-    fn state(&self, _p: u32) -> State {
-        self.state
-    }
-
-    fn word(&self, _p: u32, _at: u32, steps: &mut Steps<L>) -> i64 {
-        steps.tick();
-        self.word
-    }
-
-    fn sent(&self, _channel: u32, _steps: &mut Steps<L>) -> i64 {
-        self.sent as i64
-    }
-
-    fn taken(&self, _channel: u32, steps: &mut Steps<L>) -> i64 {
-        steps.tick();
-        self.sent as i64
-    }
+fn lends_each_line_once(rt: HostRuntime) {
+    let texts = [b"".as_slice(), b"two words", b"three"];
+    let mut queue = Queue::new(rt.alloc(), &texts, 7).expect(&rt, "memory");
+    assert!(rt; next_length(&mut queue) == Some(0));
+    assert!(rt; next_length(&mut queue) == Some(9));
+    assert!(rt; next_length(&mut queue) == Some(5));
+    assert!(rt; next_length(&mut queue).is_none());
+    assert!(rt; next_length(&mut queue).is_none());
+    assert!(rt; queue.mark == 7);
 }
 
 // Word 0 of process 0, and what was sent on channel 0.
@@ -127,13 +56,14 @@ fn numbers_of<L: Ledger>(blank: Blank, end: &Ended<L>) -> (State, i64, i64)
 }
 
 #[test]
-fn tells_the_end(rt: HostRuntime) -> Result<(), Fail> {
+fn tells_the_end(rt: HostRuntime) {
     let end = Ended::<Brand> {
         state: State::Running(2),
         word: -3,
         sent: 4,
+        taken: 4,
         ledger: PhantomData,
     };
-    assert_eq!(rt; numbers_of(Blank::new(1), &end), (State::Running(2), -3, 4));
-    Ok(())
+    let (state, word, sent) = numbers_of(Blank::new(1), &end);
+    assert!(rt; state == State::Running(2) && word == -3 && sent == 4);
 }

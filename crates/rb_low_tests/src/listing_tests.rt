@@ -1,21 +1,17 @@
 //! The listing of a small code, written to a sink in memory.
 
-use rb_base::names::ProcessNames;
+use crate::names;
 use rb_base::{Edition, Memory, Names, Text};
 use rb_code::code::{Code, ProcessCode};
 use rb_code::instr::{Instr, Spot};
 use rb_code::listing::listing;
 use rb_outside::MemorySink;
 use std::alloc::Global;
-use std::test::Fail;
 
 // A process `p`.
 fn names_of_one(alloc: Global) -> Result<Names, Memory> {
     let mut processes = Vec::new(alloc);
-    processes.push(ProcessNames {
-        name: Text::from_slice(alloc, b"p")?,
-        variables: Vec::new(alloc),
-    })?;
+    processes.push(names::process(alloc, b"p")?)?;
     Ok(Names {
         processes,
         channels: Vec::new(alloc),
@@ -23,33 +19,37 @@ fn names_of_one(alloc: Global) -> Result<Names, Memory> {
     })
 }
 
+fn process(alloc: Global, start: u32) -> ProcessCode {
+    ProcessCode {
+        start,
+        words: 1,
+        channels: Vec::new(alloc),
+        procedures: Vec::new(alloc),
+    }
+}
+
+fn instrs(alloc: Global) -> Result<Vec<Instr>, Memory> {
+    let instrs = [
+        Instr::Push(-1),
+        Instr::Store(Spot::Global(0)),
+        Instr::Text(0),
+        Instr::Load(Spot::Local(7)),
+        Instr::Text(9),
+        Instr::Jump(4_294_967_295),
+    ];
+    Ok(Vec::from_slice(alloc, &instrs)?)
+}
+
 // A process that prints `x 1`, and two instructions that name what is not there.
 fn small_code(alloc: Global) -> Result<Code, Memory> {
-    let instrs = Vec::from_array(
-        alloc,
-        [
-            Instr::Push(-1),
-            Instr::Store(Spot::Global(0)),
-            Instr::Text(0),
-            Instr::Load(Spot::Local(7)),
-            Instr::Text(9),
-            Instr::Jump(4_294_967_295),
-        ],
-    )?;
     let mut processes = Vec::new(alloc);
-    for start in [0, 2] {
-        processes.push(ProcessCode {
-            start,
-            words: 1,
-            channels: Vec::new(alloc),
-            procedures: Vec::new(alloc),
-        })?;
-    }
+    processes.push(process(alloc, 0))?;
+    processes.push(process(alloc, 2))?;
     let mut texts = Vec::new(alloc);
     texts.push(Text::from_slice(alloc, b"x")?)?;
     Ok(Code {
         edition: Edition::First,
-        instrs,
+        instrs: instrs(alloc)?,
         processes,
         blocks: Vec::new(alloc),
         channels: Vec::new(alloc),
@@ -58,18 +58,26 @@ fn small_code(alloc: Global) -> Result<Code, Memory> {
     })
 }
 
+// Whether the listing, with this room for it, goes so and leaves these bytes.
+fn is_listed(alloc: Global, code: &Code, room: usize, goes_well: bool, bytes: &[u8]) -> bool {
+    match MemorySink::new(alloc, room, Vec::new(alloc)) {
+        Ok(mut out) => listing(code, &mut out).is_ok() == goes_well && out.bytes() == bytes,
+        Err(_) => false,
+    }
+}
+
 #[test]
-fn lists_what_names_nothing(rt: HostRuntime) -> Result<(), Fail> {
+fn lists_what_names_nothing(rt: HostRuntime) {
     let alloc = rt.alloc();
-    let code = small_code(alloc)?;
-    let mut out = MemorySink::new(alloc, 128, Vec::new(alloc))?;
-    assert!(rt; listing(&code, &mut out).is_ok());
-    assert_eq!(rt;
-        out.bytes(),
-        b"process p\n0 push -1\n1 store g 0\nprocess \n2 text \"x\"\n3 load l 7\n4 text \"\"\n5 jump 4294967295\n".as_slice()
+    let code = small_code(alloc).expect(&rt, "memory");
+    assert!(rt;
+        is_listed(
+            alloc,
+            &code,
+            128,
+            true,
+            b"process p\n0 push -1\n1 store g 0\nprocess \n2 text \"x\"\n3 load l 7\n4 text \"\"\n5 jump 4294967295\n"
+        )
     );
-    let mut short = MemorySink::new(alloc, 15, Vec::new(alloc))?;
-    assert!(rt; listing(&code, &mut short).is_err());
-    assert_eq!(rt; short.bytes(), b"process p\n0 pus".as_slice());
-    Ok(())
+    assert!(rt; is_listed(alloc, &code, 15, false, b"process p\n0 pus"));
 }

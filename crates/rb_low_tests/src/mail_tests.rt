@@ -1,32 +1,50 @@
 //! Tests of slots, at the limits and across the turn of the ring.
 
-use rb_mail::Mail;
-use std::test::Fail;
+ghost use Rattle.std.specs.Prelude.{◌<◌};
 
-#[test]
-fn slots_at_the_limits(rt: HostRuntime) -> Result<(), Fail> {
-    for size in [1, 2, 65_536] {
-        let mut mail = Mail::new(rt.alloc(), size)?;
-        for (index, value) in [
-            (u64::MAX, i64::MIN),
-            (u64::from(size) - 1, i64::MAX),
-            (1 << 40, 7),
-        ] {
-            mail.put(index, value);
-            assert_eq!(rt; mail.get(index), value, "{size} {index}");
-            assert_eq!(rt; mail.get(index % u64::from(size)), value, "{size} {index}");
-        }
-    }
-    Ok(())
+use rb_mail::Mail;
+use std::alloc::Global;
+
+// Whether slots of this number keep a value under an index, and under the index of its slot.
+fn keeps_next(mail: &mut Mail, size: u32, index: u64, value: i64) -> bool
+    requires { 0 < size }
+{
+    mail.put(index, value);
+    mail.get(index) == value && mail.get(index % u64::from(size)) == value
+}
+
+// Whether so many slots keep three values, one after the other.
+fn keeps_each(alloc: Global, size: u32) -> bool
+    requires { 0 < size }
+{
+    let Ok(mut mail) = Mail::new(alloc, size) else {
+        return false;
+    };
+    keeps_next(&mut mail, size, u64::MAX, i64::MIN)
+        && keeps_next(&mut mail, size, u64::from(size) - 1, i64::MAX)
+        && keeps_next(&mut mail, size, 1 << 40, 7)
 }
 
 #[test]
-fn slots_hold_their_own(rt: HostRuntime) -> Result<(), Fail> {
-    let mut mail = Mail::new(rt.alloc(), 3)?;
+fn slots_at_the_limits(rt: HostRuntime) {
+    assert!(rt; keeps_each(rt.alloc(), 1));
+    assert!(rt; keeps_each(rt.alloc(), 2));
+    assert!(rt; keeps_each(rt.alloc(), 65_536));
+}
+
+// What three slots hold, once two and then a third value were put.
+fn held(mail: &mut Mail) -> [[i64; 3]; 2] {
     mail.put(4, 40);
     mail.put(5, 50);
-    assert_eq!(rt; [mail.get(0), mail.get(1), mail.get(2)], [0, 40, 50]);
+    let two = [mail.get(0), mail.get(1), mail.get(2)];
     mail.put(7, 70);
-    assert_eq!(rt; [mail.get(3), mail.get(4), mail.get(5)], [0, 70, 50]);
-    Ok(())
+    [two, [mail.get(3), mail.get(4), mail.get(5)]]
+}
+
+#[test]
+fn slots_hold_their_own(rt: HostRuntime) {
+    let Ok(mut mail) = Mail::new(rt.alloc(), 3) else {
+        panic!(rt; "memory");
+    };
+    assert!(rt; held(&mut mail) == [[0, 40, 50], [0, 70, 50]]);
 }

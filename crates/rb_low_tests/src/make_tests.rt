@@ -1,7 +1,7 @@
 //! The texts of a few trials.
 
 use rb_make::make;
-use std::test::Fail;
+use std::alloc::Global;
 
 const SOURCE_0: &[u8] = b"program trial;
 channel c1 from p1 to p2 size 4;
@@ -19,12 +19,17 @@ print x; } }
 end.
 ";
 
+// Whether a trial has these texts.
+fn is_made(alloc: Global, number: u64, source: &[u8], schedule: &[u8]) -> bool {
+    match make(alloc, number) {
+        Ok(texts) => texts.0.as_slice() == source && texts.1.as_slice() == schedule,
+        Err(_) => false,
+    }
+}
+
 #[test]
-fn makes_the_smallest(rt: HostRuntime) -> Result<(), Fail> {
-    let (source, schedule) = make(rt.alloc(), 0)?;
-    assert_eq!(rt; source.as_slice(), SOURCE_0);
-    assert_eq!(rt; schedule.as_slice(), b"all 76\n".as_slice());
-    Ok(())
+fn makes_the_smallest(rt: HostRuntime) {
+    assert!(rt; is_made(rt.alloc(), 0, SOURCE_0, b"all 76\n"));
 }
 
 const END_OF_SOURCE_30: &[u8] = b"else by { receive c30 x; send c31 x; } else error;
@@ -37,25 +42,22 @@ print x; } }
 end.
 ";
 
-#[test]
-fn makes_the_longest_chain(rt: HostRuntime) -> Result<(), Fail> {
-    let (source, schedule) = make(rt.alloc(), 30)?;
-    assert!(rt; source.as_slice().ends_with(END_OF_SOURCE_30));
-    assert_eq!(rt; schedule.as_slice(), b"all 316\n".as_slice());
-    Ok(())
+// Whether a trial has a source of this length and with this end, and this schedule.
+fn ends_as(alloc: Global, number: u64, length: usize, end: &[u8], schedule: &[u8]) -> bool {
+    match make(alloc, number) {
+        Ok(texts) => {
+            texts.0.len() == length
+                && texts.0.as_slice().ends_with(end)
+                && texts.1.as_slice() == schedule
+        }
+        Err(_) => false,
+    }
 }
 
 #[test]
-fn makes_larger_ones(rt: HostRuntime) -> Result<(), Fail> {
-    for (number, length, turns) in [
-        (30, 7838, b"all 316\n".as_slice()),
-        (34, 1215, b"all 200\n"),
-        (1549, 7870, b"all 15800\n"),
-        (u64::MAX, 4133, b"all 196\n"),
-    ] {
-        let (source, schedule) = make(rt.alloc(), number)?;
-        assert_eq!(rt; source.len(), length);
-        assert_eq!(rt; schedule.as_slice(), turns);
-    }
-    Ok(())
+fn makes_larger_ones(rt: HostRuntime) {
+    assert!(rt; ends_as(rt.alloc(), 30, 7838, END_OF_SOURCE_30, b"all 316\n"));
+    assert!(rt; ends_as(rt.alloc(), 34, 1215, b"", b"all 200\n"));
+    assert!(rt; ends_as(rt.alloc(), 1549, 7870, b"", b"all 15800\n"));
+    assert!(rt; ends_as(rt.alloc(), u64::MAX, 4133, b"", b"all 196\n"));
 }

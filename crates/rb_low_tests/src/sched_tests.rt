@@ -1,100 +1,115 @@
 //! Schedules that are walked to their end, the longest one too, and texts that are refused.
 
-ghost use Rattle.std.specs.Prelude.{◌≡◌, vec_len, IfOk};
-
-use rb_base::{FaultName, Memory, Names, ProcessNames, Text, TextFault};
+use crate::names::names_of;
+use rb_base::{FaultName, Names, TextFault};
 use rb_sched::Schedule;
 use std::alloc::Global;
-use std::test::Fail;
 
-fn process(alloc: Global, name: &[u8]) -> Result<ProcessNames, Memory> {
-    Ok(ProcessNames {
-        name: Text::from_slice(alloc, name)?,
-        variables: Vec::new(alloc),
-    })
-}
-
-// The names of the processes p and q1.
-fn names(alloc: Global) -> Result<Names, Memory>
-    ensures { IfOk result (λ names. vec_len names.processes ≡ 2) }
-{
-    let mut processes = Vec::new(alloc);
-    processes.push(process(alloc, b"p")?)?;
-    processes.push(process(alloc, b"q1")?)?;
-    Ok(Names {
-        processes,
-        channels: Vec::new(alloc),
-        conversations: Vec::new(alloc),
-    })
-}
-
-#[test]
-fn walks(rt: HostRuntime) -> Result<(), Fail> {
-    let names = names(rt.alloc())?;
-    for (text, turns) in [
-        (b"".as_slice(), [].as_slice()),
-        (b"\n\n# p 1\r\n \t\n", &[]),
-        (b"p\t1\r\n  p 1 # last", &[0, 0]),
-        (b"all 2", &[0, 1, 0, 1]),
-        (b"p 2\n\nall 1\nq1 1\n", &[0, 0, 0, 1, 1]),
-        (b"p 1#x", &[0]),
-        (b"p 1 # a\rb\nq1 1\r", &[0, 1]),
-        (b"q1 00000000000000000000000000000000000000001", &[1]),
-    ] {
-        assert!(rt; text.len() < 100);
-        let mut schedule = Schedule::read(text, &names)?;
-        assert_eq!(rt; schedule.turns() as usize, turns.len(), "{text:?}");
-        for turn in turns {
-            assert_eq!(rt; schedule.next(), Some(*turn), "{text:?}");
-        }
-        assert_eq!(rt; schedule.next(), None, "{text:?}");
-        assert_eq!(rt; schedule.next(), None, "{text:?}");
+// Whether a schedule names these processes turn by turn, and then none, asked twice.
+fn names_each(schedule: &mut Schedule, turns: &[u32]) -> bool {
+    if schedule.turns() as usize != turns.len() {
+        return false;
     }
-    Ok(())
+    for turn in turns {
+        if schedule.next() != Some(*turn) {
+            return false;
+        }
+    }
+    schedule.next().is_none() && schedule.next().is_none()
+}
+
+// Whether a text over the processes p and q1 has these turns.
+fn has_turns(alloc: Global, text: &[u8], turns: &[u32]) -> bool {
+    let Ok(names) = names_of(alloc, b"p", b"q1") else {
+        return false;
+    };
+    if text.len() >= 100 {
+        return false;
+    }
+    match Schedule::read(text, &names) {
+        Ok(mut schedule) => names_each(&mut schedule, turns),
+        Err(_) => false,
+    }
 }
 
 #[test]
-fn refuses(rt: HostRuntime) -> Result<(), Fail> {
-    let names = names(rt.alloc())?;
-    for (text, name, at) in [
-        (b"p".as_slice(), FaultName::T1, 1),
-        (b"p 1\np 1 1", FaultName::T1, 2),
-        (b"1p 1", FaultName::T1, 1),
-        (b"p -1", FaultName::T1, 1),
-        (b"p\r1", FaultName::T1, 1),
-        (b"p 1\r\r\n", FaultName::T1, 1),
-        (b"all 1\n\nr 1\np", FaultName::T2, 3),
-        (b"r 0", FaultName::T2, 1),
-        (b"q 1", FaultName::T2, 1),
-        (
+fn walks(rt: HostRuntime) {
+    let alloc = rt.alloc();
+    assert!(rt; has_turns(alloc, b"", &[]));
+    assert!(rt; has_turns(alloc, b"\n\n# p 1\r\n \t\n", &[]));
+    assert!(rt; has_turns(alloc, b"p\t1\r\n  p 1 # last", &[0, 0]));
+    assert!(rt; has_turns(alloc, b"all 2", &[0, 1, 0, 1]));
+    assert!(rt; has_turns(alloc, b"p 2\n\nall 1\nq1 1\n", &[0, 0, 0, 1, 1]));
+    assert!(rt; has_turns(alloc, b"p 1#x", &[0]));
+    assert!(rt; has_turns(alloc, b"p 1 # a\rb\nq1 1\r", &[0, 1]));
+    assert!(rt; has_turns(alloc, b"q1 00000000000000000000000000000000000000001", &[1]));
+}
+
+// Whether a text over the processes p and q1 is refused for this fault, in this line.
+fn is_refused(alloc: Global, text: &[u8], name: FaultName, at: u32) -> bool {
+    let Ok(names) = names_of(alloc, b"p", b"q1") else {
+        return false;
+    };
+    if text.len() >= 100 {
+        return false;
+    }
+    match Schedule::read(text, &names) {
+        Ok(_) => false,
+        Err(fault) => fault == TextFault { name, at },
+    }
+}
+
+#[test]
+fn refuses(rt: HostRuntime) {
+    let alloc = rt.alloc();
+    assert!(rt; is_refused(alloc, b"p", FaultName::T1, 1));
+    assert!(rt; is_refused(alloc, b"p 1\np 1 1", FaultName::T1, 2));
+    assert!(rt; is_refused(alloc, b"1p 1", FaultName::T1, 1));
+    assert!(rt; is_refused(alloc, b"p -1", FaultName::T1, 1));
+    assert!(rt; is_refused(alloc, b"p\r1", FaultName::T1, 1));
+    assert!(rt; is_refused(alloc, b"p 1\r\r\n", FaultName::T1, 1));
+    assert!(rt; is_refused(alloc, b"all 1\n\nr 1\np", FaultName::T2, 3));
+    assert!(rt; is_refused(alloc, b"r 0", FaultName::T2, 1));
+    assert!(rt; is_refused(alloc, b"q 1", FaultName::T2, 1));
+    assert!(rt;
+        is_refused(
+            alloc,
             b"aaaaaaaaaaaaaaaaaaaaaaaaaaaaaaaaaaaaaaaaaaaaaaaaaaaaaaaaaaaaaaaaaaaaaa 1",
             FaultName::T2,
-            1,
-        ),
-        (b"p 1\np 00", FaultName::T3, 2),
-        (b"p 1000001", FaultName::T3, 1),
-        (b"all 99999999999999999999999999", FaultName::T3, 1),
-        (b"p 600000\np 600000", FaultName::T4, 2),
-        (b"all 500001", FaultName::T4, 1),
-    ] {
-        assert!(rt; text.len() < 100);
-        let fault = TextFault { name, at };
-        assert_eq!(rt; Schedule::read(text, &names).err(), Some(fault), "{text:?}");
+            1
+        )
+    );
+    assert!(rt; is_refused(alloc, b"p 1\np 00", FaultName::T3, 2));
+    assert!(rt; is_refused(alloc, b"p 1000001", FaultName::T3, 1));
+    assert!(rt; is_refused(alloc, b"all 99999999999999999999999999", FaultName::T3, 1));
+    assert!(rt; is_refused(alloc, b"p 600000\np 600000", FaultName::T4, 2));
+    assert!(rt; is_refused(alloc, b"all 500001", FaultName::T4, 1));
+}
+
+// Whether the turns take both processes in turn, so many times, and then the first alone.
+fn is_longest(schedule: &mut Schedule) -> bool {
+    for turn in 0..800_000 {
+        if schedule.next() != Some(turn % 2) {
+            return false;
+        }
     }
-    Ok(())
+    for _ in 0..200_000 {
+        if schedule.next() != Some(0) {
+            return false;
+        }
+    }
+    schedule.next().is_none()
+}
+
+fn walks_longest(names: &Names) -> bool {
+    match Schedule::read(b"all 400000\np 200000", names) {
+        Ok(mut schedule) => schedule.turns() == 1_000_000 && is_longest(&mut schedule),
+        Err(_) => false,
+    }
 }
 
 #[test]
-fn walks_the_longest(rt: HostRuntime) -> Result<(), Fail> {
-    let names = names(rt.alloc())?;
-    let mut schedule = Schedule::read(b"all 400000\np 200000", &names)?;
-    assert_eq!(rt; schedule.turns(), 1_000_000);
-    for turn in 0..800_000 {
-        assert!(rt; schedule.next() == Some(turn % 2));
-    }
-    for _ in 0..200_000 {
-        assert!(rt; schedule.next() == Some(0));
-    }
-    assert_eq!(rt; schedule.next(), None);
-    Ok(())
+fn walks_the_longest(rt: HostRuntime) {
+    let names = names_of(rt.alloc(), b"p", b"q1").expect(&rt, "memory");
+    assert!(rt; walks_longest(&names));
 }
