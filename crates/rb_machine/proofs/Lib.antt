@@ -14,6 +14,8 @@ pub mod Turning
 pub mod Rejecting
 pub mod Passing
 pub mod Releasing
+-- Turns that change nothing.
+pub mod Unmoved
 -- What a turn costs.
 pub mod Working
 -- What the links lead to.

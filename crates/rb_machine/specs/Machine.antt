@@ -9,10 +9,12 @@ use Rattle.rb_code.specs.WordMachine.WordRun.{WordWorld, opening_of, word_run}
 use Rattle.rb_conv.specs.Conversations.{memberships}
 use Rattle.rb_machine.specs.AtWork.{IsAtWork}
 use Rattle.rb_machine.specs.Moves.{world}
+use Rattle.rb_machine.specs.Resting.{AreNoted}
 use Rattle.rb_machine.specs.Telling.{AreFreed, running_of}
 use Rattle.rb_machine.specs.Work.{enters_there}
 use Rattle.rb_machine.specs.Worlds.{NoneWaits, lines_of, processes_of}
 use Rattle.rb_machine.specs.declared.parts.Parts.{Parts}
+use Rattle.rb_machine.specs.declared.rests.Resting.{Resting}
 
 pub record Seen : Type 0 where
   pub code : Code
@@ -33,8 +35,9 @@ seen c parts taken most = record {
 }
 
 -- What ties the parts: they stand for a world of a run, before the next turn; it is known who runs; who has no level holds no
--- line; it is known where no released line waits; and there is room for the links of all turns that may come.
-pub record IsTied {L : Type 0} (c : Code) (parts : Parts L) (running : List Bool) (links room taken most : ℕ) (released : Bool) : Type 0 where
+-- line; it is known where no released line waits; there is room for the links of all turns that may come; and who was noted to rest does.
+pub record IsTied {L : Type 0} (c : Code) (parts : Parts L) (running : List Bool) (links room taken most : ℕ) (released : Bool)
+    (resting : Resting) : Type 0 where
   pub work : IsAtWork c (taken + 1) parts.procs.items parts.table parts.mails.items parts.links.items
   pub running_is : running ≡ running_of (processes_of parts.procs.items)
   pub freed : AreFreed (processes_of parts.procs.items)
@@ -43,6 +46,7 @@ pub record IsTied {L : Type 0} (c : Code) (parts : Parts L) (running : List Bool
   pub links_room : most ≤ room
   pub taken_few : taken ≤ most
   pub most_few : most < 2 ^ 32 - 1
+  pub noted : AreNoted c (memberships parts.table) (world parts) resting.rests.items resting.changed taken
 
 -- before the first turn
 abbrev pub opening_seen : Code → List Membership → ℕ → Seen

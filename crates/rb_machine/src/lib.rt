@@ -13,6 +13,7 @@ pub mod machine;
 pub mod moves;
 pub mod parts;
 pub mod reading;
+pub mod rests;
 pub mod step;
 pub mod survivors;
 pub mod telling;

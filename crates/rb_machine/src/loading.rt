@@ -16,6 +16,7 @@ ghost use Rattle.rb_machine.specs.Telling.{running_of};
 ghost use Rattle.rb_machine.specs.Worlds.{counts_of, processes_of};
 
 use crate::parts::Parts;
+use crate::rests::Resting;
 use crate::telling::note_running;
 use rb_base::{Memory, Nested, Steps};
 use rb_code::{BlockCode, ChannelCode, Code};
@@ -25,11 +26,12 @@ use rb_proc::Proc;
 use std::alloc::Global;
 use std::sync::ledger::Ledger;
 
-/// The parts of a machine before its first turn, and who runs.
+/// The parts of a machine before its first turn, who runs, and that nobody is known to rest.
 #[derive(Drop)]
 pub struct Loaded<L: Ledger> {
     pub parts: Parts<L>,
     pub running: Vec<bool>,
+    pub resting: Resting,
 }
 
 /// Loads a program with room for the links of so many turns; `Memory` if it is wanting, or if 32 bits do not number the instructions and
@@ -47,7 +49,7 @@ pub fn load_parts<L: Ledger>(
         (λ loaded. seen (plain code.now) loaded.parts 0 turns ≡ opening_seen (plain code.now) (memberships (opening nested.now)) turns) }
     ensures tied { IfOk result
         (λ loaded. IsTied (plain code.now) loaded.parts loaded.running.items (vec_len loaded.parts.links)
-        (vec_capacity loaded.parts.links) 0 turns false) }
+        (vec_capacity loaded.parts.links) 0 turns false loaded.resting) }
 {
     if !is_numbered(code) {
         return Err(Memory);
@@ -57,6 +59,7 @@ pub fn load_parts<L: Ledger>(
     let table = Table::new(alloc, nested)?;
     let links = Vec::with_capacity(alloc, turns as usize)?;
     let running = who_runs(alloc, &procs)?;
+    let resting = Resting::new(alloc, procs.len())?;
     Ok(Loaded {
         parts: Parts {
             procs,
@@ -65,6 +68,7 @@ pub fn load_parts<L: Ledger>(
             links,
         },
         running,
+        resting,
     })
 }
 

@@ -22,6 +22,7 @@ use crate::loading::load_parts;
 use crate::moves::take_turn;
 use crate::parts::Parts;
 use crate::reading::{sent_on, state_at, taken_on, word_at};
+use crate::rests::{Resting, is_bare, is_still};
 use crate::survivors::survivors;
 use crate::telling::{drop_all_released, finish, tell_opening};
 use arrayvec::ArrayVec;
@@ -41,6 +42,7 @@ pub struct Machine<'a, L: Ledger> {
     taken: u32,
     most: u32,
     released: bool,
+    resting: Resting,
 }
 
 impl<'a, L: Ledger> Model for Machine<'a, L> {
@@ -53,7 +55,7 @@ impl<'a, L: Ledger> Model for Machine<'a, L> {
     ghost view = { λ m. seen (plain m.code.now) m.parts m.taken m.most };
 
     ghost invariant = { λ m. IsTied (plain m.code.now) m.parts m.running.items (vec_len m.parts.links)
-        (vec_capacity m.parts.links) m.taken m.most m.released };
+        (vec_capacity m.parts.links) m.taken m.most m.released m.resting };
 }
 
 impl<'a, L: Ledger> Machine<'a, L> {
@@ -78,6 +80,7 @@ impl<'a, L: Ledger> Machine<'a, L> {
             taken: 0,
             most: turns,
             released: false,
+            resting: loaded.resting,
         })
     }
 
@@ -107,6 +110,27 @@ impl<'a, L: Ledger> Machine<'a, L> {
         ensures work { steps.new ≤ steps.old + turn_work self.old.code self.old.groups (self.old.taken + 1) p self.old.world }
         ensures entry { IsKeptEntry self.old p → steps.new ≤ steps.old }
     {
+        match self.resting.kind(p) {
+            Some(kind) => {
+                report.events.clear();
+                report.kind = kind;
+                self.taken += 1;
+                self.released = false;
+            }
+            None => self.take(p, report, steps),
+        }
+    }
+
+    // A turn of process p, which isn't known to rest.
+    #[inline(never)]
+    fn take(&mut self, p: u32, report: &mut Report, steps: &mut Steps<L>)
+        requires more { self.old.taken < self.old.most }
+        requires waits { self.old.waiting ≡ replicate (length self.old.world.processes) [] }
+        ensures turned { HasTurned self.old p self.new (told_of report.new.kind report.new.events.items self.new.waiting) }
+        ensures work { steps.new ≤ steps.old + turn_work self.old.code self.old.groups (self.old.taken + 1) p self.old.world }
+        ensures entry { IsKeptEntry self.old p → steps.new ≤ steps.old }
+    {
+        let bare = is_bare(&self.parts.procs, p);
         self.taken += 1;
         self.released = turn(
             self.code,
@@ -117,6 +141,8 @@ impl<'a, L: Ledger> Machine<'a, L> {
             report,
             steps,
         );
+        let still = bare && is_still(report.kind);
+        self.resting.note(still, p, self.taken, report.kind);
     }
 
     /// Forgets the released lines that wait, and answers how many they were.

@@ -84,7 +84,7 @@ running_one (suc p) (x ∷ xs) (y ∷ ys) q same here =
     ∙ ap (λ (bs : List Bool). is_running y.status ∷ bs) (running_one p xs ys q same.1 here)
 
 -- who holds no line is as it is once lines were released, and tells none
-state_same : (c : Code) (levels : List (Level Copy)) (s : Standing) → HoldsNone levels s → state_freed (kind_of c) s levels ≡ s
+pub state_same : (c : Code) (levels : List (Level Copy)) (s : Standing) → HoldsNone levels s → state_freed (kind_of c) s levels ≡ s
 state_same c [] s none = none.0
 state_same c (level ∷ levels) s none = refl
 

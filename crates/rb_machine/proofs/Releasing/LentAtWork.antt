@@ -12,11 +12,14 @@ use Rattle.rb_proc.specs.Process.{Seen}
 use Rattle.rb_machine.specs.AtWork.{IsAtWork}
 use Rattle.rb_machine.specs.Known.{IsKnown}
 use Rattle.rb_machine.specs.Machine.{IsTied}
+use Rattle.rb_machine.specs.Moves.{world}
 use Rattle.rb_machine.specs.Reading.{HasLent}
+use Rattle.rb_machine.specs.Resting.{AreNoted}
 use Rattle.rb_machine.specs.Telling.{AreFreed, running_of}
-use Rattle.rb_machine.specs.Worlds.{NoneWaits, counts_of, lines_of, memory_of, processes_of}
+use Rattle.rb_machine.specs.Worlds.{NoneWaits, counts_of, lines_of, memory_of, processes_of, world_of}
 use Rattle.rb_machine.specs.declared.links.Link.{Link}
 use Rattle.rb_machine.specs.declared.parts.Parts.{Parts}
+use Rattle.rb_machine.specs.declared.rests.Resting.{Resting}
 use Rattle.rb_machine.proofs.Turning.TurnOfParts.{none_wait}
 
 -- the lines that wait are no part of a world
@@ -51,12 +54,12 @@ still_none old new p lent none =
     (lent ∙ (ap (λ (lines : List (List (List ℕ))). without_next lines p) (waits_none old none) ∙ empty_next (length old) p))
 
 -- so parts with the same processes, and with all else the same, are tied again
-pub tied_same : {L : Type 0} (c : Code) (old new : Parts L) (running : List Bool) (taken most : ℕ) (before released : Bool)
-    → IsTied c old running (vec_len old.links) (vec_capacity old.links) taken most before
+pub tied_same : {L : Type 0} (c : Code) (old new : Parts L) (running : List Bool) (taken most : ℕ) (before released : Bool) (resting : Resting)
+    → IsTied c old running (vec_len old.links) (vec_capacity old.links) taken most before resting
     → processes_of new.procs.items ≡ processes_of old.procs.items → new.mails ≡ old.mails → new.table ≡ old.table → new.links ≡ old.links
     → (released ≡ false → NoneWaits new.procs.items)
-    → IsTied c new running (vec_len new.links) (vec_capacity new.links) taken most released
-tied_same c old new running taken most before released tied processes mails table links none = record {
+    → IsTied c new running (vec_len new.links) (vec_capacity new.links) taken most released resting
+tied_same c old new running taken most before released resting tied processes mails table links none = record {
   work = subst (λ table. IsAtWork c (taken + 1) new.procs.items table new.mails.items new.links.items) (sym table)
       (subst (λ mails. IsAtWork c (taken + 1) new.procs.items old.table mails.items new.links.items) (sym mails)
       (subst (λ links. IsAtWork c (taken + 1) new.procs.items old.table old.mails.items links.items) (sym links)
@@ -68,13 +71,21 @@ tied_same c old new running taken most before released tied processes mails tabl
   links_room = subst (λ links. most ≤ vec_capacity links) (sym links) tied.links_room;
   taken_few = tied.taken_few;
   most_few = tied.most_few;
+  noted = subst (λ table. AreNoted c (memberships table) (world_of new.procs.items table (memory_of new.mails.items new.links.items))
+      resting.rests.items resting.changed taken) (sym table)
+      (subst (λ mails. AreNoted c (memberships old.table) (world_of new.procs.items old.table (memory_of mails.items new.links.items))
+      resting.rests.items resting.changed taken) (sym mails)
+      (subst (λ links. AreNoted c (memberships old.table) (world_of new.procs.items old.table (memory_of old.mails.items links.items))
+      resting.rests.items resting.changed taken) (sym links)
+      (subst (λ (all : List (Process Standing Copy)). AreNoted c (memberships old.table) (record (world old) { processes = all })
+      resting.rests.items resting.changed taken) (sym processes) tied.noted)));
 }
 
-pub tied_again : {L : Type 0} (c : Code) (old new : Parts L) (running : List Bool) (taken most : ℕ) (released : Bool) (p : ℕ)
-    → IsTied c old running (vec_len old.links) (vec_capacity old.links) taken most released → HasLent p old new
-    → IsTied c new running (vec_len new.links) (vec_capacity new.links) taken most released
-tied_again c old new running taken most released p tied lent =
-    tied_same c old new running taken most released released tied lent.processes lent.mails lent.table lent.links
+pub tied_again : {L : Type 0} (c : Code) (old new : Parts L) (running : List Bool) (taken most : ℕ) (released : Bool) (resting : Resting) (p : ℕ)
+    → IsTied c old running (vec_len old.links) (vec_capacity old.links) taken most released resting → HasLent p old new
+    → IsTied c new running (vec_len new.links) (vec_capacity new.links) taken most released resting
+tied_again c old new running taken most released resting p tied lent =
+    tied_same c old new running taken most released released resting tied lent.processes lent.mails lent.table lent.links
     (λ e. still_none old.procs.items new.procs.items p lent.lines (tied.none_waits e))
 
 -- each channel has its counts

@@ -1,18 +1,26 @@
 -- What was loaded is the machine before its first turn.
-use Rattle.std.proofs.Common.{List, length, map, ap, sym, ◌∙◌, subst, arith}
+use Rattle.std.proofs.Common.{List, length, map, replicate, ap, sym, ◌∙◌, subst, arith}
 use Rattle.std.specs.List.{All}
+use Rattle.rb_base.specs.declared.event.TurnKind.TheVariants.{Idle}
+use Rattle.rb_world.specs.Kind.{Membership}
 use Rattle.rb_world.specs.Slots.{zero_slots}
 use Rattle.rb_code.specs.Instructions.Plain.{channel, code as plain}
 use Rattle.rb_code.specs.SoundCode.WellFormed.{JoinsTwo}
+use Rattle.rb_code.specs.WordMachine.WordRun.{WordWorld}
 use Rattle.rb_code.specs.declared.code.ChannelCode.{ChannelCode}
 use Rattle.rb_conv.specs.Conversations.{memberships, opening}
 use Rattle.rb_proc.specs.Process.{Seen}
 use Rattle.rb_machine.specs.Machine.{Seen as Machine}
+use Rattle.rb_machine.specs.Moves.{world}
+use Rattle.rb_machine.specs.Resting.{AreNoted}
 use Rattle.rb_machine.specs.Telling.{running_of}
 use Rattle.rb_machine.specs.Worlds.{processes_of}
+use Rattle.rb_machine.specs.declared.rests.Rest.{Rest}
+use Rattle.rb_machine.specs.declared.rests.Resting.{Resting}
 use Rattle.rb_machine.proofs.Beginning.ExecutableCode.{is_executable}
 use Rattle.rb_machine.proofs.Beginning.Opens.{channels_sized, opens_as, opens_at_work, opens_freed, settles}
 use Rattle.rb_machine.proofs.Turning.TurnOfParts.{none_wait}
+use Rattle.rb_machine.proofs.Unmoved.Noted.{none_noted}
 use Rattle.rb_machine.proofs.loading.load_parts.Goals as goal
 
 pub load_processes-requires-clause-code : goal.load_processes-requires-clause-code
@@ -52,4 +60,18 @@ returns-clause-tied g c = record {
   links_room = omega (arith, c.in_ok-links.ensures.capacity);
   taken_few = omega arith;
   most_few = c.requires.turns;
+  noted =
+      let code = plain c.args.code.now in
+      let groups : List Membership = memberships c.in_ok-table.table in
+      let resting : Resting = c.in_ok-resting.resting in
+      let first : WordWorld = world {L = g.row.L.Denot} (record {
+        procs = c.in_ok-procs.procs;
+        mails = c.in_ok-mails.mails;
+        table = c.in_ok-table.table;
+        links = c.in_ok-links.links;
+      }) in
+      let none : List Rest = replicate c.len.result (record { since = 0; kind = Idle }) in
+      subst (λ (rests : List Rest). AreNoted code groups first rests resting.changed 0) (sym c.in_ok-resting.ensures.rests)
+      (subst (λ changed. AreNoted code groups first none changed 0) (sym c.in_ok-resting.ensures.changed)
+      (none_noted code groups first c.len.result));
 }

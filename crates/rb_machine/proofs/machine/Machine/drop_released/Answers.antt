@@ -35,6 +35,6 @@ invariant_of-self g c =
     let inside = c.self.inside in
     let parts = inside.parts in
     let is = with_items_is parts.procs c.drop_all_released.new.procs (omega (arith, c.drop_all_released.auto.procs, c.deref_mut.ensures.len)) in
-    tied_same (plain inside.code.now) parts _ inside.running.items inside.taken inside.most inside.released false c.self.invariant
+    tied_same (plain inside.code.now) parts _ inside.running.items inside.taken inside.most inside.released false inside.resting c.self.invariant
     (ap processes_of is ∙ (c.drop_all_released.ensures.processes ∙ ap processes_of c.deref_mut.ensures.value)) refl refl refl
     (λ e. none_wait _ _ (ap lines_of is ∙ c.drop_all_released.ensures.none))

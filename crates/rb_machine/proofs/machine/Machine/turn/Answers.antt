@@ -1,26 +1,39 @@
--- The parts are at work before the next turn, and no line waits.
-use Rattle.std.proofs.Common.{length, slice_get, ap, sym, ◌∙◌, subst}
-use Rattle.rb_world.specs.Turn.{Told}
+-- A turn of a process that is known to rest.
+use Rattle.std.proofs.Common.{◌≡◌, ◌+◌, ◌<◌, List, length, ap, sym, ◌∙◌, subst, arith}
+use Rattle.rb_base.specs.declared.event.Event.{Event}
 use Rattle.rb_code.specs.Instructions.Plain.{code as plain}
-use Rattle.rb_code.specs.WordMachine.WordRun.{WordWorld}
-use Rattle.rb_machine.specs.Machine.{IsKeptEntry, Seen}
-use Rattle.rb_machine.specs.Work.{enters_there}
-use Rattle.rb_machine.specs.Worlds.{processes_of}
+use Rattle.rb_trace.specs.Report.{told_of}
+use Rattle.rb_machine.specs.Machine.{HasTurned, Seen, seen}
+use Rattle.rb_machine.specs.Worlds.{lines_of}
 use Rattle.rb_machine.proofs.Turning.TurnOfParts.{none_wait}
+use Rattle.rb_machine.proofs.Unmoved.RestedTurns.{rested_tied, rested_turn}
 use Rattle.rb_machine.proofs.machine.Machine.turn.Goals as goal
 
-pub turn-self-inside-requires-clause-work : goal.turn-self-inside-requires-clause-work
-turn-self-inside-requires-clause-work g c = record {
-  work = c.self.invariant.work;
-  waits = none_wait c.self.inside.parts.procs.items (length c.args.self.now.world.processes)
-      (ap (λ (machine : Seen). machine.waiting) c.self.view_is ∙ c.requires.waits);
-}
-
-pub returns-clause-entry : goal.returns-clause-entry
-returns-clause-entry g c e =
+pub invariant_of-self : goal.invariant_of-self
+invariant_of-self g c =
     let inside = c.self.inside in
-    let entry = subst (λ (machine : Seen). IsKeptEntry machine c.args.p) (sym c.self.view_is) e in
-    c.turn-self-inside.ensures.entry
-    (ap (λ (pair : WordWorld × Told). enters_there (plain inside.code.now) pair.1.kind (slice_get (processes_of inside.parts.procs.items) c.args.p))
-    c.turn-self-inside.ensures.turned
-    ∙ entry)
+    let rests = c.self.invariant.noted.rest c.args.p c.in-Some.kind (sym c.kind.ensures ∙ c.in-Some.is) in
+    let none = none_wait inside.parts.procs.items (length c.args.self.now.world.processes)
+    (ap (λ (machine : Seen). machine.waiting) c.self.view_is ∙ c.requires.waits) in
+    let more : inside.taken < inside.most = omega (
+      arith,
+      c.requires.more,
+      ap (λ (machine : Seen). machine.taken) c.self.view_is,
+      ap (λ (machine : Seen). machine.most) c.self.view_is,
+    ) in
+    rested_tied (plain inside.code.now) inside.parts inside.taken inside.most c.args.p c.in-Some.kind rests none inside.running.items _ _
+    inside.released inside.resting c.self.invariant more
+
+pub returns-in-Some-clause-turned : goal.returns-in-Some-clause-turned
+returns-in-Some-clause-turned g c =
+    let inside = c.self.inside in
+    let code = plain inside.code.now in
+    let lines = lines_of inside.parts.procs.items in
+    let after : Seen = seen code inside.parts (inside.taken + 1) inside.most in
+    let rests = c.self.invariant.noted.rest c.args.p c.in-Some.kind (sym c.kind.ensures ∙ c.in-Some.is) in
+    let none = none_wait inside.parts.procs.items (length c.args.self.now.world.processes)
+    (ap (λ (machine : Seen). machine.waiting) c.self.view_is ∙ c.requires.waits) in
+    subst (λ (old : Seen). HasTurned old c.args.p after (told_of c.in-Some.kind c.clear.new.self.items lines)) c.self.view_is
+    (subst (λ (events : List Event).
+    HasTurned (seen code inside.parts inside.taken inside.most) c.args.p after (told_of c.in-Some.kind events lines)) (sym c.clear.ensures)
+    (rested_turn code inside.parts inside.taken inside.most c.args.p c.in-Some.kind rests none))

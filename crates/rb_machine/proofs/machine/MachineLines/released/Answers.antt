@@ -6,5 +6,5 @@ use Rattle.rb_machine.proofs.machine.MachineLines.released.Goals as goal
 pub invariant_of-self : goal.invariant_of-self
 invariant_of-self g c =
     let inside = c.self.inside in
-    tied_again (plain inside.code.now) inside.parts c.released.follows.lender-at-none inside.running.items inside.taken inside.most inside.released c.args.p
+    tied_again (plain inside.code.now) inside.parts c.released.follows.lender-at-none inside.running.items inside.taken inside.most inside.released inside.resting c.args.p
     c.self.invariant c.released.follows.holds-at-none

@@ -1,0 +1,5 @@
+-- Turns that change nothing: of who is done, and of who waits with no level open.
+pub mod MovesUnmoved
+pub mod TurnsUnmoved
+pub mod Noted
+pub mod RestedTurns

@@ -1,0 +1,90 @@
+-- The parts are at work before the next turn, no line waits, and who was noted to rest does.
+use Rattle.std.proofs.Common.{◌≡◌, ◌+◌, ◌≤◌, Bool, true, List, length, slice_get, refl, ap, sym, ◌∙◌, subst, arith}
+use Rattle.std.proofs.lemmas.List.{with_items_is}
+use Rattle.rb_world.specs.Kind.{Membership}
+use Rattle.rb_world.specs.Turn.{Told}
+use Rattle.rb_code.specs.Instructions.Plain.{code as plain}
+use Rattle.rb_code.specs.WordMachine.WordRun.{WordWorld}
+use Rattle.rb_conv.specs.Conversations.{memberships}
+use Rattle.rb_proc.specs.Process.{Seen as Process}
+use Rattle.rb_trace.specs.Report.{told_of}
+use Rattle.rb_machine.specs.Machine.{IsKeptEntry, Seen}
+use Rattle.rb_machine.specs.Moves.{world}
+use Rattle.rb_machine.specs.Resting.{AreNoted, IsBare, changed_after, is_still, rests_after}
+use Rattle.rb_machine.specs.Work.{enters_there, turn_work}
+use Rattle.rb_machine.specs.Worlds.{lines_of, processes_of}
+use Rattle.rb_machine.specs.declared.rests.Rest.{Rest}
+use Rattle.rb_machine.proofs.Turning.TurnOfParts.{none_wait}
+use Rattle.rb_machine.proofs.Unmoved.Noted.{noted_after}
+use Rattle.rb_machine.proofs.machine.Machine.take.Goals as goal
+use Rattle.rb_machine.proofs.machine.Machine.take.Goals.{else-bare, then-bare}
+
+pub turn-self-inside-requires-clause-work : goal.turn-self-inside-requires-clause-work
+turn-self-inside-requires-clause-work g c = record {
+  work = c.self.invariant.work;
+  waits = none_wait c.self.inside.parts.procs.items (length c.args.self.now.world.processes)
+      (ap (λ (machine : Seen). machine.waiting) c.self.view_is ∙ c.requires.waits);
+}
+
+pub invariant_of-self : goal.invariant_of-self
+invariant_of-self g c =
+    let inside = c.self.inside in
+    let code = plain inside.code.now in
+    let groups : List Membership = memberships inside.parts.table in
+    let turned = c.turn-self-inside in
+    let after = turned.new.parts in
+    let kind = turned.new.report.kind in
+    let told : Told = told_of kind turned.new.report.events.items (lines_of after.procs.items) in
+    let running = with_items_is inside.running turned.new.running (omega (arith, turned.auto.running, c.deref_mut.ensures.len)) in
+    let both : c.if-bare.still ≡ true → (c.is_bare-bare.result ≡ true) × (is_still kind ≡ true) =
+    elim c.if-bare.branch [
+      | then-bare w ↦ λ e. (w.if-bare.true, sym w.is_still-still.ensures ∙ (sym w.still-is ∙ e))
+      | else-bare w ↦ λ e. absurd (cc)
+    ] in
+    let noted : AreNoted code groups (world after) (rests_after c.if-bare.still inside.resting.rests.items c.args.p (inside.taken + 1) kind)
+    (changed_after c.if-bare.still inside.resting.changed (inside.taken + 1)) (inside.taken + 1) =
+    noted_after code groups inside.resting.rests.items inside.resting.changed inside.taken c.if-bare.still (world inside.parts) (world after)
+    (inside.taken + 1) c.args.p told kind c.self.invariant.noted c.self.invariant.freed turned.ensures.turned refl
+    (λ e. subst (λ (procs : List Process). IsBare (slice_get (processes_of procs) c.args.p)) c.deref.ensures.value
+    (c.is_bare-bare.ensures ((both e).0)))
+    (λ e. (both e).1) in
+    record {
+      work = turned.ensures.at_work;
+      running_is = running ∙ turned.ensures.running;
+      freed = turned.ensures.freed;
+      none_waits = turned.ensures.none_waits;
+      links_few = omega (arith, turned.ensures.links, c.self.invariant.links_few);
+      links_room = omega (arith, turned.ensures.room, c.self.invariant.links_room);
+      taken_few = omega (
+        arith,
+        c.requires.more,
+        ap (λ (machine : Seen). machine.taken) c.self.view_is,
+        ap (λ (machine : Seen). machine.most) c.self.view_is,
+      );
+      most_few = c.self.invariant.most_few;
+      noted =
+          subst (λ (others : List Membership).
+          AreNoted code others (world after) c.note.new.self.rests.items c.note.new.self.changed (inside.taken + 1))
+          (sym turned.ensures.groups.members)
+          (subst (λ (rests : List Rest). AreNoted code groups (world after) rests c.note.new.self.changed (inside.taken + 1))
+          (sym c.note.ensures.rests)
+          (subst (λ changed.
+          AreNoted code groups (world after) (rests_after c.if-bare.still inside.resting.rests.items c.args.p (inside.taken + 1) kind) changed
+          (inside.taken + 1)) (sym c.note.ensures.changed) noted));
+    }
+
+pub returns-clause-work : goal.returns-clause-work
+returns-clause-work g c =
+    subst (λ (machine : Seen).
+    c.turn-self-inside.new.steps
+    ≤ c.args.steps.now + turn_work machine.code machine.groups (machine.taken + 1) c.args.p machine.world)
+    c.self.view_is c.turn-self-inside.ensures.work
+
+pub returns-clause-entry : goal.returns-clause-entry
+returns-clause-entry g c e =
+    let inside = c.self.inside in
+    let entry = subst (λ (machine : Seen). IsKeptEntry machine c.args.p) (sym c.self.view_is) e in
+    c.turn-self-inside.ensures.entry
+    (ap (λ (pair : WordWorld × Told). enters_there (plain inside.code.now) pair.1.kind (slice_get (processes_of inside.parts.procs.items) c.args.p))
+    c.turn-self-inside.ensures.turned
+    ∙ entry)

@@ -1,0 +1,50 @@
+-- Processes whose turns change nothing, as long as no other process goes on.
+use Rattle.std.specs.Prelude.{◌≡◌, ◌+◌, ◌<◌, ◌≤◌, ℕ, nat_lt, cond, Bool, true, false, List, [], length, replicate, set, slice_get, Option, Some, None}
+use Rattle.rb_base.specs.declared.event.TurnKind.{TurnKind}
+use Rattle.rb_base.specs.declared.event.TurnKind.TheVariants.{Idle, Wait, Took, Undone}
+use Rattle.rb_world.specs.Kind.{Membership}
+use Rattle.rb_world.specs.World.{Process}
+use Rattle.rb_world.specs.Turn.{turn}
+use Rattle.rb_code.specs.Instructions.Plain.{Code}
+use Rattle.rb_code.specs.WordMachine.WordKind.{word_kind}
+use Rattle.rb_code.specs.WordMachine.WordRun.{WordWorld}
+use Rattle.rb_machine.specs.declared.rests.Rest.{Rest}
+
+-- a turn that was neither taken nor undone
+abbrev pub is_still : TurnKind → Bool
+is_still Idle = true
+is_still Wait = true
+is_still Took = false
+is_still Undone = false
+
+-- a process that has no level, if there is one
+abbrev pub IsBare : {S C : Type 0} → Option (Process S C) → Type 0
+IsBare None = Unit {0}
+IsBare (Some q) = q.levels ≡ []
+
+-- a turn of process p changes nothing and tells nothing, whatever its number is
+abbrev pub RestsAs : Code → List Membership → WordWorld → ℕ → TurnKind → Type 0
+RestsAs c groups w p kind = (n : ℕ)
+    → turn (word_kind c groups) n p w ≡ (w, record { kind = kind; events = []; released = replicate (length w.processes) [] })
+
+-- the kind of a process's next turn, where it was noted that it rests, later than the last turn that changed something
+abbrev pub kind_noted : ℕ → Option Rest → Option TurnKind
+kind_noted changed None = None
+kind_noted changed (Some rest) = cond (nat_lt changed rest.since) (Some rest.kind) None
+
+abbrev pub kind_of : List Rest → ℕ → ℕ → Option TurnKind
+kind_of rests changed p = kind_noted changed (slice_get rests p)
+
+-- What is noted is so, and was noted in turns that were taken.
+pub record AreNoted (c : Code) (groups : List Membership) (w : WordWorld) (rests : List Rest) (changed taken : ℕ) : Type 0 where
+  pub rest : (p : ℕ) (kind : TurnKind) → kind_of rests changed p ≡ Some kind → RestsAs c groups w p kind
+  pub past : (p : ℕ) (one : Rest) → slice_get rests p ≡ Some one → one.since ≤ taken
+
+-- What is noted after a turn: of a still one that its process rests since then, and of any other that it changed something.
+abbrev pub rests_after : Bool → List Rest → ℕ → ℕ → TurnKind → List Rest
+rests_after true rests p turn kind = set rests p (record { since = turn; kind = kind })
+rests_after false rests p turn kind = rests
+
+abbrev pub changed_after : Bool → ℕ → ℕ → ℕ
+changed_after true changed turn = changed
+changed_after false changed turn = turn

@@ -1,0 +1,85 @@
+//! Which processes rest: a turn of one that is done, or that waits with no level open, changes nothing until another process goes on.
+
+ghost use Rattle.std.specs.Prelude.{◌≡◌, true, replicate, slice_get, IfOk};
+ghost use Rattle.rb_base.specs.declared.event.TurnKind.TheVariants.{Idle};
+ghost use Rattle.rb_machine.specs.Resting.{IsBare, changed_after, is_still, kind_of, rests_after};
+ghost use Rattle.rb_machine.specs.Worlds.{processes_of};
+
+use rb_base::{Memory, TurnKind};
+use rb_proc::Proc;
+use std::alloc::Global;
+use std::sync::ledger::Ledger;
+
+/// In which turn it was noted that a process rests, and of which kind its turns are as long as it does.
+#[derive(Clone, Copy)]
+pub struct Rest {
+    pub since: u32,
+    pub kind: TurnKind,
+}
+
+/// What was noted of each process, and which turn was the last that changed something.
+#[derive(Drop)]
+pub struct Resting {
+    pub rests: Vec<Rest>,
+    pub changed: u32,
+}
+
+impl Resting {
+    /// Nothing is noted yet; `Memory` if it is wanting.
+    pub fn new(alloc: Global, processes: usize) -> Result<Self, Memory>
+        ensures rests { IfOk result (λ resting. resting.rests.items ≡ replicate processes (record { since = 0; kind = Idle })) }
+        ensures changed { IfOk result (λ resting. resting.changed ≡ 0) }
+    {
+        let none = Rest {
+            since: 0,
+            kind: TurnKind::Idle,
+        };
+        Ok(Resting {
+            rests: vec![in alloc; none; processes]?,
+            changed: 0,
+        })
+    }
+
+    /// The kind of the next turn of process p, where it is known to rest.
+    pub fn kind(&self, p: u32) -> Option<TurnKind>
+        ensures { result ≡ kind_of self.now.rests.items self.now.changed p }
+    {
+        match self.rests.get(p as usize) {
+            Some(rest) if self.changed < rest.since => Some(rest.kind),
+            _ => None,
+        }
+    }
+
+    /// Notes turn number `turn` of process p: where it was still, the process rests since then, and else it changed something, so that
+    /// nothing is known any more.
+    pub fn note(&mut self, still: bool, p: u32, turn: u32, kind: TurnKind)
+        ensures rests { self.new.rests.items ≡ rests_after still self.old.rests.items p turn kind }
+        ensures changed { self.new.changed ≡ changed_after still self.old.changed turn }
+    {
+        if !still {
+            self.changed = turn;
+        } else if (p as usize) < self.rests.len() {
+            self.rests[p as usize] = Rest { since: turn, kind };
+        }
+    }
+}
+
+/// Whether a turn was neither taken nor undone.
+pub fn is_still(kind: TurnKind) -> bool
+    ensures { result ≡ is_still kind }
+{
+    match kind {
+        TurnKind::Idle | TurnKind::Wait => true,
+        TurnKind::Took | TurnKind::Undone => false,
+    }
+}
+
+/// Whether process p has no level, if there is such a process.
+pub fn is_bare<L: Ledger>(procs: &[Proc<L>], p: u32) -> bool
+    ensures { result ≡ true → IsBare (slice_get (processes_of procs.now) p) }
+{
+    match procs.get(p as usize) {
+        None => true,
+        Some(proc) => proc.levels() == 0,
+    }
+}
