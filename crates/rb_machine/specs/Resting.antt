@@ -1,5 +1,5 @@
 -- Processes whose turns change nothing, as long as no other process goes on.
-use Rattle.std.specs.Prelude.{◌≡◌, ◌+◌, ◌<◌, ◌≤◌, ℕ, nat_lt, cond, Bool, true, false, List, [], length, replicate, set, slice_get, Option, Some, None}
+use Rattle.std.specs.Prelude.{◌≡◌, ◌≤◌, ℕ, nat_lt, cond, Bool, true, false, List, [], length, replicate, set, slice_get, Option, Some, None}
 use Rattle.rb_base.specs.declared.event.TurnKind.{TurnKind}
 use Rattle.rb_base.specs.declared.event.TurnKind.TheVariants.{Idle, Wait, Took, Undone}
 use Rattle.rb_world.specs.Kind.{Membership}

@@ -1,6 +1,6 @@
 -- What is known of the processes of a world gives each what its turn asks for: it can be rejected from any of its levels on, and take a step;
 -- and who stands at a test line may leave it.
-use Rattle.std.proofs.Common.{◌≡◌, ℕ, zero, suc, ◌+◌, ◌-◌, ◌<◌, ◌≤◌, ◌^◌, Bool, true, false, List, [], ◌∷◌, length, map, slice_get, Option, Some, None, option_map, refl, ap, sym, ◌∙◌, subst, true≢false, arith}
+use Rattle.std.proofs.Common.{◌≡◌, ℕ, zero, suc, ◌-◌, ◌<◌, ◌≤◌, ◌^◌, Bool, true, false, List, [], ◌∷◌, length, map, slice_get, Option, Some, None, option_map, refl, ap, sym, ◌∙◌, subst, true≢false, arith}
 use Rattle.std.proofs.lemmas.Option.{slice_get-map}
 use Rattle.rb_cache.specs.Copies.{accepted}
 use Rattle.rb_world.specs.Kind.{Want, NothingLeft, SendsOn, ReceivesOn, MayReceiveOn, Enters, Starts, Acts}

@@ -1,5 +1,5 @@
 -- A turn that is idle or waits, of a process with no level, comes to the world in which it began, whatever its number is.
-use Rattle.std.proofs.Common.{◌≡◌, ℕ, zero, suc, ◌+◌, ℤ, Bool, true, false, cond, List, [], ◌∷◌, ◌++◌, length, map, position, Option, Some, None, slice_get, refl, ap, sym, ◌∙◌, subst}
+use Rattle.std.proofs.Common.{◌≡◌, ℕ, ◌+◌, ℤ, Bool, true, false, cond, List, [], ◌∷◌, length, map, position, Option, Some, None, slice_get, refl, ap, sym, ◌∙◌, subst}
 use Rattle.std.specs.Prelude.{nat_le}
 use Rattle.rb_base.specs.declared.event.Cause.{Cause}
 use Rattle.rb_base.specs.declared.event.Cause.TheVariants.{Overrun, Depth, Broken}
@@ -8,7 +8,7 @@ use Rattle.rb_world.specs.Channels.{has_room, message_there}
 use Rattle.rb_world.specs.Kind.{Facts, Kind, Want, NothingLeft, SendsOn, ReceivesOn, MayReceiveOn, Enters, Starts, Acts, Stepped, Trapped, Went, Held}
 use Rattle.rb_world.specs.Reject.{Happened, fallen, reject}
 use Rattle.rb_world.specs.Turn.{Moved, accepted, acts, bounded, by_status, enter_either, enters, is_over, join, most_levels, move, moves, one_used, open_at, receives, runs, stepped, steps, trapped, tried_at, turn_used, undone, waits}
-use Rattle.rb_world.specs.World.{Level, Process, ProcessStatus, Running, Finished, FailedWith, Talk, World, change_at, copy_of, last_of, process_levels, talk_at, with_process}
+use Rattle.rb_world.specs.World.{Level, Process, ProcessStatus, Running, Finished, FailedWith, Talk, World, copy_of, last_of, process_levels, talk_at, with_process}
 use Rattle.rb_machine.specs.Resting.{IsBare, is_still}
 use Rattle.rb_machine.proofs.Changed.{same_there}
 

@@ -1,5 +1,5 @@
 -- What is noted of processes that rest is so after each turn.
-use Rattle.std.proofs.Common.{◌≡◌, ℕ, zero, suc, ◌+◌, ◌<◌, ◌≤◌, Bool, true, false, cond, List, [], ◌∷◌, length, replicate, set, slice_get, Option, Some, None, refl, ap, sym, ◌∙◌, subst, arith}
+use Rattle.std.proofs.Common.{◌≡◌, ℕ, zero, suc, ◌+◌, ◌<◌, ◌≤◌, Bool, true, false, cond, List, [], ◌∷◌, replicate, set, slice_get, Option, Some, None, refl, ap, sym, ◌∙◌, subst, arith}
 use Rattle.std.proofs.lemmas.Bool.{ltb-true}
 use Rattle.std.specs.Prelude.{nat_lt}
 use Rattle.rb_base.specs.declared.event.TurnKind.{TurnKind}
@@ -10,7 +10,7 @@ use Rattle.rb_world.proofs.ListFacts.{none_some, some_same}
 use Rattle.rb_code.specs.Instructions.Plain.{Code}
 use Rattle.rb_code.specs.WordMachine.WordKind.{word_kind}
 use Rattle.rb_code.specs.WordMachine.WordRun.{WordWorld}
-use Rattle.rb_machine.specs.Resting.{AreNoted, IsBare, RestsAs, changed_after, is_still, kind_noted, kind_of, rests_after}
+use Rattle.rb_machine.specs.Resting.{AreNoted, IsBare, RestsAs, changed_after, is_still, kind_noted, rests_after}
 use Rattle.rb_machine.specs.Telling.{AreFreed}
 use Rattle.rb_machine.specs.declared.rests.Rest.{Rest}
 use Rattle.rb_machine.proofs.Unmoved.TurnsUnmoved.{rests_so}

@@ -1,12 +1,12 @@
 -- A turn that comes to the world in which it began tells nothing and releases nothing, where who has no level holds no line.
-use Rattle.std.proofs.Common.{◌≡◌, ℕ, ◌+◌, true, List, [], ◌∷◌, ◌++◌, length, map, replicate, slice_get, refl, ap, sym, ◌∙◌}
+use Rattle.std.proofs.Common.{◌≡◌, ℕ, ◌+◌, true, List, [], ◌∷◌, ◌++◌, length, map, replicate, slice_get, refl, ap, ◌∙◌}
 use Rattle.rb_base.specs.declared.event.Event.{Event}
 use Rattle.rb_base.specs.declared.event.TurnKind.{TurnKind}
 use Rattle.rb_world.specs.Kind.{Membership}
-use Rattle.rb_world.specs.Turn.{Moved, Told, compared, done_at, error_at, finishes, freed, lines_freed, move, turn}
+use Rattle.rb_world.specs.Turn.{Told, compared, done_at, error_at, finishes, freed, lines_freed, move, turn}
 use Rattle.rb_world.specs.World.{Process, ProcessStatus, Running, Finished, FailedWith, with_each}
 use Rattle.rb_code.specs.Instructions.Plain.{Code}
-use Rattle.rb_code.specs.WordMachine.Turn.{Common, Copy, Standing}
+use Rattle.rb_code.specs.WordMachine.Turn.{Copy, Standing}
 use Rattle.rb_code.specs.WordMachine.WordKind.{word_kind}
 use Rattle.rb_code.specs.WordMachine.WordRun.{WordWorld}
 use Rattle.rb_machine.specs.Resting.{IsBare, RestsAs, is_still}

@@ -1,5 +1,5 @@
 -- The alternates of sound code: those of its blocks and of its conversations, and so those that are tried in every turn of the word machine.
-use Rattle.std.proofs.Common.{◌≡◌, inl, ◌<◌, ◌≤◌, ◌+◌, ℕ, false, List, [], ◌∷◌, length, slice_get, Some, refl, sym, ◌∙◌, subst, not-suc-le-zero, arith}
+use Rattle.std.proofs.Common.{◌≡◌, inl, ◌<◌, ◌≤◌, ℕ, false, List, [], ◌∷◌, length, slice_get, Some, refl, sym, ◌∙◌, subst, not-suc-le-zero, arith}
 use Rattle.std.proofs.lemmas.Option.{slice_get_within}
 use Rattle.rb_world.specs.Kind.{Enters, Facts, Membership}
 use Rattle.rb_world.specs.World.{Level, Process, Running}

@@ -1,5 +1,5 @@
 -- A turn of a process that is known to rest.
-use Rattle.std.proofs.Common.{◌≡◌, ◌+◌, ◌<◌, List, length, ap, sym, ◌∙◌, subst, arith}
+use Rattle.std.proofs.Common.{◌+◌, ◌<◌, List, length, ap, sym, ◌∙◌, subst, arith}
 use Rattle.rb_base.specs.declared.event.Event.{Event}
 use Rattle.rb_code.specs.Instructions.Plain.{code as plain}
 use Rattle.rb_trace.specs.Report.{told_of}
