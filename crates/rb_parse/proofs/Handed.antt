@@ -25,7 +25,7 @@ pub last_stopped : {T : Type 0} {part part_first : Part} {a b : Point} (c : Poin
     IfErr r (Stopped (Stops part_first b c) (Exhausts part_first b) now) →
     IfErr r (Stopped (Stops part a c) (Exhausts part a) old)
 last_stopped c (Ok value) same reached h = tt
-last_stopped c (Err stop) same reached h = exit_within (Err stop) refl same reached h
+last_stopped {T = T} c (Err stop) same reached h = exit_within {T = T} (Err stop) refl same reached h
 
 -- the call made a value of what was read
 pub last_made : {T : Type 0} {part : Part} {a b : Point} {v : Value part} (r : Result T Stop) (of : T → Value part) →

@@ -24,9 +24,11 @@ pub(crate) fn read_program<'a>(alloc: Global, cursor: &mut Cursor<'a>) -> Result
         cursor.take(Terminal::Edition)?;
         cursor.take(Terminal::Two)?;
         cursor.take(Terminal::Semicolon)?;
-        read_unmarked(alloc, cursor, Edition::Second)
+        let second = read_unmarked(alloc, cursor, Edition::Second)?;
+        Ok(second)
     } else {
-        read_unmarked(alloc, cursor, Edition::First)
+        let first = read_unmarked(alloc, cursor, Edition::First)?;
+        Ok(first)
     }
 }
 

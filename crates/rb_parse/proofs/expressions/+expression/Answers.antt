@@ -255,13 +255,13 @@ read_negation-returns-in_ok-held-clause-ok t c =
 
 pub read_negation-returns-else-stands_at-clause-err : goal.read_negation-returns-else-stands_at-clause-err
 read_negation-returns-else-stands_at-clause-err t c =
-    last_stopped _ c.read_comparison.result refl
-    (begins Part.Comparison c.args.cursor.now.point nothing_after (negation_comparison _ (sym c.if-stands_at.ensures)) refl refl) c.read_comparison.ensures.err
+    last_stopped _ c.read_comparison-else-stands_at.result refl
+    (begins Part.Comparison c.args.cursor.now.point nothing_after (negation_comparison _ (sym c.if-stands_at.ensures)) refl refl) c.read_comparison-else-stands_at.ensures.err
 
 pub read_negation-returns-else-stands_at-clause-ok : goal.read_negation-returns-else-stands_at-clause-ok
 read_negation-returns-else-stands_at-clause-ok t c =
-    last_read _ c.read_comparison.result expression expression (λ _. refl)
-    (begins Part.Comparison c.args.cursor.now.point nothing_after (negation_comparison _ (sym c.if-stands_at.ensures)) refl refl) c.read_comparison.ensures.ok
+    last_read _ c.read_comparison-else-stands_at.result expression expression (λ _. refl)
+    (begins Part.Comparison c.args.cursor.now.point nothing_after (negation_comparison _ (sym c.if-stands_at.ensures)) refl refl) c.read_comparison-else-stands_at.ensures.ok
 
 pub read_comparison-returns-in_err-left-clause-err : goal.read_comparison-returns-in_err-left-clause-err
 read_comparison-returns-in_err-left-clause-err t c =
@@ -329,13 +329,13 @@ read_factor-returns-in_ok-held-clause-ok t c =
 
 pub read_factor-returns-else-stands_at-clause-err : goal.read_factor-returns-else-stands_at-clause-err
 read_factor-returns-else-stands_at-clause-err t c =
-    last_stopped _ c.read_atom.result refl
-    (begins Part.Atom c.args.cursor.now.point nothing_after (factor_atom _ (sym c.if-stands_at.ensures)) refl refl) c.read_atom.ensures.err
+    last_stopped _ c.read_atom-else-stands_at.result refl
+    (begins Part.Atom c.args.cursor.now.point nothing_after (factor_atom _ (sym c.if-stands_at.ensures)) refl refl) c.read_atom-else-stands_at.ensures.err
 
 pub read_factor-returns-else-stands_at-clause-ok : goal.read_factor-returns-else-stands_at-clause-ok
 read_factor-returns-else-stands_at-clause-ok t c =
-    last_read _ c.read_atom.result expression expression (λ _. refl)
-    (begins Part.Atom c.args.cursor.now.point nothing_after (factor_atom _ (sym c.if-stands_at.ensures)) refl refl) c.read_atom.ensures.ok
+    last_read _ c.read_atom-else-stands_at.result expression expression (λ _. refl)
+    (begins Part.Atom c.args.cursor.now.point nothing_after (factor_atom _ (sym c.if-stands_at.ensures)) refl refl) c.read_atom-else-stands_at.ensures.ok
 
 pub read_atom-returns-in_err-target-clause-err : goal.read_atom-returns-in_err-target-clause-err
 read_atom-returns-in_err-target-clause-err t c =
