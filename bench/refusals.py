@@ -1,0 +1,130 @@
+#!/usr/bin/env python3
+"""Refuses the proved program one allocation, one read or one write after another, and looks at what it answers.
+
+An allocation that is refused is status 5, with nothing written, but that `plain` may have written a prefix; a read is status 3 with nothing
+written; a write is status 4 with a prefix. Where nothing is refused any more the answer is whole. Status 1 only where the program stands
+built, there is a C compiler, and an answer is another one. RBL may name another program.
+"""
+import glob
+import os
+import shutil
+import subprocess
+import sys
+import tempfile
+
+ROOT = os.path.dirname(os.path.dirname(os.path.abspath(__file__)))
+PROGRAM = os.environ.get("RBL", os.path.join(ROOT, "crates/rbl/out/rbl"))
+STATUS = {"memory": 5, "read": 3, "write": 4}
+SECOND = """edition 2;
+program second;
+channel c from p to q size 2;
+process p { var a[4]; var i; i := 0;
+  while i < 4 { ensure a[i] = i * i within 9 by { a[i] := i + i; } else by { a[i] := i * i; send c a[i]; } else error; i := i + 1; }
+  print "sum", (sum k from 0 to 3 : a[k]); }
+process q { var x; var n; n := 0; while n < 9 { receive c x else { x := 0; } print x; n := n + 1; } }
+end.
+"""
+
+
+def answer(words, folder, refuse=None, number=0, shim=None):
+    """The status of a command, and what it wrote; with one call refused, if one is named."""
+    env = dict(os.environ)
+    if refuse:
+        env.update(LD_PRELOAD=shim, REFUSE=refuse, REFUSED=str(number))
+    run = subprocess.run([PROGRAM, *words], cwd=folder, env=env, capture_output=True, timeout=60)
+    return run.returncode, run.stdout
+
+
+def compiler():
+    """A C compiler of this machine, or that of the toolchain."""
+    for name in ["cc", "gcc", "clang"]:
+        if shutil.which(name):
+            return [name]
+    tool = shutil.which("rt")
+    beside = glob.glob(os.path.join(os.path.dirname(os.path.realpath(tool)), "../toolchain/bin/clang")) if tool else []
+    return [*beside, "--target=x86_64-unknown-linux-gnu", "-fuse-ld=lld"] if beside else []
+
+
+def cases():
+    """The commands, each with what it reads."""
+    yield "first edition", "examples/conversation.rbl", "examples/conversation.schedule"
+    yield "nested", "bench/nested.rbl", "bench/nested_10.schedule"
+    yield "second edition", None, None
+
+
+def commands(folder):
+    """The words of each command on each source, in a folder with its files."""
+    for name, source, schedule in cases():
+        for file, path, text in [("a", source, SECOND), ("b", schedule, "all 40\n")]:
+            with open(os.path.join(folder, file), "w", encoding="ascii") as out:
+                out.write(open(os.path.join(ROOT, path), encoding="ascii").read() if path else text)
+        with open(os.path.join(folder, "r"), "wb") as out:
+            out.write(answer(["survive", "a", "b"], folder)[1])
+        for words in [["run", "a", "b"], ["survive", "a", "b"], ["plain", "a", "r"], ["check", "a"], ["code", "a"]]:
+            yield f"{words[0]}, {name}", words
+    yield "trial 0", ["trial", "0"]
+
+
+def is_right(words, refuse, status, written, whole):
+    """Whether an answer in which a call was refused is one that may come."""
+    if status != STATUS[refuse]:
+        return False
+    if refuse == "write" or (refuse == "memory" and words[0] == "plain"):
+        return whole.startswith(written) and (refuse == "memory" or written != whole)
+    return written == b""
+
+
+def refused_in_turn(words, folder, refuse, shim):
+    """How many calls were refused until none was left, and the first that was answered wrongly, if there is one."""
+    status, whole = answer(words, folder)
+    if status != 0:
+        return 0, f"status {status} with nothing refused"
+    for number in range(100_000):
+        ended, written = answer(words, folder, refuse, number, shim)
+        if (ended, written) == (0, whole):
+            return number, None
+        if not is_right(words, refuse, ended, written, whole):
+            return number, f"{refuse} {number}: status {ended}, {len(written)} bytes"
+    return 0, "no end"
+
+
+def same_for_longer_runs(folder, shim):
+    """The first number at which nothing is refused is the same for a short and for a longer run."""
+    shutil.copy(os.path.join(ROOT, "bench/nested.rbl"), os.path.join(folder, "a"))
+    counts = []
+    for schedule in ["bench/nested_10.schedule", "bench/nested_23.schedule"]:
+        shutil.copy(os.path.join(ROOT, schedule), os.path.join(folder, "b"))
+        counts.append(refused_in_turn(["run", "a", "b"], folder, "memory", shim)[0])
+    return counts
+
+
+def main():
+    if not os.path.exists(PROGRAM):
+        print(f"refusals: not tried, for want of {PROGRAM}")
+        return 0
+    with tempfile.TemporaryDirectory() as folder:
+        shim = os.path.join(folder, "refuse.so")
+        made = compiler()
+        if not made or subprocess.run([*made, "-shared", "-fPIC", "-O1", "-o", shim, os.path.join(ROOT, "bench/refuse.c")], capture_output=True).returncode:
+            print("refusals: not tried, for want of a C compiler")
+            return 0
+        counted = dict.fromkeys(STATUS, 0)
+        wrong = []
+        for name, words in commands(folder):
+            for refuse in STATUS:
+                number, fault = refused_in_turn(words, folder, refuse, shim)
+                counted[refuse] += number
+                if fault:
+                    wrong.append(f"{name}: {fault}")
+        short, long = same_for_longer_runs(folder, shim)
+        if short != long:
+            wrong.append(f"a run of 10 rounds takes memory {short} times, one of 23 {long} times")
+    told = ", ".join(f"{count} of {refuse}" for refuse, count in counted.items())
+    print(f"refusals: {told} refused one by one; {len(wrong)} wrong")
+    for line in wrong:
+        print(line)
+    return 1 if wrong else 0
+
+
+if __name__ == "__main__":
+    sys.exit(main())

@@ -1,0 +1,16 @@
+pub mod Named
+pub mod ReadLines
+pub mod Stacks
+pub mod GivenUp
+pub mod Pending
+pub mod Unsent
+pub mod Falling
+pub mod FirstFall
+pub mod Orderly
+pub mod States
+pub mod AllSent
+pub mod AllTaken
+pub mod Opening
+pub mod Rounds
+pub mod Putting
+pub mod Places

@@ -1,0 +1,93 @@
+use Rattle.std.proofs.Common.{◌≡◌, ℕ, ◌≤◌, ◌<◌, List, [], Vec, Global, get_or, Some, ap, sym, ◌∙◌, subst, arith}
+use Rattle.std.proofs.lemmas.Option.{get_or_from_slice_get}
+use Rattle.std.proofs.lemmas.Grind.{common_steps}
+use Rattle.rb_domino.specs.declared.state.State.{State}
+use Rattle.rb_domino.specs.declared.line.Message.{Message}
+use Rattle.rb_domino.specs.declared.line.Line.{Line}
+use Rattle.rb_domino.specs.declared.line.Line.TheVariants.{Begin, Take}
+use Rattle.rb_domino.specs.Recovery.{first_fall, fall_by, stands, message_at}
+use Rattle.rb_domino.specs.History.{IsTakenAt}
+use Rattle.rb_domino.specs.Board.{AreSplit, is_in, left_on, stacks}
+use Rattle.rb_domino.proofs.Pending.{is_removed}
+use Rattle.rb_domino.proofs.FirstFall.{IsLeast, least_first, line_taken, message_read, pending_first, pending_none, split_without}
+use Rattle.rb_domino.proofs.board.Board.next_fall.Goals as goal
+use Rattle.rb_domino.proofs.board.Board.next_fall.Goals.{in-Take+else-taken-place, in_default-lines}
+
+pub returns-then-taken-place-clause-fall : goal.returns-then-taken-place-clause-fall
+returns-then-taken-place-clause-fall c =
+    let story = c.args.history.now in
+    let holds = c.loop-taken.invariant.holds in
+    let left = left_on c.loop-taken.self in
+    let pending = c.loop-taken.self.pending in
+    let taken = c.in-Some.taken in
+    let m = c.in-Take.m in
+    let least : IsLeast pending taken = least_first pending c.first.result taken c.in-Some.ensures c.first.ensures.member c.first.ensures.least in
+    let is : IsTakenAt story m taken =
+    line_taken story left c.lines.result.now taken m (Begin 0) c.lines.ensures.lines (holds.split.sound taken least.here) c.in-Take.is in
+    let message : c.index-messages-m.result ≡ message_at story m =
+    message_read story c.messages.result.now taken m c.index-messages-m.result c.messages.ensures holds.orderly is c.index-messages-m.is in
+    let receiver : (get_or c.messages.result.now m c.index-messages-m.result).receiver ≡ (message_at story m).receiver =
+    ap (λ (one : Message). one.receiver) (sym c.index-messages-m.is ∙ message) in
+    let behind : taken < (stands left (message_at story m).receiver).place =
+    subst (λ (r : ℕ). taken < (stands left r).place) receiver (subst (λ (p : ℕ). taken < p) c.place.ensures c.if-taken-place.true) in
+    let fall : first_fall story left ≡ Some (fall_by (message_at story m) m taken) =
+    pending_first story left (stacks c.loop-taken.self.sends.items) pending m taken holds.split is least.here least.least behind in
+    let same : left_on c.args.self.now ≡ left =
+    ap (λ (states : Vec (Vec State Global) Global). stacks states.items) (sym c.loop-taken.invariant.states) in
+    let told : Some (record { process = (get_or c.messages.result.now m c.index-messages-m.result).receiver; after = taken; message = Some m })
+    ≡ Some (fall_by (message_at story m) m taken) =
+    λ i. Some (record { process = receiver i; after = taken; message = Some m }) in
+    told ∙ sym fall ∙ ap (first_fall story) (sym same)
+
+pub loop-taken-preserved : goal.loop-taken-preserved
+loop-taken-preserved c =
+    let story = c.args.history.now in
+    let holds = c.loop-taken.invariant.holds in
+    let left = left_on c.loop-taken.self in
+    let old = c.loop-taken.self.pending in
+    let new = c.remove.new.self in
+    let taken = c.in-Some.taken in
+    let sends = stacks c.loop-taken.self.sends.items in
+    let least : IsLeast old taken = least_first old c.first.result taken c.in-Some.ensures c.first.ensures.member c.first.ensures.least in
+    let split : AreSplit story left sends (is_in new) =
+    elim c.match-lines-taken.branch [
+      | in-Take+else-taken-place w ↦
+          let m = w.in-Take.m in
+          let is : IsTakenAt story m taken =
+          line_taken story left c.lines.result.now taken m (Begin 0) c.lines.ensures.lines (holds.split.sound taken least.here) w.in-Take.is in
+          let message : w.index-messages-m.result ≡ message_at story m =
+          message_read story w.messages.result.now taken m w.index-messages-m.result w.messages.ensures holds.orderly is w.index-messages-m.is in
+          let receiver : (get_or w.messages.result.now m w.index-messages-m.result).receiver ≡ (message_at story m).receiver =
+          ap (λ (one : Message). one.receiver) (sym w.index-messages-m.is ∙ message) in
+          let up_to : (stands left (message_at story m).receiver).place ≤ taken =
+          subst (λ (r : ℕ). (stands left r).place ≤ taken) receiver (subst (λ (p : ℕ). p ≤ taken) w.place.ensures w.if-taken-place.false) in
+          split_without story left sends old new m taken holds.split is up_to (is_removed old new taken c.remove.ensures.updates.0)
+      | in_default-lines w ↦
+          let pends = holds.split.sound taken least.here in
+          let there : get_or story.lines taken (Begin 0) ≡ Take pends.message =
+          get_or_from_slice_get story.lines taken (Take pends.message) (Begin 0) pends.is_taken in
+          let read : get_or c.lines.result.now taken (Begin 0) ≡ Take pends.message =
+          ap (λ (ls : List Line). get_or ls taken (Begin 0)) c.lines.ensures.lines ∙ there in
+          absurd (w.in_default-lines.not-Take pends.message read)
+    ] in
+    record {
+      states = c.loop-taken.invariant.states;
+      holds = record {
+        orderly = holds.orderly;
+        takes = holds.takes;
+        all_takes = holds.all_takes;
+        all_states = holds.all_states;
+        all_sends = holds.all_sends;
+        split = split;
+      };
+    }
+
+pub returns-clause-fall : goal.returns-clause-fall
+returns-clause-fall c =
+    let story = c.args.history.now in
+    let holds = c.loop-taken.invariant.holds in
+    let left = left_on c.loop-taken.self in
+    let none : c.loop-taken.self.pending.keys ≡ [] = grind (arith, common_steps) in
+    let same : left_on c.args.self.now ≡ left =
+    ap (λ (states : Vec (Vec State Global) Global). stacks states.items) (sym c.loop-taken.invariant.states) in
+    sym (pending_none story left (stacks c.loop-taken.self.sends.items) c.loop-taken.self.pending holds.split none) ∙ ap (first_fall story) (sym same)

@@ -1,0 +1,12 @@
+use Rattle.std.proofs.Common.{◌≡◌, length}
+use Rattle.rb_domino.specs.Board.{Holds}
+use Rattle.rb_domino.proofs.board.Board.next_fall.Given as goal
+
+abbrev pub invariant-loop-taken : goal.invariant-loop-taken
+invariant-loop-taken l = record {
+  states : l.self.states ≡ l.initial.self.states;
+  holds : Holds l.history l.self;
+}
+
+abbrev pub decreases-loop-taken : goal.decreases-loop-taken
+decreases-loop-taken l = length l.self.pending.keys

@@ -1,0 +1,46 @@
+use Rattle.std.proofs.Common.{◌≡◌, ℕ, ◌<◌, ◌++◌, [], ◌∷◌, List, length, get_or, slice_set, replicate, refl, sym, ap, ◌∙◌, subst, arith}
+use Rattle.std.proofs.lemmas.Grind.{common_steps}
+use Rattle.std.proofs.lemmas.List.{get_or_read}
+use Rattle.rb_domino.specs.declared.line.Message.{Message}
+use Rattle.rb_domino.specs.Recovery.{no_message}
+use Rattle.rb_domino.specs.Board.{AreSends, list_at, stack, stacks}
+use Rattle.rb_domino.proofs.Orderly.{few_messages}
+use Rattle.rb_domino.proofs.Stacks.{stack_pushed, stack_read, stacks_set}
+use Rattle.rb_domino.proofs.AllSent.{Sending, sending_none, sending_step}
+use Rattle.rb_domino.proofs.tables.all_sends.Goals as goal
+
+pub overflow_add-m : goal.overflow_add-m
+overflow_add-m c =
+    let few = few_messages c.requires.whole.history in
+    let all = c.loop-rest.invariant.all in
+    omega (arith, few, all, c.requires.whole.few_lines)
+
+pub loop-rest-init : goal.loop-rest-init
+loop-rest-init c =
+    let story = c.args.history.now in
+    let none : stacks c.in_ok-sends.sends.items ≡ replicate (length story.processes) [] = grind (arith, common_steps) in
+    subst (λ (ms : List Message). Sending story 0 ms (stacks c.in_ok-sends.sends.items)) (sym c.messages-rest.ensures)
+    (sending_none story (stacks c.in_ok-sends.sends.items) none c.requires.orderly.messages)
+
+pub loop-rest-preserved : goal.loop-rest-preserved
+loop-rest-preserved c =
+    let some : 0 < length c.loop-rest.rest.now = omega arith in
+    let sends = c.loop-rest.sends.items in
+    let m = c.loop-rest.m in
+    let q = c.message-item.result.sender in
+    let within : q < length sends = grind (arith, common_steps) in
+    let from : (get_or c.loop-rest.rest.now 0 no_message).sender ≡ q =
+    ap (λ (one : Message). one.sender) (sym (get_or_read c.loop-rest.rest.now 0 c.message-item.result some c.message-item.is no_message)) in
+    let read : list_at (stacks sends) q ≡ stack c.index_mut.result.now.items =
+    stack_read sends q c.index_mut.result.now within c.index_mut.ensures.value in
+    let items : c.push.new.self.items ≡ c.index_mut.result.now.items ++ m ∷ [] = grind (arith, common_steps) in
+    let pushed : stack c.push.new.self.items ≡ m ∷ list_at (stacks sends) q =
+    ap stack items ∙ stack_pushed c.index_mut.result.now.items m ∙ ap (λ (own : List ℕ). m ∷ own) (sym read) in
+    let new : stacks (slice_set sends q c.push.new.self) ≡ slice_set (stacks sends) q (m ∷ list_at (stacks sends) q) =
+    stacks_set sends q c.push.new.self ∙ ap (slice_set (stacks sends) q) pushed in
+    sending_step c.args.history.now m _ q c.loop-rest.rest.now (stacks sends) _ refl some c.loop-rest.invariant from new
+
+pub returns : goal.returns
+returns c =
+    let all : c.loop-rest.m ≡ length c.args.history.now.messages = let rest = c.loop-rest.invariant.all in omega arith in
+    subst (λ (n : ℕ). AreSends c.args.history.now n (stacks c.loop-rest.sends.items)) all c.loop-rest.invariant.sends

@@ -1,0 +1,10 @@
+use Rattle.std.proofs.Common.{length}
+use Rattle.rb_domino.specs.Board.{stacks}
+use Rattle.rb_domino.proofs.AllSent.{Sending}
+use Rattle.rb_domino.proofs.tables.all_sends.Given as goal
+
+abbrev pub invariant-loop-rest : goal.invariant-loop-rest
+invariant-loop-rest l = Sending l.history l.m l.rest (stacks l.sends.items)
+
+abbrev pub decreases-loop-rest : goal.decreases-loop-rest
+decreases-loop-rest l = length l.rest

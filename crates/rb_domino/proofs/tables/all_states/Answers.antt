@@ -1,0 +1,38 @@
+use Rattle.std.proofs.Common.{◌≡◌, ℕ, ◌≤◌, ◌<◌, [], List, length, vec_len, get_or, replicate, refl, sym, subst, arith}
+use Rattle.std.proofs.lemmas.Grind.{common_steps}
+use Rattle.rb_domino.specs.declared.line.Line.{Line}
+use Rattle.rb_domino.specs.declared.line.Line.TheVariants.{Begin}
+use Rattle.rb_domino.specs.Board.{PointsKnown, list_at, stacks}
+use Rattle.rb_domino.proofs.States.{Stacking, first_known, stacking_none, stacking_step, topped}
+use Rattle.rb_domino.proofs.tables.all_states.Goals as goal
+
+pub loop-rest-init : goal.loop-rest-init
+loop-rest-init c =
+    let story = c.args.history.now in
+    let none : stacks c.in_ok-states.states.items ≡ replicate (length story.processes) [] = grind (arith, common_steps) in
+    subst (λ (ls : List Line). Stacking story 0 ls (stacks c.in_ok-states.states.items)) (sym c.lines-rest.ensures.lines)
+    (stacking_none story (stacks c.in_ok-states.states.items) none c.requires.lines c.lines-rest.ensures.whole.few_lines)
+
+pub loop-rest-preserved : goal.loop-rest-preserved
+loop-rest-preserved c =
+    let some : 0 < length c.loop-rest.rest.now = omega arith in
+    stacking_step c.args.history.now c.loop-rest.at _ c.loop-rest.rest.now
+    (stacks c.loop-rest.states.items) _ refl some c.loop-rest.invariant c.in_ok-note_line.ensures
+
+pub returns : goal.returns
+returns c =
+    let none : c.loop-rest.rest.now ≡ [] = grind (arith, common_steps) in
+    let all : vec_len c.loop-rest.states ≡ length (stacks c.loop-rest.states.items) = grind (arith, common_steps) in
+    topped c.args.history.now c.loop-rest.at (vec_len c.loop-rest.states) c.loop-rest.rest.now
+    (stacks c.loop-rest.states.items) _ c.loop-rest.invariant none all c.in_ok-add_now.ensures
+
+pub note_line-requires : goal.note_line-requires
+note_line-requires c =
+    let some : 0 < length c.loop-rest.rest.now = omega arith in
+    let counted : length c.args.history.now.processes ≡ vec_len c.loop-rest.states = grind (arith, common_steps) in
+    record {
+      known = subst (λ (n : ℕ). PointsKnown n (get_or c.loop-rest.rest.now 0 (Begin 0))) counted
+          (first_known c.args.history.now c.loop-rest.at c.loop-rest.rest.now (stacks c.loop-rest.states.items) some c.loop-rest.invariant);
+      short = λ p. let up : length (list_at (stacks c.loop-rest.states.items) p) ≤ c.loop-rest.at = c.loop-rest.invariant.short p in
+          let few = c.loop-rest.invariant.few in omega arith;
+    }

@@ -1,0 +1,108 @@
+//! What a failure leaves of a history.
+
+ghost use Rattle.std.specs.Prelude.{◌≡◌, ◌<◌, ◌^◌, length, IfOk, OnOk};
+ghost use Rattle.rb_domino.specs.Board.{Falls, Holds, left_on};
+ghost use Rattle.rb_domino.specs.Recovery.{failure_from, falls, falls_by_messages, line_of, outcome_of};
+ghost use Rattle.rb_domino.specs.RecoveryLine.{IsRecovered, recovery_line};
+
+use crate::board::Board;
+use crate::history::History;
+use crate::line::Line;
+use crate::state::Fall;
+use rb_base::Memory;
+use std::alloc::Global;
+
+/// The number of the state in which a process stands at the end of a history, behind all its recovery points.
+pub const NOW: u32 = u32::MAX;
+
+/// A state that is given up, and the message that forces it; `None` where the process failed.
+#[derive(Clone, Copy, Debug, PartialEq, Eq)]
+pub struct Dropped {
+    pub process: u32,
+    pub state: u32,
+    pub message: Option<u32>,
+}
+
+/// The states that are given up, in their order, and the recovery line: for each process the latest state that is left.
+#[derive(Drop)]
+pub struct Analysis {
+    pub drops: Vec<Dropped>,
+    pub line: Vec<u32>,
+}
+
+#[tactic(auto, using(crate::proofs::Orderly::orderly))]
+/// The recovery line of a history, and what was given up for it.
+pub fn analyse(alloc: Global, history: &History) -> Result<Analysis, Memory>
+    ensures drops { IfOk result (λ analysis. analysis.drops.items ≡ (outcome_of history.now).drops) }
+    ensures line { IfOk result (λ analysis. analysis.line.items ≡ line_of (outcome_of history.now).left) }
+    ensures recovered { IfOk result (λ analysis. IsRecovered history.now analysis.drops.items (recovery_line history.now)) }
+{
+    let lines = history.lines();
+    let mut board = Board::new(alloc, history)?;
+    let mut drops = Vec::new(alloc);
+    fall_all(&mut board, history, lines, &mut drops)?;
+    let line = board.line(alloc)?;
+    Ok(Analysis { drops, line })
+}
+
+#[tactic(auto, using(crate::proofs::Rounds::failure_known, crate::proofs::Rounds::falls_first, crate::proofs::Rounds::falls_nowhere))]
+/// The process that failed gives up `now`, and then processes fall by messages.
+fn fall_all(
+    board: &mut Board,
+    history: &History,
+    lines: &[Line],
+    drops: &mut Vec<Dropped>,
+) -> Result<(), Memory>
+    requires holds { Holds history.now board.old }
+    requires lines { lines.now ≡ history.now.lines }
+    requires few { length lines.now < 2 ^ 32 }
+    ensures { OnOk result (Falls (falls (left_on board.old) (failure_from 0 history.now.lines) (falls_by_messages history.now (length history.now.lines))) drops.old.items drops.new.items (left_on board.new)) }
+{
+    let Some(fall) = failure(lines) else {
+        return Ok(());
+    };
+    board.fall(history, fall, drops)?;
+    fall_by_messages(board, history, lines.len(), drops)?;
+    Ok(())
+}
+
+#[tactic(auto, using(crate::proofs::Rounds::falls_on_none, crate::proofs::Rounds::falls_on_more, crate::proofs::Rounds::falls_on_none_left, crate::proofs::Rounds::falls_on_all))]
+/// While a message breaks the line, the first such makes its receiver fall; so often at most.
+fn fall_by_messages(
+    board: &mut Board,
+    history: &History,
+    most: usize,
+    drops: &mut Vec<Dropped>,
+) -> Result<(), Memory>
+    requires { Holds history.now board.old }
+    ensures { OnOk result (Falls (falls_by_messages history.now most (left_on board.old)) drops.old.items drops.new.items (left_on board.new)) }
+{
+    for _round in 0..most {
+        let Some(fall) = board.next_fall(history) else {
+            return Ok(());
+        };
+        board.fall(history, fall, drops)?;
+    }
+    Ok(())
+}
+
+/// The fall of the process that fails.
+fn failure(lines: &[Line]) -> Option<Fall>
+    requires { length lines.now < 2 ^ 32 }
+    ensures { result ≡ failure_from 0 lines.now }
+{
+    let mut at = 0;
+    let mut rest = lines;
+    while let [line, after @ ..] = rest {
+        if let Line::Fail(process) = line {
+            return Some(Fall {
+                process: *process,
+                after: at,
+                message: None,
+            });
+        }
+        at += 1;
+        rest = after;
+    }
+    None
+}

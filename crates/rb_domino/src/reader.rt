@@ -1,0 +1,295 @@
+//! What was read of a history so far, with its names found by two maps.
+
+ghost use Rattle.std.specs.Prelude.{◌≡◌, ◌+◌, ◌-◌, ◌^◌, ◌<◌, ◌≤◌, ◌∷◌, [], true, false, vec_len, Some, None, MatchResult};
+ghost use Rattle.rb_sched.specs.Schedule.{words_of};
+ghost use Rattle.rb_domino.specs.History.{no_story, is_short_name, has_failed, process_of, message_of, read_words, read_process, read_point, read_send, read_take, read_fail, before_failure};
+ghost use Rattle.rb_domino.specs.Reading.{Stands, Takes, story_of};
+
+use crate::line::{Line, Message};
+use rb_base::bytes::is_name;
+use rb_base::{FaultName, LONGEST_NAME, Memory, Text};
+use rb_sched::words::{next_word, without_comment, without_cr};
+use std::alloc::{AllocFailed, Global};
+use std::collections::BTreeMap;
+
+/// Why a line was not taken.
+#[derive(Clone, Copy, Debug, PartialEq, Eq)]
+pub(crate) enum LineRefusal {
+    Fault(FaultName),
+    Memory,
+}
+
+/// A history up to a line. The maps give the number of each name, and `taken` says which messages were taken.
+#[derive(Drop)]
+pub(crate) struct Reader<'a> {
+    processes: Vec<Text>,
+    messages: Vec<Message>,
+    lines: Vec<Line>,
+    process_numbers: BTreeMap<&'a [u8], u32>,
+    message_numbers: BTreeMap<&'a [u8], u32>,
+    taken: Vec<bool>,
+    failed: bool,
+}
+
+impl<'a> Reader<'a> {
+    /// Before the first line.
+    pub(crate) fn new(alloc: Global) -> Self
+        ensures empty { story_of result ≡ no_story }
+        ensures stands { Stands result }
+    {
+        Reader {
+            processes: Vec::new(alloc),
+            messages: Vec::new(alloc),
+            lines: Vec::new(alloc),
+            process_numbers: BTreeMap::new(alloc),
+            message_numbers: BTreeMap::new(alloc),
+            taken: Vec::new(alloc),
+            failed: false,
+        }
+    }
+
+    /// Whether a process has failed.
+    pub(crate) fn has_failed(&self) -> bool
+        ensures { result ≡ self.now.failed }
+    {
+        self.failed
+    }
+
+    /// The processes, the messages and the lines.
+    pub(crate) fn into_parts(self) -> (Vec<Text>, Vec<Message>, Vec<Line>)
+        ensures processes { result.0 ≡ self.entry.processes }
+        ensures messages { result.1 ≡ self.entry.messages }
+        ensures lines { result.2 ≡ self.entry.lines }
+    {
+        (self.processes, self.messages, self.lines)
+    }
+
+    /// Takes one line more, or answers its fault with the least number.
+    pub(crate) fn read_line(&mut self, alloc: Global, line: &'a [u8]) -> Result<(), LineRefusal>
+        requires stands { Stands self.old }
+        requires few { vec_len self.old.lines < 2 ^ 32 - 1 }
+        ensures takes { Takes (read_words (story_of self.old) (words_of line.now)) self.new result }
+        ensures grows { vec_len self.new.lines ≤ vec_len self.old.lines + 1 }
+    {
+        let Some((verb, rest)) = next_word(without_comment(without_cr(line))) else {
+            return Ok(());
+        };
+        let Some((name, rest)) = next_word(rest) else {
+            return Err(LineRefusal::Fault(FaultName::H1));
+        };
+        let Some((from, rest)) = next_word(rest) else {
+            return self.read_two(alloc, verb, name);
+        };
+        let Some((to, rest)) = next_word(rest) else {
+            return Err(LineRefusal::Fault(FaultName::H1));
+        };
+        if next_word(rest).is_some() {
+            return Err(LineRefusal::Fault(FaultName::H1));
+        }
+        self.read_four(alloc, verb, name, from, to)
+    }
+
+    fn read_two(&mut self, alloc: Global, verb: &[u8], name: &'a [u8]) -> Result<(), LineRefusal>
+        requires stands { Stands self.old }
+        requires few { vec_len self.old.lines < 2 ^ 32 - 1 }
+        ensures takes { Takes (read_words (story_of self.old) (verb.now ∷ name.now ∷ [])) self.new result }
+        ensures grows { vec_len self.new.lines ≤ vec_len self.old.lines + 1 }
+    {
+        if !is_short_name(name) {
+            return Err(LineRefusal::Fault(FaultName::H1));
+        }
+        if b"process".as_slice() == verb {
+            self.read_process(alloc, name)
+        } else if b"point".as_slice() == verb {
+            self.read_point(name)
+        } else if b"take".as_slice() == verb {
+            self.read_take(name)
+        } else if b"fail".as_slice() == verb {
+            self.read_fail(name)
+        } else {
+            Err(LineRefusal::Fault(FaultName::H1))
+        }
+    }
+
+    fn read_four(
+        &mut self,
+        alloc: Global,
+        verb: &[u8],
+        message: &'a [u8],
+        from: &[u8],
+        to: &[u8],
+    ) -> Result<(), LineRefusal>
+        requires stands { Stands self.old }
+        requires few { vec_len self.old.lines < 2 ^ 32 - 1 }
+        ensures takes { Takes (read_words (story_of self.old) (verb.now ∷ message.now ∷ from.now ∷ to.now ∷ [])) self.new result }
+        ensures grows { vec_len self.new.lines ≤ vec_len self.old.lines + 1 }
+    {
+        if b"send".as_slice() != verb
+            || !is_short_name(message)
+            || !is_short_name(from)
+            || !is_short_name(to)
+        {
+            return Err(LineRefusal::Fault(FaultName::H1));
+        }
+        self.read_send(alloc, message, from, to)
+    }
+
+    fn read_process(&mut self, alloc: Global, name: &'a [u8]) -> Result<(), LineRefusal>
+        requires stands { Stands self.old }
+        requires few { vec_len self.old.lines < 2 ^ 32 - 1 }
+        ensures takes { Takes (before_failure (story_of self.old) (read_process (story_of self.old) name.now)) self.new result }
+        ensures grows { vec_len self.new.lines ≤ vec_len self.old.lines + 1 }
+    {
+        if self.process(name).is_some() {
+            return Err(LineRefusal::Fault(FaultName::H3));
+        }
+        self.before_failure()?;
+        let number = self.processes.len() as u32;
+        self.process_numbers.insert(name, number)?;
+        self.processes.push(Text::from_slice(alloc, name)?)?;
+        self.lines.push(Line::Begin(number))?;
+        Ok(())
+    }
+
+    fn read_point(&mut self, name: &[u8]) -> Result<(), LineRefusal>
+        requires stands { Stands self.old }
+        requires few { vec_len self.old.lines < 2 ^ 32 - 1 }
+        ensures takes { Takes (before_failure (story_of self.old) (read_point (story_of self.old) name.now)) self.new result }
+        ensures grows { vec_len self.new.lines ≤ vec_len self.old.lines + 1 }
+    {
+        let process = self.known_process(name)?;
+        self.before_failure()?;
+        self.lines.push(Line::Point(process))?;
+        Ok(())
+    }
+
+    fn read_send(
+        &mut self,
+        alloc: Global,
+        name: &'a [u8],
+        from: &[u8],
+        to: &[u8],
+    ) -> Result<(), LineRefusal>
+        requires stands { Stands self.old }
+        requires few { vec_len self.old.lines < 2 ^ 32 - 1 }
+        ensures takes { Takes (before_failure (story_of self.old) (read_send (story_of self.old) name.now from.now to.now)) self.new result }
+        ensures grows { vec_len self.new.lines ≤ vec_len self.old.lines + 1 }
+    {
+        let sender = self.known_process(from)?;
+        let receiver = self.known_process(to)?;
+        if self.message(name).is_some() {
+            return Err(LineRefusal::Fault(FaultName::H3));
+        }
+        self.before_failure()?;
+        let number = self.messages.len() as u32;
+        let sent = self.lines.len() as u32;
+        self.message_numbers.insert(name, number)?;
+        let name = Text::from_slice(alloc, name)?;
+        self.messages.push(Message {
+            name,
+            sender,
+            receiver,
+            sent,
+        })?;
+        self.taken.push(false)?;
+        self.lines.push(Line::Send(number))?;
+        Ok(())
+    }
+
+    fn read_take(&mut self, name: &[u8]) -> Result<(), LineRefusal>
+        requires stands { Stands self.old }
+        requires few { vec_len self.old.lines < 2 ^ 32 - 1 }
+        ensures takes { Takes (before_failure (story_of self.old) (read_take (story_of self.old) name.now)) self.new result }
+        ensures grows { vec_len self.new.lines ≤ vec_len self.old.lines + 1 }
+    {
+        let Some(message) = self.message(name) else {
+            return Err(LineRefusal::Fault(FaultName::H4));
+        };
+        if self.taken[message as usize] {
+            return Err(LineRefusal::Fault(FaultName::H4));
+        }
+        self.before_failure()?;
+        self.taken[message as usize] = true;
+        self.lines.push(Line::Take(message))?;
+        Ok(())
+    }
+
+    fn read_fail(&mut self, name: &[u8]) -> Result<(), LineRefusal>
+        requires stands { Stands self.old }
+        requires few { vec_len self.old.lines < 2 ^ 32 - 1 }
+        ensures takes { Takes (before_failure (story_of self.old) (read_fail (story_of self.old) name.now)) self.new result }
+        ensures grows { vec_len self.new.lines ≤ vec_len self.old.lines + 1 }
+    {
+        let process = self.known_process(name)?;
+        self.before_failure()?;
+        self.failed = true;
+        self.lines.push(Line::Fail(process))?;
+        Ok(())
+    }
+
+    // The number of the process of this name.
+    fn process(&self, name: &[u8]) -> Option<u32>
+        requires { Stands self.now }
+        ensures { result ≡ process_of (story_of self.now) name.now }
+    {
+        self.process_numbers.get(name).copied()
+    }
+
+    // The number of the message of this name.
+    fn message(&self, name: &[u8]) -> Option<u32>
+        requires { Stands self.now }
+        ensures { result ≡ message_of (story_of self.now) name.now }
+    {
+        self.message_numbers.get(name).copied()
+    }
+
+    fn known_process(&self, name: &[u8]) -> Result<u32, LineRefusal>
+        requires { Stands self.now }
+        ensures { MatchResult result
+            (λ process. process_of (story_of self.now) name.now ≡ Some process)
+            (λ refusal. (process_of (story_of self.now) name.now ≡ None) × (refusal ≡ LineRefusal.Fault FaultName.H2)) }
+    {
+        self.process(name).ok_or(LineRefusal::Fault(FaultName::H2))
+    }
+
+    // Nothing follows a failure.
+    fn before_failure(&self) -> Result<(), LineRefusal>
+        requires { Stands self.now }
+        ensures { MatchResult result
+            (λ _. has_failed (story_of self.now) ≡ false)
+            (λ refusal. (has_failed (story_of self.now) ≡ true) × (refusal ≡ LineRefusal.Fault FaultName.H5)) }
+    {
+        if self.failed {
+            Err(LineRefusal::Fault(FaultName::H5))
+        } else {
+            Ok(())
+        }
+    }
+}
+
+/// Whether a word is a name, and not too long.
+fn is_short_name(word: &[u8]) -> bool
+    ensures { result ≡ is_short_name word.now }
+{
+    is_name(word) && word.len() <= LONGEST_NAME
+}
+
+impl From<Memory> for LineRefusal {
+    ghost use Rattle.rb_domino.specs.declared.reader.LineRefusal.TheVariants as refusals;
+
+    ghost from_gives = { λ _ refusal. refusal ≡ refusals.Memory };
+
+    fn from(_error: Memory) -> Self {
+        LineRefusal::Memory
+    }
+}
+
+impl<T: Drop> From<AllocFailed<T>> for LineRefusal {
+    ghost use Rattle.rb_domino.specs.declared.reader.LineRefusal.TheVariants as refusals;
+
+    ghost from_gives = { λ _ refusal. refusal ≡ refusals.Memory };
+
+    fn from(_error: AllocFailed<T>) -> Self {
+        LineRefusal::Memory
+    }
+}
