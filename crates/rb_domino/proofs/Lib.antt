@@ -14,3 +14,4 @@ pub mod Opening
 pub mod Rounds
 pub mod Putting
 pub mod Places
+pub mod theorem
