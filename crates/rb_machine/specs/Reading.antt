@@ -1,11 +1,11 @@
 -- What a machine is read by: how its processes stand, their variables, how many values were sent and taken on each channel, and the released
 -- lines that wait.
-use Rattle.std.specs.Prelude.{◌≡◌, ◌<◌, ◌^◌, ℕ, ℤ, List, length, map}
+use Rattle.std.specs.Prelude.{◌≡◌, ◌<◌, ◌^◌, cond, ℕ, ℤ, List, length, map, Option, None}
 use Rattle.rb_base.specs.Lines.{without_next}
 use Rattle.rb_base.specs.declared.event.State.{State}
 use Rattle.rb_trace.specs.Ended.{state_of}
 use Rattle.rb_world.specs.Standing.{Each}
-use Rattle.rb_world.specs.World.{Process}
+use Rattle.rb_world.specs.World.{Process, last_of}
 use Rattle.rb_code.specs.WordMachine.Workspace.{part_of}
 use Rattle.rb_code.specs.Instructions.Plain.{Code}
 use Rattle.rb_code.specs.SoundCode.Stands.{IsAmong}
@@ -13,7 +13,7 @@ use Rattle.rb_code.specs.WordMachine.Turn.{Copy, Standing}
 use Rattle.rb_code.specs.SoundCode.WellFormed.{JoinsTwo}
 use Rattle.rb_code.specs.WordMachine.WordRun.{counts_sent, counts_taken, variable_words}
 use Rattle.rb_proc.specs.Process.{Seen}
-use Rattle.rb_machine.specs.Channels.{AreNumbered}
+use Rattle.rb_machine.specs.Channels.{AreNumbered, conversation_in}
 use Rattle.rb_machine.specs.Known.{CursorsBelow}
 use Rattle.rb_machine.specs.Worlds.{lines_of, processes_of}
 use Rattle.rb_machine.specs.declared.parts.Parts.{Parts}
@@ -29,6 +29,10 @@ sent_of c processes = counts_sent c (map (λ (q : Process Standing Copy). q.stat
 
 abbrev pub taken_of : Code → List (Process Standing Copy) → List ℕ
 taken_of c processes = counts_taken c (map (λ (q : Process Standing Copy). q.state) processes) 0 c.channels
+
+-- the conversation at whose test line a process stands, if it stands at one
+abbrev pub line_stood_at : Process Standing Copy → Option ℕ
+line_stood_at q = cond q.at_line (conversation_in (last_of q.levels)) None
 
 -- Processes of this code by number, and channels between them; and no cursor is too great for a signed number.
 pub record AreCounted (c : Code) (procs : List Seen) : Type 0 where

@@ -1,17 +1,21 @@
 //! The machine: a program's processes, channels and conversations, turn by turn.
 
-ghost use Rattle.std.specs.Prelude.{◌≡◌, ◌+◌, ◌-◌, ◌*◌, ◌<◌, ◌≤◌, ◌^◌, true, false, [], length, map, replicate, slice_get, sum_by, vec_len, vec_capacity, IfOk};
+ghost use Rattle.std.specs.Prelude.{◌≡◌, ◌+◌, ◌-◌, ◌*◌, ◌<◌, ◌≤◌, ◌^◌, true, false, [], length, map, replicate, slice_get, sum_by, vec_len, vec_capacity, IfOk, Some};
 ghost use Rattle.rb_base.specs.declared.limits.TheConstants.{MOST_HELD_BYTES, MOST_PROCESSES_SECOND};
 ghost use Rattle.rb_code.specs.Instructions.Plain.{code as plain};
 ghost use Rattle.rb_code.specs.SoundCode.WellFormed.{IsSound};
+ghost use Rattle.rb_code.specs.WordMachine.Turn.{Copy, Standing};
 ghost use Rattle.rb_conv.specs.Conversations.{memberships, opening};
+ghost use Rattle.rb_proc.specs.Process.{wanted_of};
 ghost use Rattle.rb_trace.specs.Report.{told_of};
 ghost use Rattle.rb_world.specs.Turn.{told_at_opening, turn};
+ghost use Rattle.rb_world.specs.World.{Process};
 ghost use Rattle.rb_machine.specs.AtWork.{IsAtWork};
 ghost use Rattle.rb_machine.specs.Cascade.{SameGroups};
 ghost use Rattle.rb_machine.specs.Known.{IsSoundFor};
 ghost use Rattle.rb_machine.specs.Machine.{HasTurned, IsKeptEntry, opening_seen};
 ghost use Rattle.rb_machine.specs.Moves.{AreAtWork, world};
+ghost use Rattle.rb_machine.specs.Reading.{line_stood_at};
 ghost use Rattle.rb_machine.specs.Survivors.{word_survivors};
 ghost use Rattle.rb_machine.specs.Telling.{AreFreed, running_of};
 ghost use Rattle.rb_machine.specs.Work.{enters_there, turn_work};
@@ -21,13 +25,14 @@ use crate::came::Came;
 use crate::loading::load_parts;
 use crate::moves::take_turn;
 use crate::parts::Parts;
-use crate::reading::{sent_on, state_at, taken_on, word_at};
+use crate::reading::{line_at, sent_on, state_at, taken_on, want_at, word_at};
 use crate::rests::{Resting, is_bare, is_still};
 use crate::survivors::survivors;
 use crate::telling::{drop_all_released, finish, tell_opening};
 use arrayvec::ArrayVec;
 use rb_base::{Final, Kept, Lines, Memory, Nested, Report, State, Steps, TurnKind};
 use rb_code::Code;
+use rb_proc::Wanted;
 use std::alloc::Global;
 use std::marker::Model;
 use std::sync::ledger::Ledger;
@@ -102,13 +107,14 @@ impl<'a, L: Ledger> Machine<'a, L> {
 
     /// One turn of process p, as the word machine takes it: the report becomes what it came to, whatever it held before, and the lines that
     /// it released wait. One report serves all turns of a run, since a new one is large. It costs the ticks of `turn_work` at most, and none
-    /// where the turn is an entry that is kept.
+    /// where the turn is an entry that is kept. Contracts learn here that before a turn who has no level holds no line.
     pub fn turn(&mut self, p: u32, report: &mut Report, steps: &mut Steps<L>)
         requires more { self.old.taken < self.old.most }
         requires waits { self.old.waiting ≡ replicate (length self.old.world.processes) [] }
         ensures turned { HasTurned self.old p self.new (told_of report.new.kind report.new.events.items self.new.waiting) }
         ensures work { steps.new ≤ steps.old + turn_work self.old.code self.old.groups (self.old.taken + 1) p self.old.world }
         ensures entry { IsKeptEntry self.old p → steps.new ≤ steps.old }
+        ensures freed { AreFreed self.old.world.processes }
     {
         match self.resting.kind(p) {
             Some(kind) => {
@@ -170,6 +176,22 @@ impl<'a, L: Ledger> Machine<'a, L> {
         ensures { result ≡ false → self.now.waiting ≡ replicate (length self.now.world.processes) [] }
     {
         self.released
+    }
+
+    /// What process p wants of its next turn.
+    pub fn want(&self, p: u32) -> Wanted
+        requires { p < length self.now.world.processes }
+        ensures { (q : Process Standing Copy) → slice_get self.now.world.processes p ≡ Some q → result ≡ wanted_of self.now.code q }
+    {
+        want_at(self.code, &self.parts.procs, p)
+    }
+
+    /// The conversation at whose test line process p stands; `None` where it stands at none.
+    pub fn line(&self, p: u32) -> Option<u32>
+        requires { p < length self.now.world.processes }
+        ensures { (q : Process Standing Copy) → slice_get self.now.world.processes p ≡ Some q → result ≡ line_stood_at q }
+    {
+        line_at(&self.parts.procs, p)
     }
 
     /// How many turns it has taken.

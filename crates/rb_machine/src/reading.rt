@@ -1,21 +1,26 @@
 //! What a machine is read by: how its processes stand, their variables, how many values were sent and taken on each channel, and the released
 //! lines that wait.
 
-ghost use Rattle.std.specs.Prelude.{◌≡◌, ℕ, ◌<◌, pos, length, slice_get, option_copied, option_map, Some};
+ghost use Rattle.std.specs.Prelude.{◌≡◌, ℕ, ◌<◌, pos, length, slice_get, option_copied, option_map, Option, Some};
 ghost use Rattle.std.specs.Borrow.{sem};
 ghost use Rattle.std.specs.Io.BufRead.{Rests};
 ghost use Rattle.rb_base.specs.Lines.{AtMostOneTick, belonging, next_line};
 ghost use Rattle.rb_code.specs.Instructions.Plain.{code as plain};
 ghost use Rattle.rb_code.specs.WordMachine.WordKind.{cursor_in};
-ghost use Rattle.rb_proc.specs.Process.{Seen};
-ghost use Rattle.rb_machine.specs.Channels.{AreNumbered};
-ghost use Rattle.rb_machine.specs.Reading.{AreCounted, HasEnd, HasLent, sent_of, states_of, taken_of, variables_of};
+ghost use Rattle.rb_code.specs.WordMachine.Turn.{Copy, Standing};
+ghost use Rattle.rb_proc.specs.Executable.{IsExecutable};
+ghost use Rattle.rb_proc.specs.Process.{Seen, wanted_of};
+ghost use Rattle.rb_world.specs.World.{Level, Process};
+ghost use Rattle.rb_machine.specs.Channels.{AreNumbered, conversation_in};
+ghost use Rattle.rb_machine.specs.Reading.{AreCounted, HasEnd, HasLent, line_stood_at, sent_of, states_of, taken_of, variables_of};
+ghost use Rattle.rb_machine.specs.Stepping.{IsInnermost};
 ghost use Rattle.rb_machine.specs.Worlds.{lines_of, processes_of};
 
+use crate::innermost::innermost;
 use crate::parts::Parts;
 use rb_base::{State, Steps};
 use rb_code::Code;
-use rb_proc::Proc;
+use rb_proc::{LevelView, Proc, Wanted};
 use std::sync::ledger::Ledger;
 
 /// How process p stands; a running one with its number of open levels.
@@ -83,6 +88,44 @@ fn cursor_at<L: Ledger>(
     ensures work { AtMostOneTick steps.old steps.new }
 {
     procs[p as usize].cursor(code, channel, steps) as i64
+}
+
+/// What process p wants of its next turn.
+pub fn want_at<L: Ledger>(code: &Code, procs: &[Proc<L>], p: u32) -> Wanted
+    requires code { IsExecutable (plain code.now) }
+    requires process { p < length procs.now }
+    ensures { (q : Process Standing Copy) → slice_get (processes_of procs.now) p ≡ Some q → result ≡ wanted_of (plain code.now) q }
+{
+    procs[p as usize].want(code)
+}
+
+/// The conversation at whose test line process p stands, if it stands at one.
+pub fn line_at<L: Ledger>(procs: &[Proc<L>], p: u32) -> Option<u32>
+    requires { p < length procs.now }
+    ensures { (q : Process Standing Copy) → slice_get (processes_of procs.now) p ≡ Some q → result ≡ line_stood_at q }
+{
+    line_of(&procs[p as usize])
+}
+
+// The conversation at whose test line a process stands, if it stands at one.
+fn line_of<L: Ledger>(proc: &Proc<L>) -> Option<u32>
+    ensures { result ≡ line_stood_at proc.now.process }
+{
+    if proc.at_line() {
+        conversation_of(innermost(proc))
+    } else {
+        None
+    }
+}
+
+// The conversation of a level, and none without a level.
+fn conversation_of(level: Option<LevelView>) -> Option<u32>
+    ensures { (o : Option (Level Copy)) → IsInnermost o level → result ≡ conversation_in o }
+{
+    match level {
+        None => None,
+        Some(view) => view.conversation,
+    }
 }
 
 impl<L: Ledger> Parts<L> {
