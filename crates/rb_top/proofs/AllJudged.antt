@@ -13,12 +13,14 @@ use Rattle.rb_syntax.specs.Tree.{Tree}
 use Rattle.rb_judge.specs.Verdict.{IsAccepted, IsRefusedFor}
 use Rattle.rb_plain.specs.Record.{record_of}
 use Rattle.rb_make.specs.Trial.{schedule_of as made_schedule, source_of}
-use Rattle.rb_top.specs.Words.{Run, Survive, Replay, Check, Compile, Trial}
+use Rattle.rb_stuck.specs.Programs.{tree_standing_text}
+use Rattle.rb_top.specs.Words.{Run, Survive, Replay, Check, Compile, Trial, Analyse, Survey}
 use Rattle.rb_top.specs.Judgement.{Judgement, ReadsOn, RefusedWith, Writes, too_long_line, source_line, text_line, stuck_line, accepted_line, names_of, SourceRefused, long_source, bad_source, Accepted}
 use Rattle.rb_top.specs.Judgement.{ScheduleRefused, long_schedule, bad_schedule, ScheduleRuns, RecordRefused, RecordPlays, long_record, bad_record, stuck_record, survivors_text, summary_text}
 use Rattle.rb_top.specs.Judgement.{JudgesSource, at_first, source_refused, source_accepted, OverSchedule, reads_schedule, schedule_refused, runs, PlainGoesOn, reads_record, record_refused, plays}
 use Rattle.rb_top.specs.Judgement.{accepts, ListsCodeOf, lists, EndsBy, EndsWith, refused_here, written_here, later}
 use Rattle.rb_top.specs.Laws.{AreJudged}
+use Rattle.rb_top.proofs.Histories.{history_judged}
 use Rattle.rb_top.proofs.BothTexts.{BothEnd, first_refused, second_refused, second_writes}
 use Rattle.rb_judge.proofs.BlocksInOrder.{parsed_are_numbered}
 use Rattle.rb_judge.proofs.OwnNumbers.{parsed_have_own_numbers}
@@ -210,3 +212,5 @@ are_judged Replay texts two = two_judged PlainGoesOn over_record texts two
 are_judged Check texts one = check_judged texts one
 are_judged Compile texts one = code_judged texts one
 are_judged (Trial n) texts none = trial_judged n texts none
+are_judged Analyse texts one = history_judged texts one
+are_judged Survey texts two = two_judged (OverSchedule tree_standing_text) (over_schedule tree_standing_text) texts two

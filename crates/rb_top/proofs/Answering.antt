@@ -9,7 +9,7 @@ use Rattle.rb_outside.proofs.Puts.{failed_after}
 use Rattle.rb_run.specs.Surviving.{Survives}
 use Rattle.rb_run.specs.declared.surviving.Ended.{Ended as Survival}
 use Rattle.rb_run.specs.declared.surviving.Ended.TheVariants as survival
-use Rattle.rb_top.specs.Words.{Command, Run, Survive, Replay, Check, Compile, Trial, Wanted, Request}
+use Rattle.rb_top.specs.Words.{Command, Run, Survive, Replay, Check, Compile, Trial, Analyse, Survey, Wanted, Request}
 use Rattle.rb_top.specs.declared.read.Unread.{Unread}
 use Rattle.rb_top.specs.declared.read.Unread.TheVariants.{Fault}
 use Rattle.rb_top.specs.declared.read.Unread.TheVariants as unread
@@ -204,6 +204,8 @@ nothing_by_then request Replay old new nothing = inl nothing
 nothing_by_then request Check old new nothing = nothing
 nothing_by_then request Compile old new nothing = nothing
 nothing_by_then request (Trial number) old new nothing = nothing
+nothing_by_then request Analyse old new nothing = nothing
+nothing_by_then request Survey old new nothing = nothing
 
 module _ (files others : Option (List File)) (request : Request) (texts : List (List ℕ)) (rest : List Wanted)
     (old now : List Start) (r0 r1 f0 f1 : Faults) (w0 w1 : Option (List ℕ))
@@ -396,6 +398,8 @@ still_by_then files request Replay a b r0 r1 f0 w0 new same (inr front) =
 still_by_then files request Check a b r0 r1 f0 w0 new same nothing = record { written = nothing.written; faults = nothing.faults }
 still_by_then files request Compile a b r0 r1 f0 w0 new same nothing = record { written = nothing.written; faults = nothing.faults }
 still_by_then files request (Trial number) a b r0 r1 f0 w0 new same nothing = record { written = nothing.written; faults = nothing.faults }
+still_by_then files request Analyse a b r0 r1 f0 w0 new same nothing = record { written = nothing.written; faults = nothing.faults }
+still_by_then files request Survey a b r0 r1 f0 w0 new same nothing = record { written = nothing.written; faults = nothing.faults }
 
 -- an answer of the later stages is one of the whole, in which nothing but reads without faults came before
 pub resumed : (files : Option (List File)) (request : Request) (a b : List Start) (r0 r1 f0 : Faults) (w0 : Option (List ℕ))

@@ -26,7 +26,7 @@ use Rattle.clap.specs.declared.builder.value_parser.Reading.TheVariants.{AsWritt
 use Rattle.clap.proofs.WalkLemmas.{first_value-rows, walk_stopped}
 use Rattle.clap.proofs.FaultLemmas.{stopped_fault}
 use Rattle.clap.proofs.OnLiterals.{clap_on_literals}
-use Rattle.rb_top.specs.Words.{Request, check_of, code_of, forms, is_plain_word, named_in, plain_of, request_of, run_of, survive_of, trial_number, trial_of, with_two}
+use Rattle.rb_top.specs.Words.{Request, analyse_of, check_of, code_of, forms, is_plain_word, named_in, plain_of, request_of, run_of, survey_of, survive_of, trial_number, trial_of, with_two}
 use Rattle.rb_top.specs.CommandLine.{command_with, program, request_given, required_word, trial_given, two_given}
 
 -- the program is one of which `clap` says all
@@ -259,7 +259,7 @@ module _ (name i j : Text) (of : Text → Text → Request) (first : bytes_eq i 
       refused (some_fault _ _ _ _ (fault (a ∷ b ∷ c ∷ more)) (two-many name i j first second ahead behind a b c more one.0 other.0 third.0))
       (asks name (a ∷ b ∷ c ∷ more) plain ∙ form (a ∷ b ∷ c ∷ more))
 
--- `run`, `survive` and `plain` take two
+-- `run`, `survive`, `plain` and `stuck` take two
 run_agrees : (words : List Text) → list_all is_plain_word words ≡ true → Agrees (codes "run" ∷ words)
 run_agrees =
     two_agrees (codes "run") (codes "SOURCE") (codes "SCHEDULE") run_of refl refl refl refl
@@ -279,6 +279,13 @@ plain_agrees =
     two_agrees (codes "plain") (codes "SOURCE") (codes "RECORD") plain_of refl refl refl refl
     (λ words. fault-name (codes "plain") words (leaf (codes "plain") (codes "SOURCE" ∷ codes "RECORD" ∷ [])) refl refl refl)
     (λ words. subcommand-name (codes "plain") words (leaf (codes "plain") (codes "SOURCE" ∷ codes "RECORD" ∷ [])) refl refl refl)
+    (λ given. refl) (λ words. refl)
+
+stuck_agrees : (words : List Text) → list_all is_plain_word words ≡ true → Agrees (codes "stuck" ∷ words)
+stuck_agrees =
+    two_agrees (codes "stuck") (codes "SOURCE") (codes "SCHEDULE") survey_of refl refl refl refl
+    (λ words. fault-name (codes "stuck") words (leaf (codes "stuck") (codes "SOURCE" ∷ codes "SCHEDULE" ∷ [])) refl refl refl)
+    (λ words. subcommand-name (codes "stuck") words (leaf (codes "stuck") (codes "SOURCE" ∷ codes "SCHEDULE" ∷ [])) refl refl refl)
     (λ given. refl) (λ words. refl)
 
 -- a command that takes one word, of which it makes something to ask for, or nothing
@@ -302,7 +309,7 @@ module _ (name i : Text) (of : Text → Option Request) (same : bytes_eq i i ≡
       refused (some_fault _ _ _ _ (fault (a ∷ b ∷ more)) (one-many name i same a b more first.0 second.0))
       (asks name (a ∷ b ∷ more) plain ∙ beyond a b more)
 
--- `check`, `code` and `trial` take one
+-- `check`, `code`, `trial` and `domino` take one
 check_agrees : (words : List Text) → list_all is_plain_word words ≡ true → Agrees (codes "check" ∷ words)
 check_agrees =
     one_agrees (codes "check") (codes "SOURCE") (λ a. Some (check_of a)) refl
@@ -324,14 +331,23 @@ trial_agrees =
     (λ words. subcommand-name (codes "trial") words (leaf (codes "trial") (codes "NUMBER" ∷ [])) refl refl refl)
     (λ given a e. ap trial_given e) refl (λ a. refl) (λ a b more. refl)
 
+domino_agrees : (words : List Text) → list_all is_plain_word words ≡ true → Agrees (codes "domino" ∷ words)
+domino_agrees =
+    one_agrees (codes "domino") (codes "HISTORY") (λ a. Some (analyse_of a)) refl
+    (λ words. fault-name (codes "domino") words (leaf (codes "domino") (codes "HISTORY" ∷ [])) refl refl refl)
+    (λ words. subcommand-name (codes "domino") words (leaf (codes "domino") (codes "HISTORY" ∷ [])) refl refl refl)
+    (λ given a e. ap (option_map analyse_of) e) refl (λ a. refl) (λ a b more. refl)
+
 -- which command's name a word is
-pub record AreNamed (name : Text) (is_run is_survive is_plain is_check is_code is_trial : Bool) : Type 0 where
+pub record AreNamed (name : Text) (is_run is_survive is_plain is_check is_code is_trial is_domino is_stuck : Bool) : Type 0 where
   pub run : bytes_eq (codes "run") name ≡ is_run
   pub survive : bytes_eq (codes "survive") name ≡ is_survive
   pub plain : bytes_eq (codes "plain") name ≡ is_plain
   pub check : bytes_eq (codes "check") name ≡ is_check
   pub code : bytes_eq (codes "code") name ≡ is_code
   pub trial : bytes_eq (codes "trial") name ≡ is_trial
+  pub domino : bytes_eq (codes "domino") name ≡ is_domino
+  pub stuck : bytes_eq (codes "stuck") name ≡ is_stuck
 
 module _ (name : Text) (words : List Text) (plain : list_all is_plain_word (name ∷ words) ≡ true) where
   -- a name of which this is known
@@ -339,31 +355,34 @@ module _ (name : Text) (words : List Text) (plain : list_all is_plain_word (name
   of_named known agrees e = subst (λ n. Agrees (n ∷ words)) ((bytes_eq-Decides _ _).0 e) (agrees (and_parts _ _ plain).1)
 
   -- a name of no command
-  unnamed : AreNamed name false false false false false false → Agrees (name ∷ words)
+  unnamed : AreNamed name false false false false false false false false → Agrees (name ∷ words)
   unnamed are =
       let parts = and_parts (is_plain_word name) _ plain in
-      let no_name : subcommand_met names idle name ≡ None = rw (are.run, are.survive, are.plain, are.check, are.code, are.trial) refl in
+      let no_name : subcommand_met names idle name ≡ None = rw (are.run, are.survive, are.plain, are.check, are.code, are.trial, are.domino, are.stuck) refl in
       refused (λ none. let both : [] ≡ UnknownArgument ∷ InvalidSubcommand ∷ [] = sym none ∙ other_word name words parts.0 no_name in cc)
-      (asks name words parts.1 ∙ rw (are.run, are.survive, are.plain, are.check, are.code, are.trial) refl)
+      (asks name words parts.1 ∙ rw (are.run, are.survive, are.plain, are.check, are.code, are.trial, are.domino, are.stuck) refl)
 
   -- the first word is a command's name, or none
-  named : (is_run is_survive is_plain is_check is_code is_trial : Bool)
-      → AreNamed name is_run is_survive is_plain is_check is_code is_trial → Agrees (name ∷ words)
-  named true b c d e f are = of_named (codes "run") (run_agrees words) are.run
-  named false true c d e f are = of_named (codes "survive") (survive_agrees words) are.survive
-  named false false true d e f are = of_named (codes "plain") (plain_agrees words) are.plain
-  named false false false true e f are = of_named (codes "check") (check_agrees words) are.check
-  named false false false false true f are = of_named (codes "code") (code_agrees words) are.code
-  named false false false false false true are = of_named (codes "trial") (trial_agrees words) are.trial
-  named false false false false false false are = unnamed are
+  named : (is_run is_survive is_plain is_check is_code is_trial is_domino is_stuck : Bool)
+      → AreNamed name is_run is_survive is_plain is_check is_code is_trial is_domino is_stuck → Agrees (name ∷ words)
+  named true b c d e f g h are = of_named (codes "run") (run_agrees words) are.run
+  named false true c d e f g h are = of_named (codes "survive") (survive_agrees words) are.survive
+  named false false true d e f g h are = of_named (codes "plain") (plain_agrees words) are.plain
+  named false false false true e f g h are = of_named (codes "check") (check_agrees words) are.check
+  named false false false false true f g h are = of_named (codes "code") (code_agrees words) are.code
+  named false false false false false true g h are = of_named (codes "trial") (trial_agrees words) are.trial
+  named false false false false false false true h are = of_named (codes "domino") (domino_agrees words) are.domino
+  named false false false false false false false true are = of_named (codes "stuck") (stuck_agrees words) are.stuck
+  named false false false false false false false false are = unnamed are
 
 pub agrees : (words : List Text) → list_all is_plain_word words ≡ true → Agrees words
 agrees [] plain = refused (λ none. let both : [] ≡ MissingSubcommand ∷ [] = sym none ∙ no_words in cc) refl
 agrees (name ∷ words) plain =
     named name words plain (bytes_eq (codes "run") name) (bytes_eq (codes "survive") name) (bytes_eq (codes "plain") name)
     (bytes_eq (codes "check") name)
-    (bytes_eq (codes "code") name) (bytes_eq (codes "trial") name)
-    (record { run = refl; survive = refl; plain = refl; check = refl; code = refl; trial = refl })
+    (bytes_eq (codes "code") name) (bytes_eq (codes "trial") name) (bytes_eq (codes "domino") name)
+    (bytes_eq (codes "stuck") name)
+    (record { run = refl; survive = refl; plain = refl; check = refl; code = refl; trial = refl; domino = refl; stuck = refl })
 
 -- a word that is not plain names no command
 not_named : (name : Text) (words : List Text) → is_plain_word name ≡ false → named_in forms name words ≡ None

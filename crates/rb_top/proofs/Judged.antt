@@ -9,12 +9,14 @@ use Rattle.rb_base.specs.declared.kept.Kept.{Kept}
 use Rattle.rb_base.specs.declared.limits.TheConstants.{MOST_BYTES}
 use Rattle.rb_sched.specs.Schedule.{schedule_of}
 use Rattle.rb_syntax.specs.Tree.{Tree}
-use Rattle.rb_top.specs.Words.{Command, Run, Survive, Replay, Check, Compile, Trial}
+use Rattle.rb_stuck.specs.Programs.{tree_standing_text}
+use Rattle.rb_top.specs.Words.{Command, Run, Survive, Replay, Check, Compile, Trial, Analyse, Survey}
 use Rattle.rb_top.specs.Judgement.{Judgement, ReadsOn, RefusedWith, Writes, SourceRefused, long_source, bad_source, source_line, text_line, stuck_line, Accepted}
 use Rattle.rb_top.specs.Judgement.{ScheduleRefused, long_schedule, bad_schedule, ScheduleRuns, RecordRefused, long_record, bad_record, stuck_record, RecordPlays}
 use Rattle.rb_top.specs.Judgement.{JudgesSource, at_first, source_refused, source_accepted, OverSchedule, names_of, reads_schedule, schedule_refused, runs, survivors_text, summary_text}
 use Rattle.rb_top.specs.Judgement.{PlainGoesOn, reads_record, record_refused, plays, CheckGoesOn, accepts, CodeGoesOn, ListsCodeOf, lists, Judges, EndsBy, refused_here, written_here, later}
 use Rattle.rb_top.specs.Laws.{AreJudgedOnce}
+use Rattle.rb_top.proofs.Histories.{history_once}
 use Rattle.rb_judge.proofs.BlocksInOrder.{parsed_are_numbered}
 use Rattle.rb_judge.proofs.Verdicts.{have_one_verdict}
 use Rattle.rb_code.specs.Instructions.Listing.{listing_text}
@@ -194,6 +196,8 @@ judges_once Compile texts v w r s = source_judged_once CodeGoesOn codes_once tex
 judges_once (Trial n) texts v w r s =
     ends_once (JudgesSource (OverSchedule (summary_text n))) (source_judged_once (OverSchedule (summary_text n)) (runs_once (summary_text n))) []
     (source_of n ∷ made_schedule n ∷ []) v w r.1 s.1
+judges_once Analyse texts v w r s = history_once texts v w r s
+judges_once Survey texts v w r s = source_judged_once (OverSchedule tree_standing_text) (runs_once tree_standing_text) texts v w r s
 
 pub are_judged_once : AreJudgedOnce
 are_judged_once command texts v w a b = ends_once (Judges command) (judges_once command) [] texts v w a b

@@ -2,6 +2,7 @@ pub mod Reading
 pub mod Chains
 pub mod Answering
 pub mod Sources
+pub mod Histories
 pub mod Judged
 pub mod BothTexts
 pub mod KeptTurns
@@ -11,6 +12,7 @@ pub mod SurvivorsReplay
 pub mod Complete
 pub mod AllJudged
 pub mod Loaded
+pub mod Surveys
 pub mod Digits
 pub mod Scheduled
 pub mod Trials

@@ -30,10 +30,12 @@ use Rattle.rb_machine.specs.Worlds.{counts_of}
 use Rattle.rb_run.specs.Counting.{told_counts}
 use Rattle.rb_run.proofs.AsMeant.{text_as_meant}
 use Rattle.rb_run.proofs.Survived.{erased_over}
+use Rattle.rb_stuck.specs.Programs.{tree_standing_text, word_standing_text}
+use Rattle.rb_stuck.proofs.AsMeant.{code_stands}
 use Rattle.rb_top.specs.Judgement.{run_counts, survivors_text}
 use Rattle.rb_top.specs.Products.{text_for, word_counts, word_text_for}
 use Rattle.rb_top.specs.declared.over_schedule.Product.{Product}
-use Rattle.rb_top.specs.declared.over_schedule.Product.TheVariants.{Text, Survivors}
+use Rattle.rb_top.specs.declared.over_schedule.Product.TheVariants.{Text, Survivors, Standing}
 
 -- at the opening a conversation has the members and the parent that it was given
 opened_group : (group : Group) → membership (opened group) ≡ membership_told group
@@ -88,11 +90,19 @@ module _ (source : List ℕ) (prepared : Prepared) (accepted : IsPrepared source
       ∙ ap (record_text (naming_of accepted.tree))
       (erased_over c groups turns source accepted.tree accepted.slots accepted.accepted accepted.is_code.frames accepted.is_code.stands groups_are).0
 
+  -- and how it stands is how the tree does
+  standing_as_meant : (turns : List ℕ)
+      → word_standing_text (code prepared.code) (memberships (opening prepared.nested)) turns ≡ tree_standing_text accepted.tree turns
+  standing_as_meant turns =
+      ap (λ (groups : List Membership). word_standing_text (code prepared.code) groups turns) groups_are
+      ∙ code_stands source accepted.tree accepted.slots (code prepared.code) accepted.accepted accepted.is_code.frames accepted.is_code.stands turns
+
   -- so is the text of each command over a schedule
   pub texts_as_meant : (product : Product) (turns : List ℕ)
       → word_text_for product (code prepared.code) (memberships (opening prepared.nested)) turns ≡ text_for product accepted.tree turns
   texts_as_meant Text turns = runs_as_meant turns
   texts_as_meant Survivors turns = survivors_as_meant turns
+  texts_as_meant Standing turns = standing_as_meant turns
 
   -- and it prints as many lines of each kind
   pub counts_as_meant : (turns : List ℕ)

@@ -11,7 +11,7 @@ use Rattle.rb_prepare.specs.declared.preparing.Prepared.{Prepared}
 use Rattle.rb_top.specs.Words.{Command, Replay, Wanted, Request, plain_of, text_named}
 use Rattle.rb_top.specs.Products.{command_for, request_for, text_for}
 use Rattle.rb_top.specs.declared.over_schedule.Product.{Product}
-use Rattle.rb_top.specs.declared.over_schedule.Product.TheVariants.{Text, Survivors}
+use Rattle.rb_top.specs.declared.over_schedule.Product.TheVariants.{Text, Survivors, Standing}
 use Rattle.rb_top.specs.declared.status.Status.{Status}
 use Rattle.rb_top.specs.declared.status.Status.TheVariants.{Done, Refused, Usage, ReadFault, WriteFault, Memory}
 use Rattle.rb_top.specs.Judgement.{Judgement, ReadsOn, RefusedWith, Writes, long_source, bad_source, Accepted, long_schedule, bad_schedule, long_record, bad_record, stuck_record}
@@ -142,6 +142,7 @@ pub judges_for : (product : Product) (texts : List (List ℕ)) (j : Judgement)
     → JudgesSource (OverSchedule (text_for product)) texts j → Judges (command_for product) texts j
 judges_for Text texts j h = h
 judges_for Survivors texts j h = h
+judges_for Standing texts j h = h
 
 module _ (product : Product) (files : Option (List File)) (source schedule : List ℕ) (prepared : Prepared) (old mid : List Start)
     (has : HasSource files (request_for product source schedule) (λ bytes. IsPrepared bytes prepared) (text_named schedule ∷ []) old mid) where

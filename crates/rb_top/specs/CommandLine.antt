@@ -2,7 +2,7 @@
 use Rattle.std.specs.Prelude.{ℕ, nat_eq, true, false, cond, List, [], ◌∷◌, map, codes, Option, None, option_and_then, option_map}
 use Rattle.std.specs.Cmp.Lexicographic.{pointwise}
 use Rattle.clap.specs.Words.{App, Rule, Shape, new_app, new_rule}
-use Rattle.rb_top.specs.Words.{Request, run_of, survive_of, plain_of, check_of, code_of, trial_number, trial_of}
+use Rattle.rb_top.specs.Words.{Request, run_of, survive_of, plain_of, check_of, code_of, trial_number, trial_of, analyse_of, survey_of}
 
 -- an argument that has to be given, by its place
 abbrev pub required_word : List ℕ → Rule
@@ -32,7 +32,9 @@ commands =
     ∷ command_with (codes "plain") (codes "SOURCE" ∷ codes "RECORD" ∷ [])
     ∷ command_with (codes "check") (codes "SOURCE" ∷ [])
     ∷ command_with (codes "code") (codes "SOURCE" ∷ [])
-    ∷ command_with (codes "trial") (codes "NUMBER" ∷ []) ∷ []
+    ∷ command_with (codes "trial") (codes "NUMBER" ∷ [])
+    ∷ command_with (codes "domino") (codes "HISTORY" ∷ [])
+    ∷ command_with (codes "stuck") (codes "SOURCE" ∷ codes "SCHEDULE" ∷ []) ∷ []
 
 -- the program with its commands
 abbrev pub program : App
@@ -54,4 +56,6 @@ request_given name given =
     (cond (pointwise nat_eq name (codes "plain")) (two_given plain_of (given (codes "SOURCE")) (given (codes "RECORD")))
     (cond (pointwise nat_eq name (codes "check")) (option_map check_of (given (codes "SOURCE")))
     (cond (pointwise nat_eq name (codes "code")) (option_map code_of (given (codes "SOURCE")))
-    (cond (pointwise nat_eq name (codes "trial")) (trial_given (given (codes "NUMBER"))) None)))))
+    (cond (pointwise nat_eq name (codes "trial")) (trial_given (given (codes "NUMBER")))
+    (cond (pointwise nat_eq name (codes "domino")) (option_map analyse_of (given (codes "HISTORY")))
+    (cond (pointwise nat_eq name (codes "stuck")) (two_given survey_of (given (codes "SOURCE")) (given (codes "SCHEDULE"))) None)))))))

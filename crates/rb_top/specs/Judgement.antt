@@ -21,7 +21,11 @@ use Rattle.rb_sched.specs.Schedule.{schedule_of}
 use Rattle.rb_plain.specs.Record.{record_of}
 use Rattle.rb_make.specs.Trial.{processes_of, schedule_of as made_schedule, source_of}
 use Rattle.rb_run.specs.Counting.{Counted, told_counts}
-use Rattle.rb_top.specs.Words.{Command, Run, Survive, Replay, Check, Compile, Trial}
+use Rattle.rb_domino.specs.History.{Story, history_of}
+use Rattle.rb_domino.specs.Recovery.{outcome_of}
+use Rattle.rb_domino.specs.Written.{outcome_text}
+use Rattle.rb_stuck.specs.Programs.{tree_standing_text}
+use Rattle.rb_top.specs.Words.{Command, Run, Survive, Replay, Check, Compile, Trial, Analyse, Survey}
 
 -- the line for a text that is too long
 abbrev pub too_long_line : List ℕ
@@ -43,7 +47,7 @@ stuck_line turn = codes "refused V4 at " ++ (decimal turn ++ codes "\n")
 
 -- the line for words that give no command
 abbrev pub usage_line : List ℕ
-usage_line = codes "usage: rbl run SOURCE SCHEDULE | survive SOURCE SCHEDULE | plain SOURCE RECORD | check SOURCE | code SOURCE | trial NUMBER\n"
+usage_line = codes "usage: rbl run SOURCE SCHEDULE | survive SOURCE SCHEDULE | plain SOURCE RECORD | check SOURCE | code SOURCE | trial NUMBER | domino HISTORY | stuck SOURCE SCHEDULE\n"
 
 -- the line for a source that is accepted
 abbrev pub accepted_line : List ℕ
@@ -164,6 +168,24 @@ pub record ListsCodeOf (tree : Tree) (text : List ℕ) : Type 0 where
 pub data CodeGoesOn (tree : Tree) : List (List ℕ) → Judgement → Type 0 where
   lists : (text : List ℕ) → ListsCodeOf tree text → CodeGoesOn tree [] (Writes text)
 
+-- The verdict on a history: too long, or its first fault.
+pub data HistoryRefused (text line : List ℕ) : Type 0 where
+  long_history : MOST_BYTES < length text → line ≡ too_long_line → HistoryRefused text line
+  bad_history : (fault : TextFault) → length text ≤ MOST_BYTES → history_of text ≡ Err fault → line ≡ text_line fault → HistoryRefused text line
+
+-- A text is a history, and this is written of what its failure leaves.
+pub record HistoryTells (text written : List ℕ) : Type 0 where
+  pub story : Story
+  pub short : length text ≤ MOST_BYTES
+  pub listed : history_of text ≡ Ok story
+  pub is : written ≡ outcome_text story (outcome_of story)
+
+-- `domino`: it reads a history, and is refused with it, or has its text
+pub data JudgesHistory : List (List ℕ) → Judgement → Type 0 where
+  reads_history : JudgesHistory [] ReadsOn
+  history_refused : (text line : List ℕ) → HistoryRefused text line → JudgesHistory (text ∷ []) (RefusedWith line)
+  history_told : (text written : List ℕ) → HistoryTells text written → JudgesHistory (text ∷ []) (Writes written)
+
 -- The judgement with which whoever makes so of texts ends: these texts were read already, and these are those of the files after them.
 pub data EndsBy (judges : List (List ℕ) → Judgement → Type 0) : List (List ℕ) → List (List ℕ) → Judgement → Type 0 where
   refused_here : (read rest : List (List ℕ)) (line : List ℕ) → judges read (RefusedWith line) → EndsBy judges read rest (RefusedWith line)
@@ -180,6 +202,8 @@ Judges Check texts judgement = JudgesSource CheckGoesOn texts judgement
 Judges Compile texts judgement = JudgesSource CodeGoesOn texts judgement
 Judges (Trial n) texts judgement =
     (texts ≡ []) × EndsBy (JudgesSource (OverSchedule (summary_text n))) [] (source_of n ∷ made_schedule n ∷ []) judgement
+Judges Analyse texts judgement = JudgesHistory texts judgement
+Judges Survey texts judgement = JudgesSource (OverSchedule tree_standing_text) texts judgement
 
 -- the judgement with which a command ends
 abbrev pub EndsWith : Command → List (List ℕ) → List (List ℕ) → Judgement → Type 0

@@ -8,16 +8,18 @@ use Rattle.rb_meaning.specs.Meaning.{run_text}
 use Rattle.rb_code.specs.Instructions.Plain.{Code}
 use Rattle.rb_code.specs.WordMachine.WordRun.{opening_of, word_run, word_text}
 use Rattle.rb_machine.specs.Survivors.{word_survivors}
+use Rattle.rb_stuck.specs.Programs.{tree_standing_text, word_standing_text}
 use Rattle.rb_run.specs.Counting.{Counted, told_counts}
-use Rattle.rb_top.specs.Words.{Command, Run, Survive, Request, text_named}
+use Rattle.rb_top.specs.Words.{Command, Run, Survive, Survey, Request, text_named}
 use Rattle.rb_top.specs.Judgement.{survivors_text}
 use Rattle.rb_top.specs.declared.over_schedule.Product.{Product}
-use Rattle.rb_top.specs.declared.over_schedule.Product.TheVariants.{Text, Survivors}
+use Rattle.rb_top.specs.declared.over_schedule.Product.TheVariants.{Text, Survivors, Standing}
 
 -- the command that makes it
 abbrev pub command_for : Product → Command
 command_for Text = Run
 command_for Survivors = Survive
+command_for Standing = Survey
 
 -- what is asked for with the names of the two files
 abbrev pub request_for : Product → List ℕ → List ℕ → Request
@@ -27,11 +29,13 @@ request_for product source schedule = record { command = command_for product; fi
 abbrev pub text_for : Product → Tree → List ℕ → List ℕ
 text_for Text tree turns = run_text tree turns
 text_for Survivors tree turns = survivors_text tree turns
+text_for Standing tree turns = tree_standing_text tree turns
 
 -- the same of code and its conversations
 abbrev pub word_text_for : Product → Code → List Membership → List ℕ → List ℕ
 word_text_for Text code groups turns = word_text code groups turns
 word_text_for Survivors code groups turns = record_text code.names (word_survivors (word_run code groups turns).0)
+word_text_for Standing code groups turns = word_standing_text code groups turns
 
 -- how many lines of each kind a run of the word machine prints before its ending
 abbrev pub word_counts : Code → List Membership → List ℕ → Counted

@@ -13,6 +13,8 @@ pub data Command : Type 0 where
   Check : Command
   Compile : Command
   Trial : (number : ℕ) → Command
+  Analyse : Command
+  Survey : Command
 
 -- a file that a command reads: its name, and how many bytes it may have at most
 pub record Wanted : Type 0 where
@@ -32,6 +34,8 @@ files_of Replay = 2
 files_of Check = 1
 files_of Compile = 1
 files_of (Trial number) = 0
+files_of Analyse = 1
+files_of Survey = 2
 
 -- a word that may follow a command's name: not empty, and without `-` at its front
 abbrev pub is_plain_word : List ℕ → Bool
@@ -65,6 +69,14 @@ code_of source = record { command = Compile; files = text_named source ∷ [] }
 -- the trial of this number, which reads no file
 abbrev pub trial_of : ℕ → Request
 trial_of number = record { command = Trial number; files = [] }
+
+-- what a failure leaves of the history under a name
+abbrev pub analyse_of : List ℕ → Request
+analyse_of history = record { command = Analyse; files = text_named history ∷ [] }
+
+-- how that run stands at its end
+abbrev pub survey_of : List ℕ → List ℕ → Request
+survey_of source schedule = record { command = Survey; files = text_named source ∷ text_named schedule ∷ [] }
 
 -- at most so many digits give the number of a trial
 abbrev pub most_digits : ℕ
@@ -107,7 +119,9 @@ forms =
     ∷ record { name = codes "plain"; with = with_two plain_of }
     ∷ record { name = codes "check"; with = with_one check_of }
     ∷ record { name = codes "code"; with = with_one code_of }
-    ∷ record { name = codes "trial"; with = trial_with } ∷ []
+    ∷ record { name = codes "trial"; with = trial_with }
+    ∷ record { name = codes "domino"; with = with_one analyse_of }
+    ∷ record { name = codes "stuck"; with = with_two survey_of } ∷ []
 
 -- what the first of these commands that has this name asks for with these words
 abbrev pub named_in : List Form → List ℕ → List (List ℕ) → Option Request

@@ -11,7 +11,8 @@ pub fn are_judged()
     ensures { AreJudged }
 {}
 
-/// What `plain` writes of what `survive` wrote has the `out` lines of `run`, in their order, and its values.
+/// What `plain` writes of what `survive` wrote has the `out` lines of `run`, in their order, and its values, where the record is no longer
+/// than a file may be.
 pub fn survivors_replay()
     ensures { SurvivorsReplay }
 {}

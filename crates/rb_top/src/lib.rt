@@ -1,6 +1,7 @@
 //! The top call: from words, files and a sink to a status.
 #![tactic(auto)]
 
+pub mod analyse;
 pub mod check;
 pub mod code;
 pub mod ending;
@@ -16,6 +17,7 @@ pub mod run_turns;
 pub mod source;
 pub mod status;
 pub mod summary;
+pub mod survey_turns;
 pub mod survive_turns;
 pub mod top;
 pub mod trial;

@@ -1,4 +1,4 @@
-//! The commands `run` and `survive`, which read a source and a schedule for it.
+//! The commands `run`, `survive` and `stuck`, which read a source and a schedule for it.
 ghost use Rattle.std.specs.Prelude.{◌≡◌, ◌≤◌, ℕ, List, [], ◌∷◌, drop, length};
 ghost use Rattle.rb_base.specs.declared.limits.TheConstants.{MOST_BYTES, MOST_TURNS};
 ghost use Rattle.rb_code.specs.Instructions.Plain.{code as plain};
@@ -16,6 +16,7 @@ use crate::refuse::{refuse_long, refuse_text};
 use crate::run_turns::run_turns;
 use crate::source::prepared_source;
 use crate::status::{Status, status_after};
+use crate::survey_turns::survey_turns;
 use crate::survive_turns::survive_turns;
 use rb_base::MOST_BYTES;
 use rb_outside::{Shelf, Sink};
@@ -32,6 +33,8 @@ pub enum Product {
     Text,
     /// The survivors of the run as a record, for `survive`.
     Survivors,
+    /// How the run stands at its end, for `stuck`.
+    Standing,
 }
 
 /// Reads and judges a source, then a schedule for it, and writes what is made of the one over the other.
@@ -153,6 +156,9 @@ fn over_turns<S: Sink>(
         Product::Text => run_turns::<S, Brand>(alloc, prepared, schedule, out, Blank::new(1)),
         Product::Survivors => {
             survive_turns::<S, Brand>(alloc, prepared, schedule, out, Blank::new(1))
+        }
+        Product::Standing => {
+            survey_turns::<S, Brand>(alloc, prepared, schedule, out, Blank::new(1))
         }
     }
 }

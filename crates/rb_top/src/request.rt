@@ -29,6 +29,10 @@ pub enum Request<'a> {
     Code { source: &'a str },
     /// The trial of a number.
     Trial { number: u64 },
+    /// What a failure leaves of a history.
+    Domino { history: &'a str },
+    /// How the run of a source over a schedule stands at its end.
+    Stuck { source: &'a str, schedule: &'a str },
 }
 
 /// What the words ask for, if they give a command. `Memory` may come for any words.
@@ -81,20 +85,30 @@ fn command_line<'a>(alloc: Global) -> Result<Command<'a>, AllocError>
     ensures { IfOk result (λ line. app_of line ≡ program) }
 {
     let line = two_files(alloc, program_alone(alloc))?;
-    one_word(alloc, line)
+    let line = one_word(alloc, line)?;
+    analyses(alloc, line)
 }
 
-// The commands that take one word, behind those over two files.
+// The commands that tell what becomes of a program, behind the others.
+fn analyses<'a>(alloc: Global, line: Command<'a>) -> Result<Command<'a>, AllocError>
+    requires { app_of line ≡ record program { subs = take 6 commands } }
+    ensures { IfOk result (λ line. app_of line ≡ program) }
+{
+    line.subcommand(command_with(alloc, "domino", &["HISTORY"])?)?
+        .subcommand(command_with(alloc, "stuck", &["SOURCE", "SCHEDULE"])?)
+}
+
+// The commands that take one word, behind the first over two files.
 fn one_word<'a>(alloc: Global, line: Command<'a>) -> Result<Command<'a>, AllocError>
     requires { app_of line ≡ record program { subs = take 3 commands } }
-    ensures { IfOk result (λ line. app_of line ≡ program) }
+    ensures { IfOk result (λ line. app_of line ≡ record program { subs = take 6 commands }) }
 {
     line.subcommand(command_with(alloc, "check", &["SOURCE"])?)?
         .subcommand(command_with(alloc, "code", &["SOURCE"])?)?
         .subcommand(command_with(alloc, "trial", &["NUMBER"])?)
 }
 
-// The program with the commands over two files.
+// The program with the first commands over two files.
 fn two_files<'a>(alloc: Global, line: Command<'a>) -> Result<Command<'a>, AllocError>
     requires { app_of line ≡ program_alone }
     ensures { IfOk result (λ line. app_of line ≡ record program { subs = take 3 commands }) }
@@ -165,6 +179,13 @@ fn request_given<'a>(name: &str, given: &ArgMatches<'a>) -> Option<Request<'a>>
             .get_str("NUMBER")
             .and_then(|digits| trial_number(digits.as_bytes()))
             .map(|number| Request::Trial { number }),
+        "domino" => given
+            .get_str("HISTORY")
+            .map(|history| Request::Domino { history }),
+        "stuck" => given
+            .get_str("SOURCE")
+            .zip(given.get_str("SCHEDULE"))
+            .map(|(source, schedule)| Request::Stuck { source, schedule }),
         _ => None,
     }
 }

@@ -1,0 +1,12 @@
+-- Turns that are idle or wait, in worlds that are alike.
+pub mod Still
+-- In which worlds no line waits to be released.
+pub mod Freed
+pub mod WordsFreed
+-- How the code of a source stands, and how its tree does.
+pub mod Meets
+pub mod AsMeant
+-- What a machine tells of it.
+pub mod Surveyed
+pub mod Waiting
+pub mod Told

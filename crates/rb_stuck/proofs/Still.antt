@@ -1,0 +1,4 @@
+pub mod Uncounted
+pub mod Moves
+pub mod Turns
+pub mod Stays

@@ -1,0 +1,6 @@
+pub mod Alike
+pub mod Stuck
+pub mod Survey
+pub mod Wanted
+pub mod Programs
+pub mod Laws

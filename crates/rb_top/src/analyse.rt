@@ -1,0 +1,74 @@
+//! The command `domino`.
+ghost use Rattle.std.specs.Prelude.{◌≡◌, ◌≤◌, [], ◌∷◌, length};
+ghost use Rattle.rb_base.specs.declared.limits.TheConstants.{MOST_BYTES};
+ghost use Rattle.rb_domino.specs.History.{history_of};
+ghost use Rattle.rb_domino.specs.Reading.{IsRefusedFor};
+ghost use Rattle.rb_domino.specs.Recovery.{outcome_of};
+ghost use Rattle.rb_domino.specs.Written.{outcome_text};
+ghost use Rattle.rb_top.specs.Words.{analyse_of};
+ghost use Rattle.rb_top.specs.Answers.{scene_of, WithRequest};
+ghost use Rattle.rb_top.specs.Judgement.{JudgesHistory, Writes};
+ghost use Rattle.rb_top.specs.Stages.{StageEnds};
+
+use crate::read::read_file;
+use crate::refuse::{refuse_long, refuse_text};
+use crate::status::{Status, status_after};
+use rb_base::MOST_BYTES;
+use rb_domino::{History, HistoryRefusal, analyse, write_analysis};
+use rb_outside::{Shelf, Sink};
+use std::alloc::Global;
+
+/// Reads a history, and writes what its failure leaves.
+pub fn analyse_file<F: Shelf, S: Sink>(
+    alloc: Global,
+    history: &str,
+    shelf: &mut F,
+    out: &mut S,
+) -> Status
+    ensures files { F.files shelf.new ≡ F.files shelf.old }
+    ensures answers { WithRequest (analyse_of history.now)
+        (scene_of F.files F.starts F.faults S.written S.faults shelf.old out.old)
+        (scene_of F.files F.starts F.faults S.written S.faults shelf.new out.new)
+        result }
+{
+    match read_file(alloc, shelf, history, MOST_BYTES) {
+        Ok(bytes) => analyse_text(alloc, bytes.as_slice(), out),
+        Err(unread) => unread.status(),
+    }
+}
+
+fn analyse_text<S: Sink>(alloc: Global, bytes: &[u8], out: &mut S) -> Status
+    ensures { StageEnds (JudgesHistory (bytes.now ∷ [])) (S.written out.old) (S.written out.new) (S.faults out.old) (S.faults out.new) result }
+{
+    if bytes.len() > MOST_BYTES {
+        return status_after(refuse_long(out), Status::Refused);
+    }
+    match History::read(alloc, bytes) {
+        Ok(history) => tell_outcome(alloc, &history, out),
+        Err(refusal) => refused_history(bytes, refusal, out),
+    }
+}
+
+// How the call ends where these bytes, which are not too many, are no history; the bytes are seen by the contract alone.
+fn refused_history<S: Sink>(bytes: &[u8], refusal: HistoryRefusal, out: &mut S) -> Status
+    requires short { length bytes.now ≤ MOST_BYTES }
+    requires refused { IsRefusedFor (history_of bytes.now) refusal }
+    ensures { StageEnds (JudgesHistory (bytes.now ∷ [])) (S.written out.old) (S.written out.new) (S.faults out.old) (S.faults out.new) result }
+{
+    let _ = bytes;
+    match refusal {
+        HistoryRefusal::Fault(fault) => { status_after(refuse_text(out, fault), Status::Refused) }
+        HistoryRefusal::Memory => Status::Memory,
+    }
+}
+
+// The text is a history.
+fn tell_outcome<S: Sink>(alloc: Global, history: &History, out: &mut S) -> Status
+    ensures { StageEnds (λ judgement. judgement ≡ Writes (outcome_text history.now (outcome_of history.now)))
+        (S.written out.old) (S.written out.new) (S.faults out.old) (S.faults out.new) result }
+{
+    match analyse(alloc, history) {
+        Ok(analysis) => status_after(write_analysis(history, &analysis, out), Status::Done),
+        Err(_) => Status::Memory,
+    }
+}
