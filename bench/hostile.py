@@ -82,7 +82,17 @@ def runs():
     yield "a schedule of comments", "run", all_done, fill("", "# all 9\n", ""), 2, 0
     yield "a count of a mebibyte of digits", "run", all_done, fill("p0 ", "9", ""), 2, 1
     yield "a name of a mebibyte", "run", all_done, fill("", "p", " 1"), 2, 1
+    yield "who waits, of 64", "stuck", all_wait, turns, 2, 0
     yield "a record of a mebibyte", "plain", rejections, fill("", lambda n: f"{n + 1} p\n", ""), 1, 1
+
+
+def histories():
+    """Histories of a mebibyte."""
+    yield "each drop breaks the next message", 0, fill("process p\nprocess q\n", lambda n: f"point p\nsend a{n} p q\ntake a{n}\npoint q\nsend b{n} q p\ntake b{n}\n", "send z p q\ntake z\nfail p\n")
+    yield "one process takes from all", 0, fill("process p\n", lambda n: f"process q{n}\nsend m{n} q{n} p\ntake m{n}\npoint p\nsend r{n} p q{n}\ntake r{n}\npoint q{n}\n", "fail p\n")
+    yield "recovery points alone", 0, fill("process p\n", "point p\n", "fail p\n")
+    yield "messages that nobody takes", 0, fill("process p\n", lambda n: f"send m{n} p p\n", "fail p\n")
+    yield "one name again and again", 1, fill("process p\n", "process p\n", "")
 
 
 def limited():
@@ -106,6 +116,8 @@ def cases():
             yield f"{command}: {name}", [command, "a"], {"a": text}, edition, status
     for name, command, source, second, edition, status in runs():
         yield f"{command}: {name}", [command, "a", "b"], {"a": source, "b": second}, edition, status
+    for name, status, text in histories():
+        yield f"domino: {name}", ["domino", "a"], {"a": text}, 1, status
     yield "trial: the largest number", ["trial", "18446744073709551615"], {}, 1, 0
 
 

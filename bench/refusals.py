@@ -60,8 +60,10 @@ def commands(folder):
                 out.write(open(os.path.join(ROOT, path), encoding="ascii").read() if path else text)
         with open(os.path.join(folder, "r"), "wb") as out:
             out.write(answer(["survive", "a", "b"], folder)[1])
-        for words in [["run", "a", "b"], ["survive", "a", "b"], ["plain", "a", "r"], ["check", "a"], ["code", "a"]]:
+        for words in [["run", "a", "b"], ["survive", "a", "b"], ["plain", "a", "r"], ["check", "a"], ["code", "a"], ["stuck", "a", "b"]]:
             yield f"{words[0]}, {name}", words
+    shutil.copy(os.path.join(ROOT, "examples/domino.history"), os.path.join(folder, "a"))
+    yield "domino", ["domino", "a"]
     yield "trial 0", ["trial", "0"]
 
 

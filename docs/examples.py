@@ -2,10 +2,11 @@
 """Runs the examples of the docs with the proved program, and compares what it writes with what the pages show, byte by byte.
 
 In the pages a block `rbl` is a source and a block `schedule` behind it its schedule. A block `output` is what `run` writes of both, a
-block `record` what `survive` writes of both, and a block `plain` what `plain` writes of the source and the last record; a block `given` is
-a record that somebody wrote. A block `refused` is the line with which `check` refuses the source. In README.md a command line of `./rbl`
-is run at the top of the repository: one that stands alone is followed by all that it writes, and the comment behind another one begins
-as its first line does, where it tells a verdict. Status 1 only where the program stands built and an example differs.
+block `record` what `survive` writes of both, a block `standing` what `stuck` writes of both, and a block `plain` what `plain` writes of the
+source and the last record; a block `given` is a record that somebody wrote. A block `history` is one, and `left` what `domino` writes of it.
+A block `refused` is the line with which `check` refuses the source. In README.md a command line of `./rbl` is run at the top of the
+repository: one that stands alone is followed by all that it writes, and the comment behind another one begins as its first line does,
+where it tells a verdict. Status 1 only where the program stands built and an example differs. RBL may name another program.
 """
 import os
 import re
@@ -14,9 +15,9 @@ import sys
 import tempfile
 
 ROOT = os.path.dirname(os.path.dirname(os.path.abspath(__file__)))
-PROGRAM = os.path.join(ROOT, "crates/rbl/out/rbl")
+PROGRAM = os.environ.get("RBL", os.path.join(ROOT, "crates/rbl/out/rbl"))
 PAGES = ["docs/LANGUAGE.md", "docs/TUTORIAL.md"]
-BLOCK = re.compile(r"^```(rbl|schedule|output|record|given|plain|refused)\n(.*?)^```", re.MULTILINE | re.DOTALL)
+BLOCK = re.compile(r"^```(rbl|schedule|output|record|standing|given|plain|refused|history|left)\n(.*?)^```", re.MULTILINE | re.DOTALL)
 ALONE = re.compile(r"^```sh\n\./rbl ([^\n#]*)\n```\n\n```\n(.*?)^```", re.MULTILINE | re.DOTALL)
 BESIDE = re.compile(r"^\./rbl ([^\n#]*?) +# (accepted|refused \w+(?: at [\d:]*\d)?)", re.MULTILINE)
 WORDS = {
@@ -24,6 +25,8 @@ WORDS = {
     "record": ["survive", "source", "schedule"],
     "plain": ["plain", "source", "record"],
     "refused": ["check", "source"],
+    "standing": ["stuck", "source", "schedule"],
+    "left": ["domino", "history"],
 }
 
 
@@ -52,6 +55,8 @@ def examples_of_page(text):
             texts["schedule"] = body
         elif kind == "given":
             texts["record"] = body
+        elif kind == "history":
+            texts = {"history": body}
         else:
             yield block.start(), body, of_texts(kind, texts)
         if kind == "record":

@@ -1,9 +1,9 @@
 //! Listings of the code of worked sources, and of the largest ones.
+
+use crate::calls::{repeated, roomy, writes, writes_to_the_end};
 use rb_base::MOST_BYTES;
-use rb_outside::{MemoryShelf, MemorySink};
-use rb_top::{Status, Words, command};
-use std::alloc::Global;
-use std::test::Fail;
+use rb_top::Status;
+use std::alloc::{AllocError, Global};
 
 const ROWS: u8 = 5;
 
@@ -40,133 +40,78 @@ fn row(n: u8) -> (&'static str, Status, &'static str) {
     }
 }
 
-/// A source that is as large as it may be.
-#[derive(Clone, Copy, Debug)]
-enum Largest {
-    Statements,
-    Processes,
-    FirstEdition,
-    Brackets,
-    Blocks,
+fn is_listed(alloc: Global, n: u8) -> bool {
+    let (source, status, want) = row(n);
+    let files = [(b"a".as_slice(), source.as_bytes())];
+    writes(
+        alloc,
+        &["code", "a"],
+        &files,
+        &roomy(65_536),
+        status,
+        want.as_bytes(),
+    )
 }
 
-const LARGEST: [Largest; 5] = [
-    Largest::Statements,
-    Largest::Processes,
-    Largest::FirstEdition,
-    Largest::Brackets,
-    Largest::Blocks,
-];
-
-fn edition(largest: Largest) -> &'static str {
-    match largest {
-        Largest::FirstEdition => "",
-        Largest::Statements | Largest::Processes | Largest::Brackets | Largest::Blocks =>
-            "edition 2; ",
+#[test]
+fn lists_code(rt: HostRuntime) {
+    for n in 0..ROWS {
+        assert!(rt; is_listed(rt.alloc(), n), "row {n}");
     }
 }
 
-fn source(alloc: Global, largest: Largest) -> Result<String, Fail> {
-    let mut text = String::from_str(alloc, edition(largest))?;
-    text.push_str("program a; ")?;
-    match largest {
-        Largest::Statements => {
-            text.push_str("process p { ")?;
-            for _ in 0..(MOST_BYTES - 64) / 5 {
-                text.push_str("fail;")?;
-            }
-            text.push_str(" } ")?;
-        }
-        Largest::Processes => {
-            for n in 0..64 {
-                write!(
-                    text,
-                    "process p{n} {{ var a[1024]; var b[1024]; var c[1024]; var d[1024]; a[d[1023]] := b[c[0]]; }} "
-                )?;
-            }
-        }
-        Largest::FirstEdition => {
-            for n in 0..32 {
-                write!(
-                    text,
-                    "process p{n} {{ var a[1024]; var b[1024]; a[b[1023]] := b[a[0]]; }} "
-                )?;
-            }
-        }
-        Largest::Brackets => {
-            text.push_str("process p { var a[9]; a[0] := ")?;
-            for _ in 0..98 {
-                text.push_str("1 < 1 + 2 * (")?;
-            }
-            text.push('3')?;
-            for _ in 0..98 {
-                text.push(')')?;
-            }
-            text.push_str("; } ")?;
-        }
-        Largest::Blocks => {
-            text.push_str("process p { ")?;
-            for _ in 0..32 {
-                text.push_str("ensure 1 within 9 by { var v[9]; ")?;
-            }
-            for _ in 0..32 {
-                text.push_str("} else error; ")?;
-            }
-            text.push_str("} ")?;
-        }
+// So many processes with the same inside.
+fn processes(alloc: Global, before: &str, count: u8, inside: &str) -> Result<String, AllocError> {
+    let mut text = String::from_str(alloc, before)?;
+    for n in 0..count {
+        write!(text, "process p{n} {{ {inside} }} ")?;
     }
     text.push_str("end.")?;
     Ok(text)
 }
 
-// How the listing ends.
-fn last_bytes(largest: Largest) -> &'static str {
-    match largest {
-        Largest::Statements => "419402 turn\n419403 fail\n419404 done\n",
-        Largest::Processes => "\n767 done\n",
-        Largest::FirstEdition => "\n383 done\n",
-        Largest::Brackets => "592 storeat g 0\n593 done\n",
-        Largest::Blocks => "block 31 line 1 ensure within 9 restart 157 test 161 alternates 159\n",
-    }
+fn most_brackets(alloc: Global) -> Result<String, AllocError> {
+    let before = "edition 2; program a; process p { var a[9]; a[0] := ";
+    let opened = repeated(alloc, before, "1 < 1 + 2 * (", 98, "3")?;
+    repeated(alloc, &opened, ")", 98, "; } end.")
 }
 
-fn listed(alloc: Global, source: &str, room: usize) -> Result<(Status, MemorySink), Fail> {
-    let name = Vec::from_slice(alloc, b"a")?;
-    let text = Vec::from_slice(alloc, source.as_bytes())?;
-    let mut files = Vec::new(alloc);
-    files.push((name, text))?;
-    let mut shelf = MemoryShelf::new(files, Vec::new(alloc));
-    let mut sink = MemorySink::new(alloc, room, Vec::new(alloc))
-        .ok()
-        .ok_or("memory")?;
-    let mut words = Words::new(alloc);
-    words.push("code")?;
-    words.push("a")?;
-    let status = command(alloc, &words, &mut shelf, &mut sink);
-    Ok((status, sink))
+fn most_blocks(alloc: Global) -> Result<String, AllocError> {
+    let before = "edition 2; program a; process p { ";
+    let opened = repeated(alloc, before, "ensure 1 within 9 by { var v[9]; ", 32, "")?;
+    repeated(alloc, &opened, "} else error; ", 32, "} end.")
+}
+
+// Whether the listing of a source goes well, and ends so.
+fn ends_so(alloc: Global, source: Result<String, AllocError>, end: &[u8]) -> bool {
+    match source {
+        Ok(source) => {
+            let files = [(b"a".as_slice(), source.as_bytes())];
+            writes_to_the_end(alloc, &["code", "a"], &files, 16_777_216, end)
+        }
+        Err(_) => false,
+    }
 }
 
 #[test]
-fn lists_code(rt: HostRuntime) -> Result<(), Fail> {
-    for n in 0..ROWS {
-        let (text, status, want) = row(n);
-        let (ended, sink) = listed(rt.alloc(), text, 65_536)?;
-        assert_eq!(rt; ended, status);
-        assert_eq!(rt; sink.bytes(), want.as_bytes());
-    }
-    Ok(())
-}
-
-#[test]
-fn lists_the_largest(rt: HostRuntime) -> Result<(), Fail> {
-    for largest in LARGEST {
-        let text = source(rt.alloc(), largest)?;
-        let (ended, sink) = listed(rt.alloc(), text.as_str(), 16_777_216)?;
-        assert_eq!(rt; ended, Status::Done, "{largest:?}");
-        assert!(rt;
-            sink.bytes().ends_with(last_bytes(largest).as_bytes()),
-            "{largest:?}"
-        );
-    }
-    Ok(())
+fn lists_the_largest(rt: HostRuntime) {
+    let alloc = rt.alloc();
+    let before = "edition 2; program a; process p { ";
+    let statements = repeated(alloc, before, "fail;", (MOST_BYTES - 64) / 5, " } end.");
+    assert!(rt;
+        ends_so(
+            alloc,
+            statements,
+            b"419402 turn\n419403 fail\n419404 done\n"
+        )
+    );
+    let inside = "var a[1024]; var b[1024]; var c[1024]; var d[1024]; a[d[1023]] := b[c[0]];";
+    let most = processes(alloc, "edition 2; program a; ", 64, inside);
+    assert!(rt; ends_so(alloc, most, b"\n767 done\n"));
+    let inside = "var a[1024]; var b[1024]; a[b[1023]] := b[a[0]];";
+    let first_edition = processes(alloc, "program a; ", 32, inside);
+    assert!(rt; ends_so(alloc, first_edition, b"\n383 done\n"));
+    assert!(rt; ends_so(alloc, most_brackets(alloc), b"592 storeat g 0\n593 done\n"));
+    let end = b"block 31 line 1 ensure within 9 restart 157 test 161 alternates 159\n";
+    assert!(rt; ends_so(alloc, most_blocks(alloc), end));
 }

@@ -1,11 +1,11 @@
 //! Tests of words that give no command, and of `check`.
-use rb_outside::{MemoryShelf, MemorySink};
-use rb_top::{Status, Words, command};
+
+use crate::calls::{Outside, roomy, writes};
+use rb_top::Status;
 use std::alloc::Global;
-use std::test::Fail;
 
 const USAGE: &str =
-    "usage: rbl run SOURCE SCHEDULE | survive SOURCE SCHEDULE | plain SOURCE RECORD | check SOURCE | code SOURCE | trial NUMBER\n";
+    "usage: rbl run SOURCE SCHEDULE | survive SOURCE SCHEDULE | plain SOURCE RECORD | check SOURCE | code SOURCE | trial NUMBER | domino HISTORY | stuck SOURCE SCHEDULE\n";
 
 const NO_COMMANDS: u8 = 25;
 
@@ -85,25 +85,11 @@ fn source_row(n: u8) -> (&'static str, Status, &'static str) {
     }
 }
 
-/// The calls of the shelf and of the sink that fail, and how much room the sink has.
-#[derive(Clone, Copy)]
-struct Outside {
-    bad_read: u64,
-    bad_write: u64,
-    room: usize,
-}
-
-const NOTHING_FAILS: Outside = Outside {
-    bad_read: 99,
-    bad_write: 99,
-    room: 199,
-};
-
 const FAULTS: u8 = 4;
 
 // What fails while a source is checked, and what comes of it.
 fn fault_row(n: u8) -> (Outside, Status, &'static str) {
-    let mut outside = NOTHING_FAILS;
+    let mut outside = roomy(199);
     match n {
         0 => {
             outside.bad_read = 0;
@@ -124,62 +110,79 @@ fn fault_row(n: u8) -> (Outside, Status, &'static str) {
     }
 }
 
-// Carries out these words where the source is the file a.
-fn called(
+// Whether these words, where the source is the file a, end so and write this text.
+fn answers(
     alloc: Global,
-    words: &[&str],
+    line: &[&str],
     source: &str,
-    outside: Outside,
-) -> Result<(Status, MemorySink), Fail> {
-    let name = Vec::from_slice(alloc, b"a")?;
-    let text = Vec::from_slice(alloc, source.as_bytes())?;
-    let mut files = Vec::new(alloc);
-    files.push((name, text))?;
-    let bad_reads = Vec::from_slice(alloc, &[outside.bad_read])?;
-    let mut shelf = MemoryShelf::new(files, bad_reads);
-    let bad_writes = Vec::from_slice(alloc, &[outside.bad_write])?;
-    let mut sink = MemorySink::new(alloc, outside.room, bad_writes)
-        .ok()
-        .ok_or("memory")?;
-    let mut given = Words::new(alloc);
-    for word in words {
-        given.push(word)?;
-    }
-    let status = command(alloc, &given, &mut shelf, &mut sink);
-    Ok((status, sink))
+    outside: &Outside,
+    status: Status,
+    want: &str,
+) -> bool {
+    let files = [(b"a".as_slice(), source.as_bytes())];
+    writes(alloc, line, &files, outside, status, want.as_bytes())
 }
 
 #[test]
-fn shows_the_commands(rt: HostRuntime) -> Result<(), Fail> {
+fn shows_the_commands(rt: HostRuntime) {
     for n in 0..NO_COMMANDS {
-        let (status, sink) = called(rt.alloc(), no_command(n), ACCEPTED, NOTHING_FAILS)?;
-        assert_eq!(rt; status, Status::Usage);
-        assert_eq!(rt; sink.bytes(), USAGE.as_bytes());
+        let line = no_command(n);
+        assert!(rt;
+            answers(
+                rt.alloc(),
+                line,
+                ACCEPTED,
+                &roomy(199),
+                Status::Usage,
+                USAGE
+            ),
+            "row {n}"
+        );
     }
-    Ok(())
 }
 
 #[test]
-fn checks(rt: HostRuntime) -> Result<(), Fail> {
+fn checks(rt: HostRuntime) {
     for n in 0..SOURCES {
         let (source, status, want) = source_row(n);
-        let (ended, sink) = called(rt.alloc(), &["check", "a"], source, NOTHING_FAILS)?;
-        assert_eq!(rt; ended, status);
-        assert_eq!(rt; sink.bytes(), want.as_bytes());
+        assert!(rt;
+            answers(
+                rt.alloc(),
+                &["check", "a"],
+                source,
+                &roomy(199),
+                status,
+                want
+            ),
+            "row {n}"
+        );
     }
-    Ok(())
 }
 
 #[test]
-fn stops_at_a_fault(rt: HostRuntime) -> Result<(), Fail> {
+fn stops_at_a_fault(rt: HostRuntime) {
     for n in 0..FAULTS {
         let (outside, status, want) = fault_row(n);
-        let (ended, sink) = called(rt.alloc(), &["check", "a"], ACCEPTED, outside)?;
-        assert_eq!(rt; ended, status);
-        assert_eq!(rt; sink.bytes(), want.as_bytes());
+        assert!(rt;
+            answers(
+                rt.alloc(),
+                &["check", "a"],
+                ACCEPTED,
+                &outside,
+                status,
+                want
+            ),
+            "row {n}"
+        );
     }
-    let (missing, nothing) = called(rt.alloc(), &["check", "b"], ACCEPTED, NOTHING_FAILS)?;
-    assert_eq!(rt; missing, Status::ReadFault);
-    assert_eq!(rt; nothing.bytes(), b"".as_slice());
-    Ok(())
+    assert!(rt;
+        answers(
+            rt.alloc(),
+            &["check", "b"],
+            ACCEPTED,
+            &roomy(199),
+            Status::ReadFault,
+            ""
+        )
+    );
 }

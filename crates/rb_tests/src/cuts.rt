@@ -1,9 +1,9 @@
 //! A program that is cut short before each of its bytes. Most cuts end too early, and the place is the one after the last byte;
 //! the table has the others: a name where a word was begun, half a mark, and a text that is still open.
-use rb_base::Refusal;
+
+use crate::parse_rows::tell_refusal;
 use rb_parse::parse;
-use std::alloc::Global;
-use std::test::Fail;
+use std::alloc::{AllocError, Global};
 
 const SOURCE: &[u8] =
     b"program k;\nchannel c from p to q size 4;\nconversation C (p, q);\nprocess p { var a;\nconverse C ensure a > 0 within 20 by { a := 1; send c 5; print \"p1\"; }\nelse by { a := 2; send c 6; print \"p2\"; } else error; }\nprocess q { var b;\nconverse C ensure b = 6 within 20 by { receive c b; print \"q\", b; }\nelse by { receive c b; print \"q\", b; } else error; }\nend.";
@@ -44,7 +44,7 @@ fn cut_inside() -> [(usize, usize, &'static str); 29] {
 }
 
 // The place after the last byte.
-fn early_end(alloc: Global, source: &[u8]) -> Result<String, Fail> {
+fn early_end(alloc: Global, source: &[u8]) -> Result<String, AllocError> {
     let mut line = 1u32;
     let mut column = 1u32;
     for byte in source {
@@ -61,44 +61,49 @@ fn early_end(alloc: Global, source: &[u8]) -> Result<String, Fail> {
 }
 
 // What a source is refused for.
-fn refusal(alloc: Global, source: &[u8]) -> Result<String, Fail> {
+fn refusal(alloc: Global, source: &[u8]) -> Result<String, AllocError> {
     let mut out = String::new(alloc);
     if source.len() > 1000 {
         return Ok(out);
     }
     match parse(alloc, source) {
         Ok(_) => out.push_str("accepted")?,
-        Err(Refusal::Fault(fault)) => {
-            let name = fault.name;
-            let line = fault.place.line;
-            let column = fault.place.column;
-            write!(out, "{name:?} {line}:{column}")?;
-        }
-        Err(Refusal::Memory) => out.push_str("memory")?,
+        Err(refusal) => tell_refusal(&mut out, &refusal)?,
     }
     Ok(out)
 }
 
-fn wanted(alloc: Global, source: &[u8]) -> Result<String, Fail> {
+fn wanted(alloc: Global, source: &[u8]) -> Result<String, AllocError> {
     let length = source.len();
     for (first, last, fault) in cut_inside() {
         if first <= length && length <= last {
-            return Ok(String::from_str(alloc, fault)?);
+            return String::from_str(alloc, fault);
         }
     }
     early_end(alloc, source)
 }
 
-#[test]
-fn every_cut(rt: HostRuntime) -> Result<(), Fail> {
-    let mut cut = Vec::new(rt.alloc());
-    for byte in SOURCE {
-        let found = refusal(rt.alloc(), cut.as_slice())?;
-        let expected = wanted(rt.alloc(), cut.as_slice())?;
-        assert_eq!(rt; found.as_str(), expected.as_str());
-        cut.push(*byte)?;
+fn is_refused(alloc: Global, source: &[u8]) -> bool {
+    match (refusal(alloc, source), wanted(alloc, source)) {
+        (Ok(found), Ok(expected)) => found.as_str() == expected.as_str(),
+        _ => false,
     }
-    let found = refusal(rt.alloc(), SOURCE)?;
-    assert_eq!(rt; found.as_str(), "accepted");
-    Ok(())
+}
+
+fn is_accepted(alloc: Global, source: &[u8]) -> bool {
+    match refusal(alloc, source) {
+        Ok(found) => found.as_str() == "accepted",
+        Err(_) => false,
+    }
+}
+
+#[test]
+fn every_cut(rt: HostRuntime) {
+    for length in 0..SOURCE.len() {
+        assert!(rt;
+            is_refused(rt.alloc(), &SOURCE[..length]),
+            "cut at {length}"
+        );
+    }
+    assert!(rt; is_accepted(rt.alloc(), SOURCE));
 }

@@ -3,7 +3,6 @@
 use rb_base::Place;
 use rb_syntax::{Name, Number, Var};
 use rb_walk::environment::Environment;
-use std::test::Fail;
 
 const PLACE: Place = Place { line: 1, column: 1 };
 
@@ -33,56 +32,60 @@ fn array(text: &[u8], value: i64) -> Var<'_> {
 }
 
 #[test]
-fn names_from_the_inside_out(rt: HostRuntime) -> Result<(), Fail> {
+fn names_from_the_inside_out(rt: HostRuntime) {
     let alloc = rt.alloc();
-    let mut environment = Environment::new(alloc, &[scalar(b"x"), array(b"row", 2)])?;
-    environment.push_call(alloc, &[name(b"x")], &[7], &[])?;
-    environment.push_frame(alloc, &[scalar(b"x")])?;
+    let mut environment = Environment::new(alloc, &[scalar(b"x"), array(b"row", 2)]).expect(
+        &rt, "memory",
+    );
+    environment
+        .push_call(alloc, &[name(b"x")], &[7], &[])
+        .expect(&rt, "memory");
+    environment
+        .push_frame(alloc, &[scalar(b"x")])
+        .expect(&rt, "memory");
     environment.set(b"x", 0, 9);
     environment.set(b"row", 1, -5);
     environment.set(b"row", 2, 1);
-    assert_eq!(rt; environment.values(b"x"), [9].as_slice());
+    assert!(rt; environment.values(b"x") == [9].as_slice());
     environment.pop_frame();
-    assert_eq!(rt; environment.values(b"x"), [7].as_slice());
+    assert!(rt; environment.values(b"x") == [7].as_slice());
     environment.pop_call();
-    assert_eq!(rt; environment.values(b"x"), [0].as_slice());
-    assert_eq!(rt; environment.values(b"row"), [0, -5].as_slice());
-    assert_eq!(rt; environment.values(b"y"), [].as_slice());
-    assert_eq!(rt; (environment.word(2), environment.word(3)), (-5, 0));
-    Ok(())
+    assert!(rt; environment.values(b"x") == [0].as_slice());
+    assert!(rt; environment.values(b"row") == [0, -5].as_slice());
+    assert!(rt; environment.values(b"y") == [].as_slice());
+    assert!(rt; environment.word(2) == -5 && environment.word(3) == 0);
 }
 
 #[test]
-fn words_are_counted(rt: HostRuntime) -> Result<(), Fail> {
+fn words_are_counted(rt: HostRuntime) {
     let alloc = rt.alloc();
-    let mut environment = Environment::new(alloc, &[scalar(b"x"), array(b"row", 2)])?;
-    environment.push_call(alloc, &[name(b"p"), name(b"q")], &[7], &[scalar(b"y")])?;
-    assert_eq!(rt; environment.open_calls(), 1);
-    assert_eq!(rt; environment.room(7), Some(1));
-    assert_eq!(rt; environment.room(5), None);
+    let mut environment = Environment::new(alloc, &[scalar(b"x"), array(b"row", 2)]).expect(
+        &rt, "memory",
+    );
+    environment
+        .push_call(alloc, &[name(b"p"), name(b"q")], &[7], &[scalar(b"y")])
+        .expect(&rt, "memory");
+    assert!(rt; environment.open_calls() == 1);
+    assert!(rt; environment.room(7) == Some(1));
+    assert!(rt; environment.room(5).is_none());
     let block = [array(b"z", 2)];
-    for (most, want) in [(7, true), (8, false)] {
-        assert_eq!(rt; environment.overflows(&block, most), want);
-    }
-    for (most, want) in [(8, true), (9, false)] {
-        assert_eq!(rt;
-            environment.call_overflows(&[name(b"p")], &[], &block, most),
-            want
-        );
-    }
-    Ok(())
+    assert!(rt; environment.overflows(&block, 7) && !environment.overflows(&block, 8));
+    let parameters = [name(b"p")];
+    assert!(rt; environment.call_overflows(&parameters, &[], &block, 8));
+    assert!(rt; !environment.call_overflows(&parameters, &[], &block, 9));
 }
 
 #[test]
-fn a_copy_stands_alone(rt: HostRuntime) -> Result<(), Fail> {
+fn a_copy_stands_alone(rt: HostRuntime) {
     let alloc = rt.alloc();
-    let mut environment = Environment::new(alloc, &[scalar(b"x")])?;
-    environment.push_frame(alloc, &[array(b"row", 2)])?;
+    let mut environment = Environment::new(alloc, &[scalar(b"x")]).expect(&rt, "memory");
+    environment
+        .push_frame(alloc, &[array(b"row", 2)])
+        .expect(&rt, "memory");
     environment.set(b"row", 1, 4);
-    let copy = environment.copied(alloc)?;
+    let copy = environment.copied(alloc).expect(&rt, "memory");
     environment.set(b"row", 1, 5);
     environment.set(b"x", 0, 6);
-    assert_eq!(rt; copy.values(b"x"), [0].as_slice());
-    assert_eq!(rt; copy.values(b"row"), [0, 4].as_slice());
-    Ok(())
+    assert!(rt; copy.values(b"x") == [0].as_slice());
+    assert!(rt; copy.values(b"row") == [0, 4].as_slice());
 }

@@ -1,8 +1,9 @@
 //! Each call of the shelf and of the sink fails once.
-use rb_outside::{MemoryShelf, MemorySink};
-use rb_top::{Status, Words, command};
-use std::alloc::{AllocError, Global};
-use std::test::Fail;
+
+use crate::calls::{Outside, called};
+use rb_outside::MemorySink;
+use rb_top::Status;
+use std::alloc::Global;
 
 const SOURCE: &str = "program a; process p { var x; x := 1; print \"x\", x; } end.";
 
@@ -29,49 +30,20 @@ fn ends(limit: Limit) -> (Status, u64) {
     }
 }
 
-// The calls that fail of the shelf and of the sink, and the sink's room.
-fn limits(limit: Limit) -> (u64, u64, usize) {
-    match limit {
+// The shelf gives one byte at each call, and the sink takes one.
+fn outside(limit: Limit) -> Outside {
+    let (bad_read, bad_write, room) = match limit {
         Limit::Read(n) => (n, 999, 999),
         Limit::Write(n) => (999, n, 999),
         Limit::Room(n) => (999, 999, n as usize),
+    };
+    Outside {
+        bad_read,
+        bad_write,
+        room,
+        most_read: 1,
+        most_written: 1,
     }
-}
-
-fn named(alloc: Global, name: &str, text: &str) -> Result<(Vec<u8>, Vec<u8>), AllocError> {
-    let name = Vec::from_slice(alloc, name.as_bytes())?;
-    let text = Vec::from_slice(alloc, text.as_bytes())?;
-    Ok((name, text))
-}
-
-// The source a and the schedule b, in pieces of one byte.
-fn shelf_of(alloc: Global, failing: u64) -> Result<MemoryShelf, AllocError> {
-    let mut files = Vec::new(alloc);
-    files.push(named(alloc, "a", SOURCE)?)?;
-    files.push(named(alloc, "b", SCHEDULE)?)?;
-    let failing = Vec::from_slice(alloc, &[failing])?;
-    Ok(MemoryShelf::limited(files, failing, 1))
-}
-
-// A sink that takes one byte at each call.
-fn sink_of(alloc: Global, failing: u64, room: usize) -> Result<MemorySink, Fail> {
-    let failing = Vec::from_slice(alloc, &[failing])?;
-    let sink = MemorySink::limited(alloc, room, failing, 1)
-        .ok()
-        .ok_or("memory")?;
-    Ok(sink)
-}
-
-fn ran(alloc: Global, limit: Limit) -> Result<(Status, MemorySink), Fail> {
-    let (bad_read, bad_write, room) = limits(limit);
-    let mut shelf = shelf_of(alloc, bad_read)?;
-    let mut sink = sink_of(alloc, bad_write, room)?;
-    let mut words = Words::new(alloc);
-    words.push("run")?;
-    words.push("a")?;
-    words.push("b")?;
-    let status = command(alloc, &words, &mut shelf, &mut sink);
-    Ok((status, sink))
 }
 
 // The first 66 limits are of reading, the next 43 of writing, and then 43 of room.
@@ -85,16 +57,88 @@ fn limit_row(n: u64) -> Limit {
     }
 }
 
-#[test]
-fn stops_at_each_fault(rt: HostRuntime) -> Result<(), Fail> {
-    for n in 0..152 {
-        let limit = limit_row(n);
-        let (status, size) = ends(limit);
-        let (ended, sink) = ran(rt.alloc(), limit)?;
-        let bytes = sink.bytes();
-        assert_eq!(rt; ended, status);
-        assert_eq!(rt; bytes.len() as u64, size);
-        assert!(rt; WANTED.as_bytes().starts_with(bytes));
+fn stops_there(alloc: Global, limit: Limit) -> bool {
+    let files = [
+        (b"a".as_slice(), SOURCE.as_bytes()),
+        (b"b".as_slice(), SCHEDULE.as_bytes()),
+    ];
+    let (status, size) = ends(limit);
+    match called(alloc, &["run", "a", "b"], &files, &outside(limit)) {
+        Some((ended, sink)) => {
+            ended == status
+                && sink.bytes().len() as u64 == size
+                && WANTED.as_bytes().starts_with(sink.bytes())
+        }
+        None => false,
     }
-    Ok(())
+}
+
+#[test]
+fn stops_at_each_fault(rt: HostRuntime) {
+    for n in 0..152 {
+        assert!(rt; stops_there(rt.alloc(), limit_row(n)), "row {n}");
+    }
+}
+
+const COMMANDS: u8 = 7;
+
+// A command that writes something.
+fn command_row(n: u8) -> &'static [&'static str] {
+    match n {
+        0 => &["survive", "a", "b"],
+        1 => &["plain", "a", "r"],
+        2 => &["check", "a"],
+        3 => &["code", "a"],
+        4 => &["trial", "0"],
+        5 => &["stuck", "a", "b"],
+        _ => &["domino", "h"],
+    }
+}
+
+fn outcome(alloc: Global, n: u8, outside: &Outside) -> Option<(Status, MemorySink)> {
+    let files = [
+        (b"a".as_slice(), SOURCE.as_bytes()),
+        (b"b".as_slice(), SCHEDULE.as_bytes()),
+        (b"r".as_slice(), b"1 p\n2 p".as_slice()),
+        (b"h".as_slice(), b"process p\npoint p\nfail p".as_slice()),
+    ];
+    called(alloc, command_row(n), &files, outside)
+}
+
+// Whether call k of the sink fails, and what was written before it is a front of the whole text.
+fn writes_a_front(alloc: Global, n: u8, k: u64) -> bool {
+    let whole = outcome(alloc, n, &outside(Limit::Write(999)));
+    let front = outcome(alloc, n, &outside(Limit::Write(k)));
+    match (whole, front) {
+        (Some((Status::Done, all)), Some((Status::WriteFault, some))) => {
+            some.bytes().len() as u64 == k && all.bytes().starts_with(some.bytes())
+        }
+        _ => false,
+    }
+}
+
+#[test]
+fn writes_fronts(rt: HostRuntime) {
+    for n in 0..COMMANDS {
+        for k in 0..4 {
+            assert!(rt; writes_a_front(rt.alloc(), n, k), "row {n}, {k}");
+        }
+    }
+}
+
+// Whether call k of the shelf fails, and nothing is written.
+fn reads_in_vain(alloc: Global, n: u8, k: u64) -> bool {
+    match outcome(alloc, n, &outside(Limit::Read(k))) {
+        Some((status, sink)) => status == Status::ReadFault && sink.bytes().is_empty(),
+        None => false,
+    }
+}
+
+#[test]
+fn reads_nothing_in_vain(rt: HostRuntime) {
+    for n in 0..COMMANDS {
+        for k in 0..20 {
+            assert!(rt; n == 4 || reads_in_vain(rt.alloc(), n, k), "row {n}, {k}");
+        }
+    }
 }

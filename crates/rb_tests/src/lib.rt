@@ -2,6 +2,8 @@
 #![tactic(auto)]
 
 #[cfg(test)]
+mod calls;
+#[cfg(test)]
 mod code_tests;
 #[cfg(test)]
 mod command_tests;
@@ -14,7 +16,11 @@ mod environment_tests;
 #[cfg(test)]
 mod fault_tests;
 #[cfg(test)]
+mod limit_rows;
+#[cfg(test)]
 mod limit_tests;
+#[cfg(test)]
+mod nested_limits;
 #[cfg(test)]
 mod parse_rows;
 #[cfg(test)]
@@ -25,6 +31,8 @@ mod record_tests;
 mod recovery_rows;
 #[cfg(test)]
 mod run_tests;
+#[cfg(test)]
+mod standing_rows;
 #[cfg(test)]
 mod survivor_rows;
 #[cfg(test)]

@@ -8,7 +8,6 @@ use rb_proc::recoverable::{BlockFacts, MOST_PLACES, Recoverable};
 use std::alloc::Global;
 use std::marker::Brand;
 use std::sync::ledger::{Blank, Ledger};
-use std::test::Fail;
 
 const LAST: usize = 4_160;
 
@@ -114,17 +113,13 @@ fn overruns<L: Ledger>(alloc: Global, blank: Blank) -> Result<[Option<u32>; 4], 
 }
 
 #[test]
-fn goes_back_at_the_limits(rt: HostRuntime) -> Result<(), Fail> {
-    let (word, alternates, bytes) = at_the_limits::<Brand>(rt.alloc(), Blank::new(1))?;
-    assert_eq!(rt; word, 2);
-    assert_eq!(rt; alternates, [1, 2]);
-    assert_eq!(rt; bytes, 12);
-    Ok(())
+fn goes_back_at_the_limits(rt: HostRuntime) {
+    let seen = at_the_limits::<Brand>(rt.alloc(), Blank::new(1));
+    assert!(rt; seen == Ok((2, [1, 2], 12)));
 }
 
 #[test]
-fn counts_turns(rt: HostRuntime) -> Result<(), Fail> {
-    let seen = overruns::<Brand>(rt.alloc(), Blank::new(1))?;
-    assert_eq!(rt; seen, [None, Some(0), Some(0), None]);
-    Ok(())
+fn counts_turns(rt: HostRuntime) {
+    let seen = overruns::<Brand>(rt.alloc(), Blank::new(1));
+    assert!(rt; seen == Ok([None, Some(0), Some(0), None]));
 }

@@ -1,11 +1,11 @@
 //! Whole runs of programs with recovery blocks. The texts were worked out by hand from the definitions, turn by turn: an
 //! entry, a start, each statement and an acceptance test is one turn.
 
-use std::alloc::Global;
-use std::test::Fail;
+use crate::calls::repeated;
+use std::alloc::{AllocError, Global};
 
 /// A source, a schedule, and the text of the run.
-#[derive(Drop)]
+#[derive(Clone, Copy)]
 pub(crate) struct Row {
     pub(crate) source: &'static str,
     pub(crate) schedule: &'static str,
@@ -143,35 +143,21 @@ fn trapped_row(n: u8) -> Row {
 
 /// The source whose first alternate holds 65,536 bytes and then one line more, which is the trap `hold`: 15 lines of 16
 /// texts of 256 bytes count 4,112 bytes each, one of 15 such texts and an empty one counts 3,856, and an empty line 1.
-pub(crate) fn full_source(alloc: Global) -> Result<Vec<u8>, Fail> {
-    let mut source = Vec::from_slice(
-        alloc,
-        b"program h; process p { ensure 0 < 1 within 99 by { ",
-    )?;
-    for _ in 0..15 {
-        print_full(&mut source, 16, b"")?;
-    }
-    print_full(&mut source, 15, b", \"\"")?;
-    source.extend_from_slice(b"print \"\"; } else by { print \"ok\"; } else error; } end.")?;
-    Ok(source)
+pub(crate) fn full_source(alloc: Global) -> Result<String, AllocError> {
+    let text = repeated(alloc, "\"", "x", 256, "\"")?;
+    let before = "program h; process p { ensure 0 < 1 within 99 by { ";
+    let line = full_line(alloc, &text, 15, &text)?;
+    let lines = repeated(alloc, before, &line, 15, "")?;
+    let last = full_line(alloc, &text, 15, "\"\"")?;
+    let end = "print \"\"; } else by { print \"ok\"; } else error; } end.";
+    repeated(alloc, &lines, &last, 1, end)
 }
 
-// One `print` of so many texts of 256 bytes, and what stands after them.
-fn print_full(source: &mut Vec<u8>, texts: u8, after: &[u8]) -> Result<(), Fail> {
-    source.extend_from_slice(b"print ")?;
-    for n in 0..texts {
-        if 0 < n {
-            source.extend_from_slice(b", ")?;
-        }
-        source.push(b'"')?;
-        for _ in 0..256 {
-            source.push(b'x')?;
-        }
-        source.push(b'"')?;
-    }
-    source.extend_from_slice(after)?;
-    source.extend_from_slice(b"; ")?;
-    Ok(())
+// One `print` of a text so many times, and of another one.
+fn full_line(alloc: Global, text: &str, count: usize, last: &str) -> Result<String, AllocError> {
+    let item = repeated(alloc, text, ", ", 1, "")?;
+    let items = repeated(alloc, "print ", &item, count, last)?;
+    repeated(alloc, &items, "; ", 1, "")
 }
 
 /// The schedule and the text of the run of that source: 2 turns, 15 lines, the sixteenth in turn 18, and the trap in 19.

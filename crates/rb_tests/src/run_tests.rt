@@ -1,20 +1,12 @@
 //! Tests of `run`: texts of runs, refusals, and what fails outside.
-use crate::recovery_rows::{self, FULL_SCHEDULE, FULL_WANT, full_source, recovery_row};
+
+use crate::calls::{Outside, repeated, roomy, writes};
+use crate::recovery_rows::{self, FULL_SCHEDULE, FULL_WANT, Row, full_source, recovery_row};
 use crate::whole_rows::{self, whole_row};
-use rb_outside::{MemoryShelf, MemorySink};
-use rb_top::{Status, Words, command};
+use rb_top::Status;
 use std::alloc::{AllocError, Global};
-use std::test::Fail;
 
 // The rows stand in functions, so that a proof does not carry their texts.
-
-/// A source, a schedule, and the text of the run.
-#[derive(Drop)]
-struct Row {
-    source: &'static str,
-    schedule: &'static str,
-    want: &'static str,
-}
 
 const SMALLEST: &str = "program a; process p { var x; x := 1; print \"x\", x; } end.";
 
@@ -119,9 +111,9 @@ fn refused_row(n: u8) -> Row {
 }
 
 /// Words, the calls of the shelf and of the sink that fail, how much room the sink has, and what comes of it.
-#[derive(Drop)]
+#[derive(Clone, Copy)]
 struct Call {
-    words: &'static str,
+    words: &'static [&'static str],
     bad_read: u64,
     bad_write: u64,
     room: usize,
@@ -129,39 +121,14 @@ struct Call {
     want: &'static str,
 }
 
-fn call_row(n: u8) -> Call {
-    let (words, bad_read, bad_write, room, status, want) = match n {
-        0 => (
-            "run a",
-            99,
-            99,
-            199,
-            Status::Usage,
-            "usage: rbl run SOURCE SCHEDULE | survive SOURCE SCHEDULE | plain SOURCE RECORD | check SOURCE | code SOURCE | trial NUMBER\n",
-        ),
-        1 => (
-            "run a b c",
-            99,
-            99,
-            199,
-            Status::Usage,
-            "usage: rbl run SOURCE SCHEDULE | survive SOURCE SCHEDULE | plain SOURCE RECORD | check SOURCE | code SOURCE | trial NUMBER\n",
-        ),
-        2 => (
-            "run a -b",
-            99,
-            99,
-            199,
-            Status::Usage,
-            "usage: rbl run SOURCE SCHEDULE | survive SOURCE SCHEDULE | plain SOURCE RECORD | check SOURCE | code SOURCE | trial NUMBER\n",
-        ),
-        3 => ("run a c", 99, 99, 99, Status::ReadFault, ""),
-        4 => ("run c b", 99, 99, 99, Status::ReadFault, ""),
-        5 => ("run a b", 0, 99, 99, Status::ReadFault, ""),
-        6 => ("run a b", 4, 99, 99, Status::ReadFault, ""),
-        7 => ("run a b", 99, 0, 99, Status::WriteFault, ""),
-        _ => ("run a b", 99, 99, 10, Status::WriteFault, "2 out p x "),
-    };
+fn call_of(
+    words: &'static [&'static str],
+    bad_read: u64,
+    bad_write: u64,
+    room: usize,
+    status: Status,
+    want: &'static str,
+) -> Call {
     Call {
         words,
         bad_read,
@@ -172,168 +139,205 @@ fn call_row(n: u8) -> Call {
     }
 }
 
-// The files a and b.
-fn files(alloc: Global, a: &str, b: &str) -> Result<Vec<(Vec<u8>, Vec<u8>)>, AllocError> {
-    let mut files = Vec::new(alloc);
-    files.push((named(alloc, "a")?, named(alloc, a)?))?;
-    files.push((named(alloc, "b")?, named(alloc, b)?))?;
-    Ok(files)
-}
-
-fn named(alloc: Global, text: &str) -> Result<Vec<u8>, AllocError> {
-    Vec::from_slice(alloc, text.as_bytes())
-}
-
-fn words_of(alloc: Global, line: &str) -> Result<Words, Fail> {
-    let mut words = Words::new(alloc);
-    for word in line.split_whitespace() {
-        words.push(word)?;
+fn call_row(n: u8) -> Call {
+    match n {
+        0 => call_of(
+            &["run", "a"],
+            99,
+            99,
+            199,
+            Status::Usage,
+            "usage: rbl run SOURCE SCHEDULE | survive SOURCE SCHEDULE | plain SOURCE RECORD | check SOURCE | code SOURCE | trial NUMBER | domino HISTORY | stuck SOURCE SCHEDULE\n",
+        ),
+        1 => call_of(
+            &["run", "a", "b", "c"],
+            99,
+            99,
+            199,
+            Status::Usage,
+            "usage: rbl run SOURCE SCHEDULE | survive SOURCE SCHEDULE | plain SOURCE RECORD | check SOURCE | code SOURCE | trial NUMBER | domino HISTORY | stuck SOURCE SCHEDULE\n",
+        ),
+        2 => call_of(
+            &["run", "a", "-b"],
+            99,
+            99,
+            199,
+            Status::Usage,
+            "usage: rbl run SOURCE SCHEDULE | survive SOURCE SCHEDULE | plain SOURCE RECORD | check SOURCE | code SOURCE | trial NUMBER | domino HISTORY | stuck SOURCE SCHEDULE\n",
+        ),
+        3 => call_of(&["run", "a", "c"], 99, 99, 99, Status::ReadFault, ""),
+        4 => call_of(&["run", "c", "b"], 99, 99, 99, Status::ReadFault, ""),
+        5 => call_of(&["run", "a", "b"], 0, 99, 99, Status::ReadFault, ""),
+        6 => call_of(&["run", "a", "b"], 4, 99, 99, Status::ReadFault, ""),
+        7 => call_of(&["run", "a", "b"], 99, 0, 99, Status::WriteFault, ""),
+        _ => call_of(
+            &["run", "a", "b"],
+            99,
+            99,
+            10,
+            Status::WriteFault,
+            "2 out p x ",
+        ),
     }
-    Ok(words)
 }
 
-// `run a b` over the texts of a row.
-fn ran(alloc: Global, row: &Row) -> Result<(Status, MemorySink), Fail> {
-    ran_over(alloc, row.source.as_bytes(), row.schedule.as_bytes())
+// Whether `run a b` over two texts, in pieces of one byte, ends so and writes this text.
+fn ends_so(alloc: Global, source: &str, schedule: &str, status: Status, want: &str) -> bool {
+    let files = [
+        (b"a".as_slice(), source.as_bytes()),
+        (b"b".as_slice(), schedule.as_bytes()),
+    ];
+    let outside = Outside {
+        most_read: 1,
+        ..roomy(1000)
+    };
+    writes(
+        alloc,
+        &["run", "a", "b"],
+        &files,
+        &outside,
+        status,
+        want.as_bytes(),
+    )
 }
 
-// `run a b` over two texts, in pieces of one byte.
-fn ran_over(alloc: Global, source: &[u8], schedule: &[u8]) -> Result<(Status, MemorySink), Fail> {
-    let mut files = Vec::new(alloc);
-    files.push((named(alloc, "a")?, Vec::from_slice(alloc, source)?))?;
-    files.push((named(alloc, "b")?, Vec::from_slice(alloc, schedule)?))?;
-    let mut shelf = MemoryShelf::limited(files, Vec::new(alloc), 1);
-    let mut sink = MemorySink::new(alloc, 1000, Vec::new(alloc))
-        .ok()
-        .ok_or("memory")?;
-    let words = words_of(alloc, "run a b")?;
-    let status = command(alloc, &words, &mut shelf, &mut sink);
-    Ok((status, sink))
+fn row_ends(alloc: Global, row: &Row, status: Status) -> bool {
+    ends_so(alloc, row.source, row.schedule, status, row.want)
 }
 
 #[test]
-fn runs(rt: HostRuntime) -> Result<(), Fail> {
+fn runs(rt: HostRuntime) {
     for n in 0..9 {
-        let row = run_row(n);
-        let (status, sink) = ran(rt.alloc(), &row)?;
-        assert_eq!(rt; status, Status::Done);
-        assert_eq!(rt; sink.bytes(), row.want.as_bytes());
+        assert!(rt; row_ends(rt.alloc(), &run_row(n), Status::Done), "row {n}");
     }
-    Ok(())
 }
 
 #[test]
-fn recovers(rt: HostRuntime) -> Result<(), Fail> {
+fn recovers(rt: HostRuntime) {
     for n in 0..recovery_rows::ROWS {
-        let row = recovery_row(n);
-        let (status, sink) = ran_over(rt.alloc(), row.source.as_bytes(), row.schedule.as_bytes())?;
-        assert_eq!(rt; status, Status::Done);
-        assert_eq!(rt; sink.bytes(), row.want.as_bytes());
+        assert!(rt;
+            row_ends(rt.alloc(), &recovery_row(n), Status::Done),
+            "row {n}"
+        );
     }
-    Ok(())
 }
 
 #[test]
-fn runs_whole_programs(rt: HostRuntime) -> Result<(), Fail> {
+fn runs_whole_programs(rt: HostRuntime) {
     for n in 0..whole_rows::ROWS {
-        let row = whole_row(n);
-        let (status, sink) = ran_over(rt.alloc(), row.source.as_bytes(), row.schedule.as_bytes())?;
-        assert_eq!(rt; status, Status::Done);
-        assert_eq!(rt; sink.bytes(), row.want.as_bytes());
+        assert!(rt;
+            row_ends(rt.alloc(), &whole_row(n), Status::Done),
+            "row {n}"
+        );
     }
-    Ok(())
+}
+
+#[test]
+fn refuses(rt: HostRuntime) {
+    for n in 0..12 {
+        assert!(rt;
+            row_ends(rt.alloc(), &refused_row(n), Status::Refused),
+            "row {n}"
+        );
+    }
+}
+
+// Whether a source that is made ends so.
+fn made_ends(
+    alloc: Global,
+    source: Result<String, AllocError>,
+    schedule: &str,
+    status: Status,
+    want: &str,
+) -> bool {
+    match source {
+        Ok(source) => ends_so(alloc, &source, schedule, status, want),
+        Err(_) => false,
+    }
 }
 
 // As many held bytes as may be, and one line more.
 #[test]
-fn holds_no_more(rt: HostRuntime) -> Result<(), Fail> {
-    let source = full_source(rt.alloc())?;
-    let (status, sink) = ran_over(rt.alloc(), source.as_slice(), FULL_SCHEDULE.as_bytes())?;
-    assert_eq!(rt; status, Status::Done);
-    assert_eq!(rt; sink.bytes(), FULL_WANT.as_bytes());
-    Ok(())
-}
-
-#[test]
-fn refuses(rt: HostRuntime) -> Result<(), Fail> {
-    for n in 0..12 {
-        let row = refused_row(n);
-        let (status, sink) = ran(rt.alloc(), &row)?;
-        assert_eq!(rt; status, Status::Refused);
-        assert_eq!(rt; sink.bytes(), row.want.as_bytes());
-    }
-    Ok(())
+fn holds_no_more(rt: HostRuntime) {
+    let source = full_source(rt.alloc());
+    assert!(rt; made_ends(rt.alloc(), source, FULL_SCHEDULE, Status::Done, FULL_WANT));
 }
 
 // A source with so many round brackets inside each other, all inside the bracket of the process.
-fn bracketed(alloc: Global, count: u8) -> Result<Vec<u8>, Fail> {
-    let mut source = named(alloc, "program a; process p { var x; x := ")?;
-    for _ in 0..count {
-        source.push(b'(')?;
-    }
-    source.push(b'1')?;
-    for _ in 0..count {
-        source.push(b')')?;
-    }
-    source.extend_from_slice(b"; } end.")?;
-    Ok(source)
+fn bracketed(alloc: Global, count: usize) -> Result<String, AllocError> {
+    let opened = repeated(
+        alloc,
+        "program a; process p { var x; x := ",
+        "(",
+        count,
+        "1",
+    )?;
+    repeated(alloc, &opened, ")", count, "; } end.")
 }
 
 // A hundred brackets may be open, and the next one is refused.
 #[test]
-fn counts_brackets(rt: HostRuntime) -> Result<(), Fail> {
-    let source = bracketed(rt.alloc(), 99)?;
-    let (status, sink) = ran_over(rt.alloc(), source.as_slice(), b"p 1")?;
-    assert_eq!(rt; status, Status::Done);
-    assert_eq!(rt;
-        sink.bytes(),
-        b"1 done p\nend 1\np done\np.x = 1\n".as_slice()
+fn counts_brackets(rt: HostRuntime) {
+    let alloc = rt.alloc();
+    let want = "1 done p\nend 1\np done\np.x = 1\n";
+    assert!(rt; made_ends(alloc, bracketed(alloc, 99), "p 1", Status::Done, want));
+    let refused = "refused Y2 at 1:135\n";
+    assert!(rt;
+        made_ends(
+            alloc,
+            bracketed(alloc, 100),
+            "p 1",
+            Status::Refused,
+            refused
+        )
     );
-    let deep = bracketed(rt.alloc(), 100)?;
-    let (refused, line) = ran_over(rt.alloc(), deep.as_slice(), b"p 1")?;
-    assert_eq!(rt; refused, Status::Refused);
-    assert_eq!(rt; line.bytes(), b"refused Y2 at 1:135\n".as_slice());
-    Ok(())
 }
 
 // A file that is one byte too long.
-#[test]
-fn refuses_long(rt: HostRuntime) -> Result<(), Fail> {
-    let alloc = rt.alloc();
-    let mut files = Vec::new(alloc);
-    files.push((named(alloc, "a")?, vec![in alloc; 32u8; 1048577]?))?;
-    let mut shelf = MemoryShelf::new(files, Vec::new(alloc));
-    let mut sink = MemorySink::new(alloc, 99, Vec::new(alloc))
-        .ok()
-        .ok_or("memory")?;
-    let words = words_of(alloc, "run a b")?;
-    assert_eq!(rt;
-        command(alloc, &words, &mut shelf, &mut sink),
-        Status::Refused
-    );
-    assert_eq!(rt; sink.bytes(), b"refused L0\n".as_slice());
-    Ok(())
-}
-
-fn called(alloc: Global, call: &Call) -> Result<(Status, MemorySink), Fail> {
-    let bad_reads = Vec::from_slice(alloc, &[call.bad_read])?;
-    let bad_writes = Vec::from_slice(alloc, &[call.bad_write])?;
-    let mut shelf = MemoryShelf::new(files(alloc, SMALLEST, "p 2")?, bad_reads);
-    let mut sink = MemorySink::new(alloc, call.room, bad_writes)
-        .ok()
-        .ok_or("memory")?;
-    let words = words_of(alloc, call.words)?;
-    let status = command(alloc, &words, &mut shelf, &mut sink);
-    Ok((status, sink))
+fn refuses_longer(alloc: Global) -> bool {
+    let Ok(longer) = vec![in alloc; 32u8; 1048577] else {
+        return false;
+    };
+    let files = [(b"a".as_slice(), longer.as_slice())];
+    let want = b"refused L0\n";
+    writes(
+        alloc,
+        &["run", "a", "b"],
+        &files,
+        &roomy(99),
+        Status::Refused,
+        want,
+    )
 }
 
 #[test]
-fn answers(rt: HostRuntime) -> Result<(), Fail> {
+fn refuses_long(rt: HostRuntime) {
+    assert!(rt; refuses_longer(rt.alloc()));
+}
+
+fn answers_so(alloc: Global, call: &Call) -> bool {
+    let files = [
+        (b"a".as_slice(), SMALLEST.as_bytes()),
+        (b"b".as_slice(), b"p 2".as_slice()),
+    ];
+    let outside = Outside {
+        bad_read: call.bad_read,
+        bad_write: call.bad_write,
+        ..roomy(call.room)
+    };
+    writes(
+        alloc,
+        call.words,
+        &files,
+        &outside,
+        call.status,
+        call.want.as_bytes(),
+    )
+}
+
+#[test]
+fn answers(rt: HostRuntime) {
     for n in 0..9 {
-        let call = call_row(n);
-        let (status, sink) = called(rt.alloc(), &call)?;
-        assert_eq!(rt; status, call.status);
-        assert_eq!(rt; sink.bytes(), call.want.as_bytes());
+        assert!(rt; answers_so(rt.alloc(), &call_row(n)), "row {n}");
     }
-    Ok(())
 }

@@ -6,7 +6,6 @@ use rb_walk::counter::Counters;
 use rb_walk::environment::Environment;
 use rb_walk::value::value_of;
 use std::alloc::{AllocError, Global};
-use std::test::Fail;
 
 const PLACE: Place = Place { line: 1, column: 1 };
 
@@ -62,12 +61,14 @@ fn chain<'a>(
 ) -> Result<Expr<'a>, AllocError> {
     let first = Box::new(alloc, number(first))?;
     let mut links = Vec::new(alloc);
-    for (op, right) in [second, third] {
-        links.push(Link {
-            op,
-            right: number(right),
-        })?;
-    }
+    links.push(Link {
+        op: second.0,
+        right: number(second.1),
+    })?;
+    links.push(Link {
+        op: third.0,
+        right: number(third.1),
+    })?;
     Ok(Expr::Chain(first, links))
 }
 
@@ -101,97 +102,124 @@ fn declared(text: &[u8], size: i64) -> Var<'_> {
     }
 }
 
-#[test]
-fn operators(rt: HostRuntime) -> Result<(), Fail> {
-    let alloc = rt.alloc();
-    let nothing = Environment::new(alloc, &[])?;
-    for (left, op, right, want) in [
-        (7, Op::Sub, 9, Ok(-2)),
-        (-7, Op::Div, 2, Ok(-3)),
-        (-7, Op::Rem, 2, Ok(-1)),
-        (i64::MIN, Op::Rem, -1, Ok(0)),
-        (i64::MIN, Op::Div, -1, Err(Cause::Overflow)),
-        (i64::MAX, Op::Add, 1, Err(Cause::Overflow)),
-        (1, Op::Div, 0, Err(Cause::Zero)),
-        (3, Op::And, 2, Ok(1)),
-        (0, Op::Or, 0, Ok(0)),
-        (2, Op::Ge, 3, Ok(0)),
-    ] {
-        let expression = apply(alloc, number(left), op, number(right))?;
-        assert_eq!(rt;
-            value_of(&nothing, &nothing, &Counters::None, &expression),
-            want
-        );
+// Whether the value of an expression without variables is this one, or it traps so.
+fn comes_to(
+    alloc: Global,
+    expression: Result<Expr<'_>, AllocError>,
+    want: Result<i64, Cause>,
+) -> bool {
+    match (Environment::new(alloc, &[]), expression) {
+        (Ok(nothing), Ok(expression)) => {
+            value_of(&nothing, &nothing, &Counters::None, &expression) == want
+        }
+        _ => false,
     }
-    let expression = chain(alloc, 7, (Op::Sub, 2), (Op::Sub, 3))?;
-    assert_eq!(rt;
-        value_of(&nothing, &nothing, &Counters::None, &expression),
-        Ok(2)
-    );
-    Ok(())
+}
+
+fn applies(alloc: Global, left: i64, op: Op, right: i64, want: Result<i64, Cause>) -> bool {
+    comes_to(alloc, apply(alloc, number(left), op, number(right)), want)
 }
 
 #[test]
-fn left_decides(rt: HostRuntime) -> Result<(), Fail> {
+fn operators(rt: HostRuntime) {
     let alloc = rt.alloc();
-    let nothing = Environment::new(alloc, &[])?;
-    for (left, op, want) in [
-        (0, Op::And, Ok(0)),
-        (2, Op::Or, Ok(1)),
-        (1, Op::And, Err(Cause::Zero)),
-        (0, Op::Or, Err(Cause::Zero)),
-    ] {
-        let trap = apply(alloc, number(1), Op::Div, number(0))?;
-        let expression = apply(alloc, number(left), op, trap)?;
-        assert_eq!(rt;
-            value_of(&nothing, &nothing, &Counters::None, &expression),
-            want
-        );
+    assert!(rt; applies(alloc, 7, Op::Sub, 9, Ok(-2)));
+    assert!(rt; applies(alloc, -7, Op::Div, 2, Ok(-3)));
+    assert!(rt; applies(alloc, -7, Op::Rem, 2, Ok(-1)));
+    assert!(rt; applies(alloc, i64::MIN, Op::Rem, -1, Ok(0)));
+    assert!(rt; applies(alloc, i64::MIN, Op::Div, -1, Err(Cause::Overflow)));
+    assert!(rt; applies(alloc, i64::MAX, Op::Add, 1, Err(Cause::Overflow)));
+    assert!(rt; applies(alloc, 1, Op::Div, 0, Err(Cause::Zero)));
+    assert!(rt; applies(alloc, 3, Op::And, 2, Ok(1)));
+    assert!(rt; applies(alloc, 0, Op::Or, 0, Ok(0)));
+    assert!(rt; applies(alloc, 2, Op::Ge, 3, Ok(0)));
+    let both = chain(alloc, 7, (Op::Sub, 2), (Op::Sub, 3));
+    assert!(rt; comes_to(alloc, both, Ok(2)));
+}
+
+// Whether an operator before a trap comes to this.
+fn decides(alloc: Global, left: i64, op: Op, want: Result<i64, Cause>) -> bool {
+    match apply(alloc, number(1), Op::Div, number(0)) {
+        Ok(trap) => comes_to(alloc, apply(alloc, number(left), op, trap), want),
+        Err(_) => false,
     }
-    Ok(())
 }
 
 #[test]
-fn variables(rt: HostRuntime) -> Result<(), Fail> {
+fn left_decides(rt: HostRuntime) {
     let alloc = rt.alloc();
-    let prior = Environment::new(alloc, &[declared(b"a", 2)])?;
-    let mut environment = Environment::new(alloc, &[declared(b"a", 2)])?;
+    assert!(rt; decides(alloc, 0, Op::And, Ok(0)));
+    assert!(rt; decides(alloc, 2, Op::Or, Ok(1)));
+    assert!(rt; decides(alloc, 1, Op::And, Err(Cause::Zero)));
+    assert!(rt; decides(alloc, 0, Op::Or, Err(Cause::Zero)));
+}
+
+// Whether the element of this number, where the array has 0 and 5, comes to this.
+fn has_element(alloc: Global, index: i64, want: Result<i64, Cause>) -> bool {
+    let (Ok(prior), Ok(mut environment), Ok(target)) = (
+        Environment::new(alloc, &[declared(b"a", 2)]),
+        Environment::new(alloc, &[declared(b"a", 2)]),
+        element(alloc, b"a", index),
+    ) else {
+        return false;
+    };
     environment.set(b"a", 1, 5);
-    for (index, want) in [(1, Ok(5)), (2, Err(Cause::Index)), (-1, Err(Cause::Index))] {
-        let expression = Expr::Value(element(alloc, b"a", index)?);
-        assert_eq!(rt;
-            value_of(&environment, &prior, &Counters::None, &expression),
-            want
-        );
-    }
-    let former = Expr::Prior(PLACE, element(alloc, b"a", 1)?);
-    assert_eq!(rt;
-        value_of(&environment, &prior, &Counters::None, &former),
-        Ok(0)
-    );
-    Ok(())
+    value_of(&environment, &prior, &Counters::None, &Expr::Value(target)) == want
+}
+
+// The same element as it was at the entry, where it was 0.
+fn was_zero(alloc: Global) -> bool {
+    let (Ok(prior), Ok(mut environment), Ok(target)) = (
+        Environment::new(alloc, &[declared(b"a", 2)]),
+        Environment::new(alloc, &[declared(b"a", 2)]),
+        element(alloc, b"a", 1),
+    ) else {
+        return false;
+    };
+    environment.set(b"a", 1, 5);
+    let former = Expr::Prior(PLACE, target);
+    value_of(&environment, &prior, &Counters::None, &former) == Ok(0)
 }
 
 #[test]
-fn quantified(rt: HostRuntime) -> Result<(), Fail> {
+fn variables(rt: HostRuntime) {
     let alloc = rt.alloc();
-    let nothing = Environment::new(alloc, &[])?;
-    for (kind, low, high, want) in [
-        (Quantifier::Total, 1, 3, Ok(14)),
-        (Quantifier::Total, 3, 1, Ok(0)),
-        (Quantifier::Every, 0, 3, Ok(0)),
-        (Quantifier::Any, 0, 3, Ok(1)),
-        (Quantifier::Any, 0, 0, Ok(0)),
-        (Quantifier::Every, 1, 1024, Ok(1)),
-        (Quantifier::Every, 1, 1025, Err(Cause::Range)),
-        (Quantifier::Every, i64::MIN, i64::MAX, Err(Cause::Range)),
-        (Quantifier::Every, i64::MAX, i64::MAX, Err(Cause::Overflow)),
-    ] {
-        let expression = squares(alloc, kind, low, high)?;
-        assert_eq!(rt;
-            value_of(&nothing, &nothing, &Counters::None, &expression),
-            want
-        );
-    }
-    Ok(())
+    assert!(rt; has_element(alloc, 1, Ok(5)));
+    assert!(rt; has_element(alloc, 2, Err(Cause::Index)));
+    assert!(rt; has_element(alloc, -1, Err(Cause::Index)));
+    assert!(rt; was_zero(alloc));
+}
+
+fn ranges(alloc: Global, kind: Quantifier, low: i64, high: i64, want: Result<i64, Cause>) -> bool {
+    comes_to(alloc, squares(alloc, kind, low, high), want)
+}
+
+#[test]
+fn quantified(rt: HostRuntime) {
+    let alloc = rt.alloc();
+    assert!(rt; ranges(alloc, Quantifier::Total, 1, 3, Ok(14)));
+    assert!(rt; ranges(alloc, Quantifier::Total, 3, 1, Ok(0)));
+    assert!(rt; ranges(alloc, Quantifier::Every, 0, 3, Ok(0)));
+    assert!(rt; ranges(alloc, Quantifier::Any, 0, 3, Ok(1)));
+    assert!(rt; ranges(alloc, Quantifier::Any, 0, 0, Ok(0)));
+    assert!(rt; ranges(alloc, Quantifier::Every, 1, 1024, Ok(1)));
+    assert!(rt; ranges(alloc, Quantifier::Every, 1, 1025, Err(Cause::Range)));
+    assert!(rt;
+        ranges(
+            alloc,
+            Quantifier::Every,
+            i64::MIN,
+            i64::MAX,
+            Err(Cause::Range)
+        )
+    );
+    assert!(rt;
+        ranges(
+            alloc,
+            Quantifier::Every,
+            i64::MAX,
+            i64::MAX,
+            Err(Cause::Overflow)
+        )
+    );
 }
