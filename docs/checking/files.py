@@ -65,7 +65,8 @@ def told():
 
 
 def named(pages):
-    """A check of each file: some page names it."""
+    """A check of each file: some page names it, or it is a schedule of a source that is named."""
     text = "".join(map(text_of, pages))
     for file in below("*.*"):
-        yield Check(file, None if file in text else "no page names it")
+        source = re.sub(r"(\.\w+)?\.schedule$", ".rbl", file)
+        yield Check(file, None if file in text or (source != file and source in text) else "no page names it")
