@@ -5,7 +5,7 @@ import tempfile
 from collections import namedtuple
 
 ROOT = os.path.dirname(os.path.dirname(os.path.dirname(os.path.abspath(__file__))))
-PROGRAM = os.environ.get("RBL", os.path.join(ROOT, "crates/rbl/out/rbl"))
+PROGRAM = os.path.abspath(os.environ.get("RBL", os.path.join(ROOT, "crates/rbl/out/rbl")))
 
 Answer = namedtuple("Answer", "status out err")
 # Where a check stands, and what is wrong there: None where nothing is.
