@@ -136,7 +136,6 @@ impl<'a, L: Ledger> Machine<'a, L> {
         ensures work { steps.new ≤ steps.old + turn_work self.old.code self.old.groups (self.old.taken + 1) p self.old.world }
         ensures entry { IsKeptEntry self.old p → steps.new ≤ steps.old }
     {
-        let bare = is_bare(&self.parts.procs, p);
         self.taken += 1;
         self.released = turn(
             self.code,
@@ -147,7 +146,8 @@ impl<'a, L: Ledger> Machine<'a, L> {
             report,
             steps,
         );
-        let still = bare && is_still(report.kind);
+        let quiet = is_still(report.kind);
+        let still = quiet && is_bare(&self.parts.procs, p);
         self.resting.note(still, p, self.taken, report.kind);
     }
 

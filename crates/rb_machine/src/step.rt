@@ -1,11 +1,12 @@
 //! A step of a process in its turn: it goes on, traps, or comes to the end of an alternate whose acceptance test held.
 
-ghost use Rattle.std.specs.Prelude.{◌≡◌, ◌+◌, ◌*◌, ◌<◌, ◌≤◌, [], ◌∷◌, ◌++◌, length, slice_get, vec_len, vec_capacity, Some};
+ghost use Rattle.std.specs.Prelude.{◌≡◌, ◌+◌, ◌*◌, ◌<◌, ◌≤◌, length, slice_get, vec_len, vec_capacity, Some};
 ghost use Rattle.rb_world.specs.Turn.{steps as stepping};
 ghost use Rattle.rb_world.specs.World.{change_at};
 ghost use Rattle.rb_code.specs.Instructions.Plain.{code as plain};
 ghost use Rattle.rb_code.specs.WordMachine.Turn.{want};
 ghost use Rattle.rb_proc.specs.Executable.{IsExecutable};
+ghost use Rattle.rb_proc.specs.Given.{alternate_by};
 ghost use Rattle.rb_proc.specs.Process.{Seen, alternate_for, message_for};
 ghost use Rattle.rb_proc.specs.Sees.{AreSized};
 ghost use Rattle.rb_proc.specs.Work.{named_in_step};
@@ -19,7 +20,7 @@ ghost use Rattle.rb_machine.specs.Worlds.{kind_with, processes_of};
 use crate::came::Came;
 use crate::cascade::reject;
 use crate::innermost::started;
-use crate::links::{Link, add};
+use crate::links::{Link, add, take_back};
 use crate::parts::Parts;
 use crate::test_line::accept;
 use arrayvec::ArrayVec;
@@ -53,39 +54,37 @@ fn step_one<L: Ledger>(
     procs[p as usize].step(code, mails, wanted, there, steps)
 }
 
-// A turn of process p is kept: it is the last one of the process, and its link leads to the one before.
-fn keep_turn<L: Ledger>(
-    procs: &mut [Proc<L>],
-    links: &mut Vec<Link>,
-    turn: u32,
-    p: u32,
-    alternate: u32,
-)
-    requires process { p < length procs.old }
-    requires room { vec_len links.old < vec_capacity links.old }
-    ensures processes { procs.new ≡ change_at p (turn_kept turn) procs.old }
-    ensures links { (one : Seen) → slice_get procs.old p ≡ Some one
-        → links.new.items
-        ≡ links.old.items ++ record { turn = turn; process = p; alternate = alternate; before = one.process.state.last_kept } ∷ [] }
-    ensures len { vec_len links.new ≡ vec_len links.old + 1 }
-    ensures room { vec_capacity links.old ≤ vec_capacity links.new }
+// The link of a turn of process p, by how the process stands before it.
+#[inline(always)]
+fn link_of<L: Ledger>(proc: &Proc<L>, turn: u32, p: u32, wanted: Wanted) -> Link
+    ensures { result
+        ≡ record {
+          turn = turn;
+          process = p;
+          alternate = alternate_by wanted proc.now.process.levels;
+          before = proc.now.process.state.last_kept;
+        } }
 {
-    let before = procs[p as usize].last_kept();
-    procs[p as usize].keep(turn);
-    add(
-        links,
-        Link {
-            turn,
-            process: p,
-            alternate,
-            before,
-        },
-    );
+    Link {
+        turn,
+        process: p,
+        alternate: started(wanted, proc),
+        before: proc.last_kept(),
+    }
 }
 
-/// One step of process p. Where it goes on the turn is kept. A trap rejects the innermost level, or fails a process without one. Where
-/// the acceptance test held a private level goes; a member of a conversation comes to its test line, and once all members stand there
-/// they leave together.
+// A turn of process p is kept: it is the last one of the process.
+#[inline(always)]
+fn keep_turn<L: Ledger>(procs: &mut [Proc<L>], turn: u32, p: u32)
+    requires { p < length procs.old }
+    ensures { procs.new ≡ change_at p (turn_kept turn) procs.old }
+{
+    procs[p as usize].keep(turn);
+}
+
+/// One step of process p, whose link, to the last kept turn before, is added first. Where it goes on the turn is kept. A trap takes the link
+/// back, and rejects the innermost level, or fails a process without one. Where the acceptance test held a private level goes; a member of a
+/// conversation comes to its test line, and once all members stand there they leave together.
 pub fn take_step<L: Ledger>(
     code: &Code,
     parts: &mut Parts<L>,
@@ -120,7 +119,8 @@ pub fn take_step<L: Ledger>(
         (world parts.old)
         + undoing result.kind (processes_of parts.old.procs.items) events.new.items (processes_of parts.new.procs.items) }
 {
-    let alternate = started(wanted, &parts.procs[p as usize]);
+    let link = link_of(&parts.procs[p as usize], turn, p, wanted);
+    add(&mut parts.links, link);
     match step_one(
         code,
         &mut parts.procs,
@@ -131,6 +131,7 @@ pub fn take_step<L: Ledger>(
         steps,
     ) {
         Outcome::Trap(cause) => {
+            take_back(&mut parts.links);
             let left = parts.procs[p as usize].levels();
             reject(
                 &mut parts.procs,
@@ -147,14 +148,14 @@ pub fn take_step<L: Ledger>(
             }
         }
         Outcome::Went => {
-            keep_turn(&mut parts.procs, &mut parts.links, turn, p, alternate);
+            keep_turn(&mut parts.procs, turn, p);
             Came {
                 kind: TurnKind::Took,
                 pass: None,
             }
         }
         Outcome::Accepts => {
-            keep_turn(&mut parts.procs, &mut parts.links, turn, p, alternate);
+            keep_turn(&mut parts.procs, turn, p);
             let pass = accept(code, &mut parts.procs, &mut parts.table, p, steps);
             Came {
                 kind: TurnKind::Took,

@@ -14,11 +14,11 @@ outcome_of (next.Accepts b) a operands m = Accepts b m
 outcome_of (next.Trap cause) a operands m = Trapped cause
 
 abbrev pub ended_of : Ended → Workspace → Outcome
-ended_of (ended.Stop a) m = Stopped a m
+ended_of (ended.Stop a done) m = Stopped a m
 ended_of (ended.Accepts a) m = Accepts a m
 ended_of (ended.Trap cause) m = Trapped cause
 
 -- the address of an end, or else this one
 abbrev pub stop_at : Ended → ℕ → ℕ
-stop_at (ended.Stop a) at = a
+stop_at (ended.Stop a done) at = a
 stop_at _ at = at

@@ -18,6 +18,7 @@ use rb_value::operator::{applied, truth};
 use rb_value::span::span;
 
 /// The result of an operator, or its trap.
+#[inline(always)]
 fn finish(value: Result<i64, Cause>, at: u32, operands: &mut Operands) -> Next
     requires at { at + 1 < 2 ^ 32 }
     requires room { length operands.old < MOST_OPERANDS }
@@ -33,6 +34,7 @@ fn finish(value: Result<i64, Cause>, at: u32, operands: &mut Operands) -> Next
 }
 
 /// An operator on the two operands on top.
+#[inline(always)]
 pub fn operate(op: Op, at: u32, operands: &mut Operands) -> Next
     requires at { at + 1 < 2 ^ 32 }
     requires two { 1 < length operands.old }
@@ -46,6 +48,7 @@ pub fn operate(op: Op, at: u32, operands: &mut Operands) -> Next
 }
 
 /// The number on top with the other sign.
+#[inline(always)]
 pub fn negate(at: u32, operands: &mut Operands) -> Next
     requires at { at + 1 < 2 ^ 32 }
     requires one { 0 < length operands.old }
@@ -57,6 +60,7 @@ pub fn negate(at: u32, operands: &mut Operands) -> Next
 }
 
 /// 1 where the number on top is 0, else 0; or the other way round.
+#[inline(always)]
 pub fn test_zero(zero: bool, at: u32, operands: &mut Operands) -> Next
     requires at { at + 1 < 2 ^ 32 }
     requires one { 0 < length operands.old }
@@ -70,6 +74,7 @@ pub fn test_zero(zero: bool, at: u32, operands: &mut Operands) -> Next
 }
 
 /// Pushes a number.
+#[inline(always)]
 pub fn push(value: i64, at: u32, operands: &mut Operands) -> Next
     requires at { at + 1 < 2 ^ 32 }
     requires room { length operands.old < MOST_OPERANDS }
@@ -87,6 +92,7 @@ fn is_within(n: u32, i: i64) -> bool
 }
 
 /// The trap `index`, unless the number on top is an index below n.
+#[inline(always)]
 pub fn bound(n: u32, at: u32, operands: &mut Operands) -> Next
     requires at { at + 1 < 2 ^ 32 }
     requires one { 0 < length operands.old }
@@ -104,6 +110,7 @@ pub fn bound(n: u32, at: u32, operands: &mut Operands) -> Next
 }
 
 /// Goes to an address if the number on top is 0.
+#[inline(always)]
 pub fn jump_zero(to: u32, at: u32, operands: &mut Operands) -> Next
     requires at { at + 1 < 2 ^ 32 }
     requires one { 0 < length operands.old }
@@ -118,6 +125,7 @@ pub fn jump_zero(to: u32, at: u32, operands: &mut Operands) -> Next
 }
 
 /// Accepts, or traps if the number on top is 0.
+#[inline(always)]
 pub fn test(at: u32, operands: &mut Operands) -> Next
     requires at { at + 1 < 2 ^ 32 }
     requires one { 0 < length operands.old }
@@ -132,6 +140,7 @@ pub fn test(at: u32, operands: &mut Operands) -> Next
 }
 
 /// The loop over the numbers between the two operands on top begins, or is passed over.
+#[inline(always)]
 pub fn range(k: u32, past: u32, at: u32, operands: &mut Operands, counters: &mut Counters) -> Next
     requires at { at + 1 < 2 ^ 32 }
     requires two { 1 < length operands.old }
@@ -154,6 +163,7 @@ pub fn range(k: u32, past: u32, at: u32, operands: &mut Operands, counters: &mut
 }
 
 /// One step of a counter: on to the next number, or past the loop.
+#[inline(always)]
 pub fn again(k: u32, first: u32, at: u32, counters: &mut Counters) -> Next
     requires at { at + 1 < 2 ^ 32 }
     ensures { (m : Workspace) (operands : List ℤ)
@@ -182,6 +192,7 @@ pub fn again(k: u32, first: u32, at: u32, counters: &mut Counters) -> Next
 }
 
 /// Pushes a counter.
+#[inline(always)]
 pub fn counter(k: u32, at: u32, operands: &mut Operands, counters: &Counters) -> Next
     requires at { at + 1 < 2 ^ 32 }
     requires room { length operands.old < MOST_OPERANDS }

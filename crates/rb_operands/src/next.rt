@@ -17,8 +17,8 @@ pub enum Next {
 /// Where all instructions up to an end lead.
 #[derive(Clone, Copy)]
 pub enum Ended {
-    /// The turn is over at an address.
-    Stop(u32),
+    /// The turn is over at an address; whether the process is done there.
+    Stop(u32, bool),
     /// The acceptance test held; what follows it stands at an address.
     Accepts(u32),
     Trap(Cause),

@@ -295,7 +295,7 @@ module _ (c : Code) (r : Contents) (process at kept : ℕ) (bench : Bench) (sg :
           → status_of st ≡ status_at (wants_there c (slice_get c.instrs (stop_at one at)) (slice_get c.instrs (stop_at one at + 1)))
           → record { state = standing after process (stop_at one at) kept; levels = after.levels; at_line = false; status = status_of st }
           ≡ goes_on (kind_of c) (settled_by state_now (ended_of one (mem after pieces counters slots))) r.levels
-      by (ended.Stop a) k q =
+      by (ended.Stop a done) k q =
           ap (λ (ls : List (Level Copy)). record { state = standing after process a kept; levels = ls; at_line = false; status = status_of st }) k.0
           ∙ ap (λ (x : Stands). record { state = standing after process a kept; levels = r.levels; at_line = false; status = x }) q
       by (ended.Accepts a) k q = same a k.0 q
@@ -315,7 +315,7 @@ module _ (c : Code) (r : Contents) (process at kept : ℕ) (bench : Bench) (sg :
       ∙ ap (λ (ws : List (List ℕ)). record { process = settled (kind_of c) state_now r.levels; waiting = ws }) (waits came keeps)
     where
       waits : (one : Ended) → KeepsEnded one r after [] slots → after.waiting ≡ r.waiting
-      waits (ended.Stop a) k = k.1
+      waits (ended.Stop a done) k = k.1
       waits (ended.Accepts a) k = ap (λ (x : Contents). x.waiting) k.0
       waits (ended.Trap cause) k = ap (λ (x : Contents). x.waiting) k.0
 

@@ -24,8 +24,7 @@ pub record IsTurnOf (c : Code) (sight : Sight) : Type 0 where
   pub exists : sight.process < length c.processes
   pub variables : sight.variables ≡ variables_place (part_of c sight.process)
   pub body : sight.body ≡ body_place (part_of c sight.process)
-  pub most : sight.most ≡ variables_place (part_of c sight.process) + most_words c.edition
-  pub few : sight.most ≤ most_places
+  pub few : variables_place (part_of c sight.process) + most_words c.edition ≤ most_places
 
 -- each list of slots has as many as its channel's size
 abbrev pub FitSizes : List ℕ → List Ends → Type 0

@@ -71,6 +71,7 @@ fn put_mail(mails: &mut [Mail], channel: u32, index: u64, value: i64)
 }
 
 /// Pops a value, and appends it to a channel.
+#[inline(always)]
 pub fn put_value<L: Ledger>(
     code: &Code,
     process: u32,
@@ -104,6 +105,7 @@ pub fn put_value<L: Ledger>(
 }
 
 /// Takes the message of a channel that is there, and pushes it.
+#[inline(always)]
 pub fn take_message<L: Ledger>(
     code: &Code,
     process: u32,
@@ -138,6 +140,7 @@ pub fn take_message<L: Ledger>(
 }
 
 /// Ends the line, which is held, or the trap `hold`.
+#[inline(always)]
 pub fn print<L: Ledger>(
     texts: &[Text],
     at: u32,

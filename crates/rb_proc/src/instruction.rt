@@ -32,6 +32,7 @@ use rb_syntax::Op;
 use std::sync::ledger::Ledger;
 
 /// Goes to an alternate of a recovery block, counted from 1.
+#[inline(always)]
 fn start(code: &Code, block: u32, alternate: u32) -> Next
     ensures { (a : ℕ) (operands : List ℤ) (m : Workspace)
         → outcome_of result a operands m
@@ -51,7 +52,7 @@ fn start(code: &Code, block: u32, alternate: u32) -> Next
 pub fn act<L: Ledger>(
     code: &Code,
     sight: &Sight,
-    instr: Instr,
+    instr: &Instr,
     at: u32,
     bench: &mut Bench,
     memory: &mut Recoverable<L>,
@@ -63,20 +64,20 @@ pub fn act<L: Ledger>(
     requires turn { IsTurnOf (plain code.now) sight.now }
     requires none_waits { memory.old.waiting ≡ [] }
     requires sized { AreSized (plain code.now) mails.old }
-    requires ready { Ready (plain code.now) (see_of sight.now memory.old.levels) instr bench.old.operands
+    requires ready { Ready (plain code.now) (see_of sight.now memory.old.levels) instr.now bench.old.operands
         (whole (plain code.now).texts bench.old memory.old mails.old) }
-    requires cursor { CursorRises (plain code.now) (see_of sight.now memory.old.levels) memory.old.words instr }
+    requires cursor { CursorRises (plain code.now) (see_of sight.now memory.old.levels) memory.old.words instr.now }
     requires stays { LeavesEnough (entry_calls (copy_of (last_of memory.old.levels)))
-        (acted (plain code.now) (see_of sight.now memory.old.levels) instr at bench.old.operands
+        (acted (plain code.now) (see_of sight.now memory.old.levels) instr.now at bench.old.operands
         (whole (plain code.now).texts bench.old memory.old mails.old)) }
     ensures moved { outcome_of result at bench.new.operands (whole (plain code.now).texts bench.new memory.new mails.new)
-        ≡ acted (plain code.now) (see_of sight.now memory.old.levels) instr at bench.old.operands
+        ≡ acted (plain code.now) (see_of sight.now memory.old.levels) instr.now at bench.old.operands
         (whole (plain code.now).texts bench.old memory.old mails.old) }
     ensures kept { Keeps result memory.old memory.new mails.old mails.new }
     ensures sized { map length mails.new ≡ map length mails.old }
-    ensures work { steps.new ≤ steps.old + 3 * named instr }
+    ensures work { steps.new ≤ steps.old + 3 * named instr.now }
 {
-    match instr {
+    match *instr {
         Instr::Turn | Instr::Done => Next::Stop,
         Instr::Push(n) => push(n, at, &mut bench.operands),
         Instr::Load(spot) => load(
@@ -138,7 +139,7 @@ pub fn act<L: Ledger>(
         Instr::Bool => test_zero(false, at, &mut bench.operands),
         Instr::Jump(to) => Next::Go(to),
         Instr::JumpZero(to) => jump_zero(to, at, &mut bench.operands),
-        Instr::Frame(n) => frame(n, sight.most, at, memory, steps),
+        Instr::Frame(n) => frame(n, sight.most(code), at, memory, steps),
         Instr::Drop(n) => drop_words(n, at, memory),
         Instr::Text(k) => {
             bench.line.add(Piece::Text(k));
@@ -175,7 +176,7 @@ pub fn act<L: Ledger>(
             to,
             count,
             zeros,
-            sight.most,
+            sight.most(code),
             at,
             &mut bench.operands,
             memory,

@@ -1,6 +1,8 @@
 //! What is looked up in the marks of open levels, and how they count turns and alternates.
 
-ghost use Rattle.std.specs.Prelude.{◌≡◌, ℕ, ◌+◌, ◌-◌, ◌<◌, ◌^◌, length, map, position, IfSome};
+ghost use Rattle.std.specs.Prelude.{◌≡◌, ℕ, ◌+◌, ◌-◌, ◌<◌, ◌^◌, length, map, position, Some, IfSome};
+ghost use Rattle.std.specs.Option.{option_or};
+ghost use Rattle.std.specs.Bool.{then_some};
 ghost use Rattle.rb_world.specs.Standing.{Each};
 ghost use Rattle.rb_world.specs.World.{last_of};
 ghost use Rattle.rb_proc.specs.Contents.{facts_of};
@@ -83,15 +85,13 @@ fn is_over(mark: &LevelMark) -> bool
     mark.facts.bound < mark.used
 }
 
-// A level that has used one turn more.
-fn one_used(mark: LevelMark) -> LevelMark
-    requires { mark.used < 2 ^ 32 - 1 }
-    ensures { result ≡ mark_used mark }
+// A level has used one turn more.
+#[inline(always)]
+fn use_one(mark: &mut LevelMark)
+    requires { mark.old.used < 2 ^ 32 - 1 }
+    ensures { mark.new ≡ mark_used mark.old }
 {
-    LevelMark {
-        used: mark.used + 1,
-        ..mark
-    }
+    mark.used += 1;
 }
 
 /// Each level has used one turn more; tells the first one that is over its bound then.
@@ -103,8 +103,29 @@ pub(crate) fn count_turn(marks: &mut [LevelMark]) -> Option<u32>
 {
     let mut over = None;
     for (place, mark) in marks.iter_mut().enumerate() {
-        *mark = one_used(*mark);
-        over = over.or(is_over(mark).then_some(place as u32));
+        use_one(mark);
+        over = first_over(over, is_over(mark), place as u32);
     }
     over
+}
+
+// The first place that is over, where one more place is or is not.
+#[inline(always)]
+fn first_over(so_far: Option<u32>, over: bool, place: u32) -> Option<u32>
+    ensures { result ≡ option_or so_far (then_some over place) }
+{
+    if over {
+        first_of(so_far, place)
+    } else {
+        so_far
+    }
+}
+
+// The first of two places, the second of which is there. Levels are rarely over their bounds.
+#[cold]
+#[inline(never)]
+fn first_of(so_far: Option<u32>, place: u32) -> Option<u32>
+    ensures { result ≡ option_or so_far (Some place) }
+{
+    so_far.or(Some(place))
 }

@@ -33,7 +33,9 @@ use crate::channels::{cursor_place as place_of_cursor, first_variable};
 use crate::recoverable::{Recoverable, natural};
 use crate::run::run;
 use crate::sight::Sight;
-use crate::wants::{alternate_of, cursor_of, entry_at, message_of, status_here, want_at};
+use crate::wants::{
+    alternate_of, cursor_of, entry_at, message_of, status_by, status_here, want_at,
+};
 use rb_base::{Cause, Memory, State, Steps};
 use rb_code::Code;
 use rb_mail::Mail;
@@ -103,6 +105,7 @@ impl<L: Ledger> Proc<L> {
     }
 
     /// What the process wants of its next turn.
+    #[inline(always)]
     pub fn want(&self, code: &Code) -> Wanted
         requires { IsExecutable (plain code.now) }
         ensures { result ≡ wanted_of (plain code.now) self.now.process }
@@ -221,10 +224,10 @@ impl<L: Ledger> Proc<L> {
             mails,
             steps,
         ) {
-            Ended::Stop(at) => {
+            Ended::Stop(at, done) => {
                 self.at = at;
                 self.at_line = false;
-                self.status = status_here(code, at);
+                self.status = status_by(done);
                 Outcome::Went
             }
             Ended::Accepts(at) => {
@@ -446,7 +449,7 @@ fn end_of(ended: Ended, at: u32) -> u32
     ensures { result ≡ stop_at ended at }
 {
     match ended {
-        Ended::Stop(to) => to,
+        Ended::Stop(to, _) => to,
         Ended::Accepts(_) | Ended::Trap(_) => at,
     }
 }

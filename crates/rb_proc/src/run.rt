@@ -1,13 +1,14 @@
 //! All instructions up to an end.
 
-ghost use Rattle.std.specs.Prelude.{◌≡◌, ◌+◌, ◌*◌, ◌<◌, ◌≤◌, ◌^◌, ℤ, List, [], length};
-ghost use Rattle.rb_code.specs.Instructions.Plain.{code as plain};
+ghost use Rattle.std.specs.Prelude.{◌≡◌, ◌+◌, ◌*◌, ◌<◌, ◌≤◌, ◌^◌, ℤ, List, [], length, Option, Some};
+ghost use Rattle.rb_code.specs.Instructions.Plain.{Code as Plain, code as plain};
 ghost use Rattle.rb_code.specs.WordMachine.Act.{execute};
 ghost use Rattle.rb_code.specs.SoundCode.Safe.{IsUnchanged, Safe};
 ghost use Rattle.rb_code.specs.SoundCode.Stays.{Stays, entry_calls};
-ghost use Rattle.rb_code.specs.WordMachine.Turn.{most_steps};
+ghost use Rattle.rb_code.specs.WordMachine.Turn.{most_steps, wants_there};
+ghost use Rattle.rb_world.specs.World.{status_at};
 ghost use Rattle.rb_world.specs.World.{copy_of, last_of};
-ghost use Rattle.rb_proc.specs.Runs.{CursorsRise, KeepsEnded};
+ghost use Rattle.rb_proc.specs.Runs.{CursorsRise, KeepsEnded, TellsDone, done_or_running};
 ghost use Rattle.rb_operands.specs.Outcomes.{ended_of};
 ghost use Rattle.rb_proc.specs.Outcomes.{whole};
 ghost use Rattle.rb_operands.specs.Pieces.{AreTexts};
@@ -18,7 +19,7 @@ use crate::instruction::act;
 use crate::recoverable::Recoverable;
 use crate::sight::Sight;
 use rb_base::Steps;
-use rb_code::Code;
+use rb_code::{Code, Instr};
 use rb_mail::Mail;
 use rb_operands::{Bench, Ended, Next};
 use std::sync::ledger::Ledger;
@@ -52,6 +53,7 @@ pub fn run<L: Ledger>(
         (most_steps (plain code.now)) from bench.old.operands
         (whole (plain code.now).texts bench.old memory.old mails.old) }
     ensures kept { KeepsEnded result memory.old memory.new mails.old mails.new }
+    ensures done { TellsDone (plain code.now) result }
     ensures sized { AreSized (plain code.now) mails.new }
     ensures work { steps.new
         ≤ steps.old + 3 * named_along (plain code.now) (see_of sight.now memory.old.levels)
@@ -60,12 +62,23 @@ pub fn run<L: Ledger>(
 {
     let mut at = from;
     'turn: loop {
-        let instr = code.instrs[at as usize];
+        let instr = &code.instrs[at as usize];
         match act(code, sight, instr, at, bench, memory, mails, steps) {
             Next::Go(to) => at = to,
-            Next::Stop => return Ended::Stop(at),
+            Next::Stop => return Ended::Stop(at, is_done(instr)),
             Next::Accepts(to) => return Ended::Accepts(to),
             Next::Trap(cause) => return Ended::Trap(cause),
         }
+    }
+}
+
+// Whether a process is done that stands at this instruction.
+#[inline(always)]
+fn is_done(instr: &Instr) -> bool
+    ensures { (c : Plain) (next : Option Instr) → status_at (wants_there c (Some instr.now) next) ≡ done_or_running result }
+{
+    match *instr {
+        Instr::Done => true,
+        _ => false,
     }
 }

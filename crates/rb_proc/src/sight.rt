@@ -12,14 +12,13 @@ use crate::recoverable::Recoverable;
 use rb_code::{Code, Spot};
 use std::sync::ledger::Ledger;
 
-/// What a turn sees: its process, where the variables and the words of the main body begin, how many words there may be, the message
-/// that is there if one is, and the alternate that is to be started.
+/// What a turn sees: its process, where the variables and the words of the main body begin, the message that is there if one is, and the
+/// alternate that is to be started.
 #[derive(Clone, Copy)]
 pub struct Sight {
     pub process: u32,
     pub variables: u32,
     pub body: u32,
-    pub most: u32,
     pub message: Option<i64>,
     pub alternate: u32,
 }
@@ -41,10 +40,18 @@ impl Sight {
             process,
             variables,
             body: variables + part.words,
-            most: variables + code.edition.most_words(),
             message,
             alternate,
         }
+    }
+
+    /// How many words there may be.
+    pub fn most(&self, code: &Code) -> u32
+        requires { IsTurnOf (plain code.now) self.now }
+        ensures most { result ≡ variables_place (part_of (plain code.now) self.now.process) + most_words code.now.edition }
+        ensures few { result ≤ most_places }
+    {
+        self.variables + code.edition.most_words()
     }
 
     /// Where a variable's first word lies.

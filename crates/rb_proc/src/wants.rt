@@ -10,6 +10,7 @@ ghost use Rattle.rb_proc.specs.Process.{wanted_by};
 ghost use Rattle.rb_proc.specs.Entries.{EntryIs};
 ghost use Rattle.rb_proc.specs.Executable.{IsExecutable};
 ghost use Rattle.rb_proc.specs.Given.{alternate_by, message_by};
+ghost use Rattle.rb_proc.specs.Runs.{done_or_running};
 ghost use Rattle.rb_proc.specs.Sees.{AreSized};
 ghost use Rattle.rb_proc.specs.Statuses.{status_of};
 
@@ -22,6 +23,7 @@ use rb_mail::Mail;
 use std::sync::ledger::Ledger;
 
 /// What the process wants that runs and stands at an address, and at no test line.
+#[inline(always)]
 pub fn want_at(code: &Code, at: u32) -> Wanted
     requires { length code.now.instrs.items < 2 ^ 32 }
     ensures { result ≡ wanted_by (wants_there (plain code.now) (slice_get (plain code.now).instrs at) (slice_get (plain code.now).instrs (at + 1))) }
@@ -37,6 +39,7 @@ pub fn want_at(code: &Code, at: u32) -> Wanted
 }
 
 // What the instruction behind a `turn` asks of it.
+#[inline(always)]
 fn want_of(code: &Code, instr: Instr) -> Wanted
     ensures { result ≡ wanted_by (wants_by (plain code.now) instr) }
 {
@@ -58,6 +61,18 @@ pub fn status_here(code: &Code, at: u32) -> ProcessStatus
     match code.instrs.get(at as usize) {
         Some(Instr::Done) => ProcessStatus::Finished,
         _ => ProcessStatus::Running,
+    }
+}
+
+/// How a process stands where its turn is over.
+#[inline(always)]
+pub fn status_by(done: bool) -> ProcessStatus
+    ensures { status_of result ≡ done_or_running done }
+{
+    if done {
+        ProcessStatus::Finished
+    } else {
+        ProcessStatus::Running
     }
 }
 

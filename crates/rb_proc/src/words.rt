@@ -24,6 +24,7 @@ use rb_operands::operands::Operands;
 use std::sync::ledger::Ledger;
 
 /// Pushes a word.
+#[inline(always)]
 pub fn load<L: Ledger>(
     from: usize,
     at: u32,
@@ -43,6 +44,7 @@ pub fn load<L: Ledger>(
 }
 
 /// Pushes a word of the innermost copy.
+#[inline(always)]
 pub fn prior<L: Ledger>(
     from: usize,
     at: u32,
@@ -64,6 +66,7 @@ pub fn prior<L: Ledger>(
 }
 
 /// Pops an index, and pushes the word so far behind a place.
+#[inline(always)]
 pub fn load_at<L: Ledger>(
     first: usize,
     at: u32,
@@ -86,6 +89,7 @@ pub fn load_at<L: Ledger>(
 }
 
 /// The same in the innermost copy.
+#[inline(always)]
 pub fn prior_at<L: Ledger>(
     first: usize,
     at: u32,
@@ -110,6 +114,7 @@ pub fn prior_at<L: Ledger>(
 }
 
 /// Pops a value into a word.
+#[inline(always)]
 pub fn store<L: Ledger>(
     to: usize,
     at: u32,
@@ -133,6 +138,7 @@ pub fn store<L: Ledger>(
 }
 
 /// Pops a value, then an index, and stores the value so far behind a place.
+#[inline(always)]
 pub fn store_at<L: Ledger>(
     first: usize,
     at: u32,
@@ -159,6 +165,7 @@ pub fn store_at<L: Ledger>(
 }
 
 /// So many words more, each 0, or the trap `stack`.
+#[inline(always)]
 pub fn frame<L: Ledger>(
     n: u32,
     most: u32,
@@ -184,6 +191,7 @@ pub fn frame<L: Ledger>(
 }
 
 /// So many words fewer.
+#[inline(always)]
 pub fn drop_words<L: Ledger>(n: u32, at: u32, memory: &mut Recoverable<L>) -> Next
     requires at { at + 1 < 2 ^ 32 }
     requires words { n < length memory.old.words }
@@ -198,6 +206,7 @@ pub fn drop_words<L: Ledger>(n: u32, at: u32, memory: &mut Recoverable<L>) -> Ne
 }
 
 /// Opens a call with so many operands and so many zeros as its words, or the traps `calls` and `stack`.
+#[inline(always)]
 pub fn call<L: Ledger>(
     to: u32,
     count: u32,
@@ -233,6 +242,7 @@ pub fn call<L: Ledger>(
 }
 
 /// Goes back from the running call.
+#[inline(always)]
 pub fn go_back<L: Ledger>(at: u32, memory: &mut Recoverable<L>) -> Next
     requires call { HasCall memory.old.calls (λ call. (call.base ≤ length memory.old.words) × StayAbove memory.old.touched call.base) }
     requires levels { entry_calls (copy_of (last_of memory.old.levels)) < length memory.old.calls }

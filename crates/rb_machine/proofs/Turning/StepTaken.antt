@@ -1,5 +1,5 @@
 -- A step of process number p, from what is known of the machine's parts: what it asks for, and where each of its outcomes leads.
-use Rattle.std.proofs.Common.{◌≡◌, ℕ, ◌+◌, ◌≤◌, Bool, List, [], ◌∷◌, ◌++◌, length, slice_get, get_or, Option, Some, None, option_map, ap, sym, ◌∙◌, subst, arith}
+use Rattle.std.proofs.Common.{◌≡◌, ℕ, ◌+◌, ◌≤◌, Bool, List, [], ◌∷◌, ◌++◌, length, slice_get, get_or, Option, Some, None, ap, sym, ◌∙◌, subst, arith}
 use Rattle.std.proofs.lemmas.Option.{get_or_from_slice_get}
 use Rattle.rb_base.specs.declared.event.Cause.{Cause}
 use Rattle.rb_base.specs.declared.event.Event.{Event}
@@ -10,7 +10,7 @@ use Rattle.rb_world.specs.Slots.{Slots}
 use Rattle.rb_world.specs.Standing.{Each}
 use Rattle.rb_world.specs.Turn.{Moved, accepted, steps}
 use Rattle.rb_world.specs.World.{change_at, last_of}
-use Rattle.rb_world.proofs.ListFacts.{slice_get-change_at, some_same}
+use Rattle.rb_world.proofs.ListFacts.{some_same}
 use Rattle.rb_code.specs.Instructions.Plain.{Code}
 use Rattle.rb_code.specs.WordMachine.Turn.{Common, Copy, Standing, want}
 use Rattle.rb_conv.specs.Conversations.{Conversation}
@@ -86,44 +86,33 @@ module _ {c : Code} {turn p : ℕ} {there : Bool} {procs : List Seen} {table : L
     pub number : one.process.state.process ≡ p
     number = (at.work.known.placed p one.process (process_there procs p one here)).number
 
-    -- the process after the step stands where it stood
-    later_there : (answer : Outcome) (slots' : Slots) (procs1 : List Seen) (stepping : HasStepped c there p one answer slots slots' procs procs1)
-        → slice_get procs1 p ≡ Some (record { process = stepping.later; waiting = [] })
-    later_there answer slots' procs1 stepping =
-        ap (λ (xs : List Seen). slice_get xs p) stepping.processes
-        ∙ (slice_get-change_at p (λ _. record { process = stepping.later; waiting = [] }) procs
-        ∙ ap (option_map (λ (_ : Seen). record { process = stepping.later; waiting = [] })) here)
-
     abbrev link_by : ℕ → ℕ → Linked
     link_by alternate before = record { turn = turn; process = p; alternate = alternate; before = before }
 
-    -- the link of the turn, by what was read of the process before and after the step
-    link_here : (x : Seen) (n last : ℕ) (links' : List Linked) → x ≡ get_or procs p x → n ≡ alternate_for (want c x.process.state) x.process.levels
-        → last ≡ one.process.state.last_kept → links' ≡ links ++ link_by n last ∷ []
+    -- the link of the turn, by what was read of the process before the step
+    link_here : (x : Seen) (n : ℕ) (links' : List Linked) → x ≡ get_or procs p x → n ≡ alternate_for (want c x.process.state) x.process.levels
+        → links' ≡ links ++ link_by n x.process.state.last_kept ∷ []
         → links' ≡ links ++ link_by (alternate_for (want c one.process.state) one.process.levels) one.process.state.last_kept ∷ []
-    link_here x n last links' read is same e =
+    link_here x n links' read is e =
+        let same = read_there procs p x one read here in
         let tried : n ≡ alternate_for (want c one.process.state) one.process.levels =
-        is ∙ ap (λ (y : Seen). alternate_for (want c y.process.state) y.process.levels) (read_there procs p x one read here) in
-        e ∙ (ap (λ (k : ℕ). links ++ link_by k last ∷ []) tried
-        ∙ ap (λ (k : ℕ). links ++ link_by (alternate_for (want c one.process.state) one.process.levels) k ∷ []) same)
+        is ∙ ap (λ (y : Seen). alternate_for (want c y.process.state) y.process.levels) same in
+        e ∙ (ap (λ (k : ℕ). links ++ link_by k x.process.state.last_kept ∷ []) tried
+        ∙ ap (λ (y : Seen). links ++ link_by (alternate_for (want c one.process.state) one.process.levels) y.process.state.last_kept ∷ []) same)
 
     -- it went on
     module _ (slots' : Slots) (procs1 : List Seen) (stepping : HasStepped c there p one outcome.Went slots slots' procs procs1) where
       pub went_comes : (procs2 procs' : List Seen) (links' : List Linked) (events : List Event) (x : Seen) (n : ℕ) → events ≡ []
           → procs2 ≡ procs1 → procs' ≡ change_at p (turn_kept turn) procs2 → x ≡ get_or procs p x
           → n ≡ alternate_for (want c x.process.state) x.process.levels
-          → ((later : Seen) → slice_get procs2 p ≡ Some later → links' ≡ links ++ link_by n later.process.state.last_kept ∷ [])
+          → links' ≡ links ++ link_by n x.process.state.last_kept ∷ []
           → ComesTo procs' table (memory_of slots' links') Took events None
           moves
       went_comes procs2 procs' links' events x n none same kept read is linked =
-          let found = later_there outcome.Went slots' procs1 stepping in
           let kept1 : procs' ≡ change_at p (turn_kept turn) procs1 = kept ∙ ap (change_at p (turn_kept turn)) same in
-          let last = taken.last_before c table slots links there turn p one procs here
-          (may one here) number slots' procs1 procs' stepping kept1 _ found in
           taken_comes (memory_of slots' links') procs' table events None _ none
           (taken.went_world c table slots links there turn p one procs here (may one here) number slots' procs1 procs' stepping kept1 links'
-          (link_here x n stepping.later.state.last_kept links' read is last
-          (linked _ (ap (λ (xs : List Seen). slice_get xs p) same ∙ found))))
+          (link_here x n links' read is linked))
 
       pub went_waits : (procs2 procs' : List Seen) → procs2 ≡ procs1 → procs' ≡ change_at p (turn_kept turn) procs2 → NoneWaits procs'
       went_waits procs2 procs' same kept =
@@ -168,20 +157,16 @@ module _ {c : Code} {turn p : ℕ} {there : Bool} {procs : List Seen} {table : L
 
       pub held_comes : (procs' : List Seen) (table' : List Conversation) (links' : List Linked) (events : List Event) (pass : Option Event) (x : Seen)
           (n : ℕ) → events ≡ [] → x ≡ get_or procs p x → n ≡ alternate_for (want c x.process.state) x.process.levels
-          → ((later : Seen) → slice_get procs2 p ≡ Some later → links' ≡ links ++ link_by n later.process.state.last_kept ∷ [])
+          → links' ≡ links ++ link_by n x.process.state.last_kept ∷ []
           → ((y : Seen) (memory : Common) → slice_get procs4 p ≡ Some y → HasTaken memory procs' table' pass
           (accepted (kind_with c table) p y.process.levels (last_of y.process.levels) (world_of procs4 table memory) (y.process.state, memory)))
           → ComesTo procs' table' (memory_of slots' links') Took events pass
           moves
       held_comes procs' table' links' events pass x n none read is linked comes =
-          let found = later_there outcome.Accepts slots' procs1 stepping in
-          let last = taken.last_held c table slots links there turn p one procs here
-          (may one here) number slots' procs1 procs4 stepping kept1 _ found in
           taken_comes (memory_of slots' links') procs' table' events pass _ none
           (taken.held_world c table slots links there turn p one procs here
           (may one here) number slots' procs1 procs4 stepping kept1 links' procs' table' pass
-          (link_here x n stepping.later.state.last_kept links' read is last
-          (linked _ (ap (λ (xs : List Seen). slice_get xs p) same ∙ found)))
+          (link_here x n links' read is linked)
           (comes holder (memory_of slots' links') holder_there))
 
     -- it trapped
@@ -211,14 +196,15 @@ module _ {c : Code} {turn p : ℕ} {there : Bool} {procs : List Seen} {table : L
           subst AreQuiet (sym unchanged)
           (are_quiet c table at.work.sound (turn + 1) procs (memory_of slots links) at.work.known at.work.few at.waits)
 
-      pub trap_comes : (procs' : List Seen) (table' : List Conversation) (events events' : List Event) (left : ℕ) → events ≡ []
-          → left ≡ length one.process.levels
+      pub trap_comes : (procs' : List Seen) (table' : List Conversation) (links' : List Linked) (events events' : List Event) (left : ℕ)
+          → events ≡ [] → left ≡ length one.process.levels → links' ≡ links
           → HasHappened (reject (kind_with c table) p left cause) (memory_of slots' links) procs2 table events procs' table' events'
-          → ComesTo procs' table' (memory_of slots' links) Undone events' None
+          → ComesTo procs' table' (memory_of slots' links') Undone events' None
           moves
-      trap_comes procs' table' events events' left none long h =
+      trap_comes procs' table' links' events events' left none long back h =
           let world = taken.trap_world c table slots links there turn p one procs here
           (may one here) number slots' procs1 cause stepping procs' table' events events' left long
           (subst (λ (xs : List Seen). HasHappened (reject (kind_with c table) p left cause)
           (memory_of slots' links) xs table events procs' table' events') again h) in
+          subst (λ (ls : List Linked). ComesTo procs' table' (memory_of slots' ls) Undone events' None moves) (sym back)
           (world.0, sym world.1, world.2 ∙ ap (λ (es : List Event). es ++ moves.rejections) none, sym world.3)

@@ -11,7 +11,7 @@ use Rattle.rb_world.specs.Slots.{Slots}
 use Rattle.rb_world.specs.Standing.{Each}
 use Rattle.rb_world.specs.Turn.{Moved, accepted, accepted_at, at_test_line, stands_now, stepped, steps, took, undone}
 use Rattle.rb_world.specs.World.{Level, Process, change_at, last_of, levels_of, process_levels, settled, without_last}
-use Rattle.rb_world.proofs.ListFacts.{Each-change_at, some_same, slice_get-change_at}
+use Rattle.rb_world.proofs.ListFacts.{Each-change_at, slice_get-change_at}
 use Rattle.rb_code.specs.Instructions.Plain.{Code}
 use Rattle.rb_code.specs.WordMachine.Turn.{Common, Copy, Link, Standing, want}
 use Rattle.rb_code.specs.WordMachine.WordRun.{WordWorld}
@@ -101,15 +101,6 @@ module _ (c : Code) (table : List Conversation) (slots : Slots) (links : List Li
         ap processes_of put_kept
         ∙ (processes_put p (turn_kept turn (calm stepping.later)) procs
         ∙ ap (λ (q : Process Standing Copy). change_at p (λ _. q) (processes_of procs)) has_settled)
-
-    -- the last kept turn before this one
-    pub last_before : (later : Seen) → slice_get procs1 p ≡ Some later → later.process.state.last_kept ≡ one.process.state.last_kept
-    last_before later e =
-        let is : calm stepping.later ≡ later = some_same (sym (slice_get-change_at p (λ _. calm stepping.later) procs
-        ∙ ap (option_map (λ (_ : Seen). calm stepping.later)) here) ∙ (sym (ap (λ (xs : List Seen). slice_get xs p) stepping.processes) ∙ e)) in
-        ap (λ (x : Seen). x.process.state.last_kept) (sym is)
-        ∙ (ap (λ (q : Process Standing Copy). q.state.last_kept) went.process
-        ∙ (same_process c one.process slots there went.later went.memory went.is).last)
 
     went_memory : (links' : List Linked)
         → links' ≡ links ++ record { turn = turn; process = p; alternate = alternate; before = one.process.state.last_kept } ∷ []
@@ -214,14 +205,6 @@ module _ (c : Code) (table : List Conversation) (slots : Slots) (links : List Li
 
     pub held_waits : NoneWaits procs → NoneWaits procs2
     held_waits h = kept_waits outcome.Accepts slots' procs1 procs2 stepping kept h
-
-    pub last_held : (later : Seen) → slice_get procs1 p ≡ Some later → later.process.state.last_kept ≡ one.process.state.last_kept
-    last_held later e =
-        let is : calm stepping.later ≡ later = some_same (sym (slice_get-change_at p (λ _. calm stepping.later) procs
-        ∙ ap (option_map (λ (_ : Seen). calm stepping.later)) here) ∙ (sym (ap (λ (xs : List Seen). slice_get xs p) stepping.processes) ∙ e)) in
-        ap (λ (x : Seen). x.process.state.last_kept) (sym is)
-        ∙ (ap (λ (q : Process Standing Copy). q.state.last_kept) held.process
-        ∙ ap (λ (s : Standing). s.last_kept) only_address)
 
     held_memory : (links' : List Linked)
         → links' ≡ links ++ record { turn = turn; process = p; alternate = alternate; before = one.process.state.last_kept } ∷ []

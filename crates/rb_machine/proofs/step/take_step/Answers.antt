@@ -1,14 +1,16 @@
 -- What a step asks for, and where each of its outcomes leads.
-use Rattle.std.proofs.Common.{List, None, get_or, slice_get, refl, ap, sym, ◌∙◌, subst, arith}
+use Rattle.std.proofs.Common.{List, [], ◌∷◌, ◌++◌, None, get_or, slice_get, refl, ap, sym, ◌∙◌, subst, arith}
 use Rattle.std.proofs.lemmas.List.{with_items_is}
 use Rattle.std.specs.Vec.{with_items}
 use Rattle.rb_code.specs.Instructions.Plain.{code as plain}
+use Rattle.rb_proc.specs.Given.{alternate_by}
 use Rattle.rb_proc.specs.Process.{Seen}
 use Rattle.rb_proc.specs.Sees.{AreSized}
 use Rattle.rb_proc.specs.declared.answers.Outcome.TheVariants as outcome
 use Rattle.rb_proc.proofs.Leaving.{none_there}
 use Rattle.rb_world.proofs.ListFacts.{slice_get-there}
 use Rattle.rb_machine.specs.Worlds.{NoneWaits, memory_of}
+use Rattle.rb_machine.specs.declared.links.Link.{Link as Linked}
 use Rattle.rb_machine.proofs.Turning.InnermostLevel.{alternate_known}
 use Rattle.rb_machine.proofs.Turning.StepTaken.{AtStep}
 use Rattle.rb_machine.proofs.Turning.StepTaken as step
@@ -81,7 +83,7 @@ accept-pass-requires-clause-waits g c =
     let v = with_items parts.procs c.step_one.new.procs in
     let kept = with_items_is v c.keep_turn-in-Accepts.new.procs (omega arith) in
     step.held_waits at here.0 here.1 c.step_one.new.mails c.step_one.new.procs c.deref_mut-in-Accepts.result.now c.keep_turn-in-Accepts.new.procs
-    c.deref_mut-in-Accepts-2.result.now stepping (c.deref_mut-in-Accepts.ensures.value ∙ items) c.keep_turn-in-Accepts.ensures.processes
+    c.deref_mut-in-Accepts-2.result.now stepping (c.deref_mut-in-Accepts.ensures.value ∙ items) c.keep_turn-in-Accepts.ensures
     (c.deref_mut-in-Accepts-2.ensures.value ∙ kept)
 
 pub accept-pass-requires-clause-holds : goal.accept-pass-requires-clause-holds
@@ -96,7 +98,7 @@ accept-pass-requires-clause-holds g c =
     let v = with_items parts.procs c.step_one.new.procs in
     let kept = with_items_is v c.keep_turn-in-Accepts.new.procs (omega arith) in
     step.held_holds at here.0 here.1 c.step_one.new.mails c.step_one.new.procs c.deref_mut-in-Accepts.result.now c.keep_turn-in-Accepts.new.procs
-    c.deref_mut-in-Accepts-2.result.now stepping (c.deref_mut-in-Accepts.ensures.value ∙ items) c.keep_turn-in-Accepts.ensures.processes
+    c.deref_mut-in-Accepts-2.result.now stepping (c.deref_mut-in-Accepts.ensures.value ∙ items) c.keep_turn-in-Accepts.ensures
     (c.deref_mut-in-Accepts-2.ensures.value ∙ kept)
 
 pub accept-pass-requires-clause-listed : goal.accept-pass-requires-clause-listed
@@ -111,7 +113,7 @@ accept-pass-requires-clause-listed g c =
     let v = with_items parts.procs c.step_one.new.procs in
     let kept = with_items_is v c.keep_turn-in-Accepts.new.procs (omega arith) in
     step.held_listed at here.0 here.1 c.step_one.new.mails c.step_one.new.procs c.deref_mut-in-Accepts.result.now c.keep_turn-in-Accepts.new.procs
-    c.deref_mut-in-Accepts-2.result.now stepping (c.deref_mut-in-Accepts.ensures.value ∙ items) c.keep_turn-in-Accepts.ensures.processes
+    c.deref_mut-in-Accepts-2.result.now stepping (c.deref_mut-in-Accepts.ensures.value ∙ items) c.keep_turn-in-Accepts.ensures
     (c.deref_mut-in-Accepts-2.ensures.value ∙ kept)
 
 pub accept-pass-requires-clause-leave : goal.accept-pass-requires-clause-leave
@@ -126,7 +128,7 @@ accept-pass-requires-clause-leave g c =
     let v = with_items parts.procs c.step_one.new.procs in
     let kept = with_items_is v c.keep_turn-in-Accepts.new.procs (omega arith) in
     step.held_leave at here.0 here.1 c.step_one.new.mails c.step_one.new.procs c.deref_mut-in-Accepts.result.now c.keep_turn-in-Accepts.new.procs
-    c.deref_mut-in-Accepts-2.result.now stepping (c.deref_mut-in-Accepts.ensures.value ∙ items) c.keep_turn-in-Accepts.ensures.processes
+    c.deref_mut-in-Accepts-2.result.now stepping (c.deref_mut-in-Accepts.ensures.value ∙ items) c.keep_turn-in-Accepts.ensures
     (c.deref_mut-in-Accepts-2.ensures.value ∙ kept)
 
 pub returns-in-Trap-clause-moved : goal.returns-in-Trap-clause-moved
@@ -142,10 +144,11 @@ returns-in-Trap-clause-moved g c = λ one here.
     (c.index-in-Trap.ensures ∙ ap (λ (xs : List Seen). get_or xs c.args.p c.index-in-Trap.result.now) items) c.levels-left.ensures in
     let final = with_items_is (with_items parts.procs c.step_one.new.procs) c.reject.new.procs (omega arith) in
     let mails = with_items_is parts.mails c.step_one.new.mails (omega arith) in
-    let comes = step.comes_as _ c.reject.new.procs c.reject.new.table _ c.step_one.new.mails parts.links.items _ _ None _ final mails
+    let comes = step.comes_as _ c.reject.new.procs c.reject.new.table _ c.step_one.new.mails c.take_back.new.links.items _ _ None _ final mails
     (step.trap_comes at one here c.step_one.new.mails c.step_one.new.procs c.deref_mut-in-Trap.result.now c.in-Trap.cause stepping
-    (c.deref_mut-in-Trap.ensures.value ∙ items) c.reject.new.procs c.reject.new.table c.args.events.now.items c.reject.new.events.items
-    c.levels-left.result (none_there c.args.events.now.items c.requires.none) left
+    (c.deref_mut-in-Trap.ensures.value ∙ items) c.reject.new.procs c.reject.new.table c.take_back.new.links.items c.args.events.now.items
+    c.reject.new.events.items c.levels-left.result (none_there c.args.events.now.items c.requires.none) left
+    (c.take_back.ensures.items parts.links.items c.link_of-link.result c.add.ensures.items)
     (c.reject.ensures.happened (plain c.args.code.now) (memory_of c.step_one.new.mails parts.links.items))) in
     record { worlds = comes.0; kind = comes.1; rejections = comes.2; passes = comes.3 }
 
@@ -181,12 +184,12 @@ returns-in-Went-clause-moved g c = λ one here.
     let items = with_items_is parts.procs c.step_one.new.procs (omega arith) in
     let final = with_items_is (with_items parts.procs c.step_one.new.procs) c.keep_turn.new.procs (omega arith) in
     let mails = with_items_is parts.mails c.step_one.new.mails (omega arith) in
-    let comes = step.comes_as _ c.keep_turn.new.procs parts.table _ c.step_one.new.mails c.keep_turn.new.links.items _ _ None _ final mails
+    let comes = step.comes_as _ c.keep_turn.new.procs parts.table _ c.step_one.new.mails c.add.new.links.items _ _ None _ final mails
     (step.went_comes at one here c.step_one.new.mails c.step_one.new.procs stepping c.deref_mut-in-Went.result.now c.keep_turn.new.procs
-    c.keep_turn.new.links.items c.args.events.now.items c.index.result.now c.started-alternate.result
-    (none_there c.args.events.now.items c.requires.none) (c.deref_mut-in-Went.ensures.value ∙ items) c.keep_turn.ensures.processes c.index.ensures
-    (alternate_known (plain c.args.code.now) parts.procs.items c.args.p c.index.result.now c.args.wanted c.started-alternate.result
-    c.requires.process c.index.ensures c.requires.wanted c.started-alternate.ensures) c.keep_turn.ensures.links) in
+    c.add.new.links.items c.args.events.now.items c.index.result.now (alternate_by c.args.wanted c.index.result.now.process.levels)
+    (none_there c.args.events.now.items c.requires.none) (c.deref_mut-in-Went.ensures.value ∙ items) c.keep_turn.ensures c.index.ensures
+    (alternate_known (plain c.args.code.now) parts.procs.items c.args.p c.index.result.now c.args.wanted (alternate_by c.args.wanted c.index.result.now.process.levels)
+    c.requires.process c.index.ensures c.requires.wanted refl) (c.add.ensures.items ∙ ap (λ (l : Linked). parts.links.items ++ l ∷ []) c.link_of-link.ensures)) in
     record { worlds = comes.0; kind = comes.1; rejections = comes.2; passes = comes.3 }
 
 pub returns-in-Went-clause-left : goal.returns-in-Went-clause-left
@@ -202,7 +205,7 @@ returns-in-Went-clause-left g c =
     let mails = with_items_is parts.mails c.step_one.new.mails (omega arith) in
     record {
       waits = subst NoneWaits (sym final) (step.went_waits at here.0 here.1 c.step_one.new.mails c.step_one.new.procs stepping
-          c.deref_mut-in-Went.result.now c.keep_turn.new.procs (c.deref_mut-in-Went.ensures.value ∙ items) c.keep_turn.ensures.processes);
+          c.deref_mut-in-Went.result.now c.keep_turn.new.procs (c.deref_mut-in-Went.ensures.value ∙ items) c.keep_turn.ensures);
       groups = same_table parts.table;
       sized = subst (AreSized (plain c.args.code.now)) (sym mails) c.step_one.ensures.sized;
       few = omega (arith, c.requires.none);
@@ -220,13 +223,13 @@ returns-in-Accepts-clause-moved g c = λ one here.
     let kept = with_items_is v c.keep_turn-in-Accepts.new.procs (omega arith) in
     let final = with_items_is (with_items v c.keep_turn-in-Accepts.new.procs) c.accept-pass.new.procs (omega arith) in
     let mails = with_items_is parts.mails c.step_one.new.mails (omega arith) in
-    let comes = step.comes_as _ c.accept-pass.new.procs c.accept-pass.new.table _ c.step_one.new.mails c.keep_turn-in-Accepts.new.links.items _ _ _ _ final mails
+    let comes = step.comes_as _ c.accept-pass.new.procs c.accept-pass.new.table _ c.step_one.new.mails c.add.new.links.items _ _ _ _ final mails
     (step.held_comes at one here c.step_one.new.mails c.step_one.new.procs c.deref_mut-in-Accepts.result.now c.keep_turn-in-Accepts.new.procs
-    c.deref_mut-in-Accepts-2.result.now stepping (c.deref_mut-in-Accepts.ensures.value ∙ items) c.keep_turn-in-Accepts.ensures.processes
-    (c.deref_mut-in-Accepts-2.ensures.value ∙ kept) c.accept-pass.new.procs c.accept-pass.new.table c.keep_turn-in-Accepts.new.links.items
-    c.args.events.now.items c.accept-pass.result c.index.result.now c.started-alternate.result (none_there c.args.events.now.items c.requires.none)
-    c.index.ensures (alternate_known (plain c.args.code.now) parts.procs.items c.args.p c.index.result.now c.args.wanted c.started-alternate.result
-    c.requires.process c.index.ensures c.requires.wanted c.started-alternate.ensures) c.keep_turn-in-Accepts.ensures.links
+    c.deref_mut-in-Accepts-2.result.now stepping (c.deref_mut-in-Accepts.ensures.value ∙ items) c.keep_turn-in-Accepts.ensures
+    (c.deref_mut-in-Accepts-2.ensures.value ∙ kept) c.accept-pass.new.procs c.accept-pass.new.table c.add.new.links.items
+    c.args.events.now.items c.accept-pass.result c.index.result.now (alternate_by c.args.wanted c.index.result.now.process.levels) (none_there c.args.events.now.items c.requires.none)
+    c.index.ensures (alternate_known (plain c.args.code.now) parts.procs.items c.args.p c.index.result.now c.args.wanted (alternate_by c.args.wanted c.index.result.now.process.levels)
+    c.requires.process c.index.ensures c.requires.wanted refl) (c.add.ensures.items ∙ ap (λ (l : Linked). parts.links.items ++ l ∷ []) c.link_of-link.ensures)
     (λ y memory e. c.accept-pass.ensures.taken y memory e)) in
     record { worlds = comes.0; kind = comes.1; rejections = comes.2; passes = comes.3 }
 
@@ -268,7 +271,7 @@ returns-in-Accepts-clause-work g c = λ one here.
     let counted = work.counted_here at one here c.deref_mut.result.now c.deref_mut-2.result.now c.args.steps.now c.step_one.new.steps
     c.deref_mut.ensures.value c.deref_mut-2.ensures.value c.step_one.ensures.work in
     work.held_work at one here c.step_one.new.mails c.step_one.new.procs c.deref_mut-in-Accepts.result.now c.keep_turn-in-Accepts.new.procs
-    c.deref_mut-in-Accepts-2.result.now stepping (c.deref_mut-in-Accepts.ensures.value ∙ items) c.keep_turn-in-Accepts.ensures.processes
+    c.deref_mut-in-Accepts-2.result.now stepping (c.deref_mut-in-Accepts.ensures.value ∙ items) c.keep_turn-in-Accepts.ensures
     (c.deref_mut-in-Accepts-2.ensures.value ∙ kept)
     (with_items (with_items v c.keep_turn-in-Accepts.new.procs) c.accept-pass.new.procs).items c.args.events.now.items c.args.steps.now c.step_one.new.steps c.accept-pass.new.steps counted
     (λ y memory e. c.accept-pass.ensures.work y memory e)

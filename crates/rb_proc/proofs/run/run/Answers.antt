@@ -1,10 +1,12 @@
-use Rattle.std.proofs.Common.{◌≡◌, ℕ, ◌≤◌, List, refl, ap, sym, ◌∙◌, subst, arith}
-use Rattle.rb_world.specs.World.{Level, copy_of, last_of}
+use Rattle.std.proofs.Common.{◌≡◌, ℕ, ◌≤◌, ◌+◌, List, Option, refl, ap, sym, ◌∙◌, subst, arith}
+use Rattle.std.specs.Prelude.{slice_get}
+use Rattle.rb_world.specs.World.{Level, copy_of, last_of, status_at}
+use Rattle.rb_code.specs.declared.instr.Instr.{Instr}
 use Rattle.rb_code.specs.Instructions.Plain.{code as plain}
 use Rattle.rb_code.specs.WordMachine.Act.{Accepts, Going, Stopped, Trapped, act as acted, execute}
 use Rattle.rb_code.specs.SoundCode.Safe.{IsUnchanged, Ready}
 use Rattle.rb_code.specs.SoundCode.Stays.{entry_calls}
-use Rattle.rb_code.specs.WordMachine.Turn.{Copy, most_steps}
+use Rattle.rb_code.specs.WordMachine.Turn.{Copy, most_steps, wants_there}
 use Rattle.rb_proc.specs.Acts.{CursorRises, LeavesEnough}
 use Rattle.rb_proc.specs.Contents.{Contents}
 use Rattle.rb_proc.specs.Outcomes.{pieces_in, whole}
@@ -311,3 +313,19 @@ returns-in-Trap-clause-work g c =
       c.in-Trap.ensures.work,
       c.turn.invariant.work,
     )
+
+pub returns-in-Stop-clause-done : goal.returns-in-Stop-clause-done
+returns-in-Stop-clause-done g c =
+    let code = plain c.args.code.now in
+    let see = see_of c.args.sight.now c.args.memory.now.levels in
+    let first = whole code.texts c.args.bench.now c.args.memory.now c.args.mails.now in
+    let m = whole code.texts c.turn.bench c.turn.memory c.turn.mails in
+    let xs = c.turn.bench.operands in
+    let calls = entry_calls (copy_of (last_of c.args.memory.now.levels)) in
+    let start = c.turn.invariant.start in
+    let most = most_steps code in
+    let end = execute code see most c.args.from c.args.bench.now.operands first in
+    let i = c.index-instr.result.now in
+    let next = slice_get code.instrs (c.turn.at + 1) in
+    let q = fetched code see (IsUnchanged first) calls start most c.turn.at xs m end c.turn.invariant.runs i c.index-instr.ensures in
+    ap (λ (o : Option Instr). status_at (wants_there code o next)) q ∙ c.is_done.ensures code next

@@ -16,8 +16,9 @@ use Rattle.rb_machine.specs.Worlds.{lines_of, processes_of}
 use Rattle.rb_machine.specs.declared.rests.Rest.{Rest}
 use Rattle.rb_machine.proofs.Turning.TurnOfParts.{none_wait}
 use Rattle.rb_machine.proofs.Unmoved.Noted.{noted_after}
+use Rattle.rb_machine.proofs.Unmoved.StillBare.{bare_before}
 use Rattle.rb_machine.proofs.machine.Machine.take.Goals as goal
-use Rattle.rb_machine.proofs.machine.Machine.take.Goals.{else-bare, then-bare}
+use Rattle.rb_machine.proofs.machine.Machine.take.Goals.{else-quiet, then-quiet}
 
 pub turn-self-inside-requires-clause-work : goal.turn-self-inside-requires-clause-work
 turn-self-inside-requires-clause-work g c = record {
@@ -36,17 +37,21 @@ invariant_of-self g c =
     let kind = turned.new.report.kind in
     let told : Told = told_of kind turned.new.report.events.items (lines_of after.procs.items) in
     let running = with_items_is inside.running turned.new.running (omega (arith, turned.auto.running, c.deref_mut.ensures.len)) in
-    let both : c.if-bare.still ≡ true → (c.is_bare-bare.result ≡ true) × (is_still kind ≡ true) =
-    elim c.if-bare.branch [
-      | then-bare w ↦ λ e. (w.if-bare.true, sym w.is_still-still.ensures ∙ (sym w.still-is ∙ e))
-      | else-bare w ↦ λ e. absurd (cc)
+    let both : c.if-quiet.still ≡ true → IsBare (slice_get (processes_of after.procs.items) c.args.p) × (is_still kind ≡ true) =
+    elim c.if-quiet.branch [
+      | then-quiet w ↦ λ e. (
+        subst (λ (procs : List Process). IsBare (slice_get (processes_of procs) c.args.p)) w.deref.ensures.value
+            (w.is_bare-still.ensures (sym w.still-is ∙ e)),
+        sym c.is_still-quiet.ensures ∙ w.if-quiet.true,
+      )
+      | else-quiet w ↦ λ e. absurd (cc)
     ] in
-    let noted : AreNoted code groups (world after) (rests_after c.if-bare.still inside.resting.rests.items c.args.p (inside.taken + 1) kind)
-    (changed_after c.if-bare.still inside.resting.changed (inside.taken + 1)) (inside.taken + 1) =
-    noted_after code groups inside.resting.rests.items inside.resting.changed inside.taken c.if-bare.still (world inside.parts) (world after)
+    let noted : AreNoted code groups (world after) (rests_after c.if-quiet.still inside.resting.rests.items c.args.p (inside.taken + 1) kind)
+    (changed_after c.if-quiet.still inside.resting.changed (inside.taken + 1)) (inside.taken + 1) =
+    noted_after code groups inside.resting.rests.items inside.resting.changed inside.taken c.if-quiet.still (world inside.parts) (world after)
     (inside.taken + 1) c.args.p told kind c.self.invariant.noted c.self.invariant.freed turned.ensures.turned refl
-    (λ e. subst (λ (procs : List Process). IsBare (slice_get (processes_of procs) c.args.p)) c.deref.ensures.value
-    (c.is_bare-bare.ensures ((both e).0)))
+    (λ e. bare_before code groups (inside.taken + 1) c.args.p (world inside.parts) (world after) told turned.ensures.turned ((both e).1)
+    ((both e).0))
     (λ e. (both e).1) in
     record {
       work = turned.ensures.at_work;
@@ -69,7 +74,7 @@ invariant_of-self g c =
           (subst (λ (rests : List Rest). AreNoted code groups (world after) rests c.note.new.self.changed (inside.taken + 1))
           (sym c.note.ensures.rests)
           (subst (λ changed.
-          AreNoted code groups (world after) (rests_after c.if-bare.still inside.resting.rests.items c.args.p (inside.taken + 1) kind) changed
+          AreNoted code groups (world after) (rests_after c.if-quiet.still inside.resting.rests.items c.args.p (inside.taken + 1) kind) changed
           (inside.taken + 1)) (sym c.note.ensures.changed) noted));
     }
 

@@ -72,7 +72,7 @@ returns-in-Stop-clause-came g c =
           c.run.new.memory.levels;
       at_line = false;
       status =
-          status_of c.status_here-self-inside.result;
+          status_of c.status_by-self-inside.result;
     }) c.run.new.mails) c.self.view_is
     (stop_comes code
     ((seen i.memory i.process i.at i.last_kept i.at_line i.status).process) c.args.mails.now c.args.there c.in-Stop.at
@@ -82,7 +82,7 @@ returns-in-Stop-clause-came g c =
       levels =
           ls;
       at_line = false;
-      status = status_of c.status_here-self-inside.result;
+      status = status_of c.status_by-self-inside.result;
     }) c.in-Stop.ensures.kept.0
     ∙ ap (λ (st : Stands). record {
       state = standing c.run.new.memory i.process c.in-Stop.at i.last_kept;
@@ -90,7 +90,7 @@ returns-in-Stop-clause-came g c =
           i.memory.levels;
       at_line = false;
       status = st;
-    }) c.status_here-self-inside.ensures) refl)
+    }) (c.status_by-self-inside.ensures ∙ sym c.in-Stop.ensures.done)) refl)
 
 pub returns-in-Accepts-clause-came : goal.returns-in-Accepts-clause-came
 returns-in-Accepts-clause-came g c =
