@@ -1,0 +1,20 @@
+use Rattle.std.proofs.Common.{◌≡◌, ◌≤◌, ◌+◌, ◌-◌, ◌++◌, take, drop, slice_set, vec_len, vec_capacity}
+use Rattle.rb_base.specs.Lines.{belonging}
+use Rattle.rb_back.specs.Noting.{Notes}
+use Rattle.rb_back.specs.Picture.{picture}
+use Rattle.rb_back.proofs.noting.note_block.Given as goal
+
+-- the words so far are shown as they are now
+abbrev pub invariant-loop-at : goal.invariant-loop-at
+invariant-loop-at g l =
+    let words = (picture l.fn.view).words in
+    let now = g.M.Final.words l.machine in
+    record {
+      shown : picture l.view
+          ≡ record (picture l.fn.view) {
+            words = slice_set words l.process (take l.at (belonging now l.process) ++ drop l.at (belonging words l.process));
+          };
+      noted : Notes now l.fn.changes.items l.changes.items (picture l.fn.view) (picture l.view);
+      len : vec_len l.changes ≤ vec_len l.fn.changes + (l.at - l.from);
+      room : vec_capacity l.fn.changes ≤ vec_capacity l.changes;
+    }

@@ -1,0 +1,19 @@
+//! Sessions: a run that is stepped forth and back, by undo.
+#![tactic(auto)]
+
+pub mod laws;
+mod loading;
+mod noting;
+pub mod order;
+pub mod rows;
+pub mod script;
+pub mod session;
+pub mod showing;
+pub mod shown;
+mod view;
+
+pub use order::Order;
+pub use script::Script;
+pub use session::Session;
+pub use showing::{Stopped, show_all};
+pub use shown::write_shown;
