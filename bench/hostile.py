@@ -86,6 +86,16 @@ def runs():
     yield "a record of a mebibyte", "plain", rejections, fill("", lambda n: f"{n + 1} p\n", ""), 1, 1
 
 
+def sessions():
+    """Sessions of a mebibyte, over a million turns."""
+    rejections = "program r; process p { var x; while 1 { x := 0; ensure x within 9 by { } else by { x := 1; } else error; } } end."
+    there_and_back = fill("", "step 1000000\nback 1000000\n", "show p\n")
+    yield "a million turns forth and back, and the beginning shown", rejections, "p 1000000\n", there_and_back, 0
+    yield "a million turns forth and back, with all shown at the end", rejections, "p 1000000\n", "step 1000000\nshow p\nback 1000000\nshow p\n", 0
+    yield "one place again and again", rejections, "p 1000000\n", fill("step 9\n", "show p\n", ""), 0
+    yield "comments", rejections, "p 1000000\n", fill("", "# show p\n", ""), 0
+
+
 def histories():
     """Histories of a mebibyte."""
     yield "each drop breaks the next message", 0, fill("process p\nprocess q\n", lambda n: f"point p\nsend a{n} p q\ntake a{n}\npoint q\nsend b{n} q p\ntake b{n}\n", "send z p q\ntake z\nfail p\n")
@@ -116,6 +126,8 @@ def cases():
             yield f"{command}: {name}", [command, "a"], {"a": text}, edition, status
     for name, command, source, second, edition, status in runs():
         yield f"{command}: {name}", [command, "a", "b"], {"a": source, "b": second}, edition, status
+    for name, source, schedule, text, status in sessions():
+        yield f"session: {name}", ["session", "a", "b", "c"], {"a": source, "b": schedule, "c": text}, 1, status
     for name, status, text in histories():
         yield f"domino: {name}", ["domino", "a"], {"a": text}, 1, status
     yield "trial: the largest number", ["trial", "18446744073709551615"], {}, 1, 0

@@ -1,7 +1,7 @@
 #!/usr/bin/env python3
 """Refuses the proved program one allocation, one read or one write after another, and looks at what it answers.
 
-An allocation that is refused is status 5, with nothing written, but that `plain` may have written a prefix; a read is status 3 with nothing
+An allocation that is refused is status 5, with nothing written, but that `plain` and `session` may have written a prefix; a read is status 3 with nothing
 written; a write is status 4 with a prefix. Where nothing is refused any more the answer is whole. Status 1 only where the program stands
 built, there is a C compiler, and an answer is another one. RBL may name another program.
 """
@@ -47,20 +47,21 @@ def compiler():
 
 def cases():
     """The commands, each with what it reads."""
-    yield "first edition", "examples/conversation.rbl", "examples/conversation.schedule"
-    yield "nested", "bench/nested.rbl", "bench/nested_10.schedule"
-    yield "second edition", None, None
+    yield "first edition", "buyer", "examples/conversation.rbl", "examples/conversation.schedule"
+    yield "nested", "p", "bench/nested.rbl", "bench/nested_10.schedule"
+    yield "second edition", "p", None, None
 
 
 def commands(folder):
     """The words of each command on each source, in a folder with its files."""
-    for name, source, schedule in cases():
-        for file, path, text in [("a", source, SECOND), ("b", schedule, "all 40\n")]:
+    for name, process, source, schedule in cases():
+        session = f"step 4\nshow {process}\nback 2\nshow {process}\nshow {process}\n"
+        for file, path, text in [("a", source, SECOND), ("b", schedule, "all 40\n"), ("c", None, session)]:
             with open(os.path.join(folder, file), "w", encoding="ascii") as out:
                 out.write(open(os.path.join(ROOT, path), encoding="ascii").read() if path else text)
         with open(os.path.join(folder, "r"), "wb") as out:
             out.write(answer(["survive", "a", "b"], folder)[1])
-        for words in [["run", "a", "b"], ["survive", "a", "b"], ["plain", "a", "r"], ["check", "a"], ["code", "a"], ["stuck", "a", "b"]]:
+        for words in [["run", "a", "b"], ["survive", "a", "b"], ["plain", "a", "r"], ["check", "a"], ["code", "a"], ["stuck", "a", "b"], ["session", "a", "b", "c"]]:
             yield f"{words[0]}, {name}", words
     shutil.copy(os.path.join(ROOT, "examples/domino.history"), os.path.join(folder, "a"))
     yield "domino", ["domino", "a"]
@@ -71,7 +72,7 @@ def is_right(words, refuse, status, written, whole):
     """Whether an answer in which a call was refused is one that may come."""
     if status != STATUS[refuse]:
         return False
-    if refuse == "write" or (refuse == "memory" and words[0] == "plain"):
+    if refuse == "write" or (refuse == "memory" and words[0] in ("plain", "session")):
         return whole.startswith(written) and (refuse == "memory" or written != whole)
     return written == b""
 

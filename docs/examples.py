@@ -13,7 +13,7 @@ from checking.program import PROGRAM, ROOT
 
 PAGES = ["README.md", *sorted(f"docs/{name}" for name in os.listdir(os.path.join(ROOT, "docs")) if name.endswith(".md"))]
 # How many checks there are of each kind, at least.
-LEAST = {"links": 1000, "blocks": 95, "command lines": 20, "code in tables": 50, "faults": 34, "exit statuses": 12, "replays": 50, "told by files": 28, "files named": 110}
+LEAST = {"links": 1000, "blocks": 97, "command lines": 20, "code in tables": 50, "faults": 37, "exit statuses": 12, "replays": 50, "told by files": 28, "files named": 110}
 
 
 def checks(kind):

@@ -3,7 +3,7 @@
 A block `rbl` is a source and a block `schedule` behind it its schedule; a block `given` is a record that somebody wrote, and `history` a
 history. Of these `output` is what `run` writes, `record` what `survive` does, `plain` what `plain` does of the last record, `standing` what
 `stuck` does, `refused` what `check` does, `code` what `code` does, and `left` what `domino` does; `trial` is what `trial` writes of the number
-in its first line. A name of a file behind the kind says that the file holds the block's text.
+in its first line. A block `session` is a session, and `shown` is what `session` writes of it. A name of a file behind the kind says that the file holds the block's text.
 
 A block `sh` that is one command line of `./rbl` is run at the top of the repository, and the next block is all that it writes. In other
 such blocks a line's comment begins with `accepted` or `refused ..` where it tells a verdict; each line is run.
@@ -24,8 +24,9 @@ WRITES = {
     "refused": ["check", "source"],
     "code": ["code", "source"],
     "left": ["domino", "history"],
+    "shown": ["session", "source", "schedule", "session"],
 }
-GIVES = {"rbl": "source", "schedule": "schedule", "given": "record", "record": "record", "history": "history"}
+GIVES = {"rbl": "source", "schedule": "schedule", "given": "record", "record": "record", "history": "history", "session": "session"}
 
 
 def blocks(page):

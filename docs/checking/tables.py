@@ -5,10 +5,10 @@ import re
 from .program import ROOT, Check, answer, answer_of, line_of, text_of
 
 PAGE = "docs/LANGUAGE.md"
-ROW = re.compile(r"^\| ([LXYSNTHV]\d+) \|(.*)\|$", re.MULTILINE)
+ROW = re.compile(r"^\| ([LXYSNTHBV]\d+) \|(.*)\|$", re.MULTILINE)
 PLACE = re.compile(r",? (?:at (\d+:\d+)|(?:on line|at turn) (\d+))")
 INSIDE = "program a; process p { {} } end."
-FAULTS = ["L0"] + [f"{kind}{n}" for kind, most in [("X", 5), ("Y", 2), ("S", 11), ("N", 13), ("T", 4), ("H", 5), ("V", 4)] for n in range(1, most + 1)]
+FAULTS = ["L0"] + [f"{kind}{n}" for kind, most in [("X", 5), ("Y", 2), ("S", 11), ("N", 13), ("T", 4), ("B", 3), ("H", 5), ("V", 4)] for n in range(1, most + 1)]
 # The examples that a cell tells in words.
 IN_WORDS = {
     "L0": " " * 1_048_577,
@@ -49,6 +49,8 @@ def answered(fault, text):
     kind = fault[0]
     if kind == "H":
         return answer_of("domino", [text if fault in ("H1", "H2") else FIRST_LINES["H"] + text])
+    if kind == "B":
+        return answer_of("session", [EMPTY, "p 1", text])
     if kind in "TV":
         source = waiting_source() if fault == "V4" else EMPTY
         return answer_of("run" if kind == "T" else "plain", [source, text])

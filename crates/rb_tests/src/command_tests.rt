@@ -5,9 +5,9 @@ use rb_top::Status;
 use std::alloc::Global;
 
 const USAGE: &str =
-    "usage: rbl run SOURCE SCHEDULE | survive SOURCE SCHEDULE | plain SOURCE RECORD | check SOURCE | code SOURCE | trial NUMBER | domino HISTORY | stuck SOURCE SCHEDULE\n";
+    "usage: rbl run SOURCE SCHEDULE | survive SOURCE SCHEDULE | plain SOURCE RECORD | check SOURCE | code SOURCE | trial NUMBER | session SOURCE SCHEDULE SESSION | domino HISTORY | stuck SOURCE SCHEDULE\n";
 
-const NO_COMMANDS: u8 = 25;
+const NO_COMMANDS: u8 = 27;
 
 // Words that give no command.
 fn no_command(n: u8) -> &'static [&'static str] {
@@ -36,6 +36,8 @@ fn no_command(n: u8) -> &'static [&'static str] {
         21 => &["trial", "x"],
         22 => &["trial", "18446744073709551616"],
         23 => &["trial", "000000000000000000000"],
+        24 => &["session", "a", "b"],
+        25 => &["session", "a", "b", "c", "d"],
         _ => &["Check", "a"],
     }
 }

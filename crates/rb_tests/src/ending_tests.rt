@@ -23,7 +23,7 @@ fn row(n: u8) -> (&'static [&'static str], u64, usize, u8, &'static str) {
             9,
             199,
             2,
-            "usage: rbl run SOURCE SCHEDULE | survive SOURCE SCHEDULE | plain SOURCE RECORD | check SOURCE | code SOURCE | trial NUMBER | domino HISTORY | stuck SOURCE SCHEDULE\n",
+            "usage: rbl run SOURCE SCHEDULE | survive SOURCE SCHEDULE | plain SOURCE RECORD | check SOURCE | code SOURCE | trial NUMBER | session SOURCE SCHEDULE SESSION | domino HISTORY | stuck SOURCE SCHEDULE\n",
         ),
         3 => (&["run", "a", "c"], 9, 99, 3, ""),
         4 => (&["run", "a", "b"], 0, 99, 4, ""),

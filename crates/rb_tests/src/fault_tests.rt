@@ -80,7 +80,7 @@ fn stops_at_each_fault(rt: HostRuntime) {
     }
 }
 
-const COMMANDS: u8 = 7;
+const COMMANDS: u8 = 8;
 
 // A command that writes something.
 fn command_row(n: u8) -> &'static [&'static str] {
@@ -91,6 +91,7 @@ fn command_row(n: u8) -> &'static [&'static str] {
         3 => &["code", "a"],
         4 => &["trial", "0"],
         5 => &["stuck", "a", "b"],
+        6 => &["session", "a", "b", "c"],
         _ => &["domino", "h"],
     }
 }
@@ -100,6 +101,7 @@ fn outcome(alloc: Global, n: u8, outside: &Outside) -> Option<(Status, MemorySin
         (b"a".as_slice(), SOURCE.as_bytes()),
         (b"b".as_slice(), SCHEDULE.as_bytes()),
         (b"r".as_slice(), b"1 p\n2 p".as_slice()),
+        (b"c".as_slice(), b"show p\nstep 2\nshow p".as_slice()),
         (b"h".as_slice(), b"process p\npoint p\nfail p".as_slice()),
     ];
     called(alloc, command_row(n), &files, outside)

@@ -32,6 +32,8 @@ mod recovery_rows;
 #[cfg(test)]
 mod run_tests;
 #[cfg(test)]
+mod session_rows;
+#[cfg(test)]
 mod standing_rows;
 #[cfg(test)]
 mod survivor_rows;

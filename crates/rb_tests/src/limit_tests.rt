@@ -70,6 +70,8 @@ fn takes_no_more(alloc: Global, line: &[&str], start: &str) -> bool {
     let files = [
         (b"a".as_slice(), source),
         (b"b".as_slice(), text.as_bytes()),
+        (b"s".as_slice(), b"p 1".as_slice()),
+        (b"e".as_slice(), b"".as_slice()),
     ];
     let taken = writes_to_the_end(alloc, line, &files, 999, b"");
     if text.push('c').is_err() {
@@ -78,6 +80,8 @@ fn takes_no_more(alloc: Global, line: &[&str], start: &str) -> bool {
     let files = [
         (b"a".as_slice(), source),
         (b"b".as_slice(), text.as_bytes()),
+        (b"s".as_slice(), b"p 1".as_slice()),
+        (b"e".as_slice(), b"".as_slice()),
     ];
     taken
         && writes(
@@ -97,6 +101,8 @@ fn reads_no_more(rt: HostRuntime) {
     assert!(rt; takes_no_more(alloc, &["survive", "a", "b"], "p 1 #"));
     assert!(rt; takes_no_more(alloc, &["stuck", "a", "b"], "p 1 #"));
     assert!(rt; takes_no_more(alloc, &["plain", "a", "b"], "#"));
+    assert!(rt; takes_no_more(alloc, &["session", "a", "s", "b"], "#"));
+    assert!(rt; takes_no_more(alloc, &["session", "a", "b", "e"], "p 1 #"));
     assert!(rt; takes_no_more(alloc, &["domino", "b"], "process p\nfail p\n#"));
     assert!(rt; takes_no_more(alloc, &["check", "b"], "program a; process p { } end. #"));
     assert!(rt; takes_no_more(alloc, &["code", "b"], "program a; process p { } end. #"));

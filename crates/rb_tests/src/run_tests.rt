@@ -147,7 +147,7 @@ fn call_row(n: u8) -> Call {
             99,
             199,
             Status::Usage,
-            "usage: rbl run SOURCE SCHEDULE | survive SOURCE SCHEDULE | plain SOURCE RECORD | check SOURCE | code SOURCE | trial NUMBER | domino HISTORY | stuck SOURCE SCHEDULE\n",
+            "usage: rbl run SOURCE SCHEDULE | survive SOURCE SCHEDULE | plain SOURCE RECORD | check SOURCE | code SOURCE | trial NUMBER | session SOURCE SCHEDULE SESSION | domino HISTORY | stuck SOURCE SCHEDULE\n",
         ),
         1 => call_of(
             &["run", "a", "b", "c"],
@@ -155,7 +155,7 @@ fn call_row(n: u8) -> Call {
             99,
             199,
             Status::Usage,
-            "usage: rbl run SOURCE SCHEDULE | survive SOURCE SCHEDULE | plain SOURCE RECORD | check SOURCE | code SOURCE | trial NUMBER | domino HISTORY | stuck SOURCE SCHEDULE\n",
+            "usage: rbl run SOURCE SCHEDULE | survive SOURCE SCHEDULE | plain SOURCE RECORD | check SOURCE | code SOURCE | trial NUMBER | session SOURCE SCHEDULE SESSION | domino HISTORY | stuck SOURCE SCHEDULE\n",
         ),
         2 => call_of(
             &["run", "a", "-b"],
@@ -163,7 +163,7 @@ fn call_row(n: u8) -> Call {
             99,
             199,
             Status::Usage,
-            "usage: rbl run SOURCE SCHEDULE | survive SOURCE SCHEDULE | plain SOURCE RECORD | check SOURCE | code SOURCE | trial NUMBER | domino HISTORY | stuck SOURCE SCHEDULE\n",
+            "usage: rbl run SOURCE SCHEDULE | survive SOURCE SCHEDULE | plain SOURCE RECORD | check SOURCE | code SOURCE | trial NUMBER | session SOURCE SCHEDULE SESSION | domino HISTORY | stuck SOURCE SCHEDULE\n",
         ),
         3 => call_of(&["run", "a", "c"], 99, 99, 99, Status::ReadFault, ""),
         4 => call_of(&["run", "c", "b"], 99, 99, 99, Status::ReadFault, ""),

@@ -14,11 +14,15 @@ use Rattle.rb_judge.specs.Verdict.{IsAccepted, IsRefusedFor}
 use Rattle.rb_plain.specs.Record.{record_of}
 use Rattle.rb_make.specs.Trial.{schedule_of as made_schedule, source_of}
 use Rattle.rb_stuck.specs.Programs.{tree_standing_text}
-use Rattle.rb_top.specs.Words.{Run, Survive, Replay, Check, Compile, Trial, Analyse, Survey}
+use Rattle.rb_top.specs.Words.{Run, Survive, Replay, Check, Compile, Trial, Session, Analyse, Survey}
 use Rattle.rb_top.specs.Judgement.{Judgement, ReadsOn, RefusedWith, Writes, too_long_line, source_line, text_line, stuck_line, accepted_line, names_of, SourceRefused, long_source, bad_source, Accepted}
 use Rattle.rb_top.specs.Judgement.{ScheduleRefused, long_schedule, bad_schedule, ScheduleRuns, RecordRefused, RecordPlays, long_record, bad_record, stuck_record, survivors_text, summary_text}
 use Rattle.rb_top.specs.Judgement.{JudgesSource, at_first, source_refused, source_accepted, OverSchedule, reads_schedule, schedule_refused, runs, PlainGoesOn, reads_record, record_refused, plays}
 use Rattle.rb_top.specs.Judgement.{accepts, ListsCodeOf, lists, EndsBy, EndsWith, refused_here, written_here, later}
+use Rattle.rb_top.specs.Judgement.{ListsTurns, SessionGoesOn, SessionRefused, bad_session, long_session, reads_session, reads_turns, session_refused, shows, turns_refused}
+use Rattle.rb_back.specs.declared.order.Order.{Order}
+use Rattle.rb_back.specs.Script.{script_of}
+use Rattle.rb_back.specs.Shown.{tree_session_text}
 use Rattle.rb_top.specs.Laws.{AreJudged}
 use Rattle.rb_top.proofs.Histories.{history_judged}
 use Rattle.rb_top.proofs.BothTexts.{BothEnd, first_refused, second_refused, second_writes}
@@ -119,6 +123,84 @@ module _ (source kept : List ℕ) where
   over_record (inl (line, refused)) = (RefusedWith line, first_refused PlainGoesOn source kept line refused)
   over_record (inr (tree, accepted)) = recorded tree accepted (nat_lt MOST_BYTES (length kept)) refl
 
+-- ---- a schedule and a session
+
+module _ (source schedule session : List ℕ) where
+  abbrev Followed : Type 0
+  Followed = (v : Judgement) × EndsBy (JudgesSource SessionGoesOn) [] (source ∷ schedule ∷ session ∷ []) v
+
+  module _ (tree : Tree) (accepted : Accepted source tree) where
+    -- the schedule is read
+    with_schedule : (v : Judgement) → EndsBy (JudgesSource SessionGoesOn) (source ∷ schedule ∷ []) (session ∷ []) v → Followed
+    with_schedule v ends = (
+      v,
+      later [] source (schedule ∷ session ∷ []) v at_first
+          (later (source ∷ []) schedule (session ∷ []) v (source_accepted source tree [] ReadsOn accepted reads_turns) ends),
+    )
+
+    refuses_turns : (line : List ℕ) → ScheduleRefused tree schedule line → Followed
+    refuses_turns line refused =
+        with_schedule (RefusedWith line)
+        (refused_here (source ∷ schedule ∷ []) (session ∷ []) line
+        (source_accepted source tree (schedule ∷ []) (RefusedWith line) accepted (turns_refused schedule line refused)))
+
+    module _ (turns : List ℕ) (lists : ListsTurns tree schedule turns) where
+      -- and the session
+      with_session : (v : Judgement) → EndsBy (JudgesSource SessionGoesOn) (source ∷ schedule ∷ session ∷ []) [] v → Followed
+      with_session v ends =
+          with_schedule v
+          (later (source ∷ schedule ∷ []) session [] v
+          (source_accepted source tree (schedule ∷ []) ReadsOn accepted (reads_session schedule turns lists)) ends)
+
+      refuses_session : (line : List ℕ) → SessionRefused tree turns session line → Followed
+      refuses_session line refused =
+          with_session (RefusedWith line)
+          (refused_here (source ∷ schedule ∷ session ∷ []) [] line
+          (source_accepted source tree (schedule ∷ session ∷ []) (RefusedWith line) accepted
+          (session_refused schedule turns session line lists refused)))
+
+      -- it gives orders, or has a first fault
+      orders_read : (read : Result (List Order) TextFault) → length session ≤ MOST_BYTES → script_of (names_of tree) (length turns) session ≡ read
+          → Followed
+      orders_read (Ok orders) short e =
+          let text = tree_session_text tree turns orders in
+          with_session (Writes text)
+          (written_here (source ∷ schedule ∷ session ∷ []) [] text
+          (source_accepted source tree (schedule ∷ session ∷ []) (Writes text) accepted
+          (shows schedule turns session text lists (record { orders = orders; short = short; listed = e; is = refl }))))
+      orders_read (Err fault) short e = refuses_session (text_line fault) (bad_session fault short e refl)
+
+      -- it is too long, or not
+      session_measured : (long : Bool) → nat_lt MOST_BYTES (length session) ≡ long → Followed
+      session_measured true e = refuses_session too_long_line (long_session (ltb-true MOST_BYTES (length session) e) refl)
+      session_measured false e =
+          orders_read (script_of (names_of tree) (length turns) session) (ltb-false MOST_BYTES (length session) e) refl
+
+    -- the schedule is a list of turns, or has a first fault
+    turns_read : (read : Result (List ℕ) TextFault) → length schedule ≤ MOST_BYTES → schedule_of (names_of tree) schedule ≡ read → Followed
+    turns_read (Ok turns) short e = session_measured turns (record { short = short; listed = e }) (nat_lt MOST_BYTES (length session)) refl
+    turns_read (Err fault) short e = refuses_turns (text_line fault) (bad_schedule fault short e refl)
+
+    turns_measured : (long : Bool) → nat_lt MOST_BYTES (length schedule) ≡ long → Followed
+    turns_measured true e = refuses_turns too_long_line (long_schedule (ltb-true MOST_BYTES (length schedule) e) refl)
+    turns_measured false e = turns_read (schedule_of (names_of tree) schedule) (ltb-false MOST_BYTES (length schedule) e) refl
+
+  followed_over : Sourced source → Followed
+  followed_over (inl (line, refused)) = (
+    RefusedWith line,
+    later [] source (schedule ∷ session ∷ []) (RefusedWith line) at_first
+        (refused_here (source ∷ []) (schedule ∷ session ∷ []) line (source_refused source line refused)),
+  )
+  followed_over (inr (tree, accepted)) = turns_measured tree accepted (nat_lt MOST_BYTES (length schedule)) refl
+
+-- `session` reads three texts
+session_judged : (texts : List (List ℕ)) → length texts ≡ 3 → (v : Judgement) × EndsBy (JudgesSource SessionGoesOn) [] texts v
+session_judged [] three = absurd (omega (arith, three))
+session_judged (source ∷ []) three = absurd (omega (arith, three))
+session_judged (source ∷ schedule ∷ []) three = absurd (omega (arith, three))
+session_judged (source ∷ schedule ∷ session ∷ []) three = followed_over source schedule session (sourced source)
+session_judged (source ∷ schedule ∷ session ∷ other ∷ more) three = absurd (omega (arith, three))
+
 -- ---- commands that read two texts
 
 module _ (goes_on : Tree → List (List ℕ) → Judgement → Type 0)
@@ -212,5 +294,6 @@ are_judged Replay texts two = two_judged PlainGoesOn over_record texts two
 are_judged Check texts one = check_judged texts one
 are_judged Compile texts one = code_judged texts one
 are_judged (Trial n) texts none = trial_judged n texts none
+are_judged Session texts three = session_judged texts three
 are_judged Analyse texts one = history_judged texts one
 are_judged Survey texts two = two_judged (OverSchedule tree_standing_text) (over_schedule tree_standing_text) texts two

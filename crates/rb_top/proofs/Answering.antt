@@ -9,7 +9,10 @@ use Rattle.rb_outside.proofs.Puts.{failed_after}
 use Rattle.rb_run.specs.Surviving.{Survives}
 use Rattle.rb_run.specs.declared.surviving.Ended.{Ended as Survival}
 use Rattle.rb_run.specs.declared.surviving.Ended.TheVariants as survival
-use Rattle.rb_top.specs.Words.{Command, Run, Survive, Replay, Check, Compile, Trial, Analyse, Survey, Wanted, Request}
+use Rattle.rb_back.specs.Showing.{Shows}
+use Rattle.rb_back.specs.declared.showing.Stopped.{Stopped}
+use Rattle.rb_back.specs.declared.showing.Stopped.TheVariants as halted
+use Rattle.rb_top.specs.Words.{Command, Run, Survive, Replay, Check, Compile, Trial, Session, Analyse, Survey, Wanted, Request}
 use Rattle.rb_top.specs.declared.read.Unread.{Unread}
 use Rattle.rb_top.specs.declared.read.Unread.TheVariants.{Fault}
 use Rattle.rb_top.specs.declared.read.Unread.TheVariants as unread
@@ -21,7 +24,7 @@ use Rattle.rb_top.specs.Answers.{none_read, one_read, Ended, EndedIn, StoppedAt,
 use Rattle.rb_top.specs.Answers.{RanOutIn, ReadFails, by_fault, by_missing, WithRequest, WhereRequested}
 use Rattle.rb_top.specs.Read.{WasRead, WasReadIn, StandsAt, StandsAtIn, StopsForFault, StopsForFaultIn, StopsForMemory, OnUnread}
 use Rattle.rb_top.specs.Read as stops
-use Rattle.rb_top.specs.Stages.{HasReadSince, HasReadIn, StageEnds, WritingStageEnds, status_of_survival, status_of_unread}
+use Rattle.rb_top.specs.Stages.{HasReadSince, HasReadIn, StageEnds, WritingStageEnds, status_of_survival, status_of_following, status_of_unread}
 
 -- ---- what was written
 
@@ -49,6 +52,17 @@ survival_ends judged (Ok done) status text w0 w1 f0 f1 p e written = subst (Stag
 survival_ends judged (Err survival.WriteFault) status text w0 w1 f0 f1 p e written =
     subst (StageEnds judged w0 w1 f0 f1) (sym e) (text, inl written, p.err, p.failed)
 survival_ends judged (Err survival.Memory) status text w0 w1 f0 f1 p e written = subst (StageEnds judged w0 w1 f0 f1) (sym e) p
+
+-- a stage that wrote what a session shows
+pub following_ends : (judged : Judgement → Type 0) (r : Result (Unit {0}) Stopped) (status : Status) (text : List ℕ)
+    (w0 w1 : Option (List ℕ)) (f0 f1 : Faults) →
+    Shows text w0 w1 f0 f1 r → status ≡ status_of_following r → judged (Writes text) → WritingStageEnds judged w0 w1 f0 f1 status
+following_ends judged (Ok done) status text w0 w1 f0 f1 p e written =
+    subst (WritingStageEnds judged w0 w1 f0 f1) (sym e) (text, written, p.ok, p.quiet)
+following_ends judged (Err halted.WriteFault) status text w0 w1 f0 f1 p e written =
+    subst (WritingStageEnds judged w0 w1 f0 f1) (sym e) (text, inl written, p.err, p.failed)
+following_ends judged (Err halted.Memory) status text w0 w1 f0 f1 p e written =
+    subst (WritingStageEnds judged w0 w1 f0 f1) (sym e) (inr (text, written, p.0, p.1))
 
 -- ---- what was read of a file
 
@@ -204,8 +218,20 @@ nothing_by_then request Replay old new nothing = inl nothing
 nothing_by_then request Check old new nothing = nothing
 nothing_by_then request Compile old new nothing = nothing
 nothing_by_then request (Trial number) old new nothing = nothing
+nothing_by_then request Session old new nothing = inl nothing
 nothing_by_then request Analyse old new nothing = nothing
 nothing_by_then request Survey old new nothing = nothing
+
+-- a command that takes memory while it writes
+pub data TakesWhileWriting : Command → Type 0 where
+  replaying : TakesWhileWriting Replay
+  showing : TakesWhileWriting Session
+
+-- it may have written a front of its text by then
+front_written : (request : Request) (command : Command) (old new : Scene) → TakesWhileWriting command → WritesFront request old new
+    → WritesByThen request command old new
+front_written request command old new replaying front = inr front
+front_written request command old new showing front = inr front
 
 module _ (files others : Option (List File)) (request : Request) (texts : List (List ℕ)) (rest : List Wanted)
     (old now : List Start) (r0 r1 f0 f1 : Faults) (w0 w1 : Option (List ℕ))
@@ -237,23 +263,23 @@ module _ (files others : Option (List File)) (request : Request) (texts : List (
   )
 
   -- a front of the text was written by then
-  front_by_then : request.command ≡ Replay → (text : List ℕ) → judged (Writes text) → WrotePart w0 w1 text
+  front_by_then : TakesWhileWriting request.command → (text : List ℕ) → judged (Writes text) → WrotePart w0 w1 text
       → f1.count ≡ f0.count → WritesByThen request request.command before after
-  front_by_then is_plain text judged part quiet =
-      let front : WritesFront request before after = record { text = text; ended = ended (Writes text) judged; front = part; well = quiet } in
-      subst (λ (command : Command). WritesByThen request command before after) (sym is_plain) (inr front)
+  front_by_then takes text judged part quiet =
+      front_written request request.command before after takes
+      (record { text = text; ended = ended (Writes text) judged; front = part; well = quiet })
 
   -- each answer of one that takes memory while it writes
-  writing_stage_ended : request.command ≡ Replay → (status : Status) → WritingStageEnds judged w0 w1 f0 f1 status
+  writing_stage_ended : TakesWhileWriting request.command → (status : Status) → WritingStageEnds judged w0 w1 f0 f1 status
       → WithRequest request before after status
-  writing_stage_ended is_plain Done h = stage_ended Done h
-  writing_stage_ended is_plain Refused h = stage_ended Refused h
-  writing_stage_ended is_plain Usage h = absurd h
-  writing_stage_ended is_plain ReadFault h = absurd h
-  writing_stage_ended is_plain WriteFault h = stage_ended WriteFault h
-  writing_stage_ended is_plain Memory (inl still) = stage_ended Memory still
-  writing_stage_ended is_plain Memory (inr (text, judged, part, quiet)) =
-      (ends_short files request texts rest old now since, well, front_by_then is_plain text judged part quiet)
+  writing_stage_ended takes Done h = stage_ended Done h
+  writing_stage_ended takes Refused h = stage_ended Refused h
+  writing_stage_ended takes Usage h = absurd h
+  writing_stage_ended takes ReadFault h = absurd h
+  writing_stage_ended takes WriteFault h = stage_ended WriteFault h
+  writing_stage_ended takes Memory (inl still) = stage_ended Memory still
+  writing_stage_ended takes Memory (inr (text, judged, part, quiet)) =
+      (ends_short files request texts rest old now since, well, front_by_then takes text judged part quiet)
 
 -- What was read of the next file, all of it or as much as shows that it is too long, is one of the texts, and what a stage judges of it is
 -- judged of that text.
@@ -294,10 +320,10 @@ module _ (files others : Option (List File)) (request : Request) (texts : List (
       (λ read has judges. stage_ended files others request read rest old now r0 r1 f0 f1 w0 w1 has well judged judges status ends)
 
   -- and of one that takes memory while it writes
-  pub next_written : request.command ≡ Replay → WritingStageEnds judged w0 w1 f0 f1 status → NextAnswer
-  next_written is_plain ends =
+  pub next_written : TakesWhileWriting request.command → WritingStageEnds judged w0 w1 f0 f1 status → NextAnswer
+  next_written takes ends =
       next_text files request texts next rest old mid now bytes judged NextAnswer since goes_on was short long
-      (λ read has judges. writing_stage_ended files others request read rest old now r0 r1 f0 f1 w0 w1 has well judged judges is_plain status ends)
+      (λ read has judges. writing_stage_ended files others request read rest old now r0 r1 f0 f1 w0 w1 has well judged judges takes status ends)
 
 -- The answer of a command that reads no file.
 pub no_file_judged : (files : Option (List File)) (command : Command) (starts : List Start) (r f0 f1 : Faults)
@@ -348,6 +374,19 @@ pub read_others : (files : Option (List File)) (name bytes : List ℕ) (most : �
 read_others None name bytes most old mid was = tt
 read_others (Some files) name bytes most old mid was = ap (drop 1) was.started
 
+-- of starts that are the same, so are those before the newest
+pub dropped : (files : Option (List File)) (a b : List Start) → AreStarts files a b → AreStarts files (drop 1 a) (drop 1 b)
+dropped None a b same = tt
+dropped (Some files) a b same = ap (drop 1) same
+
+-- what was read by then was read before the newest start
+pub read_before : (files : Option (List File)) (request : Request) (texts : List (List ℕ)) (rest : List Wanted) (mid now : List Start)
+    → AreStarts files (drop 1 now) mid → HasReadIn files request texts rest (drop 1 mid) mid
+    → HasReadIn files request texts rest (drop 1 (drop 1 now)) (drop 1 now)
+read_before None request texts rest mid now same has = has
+read_before (Some files) request texts rest mid now same has =
+    subst (λ (st : List Start). HasReadSince files request texts rest (drop 1 st) st) (sym same) has
+
 pub read_again : (files : Option (List File)) (name bytes : List ℕ) (most : ℕ) (old mid : List Start)
     → WasReadIn files name most bytes old mid → WasReadIn files name most bytes (drop 1 mid) mid
 read_again None name bytes most old mid was = tt
@@ -394,6 +433,15 @@ still_by_then files request Replay a b r0 r1 f0 w0 new same (inr front) =
       front = front.front;
       well =
           front.well;
+    })
+still_by_then files request Session a b r0 r1 f0 w0 new same (inl nothing) = inl (record { written = nothing.written; faults = nothing.faults })
+still_by_then files request Session a b r0 r1 f0 w0 new same (inr front) =
+    inr (record {
+      text = front.text;
+      ended =
+          ended_of files request a b new.starts (Writes front.text) same front.ended;
+      front = front.front;
+      well = front.well;
     })
 still_by_then files request Check a b r0 r1 f0 w0 new same nothing = record { written = nothing.written; faults = nothing.faults }
 still_by_then files request Compile a b r0 r1 f0 w0 new same nothing = record { written = nothing.written; faults = nothing.faults }

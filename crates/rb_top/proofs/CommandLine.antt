@@ -26,8 +26,8 @@ use Rattle.clap.specs.declared.builder.value_parser.Reading.TheVariants.{AsWritt
 use Rattle.clap.proofs.WalkLemmas.{first_value-rows, walk_stopped}
 use Rattle.clap.proofs.FaultLemmas.{stopped_fault}
 use Rattle.clap.proofs.OnLiterals.{clap_on_literals}
-use Rattle.rb_top.specs.Words.{Request, analyse_of, check_of, code_of, forms, is_plain_word, named_in, plain_of, request_of, run_of, survey_of, survive_of, trial_number, trial_of, with_two}
-use Rattle.rb_top.specs.CommandLine.{command_with, program, request_given, required_word, trial_given, two_given}
+use Rattle.rb_top.specs.Words.{Request, analyse_of, check_of, code_of, forms, is_plain_word, named_in, plain_of, request_of, run_of, session_of, survey_of, survive_of, trial_number, trial_of, with_three, with_two}
+use Rattle.rb_top.specs.CommandLine.{command_with, program, request_given, required_word, three_given, trial_given, two_given}
 
 -- the program is one of which `clap` says all
 pub is_told : is_simple_and_free program ≡ true
@@ -165,6 +165,78 @@ module _ (name i j : Text) (first : bytes_eq i i ≡ true) (second : bytes_eq j 
         turn [] (held_at (row_of i a ∷ []) j b) 3 c plain'' refl two,
       ) (simp (first, ahead))
 
+-- one that takes three
+module _ (name i j k : Text) (first : bytes_eq i i ≡ true) (second : bytes_eq j j ≡ true) (third : bytes_eq k k ≡ true)
+    (ij : bytes_eq i j ≡ false) (ik : bytes_eq i k ≡ false) (jk : bytes_eq j k ≡ false)
+    (ji : bytes_eq j i ≡ false) (ki : bytes_eq k i ≡ false) (kj : bytes_eq k j ≡ false) where
+  abbrev three : Shape
+  three = leaf name (i ∷ j ∷ k ∷ [])
+
+  first_of_three : (a : Text) → is_plain_word a ≡ true → walked three.rules [] (standing nothing_held 1) a ≡ standing (held_at [] i a) 2
+  first_of_three a plain = next [] nothing_held 1 a plain refl three.rules
+
+  second_of_three : (a b : Text) → is_plain_word b ≡ true
+      → walked three.rules [] (standing (held_at [] i a) 2) b ≡ standing (held_at (row_of i a ∷ []) j b) 3
+  second_of_three a b plain = next [] (held_at [] i a) 2 b plain refl three.rules ∙ simp (first, ij)
+
+  third_of_three : (a b c : Text) → is_plain_word c ≡ true
+      → walked three.rules [] (standing (held_at (row_of i a ∷ []) j b) 3) c ≡ standing (held_at (row_of i a ∷ row_of j b ∷ []) k c) 4
+  third_of_three a b c plain = next [] (held_at (row_of i a ∷ []) j b) 3 c plain refl three.rules ∙ simp (second, ij, jk)
+
+  -- the three values that it finds
+  three-values : (a b c : Text) → is_plain_word a ≡ true → is_plain_word b ≡ true → is_plain_word c ≡ true →
+      (first_of i (rows_after three.rules [] (a ∷ b ∷ c ∷ [])) ≡ Some a) × ((first_of j (rows_after three.rules [] (a ∷ b ∷ c ∷ [])) ≡ Some b)
+      × (first_of k (rows_after three.rules [] (a ∷ b ∷ c ∷ [])) ≡ Some c))
+  three-values a b c plain plain' plain'' = (
+    rw (first_of_three a plain, second_of_three a b plain', third_of_three a b c plain'') (simp (first, second, third, ij, ik, jk, ji, ki, kj)),
+    (
+      rw (first_of_three a plain, second_of_three a b plain', third_of_three a b c plain'') (simp (first, second, third, ij, ik, jk, ji, ki, kj)),
+      rw (first_of_three a plain, second_of_three a b plain', third_of_three a b c plain'') (simp (first, second, third, ij, ik, jk, ji, ki, kj)),
+    ),
+  )
+
+  three-none : fault_at name (i ∷ j ∷ k ∷ []) [] ≡ MissingRequiredArgument ∷ []
+  unfolding clap_on_literals
+  three-none = refl
+
+  three-few : (a : Text) → is_plain_word a ≡ true → fault_at name (i ∷ j ∷ k ∷ []) (a ∷ []) ≡ MissingRequiredArgument ∷ []
+  unfolding walk_fault defaults_fault
+  three-few a plain = rw (turn [] nothing_held 1 a plain refl three, first_of_three a plain) (simp (first, ij, ik, ji, ki))
+
+  three-fewer : (a b : Text) → is_plain_word a ≡ true → is_plain_word b ≡ true
+      → fault_at name (i ∷ j ∷ k ∷ []) (a ∷ b ∷ []) ≡ MissingRequiredArgument ∷ []
+  unfolding walk_fault defaults_fault
+  three-fewer a b plain plain' =
+      rw (turn [] nothing_held 1 a plain refl three, first_of_three a plain, turn [] (held_at [] i a) 2 b plain' refl three, second_of_three a b plain')
+      (simp (first, second, ij, ik, jk, ji, ki, kj))
+
+  three-takes : (a b c : Text) → is_plain_word a ≡ true → is_plain_word b ≡ true → is_plain_word c ≡ true
+      → fault_at name (i ∷ j ∷ k ∷ []) (a ∷ b ∷ c ∷ []) ≡ []
+  unfolding walk_fault defaults_fault
+  three-takes a b c plain plain' plain'' =
+      rw (
+        turn [] nothing_held 1 a plain refl three,
+        first_of_three a plain,
+        turn [] (held_at [] i a) 2 b plain' refl three,
+        second_of_three a b plain',
+        turn [] (held_at (row_of i a ∷ []) j b) 3 c plain'' refl three,
+        third_of_three a b c plain'',
+      ) (simp (first, second, third, ij, ik, jk, ji, ki, kj))
+
+  three-many : (a b c d : Text) (more : List Text) → is_plain_word a ≡ true → is_plain_word b ≡ true → is_plain_word c ≡ true → is_plain_word d ≡ true
+      → fault_at name (i ∷ j ∷ k ∷ []) (a ∷ b ∷ c ∷ d ∷ more) ≡ UnknownArgument ∷ []
+  unfolding walk_fault
+  three-many a b c d more plain plain' plain'' last =
+      rw (
+        turn [] nothing_held 1 a plain refl three,
+        first_of_three a plain,
+        turn [] (held_at [] i a) 2 b plain' refl three,
+        second_of_three a b plain',
+        turn [] (held_at (row_of i a ∷ []) j b) 3 c plain'' refl three,
+        third_of_three a b c plain'',
+        turn [] (held_at (row_of i a ∷ row_of j b ∷ []) k c) 4 d last refl three,
+      ) (simp (first, second, ij, jk, ji))
+
 -- ---- the program
 
 abbrev top : Shape
@@ -288,6 +360,56 @@ stuck_agrees =
     (λ words. subcommand-name (codes "stuck") words (leaf (codes "stuck") (codes "SOURCE" ∷ codes "SCHEDULE" ∷ [])) refl refl refl)
     (λ given. refl) (λ words. refl)
 
+-- a command that takes three words
+module _ (name i j k : Text) (of : Text → Text → Text → Request) (first : bytes_eq i i ≡ true) (second : bytes_eq j j ≡ true) (third : bytes_eq k k ≡ true)
+    (ij : bytes_eq i j ≡ false) (ik : bytes_eq i k ≡ false) (jk : bytes_eq j k ≡ false)
+    (ji : bytes_eq j i ≡ false) (ki : bytes_eq k i ≡ false) (kj : bytes_eq k j ≡ false)
+    (fault : (words : List Text) → fault_of program (name ∷ words) ≡ or_else (fault_at name (i ∷ j ∷ k ∷ []) words) [])
+    (values : (words : List Text) → subcommand_of program (name ∷ words) ≡ Some (name, rows_after (leaf name (i ∷ j ∷ k ∷ [])).rules [] words))
+    (gives : (given : Text → Option Text) → request_given name given ≡ three_given of (given i) (given j) (given k))
+    (form : (words : List Text) → named_in forms name words ≡ with_three of words) where
+  three_agrees : (words : List Text) → list_all is_plain_word words ≡ true → Agrees (name ∷ words)
+  three_agrees [] plain = refused (some_fault _ _ _ _ (fault []) (three-none name i j k first second third ij ik jk ji ki kj)) (form [])
+  three_agrees (a ∷ []) plain =
+      let at = and_parts _ _ plain in
+      refused (some_fault _ _ _ _ (fault (a ∷ [])) (three-few name i j k first second third ij ik jk ji ki kj a at.0))
+      (asks name (a ∷ []) plain ∙ form (a ∷ []))
+  three_agrees (a ∷ b ∷ []) plain =
+      let at = and_parts _ _ plain in
+      let next = and_parts _ _ at.1 in
+      refused (some_fault _ _ _ _ (fault (a ∷ b ∷ [])) (three-fewer name i j k first second third ij ik jk ji ki kj a b at.0 next.0))
+      (asks name (a ∷ b ∷ []) plain ∙ form (a ∷ b ∷ []))
+  three_agrees (a ∷ b ∷ c ∷ []) plain =
+      let at = and_parts _ _ plain in
+      let next = and_parts _ _ at.1 in
+      let last = and_parts _ _ next.1 in
+      let given : Text → Option Text = λ id. first_of id (rows_after (leaf name (i ∷ j ∷ k ∷ [])).rules [] (a ∷ b ∷ c ∷ [])) in
+      let read = three-values name i j k first second third ij ik jk ji ki kj a b c at.0 next.0 last.0 in
+      let found : found_in (subcommand_of program (name ∷ a ∷ b ∷ c ∷ [])) ≡ Some (of a b c) =
+      ap found_in (values (a ∷ b ∷ c ∷ [])) ∙ gives given ∙ ap (λ x. three_given of x (given j) (given k)) read.0
+      ∙ ap (λ x. three_given of (Some a) x (given k)) read.1.0 ∙ ap (three_given of (Some a) (Some b)) read.1.1 in
+      taken
+      (no_fault _ _ (fault (a ∷ b ∷ c ∷ [])) (three-takes name i j k first second third ij ik jk ji ki kj a b c at.0 next.0 last.0))
+      (found ∙ sym (asks name (a ∷ b ∷ c ∷ []) plain ∙ form (a ∷ b ∷ c ∷ [])))
+  three_agrees (a ∷ b ∷ c ∷ d ∷ more) plain =
+      let at = and_parts _ _ plain in
+      let next = and_parts _ _ at.1 in
+      let last = and_parts _ _ next.1 in
+      let beyond = and_parts _ _ last.1 in
+      refused
+      (some_fault _ _ _ _ (fault (a ∷ b ∷ c ∷ d ∷ more))
+      (three-many name i j k first second third ij ik jk ji ki kj a b c d more at.0 next.0 last.0 beyond.0))
+      (asks name (a ∷ b ∷ c ∷ d ∷ more) plain ∙ form (a ∷ b ∷ c ∷ d ∷ more))
+
+-- `session` takes three
+session_agrees : (words : List Text) → list_all is_plain_word words ≡ true → Agrees (codes "session" ∷ words)
+session_agrees =
+    let ids = codes "SOURCE" ∷ codes "SCHEDULE" ∷ codes "SESSION" ∷ [] in
+    three_agrees (codes "session") (codes "SOURCE") (codes "SCHEDULE") (codes "SESSION") session_of refl refl refl refl refl refl refl refl refl
+    (λ words. fault-name (codes "session") words (leaf (codes "session") ids) refl refl refl)
+    (λ words. subcommand-name (codes "session") words (leaf (codes "session") ids) refl refl refl)
+    (λ given. refl) (λ words. refl)
+
 -- a command that takes one word, of which it makes something to ask for, or nothing
 module _ (name i : Text) (of : Text → Option Request) (same : bytes_eq i i ≡ true)
     (fault : (words : List Text) → fault_of program (name ∷ words) ≡ or_else (fault_at name (i ∷ []) words) [])
@@ -339,13 +461,14 @@ domino_agrees =
     (λ given a e. ap (option_map analyse_of) e) refl (λ a. refl) (λ a b more. refl)
 
 -- which command's name a word is
-pub record AreNamed (name : Text) (is_run is_survive is_plain is_check is_code is_trial is_domino is_stuck : Bool) : Type 0 where
+pub record AreNamed (name : Text) (is_run is_survive is_plain is_check is_code is_trial is_session is_domino is_stuck : Bool) : Type 0 where
   pub run : bytes_eq (codes "run") name ≡ is_run
   pub survive : bytes_eq (codes "survive") name ≡ is_survive
   pub plain : bytes_eq (codes "plain") name ≡ is_plain
   pub check : bytes_eq (codes "check") name ≡ is_check
   pub code : bytes_eq (codes "code") name ≡ is_code
   pub trial : bytes_eq (codes "trial") name ≡ is_trial
+  pub session : bytes_eq (codes "session") name ≡ is_session
   pub domino : bytes_eq (codes "domino") name ≡ is_domino
   pub stuck : bytes_eq (codes "stuck") name ≡ is_stuck
 
@@ -355,34 +478,35 @@ module _ (name : Text) (words : List Text) (plain : list_all is_plain_word (name
   of_named known agrees e = subst (λ n. Agrees (n ∷ words)) ((bytes_eq-Decides _ _).0 e) (agrees (and_parts _ _ plain).1)
 
   -- a name of no command
-  unnamed : AreNamed name false false false false false false false false → Agrees (name ∷ words)
+  unnamed : AreNamed name false false false false false false false false false → Agrees (name ∷ words)
   unnamed are =
       let parts = and_parts (is_plain_word name) _ plain in
-      let no_name : subcommand_met names idle name ≡ None = rw (are.run, are.survive, are.plain, are.check, are.code, are.trial, are.domino, are.stuck) refl in
+      let no_name : subcommand_met names idle name ≡ None = rw (are.run, are.survive, are.plain, are.check, are.code, are.trial, are.session, are.domino, are.stuck) refl in
       refused (λ none. let both : [] ≡ UnknownArgument ∷ InvalidSubcommand ∷ [] = sym none ∙ other_word name words parts.0 no_name in cc)
-      (asks name words parts.1 ∙ rw (are.run, are.survive, are.plain, are.check, are.code, are.trial, are.domino, are.stuck) refl)
+      (asks name words parts.1 ∙ rw (are.run, are.survive, are.plain, are.check, are.code, are.trial, are.session, are.domino, are.stuck) refl)
 
   -- the first word is a command's name, or none
-  named : (is_run is_survive is_plain is_check is_code is_trial is_domino is_stuck : Bool)
-      → AreNamed name is_run is_survive is_plain is_check is_code is_trial is_domino is_stuck → Agrees (name ∷ words)
-  named true b c d e f g h are = of_named (codes "run") (run_agrees words) are.run
-  named false true c d e f g h are = of_named (codes "survive") (survive_agrees words) are.survive
-  named false false true d e f g h are = of_named (codes "plain") (plain_agrees words) are.plain
-  named false false false true e f g h are = of_named (codes "check") (check_agrees words) are.check
-  named false false false false true f g h are = of_named (codes "code") (code_agrees words) are.code
-  named false false false false false true g h are = of_named (codes "trial") (trial_agrees words) are.trial
-  named false false false false false false true h are = of_named (codes "domino") (domino_agrees words) are.domino
-  named false false false false false false false true are = of_named (codes "stuck") (stuck_agrees words) are.stuck
-  named false false false false false false false false are = unnamed are
+  named : (is_run is_survive is_plain is_check is_code is_trial is_session is_domino is_stuck : Bool)
+      → AreNamed name is_run is_survive is_plain is_check is_code is_trial is_session is_domino is_stuck → Agrees (name ∷ words)
+  named true b c d e f g h i are = of_named (codes "run") (run_agrees words) are.run
+  named false true c d e f g h i are = of_named (codes "survive") (survive_agrees words) are.survive
+  named false false true d e f g h i are = of_named (codes "plain") (plain_agrees words) are.plain
+  named false false false true e f g h i are = of_named (codes "check") (check_agrees words) are.check
+  named false false false false true f g h i are = of_named (codes "code") (code_agrees words) are.code
+  named false false false false false true g h i are = of_named (codes "trial") (trial_agrees words) are.trial
+  named false false false false false false true h i are = of_named (codes "session") (session_agrees words) are.session
+  named false false false false false false false true i are = of_named (codes "domino") (domino_agrees words) are.domino
+  named false false false false false false false false true are = of_named (codes "stuck") (stuck_agrees words) are.stuck
+  named false false false false false false false false false are = unnamed are
 
 pub agrees : (words : List Text) → list_all is_plain_word words ≡ true → Agrees words
 agrees [] plain = refused (λ none. let both : [] ≡ MissingSubcommand ∷ [] = sym none ∙ no_words in cc) refl
 agrees (name ∷ words) plain =
     named name words plain (bytes_eq (codes "run") name) (bytes_eq (codes "survive") name) (bytes_eq (codes "plain") name)
     (bytes_eq (codes "check") name)
-    (bytes_eq (codes "code") name) (bytes_eq (codes "trial") name) (bytes_eq (codes "domino") name)
+    (bytes_eq (codes "code") name) (bytes_eq (codes "trial") name) (bytes_eq (codes "session") name) (bytes_eq (codes "domino") name)
     (bytes_eq (codes "stuck") name)
-    (record { run = refl; survive = refl; plain = refl; check = refl; code = refl; trial = refl; domino = refl; stuck = refl })
+    (record { run = refl; survive = refl; plain = refl; check = refl; code = refl; trial = refl; session = refl; domino = refl; stuck = refl })
 
 -- a word that is not plain names no command
 not_named : (name : Text) (words : List Text) → is_plain_word name ≡ false → named_in forms name words ≡ None

@@ -10,11 +10,14 @@ use Rattle.rb_base.specs.declared.limits.TheConstants.{MOST_BYTES}
 use Rattle.rb_sched.specs.Schedule.{schedule_of}
 use Rattle.rb_syntax.specs.Tree.{Tree}
 use Rattle.rb_stuck.specs.Programs.{tree_standing_text}
-use Rattle.rb_top.specs.Words.{Command, Run, Survive, Replay, Check, Compile, Trial, Analyse, Survey}
+use Rattle.rb_top.specs.Words.{Command, Run, Survive, Replay, Check, Compile, Trial, Session, Analyse, Survey}
 use Rattle.rb_top.specs.Judgement.{Judgement, ReadsOn, RefusedWith, Writes, SourceRefused, long_source, bad_source, source_line, text_line, stuck_line, Accepted}
 use Rattle.rb_top.specs.Judgement.{ScheduleRefused, long_schedule, bad_schedule, ScheduleRuns, RecordRefused, long_record, bad_record, stuck_record, RecordPlays}
 use Rattle.rb_top.specs.Judgement.{JudgesSource, at_first, source_refused, source_accepted, OverSchedule, names_of, reads_schedule, schedule_refused, runs, survivors_text, summary_text}
 use Rattle.rb_top.specs.Judgement.{PlainGoesOn, reads_record, record_refused, plays, CheckGoesOn, accepts, CodeGoesOn, ListsCodeOf, lists, Judges, EndsBy, refused_here, written_here, later}
+use Rattle.rb_top.specs.Judgement.{ListsTurns, SessionGoesOn, SessionRefused, SessionShows, bad_session, long_session, reads_session, reads_turns, session_refused, shows, turns_refused}
+use Rattle.rb_back.specs.declared.order.Order.{Order}
+use Rattle.rb_back.specs.Shown.{tree_session_text}
 use Rattle.rb_top.specs.Laws.{AreJudgedOnce}
 use Rattle.rb_top.proofs.Histories.{history_once}
 use Rattle.rb_judge.proofs.BlocksInOrder.{parsed_are_numbered}
@@ -135,6 +138,55 @@ plain_once source tree texts v w accepted (record_refused kept line r) (plays ag
 plain_once source tree texts v w accepted (plays kept text r) (record_refused again line s) = absurd (plays_stand tree kept text line r s)
 plain_once source tree texts v w accepted (plays kept text r) (plays again other s) = ap Writes (plays_once tree kept text other r s)
 
+-- ---- over a schedule and a session
+
+-- one list of turns
+turns_once : (tree : Tree) (schedule turns others : List ℕ) → ListsTurns tree schedule turns → ListsTurns tree schedule others → turns ≡ others
+turns_once tree schedule turns others a b = cc (a.listed, b.listed)
+
+module _ (tree : Tree) (turns session : List ℕ) where
+  -- one line for a session
+  session_once : (line other : List ℕ) → SessionRefused tree turns session line → SessionRefused tree turns session other → line ≡ other
+  session_once line other (long_session long a) (long_session again b) = a ∙ sym b
+  session_once line other (long_session long a) (bad_session fault short bad b) = not_both_lengths session long short
+  session_once line other (bad_session fault short bad a) (long_session long b) = not_both_lengths session long short
+  session_once line other (bad_session fault short bad a) (bad_session second again worse b) =
+      let same : fault ≡ second = cc (bad, worse) in a ∙ ap text_line same ∙ sym b
+
+  -- one text
+  shows_once : (text other : List ℕ) → SessionShows tree turns session text → SessionShows tree turns session other → text ≡ other
+  shows_once text other r s =
+      let same : r.orders ≡ s.orders = cc (r.listed, s.listed) in
+      r.is ∙ ap (λ (orders : List Order). tree_session_text tree turns orders) same ∙ sym s.is
+
+  -- a text is no refusal
+  shown_stands : (text line : List ℕ) → SessionShows tree turns session text → SessionRefused tree turns session line → ⊥
+  shown_stands text line r (long_session long e) = not_both_lengths session long r.short
+  shown_stands text line r (bad_session fault short bad e) = let listed = r.listed in cc (listed, bad)
+
+-- so `session` goes on in one way
+sessions_once : GoesOnOnce SessionGoesOn
+sessions_once source tree texts v w accepted reads_turns reads_turns = refl
+sessions_once source tree texts v w accepted (turns_refused schedule line r) (turns_refused again other s) =
+    ap RefusedWith (schedule_once tree schedule line other r s)
+sessions_once source tree texts v w accepted (turns_refused schedule line r) (reads_session again turns s) =
+    absurd (listed_stands tree schedule line turns s.short s.listed r)
+sessions_once source tree texts v w accepted (reads_session schedule turns r) (turns_refused again line s) =
+    absurd (listed_stands tree schedule line turns r.short r.listed s)
+sessions_once source tree texts v w accepted (reads_session schedule turns r) (reads_session again others s) = refl
+sessions_once source tree texts v w accepted (session_refused schedule turns session line l r) (session_refused again others repeated other m s) =
+    let same = turns_once tree schedule turns others l m in
+    ap RefusedWith (session_once tree others session line other (subst (λ ts. SessionRefused tree ts session line) same r) s)
+sessions_once source tree texts v w accepted (session_refused schedule turns session line l r) (shows again others repeated text m s) =
+    let same = turns_once tree schedule turns others l m in
+    absurd (shown_stands tree others session text line s (subst (λ ts. SessionRefused tree ts session line) same r))
+sessions_once source tree texts v w accepted (shows schedule turns session text l r) (session_refused again others repeated line m s) =
+    let same = turns_once tree schedule turns others l m in
+    absurd (shown_stands tree others session text line (subst (λ ts. SessionShows tree ts session text) same r) s)
+sessions_once source tree texts v w accepted (shows schedule turns session text l r) (shows again others repeated other m s) =
+    let same = turns_once tree schedule turns others l m in
+    ap Writes (shows_once tree others session text other (subst (λ ts. SessionShows tree ts session text) same r) s)
+
 -- ---- over a source alone
 
 -- `check` goes on in one way
@@ -196,6 +248,7 @@ judges_once Compile texts v w r s = source_judged_once CodeGoesOn codes_once tex
 judges_once (Trial n) texts v w r s =
     ends_once (JudgesSource (OverSchedule (summary_text n))) (source_judged_once (OverSchedule (summary_text n)) (runs_once (summary_text n))) []
     (source_of n ∷ made_schedule n ∷ []) v w r.1 s.1
+judges_once Session texts v w r s = source_judged_once SessionGoesOn sessions_once texts v w r s
 judges_once Analyse texts v w r s = history_once texts v w r s
 judges_once Survey texts v w r s = source_judged_once (OverSchedule tree_standing_text) (runs_once tree_standing_text) texts v w r s
 

@@ -15,6 +15,7 @@ pub mod Loaded
 pub mod Surveys
 pub mod Digits
 pub mod Scheduled
+pub mod Sessions
 pub mod Trials
 pub mod Recorded
 pub mod Behind

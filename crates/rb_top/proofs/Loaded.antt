@@ -30,6 +30,9 @@ use Rattle.rb_machine.specs.Worlds.{counts_of}
 use Rattle.rb_run.specs.Counting.{told_counts}
 use Rattle.rb_run.proofs.AsMeant.{text_as_meant}
 use Rattle.rb_run.proofs.Survived.{erased_over}
+use Rattle.rb_back.specs.declared.order.Order.{Order}
+use Rattle.rb_back.specs.Shown.{session_text, tree_session_text}
+use Rattle.rb_back.proofs.AsMeant.{session_agrees}
 use Rattle.rb_stuck.specs.Programs.{tree_standing_text, word_standing_text}
 use Rattle.rb_stuck.proofs.AsMeant.{code_stands}
 use Rattle.rb_top.specs.Judgement.{run_counts, survivors_text}
@@ -96,6 +99,15 @@ module _ (source : List ℕ) (prepared : Prepared) (accepted : IsPrepared source
   standing_as_meant turns =
       ap (λ (groups : List Membership). word_standing_text (code prepared.code) groups turns) groups_are
       ∙ code_stands source accepted.tree accepted.slots (code prepared.code) accepted.accepted accepted.is_code.frames accepted.is_code.stands turns
+
+  -- and so is what a session shows
+  pub session_as_meant : (turns : List ℕ) (orders : List Order)
+      → session_text (code prepared.code) (memberships (opening prepared.nested)) turns orders ≡ tree_session_text accepted.tree turns orders
+  session_as_meant turns orders =
+      ap (λ (groups : List Membership). session_text (code prepared.code) groups turns orders) groups_are
+      ∙ session_agrees accepted.tree (code prepared.code) accepted.is_code.stands.names_are
+      (accepted_code_agrees source accepted.tree accepted.slots (code prepared.code) accepted.accepted accepted.is_code.frames accepted.is_code.stands)
+      turns orders
 
   -- so is the text of each command over a schedule
   pub texts_as_meant : (product : Product) (turns : List ℕ)

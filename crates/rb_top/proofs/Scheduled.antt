@@ -21,7 +21,7 @@ scheduled_names names t printed =
     ∙ map-map (λ p. p.name) process_named t.processes
 
 -- those of code that was made of a source are those of its tree
-names_are : (source : List ℕ) (prepared : Prepared) (accepted : IsPrepared source prepared)
+pub names_are : (source : List ℕ) (prepared : Prepared) (accepted : IsPrepared source prepared)
     → process_names prepared.code.names ≡ names_of accepted.tree
 names_are source prepared accepted = scheduled_names prepared.code.names accepted.tree accepted.is_code.stands.names_are
 

@@ -1,5 +1,5 @@
 -- The source of a command, which several commands read and judge first, and the file after it: a schedule or a record.
-use Rattle.std.proofs.Common.{◌≡◌, ℕ, ◌<◌, ◌≤◌, List, [], ◌∷◌, length, Option, inl, inr, refl, arith}
+use Rattle.std.proofs.Common.{◌≡◌, ℕ, ◌<◌, ◌≤◌, List, [], ◌∷◌, length, Option, inl, inr, arith}
 use Rattle.rb_base.specs.declared.limits.TheConstants.{MOST_BYTES}
 use Rattle.rb_outside.specs.Outside.{File, Faults, Start}
 use Rattle.rb_syntax.specs.Plain.{tree as tree_of}
@@ -19,7 +19,7 @@ use Rattle.rb_top.specs.Judgement.{JudgesSource, at_first, source_refused, sourc
 use Rattle.rb_top.specs.Answers.{WithRequest}
 use Rattle.rb_top.specs.Read.{WasReadIn}
 use Rattle.rb_top.specs.Stages.{HasReadIn, HasSource, EndsForSchedule, EndsForSource, StageEnds, WritingStageEnds}
-use Rattle.rb_top.proofs.Answering.{next_judged, next_written, nothing_read, reads_text}
+use Rattle.rb_top.proofs.Answering.{TakesWhileWriting, next_judged, next_written, nothing_read, reads_text, replaying}
 
 -- how a stage ends that judged so also tells of what follows from its judgement
 pub stage_as : (P Q : Judgement → Type 0) (w0 w1 : Option (List ℕ)) (f0 f1 : Faults) (status : Status) → ((j : Judgement) → P j → Q j) →
@@ -41,6 +41,16 @@ writing_stage P w0 w1 f0 f1 Usage h = h
 writing_stage P w0 w1 f0 f1 ReadFault h = h
 writing_stage P w0 w1 f0 f1 WriteFault h = h
 writing_stage P w0 w1 f0 f1 Memory still = inl still
+
+pub writing_as : (P Q : Judgement → Type 0) (w0 w1 : Option (List ℕ)) (f0 f1 : Faults) (status : Status) → ((j : Judgement) → P j → Q j)
+    → WritingStageEnds P w0 w1 f0 f1 status → WritingStageEnds Q w0 w1 f0 f1 status
+writing_as P Q w0 w1 f0 f1 Done so h = stage_as P Q w0 w1 f0 f1 Done so h
+writing_as P Q w0 w1 f0 f1 Refused so h = stage_as P Q w0 w1 f0 f1 Refused so h
+writing_as P Q w0 w1 f0 f1 Usage so h = h
+writing_as P Q w0 w1 f0 f1 ReadFault so h = h
+writing_as P Q w0 w1 f0 f1 WriteFault so h = stage_as P Q w0 w1 f0 f1 WriteFault so h
+writing_as P Q w0 w1 f0 f1 Memory so (inl still) = inl still
+writing_as P Q w0 w1 f0 f1 Memory so (inr (text, judged, part, quiet)) = inr (text, so (Writes text) judged, part, quiet)
 
 -- ---- the source
 
@@ -94,16 +104,16 @@ module _ (goes_on : Tree → List (List ℕ) → Judgement → Type 0) (command 
   pub second_wanted : Judges command (source ∷ []) ReadsOn
   second_wanted = judges (source ∷ []) ReadsOn (source_accepted source tree [] ReadsOn accepted reads)
 
-  module _ (files others : Option (List File)) (name second : List ℕ) (old mid now : List Start) (bytes : List ℕ)
+  module _ (files others : Option (List File)) (name second : List ℕ) (rest : List Wanted) (old mid now : List Start) (bytes : List ℕ)
       (r0 r1 f0 f1 : Faults) (w0 w1 : Option (List ℕ)) (status : Status)
-      (since : HasReadIn files (record { command = command; files = text_named name ∷ text_named second ∷ [] })
-      (source ∷ []) (text_named second ∷ []) old mid)
+      (since : HasReadIn files (record { command = command; files = text_named name ∷ text_named second ∷ rest })
+      (source ∷ []) (text_named second ∷ rest) old mid)
       (was : WasReadIn files second MOST_BYTES bytes mid now) (well : r1.count ≡ r0.count)
       (still : (text : List ℕ) → MOST_BYTES < length bytes → MOST_BYTES < length text → (j : Judgement)
       → goes_on tree (bytes ∷ []) j → goes_on tree (text ∷ []) j) where
     abbrev pub SecondAnswer : Type 0
     SecondAnswer =
-        WithRequest (record { command = command; files = text_named name ∷ text_named second ∷ [] })
+        WithRequest (record { command = command; files = text_named name ∷ text_named second ∷ rest })
         (record { files = files; starts = old; read_faults = r0; written = w0; write_faults = f0 })
         (record { files = others; starts = now; read_faults = r1; written = w1; write_faults = f1 }) status
 
@@ -113,16 +123,16 @@ module _ (goes_on : Tree → List (List ℕ) → Judgement → Type 0) (command 
     -- each answer of a stage that judges it by what was read of it
     pub second_judged : StageEnds (goes_on tree (bytes ∷ [])) w0 w1 f0 f1 status → SecondAnswer
     second_judged =
-        next_judged files others (record { command = command; files = text_named name ∷ text_named second ∷ [] })
-        (source ∷ []) (text_named second) [] old mid now bytes
+        next_judged files others (record { command = command; files = text_named name ∷ text_named second ∷ rest })
+        (source ∷ []) (text_named second) rest old mid now bytes
         r0 r1 f0 f1 w0 w1 status (goes_on tree (bytes ∷ [])) since second_wanted was well
         (λ short j h. judges_second bytes j h) (λ long text longer j h. judges_second text j (still text long longer j h))
 
     -- and of one that takes memory while it writes
-    pub second_written : command ≡ Replay → WritingStageEnds (goes_on tree (bytes ∷ [])) w0 w1 f0 f1 status → SecondAnswer
+    pub second_written : TakesWhileWriting command → WritingStageEnds (goes_on tree (bytes ∷ [])) w0 w1 f0 f1 status → SecondAnswer
     second_written =
-        next_written files others (record { command = command; files = text_named name ∷ text_named second ∷ [] })
-        (source ∷ []) (text_named second) [] old mid now bytes
+        next_written files others (record { command = command; files = text_named name ∷ text_named second ∷ rest })
+        (source ∷ []) (text_named second) rest old mid now bytes
         r0 r1 f0 f1 w0 w1 status (goes_on tree (bytes ∷ [])) since second_wanted was well
         (λ short j h. judges_second bytes j h) (λ long text longer j h. judges_second text j (still text long longer j h))
 
@@ -165,7 +175,7 @@ module _ (product : Product) (files : Option (List File)) (source schedule : Lis
   schedule_judged others now bytes r0 r1 f0 f1 w0 w1 status was well ends =
       let tree = has.accepted.tree in
       second_judged (OverSchedule (text_for product)) (command_for product) (judges_for product) has.source tree accepted_source reads_schedule
-      files others source schedule old mid now bytes r0 r1 f0 f1 w0 w1 status has.read was well (long_schedules (text_for product) tree bytes)
+      files others source schedule [] old mid now bytes r0 r1 f0 f1 w0 w1 status has.read was well (long_schedules (text_for product) tree bytes)
       (stage_as (EndsForSchedule (text_for product) prepared bytes)
       (OverSchedule (text_for product) tree (bytes ∷ [])) w0 w1 f0 f1 status (λ j h. h has.source has.accepted) ends)
 
@@ -199,4 +209,4 @@ module _ (files : Option (List File)) (source kept : List ℕ) (judged : Judged)
   record_judged others now bytes r0 r1 f0 f1 w0 w1 status was well =
       let tree = tree_of judged.checked.program in
       second_written PlainGoesOn Replay (λ texts j h. h) has.source tree accepted_with reads_record
-      files others source kept old mid now bytes r0 r1 f0 f1 w0 w1 status has.read was well (long_records tree bytes) refl
+      files others source kept [] old mid now bytes r0 r1 f0 f1 w0 w1 status has.read was well (long_records tree bytes) replaying

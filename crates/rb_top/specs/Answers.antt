@@ -1,7 +1,7 @@
 -- What the top call answers when, what it has written by then, and which files it has started, and how far it has read them.
 use Rattle.std.specs.Prelude.{◌≡◌, ◌⊎◌, ℕ, ◌+◌, ◌<◌, ◌≤◌, true, List, [], ◌∷◌, ◌++◌, length, drop, Option, Some, None}
 use Rattle.rb_outside.specs.Outside.{File, Start, Faults, WrotePart, bytes_of, named, failed_once, was_missing, then_written}
-use Rattle.rb_top.specs.Words.{Command, Run, Survive, Replay, Check, Compile, Trial, Analyse, Survey, Wanted, Request}
+use Rattle.rb_top.specs.Words.{Command, Run, Survive, Replay, Check, Compile, Trial, Session, Analyse, Survey, Wanted, Request}
 use Rattle.rb_top.specs.Judgement.{Judgement, ReadsOn, RefusedWith, Writes, Judges, usage_line}
 use Rattle.rb_top.specs.declared.status.Status.{Status}
 use Rattle.rb_top.specs.declared.status.Status.TheVariants.{Done, Refused, Usage, ReadFault, WriteFault, Memory}
@@ -34,6 +34,10 @@ before_start scene = record {
   written = scene.written;
   write_faults = scene.write_faults;
 }
+
+-- and before the two newest
+abbrev pub before_both : Scene → Scene
+before_both scene = before_start (before_start scene)
 
 -- a file is read in pieces of so many bytes, at most
 abbrev pub piece_bytes : ℕ
@@ -176,7 +180,7 @@ pub record WritesFront (request : Request) (old new : Scene) : Type 0 where
   pub front : WrotePart old.written new.written text
   pub well : WritesWell old new
 
--- `plain` takes memory while it writes, so it may have written a prefix of its text by then; no other command has
+-- `plain` and `session` take memory while they write, so they may have written a prefix of their text by then; no other command has
 abbrev pub WritesByThen : Request → Command → Scene → Scene → Type 0
 WritesByThen request Replay old new = WritesNothing old new ⊎ WritesFront request old new
 WritesByThen request Run old new = WritesNothing old new
@@ -184,6 +188,7 @@ WritesByThen request Survive old new = WritesNothing old new
 WritesByThen request Check old new = WritesNothing old new
 WritesByThen request Compile old new = WritesNothing old new
 WritesByThen request (Trial number) old new = WritesNothing old new
+WritesByThen request Session old new = WritesNothing old new ⊎ WritesFront request old new
 WritesByThen request Analyse old new = WritesNothing old new
 WritesByThen request Survey old new = WritesNothing old new
 

@@ -2,7 +2,7 @@
 use Rattle.std.specs.Prelude.{ℕ, nat_eq, true, false, cond, List, [], ◌∷◌, map, codes, Option, None, option_and_then, option_map}
 use Rattle.std.specs.Cmp.Lexicographic.{pointwise}
 use Rattle.clap.specs.Words.{App, Rule, Shape, new_app, new_rule}
-use Rattle.rb_top.specs.Words.{Request, run_of, survive_of, plain_of, check_of, code_of, trial_number, trial_of, analyse_of, survey_of}
+use Rattle.rb_top.specs.Words.{Request, run_of, survive_of, plain_of, check_of, code_of, trial_number, trial_of, session_of, analyse_of, survey_of}
 
 -- an argument that has to be given, by its place
 abbrev pub required_word : List ℕ → Rule
@@ -33,6 +33,7 @@ commands =
     ∷ command_with (codes "check") (codes "SOURCE" ∷ [])
     ∷ command_with (codes "code") (codes "SOURCE" ∷ [])
     ∷ command_with (codes "trial") (codes "NUMBER" ∷ [])
+    ∷ command_with (codes "session") (codes "SOURCE" ∷ codes "SCHEDULE" ∷ codes "SESSION" ∷ [])
     ∷ command_with (codes "domino") (codes "HISTORY" ∷ [])
     ∷ command_with (codes "stuck") (codes "SOURCE" ∷ codes "SCHEDULE" ∷ []) ∷ []
 
@@ -43,6 +44,10 @@ program = record { top = record program_alone.top { is_leaf = false }; subs = co
 -- what two files that are given ask for
 abbrev pub two_given : (List ℕ → List ℕ → Request) → Option (List ℕ) → Option (List ℕ) → Option Request
 two_given of a b = option_and_then (λ x. option_map (of x) b) a
+
+-- and what three files ask for
+abbrev pub three_given : (List ℕ → List ℕ → List ℕ → Request) → Option (List ℕ) → Option (List ℕ) → Option (List ℕ) → Option Request
+three_given of a b c = option_and_then (λ x. two_given (of x) b c) a
 
 -- the trial of a number that is given
 abbrev pub trial_given : Option (List ℕ) → Option Request
@@ -57,5 +62,6 @@ request_given name given =
     (cond (pointwise nat_eq name (codes "check")) (option_map check_of (given (codes "SOURCE")))
     (cond (pointwise nat_eq name (codes "code")) (option_map code_of (given (codes "SOURCE")))
     (cond (pointwise nat_eq name (codes "trial")) (trial_given (given (codes "NUMBER")))
+    (cond (pointwise nat_eq name (codes "session")) (three_given session_of (given (codes "SOURCE")) (given (codes "SCHEDULE")) (given (codes "SESSION")))
     (cond (pointwise nat_eq name (codes "domino")) (option_map analyse_of (given (codes "HISTORY")))
-    (cond (pointwise nat_eq name (codes "stuck")) (two_given survey_of (given (codes "SOURCE")) (given (codes "SCHEDULE"))) None)))))))
+    (cond (pointwise nat_eq name (codes "stuck")) (two_given survey_of (given (codes "SOURCE")) (given (codes "SCHEDULE"))) None))))))))

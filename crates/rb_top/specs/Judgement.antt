@@ -25,7 +25,10 @@ use Rattle.rb_domino.specs.History.{Story, history_of}
 use Rattle.rb_domino.specs.Recovery.{outcome_of}
 use Rattle.rb_domino.specs.Written.{outcome_text}
 use Rattle.rb_stuck.specs.Programs.{tree_standing_text}
-use Rattle.rb_top.specs.Words.{Command, Run, Survive, Replay, Check, Compile, Trial, Analyse, Survey}
+use Rattle.rb_back.specs.declared.order.Order.{Order}
+use Rattle.rb_back.specs.Script.{script_of}
+use Rattle.rb_back.specs.Shown.{tree_session_text}
+use Rattle.rb_top.specs.Words.{Command, Run, Survive, Replay, Check, Compile, Trial, Session, Analyse, Survey}
 
 -- the line for a text that is too long
 abbrev pub too_long_line : List ℕ
@@ -47,7 +50,7 @@ stuck_line turn = codes "refused V4 at " ++ (decimal turn ++ codes "\n")
 
 -- the line for words that give no command
 abbrev pub usage_line : List ℕ
-usage_line = codes "usage: rbl run SOURCE SCHEDULE | survive SOURCE SCHEDULE | plain SOURCE RECORD | check SOURCE | code SOURCE | trial NUMBER | domino HISTORY | stuck SOURCE SCHEDULE\n"
+usage_line = codes "usage: rbl run SOURCE SCHEDULE | survive SOURCE SCHEDULE | plain SOURCE RECORD | check SOURCE | code SOURCE | trial NUMBER | session SOURCE SCHEDULE SESSION | domino HISTORY | stuck SOURCE SCHEDULE\n"
 
 -- the line for a source that is accepted
 abbrev pub accepted_line : List ℕ
@@ -151,6 +154,34 @@ pub data PlainGoesOn (tree : Tree) : List (List ℕ) → Judgement → Type 0 wh
   record_refused : (kept line : List ℕ) → RecordRefused tree kept line → PlainGoesOn tree (kept ∷ []) (RefusedWith line)
   plays : (kept text : List ℕ) → RecordPlays tree kept text → PlainGoesOn tree (kept ∷ []) (Writes text)
 
+-- The schedule of an accepted source is accepted, and lists these turns.
+pub record ListsTurns (tree : Tree) (schedule : List ℕ) (turns : List ℕ) : Type 0 where
+  pub short : length schedule ≤ MOST_BYTES
+  pub listed : schedule_of (names_of tree) schedule ≡ Ok turns
+
+-- The verdict on a session over turns of an accepted source: too long, or its first fault.
+pub data SessionRefused (tree : Tree) (turns text line : List ℕ) : Type 0 where
+  long_session : MOST_BYTES < length text → line ≡ too_long_line → SessionRefused tree turns text line
+  bad_session : (fault : TextFault) → length text ≤ MOST_BYTES → script_of (names_of tree) (length turns) text ≡ Err fault
+      → line ≡ text_line fault → SessionRefused tree turns text line
+
+-- The session is accepted, and this is the text of its orders over the run of the source's tree.
+pub record SessionShows (tree : Tree) (turns session text : List ℕ) : Type 0 where
+  pub orders : List Order
+  pub short : length session ≤ MOST_BYTES
+  pub listed : script_of (names_of tree) (length turns) session ≡ Ok orders
+  pub is : text ≡ tree_session_text tree turns orders
+
+-- `session`, with an accepted source: the schedule is read, and then it is refused, or the session is read, and is refused, or shows its text
+pub data SessionGoesOn (tree : Tree) : List (List ℕ) → Judgement → Type 0 where
+  reads_turns : SessionGoesOn tree [] ReadsOn
+  turns_refused : (schedule line : List ℕ) → ScheduleRefused tree schedule line → SessionGoesOn tree (schedule ∷ []) (RefusedWith line)
+  reads_session : (schedule turns : List ℕ) → ListsTurns tree schedule turns → SessionGoesOn tree (schedule ∷ []) ReadsOn
+  session_refused : (schedule turns session line : List ℕ) → ListsTurns tree schedule turns → SessionRefused tree turns session line
+      → SessionGoesOn tree (schedule ∷ session ∷ []) (RefusedWith line)
+  shows : (schedule turns session text : List ℕ) → ListsTurns tree schedule turns → SessionShows tree turns session text
+      → SessionGoesOn tree (schedule ∷ session ∷ []) (Writes text)
+
 -- `check`, with an accepted source: it says so
 pub data CheckGoesOn (tree : Tree) : List (List ℕ) → Judgement → Type 0 where
   accepts : (text : List ℕ) → text ≡ accepted_line → CheckGoesOn tree [] (Writes text)
@@ -202,6 +233,7 @@ Judges Check texts judgement = JudgesSource CheckGoesOn texts judgement
 Judges Compile texts judgement = JudgesSource CodeGoesOn texts judgement
 Judges (Trial n) texts judgement =
     (texts ≡ []) × EndsBy (JudgesSource (OverSchedule (summary_text n))) [] (source_of n ∷ made_schedule n ∷ []) judgement
+Judges Session texts judgement = JudgesSource SessionGoesOn texts judgement
 Judges Analyse texts judgement = JudgesHistory texts judgement
 Judges Survey texts judgement = JudgesSource (OverSchedule tree_standing_text) texts judgement
 

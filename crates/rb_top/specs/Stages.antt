@@ -5,7 +5,9 @@ use Rattle.rb_outside.specs.Outside.{File, Faults, Start, WrotePart, failed_once
 use Rattle.rb_syntax.specs.Tree.{Tree}
 use Rattle.rb_prepare.specs.Prepared.{IsPrepared}
 use Rattle.rb_prepare.specs.declared.preparing.Prepared.{Prepared}
-use Rattle.rb_top.specs.Judgement.{Judgement, ReadsOn, OverSchedule, RefusedWith, Writes, SourceRefused}
+use Rattle.rb_back.specs.declared.showing.Stopped.{Stopped}
+use Rattle.rb_back.specs.declared.showing.Stopped.TheVariants as stopped
+use Rattle.rb_top.specs.Judgement.{Judgement, ListsTurns, ReadsOn, OverSchedule, RefusedWith, SessionGoesOn, Writes, SourceRefused}
 use Rattle.rb_top.specs.Words.{Wanted, Request}
 use Rattle.rb_top.specs.Answers.{HasRead, HasReadUntold}
 use Rattle.rb_run.specs.declared.surviving.Ended.{Ended}
@@ -34,6 +36,16 @@ pub record HasSource (files : Option (List File)) (request : Request) (found : L
   pub accepted : found source
   pub read : HasReadIn files request (source ∷ []) rest old now
 
+-- The command has read a source, of which this was prepared, and a schedule of it, which lists these turns; these files are left.
+pub record HasTurns (files : Option (List File)) (request : Request) (prepared : Prepared) (turns : List ℕ) (rest : List Wanted)
+    (old now : List Start) : Type 0 where
+  pub source : List ℕ
+  pub schedule : List ℕ
+  pub short : length source ≤ MOST_BYTES
+  pub accepted : IsPrepared source prepared
+  pub lists : ListsTurns accepted.tree schedule turns
+  pub read : HasReadIn files request (source ∷ schedule ∷ []) rest old now
+
 -- what a refused source comes to
 abbrev pub EndsForSource : List ℕ → Judgement → Type 0
 EndsForSource source ReadsOn = ⊥
@@ -44,6 +56,12 @@ EndsForSource source (Writes text) = ⊥
 abbrev pub EndsForSchedule : (Tree → List ℕ → List ℕ) → Prepared → List ℕ → Judgement → Type 0
 EndsForSchedule text_of prepared schedule judgement =
     (source : List ℕ) (accepted : IsPrepared source prepared) → OverSchedule text_of accepted.tree (schedule ∷ []) judgement
+
+-- what a session comes to over turns, for whatever source and schedule these were made of
+abbrev pub EndsForSession : Prepared → List ℕ → List ℕ → Judgement → Type 0
+EndsForSession prepared turns session judgement =
+    (source : List ℕ) (accepted : IsPrepared source prepared) (schedule : List ℕ) → ListsTurns accepted.tree schedule turns
+    → SessionGoesOn accepted.tree (schedule ∷ session ∷ []) judgement
 
 -- How a stage ends that reads nothing more: it judged so, and wrote the text or the line of the refusal, or a write failed; or
 -- memory was wanting, before it wrote.
@@ -78,3 +96,9 @@ abbrev pub status_of_survival : Result (Unit {0}) Ended → Status
 status_of_survival (Ok done) = Done
 status_of_survival (Err ended.WriteFault) = WriteFault
 status_of_survival (Err ended.Memory) = Memory
+
+-- how it ends after a session was followed
+abbrev pub status_of_following : Result (Unit {0}) Stopped → Status
+status_of_following (Ok done) = Done
+status_of_following (Err stopped.WriteFault) = WriteFault
+status_of_following (Err stopped.Memory) = Memory

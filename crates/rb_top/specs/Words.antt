@@ -13,6 +13,7 @@ pub data Command : Type 0 where
   Check : Command
   Compile : Command
   Trial : (number : ℕ) → Command
+  Session : Command
   Analyse : Command
   Survey : Command
 
@@ -34,6 +35,7 @@ files_of Replay = 2
 files_of Check = 1
 files_of Compile = 1
 files_of (Trial number) = 0
+files_of Session = 3
 files_of Analyse = 1
 files_of Survey = 2
 
@@ -70,6 +72,13 @@ code_of source = record { command = Compile; files = text_named source ∷ [] }
 abbrev pub trial_of : ℕ → Request
 trial_of number = record { command = Trial number; files = [] }
 
+-- what a session shows of that run, stepping forth and back
+abbrev pub session_of : List ℕ → List ℕ → List ℕ → Request
+session_of source schedule session = record {
+  command = Session;
+  files = text_named source ∷ text_named schedule ∷ text_named session ∷ [];
+}
+
 -- what a failure leaves of the history under a name
 abbrev pub analyse_of : List ℕ → Request
 analyse_of history = record { command = Analyse; files = text_named history ∷ [] }
@@ -86,6 +95,14 @@ most_digits = 20
 abbrev pub trial_number : List ℕ → Option ℕ
 trial_number word =
     cond (is_number word && (nat_le (length word) most_digits && nat_lt (digits_value 0 word) (2 ^ 64))) (Some (digits_value 0 word)) None
+
+-- what a command asks for that takes three names
+abbrev pub with_three : (List ℕ → List ℕ → List ℕ → Request) → List (List ℕ) → Option Request
+with_three of [] = None
+with_three of (a ∷ []) = None
+with_three of (a ∷ b ∷ []) = None
+with_three of (a ∷ b ∷ c ∷ []) = Some (of a b c)
+with_three of (a ∷ b ∷ c ∷ d ∷ more) = None
 
 -- what a command asks for that takes two names
 abbrev pub with_two : (List ℕ → List ℕ → Request) → List (List ℕ) → Option Request
@@ -120,6 +137,7 @@ forms =
     ∷ record { name = codes "check"; with = with_one check_of }
     ∷ record { name = codes "code"; with = with_one code_of }
     ∷ record { name = codes "trial"; with = trial_with }
+    ∷ record { name = codes "session"; with = with_three session_of }
     ∷ record { name = codes "domino"; with = with_one analyse_of }
     ∷ record { name = codes "stuck"; with = with_two survey_of } ∷ []
 

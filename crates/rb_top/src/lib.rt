@@ -14,6 +14,7 @@ pub mod read;
 pub mod refuse;
 pub mod request;
 pub mod run_turns;
+pub mod session;
 pub mod source;
 pub mod status;
 pub mod summary;

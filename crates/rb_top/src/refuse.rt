@@ -79,7 +79,7 @@ pub fn put_usage<S: Sink>(out: &mut S) -> Result<(), Failed>
 {
     put(
         out,
-        b"usage: rbl run SOURCE SCHEDULE | survive SOURCE SCHEDULE | plain SOURCE RECORD | check SOURCE | code SOURCE | trial NUMBER | domino HISTORY | stuck SOURCE SCHEDULE\n",
+        b"usage: rbl run SOURCE SCHEDULE | survive SOURCE SCHEDULE | plain SOURCE RECORD | check SOURCE | code SOURCE | trial NUMBER | session SOURCE SCHEDULE SESSION | domino HISTORY | stuck SOURCE SCHEDULE\n",
     )
 }
 

@@ -18,21 +18,47 @@ use std::alloc::{AllocError, Global};
 #[derive(Clone, Copy)]
 pub enum Request<'a> {
     /// The run of a source over a schedule.
-    Run { source: &'a str, schedule: &'a str },
+    Run {
+        source: &'a str,
+        schedule: &'a str,
+    },
     /// The survivors of that run, as a record.
-    Survive { source: &'a str, schedule: &'a str },
+    Survive {
+        source: &'a str,
+        schedule: &'a str,
+    },
     /// The plain run of a source over a record.
-    Plain { source: &'a str, kept: &'a str },
+    Plain {
+        source: &'a str,
+        kept: &'a str,
+    },
     /// The check of a source.
-    Check { source: &'a str },
+    Check {
+        source: &'a str,
+    },
     /// The code of a source.
-    Code { source: &'a str },
+    Code {
+        source: &'a str,
+    },
     /// The trial of a number.
-    Trial { number: u64 },
+    Trial {
+        number: u64,
+    },
+    /// What a session shows of the run of a source over a schedule.
+    Session {
+        source: &'a str,
+        schedule: &'a str,
+        session: &'a str,
+    },
     /// What a failure leaves of a history.
-    Domino { history: &'a str },
+    Domino {
+        history: &'a str,
+    },
     /// How the run of a source over a schedule stands at its end.
-    Stuck { source: &'a str, schedule: &'a str },
+    Stuck {
+        source: &'a str,
+        schedule: &'a str,
+    },
 }
 
 /// What the words ask for, if they give a command. `Memory` may come for any words.
@@ -94,7 +120,8 @@ fn analyses<'a>(alloc: Global, line: Command<'a>) -> Result<Command<'a>, AllocEr
     requires { app_of line ≡ record program { subs = take 6 commands } }
     ensures { IfOk result (λ line. app_of line ≡ program) }
 {
-    line.subcommand(command_with(alloc, "domino", &["HISTORY"])?)?
+    line.subcommand(command_with(alloc, "session", &["SOURCE", "SCHEDULE", "SESSION"])?)?
+        .subcommand(command_with(alloc, "domino", &["HISTORY"])?)?
         .subcommand(command_with(alloc, "stuck", &["SOURCE", "SCHEDULE"])?)
 }
 
@@ -179,6 +206,15 @@ fn request_given<'a>(name: &str, given: &ArgMatches<'a>) -> Option<Request<'a>>
             .get_str("NUMBER")
             .and_then(|digits| trial_number(digits.as_bytes()))
             .map(|number| Request::Trial { number }),
+        "session" => given
+            .get_str("SOURCE")
+            .zip(given.get_str("SCHEDULE"))
+            .zip(given.get_str("SESSION"))
+            .map(|((source, schedule), session)| Request::Session {
+                source,
+                schedule,
+                session,
+            }),
         "domino" => given
             .get_str("HISTORY")
             .map(|history| Request::Domino { history }),

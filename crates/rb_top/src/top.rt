@@ -12,6 +12,7 @@ use crate::over_schedule::{Product, over_files};
 use crate::plain::plain_files;
 use crate::refuse::put_usage;
 use crate::request::{Request, requested};
+use crate::session::show_files;
 use crate::status::{Status, status_after};
 use crate::trial::try_number;
 use crate::words::Words;
@@ -78,6 +79,11 @@ fn answer<F: Shelf, S: Sink>(
         Request::Check { source } => check_file(alloc, source, shelf, out),
         Request::Code { source } => code_file(alloc, source, shelf, out),
         Request::Trial { number } => try_number(alloc, number, out),
+        Request::Session {
+            source,
+            schedule,
+            session,
+        } => show_files(alloc, source, schedule, session, shelf, out),
         Request::Domino { history } => analyse_file(alloc, history, shelf, out),
         Request::Stuck { source, schedule } => {
             over_files(alloc, Product::Standing, source, schedule, shelf, out)
