@@ -101,6 +101,19 @@ def same_for_longer_runs(folder, shim):
     return counts
 
 
+def same_for_sessions(folder, shim):
+    """The same for a session that goes back and shows, and for one that takes as many turns and is filled up by a comment."""
+    source = 'program r; process p { var x; x := 5; ensure x > 6 within 9 by { x := x + 1; } else by { x := x + 2; } else error; } end.'
+    shows = "step 4\nshow p\nback 2\nshow p\nshow p\n"
+    counts = []
+    for session in [shows, ("step 4\n#" + "." * len(shows))[: len(shows)]]:
+        for file, text in [("a", source), ("b", "p 20\n"), ("c", session)]:
+            with open(os.path.join(folder, file), "w", encoding="ascii") as out:
+                out.write(text)
+        counts.append(refused_in_turn(["session", "a", "b", "c"], folder, "memory", shim)[0])
+    return counts
+
+
 def main():
     if not os.path.exists(PROGRAM):
         print(f"refusals: not tried, for want of {PROGRAM}")
@@ -122,6 +135,9 @@ def main():
         short, long = same_for_longer_runs(folder, shim)
         if short != long:
             wrong.append(f"a run of 10 rounds takes memory {short} times, one of 23 {long} times")
+        shown, stepped = same_for_sessions(folder, shim)
+        if shown != stepped:
+            wrong.append(f"a session that goes back takes memory {shown} times, one that does not {stepped} times")
     told = ", ".join(f"{count} of {refuse}" for refuse, count in counted.items())
     print(f"refusals: {told} refused one by one; {len(wrong)} wrong")
     for line in wrong:
