@@ -4,3 +4,4 @@ pub mod Survey
 pub mod Wanted
 pub mod Programs
 pub mod Laws
+pub mod Rows

@@ -2,6 +2,7 @@
 #![tactic(auto)]
 
 pub mod laws;
+pub mod rows;
 pub mod standing;
 pub mod surveying;
 mod text;
