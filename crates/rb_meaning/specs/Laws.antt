@@ -1,6 +1,6 @@
 -- The laws of the meaning, of every nested program and every list of turns.
--- That members of a conversation pass its test line together and go back together, and that conversations nest, is Randell's
--- (1975); that an alternate which fails leaves no trace is from Horning, Lauer, Melliar-Smith, Randell (1974).
+-- That members of a conversation go on together and go back together, and that conversations nest, is Randell's (1975);
+-- that an alternate which fails leaves no trace is from Horning, Lauer, Melliar-Smith, Randell (1974).
 use Rattle.std.specs.Prelude.{◌≡◌, ◌≤◌, ◌+◌, ℕ, Bool, true, false, List, [], ◌∷◌, ◌++◌, length, map, filter, reverse, slice_get, Some, Ok}
 use Rattle.rb_base.specs.declared.event.Event.{Event}
 use Rattle.rb_base.specs.declared.event.Event.TheVariants.{Reject, RejectAll, Error, Pass, Done}

@@ -1,6 +1,6 @@
-//! The parser: from the bytes of a source to its tree, or to the first fault. Its tests stand in rb_top: a crate with tests is
-//! proved twice, and this one takes long. Wrong bodies that must be refused are those of rb_grammar (`must-fail`), since each
-//! edit of a crate asks for one more proof of it from nothing.
+//! The parser: from the bytes of a source to its tree, or to the first fault. Its tests stand in rb_tests, since a crate with
+//! tests is proved twice, and this one takes long. Wrong bodies that must be refused are those of rb_grammar (`must-fail`),
+//! since each edit of a crate asks for one more proof of it from nothing.
 #![tactic(auto)]
 
 mod connections;

@@ -88,8 +88,8 @@ fn write_processes<S: Sink, M: Final>(
     Ok(())
 }
 
-// How a process stands, and its variables.
-fn write_process<S: Sink, M: Final>(
+/// Writes how process p stands, and its variables. It takes no memory, and one tick at most for each word.
+pub fn write_process<S: Sink, M: Final>(
     out: &mut S,
     p: u32,
     process: &ProcessNames,

@@ -4,14 +4,12 @@ pub mod ListFacts
 pub mod LevelFacts
 pub mod LastLevels
 -- Induction over turns: the laws of an invariant, and that they keep it; invariants of each process alone; plain runs.
--- Related kinds: the laws, and that related worlds stay related and tell the same.
--- Images, and messages that are read another way: relations under which one side is a function of the other.
--- All of it at small kinds.
+pub mod Keeping
+-- Related kinds: the laws, and that related worlds stay related and tell the same; images, where one side is a function of the other.
+pub mod Relating
 -- Erasure: what survived a run, run alone, ends the same.
 pub mod Erasing
 -- The slots of channels.
 pub mod Slots
 -- Rejections stay inside, members go together, and no turn tells too much.
 pub mod Members
-pub mod Relating
-pub mod Keeping

@@ -89,7 +89,7 @@ abbrev pub is_last_of : {C : Type 0} → ℕ → Option (Level C) → Bool
 is_last_of c None = false
 is_last_of c (Some level) = is_of c level
 
--- a process stands at the test line of a conversation (Randell 1975)
+-- a process stands at the test line of a conversation, where it has passed its own acceptance test
 abbrev pub stands_at : {S C : Type 0} → ℕ → Process S C → Bool
 stands_at c q = q.at_line && is_last_of c (last_of q.levels)
 
@@ -120,7 +120,7 @@ alternate_of (Some talk) = talk.alternate
 abbrev pub all_leave : {S C M : Type 0} → Kind S C M → ℕ → World S C M → World S C M
 all_leave k c w = with_talks (change_at c first_again) (with_each (leaves k c) w)
 
--- a member came to the test line, which is passed once all members stand there (Randell 1975)
+-- a member came to the test line, which is passed once all members stand there
 abbrev pub at_test_line : {S C M : Type 0} → Kind S C M → ℕ → World S C M → Moved S C M
 at_test_line k c w = cond (all_stand k c w) (passed (Pass c (alternate_of (talk_at w c))) (all_leave k c w)) (took w)
 
