@@ -22,3 +22,4 @@ pub mod RunsEndByCopies
 pub mod LastOf
 pub mod InsideOut
 pub mod SoundRows
+pub mod OverlappingLoops

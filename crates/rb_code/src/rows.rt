@@ -2,7 +2,7 @@
 
 ghost use Rattle.rb_code.specs.SoundCode.Reached.{Reached};
 ghost use Rattle.rb_code.specs.WordMachine.Rows.{ConversationRun, OneRejectionListing, OneRejectionRun, SmallestListing, SmallestRun};
-ghost use Rattle.rb_code.specs.SoundCode.SoundRows.{IsTabled, IsUntabled, MiscountedAlternates, OneNameForTwo, ReservedNames, ThirdCounter, alternate_before_its_start, jump_between_procedures, jump_into_a_loop, jump_over_an_entry, message_behind_fail, small_loop, two_ways_back};
+ghost use Rattle.rb_code.specs.SoundCode.SoundRows.{IsTabled, IsUntabled, MiscountedAlternates, OneNameForTwo, ReservedNames, ThirdCounter, alternate_before_its_start, jump_between_procedures, jump_into_a_loop, jump_over_an_entry, message_behind_fail, overlapping_loops, small_loop, two_ways_back};
 
 /// How two programs are listed.
 pub fn listings()
@@ -20,6 +20,7 @@ pub fn word_runs()
 /// Codes that have a table.
 pub fn tabled_codes()
     ensures small_loop { IsTabled small_loop }
+    ensures overlapping_loops { IsTabled overlapping_loops }
     ensures message_behind_fail { IsTabled message_behind_fail }
     ensures alternate_before_its_start { IsTabled alternate_before_its_start }
 {}

@@ -4,13 +4,14 @@ use Rattle.rb_world.specs.Kind.{Membership}
 use Rattle.rb_code.specs.Instructions.Plain.{Code}
 use Rattle.rb_code.specs.WordMachine.Workspace.{Counting, Workspace, OpenCall, base_of, body_place, cursor_place, part_of}
 use Rattle.rb_code.specs.WordMachine.Act.{Sight, counter_at, here, place}
-use Rattle.rb_code.specs.SoundCode.Sound.{Fresh, MayPut, MayTake, Entry, Fine, HasTable, InRange, InnermostIs, IsAbove, IsBelow, IsLoop, IsSet, Loop, OpenBlock, Table, TopIs}
+use Rattle.rb_code.specs.SoundCode.Sound.{Fresh, MayPut, MayTake, Entry, Fine, HasTable, InRange, InnermostIs, IsAbove, IsBelow, IsSet, Loop, OpenBlock, Table, TopIs}
 use Rattle.rb_code.specs.SoundCode.Safe.{HasCall, HasTop, IsElement, IsThere, Ready, StayAbove}
 use Rattle.rb_code.specs.SoundCode.Stands.{BodyFits, Counts, Fits, IsAmong, IsMet, Levels, LoopsFit, ModeFits, OperandFits, OperandsFit}
 use Rattle.rb_code.specs.declared.instr.Spot.{Spot}
 use Rattle.rb_code.specs.declared.instr.Spot.TheVariants.{Global, Local}
 use Rattle.rb_code.specs.declared.instr.Instr.{Instr}
 use Rattle.rb_code.specs.declared.instr.Instr.TheVariants.{Turn, Push, Load, Prior, Bound, LoadAt, PriorAt, Store, StoreAt, Add, Sub, Mul, Div, Rem, Eq, Ne, Lt, Le, Gt, Ge, Neg, Not, Bool as ToBool, Jump, JumpZero, Frame, Drop, Text, Item, Print, Room, Put, There, Take, Call, Return, Fail, Enter, Start, Test, Done, Range, Again, Counter, Absent}
+use Rattle.rb_code.proofs.Looping.OpenLoops.{open_set}
 use Rattle.rb_code.proofs.Executing.OpenLevels.{Innermost, TopBelow, bases_rise, body_process, innermost, returnable, stays, stays_above}
 
 -- the words at the entry of the innermost level
@@ -47,10 +48,6 @@ set_there m k (loop ∷ around) (inl e) h = subst (λ j. IsThere (counter_at j m
     there None h = absurd h
     there (Some v) h = tt
 set_there m k (loop ∷ around) (inr s) h = set_there m k around s h.4
-
-pub loop_set : (k first last : ℕ) (loops : List Loop) → IsLoop k first last loops → IsSet k loops
-loop_set k first last [] h = absurd h
-loop_set k first last (loop ∷ around) h = inl (ap (λ l. l.counter) h)
 
 module _ (c : Code) (groups : List Membership) (t : Table) (has : HasTable c groups t) (see : Sight) (levels : Levels)
     (former : see.prior ≡ former_words levels) where
@@ -216,7 +213,7 @@ module _ (c : Code) (groups : List Membership) (t : Table) (has : HasTable c gro
     ready (Start b) at fine = met (Start b) at fine.0
     ready (Test b) at fine = let l = long in let r = some_top e.operands _ fine.3 in omega arith
     ready (Range k b) at fine = let l = long in let r = two_top e.operands _ fine.3 in (omega arith, fine.1)
-    ready (Again k b) at fine = set_there m k e.loops (loop_set k b a e.loops fine.1) fits.loops_fit
+    ready (Again k b) at fine = set_there m k e.loops (open_set _ e.loops fine.1) fits.loops_fit
     ready (Counter k) at fine =
         let l = long in (omega (arith, fine.1.0), set_there m k e.loops fine.0 fits.loops_fit)
     ready (Absent channel b) at fine = tt

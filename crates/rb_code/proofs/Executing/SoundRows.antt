@@ -4,9 +4,9 @@ use Rattle.std.specs.List.{IsDistinct}
 use Rattle.rb_world.proofs.ListFacts.{none_some, some_same}
 use Rattle.rb_code.specs.Instructions.Plain.{Block, Code, Part}
 use Rattle.rb_code.specs.SoundCode.Reached.{Reached, begins, leads, successors}
-use Rattle.rb_code.specs.SoundCode.Sound.{Mode, Fresh, MayTake, Begun, Free, Changed, BeginsAs, Entry, Has, IsLoop, IsMember, IsSoundAt, IsWeaker, Loop, OpenBlock, Table, TopIs, Within, end_of_loop, is_in}
+use Rattle.rb_code.specs.SoundCode.Sound.{Mode, Fresh, MayTake, Begun, Free, Changed, BeginsAs, Entry, Has, IsMember, IsOpen, IsSoundAt, IsWeaker, Loop, OpenBlock, Table, TopIs, Within, end_of_loop, is_in}
 use Rattle.rb_code.specs.SoundCode.SoundRows.{IsTabled, IsUntabled, MiscountedAlternates, OneNameForTwo, ReservedNames, ThirdCounter, alternate_before_its_start, joined_code, jump_between_procedures, jump_into_a_loop, jump_over_an_entry, message_behind_fail, small_loop, two_ways_back}
-use Rattle.rb_code.specs.SoundCode.WellFormed.{IsOpen, Joins, LoopsStayOpen}
+use Rattle.rb_code.specs.SoundCode.WellFormed.{Joins, LoopsStayOpen}
 use Rattle.rb_code.specs.declared.instr.Instr.{Instr}
 use Rattle.rb_code.specs.declared.instr.Instr.TheVariants.{Turn, Jump, Done, Range}
 use Rattle.rb_code.proofs.Tables.Tabled.{weaker_same}
@@ -16,11 +16,11 @@ abbrev or_none : Option (Option Entry) → Option Entry
 or_none None = None
 or_none (Some o) = o
 
-abbrev table_of : List (Option Entry) → Table
+abbrev pub table_of : List (Option Entry) → Table
 table_of es x = or_none (slice_get es x)
 
 -- each entry keeps this, at its address
-abbrev AllFrom : (ℕ → Entry → Type 0) → ℕ → List (Option Entry) → Type 0
+abbrev pub AllFrom : (ℕ → Entry → Type 0) → ℕ → List (Option Entry) → Type 0
 AllFrom P a [] = Unit {0}
 AllFrom P a (None ∷ es) = AllFrom P (a + 1) es
 AllFrom P a (Some e ∷ es) = P a e × AllFrom P (a + 1) es
@@ -32,11 +32,11 @@ all_from P (None ∷ es) a (suc k) e all at = subst (λ n. P n e) (omega arith) 
 all_from P (Some g ∷ es) a zero e all at = subst (λ n. P n e) (omega arith) (subst (P a) (some_same at) all.0)
 all_from P (Some g ∷ es) a (suc k) e all at = subst (λ n. P n e) (omega arith) (all_from P es (a + 1) k e all.1 at)
 
-all_at : (P : ℕ → Entry → Type 0) (es : List (Option Entry)) → AllFrom P 0 es → (x : ℕ) (e : Entry) → table_of es x ≡ Some e → P x e
+pub all_at : (P : ℕ → Entry → Type 0) (es : List (Option Entry)) → AllFrom P 0 es → (x : ℕ) (e : Entry) → table_of es x ≡ Some e → P x e
 all_at P es all x e at = subst (λ n. P n e) (omega arith) (all_from P es 0 x e all at)
 
 -- an entry of the main body of process 0
-abbrev main_entry : List (Option ℕ) → List OpenBlock → List Loop → Mode → Entry
+abbrev pub main_entry : List (Option ℕ) → List OpenBlock → List Loop → Mode → Entry
 main_entry operands blocks loops mode = record {
   within = record { process = 0; procedure = None };
   operands = operands;
@@ -47,11 +47,11 @@ main_entry operands blocks loops mode = record {
   mode = mode;
 }
 
-abbrev main_begin : ℕ → Entry
+abbrev pub main_begin : ℕ → Entry
 main_begin p = record (main_entry [] [] [] Changed) { within = record { process = p; procedure = None } }
 
 -- code without a `range`
-abbrev begins_loop : Instr → Bool
+abbrev pub begins_loop : Instr → Bool
 begins_loop (Range k b) = true
 begins_loop _ = false
 
@@ -101,7 +101,7 @@ loop_sound = (
       (
         record { fine = (tt, lit< tt, (λ s. s), (inl (lit< tt), weaker_same _, weaker_same _)); above = tt; around = refl },
         (
-          record { fine = (lit≤ tt, refl, weaker_same _, weaker_same _); above = tt; around = refl },
+          record { fine = (lit≤ tt, inl refl, weaker_same _, weaker_same _); above = tt; around = refl },
           (record { fine = (refl, refl, refl, refl); above = tt; around = refl }, tt),
         ),
       ),
@@ -304,7 +304,7 @@ two_ways_back_untabled tabled =
     let loops4 : four.0.loops ≡ the_loop ∷ [] = four.2.loops ∙ ap (λ ls. the_loop ∷ filter (is_in 4) ls) none3 in
     let five = led t 5 _ (has.each 4 four.0 four.1).fine.3 in
     let none5 : five.0.loops ≡ [] = five.2.loops ∙ ap (filter (is_in 5)) loops4 in
-    subst (IsLoop 0 4 5) none5 (has.each 5 five.0 five.1).fine.1) q) (has.each 3 three.0 three.1).fine.3
+    subst (IsOpen (record { counter = 0; first = 4; last = 5 })) none5 (has.each 5 five.0 five.1).fine.1) q) (has.each 3 three.0 three.1).fine.3
 
 -- a jump past a `range`
 pub jump_into_a_loop_untabled : IsUntabled jump_into_a_loop

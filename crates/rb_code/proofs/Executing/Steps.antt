@@ -12,12 +12,13 @@ use Rattle.rb_code.specs.SoundCode.Stands.{BeganBefore, Fits, IsAmong, Levels, R
 use Rattle.rb_code.specs.declared.instr.Instr.{Instr}
 use Rattle.rb_code.specs.declared.instr.Instr.TheVariants.{Turn, Push, Load, Prior, Bound, LoadAt, PriorAt, Store, StoreAt, Add, Sub, Mul, Div, Rem, Eq, Ne, Lt, Le, Gt, Ge, Neg, Not, Bool as ToBool, Jump, JumpZero, Frame, Drop, Text, Item, Print, Room, Put, There, Take, Call, Return, Fail, Enter, Start, Test, Done, Range, Again, Counter, Absent}
 use Rattle.rb_code.proofs.Executing.OpenLevels.{body_process}
-use Rattle.rb_code.proofs.Executing.Needs.{loop_set, set_there}
+use Rattle.rb_code.proofs.Executing.Needs.{set_there}
 use Rattle.rb_code.proofs.Executing.Weaker.{may_trap, rank}
 use Rattle.rb_code.proofs.Executing.Progress.{Most, Progress, StopsAt}
 use Rattle.rb_code.proofs.Executing.PlainSteps as plain
 use Rattle.rb_code.proofs.Executing.ChangingSteps as changing
 use Rattle.rb_code.proofs.Executing.CallSteps as calls
+use Rattle.rb_code.proofs.Looping.OpenLoops.{open_set}
 use Rattle.rb_code.proofs.Looping.CounterSteps as counters
 
 module _ (c : Code) (groups : List Membership) (t : Table) (see : Sight) (levels : Levels) (P : Workspace → Type 0)
@@ -100,7 +101,7 @@ module _ (c : Code) (groups : List Membership) (t : Table) (see : Sight) (levels
   goes (Range k b) at fine = counters.range_goes c groups t see levels P keeps a e operands m in_code fits began clean k b fine
   goes (Again k b) at fine =
       counters.again_goes c groups t see levels P keeps a e operands m in_code fits began clean k b
-      (set_there m k e.loops (loop_set k b a e.loops fine.1) fits.loops_fit) fine
+      (set_there m k e.loops (open_set _ e.loops fine.1) fits.loops_fit) fine
   goes (Counter k) at fine =
       plain.counter_goes c groups t see levels P keeps a e operands m in_code fits began clean k (set_there m k e.loops fine.0 fits.loops_fit)
       fine

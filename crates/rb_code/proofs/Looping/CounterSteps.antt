@@ -1,5 +1,5 @@
 -- `range` and `again`: a process stands again, in a loop or out of it.
-use Rattle.std.proofs.Common.{◌≡◌, ℕ, zero, suc, ◌+◌, ◌<◌, ◌≤◌, ℤ, pos, ◌+ℤ◌, ◌-ℤ◌, int_lt, nat_lt, Bool, true, false, cond, List, [], ◌∷◌, length, filter, slice_get, slice_set, Option, Some, None, Result, Ok, Err, refl, ap, sym, ◌∙◌, subst, arith, ltb-false}
+use Rattle.std.proofs.Common.{◌≡◌, ℕ, zero, suc, ◌+◌, ◌<◌, ◌≤◌, ℤ, pos, ◌+ℤ◌, ◌-ℤ◌, int_lt, nat_lt, Bool, true, false, cond, List, ◌∷◌, length, filter, slice_get, slice_set, Option, Some, None, Result, Ok, Err, refl, ap, ◌∙◌, subst, arith, ltb-false}
 use Rattle.std.proofs.lemmas.List.{length-set}
 use Rattle.rb_base.specs.declared.event.Cause.{Cause}
 use Rattle.rb_base.specs.declared.event.Cause.TheVariants.{Range as RangeCause}
@@ -10,13 +10,13 @@ use Rattle.rb_meaning.specs.Value.{span}
 use Rattle.rb_code.specs.Instructions.Plain.{Code}
 use Rattle.rb_code.specs.WordMachine.Workspace.{Counting, Workspace}
 use Rattle.rb_code.specs.WordMachine.Act.{Going, Outcome, Sight, act, counted_on, counter_at, counting, or_trap, ranged}
-use Rattle.rb_code.specs.SoundCode.Sound.{EndIs, Entry, Fine, IsAhead, IsLoop, IsSet, LeadsTo, Loop, Table, at_address, end_of_loop, is_in, with_operands}
+use Rattle.rb_code.specs.SoundCode.Sound.{EndIs, Entry, Fine, IsAhead, IsSet, LeadsTo, Loop, Table, at_address, end_of_loop, is_in, with_operands}
 use Rattle.rb_code.specs.SoundCode.Safe.{IsThere}
 use Rattle.rb_code.specs.SoundCode.Stands.{BeganBefore, Counts, Fits, Levels, LoopsFit, OperandsFit}
 use Rattle.rb_code.specs.declared.instr.Instr.TheVariants.{Range, Again}
-use Rattle.rb_code.proofs.Looping.OpenLoops.{fit_less, nearer, times_left}
+use Rattle.rb_code.proofs.Looping.OpenLoops.{fit_less, nearer, open_counts, times_left}
 use Rattle.rb_code.proofs.Looping.LoopEnds.{end_goes, loop_end_is}
-use Rattle.rb_code.proofs.Looping.LoopSteps.{begins, ended_fits, ends, goes_back, innermost_fits, left_at}
+use Rattle.rb_code.proofs.Looping.LoopSteps.{again_fits, begins, ended_fits, ends, goes_back, innermost_fits, left_at}
 use Rattle.rb_code.proofs.Executing.PlainSteps.{there_goes}
 use Rattle.rb_code.proofs.Executing.Weaker.{may_trap, mode_freed, rank, rank_freed}
 use Rattle.rb_code.proofs.Executing.Progress.{Most, Progress, goes_on, left_from_most, onward, or_trap_goes, two_go}
@@ -106,15 +106,12 @@ module _ (c : Code) (groups : List Membership) (t : Table) (see : Sight) (levels
       (clean (may_trap e.mode fine.0)) (λ n q. ranges k b x y ps rest n q fine.1 fine.2 h h2))
 
   -- at the end of a loop it goes back, or on
-  again_in : (k b : ℕ) (around : List Loop) (v : Counting) → e.loops ≡ record { counter = k; first = b; last = a } ∷ around
-      → counter_at k m ≡ Some v → Fine c groups t (Again k b) a e → Goes (counted_on k b (a + 1) v operands m)
-  again_in k b around v is set fine = by (int_lt v.now v.end) refl
+  again_in : (k b : ℕ) (v : Counting) → counter_at k m ≡ Some v → Fine c groups t (Again k b) a e
+      → Goes (counted_on k b (a + 1) v operands m)
+  again_in k b v is fine = by (int_lt v.now v.end) refl
     where
       loop : Loop
       loop = record { counter = k; first = b; last = a }
-
-      fit : LoopsFit m (loop ∷ around)
-      fit = subst (LoopsFit m) is fits.loops_fit
 
       after : Counting
       after = record { now = v.now +ℤ pos 1; end = v.end }
@@ -122,26 +119,20 @@ module _ (c : Code) (groups : List Membership) (t : Table) (see : Sight) (levels
       by : (d : Bool) → int_lt v.now v.end ≡ d
           → Goes (cond d (Going b operands (counting k (Some after) m)) (Going (a + 1) operands (counting k None m)))
       by true q =
-          let less : times_left (counter_at k m) ≡ suc (times_left (Some after)) = ap times_left set ∙ nearer v.now v.end q in
-          let most : times_left (Some v) < MOST_QUANTIFIED = subst Counts set fit.1 in
+          let counted = open_counts m loop e.loops fine.1 fits.loops_fit in
+          let less : times_left (counter_at k m) ≡ suc (times_left (Some after)) = ap times_left is ∙ nearer v.now v.end q in
+          let most : times_left (Some v) < MOST_QUANTIFIED = subst Counts is counted.1 in
           let few : Counts (Some after) = let l = nearer v.now v.end q in omega arith in
           counts b k (Some after) e.operands operands e.loops fine.2 fits.operands_fit
-          (fit_less (is_in b) (counting k (Some after) m) e.loops (subst (LoopsFit (counting k (Some after) m)) (sym is)
-          (innermost_fits (length c.instrs) m k after fits.counters_two fit.0 loop around refl few fit.2 fit.3 fit.4)))
-          (subst (λ ls. left_at (length c.instrs) (counting k (Some after) m) (filter (is_in b) ls) b < left_at (length c.instrs) m ls a)
-          (sym is) (goes_back (length c.instrs) m k after fits.counters_two fit.0 loop around a refl fit fine.0 (let l = fine.0 in omega arith) less))
+          (fit_less (is_in b) (counting k (Some after) m) e.loops
+          (again_fits (length c.instrs) m k after fits.counters_two counted.0 loop e.loops refl few fine.1 fits.loops_fit))
+          (goes_back (length c.instrs) m k after fits.counters_two counted.0 loop e.loops a refl fine.1 fits.loops_fit fine.0
+          (let l = fine.0 in omega arith) less)
       by false q =
           counts (a + 1) k None e.operands operands e.loops fine.3 fits.operands_fit
-          (subst (λ ls. LoopsFit (counting k None m) (filter (is_in (a + 1)) ls)) (sym is) (ended_fits m k loop around a refl refl fit))
-          (subst (λ ls. left_at (length c.instrs) (counting k None m) (filter (is_in (a + 1)) ls) (a + 1) < left_at (length c.instrs) m ls a)
-          (sym is) (ends (length c.instrs) m k loop around a refl refl fit (subst (BeganBefore (a + 1)) is began) in_code))
+          (ended_fits m k loop e.loops a refl refl fine.1 fits.loops_fit)
+          (ends m k loop e.loops a refl refl fine.1 fits.loops_fit (length c.instrs) began in_code)
 
   pub again_goes : (k b : ℕ) → IsThere (counter_at k m) → Fine c groups t (Again k b) a e → Goes (act c see (Again k b) a operands m)
   again_goes k b set fine =
-      there_goes (counter_at k m) (λ v. counted_on k b (a + 1) v operands m) Goes set
-      (λ v q. by v q e.loops refl fine.1)
-    where
-      by : (v : Counting) → counter_at k m ≡ Some v → (loops : List Loop) → e.loops ≡ loops → IsLoop k b a loops
-          → Goes (counted_on k b (a + 1) v operands m)
-      by v q [] is h = absurd h
-      by v q (loop ∷ around) is h = again_in k b around v (is ∙ ap (λ l. l ∷ around) h) q fine
+      there_goes (counter_at k m) (λ v. counted_on k b (a + 1) v operands m) Goes set (λ v q. again_in k b v q fine)

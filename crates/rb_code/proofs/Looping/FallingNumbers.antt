@@ -73,15 +73,15 @@ module _ (n most : ℕ) where
     opens zero (x ∷ loops) a b r few more lt in_code = absurd few
     opens (suc d) (x ∷ loops) a b r few more lt in_code = let h = opens d loops a b r few.1 more.1 lt in_code in omega arith
 
-    -- the innermost loop goes back to its first address, and is one time nearer to its end
-    pub goes_again : (d : ℕ) (loops : List (ℕ × ℕ)) (s a r : ℕ) → Few d (loops ++ (s, suc r) ∷ [])
-        → left d (loops ++ (s, r) ∷ []) s < left d (loops ++ (s, suc r) ∷ []) a
-    goes_again zero [] s a r few = absurd few
-    goes_again (suc d) [] s a r few =
+    -- a loop goes back to its first address, is one time nearer to its end, and leaves those inside it
+    pub goes_again : (d : ℕ) (loops : List (ℕ × ℕ)) (s a r : ℕ) (inner : List (ℕ × ℕ)) → Few d (loops ++ (s, suc r) ∷ inner)
+        → left d (loops ++ (s, r) ∷ []) s < left d (loops ++ (s, suc r) ∷ inner) a
+    goes_again zero [] s a r inner few = absurd few
+    goes_again (suc d) [] s a r inner few =
         let b = bounded d [] s tt in
-        let h = high_falls (suc r) r ((n + 1) * worth d) (left d [] a) (left d [] s) (omega arith) b in omega arith
-    goes_again zero (x ∷ loops) s a r few = absurd few
-    goes_again (suc d) (x ∷ loops) s a r few = let h = goes_again d loops s a r few.1 in omega arith
+        let h = high_falls (suc r) r ((n + 1) * worth d) (left d inner a) (left d [] s) (omega arith) b in omega arith
+    goes_again zero (x ∷ loops) s a r inner few = absurd few
+    goes_again (suc d) (x ∷ loops) s a r inner few = let h = goes_again d loops s a r inner few.1 in omega arith
 
     rest_bounded : (d : ℕ) (others : List (ℕ × ℕ)) (b : ℕ) → Few (suc d) others
         → left (suc d) others b < suc (n - begun_at others b) * worth (suc d)

@@ -6,10 +6,10 @@ use Rattle.std.proofs.lemmas.Option.{unwrap_or-slice_get}
 use Rattle.rb_base.specs.declared.limits.TheConstants.{MOST_QUANTIFIED}
 use Rattle.rb_code.specs.WordMachine.Workspace.{Counting, Workspace}
 use Rattle.rb_code.specs.WordMachine.Act.{counter_at, counting}
-use Rattle.rb_code.specs.SoundCode.Sound.{IsSet, Loop, is_in}
+use Rattle.rb_code.specs.SoundCode.Sound.{IsOpen, IsSet, Loop, is_in}
 use Rattle.rb_code.specs.SoundCode.Stands.{BeganBefore, Counts, LoopsFit}
 use Rattle.rb_code.proofs.Looping.FallingNumbers.{left, goes_ahead, goes_again, leaves, opens}
-use Rattle.rb_code.proofs.Looping.OpenLoops.{few_open, fit_less, not_three, open_loops, set_less, some_times, times_left}
+use Rattle.rb_code.proofs.Looping.OpenLoops.{few_open, fit_less, left_unset, not_three, open_loops, own_counter, set_less, some_times, times_left}
 
 -- a counter that is set or goes, and the others stay
 pub counter_same : (k : ℕ) (v : Option Counting) (m : Workspace) → k < length m.counters → counter_at k (counting k v m) ≡ v
@@ -94,6 +94,13 @@ behind_loop a loop high = by (is_in a loop) refl
     by true e = absurd (let h = leb-true a loop.last (and_parts (nat_le loop.first a) (nat_le a loop.last) e).1 in omega arith)
     by false e = e
 
+pub before_loop : (a : ℕ) (loop : Loop) → a < loop.first → is_in a loop ≡ false
+before_loop a loop low = by (is_in a loop) refl
+  where
+    by : (p : Bool) → is_in a loop ≡ p → is_in a loop ≡ false
+    by true e = absurd (let h = leb-true loop.first a (and_parts (nat_le loop.first a) (nat_le a loop.last) e).0 in omega arith)
+    by false e = e
+
 -- the filter of a list whose first element passes, and of one whose first does not
 pub keeps_first : (test : Loop → Bool) (loop : Loop) (around : List Loop) → test loop ≡ true
     → filter test (loop ∷ around) ≡ loop ∷ filter test around
@@ -175,7 +182,7 @@ module _ (n : ℕ) (m : Workspace) (k : ℕ) (v : Counting) (two : length m.coun
       let few = few_open n m (loop ∷ []) fit in
       subst (λ x. left n MOST_QUANTIFIED 2 ((loop.first, times_left (Some v)) ∷ []) loop.first < left n MOST_QUANTIFIED 2 ((loop.first, x) ∷ []) a)
       (sym less)
-      (goes_again n MOST_QUANTIFIED some_times 2 [] loop.first a (times_left (Some v)) (subst (λ x. x < MOST_QUANTIFIED) less few.0, tt))
+      (goes_again n MOST_QUANTIFIED some_times 2 [] loop.first a (times_left (Some v)) [] (subst (λ x. x < MOST_QUANTIFIED) less few.0, tt))
   again_at loop (y ∷ []) a fit in_code less = by (is_in loop.first y)
     where
       at_y : ℕ × ℕ
@@ -188,7 +195,7 @@ module _ (n : ℕ) (m : Workspace) (k : ℕ) (v : Counting) (two : length m.coun
           let few = few_open n m (loop ∷ y ∷ []) fit in
           subst (λ x. left n MOST_QUANTIFIED 2 (at_y ∷ (loop.first, times_left (Some v)) ∷ []) loop.first
           < left n MOST_QUANTIFIED 2 (at_y ∷ (loop.first, x) ∷ []) a) (sym less)
-          (goes_again n MOST_QUANTIFIED some_times 2 (at_y ∷ []) loop.first a (times_left (Some v))
+          (goes_again n MOST_QUANTIFIED some_times 2 (at_y ∷ []) loop.first a (times_left (Some v)) []
           (few.0, (subst (λ x. x < MOST_QUANTIFIED) less few.1.0, tt)))
       by false =
           let few = few_open n m (loop ∷ y ∷ []) fit in
@@ -198,10 +205,10 @@ module _ (n : ℕ) (m : Workspace) (k : ℕ) (v : Counting) (two : length m.coun
           ((loop.first, times_left (counter_at loop.counter m)) ∷ []) a loop.first few (low_v, tt) after (omega arith)
   again_at loop (y ∷ z ∷ more) a fit in_code less = absurd (not_three m loop y z more fit)
 
-  pub goes_back : (loop : Loop) (around : List Loop) (a : ℕ) → loop.counter ≡ k → LoopsFit m (loop ∷ around) → loop.first ≤ loop.last
+  innermost_back : (loop : Loop) (around : List Loop) (a : ℕ) → loop.counter ≡ k → LoopsFit m (loop ∷ around) → loop.first ≤ loop.last
       → loop.first < n → times_left (counter_at loop.counter m) ≡ suc (times_left (Some v))
       → left_at n set (filter (is_in loop.first) (loop ∷ around)) loop.first < left_at n m (loop ∷ around) a
-  goes_back loop around a e fit high in_code less =
+  innermost_back loop around a e fit high in_code less =
       let inside = in_loop loop.first loop (omega arith) high in
       let others = filter (is_in loop.first) around in
       let is : open_loops set (filter (is_in loop.first) (loop ∷ around)) ≡ open_loops m others ++ (loop.first, times_left (Some v)) ∷ [] =
@@ -209,21 +216,65 @@ module _ (n : ℕ) (m : Workspace) (k : ℕ) (v : Counting) (two : length m.coun
       ∙ innermost_is loop others e (λ s. fit.2 (subst (λ j. IsSet j around) (sym e) (set_less (is_in loop.first) k around s))) in
       subst (λ l. left n MOST_QUANTIFIED 2 l loop.first < left_at n m (loop ∷ around) a) (sym is) (again_at loop around a fit in_code less)
 
--- a loop ends at its last address, and its counter goes
-pub ends : (n : ℕ) (m : Workspace) (k : ℕ) (loop : Loop) (around : List Loop) (a : ℕ) → loop.counter ≡ k → loop.last ≡ a
-    → LoopsFit m (loop ∷ around) → BeganBefore (a + 1) (loop ∷ around) → a < n
-    → left_at n (counting k None m) (filter (is_in (a + 1)) (loop ∷ around)) (a + 1) < left_at n m (loop ∷ around) a
-ends n m k loop around a e last fit began in_code =
-    let is = drops_first (is_in (a + 1)) loop around (behind_loop (a + 1) loop (omega arith)) in
-    let unset : IsSet k (filter (is_in (a + 1)) around) → ⊥ =
-    λ s. fit.2 (subst (λ j. IsSet j around) (sym e) (set_less (is_in (a + 1)) k around s)) in
-    subst (λ l. left n MOST_QUANTIFIED 2 l (a + 1) < left_at n m (loop ∷ around) a)
-    (ap (open_loops m) is ∙ (sym (loops_other k None m (filter (is_in (a + 1)) around) unset) ∙ ap (open_loops (counting k None m)) (sym is)))
-    (ahead n m (loop ∷ around) a (a + 1) fit began (omega arith) in_code)
+  -- the outer one of two goes back before the first address of the inner one, which is left
+  outer_back : (inner loop : Loop) (a : ℕ) → loop.counter ≡ k → LoopsFit m (inner ∷ loop ∷ []) → loop.first ≤ loop.last
+      → times_left (counter_at loop.counter m) ≡ suc (times_left (Some v))
+      → left_at n set (filter (is_in loop.first) (inner ∷ loop ∷ [])) loop.first < left_at n m (inner ∷ loop ∷ []) a
+  outer_back inner loop a e fit high less =
+      let few = few_open n m (inner ∷ loop ∷ []) fit in
+      let at_inner : ℕ × ℕ = (inner.first, times_left (counter_at inner.counter m)) in
+      let is : open_loops set (filter (is_in loop.first) (inner ∷ loop ∷ [])) ≡ (loop.first, times_left (Some v)) ∷ [] =
+      ap (open_loops set) (drops_first (is_in loop.first) inner (loop ∷ []) (before_loop loop.first inner fit.3.0)
+      ∙ keeps_first (is_in loop.first) loop [] (in_loop loop.first loop (omega arith) high))
+      ∙ innermost_is loop [] e (λ s. s) in
+      subst (λ l. left n MOST_QUANTIFIED 2 l loop.first < left_at n m (inner ∷ loop ∷ []) a) (sym is)
+      (subst (λ x. left n MOST_QUANTIFIED 2 ((loop.first, times_left (Some v)) ∷ []) loop.first
+      < left n MOST_QUANTIFIED 2 ((loop.first, x) ∷ at_inner ∷ []) a) (sym less)
+      (goes_again n MOST_QUANTIFIED some_times 2 [] loop.first a (times_left (Some v)) (at_inner ∷ [])
+      (subst (λ x. x < MOST_QUANTIFIED) less few.0, few.1)))
 
-pub ended_fits : (m : Workspace) (k : ℕ) (loop : Loop) (around : List Loop) (a : ℕ) → loop.counter ≡ k → loop.last ≡ a
-    → LoopsFit m (loop ∷ around) → LoopsFit (counting k None m) (filter (is_in (a + 1)) (loop ∷ around))
-ended_fits m k loop around a e last fit =
-    subst (LoopsFit (counting k None m)) (sym (drops_first (is_in (a + 1)) loop around (behind_loop (a + 1) loop (omega arith))))
-    (fit_less (is_in (a + 1)) (counting k None m) around
-    (fit_other k None m around (λ s. fit.2 (subst (λ j. IsSet j around) (sym e) s)) fit.4))
+  -- an open loop goes back
+  pub goes_back : (loop : Loop) (loops : List Loop) (a : ℕ) → loop.counter ≡ k → IsOpen loop loops → LoopsFit m loops
+      → loop.first ≤ loop.last → loop.first < n → times_left (counter_at loop.counter m) ≡ suc (times_left (Some v))
+      → left_at n set (filter (is_in loop.first) loops) loop.first < left_at n m loops a
+  goes_back loop [] a e h fit high in_code less = absurd h
+  goes_back loop (x ∷ around) a e (inl is) fit high in_code less =
+      subst (λ l. left_at n set (filter (is_in loop.first) (l ∷ around)) loop.first < left_at n m (l ∷ around) a) (sym is)
+      (innermost_back loop around a e (subst (λ l. LoopsFit m (l ∷ around)) is fit) high in_code less)
+  goes_back loop (x ∷ []) a e (inr h) fit high in_code less = absurd h
+  goes_back loop (x ∷ y ∷ []) a e (inr (inl is)) fit high in_code less =
+      subst (λ l. left_at n set (filter (is_in loop.first) (x ∷ l ∷ [])) loop.first < left_at n m (x ∷ l ∷ []) a) (sym is)
+      (outer_back x loop a e (subst (λ l. LoopsFit m (x ∷ l ∷ [])) is fit) high less)
+  goes_back loop (x ∷ y ∷ []) a e (inr (inr h)) fit high in_code less = absurd h
+  goes_back loop (x ∷ y ∷ z ∷ more) a e (inr h) fit high in_code less = absurd (not_three m x y z more fit)
+
+  pub again_fits : (loop : Loop) (loops : List Loop) → loop.counter ≡ k → Counts (Some v) → IsOpen loop loops → LoopsFit m loops
+      → LoopsFit set loops
+  again_fits loop [] e count h fit = absurd h
+  again_fits loop (x ∷ around) e count (inl is) fit =
+      let own : x.counter ≡ k = ap (λ l. l.counter) is ∙ e in
+      innermost_fits x around own count (λ s. fit.2 (subst (λ j. IsSet j around) (sym own) s)) fit.3 fit.4
+  again_fits loop (x ∷ around) e count (inr h) fit = (
+    fit.0,
+    subst Counts (sym (counter_other x.counter k (Some v) m (λ same. own_counter m loop x around h fit (same ∙ sym e)))) fit.1,
+    fit.2,
+    fit.3,
+    again_fits loop around e count h fit.4,
+  )
+
+-- an open loop ends at its last address, and its counter goes
+module _ (m : Workspace) (k : ℕ) (loop : Loop) (loops : List Loop) (a : ℕ) (is : loop.counter ≡ k) (last : loop.last ≡ a)
+    (is_open : IsOpen loop loops) (fit : LoopsFit m loops) where
+  unset : IsSet k (filter (is_in (a + 1)) loops) → ⊥
+  unset s =
+      left_unset (is_in (a + 1)) m loop loops is_open fit (behind_loop (a + 1) loop (omega arith))
+      (subst (λ j. IsSet j (filter (is_in (a + 1)) loops)) (sym is) s)
+
+  pub ends : (n : ℕ) → BeganBefore (a + 1) loops → a < n
+      → left_at n (counting k None m) (filter (is_in (a + 1)) loops) (a + 1) < left_at n m loops a
+  ends n began in_code =
+      subst (λ l. left n MOST_QUANTIFIED 2 l (a + 1) < left_at n m loops a)
+      (sym (loops_other k None m (filter (is_in (a + 1)) loops) unset)) (ahead n m loops a (a + 1) fit began (omega arith) in_code)
+
+  pub ended_fits : LoopsFit (counting k None m) (filter (is_in (a + 1)) loops)
+  ended_fits = fit_other k None m (filter (is_in (a + 1)) loops) unset (fit_less (is_in (a + 1)) m loops fit)

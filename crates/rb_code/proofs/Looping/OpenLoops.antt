@@ -1,12 +1,12 @@
 -- The open loops of an entry, with how often each still goes back: they fall at each step ahead and at each `again`.
-use Rattle.std.proofs.Common.{◌≡◌, inl, inr, ℕ, zero, suc, ◌+◌, ◌<◌, ◌≤◌, ℤ, pos, negsuc, ◌+ℤ◌, ◌-ℤ◌, int_lt, nat_le, Bool, true, false, cond, List, [], ◌∷◌, ◌++◌, length, drop, filter, slice_get, Option, Some, None, unwrap_or, refl, ap, sym, ◌∙◌, subst, arith, leb-true}
+use Rattle.std.proofs.Common.{◌≡◌, inl, inr, ℕ, zero, suc, ◌+◌, ◌<◌, ◌≤◌, ℤ, pos, negsuc, ◌+ℤ◌, ◌-ℤ◌, int_lt, nat_le, Bool, true, false, cond, List, [], ◌∷◌, ◌++◌, length, drop, filter, slice_get, Option, Some, None, unwrap_or, refl, ap, sym, ◌∙◌, subst, arith, leb-true, true≢false}
 use Rattle.std.proofs.lemmas.Bool.{and_parts}
 use Rattle.std.proofs.lemmas.Int.{ints}
 use Rattle.rb_base.specs.declared.limits.TheConstants.{MOST_QUANTIFIED}
 use Rattle.rb_meaning.specs.Environment.{natural}
 use Rattle.rb_code.specs.WordMachine.Workspace.{Counting, Workspace}
 use Rattle.rb_code.specs.WordMachine.Act.{counter_at}
-use Rattle.rb_code.specs.SoundCode.Sound.{IsSet, Loop, is_in}
+use Rattle.rb_code.specs.SoundCode.Sound.{IsOpen, IsSet, Loop, is_in}
 use Rattle.rb_code.specs.SoundCode.Stands.{BeganBefore, Counts, LoopsFit}
 use Rattle.rb_code.proofs.Looping.FallingNumbers.{Few}
 
@@ -61,6 +61,23 @@ few_open n m (x ∷ []) h = (few_times (counter_at x.counter m) h.1, tt)
 few_open n m (x ∷ y ∷ []) h = (few_times (counter_at y.counter m) h.4.1, (few_times (counter_at x.counter m) h.1, tt))
 few_open n m (x ∷ y ∷ z ∷ more) h = absurd (not_three m x y z more h)
 
+-- an open loop has set its counter, which counts
+pub open_set : (loop : Loop) (loops : List Loop) → IsOpen loop loops → IsSet loop.counter loops
+open_set loop [] h = absurd h
+open_set loop (x ∷ around) (inl e) = inl (ap (λ l. l.counter) e)
+open_set loop (x ∷ around) (inr h) = inr (open_set loop around h)
+
+pub open_counts : (m : Workspace) (loop : Loop) (loops : List Loop) → IsOpen loop loops → LoopsFit m loops
+    → (loop.counter < 2) × Counts (counter_at loop.counter m)
+open_counts m loop [] h fit = absurd h
+open_counts m loop (x ∷ around) (inl e) fit = subst (λ (l : Loop). (l.counter < 2) × Counts (counter_at l.counter m)) e (fit.0, fit.1)
+open_counts m loop (x ∷ around) (inr h) fit = open_counts m loop around h fit.4
+
+-- no other open loop has its counter
+pub own_counter : (m : Workspace) (loop x : Loop) (around : List Loop) → IsOpen loop around → LoopsFit m (x ∷ around)
+    → x.counter ≡ loop.counter → ⊥
+own_counter m loop x around h fit e = fit.2 (subst (λ j. IsSet j around) (sym e) (open_set loop around h))
+
 -- some of the loops are left
 module _ (test : Loop → Bool) where
   pub set_less : (k : ℕ) (loops : List Loop) → IsSet k (filter test loops) → IsSet k loops
@@ -88,6 +105,26 @@ module _ (test : Loop → Bool) where
       by : LoopsFit m (filter test loops) → (b : Bool) → LoopsFit m (cond b (x ∷ filter test loops) (filter test loops))
       by others true = (low, count, (λ s. own (set_less x.counter loops s)), began_less x.first loops after, others)
       by others false = others
+
+  -- where an open loop is left, its counter is not set
+  pub left_unset : (m : Workspace) (loop : Loop) (loops : List Loop) → IsOpen loop loops → LoopsFit m loops → test loop ≡ false
+      → IsSet loop.counter (filter test loops) → ⊥
+  left_unset m loop [] h fit out s = h
+  left_unset m loop (x ∷ around) (inl e) fit out s =
+      by (set_less loop.counter around) (test x) (ap test e ∙ out) s
+    where
+      by : (IsSet loop.counter (filter test around) → IsSet loop.counter around) → (b : Bool) → b ≡ false
+          → IsSet loop.counter (cond b (x ∷ filter test around) (filter test around)) → ⊥
+      by less true q s = true≢false q
+      by less false q s = fit.2 (subst (λ (l : Loop). IsSet l.counter around) (sym e) (less s))
+  left_unset m loop (x ∷ around) (inr h) fit out s =
+      by (left_unset m loop around h fit.4 out) (test x) s
+    where
+      by : (IsSet loop.counter (filter test around) → ⊥) → (b : Bool)
+          → IsSet loop.counter (cond b (x ∷ filter test around) (filter test around)) → ⊥
+      by others true (inl e) = own_counter m loop x around h fit e
+      by others true (inr s) = others s
+      by others false s = others s
 
   less_long : (loops : List Loop) → length (filter test loops) ≤ length loops
   less_long [] = omega arith

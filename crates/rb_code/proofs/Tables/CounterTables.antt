@@ -62,7 +62,7 @@ module _ (c : Code) (groups : List Membership) (e : Entry) (above : IsAbove e.bl
         → ((t : Table) → R t → LeadsTo c groups t b (point e os loops after)) → TabledFirst c groups R last b (inside first last os)
     again_tabled R first last b os one low lies back next =
         plain_tabled c groups e above (loop_over k first last ∷ loops) after after q R (instr.Again k first) last b os os one lies
-        (λ t r leads. (low, refl, subst (λ m. LeadsTo c groups t first (point e os (loop_over k first last ∷ loops) m)) (sym q.is) (back t r), leads))
+        (λ t r leads. (low, inl refl, subst (λ m. LeadsTo c groups t first (point e os (loop_over k first last ∷ loops) m)) (sym q.is) (back t r), leads))
         (λ t r. left_behind t first last b os (let n = one.1 in omega arith) (next t r))
 
     -- the loop, of the code before its `again`

@@ -150,10 +150,11 @@ abbrev pub IsAbove : List OpenBlock → ℕ → Type 0
 IsAbove [] words = Unit {0}
 IsAbove (block ∷ around) words = block.words ≤ words
 
--- the innermost open loop is one over this counter, from one address to another
-abbrev pub IsLoop : ℕ → ℕ → ℕ → List Loop → Type 0
-IsLoop k first last [] = ⊥
-IsLoop k first last (loop ∷ around) = loop ≡ record { counter = k; first = first; last = last }
+-- A loop is among these. That is what an `again` asks of its own: a loop that began inside it may be open there too, and is left on the
+-- way back.
+abbrev pub IsOpen : Loop → List Loop → Type 0
+IsOpen loop [] = ⊥
+IsOpen loop (inner ∷ around) = (inner ≡ loop) ⊎ IsOpen loop around
 
 -- a counter is set, or it is not
 abbrev pub IsSet : ℕ → List Loop → Type 0
@@ -343,7 +344,8 @@ module _ (c : Code) (groups : List Membership) (t : Table) where
       × EndIs (end_of_loop c k (a + 1)) (λ last.
       LeadsTo (a + 1) (record (with_operands ps e) { loops = record { counter = k; first = a + 1; last = last } ∷ e.loops }))))
   Fine (Again k b) a e =
-      (b ≤ a) × IsLoop k b a e.loops × LeadsTo b (with_operands e.operands e) × LeadsTo (a + 1) (with_operands e.operands e)
+      (b ≤ a) × IsOpen (record { counter = k; first = b; last = a }) e.loops × LeadsTo b (with_operands e.operands e)
+      × LeadsTo (a + 1) (with_operands e.operands e)
   Fine (Counter k) a e = IsSet k e.loops × Pushes a e
 
   abbrev pub FineAt : Option Instr → ℕ → Entry → Type 0

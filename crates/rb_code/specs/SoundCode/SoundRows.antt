@@ -68,6 +68,14 @@ jump_over_an_entry = code_of 0 (Jump 2 ∷ Enter 0 ∷ Turn ∷ Done ∷ []) [] 
 abbrev pub small_loop : Code
 small_loop = code_of 0 (Turn ∷ Push (pos 0) ∷ Push (pos 1) ∷ Range 0 5 ∷ Again 0 4 ∷ Done ∷ []) [] [] []
 
+-- Two loops may overlap: where the outer one goes back the inner one is left, and where it goes on only the inner one is open. Its own way
+-- back, at 9, is not reached.
+abbrev pub overlapping_loops : Code
+overlapping_loops =
+    code_of 0
+    (Turn ∷ Push (pos 0) ∷ Push (pos 1) ∷ Range 0 10 ∷ Push (pos 0) ∷ Push (pos 1) ∷ Range 1 10 ∷ Again 0 4 ∷ Jump 10 ∷ Again 1 7 ∷ Done ∷ [])
+    [] [] []
+
 -- The loop ends at the first way back: behind it the counter is not set, so no second one may stand there.
 abbrev pub two_ways_back : Code
 two_ways_back = code_of 0 (Turn ∷ Push (pos 0) ∷ Push (pos 1) ∷ Range 0 6 ∷ Again 0 4 ∷ Again 0 4 ∷ Done ∷ []) [] [] []

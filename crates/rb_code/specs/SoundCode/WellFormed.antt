@@ -1,5 +1,5 @@
 -- Sound code: what its lists and its conversations are, and that there is a table for its instructions.
-use Rattle.std.specs.Prelude.{◌≡◌, ◌⊎◌, ℕ, zero, suc, ◌+◌, ◌<◌, ◌≤◌, nat_eq, Bool, false, List, [], ◌∷◌, ◌++◌, length, map, slice_get, Option, Some, None}
+use Rattle.std.specs.Prelude.{◌≡◌, ℕ, zero, suc, ◌+◌, ◌<◌, ◌≤◌, nat_eq, Bool, false, List, ◌++◌, length, map, slice_get, Option, Some, None}
 use Rattle.std.specs.List.{All, IsDistinct, count_by}
 use Rattle.rb_base.specs.Limits.{most_processes, most_words}
 use Rattle.rb_base.specs.declared.edition.Edition.{Edition}
@@ -11,7 +11,7 @@ use Rattle.rb_world.specs.Text.{Naming, ProcessNaming, VariableNaming}
 use Rattle.rb_scope.specs.Spelled.{IsNaming, IsQuotable}
 use Rattle.rb_code.specs.Instructions.Plain.{Block, Code, Part, Procedure}
 use Rattle.rb_code.specs.SoundCode.Reached.{Reached}
-use Rattle.rb_code.specs.SoundCode.Sound.{Entry, HasTable, IsMember, Loop, Table, end_of_loop}
+use Rattle.rb_code.specs.SoundCode.Sound.{Entry, HasTable, IsMember, IsOpen, Table, end_of_loop}
 use Rattle.rb_code.specs.Agreement.StandsFor.{channels_from}
 use Rattle.rb_code.specs.declared.instr.Instr.{Instr}
 use Rattle.rb_code.specs.declared.instr.Instr.TheVariants.{Text, Jump, JumpZero, Room, Put, There, Take, Call, Enter, Start, Test, Range, Again, Counter, Absent}
@@ -148,11 +148,6 @@ abbrev pub JoinsOnce : Code → List Membership → List ℕ → Table → Type 
 JoinsOnce c groups counts t = (d m : ℕ) (group : Membership) → slice_get groups d ≡ Some group → IsMember m group.members
     → (b : ℕ) × (joins : Joins c t d m b) × (slice_get counts d ≡ Some (length joins.0.alternates))
     × ((other : ℕ) → Joins c t d m other → other ≡ b)
-
--- a loop is among these
-abbrev pub IsOpen : Loop → List Loop → Type 0
-IsOpen loop [] = ⊥
-IsOpen loop (inner ∷ around) = (inner ≡ loop) ⊎ IsOpen loop around
 
 -- Behind each `range` its loop is open at every address of the table, from its first one to its end.
 abbrev pub LoopsStayOpen : Code → Table → Type 0
