@@ -1,5 +1,5 @@
 -- The code of each statement can be added to any code so far.
-use Rattle.std.proofs.Common.{◌≡◌, ℕ, zero, suc, ◌+◌, List, [], ◌∷◌, ◌++◌, length, map, refl, sym, ap, ◌∙◌, subst}
+use Rattle.std.proofs.Common.{◌≡◌, ℕ, zero, suc, List, [], ◌∷◌, ◌++◌, length, map, refl, sym, ap, ◌∙◌, subst}
 use Rattle.std.specs.Prelude.{get_or}
 use Rattle.std.specs.Option.{unwrap_or}
 use Rattle.std.proofs.lemmas.Option.{slice_get-map, unwrap_or-slice_get}
@@ -19,6 +19,7 @@ use Rattle.rb_draft.proofs.Emits.{as_if, both, one, quoted}
 use Rattle.rb_gen.proofs.Exists.{Makes, add, expression_made, makes_nothing, makes_one, makes_then}
 use Rattle.rb_draft.proofs.Growing.{same_length}
 use Rattle.rb_gen.proofs.RecoveryRows.{first_alternate, further, no_alternate, no_other, recovered}
+use Rattle.rb_gen.proofs.Rows.{then_adds}
 use Rattle.rb_gen.proofs.StatementRows.{assigned, body_row, called, conditional, conditional_else, else_row, failed, looped, no_command, one_command, printing, received, received_else, sending}
 
 turn_made : Makes (One Turn)
@@ -131,7 +132,7 @@ module _ (slots : List Slot) where
           )
       command_made (Invocation name arguments) c = let m = call_made name arguments c in (m.0, called slots words refl m.1)
       command_made Failure c =
-          (added Fail (added Turn c), failed slots words refl (add Turn refl (λ j w. refl) c) (add Fail refl (λ j w. refl) (added Turn c)))
+          (added Fail (added Turn c), failed slots words refl (then_adds (add Turn refl (λ j w. refl) c) (add Fail refl (λ j w. refl) (added Turn c))))
       command_made (Recovering block) c = recovery_made block c
 
       pub commands_made : (x : Commands) (c : Output) → (d : Output) × WritesCommands slots words x c d

@@ -1,6 +1,6 @@
 -- The code of statements, as it is put together.
 use Rattle.std.proofs.Common.{◌≡◌, ℕ, ◌+◌, List, length, refl, sym, subst, arith}
-use Rattle.rb_syntax.specs.Tree.{Identifier, Expression, Reference, PrintItem, Declaration, Command, Assignment, Printing, Sending, Receiving, Conditional, Loop, Invocation, Failure, Commands, NoCommand, Then, Body, Scope, NoElse, Else}
+use Rattle.rb_syntax.specs.Tree.{Identifier, Expression, Reference, PrintItem, Declaration, Command, Assignment, Printing, Sending, Receiving, Conditional, Loop, Invocation, Failure, Commands, NoCommand, Then, Body, Scope, Otherwise, NoElse, Else}
 use Rattle.rb_syntax.specs.Numbered.{blocks_in, blocks_in_body, blocks_in_command}
 use Rattle.rb_meaning.specs.Environment.{frame_of, frame_words}
 use Rattle.rb_scope.specs.declared.slot.Slot.{Slot}
@@ -11,7 +11,7 @@ use Rattle.rb_code.specs.Agreement.Forms.{BodyCode, BranchesCode, CallCode, Comm
 use Rattle.rb_draft.specs.Output.{Output, added, linked, patched}
 use Rattle.rb_draft.specs.Emits.{Adds, Emits}
 use Rattle.rb_gen.specs.InMemory.{LeavesTest}
-use Rattle.rb_gen.specs.Writes.{Setting, WritesBody, WritesCommand, WritesCommands, WritesElse}
+use Rattle.rb_gen.specs.Writes.{Setting, WritesBody, WritesCommand, WritesCommands, WritesElse, WritesOtherwise, WritesThen}
 use Rattle.rb_draft.proofs.Emits.{as_if, at, both, empty, filled, labelled, upto}
 use Rattle.rb_gen.proofs.Rows.{then_adds}
 
@@ -42,9 +42,9 @@ module _ (slots : List Slot) (words : List ℕ) where
   unfolding CommandCode
   called is p = same_command is (λ s n g. upto (p s n) (omega arith))
 
-  pub failed : {t : Command} {c d e : Output} → t ≡ Failure → Adds (One Turn) c d → Adds (One Fail) d e → WritesCommand slots words t c e
+  pub failed : {t : Command} {c d : Output} → t ≡ Failure → Adds (One Turn ⨾ One Fail) c d → WritesCommand slots words t c d
   unfolding CommandCode
-  failed is p q = same_command is (λ s n g. upto (both (p s.owner.number n) (q s.owner.number n)) (omega arith))
+  failed is p = same_command is (λ s n g. upto (p s.owner.number n) (omega arith))
 
   pub received : {t : Command} {channel : Identifier} {to : Reference} {number : ℕ} {c d e f : Output} → t ≡ Receiving channel to NoElse
       → number ≡ channel_of slots channel.id → Adds (One Turn) c d → Adds (One (There number)) d e → Adds (StoreCode slots to (One (Take number))) e f
@@ -98,6 +98,24 @@ module _ (slots : List Slot) (words : List ℕ) where
       (λ w a b (m, (k, turn, value), (l, jump, (i, first, (end, rest)))). (gone, (end, (k, turn, (m, value, (l, jump, (i, first, rest)))))))
       (both (tested s.owner.number n) (filled (JumpZero gone) refl left patches (both (p s n given) (q s (n + blocks_in_body then) more)))))
       (omega arith))
+
+  -- a test and its block, and what stands behind them
+  pub branched : {t : Command} {test : Expression} {then : Body} {other : Otherwise} {over : ℕ} {c d e : Output}
+      → t ≡ Conditional test then other → WritesThen slots words test then over c d → WritesOtherwise slots words over other d e
+      → WritesCommand slots words t c e
+  branched {other = NoElse} is (o, tested, p) patches = conditional is tested p refl patches
+  branched {other = Else x} is (o, tested, p) (address, f, q, patches) = conditional_else is tested p q patches
+
+  -- no `else`, and one
+  pub no_else : (place : ℕ) (c : Output) {other : Otherwise} {address : ℕ} {d : Output} → other ≡ NoElse → address ≡ length c.instrs
+      → d ≡ patched c place (JumpZero address) → WritesOtherwise slots words place other c d
+  no_else place c {d = d} is here patches =
+      subst (λ x. WritesOtherwise slots words place x c d) (sym is) (subst (λ a. d ≡ patched c place (JumpZero a)) here patches)
+
+  pub some_else : (place : ℕ) {other : Otherwise} {x : Body} {address : ℕ} {c d e : Output} → other ≡ Else x
+      → WritesElse slots words address x c d → e ≡ patched d place (JumpZero address) → WritesOtherwise slots words place other c e
+  some_else place {address = address} {c = c} {d = d} {e = e} is p patches =
+      subst (λ x. WritesOtherwise slots words place x c e) (sym is) (address, d, p, patches)
 
   pub looped : {t : Command} {test : Expression} {over_again : Body} {loop over end : ℕ} {c d e f g : Output} → t ≡ Loop test over_again
       → loop ≡ length c.instrs → LeavesTest slots test over c d → WritesBody slots words over_again d e → Adds (One (Jump loop)) e f

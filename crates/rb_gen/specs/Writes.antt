@@ -1,6 +1,6 @@
 -- What the code of each form with recovery blocks adds to the draft, for whatever process has procedures with so many words.
 use Rattle.std.specs.Prelude.{◌≡◌, ℕ, ◌+◌, ◌<◌, ◌≤◌, List, [], ◌∷◌, length, map, option_map, slice_get, Some}
-use Rattle.rb_syntax.specs.Tree.{Alternates, Body, Command, Commands, Expression, Identifier, ProcedureDeclaration, ProcessDeclaration, RecoveryBlock, Recovering, Tree}
+use Rattle.rb_syntax.specs.Tree.{Alternates, Body, Command, Commands, Expression, Identifier, Otherwise, NoElse, Else, ProcedureDeclaration, ProcessDeclaration, RecoveryBlock, Recovering, Tree}
 use Rattle.rb_syntax.specs.Numbered.{blocks_in, blocks_in_alternates, blocks_in_body, blocks_in_command, blocks_in_procedures, blocks_in_process, blocks_in_processes}
 use Rattle.rb_meaning.specs.Environment.{frame_of, frame_words}
 use Rattle.rb_meaning.specs.Groups.{channels_of}
@@ -12,9 +12,10 @@ use Rattle.rb_code.specs.Instructions.Plain.{Code, Part, Procedure}
 use Rattle.rb_code.specs.Agreement.StandsFor.{ProcessesCode, text_numbers}
 use Rattle.rb_code.specs.Agreement.Template.{Template, One, ◌⨾◌, At, Label}
 use Rattle.rb_code.specs.Agreement.Forms.{AlternatesCode, BodyCode, CallCode, CommandCode, CommandsCode, OthersCode, Owner, ProceduresCode}
-use Rattle.rb_code.specs.declared.instr.Instr.TheVariants.{Done, Jump}
-use Rattle.rb_draft.specs.Output.{Output, as_it_is, linked, linked_to}
+use Rattle.rb_code.specs.declared.instr.Instr.TheVariants.{Done, Jump, JumpZero}
+use Rattle.rb_draft.specs.Output.{Output, as_it_is, linked, linked_to, patched}
 use Rattle.rb_draft.specs.Emits.{Emits}
+use Rattle.rb_gen.specs.InMemory.{LeavesTest}
 use Rattle.rb_gen.specs.Given.{AlternatesGiven, BodyGiven, CommandGiven, CommandsGiven, ProceduresGiven, ProcessGiven, ProcessesGiven}
 
 -- how many words the variables of a procedure's block have
@@ -69,6 +70,16 @@ abbrev pub WritesElse : List Slot → List ℕ → ℕ → Body → Output → O
 WritesElse slots words address x =
     Writes words (λ tree n. BodyGiven tree slots n x) (blocks_in_body x)
     (λ tree owner. Label (λ end. One (Jump end) ⨾ At address ⨾ BodyCode tree slots owner x ⨾ At end))
+
+-- the turn and the test of an `if`, behind which a place is left, and its block
+abbrev pub WritesThen : List Slot → List ℕ → Expression → Body → ℕ → Output → Output → Type 0
+WritesThen slots words test x place old new = (d : Output) × LeavesTest slots test place old d × WritesBody slots words x d new
+
+-- what stands behind the block of an `if`: its `else`, or nothing; the place that was left behind the test leads there
+abbrev pub WritesOtherwise : List Slot → List ℕ → ℕ → Otherwise → Output → Output → Type 0
+WritesOtherwise slots words place NoElse old new = new ≡ patched old place (JumpZero (length old.instrs))
+WritesOtherwise slots words place (Else x) old new =
+    (address : ℕ) × (d : Output) × WritesElse slots words address x old d × (new ≡ patched d place (JumpZero address))
 
 -- procedures, of which the list of procedures has these entries
 abbrev pub WritesProcedures : List Slot → List ℕ → List ProcedureDeclaration → List Procedure → Output → Output → Type 0

@@ -48,6 +48,15 @@ pub(crate) fn emit_assignment(
     }
 }
 
+/// The code of a `fail`.
+pub(crate) fn emit_failure(draft: &mut Draft) -> Result<(), Memory>
+    ensures { OnOk result (Adds (One Instr.Turn ⨾ One Instr.Fail) (output draft.old) (output draft.new)) }
+{
+    put(draft, Instr::Turn)?;
+    put(draft, Instr::Fail)?;
+    Ok(())
+}
+
 /// The code that takes the message of a channel into a place.
 pub(crate) fn emit_taking(
     draft: &mut Draft,

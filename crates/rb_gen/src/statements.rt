@@ -4,10 +4,12 @@ ghost use Rattle.std.specs.Prelude.{◌≡◌, ℕ, length, IfOk, OnOk};
 ghost use Rattle.rb_syntax.specs.Plain.{alternates_of, body, command, commands_of, expression as plain, identifier, otherwise, recovery_block, reference};
 ghost use Rattle.rb_syntax.specs.Tree.{Loop, Receiving};
 ghost use Rattle.rb_draft.specs.Output.{output};
-ghost use Rattle.rb_gen.specs.Writes.{WritesAlternates, WritesBody, WritesCommand, WritesCommands, WritesElse, WritesRecovery};
+ghost use Rattle.rb_gen.specs.Writes.{WritesAlternates, WritesBody, WritesCommand, WritesCommands, WritesElse, WritesOtherwise, WritesRecovery, WritesThen};
 
 use crate::expressions::{emit_expression, emit_test};
-use crate::simple::{emit_assignment, emit_call, emit_printing, emit_sending, emit_taking};
+use crate::simple::{
+    emit_assignment, emit_call, emit_failure, emit_printing, emit_sending, emit_taking,
+};
 use rb_base::Memory;
 use rb_code::{BlockCode, Instr};
 use rb_draft::frames::{natural, put_drop, put_frame, words_of};
@@ -29,56 +31,61 @@ pub(crate) fn emit_statement(
     ensures { OnOk result (WritesCommand slots.now words.now (command statement.now) (output draft.old) (output draft.new)) }
 {
     match statement {
-        Statement::Assign(target, value) => {
-            emit_assignment(draft, slots, target, value)?;
-            Ok(())
-        }
-        Statement::Print(items) => {
-            emit_printing(alloc, draft, slots, items)?;
-            Ok(())
-        }
-        Statement::Send(channel, value) => {
-            emit_sending(draft, slots, channel, value)?;
-            Ok(())
-        }
+        Statement::Assign(target, value) => emit_assignment(draft, slots, target, value)?,
+        Statement::Print(items) => emit_printing(alloc, draft, slots, items)?,
+        Statement::Send(channel, value) => emit_sending(draft, slots, channel, value)?,
         Statement::Receive(channel, target, other) => {
-            emit_receipt(alloc, draft, slots, words, other, channel, target)?;
-            Ok(())
+            emit_receipt(alloc, draft, slots, words, other, channel, target)?
         }
         Statement::If(test, block, other) => {
-            let over = emit_test(draft, slots, test)?;
-            emit_body(alloc, draft, slots, words, block)?;
-            match other {
-                None => {
-                    let end = here(draft)?;
-                    patch(draft, over, Instr::JumpZero(end));
-                    Ok(())
-                }
-                Some(other) => {
-                    let no = emit_else(alloc, draft, slots, words, other)?;
-                    patch(draft, over, Instr::JumpZero(no));
-                    Ok(())
-                }
-            }
+            let over = emit_then(alloc, draft, slots, words, block, test)?;
+            emit_otherwise(alloc, draft, slots, words, other, over)?
         }
-        Statement::While(test, block) => {
-            emit_loop(alloc, draft, slots, words, block, test)?;
-            Ok(())
-        }
+        Statement::While(test, block) => emit_loop(alloc, draft, slots, words, block, test)?,
         Statement::Call(procedure, arguments) => {
-            emit_call(draft, slots, words, procedure, arguments)?;
-            Ok(())
+            emit_call(draft, slots, words, procedure, arguments)?
         }
-        Statement::Fail => {
-            put(draft, Instr::Turn)?;
-            put(draft, Instr::Fail)?;
-            Ok(())
-        }
-        Statement::Recover(recovery) => {
-            emit_recovery(alloc, draft, slots, words, recovery)?;
-            Ok(())
-        }
+        Statement::Fail => emit_failure(draft)?,
+        Statement::Recover(recovery) => emit_recovery(alloc, draft, slots, words, recovery)?,
     }
+    Ok(())
+}
+
+/// The test of an `if` with its block, and the place behind the test that is left.
+#[cycle(statement)]
+fn emit_then(
+    alloc: Global,
+    draft: &mut Draft,
+    slots: &[Slot],
+    words: &[u32],
+    block: &Block<'_>,
+    test: &Expr<'_>,
+) -> Result<usize, Memory>
+    ensures { IfOk result (λ over. WritesThen slots.now words.now (plain test.now) (body block.now) over (output draft.old) (output draft.new)) }
+{
+    let over = emit_test(draft, slots, test)?;
+    emit_body(alloc, draft, slots, words, block)?;
+    Ok(over)
+}
+
+/// What stands behind the block of an `if`: its `else`, or nothing. The place that was left behind its test leads there.
+#[cycle(statement)]
+fn emit_otherwise(
+    alloc: Global,
+    draft: &mut Draft,
+    slots: &[Slot],
+    words: &[u32],
+    other: &Option<Block<'_>>,
+    over: usize,
+) -> Result<(), Memory>
+    ensures { OnOk result (WritesOtherwise slots.now words.now over (otherwise other.now) (output draft.old) (output draft.new)) }
+{
+    let no = match other {
+        None => here(draft)?,
+        Some(other) => emit_else(alloc, draft, slots, words, other)?,
+    };
+    patch(draft, over, Instr::JumpZero(no));
+    Ok(())
 }
 
 /// The code of a `receive`, which does not wait if it has a block.

@@ -4,8 +4,8 @@ use Rattle.std.proofs.lemmas.Bool.{and_from, le-leb}
 use Rattle.rb_world.specs.Kind.{Membership}
 use Rattle.rb_world.proofs.ListFacts.{some_same}
 use Rattle.rb_code.specs.Instructions.Plain.{Code}
-use Rattle.rb_code.specs.SoundCode.Sound.{Entry, FineAt, HasTable, IsMember, Loop, Table, Within, end_of_loop, is_in}
-use Rattle.rb_code.specs.SoundCode.WellFormed.{IsOpen, LoopsStayOpen}
+use Rattle.rb_code.specs.SoundCode.Sound.{Entry, FineAt, HasTable, IsMember, IsOpen, Loop, Table, Within, end_of_loop, is_in}
+use Rattle.rb_code.specs.SoundCode.WellFormed.{LoopsStayOpen}
 use Rattle.rb_code.specs.declared.instr.Instr.{Instr}
 use Rattle.rb_code.specs.declared.instr.Instr.TheVariants.{Range}
 use Rattle.rb_prepare.proofs.Walking.Laid.{LoopStays}

@@ -3,8 +3,7 @@ use Rattle.std.proofs.Common.{◌≡◌, inl, inr, ℕ, ◌+◌, Bool, true, fal
 use Rattle.rb_world.specs.Kind.{Membership}
 use Rattle.rb_code.specs.Instructions.Plain.{Code}
 use Rattle.rb_code.specs.SoundCode.Reached.{successors}
-use Rattle.rb_code.specs.SoundCode.Sound.{BeginsAs, Each, EndIs, Entry, Fine, Has, InnermostIs, IsMember, LeadsTo, Loop, OpenBlock, Table, Takes2, TopIs, Within, alternates_at, at_address, end_of_loop, is_in, with_operands}
-use Rattle.rb_code.specs.SoundCode.WellFormed.{IsOpen}
+use Rattle.rb_code.specs.SoundCode.Sound.{BeginsAs, Each, EndIs, Entry, Fine, Has, InnermostIs, IsMember, IsOpen, LeadsTo, Loop, OpenBlock, Table, Takes2, TopIs, Within, alternates_at, at_address, end_of_loop, is_in, with_operands}
 use Rattle.rb_code.specs.declared.instr.Spot.{Spot}
 use Rattle.rb_code.specs.declared.instr.Instr.{Instr}
 use Rattle.rb_code.specs.declared.instr.Instr.TheVariants.{Turn, Push, Load, Prior, Bound, LoadAt, PriorAt, Store, StoreAt, Add, Sub, Mul, Div, Rem, Eq, Ne, Lt, Le, Gt, Ge, Neg, Not, Bool as ToBool, Jump, JumpZero, Frame, Drop, Text, Item, Print, Room, Put, There, Take, Call, Return, Fail, Enter, Start, Test, Done, Range, Again, Counter, Absent}

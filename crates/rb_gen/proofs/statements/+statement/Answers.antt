@@ -8,12 +8,13 @@ use Rattle.rb_syntax.specs.declared.statement.Statement.{Statement}
 use Rattle.rb_syntax.specs.declared.statement.Block.{Block}
 use Rattle.rb_meaning.specs.Environment.{frame_of, frame_words}
 use Rattle.rb_code.specs.Instructions.Plain.{Block as Entry}
-use Rattle.rb_code.specs.declared.instr.Instr.TheVariants.{Jump}
-use Rattle.rb_draft.specs.Output.{output, filled_with}
+use Rattle.rb_code.specs.declared.instr.Instr.TheVariants.{Jump, JumpZero}
+use Rattle.rb_draft.specs.Output.{output, filled_with, patched}
 use Rattle.rb_gen.specs.Writes.{WritesAlternates}
-use Rattle.rb_gen.proofs.StatementRows.{assigned, printing, sending, called, failed, received, received_else, conditional, conditional_else, looped, same_command, no_command, one_command, body_row, else_row}
+use Rattle.rb_gen.proofs.StatementRows.{assigned, printing, sending, called, failed, received, received_else, branched, no_else, some_else, looped, same_command, no_command, one_command, body_row, else_row}
 use Rattle.rb_gen.proofs.RecoveryRows.{recovered, no_alternate, alternates_init, alternates_step, alternates_end}
 use Rattle.rb_gen.proofs.Slices.{none_left, split}
+use Rattle.rb_gen.proofs.statements.+statement.Goals.{emit_otherwise-in-None+in_ok-no-in-None, emit_otherwise-in-Some+in_ok-no-in-Some}
 use Rattle.rb_gen.proofs.statements.+statement.Goals as goal
 
 pub emit_statements-returns : goal.emit_statements-returns
@@ -62,10 +63,10 @@ emit_statement-returns-in_ok-emit_call-in-Call t c =
     grind (arith, trees) in
     called c.args.slots.now c.args.words.now is c.in_ok-emit_call-in-Call.ensures
 
-pub emit_statement-returns-in_ok-put-in-Fail-2 : goal.emit_statement-returns-in_ok-put-in-Fail-2
-emit_statement-returns-in_ok-put-in-Fail-2 t c =
+pub emit_statement-returns-in_ok-emit_failure-in-Fail : goal.emit_statement-returns-in_ok-emit_failure-in-Fail
+emit_statement-returns-in_ok-emit_failure-in-Fail t c =
     let is : command c.args.statement.now ≡ Failure = grind (arith, trees) in
-    failed c.args.slots.now c.args.words.now is (c.in_ok-put-in-Fail.ensures refl) (c.in_ok-put-in-Fail-2.ensures refl)
+    failed c.args.slots.now c.args.words.now is c.in_ok-emit_failure-in-Fail.ensures
 
 pub emit_statement-returns-in_ok-emit_recovery-in-Recover : goal.emit_statement-returns-in_ok-emit_recovery-in-Recover
 emit_statement-returns-in_ok-emit_recovery-in-Recover t c =
@@ -84,20 +85,23 @@ emit_statement-returns-in_ok-emit_loop-in-While t c =
     let is : command c.args.statement.now ≡ Loop (plain c.in-While.test) (body c.in-While.block) = grind (arith, trees) in
     same_command c.args.slots.now c.args.words.now is c.in_ok-emit_loop-in-While.ensures
 
-pub emit_statement-returns-in_ok-end-in-None : goal.emit_statement-returns-in_ok-end-in-None
-emit_statement-returns-in_ok-end-in-None t c =
-    let of = Conditional (plain c.in-If.test) (body c.in-If.block) in
-    let is : command c.args.statement.now ≡ of (otherwise c.in-If.other) = grind (arith, trees) in
-    conditional c.args.slots.now c.args.words.now (is ∙ ap of (ap otherwise c.in-None.is)) c.in_ok-over-in-If.ensures c.in_ok-emit_body-in-If.ensures
-    c.in_ok-end-in-None.ensures c.patch.ensures
+pub emit_statement-returns-in_ok-emit_otherwise-in-If : goal.emit_statement-returns-in_ok-emit_otherwise-in-If
+emit_statement-returns-in_ok-emit_otherwise-in-If t c =
+    let is : command c.args.statement.now ≡ Conditional (plain c.in-If.test) (body c.in-If.block) (otherwise c.in-If.other) =
+    grind (arith, trees) in
+    branched c.args.slots.now c.args.words.now is c.in_ok-over-in-If.ensures c.in_ok-emit_otherwise-in-If.ensures
 
-pub emit_statement-returns-in_ok-no-in-Some : goal.emit_statement-returns-in_ok-no-in-Some
-emit_statement-returns-in_ok-no-in-Some t c =
-    let of = Conditional (plain c.in-If.test) (body c.in-If.block) in
-    let is : command c.args.statement.now ≡ of (otherwise c.in-If.other) = grind (arith, trees) in
-    conditional_else c.args.slots.now c.args.words.now
-    (is ∙ ap of (ap otherwise c.in-Some.is)) c.in_ok-over-in-If.ensures c.in_ok-emit_body-in-If.ensures
-    c.in_ok-no-in-Some.ensures c.patch-in-Some.ensures
+pub emit_otherwise-returns : goal.emit_otherwise-returns
+emit_otherwise-returns t c = elim c.match-other.branch [
+  | emit_otherwise-in-None+in_ok-no-in-None w ↦
+      no_else c.args.slots.now c.args.words.now c.args.over (output c.args.draft.now) (ap otherwise w.in-None.is) w.in_ok-no-in-None.ensures
+      (subst (λ n. output c.patch.new.draft ≡ patched (output c.args.draft.now) c.args.over (JumpZero n)) w.no-is
+      (subst (λ d. output c.patch.new.draft ≡ patched (output d) c.args.over (JumpZero c.match-other.no)) w.draft-is c.patch.ensures))
+  | emit_otherwise-in-Some+in_ok-no-in-Some w ↦
+      some_else c.args.slots.now c.args.words.now c.args.over (ap otherwise w.in-Some.is) w.in_ok-no-in-Some.ensures
+      (subst (λ n. output c.patch.new.draft ≡ patched (output w.emit_else.new.draft) c.args.over (JumpZero n)) w.no-is
+      (subst (λ d. output c.patch.new.draft ≡ patched (output d) c.args.over (JumpZero c.match-other.no)) w.draft-is c.patch.ensures))
+]
 
 pub emit_receipt-returns-in_ok-emit_taking-in-None : goal.emit_receipt-returns-in_ok-emit_taking-in-None
 emit_receipt-returns-in_ok-emit_taking-in-None t c =
