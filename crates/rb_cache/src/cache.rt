@@ -90,6 +90,7 @@ impl Cache {
 
     /// Changes the word at a place, and no copy. If the place is below the innermost level's height, it is touched in
     /// that level from now on. At most two ticks.
+    #[inline(always)]
     pub fn write<L: Ledger>(
         &mut self,
         cells: &mut Cells<L>,

@@ -1,5 +1,5 @@
-//! The recovery cache of Horning, Lauer, Melliar-Smith and Randell (1974): levels of a list of words that can be put back
-//! as they were at their entry. Only what changes is saved, and never a whole copy; contracts speak of whole copies.
+//! A recovery cache: levels of a list of words that can be put back as they were at their entry. Only the first old value of
+//! what changes is saved (Horning, Lauer, Melliar-Smith and Randell 1974), never a whole copy; contracts speak of whole copies.
 #![tactic(auto)]
 
 mod cache;

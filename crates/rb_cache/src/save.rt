@@ -20,6 +20,7 @@ pub fn put<T: Drop>(items: &mut Vec<T>, item: T)
 }
 
 /// Saves the value of a place, as the last entry.
+#[inline(never)]
 fn note(stamps: &mut Vec<usize>, arena: &mut Vec<Entry>, place: u32, value: i64)
     requires room { vec_len arena.old < vec_capacity arena.old }
     requires within { place < length stamps.old.items }
@@ -40,6 +41,7 @@ fn note(stamps: &mut Vec<usize>, arena: &mut Vec<Entry>, place: u32, value: i64)
 }
 
 /// Saves the value of a place in the innermost level, if the place is below its height and not saved there yet.
+#[inline(always)]
 pub fn save_prior<L: Ledger>(
     marks: &[Mark],
     stamps: &mut Vec<usize>,

@@ -1,6 +1,7 @@
 -- Who has ended, and whose lines are released.
 pub mod EndsTold
 pub mod Finished
+pub mod Quiet
 pub mod Dropped
 pub mod LinesLent
 pub mod Released

@@ -3,4 +3,5 @@ pub mod MovesUnmoved
 pub mod TurnsUnmoved
 pub mod StillBare
 pub mod Noted
+pub mod Tallied
 pub mod RestedTurns

@@ -9,7 +9,7 @@ use Rattle.rb_code.specs.WordMachine.WordRun.{WordWorld, opening_of, word_run}
 use Rattle.rb_conv.specs.Conversations.{memberships}
 use Rattle.rb_machine.specs.AtWork.{IsAtWork}
 use Rattle.rb_machine.specs.Moves.{world}
-use Rattle.rb_machine.specs.Resting.{AreNoted}
+use Rattle.rb_machine.specs.Resting.{AllRest, AreNoted, AreTallied}
 use Rattle.rb_machine.specs.Telling.{AreFreed, running_of}
 use Rattle.rb_machine.specs.Work.{enters_there}
 use Rattle.rb_machine.specs.Worlds.{NoneWaits, lines_of, processes_of}
@@ -35,7 +35,7 @@ seen c parts taken most = record {
 }
 
 -- What ties the parts: they stand for a world of a run, before the next turn; it is known who runs; who has no level holds no
--- line; it is known where no released line waits; there is room for the links of all turns that may come; and who was noted to rest does.
+-- line; it is known where no released line waits; there is room for the links of all turns that may come; who was noted to rest does, and is counted.
 pub record IsTied {L : Type 0} (c : Code) (parts : Parts L) (running : List Bool) (links room taken most : ℕ) (released : Bool)
     (resting : Resting) : Type 0 where
   pub work : IsAtWork c (taken + 1) parts.procs.items parts.table parts.mails.items parts.links.items
@@ -47,6 +47,7 @@ pub record IsTied {L : Type 0} (c : Code) (parts : Parts L) (running : List Bool
   pub taken_few : taken ≤ most
   pub most_few : most < 2 ^ 32 - 1
   pub noted : AreNoted c (memberships parts.table) (world parts) resting.rests.items resting.changed taken
+  pub tallied : AreTallied (length (world parts).processes) resting.rests.items resting.changed resting.noted taken
 
 -- before the first turn
 abbrev pub opening_seen : Code → List Membership → ℕ → Seen
@@ -72,6 +73,10 @@ pub record HasTurned (old : Seen) (p : ℕ) (new : Seen) (told : Told) : Type 0 
 -- such a turn is an entry that is kept
 abbrev pub IsKeptEntry : Seen → ℕ → Type 0
 IsKeptEntry m p = enters_there m.code (turned m p).1.kind (slice_get m.world.processes p) ≡ true
+
+-- no turn changes, tells or releases anything any more, whosever it is
+abbrev pub IsOver : Seen → Type 0
+IsOver m = AllRest m.code m.groups m.world
 
 -- Turns of these processes, one after another, lead from one machine to another, and this is told of them; before each turn the lines that
 -- the turns before it released were taken.

@@ -1,5 +1,5 @@
 -- Processes whose turns change nothing, as long as no other process goes on.
-use Rattle.std.specs.Prelude.{◌≡◌, ◌≤◌, ℕ, nat_lt, cond, Bool, true, false, List, [], length, replicate, set, slice_get, Option, Some, None}
+use Rattle.std.specs.Prelude.{◌≡◌, ◌≤◌, ◌+◌, ℕ, nat_lt, cond, Bool, true, false, List, [], count_by, length, replicate, set, slice_get, Option, Some, None}
 use Rattle.rb_base.specs.declared.event.TurnKind.{TurnKind}
 use Rattle.rb_base.specs.declared.event.TurnKind.TheVariants.{Idle, Wait, Took, Undone}
 use Rattle.rb_world.specs.Kind.{Membership}
@@ -40,10 +40,33 @@ pub record AreNoted (c : Code) (groups : List Membership) (w : WordWorld) (rests
   pub rest : (p : ℕ) (kind : TurnKind) → kind_of rests changed p ≡ Some kind → RestsAs c groups w p kind
   pub past : (p : ℕ) (one : Rest) → slice_get rests p ≡ Some one → one.since ≤ taken
 
+-- no process changes, tells or releases anything in any turn
+abbrev pub AllRest : Code → List Membership → WordWorld → Type 0
+AllRest c groups w = (p : ℕ) → (kind : TurnKind) × RestsAs c groups w p kind
+
+-- whether it was noted later than the last turn that changed something
+abbrev pub is_noted : ℕ → Rest → Bool
+is_noted changed rest = nat_lt changed rest.since
+
+-- Each process has a note, and so many of them are later than the last turn that changed something, which was taken.
+pub record AreTallied (processes : ℕ) (rests : List Rest) (changed noted taken : ℕ) : Type 0 where
+  pub each : length rests ≡ processes
+  pub last : changed ≤ taken
+  pub count : noted ≡ count_by (is_noted changed) rests
+
 -- What is noted after a turn: of a still one that its process rests since then, and of any other that it changed something.
 abbrev pub rests_after : Bool → List Rest → ℕ → ℕ → TurnKind → List Rest
 rests_after true rests p turn kind = set rests p (record { since = turn; kind = kind })
 rests_after false rests p turn kind = rests
+
+-- one more is noted, where it wasn't yet
+abbrev pub one_more : ℕ → Option Rest → ℕ
+one_more changed None = 0
+one_more changed (Some rest) = cond (is_noted changed rest) 0 1
+
+abbrev pub tally_after : Bool → ℕ → Option Rest → ℕ → ℕ
+tally_after true changed before noted = noted + one_more changed before
+tally_after false changed before noted = 0
 
 abbrev pub changed_after : Bool → ℕ → ℕ → ℕ
 changed_after true changed turn = changed

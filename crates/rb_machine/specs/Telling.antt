@@ -1,5 +1,5 @@
 -- What is told of a turn: who has failed in it and who is done, by who ran before it.
-use Rattle.std.specs.Prelude.{◌≡◌, ℕ, zero, suc, ◌+◌, Bool, true, false, cond, List, [], ◌∷◌, ◌++◌, map, Option}
+use Rattle.std.specs.Prelude.{◌≡◌, ℕ, zero, suc, ◌+◌, ◌<◌, Bool, true, false, cond, List, [], ◌∷◌, ◌++◌, length, map, slice_get, Option, Some}
 use Rattle.std.specs.List.{AllByRecursion}
 use Rattle.rb_base.specs.declared.event.Event.{Event}
 use Rattle.rb_base.specs.declared.event.TurnKind.{TurnKind}
@@ -11,6 +11,7 @@ use Rattle.rb_code.specs.WordMachine.Turn.{Copy, Standing}
 use Rattle.rb_code.specs.WordMachine.WordKind.{released}
 use Rattle.rb_proc.specs.Process.{Seen, kind_of}
 use Rattle.rb_machine.specs.Moves.{passes_of}
+use Rattle.rb_machine.specs.declared.came.Came.{Came}
 use Rattle.rb_machine.specs.declared.telling.Ending.{Ending}
 use Rattle.rb_machine.specs.declared.telling.Ending.TheVariants as ending
 
@@ -86,3 +87,20 @@ freed_one c one = record {
   process = freed (kind_of c) one.process;
   waiting = lines_freed (kind_of c) one.process.state one.process.levels;
 }
+
+-- a process goes on, and a release would change nothing
+pub record GoesOn (one : Seen) : Type 0 where
+  pub running : one.process.status ≡ Running
+  pub same : (c : Code) → freed_one c one ≡ record one { waiting = [] }
+
+-- A step was taken after which process number p goes on, and no test line was passed: there is nothing to tell and nothing to release.
+pub record IsQuiet (came : Came) (procs : List Seen) (p : ℕ) : Type 0 where
+  pub kind : came.kind ≡ Took
+  pub none : passes_of came.pass ≡ []
+  pub goes_on : (one : Seen) → slice_get procs p ≡ Some one → GoesOn one
+
+-- process number p ran before its turn and goes on
+pub record GoesOnThere (running : List Bool) (procs : List Seen) (p : ℕ) : Type 0 where
+  pub there : p < length procs
+  pub ran : slice_get running p ≡ Some true
+  pub goes_on : (one : Seen) → slice_get procs p ≡ Some one → GoesOn one

@@ -20,6 +20,8 @@ use std::sync::ledger::Ledger;
 
 /// Rejects process p from the innermost of its first `left` levels on: that level is put back, alone or with all that are inside its
 /// conversation, and goes on to its next alternate; without one the next level out is rejected, and where none is left p fails.
+#[cold]
+#[inline(never)]
 pub fn reject<L: Ledger>(
     procs: &mut [Proc<L>],
     table: &mut Table,

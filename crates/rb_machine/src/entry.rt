@@ -1,6 +1,6 @@
 //! The entry of a recovery block, alone or as a member of a conversation.
 
-ghost use Rattle.std.specs.Prelude.{◌≡◌, ◌+◌, ◌<◌, ◌≤◌, [], ◌∷◌, ◌++◌, length, slice_get, vec_len, vec_capacity, Some};
+ghost use Rattle.std.specs.Prelude.{◌≡◌, ◌+◌, ◌<◌, ◌≤◌, false, [], ◌∷◌, ◌++◌, length, slice_get, vec_len, vec_capacity, Some};
 ghost use Rattle.rb_base.specs.declared.limits.TheConstants.{MOST_OPEN_LEVELS};
 ghost use Rattle.rb_base.specs.declared.event.Cause.TheVariants.{Broken};
 ghost use Rattle.rb_world.specs.Kind.{Facts, Enters};
@@ -35,6 +35,7 @@ use std::sync::ledger::Ledger;
 
 /// Process p enters a recovery block, at its first alternate, or at the present one of its conversation. It fails where that is broken
 /// for good; and where the most levels are open already, the entry is a trap. An entry that is kept adds no tick.
+#[inline(always)]
 pub fn enter<L: Ledger>(
     code: &Code,
     parts: &mut Parts<L>,
@@ -55,6 +56,7 @@ pub fn enter<L: Ledger>(
         (λ moved. ((one : Seen) → slice_get parts.old.procs.items p ≡ Some one → want (plain code.now) one.process.state ≡ Enters facts)
         → HasMoved parts.new events.new.items result moved) }
     ensures left { IsLeft (plain code.now) parts.old parts.new events.new.items result }
+    ensures quiet { result.quiet ≡ false }
     ensures links { vec_len parts.new.links ≤ vec_len parts.old.links + 1 }
     ensures room { vec_capacity parts.old.links ≤ vec_capacity parts.new.links }
     ensures work { steps.new
@@ -78,6 +80,7 @@ pub fn enter<L: Ledger>(
 
 // The alternate at which process p enters a block: the first, or the present one of its conversation, inside which it is from then on.
 // There is none where the conversation is broken for good.
+#[inline(always)]
 fn alternate_for(code: &Code, table: &mut Table, p: u32, block: u32) -> Option<u32>
     requires { IsListedBlock (plain code.now) table.old block }
     ensures alternate { result ≡ entry_at table.old (conversation_of (slice_get (plain code.now).blocks block)) }
@@ -107,6 +110,7 @@ fn join(table: &mut Table, p: u32, conversation: u32) -> Option<u32>
 
 // Process p opens a level of the block that stands next, at an alternate. The turn is kept before, so that it is the last kept one of the
 // level's copy.
+#[inline(always)]
 fn open<L: Ledger>(
     code: &Code,
     procs: &mut [Proc<L>],
@@ -141,6 +145,8 @@ fn open<L: Ledger>(
 }
 
 // Process p fails, since the conversation that it enters is broken for good.
+#[cold]
+#[inline(never)]
 fn fail<L: Ledger>(procs: &mut [Proc<L>], p: u32)
     requires { p < length procs.old }
     ensures { (c : Plain) → procs.new ≡ change_at p (changed (fallen (kind_of c) Broken)) procs.old }

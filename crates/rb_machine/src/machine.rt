@@ -13,7 +13,7 @@ ghost use Rattle.rb_world.specs.World.{Process};
 ghost use Rattle.rb_machine.specs.AtWork.{IsAtWork};
 ghost use Rattle.rb_machine.specs.Cascade.{SameGroups};
 ghost use Rattle.rb_machine.specs.Known.{IsSoundFor};
-ghost use Rattle.rb_machine.specs.Machine.{HasTurned, IsKeptEntry, opening_seen};
+ghost use Rattle.rb_machine.specs.Machine.{HasTurned, IsKeptEntry, IsOver, opening_seen};
 ghost use Rattle.rb_machine.specs.Moves.{AreAtWork, world};
 ghost use Rattle.rb_machine.specs.Reading.{line_stood_at};
 ghost use Rattle.rb_machine.specs.Survivors.{word_survivors};
@@ -25,7 +25,7 @@ use crate::came::Came;
 use crate::loading::load_parts;
 use crate::moves::take_turn;
 use crate::parts::Parts;
-use crate::reading::{line_at, sent_on, state_at, taken_on, want_at, word_at};
+use crate::reading::{line_at, place_at, sent_on, state_at, taken_on, want_at, word_at};
 use crate::rests::{Resting, is_bare, is_still};
 use crate::survivors::survivors;
 use crate::telling::{drop_all_released, finish, tell_opening};
@@ -137,7 +137,7 @@ impl<'a, L: Ledger> Machine<'a, L> {
         ensures entry { IsKeptEntry self.old p → steps.new ≤ steps.old }
     {
         self.taken += 1;
-        self.released = turn(
+        let released = turn(
             self.code,
             &mut self.parts,
             &mut self.running,
@@ -149,6 +149,7 @@ impl<'a, L: Ledger> Machine<'a, L> {
         let quiet = is_still(report.kind);
         let still = quiet && is_bare(&self.parts.procs, p);
         self.resting.note(still, p, self.taken, report.kind);
+        self.released = released || still && self.resting.is_all();
     }
 
     /// Forgets the released lines that wait, and answers how many they were.
@@ -178,6 +179,24 @@ impl<'a, L: Ledger> Machine<'a, L> {
         self.released
     }
 
+    /// Whether every process is known to rest, so that no turn changes, tells or releases anything any more. It is asked where `has_released`
+    /// is true: that is so of the turn by which the last process is known to rest, too.
+    pub fn is_over(&self) -> bool
+        ensures { result ≡ true → IsOver self.now }
+    {
+        self.resting.is_all()
+    }
+
+    /// Takes all turns up to this number at once, of a machine that is over: nothing changes but their number.
+    pub fn rest_until(&mut self, turns: u32)
+        requires over { IsOver self.old }
+        requires later { self.old.taken ≤ turns }
+        requires most { turns ≤ self.old.most }
+        ensures { self.new ≡ record self.old { taken = turns } }
+    {
+        self.taken = turns;
+    }
+
     /// What process p wants of its next turn.
     pub fn want(&self, p: u32) -> Wanted
         requires { p < length self.now.world.processes }
@@ -192,6 +211,14 @@ impl<'a, L: Ledger> Machine<'a, L> {
         ensures { (q : Process Standing Copy) → slice_get self.now.world.processes p ≡ Some q → result ≡ line_stood_at q }
     {
         line_at(&self.parts.procs, p)
+    }
+
+    /// The address in code at which process p stands.
+    pub fn place(&self, p: u32) -> u32
+        requires { p < length self.now.world.processes }
+        ensures { (q : Process Standing Copy) → slice_get self.now.world.processes p ≡ Some q → result ≡ q.state.at }
+    {
+        place_at(&self.parts.procs, p)
     }
 
     /// How many turns it has taken.
@@ -250,6 +277,7 @@ impl<'a, L: Ledger> Final for Machine<'a, L> {
 }
 
 // Turn number `number` of process p, into the report. False where no released line waits.
+#[inline(always)]
 fn turn<L: Ledger>(
     code: &Code,
     parts: &mut Parts<L>,
@@ -285,7 +313,7 @@ fn turn<L: Ledger>(
         running,
         p,
         alone,
-        came.pass,
+        came,
         &mut report.events,
         steps,
     )

@@ -1,6 +1,6 @@
 //! What a process does in its turn: it waits, steps, enters, or is rejected since a level has used up its turns.
 
-ghost use Rattle.std.specs.Prelude.{◌≡◌, ◌+◌, ◌*◌, ◌-◌, ◌<◌, ◌≤◌, ◌^◌, [], length, position, slice_get, vec_len, vec_capacity, Some};
+ghost use Rattle.std.specs.Prelude.{◌≡◌, ◌+◌, ◌*◌, ◌-◌, ◌<◌, ◌≤◌, ◌^◌, true, [], length, position, slice_get, vec_len, vec_capacity, Some};
 ghost use Rattle.rb_world.specs.Kind.{SendsOn, ReceivesOn, MayReceiveOn};
 ghost use Rattle.rb_world.specs.Standing.{Each};
 ghost use Rattle.rb_world.specs.Turn.{acts, bounded, is_over, move, runs, turn_used};
@@ -14,6 +14,7 @@ ghost use Rattle.rb_machine.specs.AtWork.{MayAct};
 ghost use Rattle.rb_machine.specs.Channels.{AreNumbered};
 ghost use Rattle.rb_machine.specs.Moves.{AreAtWork, HasMoved, IsEntryReady, IsLeft, IsReadyAt, MovesAt, ReceivesThere, WantsThere, world};
 ghost use Rattle.rb_machine.specs.Rejections.{changed};
+ghost use Rattle.rb_machine.specs.Telling.{IsQuiet};
 ghost use Rattle.rb_machine.specs.Turns.{runs_there};
 ghost use Rattle.rb_machine.specs.Work.{enters_there, looking, move_work, named_by_acts, named_running, named_within, undoing};
 ghost use Rattle.rb_machine.specs.Worlds.{kind_with, processes_of};
@@ -44,6 +45,7 @@ pub(crate) enum ReadyFor {
 }
 
 /// What stands first in process p decides.
+#[inline(always)]
 pub fn act<L: Ledger>(
     code: &Code,
     parts: &mut Parts<L>,
@@ -61,6 +63,7 @@ pub fn act<L: Ledger>(
         (λ q w. acts (kind_with (plain code.now) parts.old.table) turn p q w (want (plain code.now) q.state))
         (HasMoved parts.new events.new.items result) }
     ensures left { IsLeft (plain code.now) parts.old parts.new events.new.items result }
+    ensures quiet { result.quiet ≡ true → IsQuiet result parts.new.procs.items p }
     ensures links { vec_len parts.new.links ≤ vec_len parts.old.links + 1 }
     ensures room { vec_capacity parts.old.links ≤ vec_capacity parts.new.links }
     ensures work { (one : Seen) → slice_get parts.old.procs.items p ≡ Some one
@@ -69,7 +72,7 @@ pub fn act<L: Ledger>(
         (want (plain code.now) one.process.state)
         + undoing result.kind (processes_of parts.old.procs.items) events.new.items (processes_of parts.new.procs.items) }
 {
-    let wanted = parts.procs[p as usize].want(code);
+    let wanted = parts.procs[p as usize].want_next(code);
     match ready(code, &parts.procs, p, wanted, steps) {
         ReadyFor::Idle => Came::without_pass(TurnKind::Idle),
         ReadyFor::Waits => Came::without_pass(TurnKind::Wait),
@@ -79,6 +82,7 @@ pub fn act<L: Ledger>(
 }
 
 // What process p is ready for, by what it wants.
+#[inline(always)]
 fn ready<L: Ledger>(
     code: &Code,
     procs: &[Proc<L>],
@@ -105,6 +109,7 @@ fn ready<L: Ledger>(
 }
 
 // Process p, at a send, waits for room.
+#[inline(always)]
 fn send<L: Ledger>(
     code: &Code,
     procs: &[Proc<L>],
@@ -126,6 +131,7 @@ fn send<L: Ledger>(
 }
 
 // Process p, at a receipt, waits for a message.
+#[inline(always)]
 fn receive<L: Ledger>(
     code: &Code,
     procs: &[Proc<L>],
@@ -148,6 +154,7 @@ fn receive<L: Ledger>(
 }
 
 // Process p takes a message if one is there, and goes on without one if none is.
+#[inline(always)]
 fn look<L: Ledger>(
     code: &Code,
     procs: &[Proc<L>],
@@ -166,6 +173,7 @@ fn look<L: Ledger>(
 }
 
 /// Turn number `turn` of process p, before lines are released.
+#[inline(always)]
 pub fn take_turn<L: Ledger>(
     code: &Code,
     parts: &mut Parts<L>,
@@ -180,6 +188,8 @@ pub fn take_turn<L: Ledger>(
     requires none { length events.old.items ≡ 0 }
     ensures moved { HasMoved parts.new events.new.items result (move (kind_with (plain code.now) parts.old.table) turn p (world parts.old)) }
     ensures left { IsLeft (plain code.now) parts.old parts.new events.new.items result }
+    ensures quiet { result.quiet ≡ true → IsQuiet result parts.new.procs.items p }
+    ensures ran { result.quiet ≡ true → runs_there (slice_get (processes_of parts.old.procs.items) p) ≡ true }
     ensures links { vec_len parts.new.links ≤ vec_len parts.old.links + 1 }
     ensures room { vec_capacity parts.old.links ≤ vec_capacity parts.new.links }
     ensures work { steps.new
@@ -194,6 +204,7 @@ pub fn take_turn<L: Ledger>(
 }
 
 // Whether process p is there, and runs.
+#[inline(always)]
 fn is_running<L: Ledger>(procs: &[Proc<L>], p: u32) -> bool
     ensures { result ≡ runs_there (slice_get (processes_of procs.now) p) }
 {
@@ -204,6 +215,7 @@ fn is_running<L: Ledger>(procs: &[Proc<L>], p: u32) -> bool
 }
 
 // A turn of process p, which runs: each of its levels counts it.
+#[inline(always)]
 fn run<L: Ledger>(
     code: &Code,
     parts: &mut Parts<L>,
@@ -221,6 +233,7 @@ fn run<L: Ledger>(
     ensures moved { MovesAt parts.old p (λ q w. runs (kind_with (plain code.now) parts.old.table) turn p (turn_used q) w)
         (HasMoved parts.new events.new.items result) }
     ensures left { IsLeft (plain code.now) parts.old parts.new events.new.items result }
+    ensures quiet { result.quiet ≡ true → IsQuiet result parts.new.procs.items p }
     ensures links { vec_len parts.new.links ≤ vec_len parts.old.links + 1 }
     ensures room { vec_capacity parts.old.links ≤ vec_capacity parts.new.links }
     ensures work { (one : Seen) → slice_get parts.old.procs.items p ≡ Some one
@@ -233,6 +246,7 @@ fn run<L: Ledger>(
 }
 
 // The turn is counted at each level of process p; answers which is the outermost that is beyond its bound.
+#[inline(always)]
 fn count<L: Ledger>(procs: &mut [Proc<L>], p: u32) -> Option<u32>
     requires process { p < length procs.old }
     requires few { (one : Seen) → slice_get procs.old p ≡ Some one → Each (λ _ level. level.used < 2 ^ 32 - 1) one.process.levels }
@@ -244,6 +258,7 @@ fn count<L: Ledger>(procs: &mut [Proc<L>], p: u32) -> Option<u32>
 
 // A turn of process p that its levels have counted: the outermost that is beyond its bound is rejected. With none, a process at a test line
 // waits, and any other acts.
+#[inline(always)]
 fn go_on<L: Ledger>(
     code: &Code,
     parts: &mut Parts<L>,
@@ -263,6 +278,7 @@ fn go_on<L: Ledger>(
         (λ q w. bounded (kind_with (plain code.now) parts.old.table) turn p q w (position is_over q.levels))
         (HasMoved parts.new events.new.items result) }
     ensures left { IsLeft (plain code.now) parts.old parts.new events.new.items result }
+    ensures quiet { result.quiet ≡ true → IsQuiet result parts.new.procs.items p }
     ensures links { vec_len parts.new.links ≤ vec_len parts.old.links + 1 }
     ensures room { vec_capacity parts.old.links ≤ vec_capacity parts.new.links }
     ensures work { (one : Seen) → slice_get parts.old.procs.items p ≡ Some one

@@ -99,6 +99,14 @@ pub fn want_at<L: Ledger>(code: &Code, procs: &[Proc<L>], p: u32) -> Wanted
     procs[p as usize].want(code)
 }
 
+/// The address at which process p stands.
+pub fn place_at<L: Ledger>(procs: &[Proc<L>], p: u32) -> u32
+    requires { p < length procs.now }
+    ensures { (q : Process Standing Copy) → slice_get (processes_of procs.now) p ≡ Some q → result ≡ q.state.at }
+{
+    procs[p as usize].place()
+}
+
 /// The conversation at whose test line process p stands, if it stands at one.
 pub fn line_at<L: Ledger>(procs: &[Proc<L>], p: u32) -> Option<u32>
     requires { p < length procs.now }

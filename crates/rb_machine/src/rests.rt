@@ -1,8 +1,8 @@
 //! Which processes rest: a turn of one that is done, or that waits with no level open, changes nothing until another process goes on.
 
-ghost use Rattle.std.specs.Prelude.{◌≡◌, true, replicate, slice_get, IfOk};
+ghost use Rattle.std.specs.Prelude.{◌≡◌, ◌<◌, ◌-◌, ◌^◌, nat_eq, true, length, replicate, slice_get, IfOk};
 ghost use Rattle.rb_base.specs.declared.event.TurnKind.TheVariants.{Idle};
-ghost use Rattle.rb_machine.specs.Resting.{IsBare, changed_after, is_still, kind_of, rests_after};
+ghost use Rattle.rb_machine.specs.Resting.{IsBare, changed_after, is_still, kind_of, rests_after, tally_after};
 ghost use Rattle.rb_machine.specs.Worlds.{processes_of};
 
 use rb_base::{Memory, TurnKind};
@@ -17,11 +17,13 @@ pub struct Rest {
     pub kind: TurnKind,
 }
 
-/// What was noted of each process, and which turn was the last that changed something.
+/// What was noted of each process, which turn was the last that changed something, and of how many processes it was noted since then that
+/// they rest.
 #[derive(Drop)]
 pub struct Resting {
     pub rests: Vec<Rest>,
     pub changed: u32,
+    pub noted: u32,
 }
 
 impl Resting {
@@ -29,6 +31,7 @@ impl Resting {
     pub fn new(alloc: Global, processes: usize) -> Result<Self, Memory>
         ensures rests { IfOk result (λ resting. resting.rests.items ≡ replicate processes (record { since = 0; kind = Idle })) }
         ensures changed { IfOk result (λ resting. resting.changed ≡ 0) }
+        ensures noted { IfOk result (λ resting. resting.noted ≡ 0) }
     {
         let none = Rest {
             since: 0,
@@ -37,6 +40,7 @@ impl Resting {
         Ok(Resting {
             rests: vec![in alloc; none; processes]?,
             changed: 0,
+            noted: 0,
         })
     }
 
@@ -53,14 +57,27 @@ impl Resting {
     /// Notes turn number `turn` of process p: where it was still, the process rests since then, and else it changed something, so that
     /// nothing is known any more.
     pub fn note(&mut self, still: bool, p: u32, turn: u32, kind: TurnKind)
+        requires few { self.old.noted < 2 ^ 32 - 1 }
         ensures rests { self.new.rests.items ≡ rests_after still self.old.rests.items p turn kind }
         ensures changed { self.new.changed ≡ changed_after still self.old.changed turn }
+        ensures noted { self.new.noted ≡ tally_after still self.old.changed (slice_get self.old.rests.items p) self.old.noted }
     {
         if !still {
             self.changed = turn;
+            self.noted = 0;
         } else if (p as usize) < self.rests.len() {
+            if self.rests[p as usize].since <= self.changed {
+                self.noted += 1;
+            }
             self.rests[p as usize] = Rest { since: turn, kind };
         }
+    }
+
+    /// Whether each process is known to rest.
+    pub fn is_all(&self) -> bool
+        ensures { result ≡ nat_eq self.now.noted (length self.now.rests.items) }
+    {
+        self.noted as usize == self.rests.len()
     }
 }
 

@@ -1,6 +1,6 @@
 //! A step of a process in its turn: it goes on, traps, or comes to the end of an alternate whose acceptance test held.
 
-ghost use Rattle.std.specs.Prelude.{◌≡◌, ◌+◌, ◌*◌, ◌<◌, ◌≤◌, length, slice_get, vec_len, vec_capacity, Some};
+ghost use Rattle.std.specs.Prelude.{◌≡◌, ◌+◌, ◌*◌, ◌<◌, ◌≤◌, true, length, slice_get, vec_len, vec_capacity, Some};
 ghost use Rattle.rb_world.specs.Turn.{steps as stepping};
 ghost use Rattle.rb_world.specs.World.{change_at};
 ghost use Rattle.rb_code.specs.Instructions.Plain.{code as plain};
@@ -14,6 +14,7 @@ ghost use Rattle.rb_machine.specs.AtWork.{IsStep, MayAct};
 ghost use Rattle.rb_conv.specs.Conversations.{memberships};
 ghost use Rattle.rb_machine.specs.Moves.{AreAtWork, HasMoved, IsLeft, MovesAt, WantsThere, world};
 ghost use Rattle.rb_machine.specs.Stepping.{HasStepped, MayStep, turn_kept};
+ghost use Rattle.rb_machine.specs.Telling.{IsQuiet};
 ghost use Rattle.rb_machine.specs.Work.{named_by_steps, undoing};
 ghost use Rattle.rb_machine.specs.Worlds.{kind_with, processes_of};
 
@@ -31,6 +32,7 @@ use rb_proc::{Outcome, Proc, Wanted};
 use std::sync::ledger::Ledger;
 
 // Process p takes a step, and the others stay as they are.
+#[inline(always)]
 fn step_one<L: Ledger>(
     code: &Code,
     procs: &mut [Proc<L>],
@@ -85,6 +87,7 @@ fn keep_turn<L: Ledger>(procs: &mut [Proc<L>], turn: u32, p: u32)
 /// One step of process p, whose link, to the last kept turn before, is added first. Where it goes on the turn is kept. A trap takes the link
 /// back, and rejects the innermost level, or fails a process without one. Where the acceptance test held a private level goes; a member of a
 /// conversation comes to its test line, and once all members stand there they leave together.
+#[inline(always)]
 pub fn take_step<L: Ledger>(
     code: &Code,
     parts: &mut Parts<L>,
@@ -108,6 +111,7 @@ pub fn take_step<L: Ledger>(
         (message_for (plain code.now) q.state parts.old.mails.items there (want (plain code.now) q.state)) q w)
         (HasMoved parts.new events.new.items result) }
     ensures left { IsLeft (plain code.now) parts.old parts.new events.new.items result }
+    ensures quiet { result.quiet ≡ true → IsQuiet result parts.new.procs.items p }
     ensures links { vec_len parts.new.links ≤ vec_len parts.old.links + 1 }
     ensures room { vec_capacity parts.old.links ≤ vec_capacity parts.new.links }
     ensures work { (one : Seen) → slice_get parts.old.procs.items p ≡ Some one
@@ -132,26 +136,17 @@ pub fn take_step<L: Ledger>(
     ) {
         Outcome::Trap(cause) => {
             take_back(&mut parts.links);
-            let left = parts.procs[p as usize].levels();
-            reject(
-                &mut parts.procs,
-                &mut parts.table,
-                p,
-                left,
-                cause,
-                events,
-                steps,
-            );
-            Came {
-                kind: TurnKind::Undone,
-                pass: None,
-            }
+            let procs = &mut parts.procs;
+            let left = procs[p as usize].levels();
+            reject(procs, &mut parts.table, p, left, cause, events, steps);
+            Came::without_pass(TurnKind::Undone)
         }
         Outcome::Went => {
             keep_turn(&mut parts.procs, turn, p);
             Came {
                 kind: TurnKind::Took,
                 pass: None,
+                quiet: parts.procs[p as usize].is_quiet(),
             }
         }
         Outcome::Accepts => {
@@ -160,6 +155,7 @@ pub fn take_step<L: Ledger>(
             Came {
                 kind: TurnKind::Took,
                 pass,
+                quiet: false,
             }
         }
     }

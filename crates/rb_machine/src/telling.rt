@@ -1,6 +1,6 @@
 //! What is told at the end of a turn: errors, the pass of a test line, and who is done; and held lines are released.
 
-ghost use Rattle.std.specs.Prelude.{◌≡◌, ℕ, ◌+◌, ◌*◌, ◌<◌, ◌≤◌, ◌^◌, ◌++◌, true, false, List, [], length, map, replicate, sum_by};
+ghost use Rattle.std.specs.Prelude.{◌≡◌, ℕ, ◌+◌, ◌*◌, ◌<◌, ◌≤◌, ◌^◌, ◌++◌, true, false, List, [], get_or, length, map, replicate, set, sum_by};
 ghost use Rattle.std.specs.Option.{option_to_list};
 ghost use Rattle.rb_base.specs.declared.limits.TheConstants.{MOST_HELD_BYTES};
 ghost use Rattle.rb_world.specs.Kind.{Membership};
@@ -12,10 +12,11 @@ ghost use Rattle.rb_code.specs.WordMachine.WordKind.{word_kind};
 ghost use Rattle.rb_proc.specs.Process.{Seen};
 ghost use Rattle.rb_proc.specs.Statuses.{status_of};
 ghost use Rattle.rb_machine.specs.Moves.{passes_of};
-ghost use Rattle.rb_machine.specs.Telling.{WasAlone, ended_by, ended_if, ends_told, freed_one, is_running, running_of};
+ghost use Rattle.rb_machine.specs.Telling.{GoesOnThere, WasAlone, ended_by, ended_if, ends_told, freed_one, is_running, running_of};
 ghost use Rattle.rb_machine.specs.Work.{releases_some, releasing};
 ghost use Rattle.rb_machine.specs.Worlds.{NoneWaits, lines_of, processes_of};
 
+use crate::came::Came;
 use arrayvec::ArrayVec;
 use rb_base::{Event, MOST_EVENTS, MOST_PROCESSES_SECOND, Steps};
 use rb_proc::{Proc, ProcessStatus};
@@ -30,6 +31,7 @@ pub(crate) enum Ending {
 
 /// Adds to the rejections of a turn who has failed in it, the pass of a test line, and who is done in it, by who ran before it; and notes
 /// who still runs.
+#[inline(never)]
 pub fn tell<L: Ledger>(
     procs: &[Proc<L>],
     running: &mut [bool],
@@ -60,23 +62,25 @@ pub fn tell_opening<L: Ledger>(procs: &[Proc<L>], events: &mut ArrayVec<Event, M
 }
 
 /// Ends a turn of process p: tells who has ended in it, notes who still runs, and releases held lines. Where the turn touched no other
-/// process it looks at p alone. False where no released line waits.
+/// process it looks at p alone, and where it ends quietly at none. False where no released line waits.
+#[inline(always)]
 pub fn finish<L: Ledger>(
     procs: &mut [Proc<L>],
     running: &mut [bool],
     p: u32,
     alone: bool,
-    pass: Option<Event>,
+    came: Came,
     events: &mut ArrayVec<Event, MOST_EVENTS>,
     steps: &mut Steps<L>,
 ) -> bool
     requires as_many { length running.old ≡ length procs.old }
     requires numbered { length procs.old < 2 ^ 32 }
-    requires room { length events.old.items + (length (passes_of pass) + length procs.old) ≤ MOST_EVENTS }
+    requires room { length events.old.items + (length (passes_of came.pass) + length procs.old) ≤ MOST_EVENTS }
     requires waits { NoneWaits procs.old }
-    requires alone { alone ≡ true → (passes_of pass ≡ []) × WasAlone p running.old (processes_of procs.old) }
+    requires quiet { came.quiet ≡ true → (alone ≡ true) × GoesOnThere running.old procs.old p }
+    requires alone { alone ≡ true → (passes_of came.pass ≡ []) × WasAlone p running.old (processes_of procs.old) }
     ensures told { (before : List (Process Standing Copy)) → running_of before ≡ running.old
-        → events.new.items ≡ events.old.items ++ ends_told before (processes_of procs.old) pass }
+        → events.new.items ≡ events.old.items ++ ends_told before (processes_of procs.old) came.pass }
     ensures running { running.new ≡ running_of (processes_of procs.old) }
     ensures processes { (c : Plain) (groups : List Membership) → processes_of procs.new ≡ map (freed (word_kind c groups)) (processes_of procs.old) }
     ensures lines { (c : Plain) (groups : List Membership)
@@ -84,15 +88,19 @@ pub fn finish<L: Ledger>(
     ensures none_waits { result ≡ false → NoneWaits procs.new }
     ensures work { steps.new ≤ steps.old + 2 * releasing (lines_of procs.new) }
 {
+    if came.quiet {
+        return false;
+    }
     if alone {
         return finish_one(procs, running, p, events, steps);
     }
-    tell(procs, running, pass, events);
+    tell(procs, running, came.pass, events);
     release_all(procs, steps);
     true
 }
 
 // The same of process p alone, if it is there.
+#[inline(always)]
 fn finish_one<L: Ledger>(
     procs: &mut [Proc<L>],
     running: &mut [bool],
@@ -116,10 +124,53 @@ fn finish_one<L: Ledger>(
     if place >= procs.len() {
         return false;
     }
-    let status = procs[place].status();
-    add(events, ending_of(p, running[place], status));
-    running[place] = runs(status);
+    note_end(&procs[place], running, p, events);
     release_one(&mut procs[place], steps)
+}
+
+// Notes whether process p still runs, and tells where it has ended.
+#[inline(always)]
+fn note_end<L: Ledger>(
+    proc: &Proc<L>,
+    running: &mut [bool],
+    p: u32,
+    events: &mut ArrayVec<Event, MOST_EVENTS>,
+)
+    requires place { p < length running.old }
+    requires room { length events.old.items + 1 ≤ MOST_EVENTS }
+    ensures told { events.new.items
+        ≡ events.old.items
+        ++ (ended_if Ending.Failed p (get_or running.old p false) proc.now.process.status
+        ++ ended_if Ending.Done p (get_or running.old p false) proc.now.process.status) }
+    ensures running { running.new ≡ set running.old p (is_running proc.now.process.status) }
+{
+    if runs(proc.status()) {
+        running[p as usize] = true;
+    } else {
+        tell_end(proc, running, p, events);
+    }
+}
+
+// The same of a process that has ended.
+#[cold]
+#[inline(never)]
+fn tell_end<L: Ledger>(
+    proc: &Proc<L>,
+    running: &mut [bool],
+    p: u32,
+    events: &mut ArrayVec<Event, MOST_EVENTS>,
+)
+    requires place { p < length running.old }
+    requires room { length events.old.items + 1 ≤ MOST_EVENTS }
+    requires ended { is_running proc.now.process.status ≡ false }
+    ensures told { events.new.items
+        ≡ events.old.items
+        ++ (ended_if Ending.Failed p (get_or running.old p false) proc.now.process.status
+        ++ ended_if Ending.Done p (get_or running.old p false) proc.now.process.status) }
+    ensures running { running.new ≡ set running.old p false }
+{
+    add(events, ending_of(p, running[p as usize], proc.status()));
+    running[p as usize] = false;
 }
 
 // The event of a process that has ended, if it ran.
@@ -139,6 +190,7 @@ fn ending_of(process: u32, ran: bool, status: ProcessStatus) -> Option<Event>
 }
 
 // Releases the held lines of a process, if it has no level. False where no released line waits.
+#[inline(always)]
 fn release_one<L: Ledger>(proc: &mut Proc<L>, steps: &mut Steps<L>) -> bool
     requires waits { proc.old.waiting ≡ [] }
     ensures freed { (c : Plain) → proc.new ≡ freed_one c proc.old }
@@ -214,6 +266,7 @@ fn runs(status: ProcessStatus) -> bool
 }
 
 /// Releases the held lines of each process that has no level.
+#[inline(never)]
 pub fn release_all<L: Ledger>(procs: &mut [Proc<L>], steps: &mut Steps<L>)
     requires waits { NoneWaits procs.old }
     ensures processes { (c : Plain) (groups : List Membership) → processes_of procs.new ≡ map (freed (word_kind c groups)) (processes_of procs.old) }

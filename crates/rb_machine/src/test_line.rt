@@ -25,6 +25,7 @@ use std::sync::ledger::Ledger;
 
 /// The acceptance test of process p's innermost level held. A private level goes. A member of a conversation stands at its test line,
 /// and once all members stand there they leave; then their pass is told.
+#[inline(always)]
 pub fn accept<L: Ledger>(
     code: &Code,
     procs: &mut [Proc<L>],
@@ -62,6 +63,7 @@ pub fn accept<L: Ledger>(
 }
 
 // The conversation of the innermost level, if there is one that has one.
+#[inline(always)]
 fn conversation_of<L: Ledger>(proc: &Proc<L>) -> Option<u32>
     ensures { result ≡ conversation_in (last_of proc.now.process.levels) }
 {
@@ -72,6 +74,7 @@ fn conversation_of<L: Ledger>(proc: &Proc<L>) -> Option<u32>
 }
 
 // The innermost level of process p goes, and the process goes on without it.
+#[inline(always)]
 fn leave_alone<L: Ledger>(code: &Code, procs: &mut [Proc<L>], p: u32, steps: &mut Steps<L>)
     requires code { IsExecutable (plain code.now) }
     requires process { p < length procs.old }
@@ -93,6 +96,7 @@ fn stand<L: Ledger>(procs: &mut [Proc<L>], p: u32)
 }
 
 // The test line of a conversation is passed if all members stand there; then the pass is told.
+#[inline(always)]
 fn pass_line<L: Ledger>(
     code: &Code,
     procs: &mut [Proc<L>],
@@ -126,6 +130,7 @@ fn pass_line<L: Ledger>(
 }
 
 // Whether every declared member of a conversation stands at its test line.
+#[inline(never)]
 fn all_stand<L: Ledger>(procs: &[Proc<L>], table: &Table, conversation: u32) -> bool
     requires { conversation < length table.now }
     ensures { (code : Plain) (memory : Common) → result ≡ all_stand (kind_with code table.now) conversation (world_of procs.now table.now memory) }
@@ -149,6 +154,7 @@ fn stands_there<L: Ledger>(procs: &[Proc<L>], process: u32, conversation: u32) -
 }
 
 // Whoever stands at the test line of a conversation leaves, and goes on without its level.
+#[inline(never)]
 fn leave_all<L: Ledger>(code: &Code, procs: &mut [Proc<L>], conversation: u32, steps: &mut Steps<L>)
     requires code { IsExecutable (plain code.now) }
     requires waits { NoneWaits procs.old }

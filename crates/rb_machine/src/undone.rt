@@ -1,6 +1,6 @@
 //! Turns that end in rejections.
 
-ghost use Rattle.std.specs.Prelude.{◌≡◌, ◌+◌, ◌<◌, ◌≤◌, length};
+ghost use Rattle.std.specs.Prelude.{◌≡◌, ◌+◌, ◌<◌, ◌≤◌, false, length};
 ghost use Rattle.rb_base.specs.declared.limits.TheConstants.{MOST_OPEN_LEVELS};
 ghost use Rattle.rb_world.specs.Reject.{reject};
 ghost use Rattle.rb_world.specs.Turn.{undone};
@@ -19,6 +19,7 @@ use rb_base::{Cause, Event, MOST_EVENTS, Steps, TurnKind};
 use std::sync::ledger::Ledger;
 
 /// Ends a turn by rejecting process p from the innermost of its first `left` levels on.
+#[inline(always)]
 pub fn undo<L: Ledger>(
     parts: &mut Parts<L>,
     p: u32,
@@ -35,6 +36,7 @@ pub fn undo<L: Ledger>(
     ensures moved { (c : Plain)
         → HasMoved parts.new events.new.items result (undone (reject (kind_with c parts.old.table) p left cause (world parts.old))) }
     ensures left { (c : Plain) → AreSized c parts.old.mails.items → IsLeft c parts.old parts.new events.new.items result }
+    ensures quiet { result.quiet ≡ false }
     ensures links { parts.new.links ≡ parts.old.links }
     ensures work { steps.new
         ≤ steps.old + undoing result.kind (processes_of parts.old.procs.items) events.new.items (processes_of parts.new.procs.items) }

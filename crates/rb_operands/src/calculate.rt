@@ -19,7 +19,7 @@ use rb_value::span::span;
 
 /// The result of an operator, or its trap.
 #[inline(always)]
-fn finish(value: Result<i64, Cause>, at: u32, operands: &mut Operands) -> Next
+fn finish(value: Result<i64, Cause>, at: u32, operands: &mut Operands<'_>) -> Next
     requires at { at + 1 < 2 ^ 32 }
     requires room { length operands.old < MOST_OPERANDS }
     ensures { (m : Workspace) → outcome_of result at operands.new m ≡ or_trap value (λ z. Going (at + 1) (z ∷ operands.old) m) }
@@ -35,7 +35,7 @@ fn finish(value: Result<i64, Cause>, at: u32, operands: &mut Operands) -> Next
 
 /// An operator on the two operands on top.
 #[inline(always)]
-pub fn operate(op: Op, at: u32, operands: &mut Operands) -> Next
+pub fn operate(op: Op, at: u32, operands: &mut Operands<'_>) -> Next
     requires at { at + 1 < 2 ^ 32 }
     requires two { 1 < length operands.old }
     ensures { (m : Workspace)
@@ -49,7 +49,7 @@ pub fn operate(op: Op, at: u32, operands: &mut Operands) -> Next
 
 /// The number on top with the other sign.
 #[inline(always)]
-pub fn negate(at: u32, operands: &mut Operands) -> Next
+pub fn negate(at: u32, operands: &mut Operands<'_>) -> Next
     requires at { at + 1 < 2 ^ 32 }
     requires one { 0 < length operands.old }
     ensures { (m : Workspace)
@@ -61,7 +61,7 @@ pub fn negate(at: u32, operands: &mut Operands) -> Next
 
 /// 1 where the number on top is 0, else 0; or the other way round.
 #[inline(always)]
-pub fn test_zero(zero: bool, at: u32, operands: &mut Operands) -> Next
+pub fn test_zero(zero: bool, at: u32, operands: &mut Operands<'_>) -> Next
     requires at { at + 1 < 2 ^ 32 }
     requires one { 0 < length operands.old }
     ensures { (m : Workspace)
@@ -75,7 +75,7 @@ pub fn test_zero(zero: bool, at: u32, operands: &mut Operands) -> Next
 
 /// Pushes a number.
 #[inline(always)]
-pub fn push(value: i64, at: u32, operands: &mut Operands) -> Next
+pub fn push(value: i64, at: u32, operands: &mut Operands<'_>) -> Next
     requires at { at + 1 < 2 ^ 32 }
     requires room { length operands.old < MOST_OPERANDS }
     ensures { (m : Workspace) → outcome_of result at operands.new m ≡ Going (at + 1) (value ∷ operands.old) m }
@@ -93,7 +93,7 @@ fn is_within(n: u32, i: i64) -> bool
 
 /// The trap `index`, unless the number on top is an index below n.
 #[inline(always)]
-pub fn bound(n: u32, at: u32, operands: &mut Operands) -> Next
+pub fn bound(n: u32, at: u32, operands: &mut Operands<'_>) -> Next
     requires at { at + 1 < 2 ^ 32 }
     requires one { 0 < length operands.old }
     ensures { (m : Workspace)
@@ -111,7 +111,7 @@ pub fn bound(n: u32, at: u32, operands: &mut Operands) -> Next
 
 /// Goes to an address if the number on top is 0.
 #[inline(always)]
-pub fn jump_zero(to: u32, at: u32, operands: &mut Operands) -> Next
+pub fn jump_zero(to: u32, at: u32, operands: &mut Operands<'_>) -> Next
     requires at { at + 1 < 2 ^ 32 }
     requires one { 0 < length operands.old }
     ensures { (m : Workspace)
@@ -126,7 +126,7 @@ pub fn jump_zero(to: u32, at: u32, operands: &mut Operands) -> Next
 
 /// Accepts, or traps if the number on top is 0.
 #[inline(always)]
-pub fn test(at: u32, operands: &mut Operands) -> Next
+pub fn test(at: u32, operands: &mut Operands<'_>) -> Next
     requires at { at + 1 < 2 ^ 32 }
     requires one { 0 < length operands.old }
     ensures { (m : Workspace)
@@ -141,7 +141,13 @@ pub fn test(at: u32, operands: &mut Operands) -> Next
 
 /// The loop over the numbers between the two operands on top begins, or is passed over.
 #[inline(always)]
-pub fn range(k: u32, past: u32, at: u32, operands: &mut Operands, counters: &mut Counters) -> Next
+pub fn range(
+    k: u32,
+    past: u32,
+    at: u32,
+    operands: &mut Operands<'_>,
+    counters: &mut Counters,
+) -> Next
     requires at { at + 1 < 2 ^ 32 }
     requires two { 1 < length operands.old }
     ensures { (m : Workspace)
@@ -155,7 +161,7 @@ pub fn range(k: u32, past: u32, at: u32, operands: &mut Operands, counters: &mut
     match span(now, end) {
         Ok(0) => Next::Go(past),
         Ok(_) => {
-            counters.set(k, Some(Counting { now, end }));
+            counters.set(k, Counting { now, end });
             Next::Go(at + 1)
         }
         Err(cause) => Next::Trap(cause),
@@ -176,15 +182,15 @@ pub fn again(k: u32, first: u32, at: u32, counters: &mut Counters) -> Next
             let now = counter.now + 1;
             counters.set(
                 k,
-                Some(Counting {
+                Counting {
                     now,
                     end: counter.end,
-                }),
+                },
             );
             Next::Go(first)
         }
         Some(_) => {
-            counters.set(k, None);
+            counters.unset(k);
             Next::Go(at + 1)
         }
         None => Next::Trap(Cause::Fail),
@@ -193,7 +199,7 @@ pub fn again(k: u32, first: u32, at: u32, counters: &mut Counters) -> Next
 
 /// Pushes a counter.
 #[inline(always)]
-pub fn counter(k: u32, at: u32, operands: &mut Operands, counters: &Counters) -> Next
+pub fn counter(k: u32, at: u32, operands: &mut Operands<'_>, counters: &Counters) -> Next
     requires at { at + 1 < 2 ^ 32 }
     requires room { length operands.old < MOST_OPERANDS }
     ensures { (m : Workspace)

@@ -1,42 +1,41 @@
 //! The operands of one turn.
 
-ghost use Rattle.std.specs.Prelude.{◌≡◌, ℤ, ◌<◌, ◌≤◌, List, [], ◌∷◌, length, IfOk};
+ghost use Rattle.std.specs.Prelude.{◌≡◌, ◌<◌, ◌≤◌, [], ◌∷◌, length};
+ghost use Rattle.rb_base.specs.declared.limits.TheConstants.{MOST_OPERANDS};
 ghost use Rattle.rb_code.specs.WordMachine.Act.{arguments, below};
 
-use rb_base::{MOST_OPERANDS, Memory};
-use std::alloc::Global;
 use std::marker::Model;
 
-/// At most `MOST_OPERANDS` numbers on a stack, in memory that `new` reserves. Contracts see their list, the top first.
+/// At most `MOST_OPERANDS` numbers on a stack, in memory that is lent for a turn. Contracts see their list, the top first.
 #[derive(Drop)]
-pub struct Operands {
-    values: Vec<i64>,
+pub struct Operands<'a> {
+    values: &'a mut [i64],
     height: usize,
 }
 
-impl Model for Operands {
-    ghost use Rattle.std.specs.Prelude.{◌≡◌, ℤ, ◌≤◌, List, take, reverse, vec_len};
+impl<'a> Model for Operands<'a> {
+    ghost use Rattle.std.specs.Prelude.{◌≡◌, ℤ, ◌≤◌, List, take, reverse, length};
     ghost use Rattle.rb_base.specs.declared.limits.TheConstants.{MOST_OPERANDS};
 
     ghost Value = { List ℤ };
 
-    ghost view = { λ s. reverse (take s.height s.values.items) };
+    ghost view = { λ s. reverse (take s.height s.values.now) };
 
-    ghost invariant = { λ s. (vec_len s.values ≡ MOST_OPERANDS) × (s.height ≤ MOST_OPERANDS) };
+    ghost invariant = { λ s. (length s.values.now ≡ MOST_OPERANDS) × (s.height ≤ MOST_OPERANDS) };
 }
 
-impl Operands {
-    /// None yet; `Memory` if it is wanting.
-    pub fn new(alloc: Global) -> Result<Operands, Memory>
-        ensures { IfOk result (λ operands. operands ≡ []) }
+impl<'a> Operands<'a> {
+    /// None yet, in this memory.
+    #[inline(always)]
+    pub fn none(values: &'a mut [i64]) -> Self
+        requires { length values.old ≡ MOST_OPERANDS }
+        ensures { result ≡ [] }
     {
-        Ok(Operands {
-            values: vec![in alloc; 0; MOST_OPERANDS]?,
-            height: 0,
-        })
+        Operands { values, height: 0 }
     }
 
     /// One more, on top.
+    #[inline(always)]
     pub fn push(&mut self, value: i64)
         requires { length self.old < MOST_OPERANDS }
         ensures { self.new ≡ value ∷ self.old }
@@ -46,6 +45,7 @@ impl Operands {
     }
 
     /// The top one, which goes.
+    #[inline(always)]
     pub fn pop(&mut self) -> i64
         requires { 0 < length self.old }
         ensures popped { self.old ≡ result ∷ self.new }
@@ -55,14 +55,8 @@ impl Operands {
         self.values[self.height]
     }
 
-    /// None is left.
-    pub fn clear(&mut self)
-        ensures { self.new ≡ [] }
-    {
-        self.height = 0;
-    }
-
     /// The top so many, the deepest first.
+    #[inline(always)]
     pub fn top(&self, count: u32) -> &[i64]
         requires { count ≤ length self.now }
         ensures top { result.now ≡ arguments count self.now }
@@ -71,6 +65,7 @@ impl Operands {
     }
 
     /// The top so many go.
+    #[inline(always)]
     pub fn drop_top(&mut self, count: u32)
         requires { count ≤ length self.old }
         ensures { self.new ≡ below count self.old }

@@ -13,4 +13,5 @@ pub mod Stepping
 pub mod Leaving
 pub mod Entered
 pub mod Counted
+pub mod Landing
 pub mod Looked

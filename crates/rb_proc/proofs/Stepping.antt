@@ -103,10 +103,10 @@ module _ (c : Code) (q : Process Standing Copy) (slots : Slots) (there : Bool) w
 
 -- A step of a process by its parts: what it is given is what the word machine is given.
 module _ (c : Code) (r : Contents) (process at kept : ℕ) (at_line : Bool) (status : ProcessStatus) (slots : Slots) (there : Bool)
-    (bench : Bench) (sg : Sight)
+    (bench : Bench) (operands : List ℤ) (sg : Sight)
     (w : Wanted) (alt : ℕ) (msg : Option ℤ) (want_ok : w ≡ wanted_by (want c (standing r process at kept))) (alt_ok : alt ≡ alternate_by w r.levels)
     (msg_ok : msg ≡ message_by c process r.words slots there w) (process_ok : sg.process ≡ process) (message_ok : sg.message ≡ msg)
-    (alternate_ok : sg.alternate ≡ alt) (operands_ok : bench.operands ≡ []) (pieces_ok : bench.line.pieces ≡ [])
+    (alternate_ok : alternate_by sg.wanted r.levels ≡ alt) (operands_ok : operands ≡ []) (pieces_ok : bench.line.pieces ≡ [])
     (counters_ok : bench.counters ≡ no_counters) where
   abbrev pub now : Process Standing Copy
   now = (seen r process at kept at_line status).process
@@ -124,9 +124,9 @@ module _ (c : Code) (r : Contents) (process at kept : ℕ) (at_line : Bool) (sta
         prior = prior_words (copy_of (last_of r.levels));
         message =
             sg.message;
-        alternate = sg.alternate;
+        alternate = alternate_by sg.wanted r.levels;
       }) process_ok
-      ∙ ap (λ (m : Option ℤ). record { process = process; prior = prior_words (copy_of (last_of r.levels)); message = m; alternate = sg.alternate })
+      ∙ ap (λ (m : Option ℤ). record { process = process; prior = prior_words (copy_of (last_of r.levels)); message = m; alternate = alternate_by sg.wanted r.levels })
       (message_ok ∙ msg_ok ∙ ap (λ (x : Wanted). message_by c process r.words slots there x) want_ok
       ∙ message_is c now.state slots there (want c now.state))
       ∙ ap (λ (a : ℕ). record { process = process; prior = prior_words (copy_of (last_of r.levels)); message = message_now; alternate = a })
@@ -139,15 +139,15 @@ module _ (c : Code) (r : Contents) (process at kept : ℕ) (at_line : Bool) (sta
 
   pub step_safe : (groups : List Membership) → StandsSoundly c groups now.state now.levels
       → Serves (want c now.state) alternate_now message_now now.levels
-      → Safe c (see_of sg r.levels) (IsUnchanged (whole c.texts bench r slots)) (most_steps c) (at + 1) bench.operands (whole c.texts bench r slots)
+      → Safe c (see_of sg r.levels) (IsUnchanged (whole c.texts bench r slots)) (most_steps c) (at + 1) operands (whole c.texts bench r slots)
   step_safe groups stands serves =
       subst
-      (λ (see : Seen). Safe c see (IsUnchanged (whole c.texts bench r slots)) (most_steps c) (at + 1) bench.operands
+      (λ (see : Seen). Safe c see (IsUnchanged (whole c.texts bench r slots)) (most_steps c) (at + 1) operands
       (whole c.texts bench r slots))
       (sym sight_is)
       (subst
       (λ (m : Workspace). Safe c (sight now.state alternate_now (copy_of (last_of now.levels)) message_now) (IsUnchanged m)
-      (most_steps c) (at + 1) bench.operands m)
+      (most_steps c) (at + 1) operands m)
       (sym memory_is)
       (subst
       (λ (xs : List ℤ). Safe c (sight now.state alternate_now (copy_of (last_of now.levels)) message_now)
@@ -158,15 +158,15 @@ module _ (c : Code) (r : Contents) (process at kept : ℕ) (at_line : Bool) (sta
   pub step_stays : (groups : List Membership) → StandsSoundly c groups now.state now.levels
       → Serves (want c now.state) alternate_now message_now now.levels
       → Stays c (see_of sg r.levels) (entry_calls (copy_of (last_of r.levels))) r.words (most_steps c)
-      (at + 1) bench.operands (whole c.texts bench r slots)
+      (at + 1) operands (whole c.texts bench r slots)
   step_stays groups stands serves =
       subst
       (λ (see : Seen). Stays c see (entry_calls (copy_of (last_of r.levels))) r.words (most_steps c)
-      (at + 1) bench.operands (whole c.texts bench r slots))
+      (at + 1) operands (whole c.texts bench r slots))
       (sym sight_is)
       (subst
       (λ (m : Workspace). Stays c (sight now.state alternate_now (copy_of (last_of now.levels)) message_now)
-      (entry_calls (copy_of (last_of r.levels))) r.words (most_steps c) (at + 1) bench.operands m)
+      (entry_calls (copy_of (last_of r.levels))) r.words (most_steps c) (at + 1) operands m)
       (sym memory_is)
       (subst
       (λ (xs : List ℤ). Stays c (sight now.state alternate_now (copy_of (last_of now.levels)) message_now)
@@ -175,17 +175,17 @@ module _ (c : Code) (r : Contents) (process at kept : ℕ) (at_line : Bool) (sta
       (steps_stay c groups now.state now.levels alternate_now message_now slots stands serves)))
 
   -- so whatever is made of it is what is made of that
-  as_given : {A : Type 0} (f : Seen → Workspace → List ℤ → A) → f (see_of sg r.levels) (whole c.texts bench r slots) bench.operands
+  as_given : {A : Type 0} (f : Seen → Workspace → List ℤ → A) → f (see_of sg r.levels) (whole c.texts bench r slots) operands
       ≡ f (sight now.state alternate_now (copy_of (last_of now.levels)) message_now) (memory_of now.state slots) []
   as_given f =
-      ap (λ (see : Seen). f see (whole c.texts bench r slots) bench.operands) sight_is
-      ∙ ap (λ (m : Workspace). f (sight now.state alternate_now (copy_of (last_of now.levels)) message_now) m bench.operands) memory_is
+      ap (λ (see : Seen). f see (whole c.texts bench r slots) operands) sight_is
+      ∙ ap (λ (m : Workspace). f (sight now.state alternate_now (copy_of (last_of now.levels)) message_now) m operands) memory_is
       ∙ ap (λ (xs : List ℤ). f (sight now.state alternate_now (copy_of (last_of now.levels)) message_now) (memory_of now.state slots) xs) operands_ok
 
-  pub executes : execute c (see_of sg r.levels) (most_steps c) (at + 1) bench.operands (whole c.texts bench r slots) ≡ whole_step c now slots there
+  pub executes : execute c (see_of sg r.levels) (most_steps c) (at + 1) operands (whole c.texts bench r slots) ≡ whole_step c now slots there
   executes = as_given (λ see m xs. execute c see (most_steps c) (at + 1) xs m)
 
-  pub step_named : named_along c (see_of sg r.levels) (most_steps c) (at + 1) bench.operands (whole c.texts bench r slots)
+  pub step_named : named_along c (see_of sg r.levels) (most_steps c) (at + 1) operands (whole c.texts bench r slots)
       ≡ named_in_step c now slots there
   step_named = as_given (λ see m xs. named_along c see (most_steps c) (at + 1) xs m)
 
@@ -205,9 +205,9 @@ safe_weaker c see P Q f (suc n) a xs m s = (s.0, on (λ b ys later k. safe_weake
     on next Unfinished k = absurd k
 
 -- Settling by its parts.
-module _ (c : Code) (r : Contents) (process at kept : ℕ) (bench : Bench) (sg : Sight) (process_ok : sg.process ≡ process)
+module _ (c : Code) (r : Contents) (process at kept : ℕ) (bench : Bench) (operands : List ℤ) (sg : Sight) (process_ok : sg.process ≡ process)
     (message_ok : sg.message ≡ None)
-    (alternate_ok : sg.alternate ≡ 0) (operands_ok : bench.operands ≡ []) (pieces_ok : bench.line.pieces ≡ [])
+    (alternate_ok : alternate_by sg.wanted r.levels ≡ 0) (operands_ok : operands ≡ []) (pieces_ok : bench.line.pieces ≡ [])
     (counters_ok : bench.counters ≡ no_counters) where
   abbrev pub state_now : Standing
   state_now = standing r process at kept
@@ -222,14 +222,14 @@ module _ (c : Code) (r : Contents) (process at kept : ℕ) (bench : Bench) (sg :
         prior = prior_words (copy_of (last_of r.levels));
         message =
             sg.message;
-        alternate = sg.alternate;
+        alternate = alternate_by sg.wanted r.levels;
       }) process_ok
       ∙ ap (λ (m : Option ℤ). record {
         process = process;
         prior = prior_words (copy_of (last_of r.levels));
         message =
             m;
-        alternate = sg.alternate;
+        alternate = alternate_by sg.wanted r.levels;
       }) message_ok
       ∙ ap (λ (a : ℕ). record { process = process; prior = prior_words (copy_of (last_of r.levels)); message = None; alternate = a }) alternate_ok
 
@@ -239,34 +239,34 @@ module _ (c : Code) (r : Contents) (process at kept : ℕ) (bench : Bench) (sg :
       ∙ ap (λ (cs : List (Option Counting)). mem r [] cs []) counters_ok
 
   settling_given : {A : Type 0} (f : Seen → Workspace → List ℤ → A)
-      → f (see_of sg r.levels) (whole c.texts bench r []) bench.operands ≡ f sees (memory_of state_now []) []
+      → f (see_of sg r.levels) (whole c.texts bench r []) operands ≡ f sees (memory_of state_now []) []
   settling_given f =
-      ap (λ (see : Seen). f see (whole c.texts bench r []) bench.operands) settling_sight
-      ∙ ap (λ (m : Workspace). f sees m bench.operands) settling_memory ∙ ap (λ (xs : List ℤ). f sees (memory_of state_now []) xs) operands_ok
+      ap (λ (see : Seen). f see (whole c.texts bench r []) operands) settling_sight
+      ∙ ap (λ (m : Workspace). f sees m operands) settling_memory ∙ ap (λ (xs : List ℤ). f sees (memory_of state_now []) xs) operands_ok
 
-  pub settle_named : named_along c (see_of sg r.levels) (most_steps c) at bench.operands (whole c.texts bench r [])
+  pub settle_named : named_along c (see_of sg r.levels) (most_steps c) at operands (whole c.texts bench r [])
       ≡ named_settling c state_now r.levels
   settle_named = settling_given (λ see m xs. named_along c see (most_steps c) at xs m)
 
   pub settle_safe : (groups : List Membership) → SettlesSoundly c groups state_now r.levels
-      → Safe c (see_of sg r.levels) (IsUnchanged (whole c.texts bench r [])) (most_steps c) at bench.operands (whole c.texts bench r [])
+      → Safe c (see_of sg r.levels) (IsUnchanged (whole c.texts bench r [])) (most_steps c) at operands (whole c.texts bench r [])
   settle_safe groups settles =
       subst
-      (λ (see : Seen). Safe c see (IsUnchanged (whole c.texts bench r [])) (most_steps c) at bench.operands (whole c.texts bench r []))
+      (λ (see : Seen). Safe c see (IsUnchanged (whole c.texts bench r [])) (most_steps c) at operands (whole c.texts bench r []))
       (sym settling_sight)
-      (subst (λ (m : Workspace). Safe c sees (IsUnchanged m) (most_steps c) at bench.operands m) (sym settling_memory)
+      (subst (λ (m : Workspace). Safe c sees (IsUnchanged m) (most_steps c) at operands m) (sym settling_memory)
       (subst (λ (xs : List ℤ). Safe c sees (IsUnchanged (memory_of state_now [])) (most_steps c) at xs (memory_of state_now [])) (sym operands_ok)
       (safe_weaker c sees (λ m. ⊥) (IsUnchanged (memory_of state_now [])) (λ m k. absurd k) (most_steps c) at [] (memory_of state_now [])
       (settling_is_safe c groups state_now r.levels settles))))
 
   pub settle_stays : (groups : List Membership) → SettlesSoundly c groups state_now r.levels
-      → Stays c (see_of sg r.levels) (entry_calls (copy_of (last_of r.levels))) [] (most_steps c) at bench.operands (whole c.texts bench r [])
+      → Stays c (see_of sg r.levels) (entry_calls (copy_of (last_of r.levels))) [] (most_steps c) at operands (whole c.texts bench r [])
   settle_stays groups settles =
       subst
-      (λ (see : Seen). Stays c see (entry_calls (copy_of (last_of r.levels))) [] (most_steps c) at bench.operands
+      (λ (see : Seen). Stays c see (entry_calls (copy_of (last_of r.levels))) [] (most_steps c) at operands
       (whole c.texts bench r []))
       (sym settling_sight)
-      (subst (λ (m : Workspace). Stays c sees (entry_calls (copy_of (last_of r.levels))) [] (most_steps c) at bench.operands m) (sym settling_memory)
+      (subst (λ (m : Workspace). Stays c sees (entry_calls (copy_of (last_of r.levels))) [] (most_steps c) at operands m) (sym settling_memory)
       (subst
       (λ (xs : List ℤ). Stays c sees (entry_calls (copy_of (last_of r.levels))) [] (most_steps c) at xs (memory_of state_now []))
       (sym operands_ok)
@@ -274,7 +274,7 @@ module _ (c : Code) (r : Contents) (process at kept : ℕ) (bench : Bench) (sg :
 
   pub settle_comes : (came : Ended) (after : Contents) (pieces : List (List ℕ)) (counters : List (Option Counting))
       (slots : Slots) (st : ProcessStatus) (waiting : List (List ℕ))
-      → ended_of came (mem after pieces counters slots) ≡ execute c (see_of sg r.levels) (most_steps c) at bench.operands (whole c.texts bench r [])
+      → ended_of came (mem after pieces counters slots) ≡ execute c (see_of sg r.levels) (most_steps c) at operands (whole c.texts bench r [])
       → KeepsEnded came r after [] slots
       → status_of st ≡ status_at (wants_there c (slice_get c.instrs (stop_at came at)) (slice_get c.instrs (stop_at came at + 1)))
       → record { state = standing after process (stop_at came at) kept; levels = after.levels; at_line = false; status = status_of st }
@@ -303,7 +303,7 @@ module _ (c : Code) (r : Contents) (process at kept : ℕ) (bench : Bench) (sg :
 
   pub settle_seen : (came : Ended) (after : Contents) (pieces : List (List ℕ)) (counters : List (Option Counting))
       (slots : Slots) (st : ProcessStatus) (to : ℕ)
-      → ended_of came (mem after pieces counters slots) ≡ execute c (see_of sg r.levels) (most_steps c) at bench.operands (whole c.texts bench r [])
+      → ended_of came (mem after pieces counters slots) ≡ execute c (see_of sg r.levels) (most_steps c) at operands (whole c.texts bench r [])
       → KeepsEnded came r after [] slots → to ≡ stop_at came at
       → status_of st ≡ status_at (wants_there c (slice_get c.instrs to) (slice_get c.instrs (to + 1)))
       → seen after process to kept false st ≡ record { process = settled (kind_of c) state_now r.levels; waiting = r.waiting }

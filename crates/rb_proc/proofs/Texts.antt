@@ -1,5 +1,5 @@
 -- A text of the code joins the line.
-use Rattle.std.proofs.Common.{◌≡◌, ℕ, zero, suc, ◌+◌, ◌<◌, List, [], ◌∷◌, ◌++◌, map, length, refl, ap, sym, ◌∙◌, arith}
+use Rattle.std.proofs.Common.{◌≡◌, ℕ, zero, suc, ◌+◌, ◌<◌, ℤ, List, [], ◌∷◌, ◌++◌, map, length, refl, ap, sym, ◌∙◌, arith}
 use Rattle.std.specs.Prelude.{slice_get}
 use Rattle.std.specs.Option.{unwrap_or}
 use Rattle.std.proofs.lemmas.List.{map-append}
@@ -19,14 +19,14 @@ there_is [] k go h = absurd (omega arith)
 there_is (text ∷ texts) zero go h = refl
 there_is (text ∷ texts) (suc k) go h = there_is texts k go (omega arith)
 
-pub text_comes : (texts : List (List ℕ)) (bench : Bench) (r : Contents) (slots : Slots) (at k : ℕ) (after : LineSeen)
+pub text_comes : (texts : List (List ℕ)) (bench : Bench) (operands : List ℤ) (r : Contents) (slots : Slots) (at k : ℕ) (after : LineSeen)
     → after ≡ record { pieces = bench.line.pieces ++ Text k ∷ []; bytes = bench.line.bytes } → k < length texts
-    → Going (at + 1) bench.operands (mem r (map (piece_text texts) after.pieces) bench.counters slots)
+    → Going (at + 1) operands (mem r (map (piece_text texts) after.pieces) bench.counters slots)
     ≡ if_there (slice_get texts k)
-    (λ text. Going (at + 1) bench.operands (mem r (map (piece_text texts) bench.line.pieces ++ text ∷ []) bench.counters slots))
-text_comes texts bench r slots at k after e h =
-    ap (λ (l : LineSeen). Going (at + 1) bench.operands (mem r (map (piece_text texts) l.pieces) bench.counters slots)) e
-    ∙ ap (λ (ps : List (List ℕ)). Going (at + 1) bench.operands (mem r ps bench.counters slots))
+    (λ text. Going (at + 1) operands (mem r (map (piece_text texts) bench.line.pieces ++ text ∷ []) bench.counters slots))
+text_comes texts bench operands r slots at k after e h =
+    ap (λ (l : LineSeen). Going (at + 1) operands (mem r (map (piece_text texts) l.pieces) bench.counters slots)) e
+    ∙ ap (λ (ps : List (List ℕ)). Going (at + 1) operands (mem r ps bench.counters slots))
     (map-append (piece_text texts) bench.line.pieces (Text k ∷ []))
     ∙ sym (there_is texts k
-    (λ text. Going (at + 1) bench.operands (mem r (map (piece_text texts) bench.line.pieces ++ text ∷ []) bench.counters slots)) h)
+    (λ text. Going (at + 1) operands (mem r (map (piece_text texts) bench.line.pieces ++ text ∷ []) bench.counters slots)) h)

@@ -8,6 +8,7 @@ use Rattle.rb_code.specs.Instructions.Plain.{Code}
 use Rattle.rb_code.specs.WordMachine.Workspace.{body_place, part_of, variables_place}
 use Rattle.rb_code.specs.WordMachine.Act.{Sight as Seen}
 use Rattle.rb_code.specs.WordMachine.Turn.{Copy, prior_words}
+use Rattle.rb_proc.specs.Given.{alternate_by}
 use Rattle.rb_proc.specs.Places.{most_places}
 use Rattle.rb_proc.specs.declared.sight.Sight.{Sight}
 
@@ -16,7 +17,7 @@ see_of sight levels = record {
   process = sight.process;
   prior = prior_words (copy_of (last_of levels));
   message = sight.message;
-  alternate = sight.alternate;
+  alternate = alternate_by sight.wanted levels;
 }
 
 -- a turn is one of a process of this code

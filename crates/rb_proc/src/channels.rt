@@ -77,7 +77,7 @@ pub fn put_value<L: Ledger>(
     process: u32,
     channel: u32,
     at: u32,
-    operands: &mut Operands,
+    operands: &mut Operands<'_>,
     memory: &mut Recoverable<L>,
     mails: &mut [Mail],
     steps: &mut Steps<L>,
@@ -112,7 +112,7 @@ pub fn take_message<L: Ledger>(
     message: Option<i64>,
     channel: u32,
     at: u32,
-    operands: &mut Operands,
+    operands: &mut Operands<'_>,
     memory: &mut Recoverable<L>,
     steps: &mut Steps<L>,
 ) -> Next

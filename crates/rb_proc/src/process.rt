@@ -1,6 +1,6 @@
 //! One process: what it wants, its steps, its levels and its lines.
 
-ghost use Rattle.std.specs.Prelude.{◌≡◌, ℕ, ◌+◌, ◌-◌, ◌*◌, ◌<◌, ◌≤◌, ◌^◌, false, List, [], ◌∷◌, ◌++◌, length, position, drop, slice_get, Some, IfOk, option_copied};
+ghost use Rattle.std.specs.Prelude.{◌≡◌, ℕ, ◌+◌, ◌-◌, ◌*◌, ◌<◌, ◌≤◌, ◌^◌, false, true, List, [], ◌∷◌, ◌++◌, length, position, drop, slice_get, Some, IfOk, option_copied};
 ghost use Rattle.std.specs.Borrow.{sem};
 ghost use Rattle.std.specs.Io.BufRead.{Rests};
 ghost use Rattle.rb_base.specs.declared.limits.TheConstants.{MOST_HELD_BYTES, MOST_OPEN_LEVELS};
@@ -19,7 +19,7 @@ ghost use Rattle.rb_code.specs.WordMachine.WordKind.{cursor_in};
 ghost use Rattle.rb_code.specs.WordMachine.WordRun.{opening_standing, variable_words};
 ghost use Rattle.rb_proc.specs.Contents.{IsBelowLast};
 ghost use Rattle.rb_proc.specs.Entries.{EntersAs};
-ghost use Rattle.rb_proc.specs.Executable.{IsExecutable};
+ghost use Rattle.rb_proc.specs.Executable.{HasNext, IsExecutable};
 ghost use Rattle.rb_operands.specs.Outcomes.{stop_at};
 ghost use Rattle.rb_proc.specs.Runs.{CursorsRise};
 ghost use Rattle.rb_proc.specs.Sees.{AreSized};
@@ -34,11 +34,12 @@ use crate::recoverable::{Recoverable, natural};
 use crate::run::run;
 use crate::sight::Sight;
 use crate::wants::{
-    alternate_of, cursor_of, entry_at, message_of, status_by, status_here, want_at,
+    cursor_of, entry_at, landing, message_of, status_by, status_here, want_at, want_next,
 };
-use rb_base::{Cause, Memory, State, Steps};
+use rb_base::{Cause, MOST_OPERANDS, Memory, State, Steps};
 use rb_code::Code;
 use rb_mail::Mail;
+use rb_operands::operands::Operands;
 use rb_operands::{Bench, Ended};
 use std::alloc::Global;
 use std::marker::Model;
@@ -48,6 +49,7 @@ use std::sync::ledger::Ledger;
 #[derive(Drop)]
 pub struct Proc<L: Ledger> {
     memory: Recoverable<L>,
+    values: Box<[i64; MOST_OPERANDS]>,
     bench: Bench,
     process: u32,
     at: u32,
@@ -88,11 +90,13 @@ impl<L: Ledger> Proc<L> {
                   [];
             }) }
     {
-        let sight = Sight::new(code, process, None, 0);
+        let sight = Sight::new(code, process, None, Wanted::Step);
         let memory = Recoverable::new(alloc, sight.body, steps)?;
+        let values = Box::new(alloc, [0; MOST_OPERANDS])?;
         let bench = Bench::new(alloc)?;
         let mut proc = Proc {
             memory,
+            values,
             bench,
             process,
             at: start_of(code, process),
@@ -115,6 +119,15 @@ impl<L: Ledger> Proc<L> {
             ProcessStatus::Running => want_at(code, self.at),
             ProcessStatus::Finished | ProcessStatus::Failed(_) => Wanted::Idle,
         }
+    }
+
+    /// The same of a process that runs, stands at no test line, and rests where another instruction follows unless it is done.
+    #[inline(always)]
+    pub fn want_next(&self, code: &Code) -> Wanted
+        requires { HasNext (plain code.now) self.now.process.state.at }
+        ensures { result ≡ wanted_by (wanted_in (plain code.now) self.now.process.state) }
+    {
+        want_next(code, self.at)
     }
 
     /// How the process stands; a running one with its number of open levels.
@@ -155,6 +168,13 @@ impl<L: Ledger> Proc<L> {
         ensures { result ≡ stands_at conversation self.now.process }
     {
         self.at_line && self.memory.is_last_of(conversation)
+    }
+
+    /// The address at which it stands: of the `turn` that its next turn begins at, or of `done`.
+    pub fn place(&self) -> u32
+        ensures { result ≡ self.now.process.state.at }
+    {
+        self.at
     }
 
     /// The last turn that was kept.
@@ -208,17 +228,14 @@ impl<L: Ledger> Proc<L> {
             mails,
             steps,
         );
-        let sight = Sight::new(
-            code,
-            self.process,
-            message,
-            alternate_of(wanted, &self.memory),
-        );
+        let sight = Sight::new(code, self.process, message, wanted);
+        let mut operands = Operands::none(&mut *self.values);
         self.bench.clear();
         match run(
             code,
             &sight,
             self.at + 1,
+            &mut operands,
             &mut self.bench,
             &mut self.memory,
             mails,
@@ -226,7 +243,6 @@ impl<L: Ledger> Proc<L> {
         ) {
             Ended::Stop(at, done) => {
                 self.at = at;
-                self.at_line = false;
                 self.status = status_by(done);
                 Outcome::Went
             }
@@ -263,8 +279,8 @@ impl<L: Ledger> Proc<L> {
         self.settle(code, steps);
     }
 
-    // Carries out what stands before the next `turn`, and costs none.
-    #[inline(never)]
+    // Carries out what stands before the next `turn`, and costs none. Mostly that is one jump.
+    #[inline(always)]
     fn settle(&mut self, code: &Code, steps: &mut Steps<L>)
         requires code { IsExecutable (plain code.now) }
         requires none_waits { self.old.waiting ≡ [] }
@@ -272,13 +288,35 @@ impl<L: Ledger> Proc<L> {
         ensures settled { self.new ≡ record self.old { process = settled (kind_of (plain code.now)) self.old.process.state self.old.process.levels } }
         ensures work { steps.new ≤ steps.old + 3 * named_settling (plain code.now) self.old.process.state self.old.process.levels }
     {
-        let sight = Sight::new(code, self.process, None, 0);
+        match landing(code, self.at) {
+            Some(to) => {
+                self.at = to;
+                self.at_line = false;
+                self.status = ProcessStatus::Running;
+            }
+            None => self.settle_along(code, steps),
+        }
+    }
+
+    // The same by all instructions that stand there.
+    #[cold]
+    #[inline(never)]
+    fn settle_along(&mut self, code: &Code, steps: &mut Steps<L>)
+        requires code { IsExecutable (plain code.now) }
+        requires none_waits { self.old.waiting ≡ [] }
+        requires settles { (groups : List Membership) × SettlesSoundly (plain code.now) groups self.old.process.state self.old.process.levels }
+        ensures settled { self.new ≡ record self.old { process = settled (kind_of (plain code.now)) self.old.process.state self.old.process.levels } }
+        ensures work { steps.new ≤ steps.old + 3 * named_settling (plain code.now) self.old.process.state self.old.process.levels }
+    {
+        let sight = Sight::new(code, self.process, None, Wanted::Step);
+        let mut operands = Operands::none(&mut *self.values);
         self.bench.clear();
         let mut mails: [Mail; 0] = [];
         let ended = run(
             code,
             &sight,
             self.at,
+            &mut operands,
             &mut self.bench,
             &mut self.memory,
             &mut mails,
@@ -364,6 +402,7 @@ impl<L: Ledger> Proc<L> {
     }
 
     /// Its held lines are released if no level is open. Where one is, or no line is held, nothing is touched.
+    #[inline(always)]
     pub fn release_if_free(&mut self, steps: &mut Steps<L>)
         requires none_waits { self.old.waiting ≡ [] }
         ensures freed { (c : Plain)
@@ -380,10 +419,30 @@ impl<L: Ledger> Proc<L> {
     }
 
     /// Whether a release would tell lines: some are held, and no level is open.
+    #[inline(always)]
     pub fn may_release(&self) -> bool
         ensures { (c : Plain) → result ≡ false → lines_freed (kind_of c) self.now.process.state self.now.process.levels ≡ [] }
     {
         self.memory.may_release()
+    }
+
+    /// Whether it goes on, and no held line of it is to be released: then a release changes nothing.
+    #[inline(always)]
+    pub fn is_quiet(&self) -> bool
+        ensures running { result ≡ true → self.now.process.status ≡ Running }
+        ensures same { (c : Plain)
+            → result ≡ true
+            → record {
+              process = freed (kind_of c) self.now.process;
+              waiting =
+                  lines_freed (kind_of c) self.now.process.state self.now.process.levels;
+            }
+            ≡ record self.now { waiting = [] } }
+    {
+        match self.status {
+            ProcessStatus::Running => !self.memory.may_release(),
+            ProcessStatus::Finished | ProcessStatus::Failed(_) => false,
+        }
     }
 
     /// Lends the first released line that waits, which no longer does then; `None` exactly where none waits.

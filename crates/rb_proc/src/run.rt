@@ -1,6 +1,6 @@
 //! All instructions up to an end.
 
-ghost use Rattle.std.specs.Prelude.{◌≡◌, ◌+◌, ◌*◌, ◌<◌, ◌≤◌, ◌^◌, ℤ, List, [], length, Option, Some};
+ghost use Rattle.std.specs.Prelude.{◌≡◌, ◌+◌, ◌*◌, ◌<◌, ◌≤◌, ◌^◌, ℤ, List, [], get_or, length, Option, Some};
 ghost use Rattle.rb_code.specs.Instructions.Plain.{Code as Plain, code as plain};
 ghost use Rattle.rb_code.specs.WordMachine.Act.{execute};
 ghost use Rattle.rb_code.specs.SoundCode.Safe.{IsUnchanged, Safe};
@@ -21,6 +21,7 @@ use crate::sight::Sight;
 use rb_base::Steps;
 use rb_code::{Code, Instr};
 use rb_mail::Mail;
+use rb_operands::operands::Operands;
 use rb_operands::{Bench, Ended, Next};
 use std::sync::ledger::Ledger;
 
@@ -30,6 +31,7 @@ pub fn run<L: Ledger>(
     code: &Code,
     sight: &Sight,
     from: u32,
+    operands: &mut Operands<'_>,
     bench: &mut Bench,
     memory: &mut Recoverable<L>,
     mails: &mut [Mail],
@@ -42,34 +44,46 @@ pub fn run<L: Ledger>(
     requires sized { AreSized (plain code.now) mails.old }
     requires safe { Safe (plain code.now) (see_of sight.now memory.old.levels)
         (IsUnchanged (whole (plain code.now).texts bench.old memory.old mails.old))
-        (most_steps (plain code.now)) from bench.old.operands
+        (most_steps (plain code.now)) from operands.old
         (whole (plain code.now).texts bench.old memory.old mails.old) }
     requires stays { (start : List ℤ) × CursorsRise (plain code.now) sight.now.process start
         × Stays (plain code.now) (see_of sight.now memory.old.levels)
-        (entry_calls (copy_of (last_of memory.old.levels))) start (most_steps (plain code.now)) from bench.old.operands
+        (entry_calls (copy_of (last_of memory.old.levels))) start (most_steps (plain code.now)) from operands.old
         (whole (plain code.now).texts bench.old memory.old mails.old) }
     ensures ended { ended_of result (whole (plain code.now).texts bench.new memory.new mails.new)
         ≡ execute (plain code.now) (see_of sight.now memory.old.levels)
-        (most_steps (plain code.now)) from bench.old.operands
+        (most_steps (plain code.now)) from operands.old
         (whole (plain code.now).texts bench.old memory.old mails.old) }
     ensures kept { KeepsEnded result memory.old memory.new mails.old mails.new }
     ensures done { TellsDone (plain code.now) result }
     ensures sized { AreSized (plain code.now) mails.new }
     ensures work { steps.new
         ≤ steps.old + 3 * named_along (plain code.now) (see_of sight.now memory.old.levels)
-        (most_steps (plain code.now)) from bench.old.operands
+        (most_steps (plain code.now)) from operands.old
         (whole (plain code.now).texts bench.old memory.old mails.old) }
 {
+    let instrs = code.instrs.as_slice();
     let mut at = from;
     'turn: loop {
-        let instr = &code.instrs[at as usize];
-        match act(code, sight, instr, at, bench, memory, mails, steps) {
+        let instr = instr_at(instrs, at);
+        match act(
+            code, sight, instr, at, operands, bench, memory, mails, steps,
+        ) {
             Next::Go(to) => at = to,
             Next::Stop => return Ended::Stop(at, is_done(instr)),
             Next::Accepts(to) => return Ended::Accepts(to),
             Next::Trap(cause) => return Ended::Trap(cause),
         }
     }
+}
+
+// The instruction at an address.
+#[inline(always)]
+fn instr_at(instrs: &[Instr], at: u32) -> &Instr
+    requires { at < length instrs.now }
+    ensures { result.now ≡ get_or instrs.now at result.now }
+{
+    &instrs[at as usize]
 }
 
 // Whether a process is done that stands at this instruction.

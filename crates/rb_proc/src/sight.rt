@@ -8,31 +8,32 @@ ghost use Rattle.rb_code.specs.WordMachine.Workspace.{part_of, variables_place};
 ghost use Rattle.rb_proc.specs.Places.{most_places};
 ghost use Rattle.rb_proc.specs.Sees.{IsTurnOf, see_of};
 
+use crate::answers::Wanted;
 use crate::recoverable::Recoverable;
 use rb_code::{Code, Spot};
 use std::sync::ledger::Ledger;
 
-/// What a turn sees: its process, where the variables and the words of the main body begin, the message that is there if one is, and the
-/// alternate that is to be started.
+/// What a turn sees: its process, where the variables and the words of the main body begin, the message that is there if one is, and what
+/// the process wants, by which the alternate is known that is to be started.
 #[derive(Clone, Copy)]
 pub struct Sight {
     pub process: u32,
     pub variables: u32,
     pub body: u32,
     pub message: Option<i64>,
-    pub alternate: u32,
+    pub wanted: Wanted,
 }
 
 impl Sight {
-    /// What a turn of a process sees, with this message and this alternate.
-    pub fn new(code: &Code, process: u32, message: Option<i64>, alternate: u32) -> Self
+    /// What a turn of a process sees, with this message, where it wants this.
+    pub fn new(code: &Code, process: u32, message: Option<i64>, wanted: Wanted) -> Self
         requires process { process < length code.now.processes.items }
         requires places { variables_place (part_of (plain code.now) process) + most_words code.now.edition ≤ most_places }
         requires words { (part_of (plain code.now) process).words ≤ most_words code.now.edition }
         ensures turn { IsTurnOf (plain code.now) result }
         ensures process { result.process ≡ process }
         ensures message { result.message ≡ message }
-        ensures alternate { result.alternate ≡ alternate }
+        ensures wanted { result.wanted ≡ wanted }
     {
         let part = &code.processes[process as usize];
         let variables = 1 + part.channels.len() as u32;
@@ -41,7 +42,7 @@ impl Sight {
             variables,
             body: variables + part.words,
             message,
-            alternate,
+            wanted,
         }
     }
 

@@ -8,7 +8,7 @@ ghost use Rattle.rb_world.specs.Slots.{slot_of};
 ghost use Rattle.rb_code.specs.WordMachine.WordKind.{cursor_in};
 ghost use Rattle.rb_proc.specs.Process.{wanted_by};
 ghost use Rattle.rb_proc.specs.Entries.{EntryIs};
-ghost use Rattle.rb_proc.specs.Executable.{IsExecutable};
+ghost use Rattle.rb_proc.specs.Executable.{HasNext, IsExecutable, IsTurnAt, LandsAt, ends};
 ghost use Rattle.rb_proc.specs.Given.{alternate_by, message_by};
 ghost use Rattle.rb_proc.specs.Runs.{done_or_running};
 ghost use Rattle.rb_proc.specs.Sees.{AreSized};
@@ -35,6 +35,30 @@ pub fn want_at(code: &Code, at: u32) -> Wanted
             None => Wanted::Step,
             Some(instr) => want_of(code, *instr),
         },
+    }
+}
+
+/// The same where an instruction is there, and another one behind it unless the process is done.
+#[inline(always)]
+pub fn want_next(code: &Code, at: u32) -> Wanted
+    requires { HasNext (plain code.now) at }
+    ensures { result ≡ wanted_by (wants_there (plain code.now) (slice_get (plain code.now).instrs at) (slice_get (plain code.now).instrs (at + 1))) }
+{
+    if ends(&code.instrs[at as usize]) {
+        Wanted::Idle
+    } else {
+        want_of(code, code.instrs[at as usize + 1])
+    }
+}
+
+// Whether a process that stands at an instruction is done.
+#[inline(always)]
+fn ends(instr: &Instr) -> bool
+    ensures { result ≡ ends instr.now }
+{
+    match *instr {
+        Instr::Done => true,
+        _ => false,
     }
 }
 
@@ -73,6 +97,28 @@ pub fn status_by(done: bool) -> ProcessStatus
         ProcessStatus::Finished
     } else {
         ProcessStatus::Running
+    }
+}
+
+/// The `turn` to which the jump leads that stands at an address, if that is what stands there.
+#[inline(always)]
+pub fn landing(code: &Code, at: u32) -> Option<u32>
+    ensures { IfSome result (LandsAt (plain code.now) at) }
+{
+    match code.instrs.get(at as usize) {
+        Some(Instr::Jump(to)) => turn_at(code, *to),
+        _ => None,
+    }
+}
+
+// An address, if a `turn` stands there.
+#[inline(always)]
+fn turn_at(code: &Code, at: u32) -> Option<u32>
+    ensures { IfSome result (IsTurnAt (plain code.now) at) }
+{
+    match code.instrs.get(at as usize) {
+        Some(Instr::Turn) => Some(at),
+        _ => None,
     }
 }
 

@@ -28,7 +28,7 @@ use std::sync::ledger::Ledger;
 pub fn load<L: Ledger>(
     from: usize,
     at: u32,
-    operands: &mut Operands,
+    operands: &mut Operands<'_>,
     memory: &Recoverable<L>,
     steps: &mut Steps<L>,
 ) -> Next
@@ -48,7 +48,7 @@ pub fn load<L: Ledger>(
 pub fn prior<L: Ledger>(
     from: usize,
     at: u32,
-    operands: &mut Operands,
+    operands: &mut Operands<'_>,
     memory: &Recoverable<L>,
     steps: &mut Steps<L>,
 ) -> Next
@@ -70,7 +70,7 @@ pub fn prior<L: Ledger>(
 pub fn load_at<L: Ledger>(
     first: usize,
     at: u32,
-    operands: &mut Operands,
+    operands: &mut Operands<'_>,
     memory: &Recoverable<L>,
     steps: &mut Steps<L>,
 ) -> Next
@@ -93,7 +93,7 @@ pub fn load_at<L: Ledger>(
 pub fn prior_at<L: Ledger>(
     first: usize,
     at: u32,
-    operands: &mut Operands,
+    operands: &mut Operands<'_>,
     memory: &Recoverable<L>,
     steps: &mut Steps<L>,
 ) -> Next
@@ -118,7 +118,7 @@ pub fn prior_at<L: Ledger>(
 pub fn store<L: Ledger>(
     to: usize,
     at: u32,
-    operands: &mut Operands,
+    operands: &mut Operands<'_>,
     memory: &mut Recoverable<L>,
     steps: &mut Steps<L>,
 ) -> Next
@@ -142,7 +142,7 @@ pub fn store<L: Ledger>(
 pub fn store_at<L: Ledger>(
     first: usize,
     at: u32,
-    operands: &mut Operands,
+    operands: &mut Operands<'_>,
     memory: &mut Recoverable<L>,
     steps: &mut Steps<L>,
 ) -> Next
@@ -213,7 +213,7 @@ pub fn call<L: Ledger>(
     zeros: u32,
     most: u32,
     at: u32,
-    operands: &mut Operands,
+    operands: &mut Operands<'_>,
     memory: &mut Recoverable<L>,
     steps: &mut Steps<L>,
 ) -> Next

@@ -15,11 +15,13 @@ use Rattle.rb_code.specs.declared.instr.Instr.TheVariants.{There, Absent, Enter}
 use Rattle.rb_code.proofs.Executing.OpenLevels.{body_process}
 use Rattle.rb_code.proofs.Executing.Served.{is_turn, known_behind}
 use Rattle.rb_conv.specs.Conversations.{Conversation, memberships}
+use Rattle.rb_proc.specs.Executable.{HasNext}
 use Rattle.rb_proc.specs.Process.{Seen}
 use Rattle.rb_machine.specs.AtWork.{IsAtWork, MayActNow}
 use Rattle.rb_machine.specs.Worlds.{counts_of, memory_of}
 use Rattle.rb_machine.specs.declared.links.Link.{Link}
 use Rattle.rb_machine.proofs.Knowing.KnownNumbers.{placed}
+use Rattle.rb_machine.proofs.Knowing.Placed.Behind.{has_next}
 
 -- the channel of a receipt
 abbrev receipt_of : Want → Option ℕ
@@ -71,6 +73,16 @@ module _ (c : Code) (groups : List Membership) (counts : List ℕ) (sound : IsSo
 
 module _ (c : Code) (t : ℕ) (procs : List Seen) (table : List Conversation) (slots : Slots) (links : List Link)
     (work : IsAtWork c t procs table slots links) (p : ℕ) (one : Seen) (there : slice_get procs p ≡ Some one) (acts : MayActNow one) where
+  -- an instruction is there, and another one behind it unless the process is done
+  pub next_at_work : HasNext c one.process.state.at
+  next_at_work =
+      let sound = work.sound in
+      let at = placed c (memberships table) (counts_of table) sound t procs table (memory_of slots links) work.known p one there in
+      let q = one.process in
+      let stands = subst (λ b. StandsNow c sound.table Running b q.state q.levels) acts.away
+      (subst (λ s. StandsNow c sound.table s q.at_line q.state q.levels) acts.running at.stands.now) in
+      has_next c (memberships table) sound.table sound.has sound.well.lists q.state q.levels stands
+
   receives_at_work : (channel : ℕ) → receipt_of (want c one.process.state) ≡ Some channel → IsReceiver (slice_get c.channels channel) p
   receives_at_work channel h =
       let sound = work.sound in

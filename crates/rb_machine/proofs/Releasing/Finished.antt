@@ -1,5 +1,5 @@
 -- Where a turn touched one process alone, what is told of it, who runs, and what is released is all that there is.
-use Rattle.std.proofs.Common.{◌≡◌, ℕ, zero, suc, ◌+◌, ◌<◌, ◌≤◌, ℤ, pos, Bool, false, List, [], ◌∷◌, ◌++◌, length, get_or, map, set, slice_set, Option, Some, option_map, slice_get, refl, ap, sym, ◌∙◌, subst, arith}
+use Rattle.std.proofs.Common.{◌≡◌, ℕ, zero, suc, ◌+◌, ◌<◌, ◌≤◌, ℤ, pos, Bool, true, false, List, [], ◌∷◌, ◌++◌, length, get_or, map, set, slice_set, Option, Some, option_map, slice_get, refl, ap, sym, ◌∙◌, subst, arith}
 use Rattle.std.proofs.lemmas.List.{append-nil, length-map}
 use Rattle.std.proofs.lemmas.Option.{slice_get-get_or, slice_get-map, slice_get_read}
 use Rattle.rb_base.specs.declared.event.Event.{Event}
@@ -13,7 +13,7 @@ use Rattle.rb_code.specs.WordMachine.Turn.{Copy, Standing}
 use Rattle.rb_code.specs.WordMachine.WordKind.{word_kind}
 use Rattle.rb_proc.specs.Process.{Seen, kind_of}
 use Rattle.rb_machine.specs.Moves.{passes_of}
-use Rattle.rb_machine.specs.Telling.{AreFreed, HoldsNone, IsFreed, SameBut, WasAlone, ended_by, ended_if, ends_told, freed_one, is_running, running_of}
+use Rattle.rb_machine.specs.Telling.{AreFreed, GoesOnThere, HoldsNone, IsFreed, SameBut, WasAlone, ended_by, ended_if, ends_told, freed_one, is_running, running_of}
 use Rattle.rb_machine.specs.Worlds.{NoneWaits, processes_of}
 use Rattle.rb_machine.specs.declared.telling.Ending.{Ending}
 use Rattle.rb_machine.specs.declared.telling.Ending.TheVariants as ending
@@ -128,6 +128,26 @@ pub freed_beyond : (c : Code) (p : ℕ) (before : List (Process Standing Copy)) 
 freed_beyond c p before qs same free none beyond =
     all_freed_same c qs (subst AreFreed (same_beyond p before (processes_of qs) same beyond) free) none
 
+-- of a process that runs no ending is told
+runs_untold : (p : ℕ) (ran : Bool) (status : ProcessStatus) → status ≡ Running
+    → [] ≡ ended_if ending.Failed p ran status ++ ended_if ending.Done p ran status
+runs_untold p false status e = refl
+runs_untold p true status e = ap (λ (s : ProcessStatus). ended_if ending.Failed p true s ++ ended_if ending.Done p true s) (sym e)
+
+-- what stands at a number already
+set_there : {A : Type 0} (xs : List A) (p : ℕ) (x : A) → slice_get xs p ≡ Some x → xs ≡ set xs p x
+set_there [] p x e = refl
+set_there (y ∷ ys) zero x e = ap (λ z. z ∷ ys) (some_same e)
+set_there (y ∷ ys) (suc p) x e = ap (λ zs. y ∷ zs) (set_there ys p x e)
+
+waits_there : (procs : List Seen) (p : ℕ) (one : Seen) → NoneWaits procs → slice_get procs p ≡ Some one → one.waiting ≡ []
+waits_there [] p one none e = absurd (none_some e)
+waits_there (q ∷ qs) zero one none e = subst (λ (x : Seen). x.waiting ≡ []) (some_same e) none.0
+waits_there (q ∷ qs) (suc p) one none e = waits_there qs p one none.1 e
+
+waits_for_none : (one : Seen) → one.waiting ≡ [] → record one { waiting = [] } ≡ one
+waits_for_none one e = ap (λ (waiting : List (List ℕ)). record { process = one.process; waiting = waiting }) (sym e)
+
 -- What is seen of process number p, which was read and alone was touched.
 module _ (p : ℕ) (running : List Bool) (procs : List Seen) (alone : WasAlone p running (processes_of procs)) where
   module _ (read : Seen) (within : p < length procs) (is : read ≡ get_or procs p read) where
@@ -164,6 +184,25 @@ module _ (p : ℕ) (running : List Bool) (procs : List Seen) (alone : WasAlone p
     pub released_here : (c : Code) (after : Seen) → NoneWaits procs → after ≡ freed_one c read → set procs p after ≡ map (freed_one c) procs
     released_here c after none freed =
         ap (set procs p) freed ∙ freed_here c p alone.before procs read alone.same alone.freed none here
+
+    -- where it ran and goes on there is nothing to tell, to note or to release
+    module _ (goes : GoesOnThere running procs p) where
+      status_is : read.process.status ≡ Running
+      status_is = (goes.goes_on read here).running
+
+      pub told_none : length running ≡ length procs → (events : List Event)
+          → events ≡ events ++ (ended_by ending.Failed 0 running (processes_of procs) ++ ended_by ending.Done 0 running (processes_of procs))
+      told_none as_many events =
+          sym (append-nil events)
+          ∙ told_here as_many events [] (runs_untold p (get_or running p false) read.process.status status_is)
+
+      pub noted_same : running ≡ running_of (processes_of procs)
+      noted_same = set_there running p true goes.ran ∙ noted_here true (sym (ap is_running status_is))
+
+      pub released_same : (c : Code) → NoneWaits procs → procs ≡ map (freed_one c) procs
+      released_same c none =
+          set_there procs p read here
+          ∙ released_here c read none (sym ((goes.goes_on read here).same c ∙ waits_for_none read (waits_there procs p read none here)))
 
   -- where there is no such process there is nothing to see
   module _ (beyond : length procs ≤ p) where

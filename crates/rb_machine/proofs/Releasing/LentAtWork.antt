@@ -14,7 +14,7 @@ use Rattle.rb_machine.specs.Known.{IsKnown}
 use Rattle.rb_machine.specs.Machine.{IsTied}
 use Rattle.rb_machine.specs.Moves.{world}
 use Rattle.rb_machine.specs.Reading.{HasLent}
-use Rattle.rb_machine.specs.Resting.{AreNoted}
+use Rattle.rb_machine.specs.Resting.{AreNoted, AreTallied}
 use Rattle.rb_machine.specs.Telling.{AreFreed, running_of}
 use Rattle.rb_machine.specs.Worlds.{NoneWaits, counts_of, lines_of, memory_of, processes_of, world_of}
 use Rattle.rb_machine.specs.declared.links.Link.{Link}
@@ -79,6 +79,8 @@ tied_same c old new running taken most before released resting tied processes ma
       resting.rests.items resting.changed taken) (sym links)
       (subst (λ (all : List (Process Standing Copy)). AreNoted c (memberships old.table) (record (world old) { processes = all })
       resting.rests.items resting.changed taken) (sym processes) tied.noted)));
+  tallied = subst (λ (all : List (Process Standing Copy)). AreTallied (length all) resting.rests.items resting.changed resting.noted taken)
+      (sym processes) tied.tallied;
 }
 
 pub tied_again : {L : Type 0} (c : Code) (old new : Parts L) (running : List Bool) (taken most : ℕ) (released : Bool) (resting : Resting) (p : ℕ)

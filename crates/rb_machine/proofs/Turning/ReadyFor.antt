@@ -3,11 +3,14 @@ use Rattle.std.proofs.Common.{◌≡◌, ◌⊎◌, ℕ, ◌<◌, Bool, true, fa
 use Rattle.rb_world.specs.Channels.{has_room, message_there}
 use Rattle.rb_world.specs.Kind.{Want, NothingLeft, SendsOn, ReceivesOn, MayReceiveOn, Enters, Starts, Acts}
 use Rattle.rb_world.specs.Slots.{Slots}
+use Rattle.std.proofs.lemmas.Option.{slice_get_read}
+use Rattle.rb_world.proofs.ListFacts.{some_same}
 use Rattle.rb_code.specs.Instructions.Plain.{Code}
 use Rattle.rb_code.specs.SoundCode.Sound.{IsReceiver}
 use Rattle.rb_code.specs.WordMachine.Turn.{Common, want}
 use Rattle.rb_conv.specs.Conversations.{Conversation, memberships}
-use Rattle.rb_proc.specs.Process.{Seen, message_for, wanted_of}
+use Rattle.rb_proc.specs.Executable.{HasNext}
+use Rattle.rb_proc.specs.Process.{Seen, message_for, wanted_by}
 use Rattle.rb_proc.specs.declared.answers.Wanted.{Wanted}
 use Rattle.rb_proc.specs.declared.answers.Wanted.TheVariants as wanted
 use Rattle.rb_machine.specs.AtWork.{IsAtWork, IsStep, MayAct}
@@ -16,15 +19,25 @@ use Rattle.rb_machine.specs.Moves.{IsReadyAt, IsReceiverIf, ReceivesThere, Wants
 use Rattle.rb_machine.specs.Worlds.{kind_with, world_of}
 use Rattle.rb_machine.specs.declared.links.Link.{Link}
 use Rattle.rb_machine.specs.declared.moves.ReadyFor.TheVariants as ready
-use Rattle.rb_machine.proofs.Turning.Acting.{answered, done_idles, is_done, is_entry, is_maybe, is_message, look_steps, receipt_steps, receipt_waits, send_steps, send_waits, starts_or_acts, step_steps}
+use Rattle.rb_machine.proofs.Turning.Acting.{done_idles, is_done, is_entry, is_maybe, is_message, look_steps, receipt_steps, receipt_waits, send_steps, send_waits, starts_or_acts, step_steps}
 use Rattle.rb_machine.proofs.Working.MoveWork.{look_names, receipt_names, send_names, step_names}
-use Rattle.rb_machine.proofs.Passing.Receivers.{takes_as_receiver, waits_as_receiver}
+use Rattle.rb_machine.proofs.Passing.Receivers.{next_at_work, takes_as_receiver, waits_as_receiver}
 use Rattle.rb_machine.proofs.Passing.RoomsAndMessages.{given_is_taken, given_is_taken_if_there}
 
 -- the answer of a process that was read tells what the process wants
 pub wants_read : (c : Code) (procs : List Seen) (p : ℕ) (read : Seen) (answer : Wanted) → p < length procs → read ≡ get_or procs p read
-    → MayAct procs p → answer ≡ wanted_of c read.process → WantsThere c procs p answer
-wants_read c procs p read answer within is may says one there = sym (answered c procs p read one answer within is there (may one there) says)
+    → answer ≡ wanted_by (want c read.process.state) → WantsThere c procs p answer
+wants_read c procs p read answer within is says one there =
+    says
+    ∙ ap (λ (x : Seen). wanted_by (want c x.process.state)) (some_same (sym (slice_get_read procs (length procs) p read refl within is) ∙ there))
+
+-- which has another instruction behind its own, unless it is done
+pub next_read : (c : Code) (t : ℕ) (procs : List Seen) (table : List Conversation) (slots : Slots) (links : List Link)
+    → IsAtWork c t procs table slots links → (p : ℕ) (read : Seen) → p < length procs → read ≡ get_or procs p read → MayAct procs p
+    → HasNext c read.process.state.at
+next_read c t procs table slots links work p read within is may =
+    let there = slice_get_read procs (length procs) p read refl within is in
+    next_at_work c t procs table slots links work p read there (may read there)
 
 -- who takes a message of a channel is its receiver
 pub receives_there : (c : Code) (t : ℕ) (procs : List Seen) (table : List Conversation) (slots : Slots) (links : List Link)

@@ -43,6 +43,7 @@ impl<L: Ledger> Recoverable<L> {
     }
 
     /// Whether a release would tell lines: some are held, and no level is open.
+    #[inline(always)]
     pub fn may_release(&self) -> bool
         ensures { MatchBool result ((length self.now.levels ≡ 0) × (0 < length self.now.held))
             (released_by self.now.levels self.now ≡ record self.now { waiting = [] }) }
@@ -51,6 +52,8 @@ impl<L: Ledger> Recoverable<L> {
     }
 
     // Releases all held lines, where no level is open.
+    #[cold]
+    #[inline(never)]
     fn release(&mut self, steps: &mut Steps<L>)
         requires none_waits { self.old.waiting ≡ [] }
         requires none_open { length self.old.levels ≡ 0 }
@@ -62,6 +65,7 @@ impl<L: Ledger> Recoverable<L> {
     }
 
     /// Releases all held lines if no level is open. Where one is, or no line is held, nothing is touched.
+    #[inline(always)]
     pub fn release_if_free(&mut self, steps: &mut Steps<L>)
         requires none_waits { self.old.waiting ≡ [] }
         ensures lines { self.new ≡ released_by self.old.levels self.old }

@@ -1,5 +1,6 @@
 -- What stands behind the `turn` at which a process stands, and what the table says by it of what the process wants.
-use Rattle.std.proofs.Common.{◌≡◌, ℕ, ◌+◌, List, slice_get, Option, Some, None, refl, ap, sym, ◌∙◌, subst}
+use Rattle.std.proofs.Common.{◌≡◌, ℕ, ◌+◌, ◌<◌, true≢false, List, length, slice_get, Option, Some, None, refl, ap, sym, ◌∙◌, subst}
+use Rattle.std.proofs.lemmas.Option.{slice_get_within}
 use Rattle.rb_world.specs.Kind.{Facts, Membership, Want, NothingLeft, SendsOn, ReceivesOn, MayReceiveOn, Enters, Starts, Acts}
 use Rattle.rb_world.specs.World.{Level}
 use Rattle.rb_code.specs.Instructions.Plain.{Block, Code}
@@ -10,6 +11,7 @@ use Rattle.rb_code.specs.SoundCode.WellFormed.{ListsChannels}
 use Rattle.rb_code.specs.declared.instr.Instr.{Instr}
 use Rattle.rb_code.specs.declared.instr.Instr.TheVariants.{Turn, Room, There, Enter, Start, Done, Absent}
 use Rattle.rb_code.proofs.Executing.StandingSteps.{at_turn}
+use Rattle.rb_proc.specs.Executable.{HasNext}
 
 -- something is left
 abbrev pub IsBusy : Want → Type 0
@@ -95,3 +97,26 @@ module _ (c : Code) (groups : List Membership) (t : Table) (has : HasTable c gro
   pub behind_may : (w : Want) → want c s ≡ w → (one : IsBehind) → MayWant c groups t one.entry w
   behind_may w e one =
       subst (MayWant c groups t one.entry) (sym one.wants ∙ e) (fine_may c groups t one.instr (s.at + 1) one.entry one.fine)
+
+  -- there is an instruction behind a `turn`
+  turned : slice_get c.instrs s.at ≡ Some Turn → s.at + 1 < length c.instrs
+  turned turn = led (t (s.at + 1)) refl (at_turn c groups t has lists s levels stands turn).3
+    where
+      fine_there : (g : Entry) (o : Option Instr) → slice_get c.instrs (s.at + 1) ≡ o → FineAt c groups t o (s.at + 1) g
+          → s.at + 1 < length c.instrs
+      fine_there g None q fine = absurd fine
+      fine_there g (Some instr) q fine = slice_get_within c.instrs (s.at + 1) instr q
+
+      led : (o : Option Entry) → t (s.at + 1) ≡ o → Has o (at_address (s.at + 1) (record stands.entry { mode = Fresh }))
+          → s.at + 1 < length c.instrs
+      led None q h = absurd h
+      led (Some g) q h = fine_there g (slice_get c.instrs (s.at + 1)) refl (has.each (s.at + 1) g q).fine
+
+  pub has_next : HasNext c s.at
+  has_next = by (slice_get c.instrs s.at) refl stands.rests
+    where
+      by : (o : Option Instr) → slice_get c.instrs s.at ≡ o → RestsAt o → HasNext c s.at
+      by None q r = absurd r
+      by (Some Turn) q r = record { instr = Turn; there = q; next = λ e. turned q }
+      by (Some Done) q r = record { instr = Done; there = q; next = λ e. absurd (true≢false e) }
+      by (Some i) q r = absurd r

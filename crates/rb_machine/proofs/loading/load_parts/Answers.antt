@@ -1,18 +1,21 @@
 -- What was loaded is the machine before its first turn.
-use Rattle.std.proofs.Common.{List, length, map, replicate, ap, sym, ◌∙◌, subst, arith}
+use Rattle.std.proofs.Common.{◌≡◌, List, length, map, replicate, ap, sym, ◌∙◌, subst, arith}
 use Rattle.std.specs.List.{All}
+use Rattle.std.proofs.lemmas.List.{length-map}
 use Rattle.rb_base.specs.declared.event.TurnKind.TheVariants.{Idle}
 use Rattle.rb_world.specs.Kind.{Membership}
 use Rattle.rb_world.specs.Slots.{zero_slots}
+use Rattle.rb_world.specs.World.{Process}
 use Rattle.rb_code.specs.Instructions.Plain.{channel, code as plain}
 use Rattle.rb_code.specs.SoundCode.WellFormed.{JoinsTwo}
+use Rattle.rb_code.specs.WordMachine.Turn.{Copy, Standing}
 use Rattle.rb_code.specs.WordMachine.WordRun.{WordWorld}
 use Rattle.rb_code.specs.declared.code.ChannelCode.{ChannelCode}
 use Rattle.rb_conv.specs.Conversations.{memberships, opening}
 use Rattle.rb_proc.specs.Process.{Seen}
 use Rattle.rb_machine.specs.Machine.{Seen as Machine}
 use Rattle.rb_machine.specs.Moves.{world}
-use Rattle.rb_machine.specs.Resting.{AreNoted}
+use Rattle.rb_machine.specs.Resting.{AreNoted, AreTallied}
 use Rattle.rb_machine.specs.Telling.{running_of}
 use Rattle.rb_machine.specs.Worlds.{processes_of}
 use Rattle.rb_machine.specs.declared.rests.Rest.{Rest}
@@ -21,6 +24,7 @@ use Rattle.rb_machine.proofs.Beginning.ExecutableCode.{is_executable}
 use Rattle.rb_machine.proofs.Beginning.Opens.{channels_sized, opens_as, opens_at_work, opens_freed, settles}
 use Rattle.rb_machine.proofs.Turning.TurnOfParts.{none_wait}
 use Rattle.rb_machine.proofs.Unmoved.Noted.{none_noted}
+use Rattle.rb_machine.proofs.Unmoved.Tallied.{none_tallied}
 use Rattle.rb_machine.proofs.loading.load_parts.Goals as goal
 
 pub load_processes-requires-clause-code : goal.load_processes-requires-clause-code
@@ -74,4 +78,20 @@ returns-clause-tied g c = record {
       subst (λ (rests : List Rest). AreNoted code groups first rests resting.changed 0) (sym c.in_ok-resting.ensures.rests)
       (subst (λ changed. AreNoted code groups first none changed 0) (sym c.in_ok-resting.ensures.changed)
       (none_noted code groups first c.len.result));
+  tallied =
+      let resting : Resting = c.in_ok-resting.resting in
+      let none : List Rest = replicate c.len.result (record { since = 0; kind = Idle }) in
+      let all : List (Process Standing Copy) = processes_of c.in_ok-procs.procs.items in
+      let each : c.len.result ≡ length all =
+      omega (
+        arith,
+        c.len.ensures,
+        c.deref-2.ensures.len,
+        ap length c.deref-2.ensures.value,
+        length-map c.in_ok-procs.procs.items (λ (one : Seen). one.process),
+      ) in
+      subst (λ (rests : List Rest). AreTallied (length all) rests resting.changed resting.noted 0) (sym c.in_ok-resting.ensures.rests)
+      (subst (λ changed. AreTallied (length all) none changed resting.noted 0) (sym c.in_ok-resting.ensures.changed)
+      (subst (λ noted. AreTallied (length all) none 0 noted 0) (sym c.in_ok-resting.ensures.noted)
+      (subst (λ n. AreTallied n none 0 0 0) each (none_tallied c.len.result))));
 }

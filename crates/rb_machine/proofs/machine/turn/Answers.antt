@@ -10,10 +10,11 @@ use Rattle.rb_code.specs.WordMachine.WordRun.{WordWorld}
 use Rattle.rb_conv.specs.Conversations.{memberships}
 use Rattle.rb_proc.specs.Process.{Seen}
 use Rattle.rb_machine.specs.Moves.{passes_of, world}
-use Rattle.rb_machine.specs.Telling.{AreFreed, WasAlone, ends_told, running_of}
+use Rattle.rb_machine.specs.Telling.{AreFreed, GoesOnThere, WasAlone, ends_told, running_of}
 use Rattle.rb_machine.specs.Worlds.{NoneWaits, lines_of, processes_of}
 use Rattle.rb_machine.proofs.Together.Alone.{no_passes}
 use Rattle.rb_machine.proofs.Releasing.Finished.{all_freed}
+use Rattle.rb_machine.proofs.Releasing.Quiet.{quiet_alone, quiet_goes_on}
 use Rattle.rb_machine.proofs.Turning.TurnOfParts.{few_after, running_after, running_as_many, turns_to, was_alone, works_on}
 use Rattle.rb_machine.proofs.Working.TurnWork.{entry_adds_nothing, turn_costs}
 use Rattle.rb_machine.proofs.machine.turn.Goals as goal
@@ -44,6 +45,19 @@ finish-requires-clause-alone g c e =
       subst (λ (procs : List Seen). WasAlone c.args.p c.args.running.now (processes_of procs)) (sym c.deref_mut.ensures.value)
           (was_alone (plain c.args.code.now) c.args.number c.args.p c.args.parts.now c.take_turn-came.new.parts c.take_turn-came.new.events.items came
           c.take_turn-came.ensures.moved c.args.running.now c.requires.running c.requires.freed alone),
+    )
+
+pub finish-requires-clause-quiet : goal.finish-requires-clause-quiet
+finish-requires-clause-quiet g c e =
+    let came = c.take_turn-came.result in
+    let procs = c.args.parts.now.procs.items in
+    let quiet = c.take_turn-came.ensures.quiet e in
+    let goes = quiet_goes_on procs c.take_turn-came.new.parts.procs.items c.args.p c.args.running.now came c.requires.running
+    (running_as_many (plain c.args.code.now) c.args.number c.args.p c.args.parts.now c.take_turn-came.new.parts c.take_turn-came.new.events.items
+    came c.take_turn-came.ensures.moved c.args.running.now c.requires.work.work c.requires.running)
+    (c.take_turn-came.ensures.ran e) quiet in (
+      c.is_alone-alone.ensures ∙ quiet_alone came.kind (passes_of came.pass) quiet.kind quiet.none,
+      subst (λ (xs : List Seen). GoesOnThere c.args.running.now xs c.args.p) (sym c.deref_mut.ensures.value) goes,
     )
 
 pub returns-clause-turned : goal.returns-clause-turned

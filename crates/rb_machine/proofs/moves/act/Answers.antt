@@ -1,5 +1,5 @@
 -- What the process is ready for is what it does.
-use Rattle.std.proofs.Common.{◌≡◌, ◌+◌, List, ap, sym, ◌∙◌, subst, refl}
+use Rattle.std.proofs.Common.{true≢false, ◌≡◌, ◌+◌, List, ap, sym, ◌∙◌, subst, refl}
 use Rattle.rb_world.proofs.ListFacts.{some_same}
 use Rattle.rb_world.specs.Kind.{Enters}
 use Rattle.rb_code.specs.Instructions.Plain.{code as plain}
@@ -14,8 +14,14 @@ use Rattle.rb_machine.proofs.Turning.Acting.{entry_enters, moved_as}
 use Rattle.rb_machine.proofs.Turning.Entering.{wants_block}
 use Rattle.rb_machine.proofs.Working.MoveWork.{looks_stepping, looks_unkept, pays_entry, pays_step, pays_waiting}
 use Rattle.rb_machine.proofs.Knowing.KnownNumbers.{numbered_at_work}
-use Rattle.rb_machine.proofs.Turning.ReadyFor.{receives_there, wants_read}
+use Rattle.rb_machine.proofs.Turning.ReadyFor.{next_read, receives_there, wants_read}
 use Rattle.rb_machine.proofs.moves.act.Goals as goal
+
+pub want_next-wanted-requires : goal.want_next-wanted-requires
+want_next-wanted-requires g c =
+    let parts = c.args.parts.now in
+    next_read (plain c.args.code.now) (c.args.turn + 1) parts.procs.items parts.table parts.mails.items parts.links.items c.requires.work.work
+    c.args.p c.index.result.now c.requires.process c.index.ensures c.requires.acting
 
 pub ready-requires-clause-numbered : goal.ready-requires-clause-numbered
 ready-requires-clause-numbered g c =
@@ -35,9 +41,9 @@ ready-requires-clause-receiver g c =
 pub ready-requires-clause-wanted : goal.ready-requires-clause-wanted
 ready-requires-clause-wanted g c =
     let code = plain c.args.code.now in
-    subst (λ (xs : List Seen). WantsThere code xs c.args.p c.want-wanted.result) (sym c.deref.ensures.value)
-    (wants_read code c.args.parts.now.procs.items c.args.p c.index.result.now c.want-wanted.result c.requires.process c.index.ensures
-    c.requires.acting c.want-wanted.ensures)
+    subst (λ (xs : List Seen). WantsThere code xs c.args.p c.want_next-wanted.result) (sym c.deref.ensures.value)
+    (wants_read code c.args.parts.now.procs.items c.args.p c.index.result.now c.want_next-wanted.result c.requires.process c.index.ensures
+    c.want_next-wanted.ensures)
 
 pub enter-requires-clause-wants : goal.enter-requires-clause-wants
 enter-requires-clause-wants g c one there =
@@ -57,8 +63,8 @@ take_step-requires-clause-step g c one there =
 
 pub take_step-requires-clause-wanted : goal.take_step-requires-clause-wanted
 take_step-requires-clause-wanted g c =
-    wants_read (plain c.args.code.now) c.args.parts.now.procs.items c.args.p c.index.result.now c.want-wanted.result c.requires.process c.index.ensures
-    c.requires.acting c.want-wanted.ensures
+    wants_read (plain c.args.code.now) c.args.parts.now.procs.items c.args.p c.index.result.now c.want_next-wanted.result c.requires.process c.index.ensures
+    c.want_next-wanted.ensures
 
 pub returns-in-Idle-clause-moved : goal.returns-in-Idle-clause-moved
 returns-in-Idle-clause-moved g c one there =
@@ -132,3 +138,12 @@ returns-in-Steps-clause-work g c one there =
     let ready = fit one parts.table (memory_of parts.mails.items parts.links.items) c.args.turn there in
     pays_step _ _ _ _ _ _ _ c.ready.ensures.work (c.take_step.ensures.work one there)
     (looks_stepping code one.process c.take_step.result.kind c.in-Steps.there ready.0) ready.2
+
+pub returns-in-Idle-clause-quiet : goal.returns-in-Idle-clause-quiet
+returns-in-Idle-clause-quiet g c e = absurd (true≢false (sym e ∙ c.without_pass.ensures.quiet))
+
+pub returns-in-Waits-clause-quiet : goal.returns-in-Waits-clause-quiet
+returns-in-Waits-clause-quiet g c e = absurd (true≢false (sym e ∙ c.without_pass-in-Waits.ensures.quiet))
+
+pub returns-in-Enters-clause-quiet : goal.returns-in-Enters-clause-quiet
+returns-in-Enters-clause-quiet g c e = absurd (true≢false (sym e ∙ c.enter.ensures.quiet))

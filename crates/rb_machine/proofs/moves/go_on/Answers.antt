@@ -1,5 +1,5 @@
 -- The outermost level beyond its bound is rejected; else a process at a test line waits, and any other acts.
-use Rattle.std.proofs.Common.{◌+◌, ap, sym, ◌∙◌, refl, length, arith}
+use Rattle.std.proofs.Common.{true≢false, ◌+◌, ap, sym, ◌∙◌, refl, length, arith}
 use Rattle.std.proofs.lemmas.Option.{slice_get_read}
 use Rattle.rb_world.specs.Turn.{is_over}
 use Rattle.rb_world.proofs.ListFacts.{slice_get-there, some_same}
@@ -110,3 +110,9 @@ returns-in-None-2-clause-work g c one there =
     (named_away code (memberships parts.table) c.args.turn c.args.p one.process (world parts) c.args.over
     (c.requires.over one there) c.in-None-2.is away)
     refl
+
+pub returns-in-Some-clause-quiet : goal.returns-in-Some-clause-quiet
+returns-in-Some-clause-quiet g c e = absurd (true≢false (sym e ∙ c.undo.ensures.quiet))
+
+pub returns-in-None-clause-quiet : goal.returns-in-None-clause-quiet
+returns-in-None-clause-quiet g c e = absurd (true≢false (sym e ∙ c.without_pass.ensures.quiet))

@@ -1,5 +1,5 @@
 -- A process that is there and runs takes its turn, and no other does.
-use Rattle.std.proofs.Common.{ap, sym, ◌∙◌, refl, List, slice_get}
+use Rattle.std.proofs.Common.{true≢false, ap, sym, ◌∙◌, refl, List, slice_get}
 use Rattle.std.proofs.lemmas.Option.{slice_get_within}
 use Rattle.rb_world.proofs.ListFacts.{some_same}
 use Rattle.rb_code.specs.Instructions.Plain.{code as plain}
@@ -74,3 +74,14 @@ returns-then-is_running-clause-work g c =
 
 pub returns-else-is_running-clause-work : goal.returns-else-is_running-clause-work
 returns-else-is_running-clause-work g c = pays_more _ _
+
+pub returns-then-is_running-clause-ran : goal.returns-then-is_running-clause-ran
+returns-then-is_running-clause-ran g c e =
+    ap (λ (xs : List Seen). runs_there (slice_get (processes_of xs) c.args.p)) (sym c.deref.ensures.value)
+    ∙ (sym c.is_running.ensures ∙ c.if-is_running.true)
+
+pub returns-else-is_running-clause-quiet : goal.returns-else-is_running-clause-quiet
+returns-else-is_running-clause-quiet g c e = absurd (true≢false (sym e ∙ c.without_pass.ensures.quiet))
+
+pub returns-else-is_running-clause-ran : goal.returns-else-is_running-clause-ran
+returns-else-is_running-clause-ran g c e = absurd (true≢false (sym e ∙ c.without_pass.ensures.quiet))

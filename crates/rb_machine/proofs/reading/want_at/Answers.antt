@@ -1,8 +1,6 @@
-use Rattle.std.proofs.Common.{◌≡◌, option_map, Some, ap, sym, ◌∙◌}
-use Rattle.rb_world.specs.World.{Process}
+use Rattle.std.proofs.Common.{ap, sym, ◌∙◌}
 use Rattle.rb_world.proofs.ListFacts.{some_same}
 use Rattle.rb_code.specs.Instructions.Plain.{code as plain}
-use Rattle.rb_code.specs.WordMachine.Turn.{Copy, Standing}
 use Rattle.rb_proc.specs.Process.{wanted_of}
 use Rattle.rb_scope.proofs.Long.{got}
 use Rattle.rb_machine.proofs.ReadAt.{process_there}

@@ -1,6 +1,7 @@
 -- What a step asks for, and where each of its outcomes leads.
-use Rattle.std.proofs.Common.{List, [], ◌∷◌, ◌++◌, None, get_or, slice_get, refl, ap, sym, ◌∙◌, subst, arith}
+use Rattle.std.proofs.Common.{List, [], ◌∷◌, ◌++◌, None, get_or, length, slice_get, true≢false, refl, ap, sym, ◌∙◌, subst, arith}
 use Rattle.std.proofs.lemmas.List.{with_items_is}
+use Rattle.std.proofs.lemmas.Option.{get_or_from_slice_get}
 use Rattle.std.specs.Vec.{with_items}
 use Rattle.rb_code.specs.Instructions.Plain.{code as plain}
 use Rattle.rb_proc.specs.Given.{alternate_by}
@@ -9,6 +10,8 @@ use Rattle.rb_proc.specs.Sees.{AreSized}
 use Rattle.rb_proc.specs.declared.answers.Outcome.TheVariants as outcome
 use Rattle.rb_proc.proofs.Leaving.{none_there}
 use Rattle.rb_world.proofs.ListFacts.{slice_get-there}
+use Rattle.rb_machine.specs.Moves.{passes_of}
+use Rattle.rb_machine.specs.Telling.{GoesOn}
 use Rattle.rb_machine.specs.Worlds.{NoneWaits, memory_of}
 use Rattle.rb_machine.specs.declared.links.Link.{Link as Linked}
 use Rattle.rb_machine.proofs.Turning.InnermostLevel.{alternate_known}
@@ -150,7 +153,12 @@ returns-in-Trap-clause-moved g c = λ one here.
     c.reject.new.events.items c.levels-left.result (none_there c.args.events.now.items c.requires.none) left
     (c.take_back.ensures.items parts.links.items c.link_of-link.result c.add.ensures.items)
     (c.reject.ensures.happened (plain c.args.code.now) (memory_of c.step_one.new.mails parts.links.items))) in
-    record { worlds = comes.0; kind = comes.1; rejections = comes.2; passes = comes.3 }
+    record {
+      worlds = comes.0;
+      kind = c.without_pass.ensures.kind ∙ comes.1;
+      rejections = comes.2;
+      passes = ap passes_of c.without_pass.ensures.pass ∙ comes.3;
+    }
 
 pub returns-in-Trap-clause-left : goal.returns-in-Trap-clause-left
 returns-in-Trap-clause-left g c =
@@ -171,7 +179,7 @@ returns-in-Trap-clause-left g c =
       waits = subst NoneWaits (sym final) c.reject.ensures.waits;
       groups = c.reject.ensures.groups;
       sized = subst (AreSized (plain c.args.code.now)) (sym mails) c.step_one.ensures.sized;
-      few = omega (arith, c.reject.ensures.few, c.requires.none, left, few);
+      few = omega (arith, c.reject.ensures.few, c.requires.none, left, few, ap (λ pass. length (passes_of pass)) c.without_pass.ensures.pass);
     }
 
 pub returns-in-Went-clause-moved : goal.returns-in-Went-clause-moved
@@ -244,9 +252,12 @@ returns-in-Trap-clause-work g c = λ one here.
     let final = with_items_is (with_items parts.procs c.step_one.new.procs) c.reject.new.procs (omega arith) in
     let counted = work.counted_here at one here c.deref_mut.result.now c.deref_mut-2.result.now c.args.steps.now c.step_one.new.steps
     c.deref_mut.ensures.value c.deref_mut-2.ensures.value c.step_one.ensures.work in
-    work.trap_work at one here c.step_one.new.mails c.step_one.new.procs c.deref_mut-in-Trap.result.now c.in-Trap.cause stepping
+    rw c.without_pass.ensures.kind (work.trap_work at one here c.step_one.new.mails c.step_one.new.procs c.deref_mut-in-Trap.result.now c.in-Trap.cause stepping
     (c.deref_mut-in-Trap.ensures.value ∙ items) c.reject.new.procs _ c.args.events.now.items c.reject.new.events.items c.args.steps.now
-    c.step_one.new.steps c.reject.new.steps (none_there c.args.events.now.items c.requires.none) final counted c.reject.ensures.work
+    c.step_one.new.steps c.reject.new.steps (none_there c.args.events.now.items c.requires.none) final counted c.reject.ensures.work)
+
+pub returns-in-Trap-clause-quiet : goal.returns-in-Trap-clause-quiet
+returns-in-Trap-clause-quiet g c e = absurd (true≢false (sym e ∙ c.without_pass.ensures.quiet))
 
 pub returns-in-Went-clause-work : goal.returns-in-Went-clause-work
 returns-in-Went-clause-work g c = λ one here.
@@ -275,3 +286,15 @@ returns-in-Accepts-clause-work g c = λ one here.
     (c.deref_mut-in-Accepts-2.ensures.value ∙ kept)
     (with_items (with_items v c.keep_turn-in-Accepts.new.procs) c.accept-pass.new.procs).items c.args.events.now.items c.args.steps.now c.step_one.new.steps c.accept-pass.new.steps counted
     (λ y memory e. c.accept-pass.ensures.work y memory e)
+
+pub returns-in-Went-clause-quiet : goal.returns-in-Went-clause-quiet
+returns-in-Went-clause-quiet g c e =
+    record {
+      kind = refl;
+      none = refl;
+      goes_on = λ one there.
+          let procs = (with_items (with_items c.args.parts.now.procs c.step_one.new.procs) c.keep_turn.new.procs).items in
+          let same = get_or_from_slice_get procs c.args.p one c.index-in-Went.result.now there in
+          subst GoesOn (c.index-in-Went.ensures ∙ same)
+          (record { running = c.is_quiet.ensures.running e; same = λ code. c.is_quiet.ensures.same code e });
+    }

@@ -1,6 +1,6 @@
 -- What is looked at of one process is all that there is to see.
-use Rattle.std.proofs.Common.{◌++◌, get_or, false, ap, sym, ◌∙◌, arith}
-use Rattle.std.specs.Option.{option_to_list}
+use Rattle.std.proofs.Common.{◌++◌, List, get_or, false, ap, sym, ◌∙◌, arith}
+use Rattle.rb_base.specs.declared.event.Event.{Event}
 use Rattle.rb_world.specs.World.{ProcessStatus}
 use Rattle.rb_proc.specs.Process.{Seen}
 use Rattle.rb_machine.specs.Telling.{ended_if, freed_one, is_running}
@@ -25,18 +25,18 @@ pub returns-clause-told : goal.returns-clause-told
 returns-clause-told g c =
     let p = c.args.p in
     let ran = get_or c.args.running.now p false in
-    c.add.ensures
+    let told : ProcessStatus → List Event = λ status. ended_if ending.Failed p ran status ++ ended_if ending.Done p ran status in
+    c.note_end.ensures.told
     ∙ told_here p c.args.running.now c.args.procs.now c.requires.alone c.index-procs-place.result c.if-place-procs.false c.index-procs-place.is
-    c.requires.as_many c.args.events.now.items (option_to_list c.ending_of.result)
-    (c.ending_of.ensures.event
-    ∙ ap (λ (status : ProcessStatus). ended_if ending.Failed p ran status ++ ended_if ending.Done p ran status)
-    (c.status-status.ensures ∙ ap (λ (one : Seen). one.process.status) (sym c.index-procs-place.is)))
+    c.requires.as_many c.args.events.now.items (told (get_or c.args.procs.now p c.index-procs-place.result).process.status)
+    (ap (λ (one : Seen). told one.process.status) (sym c.index-procs-place.is))
 
 pub returns-clause-running : goal.returns-clause-running
 returns-clause-running g c =
-    noted_here c.args.p c.args.running.now c.args.procs.now c.requires.alone c.index-procs-place.result c.if-place-procs.false
-    c.index-procs-place.is c.runs.result
-    (c.runs.ensures ∙ ap is_running (c.status-status.ensures ∙ ap (λ (one : Seen). one.process.status) (sym c.index-procs-place.is)))
+    c.note_end.ensures.running
+    ∙ noted_here c.args.p c.args.running.now c.args.procs.now c.requires.alone c.index-procs-place.result c.if-place-procs.false
+    c.index-procs-place.is (is_running (get_or c.args.procs.now c.args.p c.index-procs-place.result).process.status)
+    (ap (λ (one : Seen). is_running one.process.status) (sym c.index-procs-place.is))
 
 pub returns-clause-freed : goal.returns-clause-freed
 returns-clause-freed g c code =

@@ -15,18 +15,18 @@ pub returns-in-Text-clause-moved : goal.returns-in-Text-clause-moved
 returns-in-Text-clause-moved g c =
     let code = plain c.args.code.now in
     let see = see_of c.args.sight.now c.args.memory.now.levels in
-    let operands = c.args.bench.now.operands in
+    let operands = c.args.operands.now in
     let m = whole code.texts c.args.bench.now c.args.memory.now c.args.mails.now in
     let pieces = pieces_in code.texts c.args.bench.now in
     let ready = subst (λ (i : Instr). Ready code see i operands m) c.in-Text.is c.requires.ready in
-    text_comes code.texts c.args.bench.now c.args.memory.now c.args.mails.now c.args.at c.in-Text.k c.add.new.self c.add.ensures ready.0
+    text_comes code.texts c.args.bench.now operands c.args.memory.now c.args.mails.now c.args.at c.in-Text.k c.add.new.self c.add.ensures ready.0
     ∙ ap (λ (i : Instr). acted code see i c.args.at operands m) (sym c.in-Text.is)
 
 pub returns-in-Print-clause-moved : goal.returns-in-Print-clause-moved
 returns-in-Print-clause-moved g c =
     let code = plain c.args.code.now in
     let see = see_of c.args.sight.now c.args.memory.now.levels in
-    let operands = c.args.bench.now.operands in
+    let operands = c.args.operands.now in
     let m = whole code.texts c.args.bench.now c.args.memory.now c.args.mails.now in
     let pieces = pieces_in code.texts c.args.bench.now in
     subst (λ (texts : List (List ℕ)). outcome_of c.print.result c.args.at operands
@@ -40,7 +40,7 @@ pub returns-in-Put-clause-moved : goal.returns-in-Put-clause-moved
 returns-in-Put-clause-moved g c =
     let code = plain c.args.code.now in
     let see = see_of c.args.sight.now c.args.memory.now.levels in
-    let operands = c.args.bench.now.operands in
+    let operands = c.args.operands.now in
     let m = whole code.texts c.args.bench.now c.args.memory.now c.args.mails.now in
     let pieces = pieces_in code.texts c.args.bench.now in
     c.put_value.ensures.moved see pieces c.args.bench.now.counters refl
@@ -50,7 +50,7 @@ pub returns-in-Take-clause-moved : goal.returns-in-Take-clause-moved
 returns-in-Take-clause-moved g c =
     let code = plain c.args.code.now in
     let see = see_of c.args.sight.now c.args.memory.now.levels in
-    let operands = c.args.bench.now.operands in
+    let operands = c.args.operands.now in
     let m = whole code.texts c.args.bench.now c.args.memory.now c.args.mails.now in
     let pieces = pieces_in code.texts c.args.bench.now in
     c.take_message.ensures.moved see pieces c.args.bench.now.counters c.args.mails.now refl
@@ -60,7 +60,7 @@ pub returns-in-Return-clause-moved : goal.returns-in-Return-clause-moved
 returns-in-Return-clause-moved g c =
     let code = plain c.args.code.now in
     let see = see_of c.args.sight.now c.args.memory.now.levels in
-    let operands = c.args.bench.now.operands in
+    let operands = c.args.operands.now in
     let m = whole code.texts c.args.bench.now c.args.memory.now c.args.mails.now in
     let pieces = pieces_in code.texts c.args.bench.now in
     c.go_back.ensures.moved code see operands pieces c.args.bench.now.counters c.args.mails.now
@@ -70,7 +70,7 @@ pub returns-in-Range-clause-moved : goal.returns-in-Range-clause-moved
 returns-in-Range-clause-moved g c =
     let code = plain c.args.code.now in
     let see = see_of c.args.sight.now c.args.memory.now.levels in
-    let operands = c.args.bench.now.operands in
+    let operands = c.args.operands.now in
     let m = whole code.texts c.args.bench.now c.args.memory.now c.args.mails.now in
     let pieces = pieces_in code.texts c.args.bench.now in
     c.range.ensures m
@@ -80,7 +80,7 @@ pub returns-in-Again-clause-moved : goal.returns-in-Again-clause-moved
 returns-in-Again-clause-moved g c =
     let code = plain c.args.code.now in
     let see = see_of c.args.sight.now c.args.memory.now.levels in
-    let operands = c.args.bench.now.operands in
+    let operands = c.args.operands.now in
     let m = whole code.texts c.args.bench.now c.args.memory.now c.args.mails.now in
     let pieces = pieces_in code.texts c.args.bench.now in
     c.again.ensures m operands
@@ -90,7 +90,7 @@ pub returns-in-Counter-clause-moved : goal.returns-in-Counter-clause-moved
 returns-in-Counter-clause-moved g c =
     let code = plain c.args.code.now in
     let see = see_of c.args.sight.now c.args.memory.now.levels in
-    let operands = c.args.bench.now.operands in
+    let operands = c.args.operands.now in
     let m = whole code.texts c.args.bench.now c.args.memory.now c.args.mails.now in
     let pieces = pieces_in code.texts c.args.bench.now in
     c.counter.ensures m

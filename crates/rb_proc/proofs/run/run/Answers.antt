@@ -1,5 +1,5 @@
 use Rattle.std.proofs.Common.{◌≡◌, ℕ, ◌≤◌, ◌+◌, List, Option, refl, ap, sym, ◌∙◌, subst, arith}
-use Rattle.std.specs.Prelude.{slice_get}
+use Rattle.std.specs.Prelude.{get_or, slice_get}
 use Rattle.rb_world.specs.World.{Level, copy_of, last_of, status_at}
 use Rattle.rb_code.specs.declared.instr.Instr.{Instr}
 use Rattle.rb_code.specs.Instructions.Plain.{code as plain}
@@ -39,13 +39,13 @@ act-requires-clause-ready g c =
     let see = see_of c.args.sight.now c.args.memory.now.levels in
     let first = whole code.texts c.args.bench.now c.args.memory.now c.args.mails.now in
     let m = whole code.texts c.turn.bench c.turn.memory c.turn.mails in
-    let xs = c.turn.bench.operands in
+    let xs = c.turn.operands in
     let calls = entry_calls (copy_of (last_of c.args.memory.now.levels)) in
     let start = c.turn.invariant.start in
     let most = most_steps code in
-    let end = execute code see most c.args.from c.args.bench.now.operands first in
-    let i = c.index-instr.result.now in
-    let q = fetched code see (IsUnchanged first) calls start most c.turn.at xs m end c.turn.invariant.runs i c.index-instr.ensures in
+    let end = execute code see most c.args.from c.args.operands.now first in
+    let i = c.instr_at-instr.result.now in
+    let q = fetched code see (IsUnchanged first) calls start most c.turn.at xs m end c.turn.invariant.runs i (c.instr_at-instr.ensures ∙ ap (λ (xs : List Instr). get_or xs c.turn.at c.instr_at-instr.result.now) c.as_slice-instrs.ensures.value) in
     subst (λ (ls : List (Level Copy)). Ready code (see_of c.args.sight.now ls) i xs m) (sym c.turn.invariant.levels)
     (ready_here code see (IsUnchanged first) calls start most c.turn.at xs m end c.turn.invariant.runs i q)
 
@@ -55,13 +55,13 @@ act-requires-clause-cursor g c =
     let see = see_of c.args.sight.now c.args.memory.now.levels in
     let first = whole code.texts c.args.bench.now c.args.memory.now c.args.mails.now in
     let m = whole code.texts c.turn.bench c.turn.memory c.turn.mails in
-    let xs = c.turn.bench.operands in
+    let xs = c.turn.operands in
     let calls = entry_calls (copy_of (last_of c.args.memory.now.levels)) in
     let start = c.turn.invariant.start in
     let most = most_steps code in
-    let end = execute code see most c.args.from c.args.bench.now.operands first in
-    let i = c.index-instr.result.now in
-    let q = fetched code see (IsUnchanged first) calls start most c.turn.at xs m end c.turn.invariant.runs i c.index-instr.ensures in
+    let end = execute code see most c.args.from c.args.operands.now first in
+    let i = c.instr_at-instr.result.now in
+    let q = fetched code see (IsUnchanged first) calls start most c.turn.at xs m end c.turn.invariant.runs i (c.instr_at-instr.ensures ∙ ap (λ (xs : List Instr). get_or xs c.turn.at c.instr_at-instr.result.now) c.as_slice-instrs.ensures.value) in
     subst (λ (ls : List (Level Copy)). CursorRises code (see_of c.args.sight.now ls) c.turn.memory.words i) (sym c.turn.invariant.levels)
     (rises code see (IsUnchanged first) calls start most c.turn.at xs m end c.turn.invariant.runs i q c.turn.invariant.cursors)
 
@@ -71,13 +71,13 @@ act-requires-clause-stays g c =
     let see = see_of c.args.sight.now c.args.memory.now.levels in
     let first = whole code.texts c.args.bench.now c.args.memory.now c.args.mails.now in
     let m = whole code.texts c.turn.bench c.turn.memory c.turn.mails in
-    let xs = c.turn.bench.operands in
+    let xs = c.turn.operands in
     let calls = entry_calls (copy_of (last_of c.args.memory.now.levels)) in
     let start = c.turn.invariant.start in
     let most = most_steps code in
-    let end = execute code see most c.args.from c.args.bench.now.operands first in
-    let i = c.index-instr.result.now in
-    let q = fetched code see (IsUnchanged first) calls start most c.turn.at xs m end c.turn.invariant.runs i c.index-instr.ensures in
+    let end = execute code see most c.args.from c.args.operands.now first in
+    let i = c.instr_at-instr.result.now in
+    let q = fetched code see (IsUnchanged first) calls start most c.turn.at xs m end c.turn.invariant.runs i (c.instr_at-instr.ensures ∙ ap (λ (xs : List Instr). get_or xs c.turn.at c.instr_at-instr.result.now) c.as_slice-instrs.ensures.value) in
     subst
     (λ (ls : List (Level Copy)). LeavesEnough (entry_calls (copy_of (last_of ls)))
     (acted code (see_of c.args.sight.now ls) i c.turn.at xs m))
@@ -90,19 +90,19 @@ turn-smaller g c =
     let see = see_of c.args.sight.now c.args.memory.now.levels in
     let first = whole code.texts c.args.bench.now c.args.memory.now c.args.mails.now in
     let m = whole code.texts c.turn.bench c.turn.memory c.turn.mails in
-    let xs = c.turn.bench.operands in
+    let xs = c.turn.operands in
     let calls = entry_calls (copy_of (last_of c.args.memory.now.levels)) in
     let start = c.turn.invariant.start in
     let most = most_steps code in
-    let end = execute code see most c.args.from c.args.bench.now.operands first in
-    let i = c.index-instr.result.now in
-    let q = fetched code see (IsUnchanged first) calls start most c.turn.at xs m end c.turn.invariant.runs i c.index-instr.ensures in
+    let end = execute code see most c.args.from c.args.operands.now first in
+    let i = c.instr_at-instr.result.now in
+    let q = fetched code see (IsUnchanged first) calls start most c.turn.at xs m end c.turn.invariant.runs i (c.instr_at-instr.ensures ∙ ap (λ (xs : List Instr). get_or xs c.turn.at c.instr_at-instr.result.now) c.as_slice-instrs.ensures.value) in
     let moved = subst
-    (λ (ls : List (Level Copy)). Going c.in-Go.to c.act.new.bench.operands
+    (λ (ls : List (Level Copy)). Going c.in-Go.to c.act.new.operands
     (whole code.texts c.act.new.bench c.act.new.memory c.act.new.mails)
     ≡ acted code (see_of c.args.sight.now ls) i c.turn.at xs m) c.turn.invariant.levels c.in-Go.ensures.moved in
     falls code see
-    (IsUnchanged first) calls start most c.turn.at xs m end c.turn.invariant.runs i q c.in-Go.to c.act.new.bench.operands
+    (IsUnchanged first) calls start most c.turn.at xs m end c.turn.invariant.runs i q c.in-Go.to c.act.new.operands
     (whole code.texts c.act.new.bench c.act.new.memory c.act.new.mails) moved
 
 pub turn-preserved : goal.turn-preserved
@@ -111,19 +111,19 @@ turn-preserved g c =
     let see = see_of c.args.sight.now c.args.memory.now.levels in
     let first = whole code.texts c.args.bench.now c.args.memory.now c.args.mails.now in
     let m = whole code.texts c.turn.bench c.turn.memory c.turn.mails in
-    let xs = c.turn.bench.operands in
+    let xs = c.turn.operands in
     let calls = entry_calls (copy_of (last_of c.args.memory.now.levels)) in
     let start = c.turn.invariant.start in
     let most = most_steps code in
-    let end = execute code see most c.args.from c.args.bench.now.operands first in
-    let i = c.index-instr.result.now in
-    let q = fetched code see (IsUnchanged first) calls start most c.turn.at xs m end c.turn.invariant.runs i c.index-instr.ensures in
+    let end = execute code see most c.args.from c.args.operands.now first in
+    let i = c.instr_at-instr.result.now in
+    let q = fetched code see (IsUnchanged first) calls start most c.turn.at xs m end c.turn.invariant.runs i (c.instr_at-instr.ensures ∙ ap (λ (xs : List Instr). get_or xs c.turn.at c.instr_at-instr.result.now) c.as_slice-instrs.ensures.value) in
     let moved = subst
-    (λ (ls : List (Level Copy)). Going c.in-Go.to c.act.new.bench.operands
+    (λ (ls : List (Level Copy)). Going c.in-Go.to c.act.new.operands
     (whole code.texts c.act.new.bench c.act.new.memory c.act.new.mails)
     ≡ acted code (see_of c.args.sight.now ls) i c.turn.at xs m) c.turn.invariant.levels c.in-Go.ensures.moved in
     let next = onward code see
-    (IsUnchanged first) calls start most c.turn.at xs m end c.turn.invariant.runs i q c.in-Go.to c.act.new.bench.operands
+    (IsUnchanged first) calls start most c.turn.at xs m end c.turn.invariant.runs i q c.in-Go.to c.act.new.operands
     (whole code.texts c.act.new.bench c.act.new.memory c.act.new.mails) moved in
     record {
       runs = next.0;
@@ -141,13 +141,13 @@ returns-in-Stop-clause-ended g c =
     let see = see_of c.args.sight.now c.args.memory.now.levels in
     let first = whole code.texts c.args.bench.now c.args.memory.now c.args.mails.now in
     let m = whole code.texts c.turn.bench c.turn.memory c.turn.mails in
-    let xs = c.turn.bench.operands in
+    let xs = c.turn.operands in
     let calls = entry_calls (copy_of (last_of c.args.memory.now.levels)) in
     let start = c.turn.invariant.start in
     let most = most_steps code in
-    let end = execute code see most c.args.from c.args.bench.now.operands first in
-    let i = c.index-instr.result.now in
-    let q = fetched code see (IsUnchanged first) calls start most c.turn.at xs m end c.turn.invariant.runs i c.index-instr.ensures in
+    let end = execute code see most c.args.from c.args.operands.now first in
+    let i = c.instr_at-instr.result.now in
+    let q = fetched code see (IsUnchanged first) calls start most c.turn.at xs m end c.turn.invariant.runs i (c.instr_at-instr.ensures ∙ ap (λ (xs : List Instr). get_or xs c.turn.at c.instr_at-instr.result.now) c.as_slice-instrs.ensures.value) in
     let moved = subst (λ (ls : List (Level Copy)). (Stopped c.turn.at (whole code.texts c.act.new.bench c.act.new.memory c.act.new.mails))
     ≡ acted code (see_of c.args.sight.now ls) i c.turn.at xs m) c.turn.invariant.levels c.in-Stop.ensures.moved in
     over code see (IsUnchanged first) calls start most c.turn.at xs m end c.turn.invariant.runs i q
@@ -165,13 +165,13 @@ returns-in-Accepts-clause-ended g c =
     let see = see_of c.args.sight.now c.args.memory.now.levels in
     let first = whole code.texts c.args.bench.now c.args.memory.now c.args.mails.now in
     let m = whole code.texts c.turn.bench c.turn.memory c.turn.mails in
-    let xs = c.turn.bench.operands in
+    let xs = c.turn.operands in
     let calls = entry_calls (copy_of (last_of c.args.memory.now.levels)) in
     let start = c.turn.invariant.start in
     let most = most_steps code in
-    let end = execute code see most c.args.from c.args.bench.now.operands first in
-    let i = c.index-instr.result.now in
-    let q = fetched code see (IsUnchanged first) calls start most c.turn.at xs m end c.turn.invariant.runs i c.index-instr.ensures in
+    let end = execute code see most c.args.from c.args.operands.now first in
+    let i = c.instr_at-instr.result.now in
+    let q = fetched code see (IsUnchanged first) calls start most c.turn.at xs m end c.turn.invariant.runs i (c.instr_at-instr.ensures ∙ ap (λ (xs : List Instr). get_or xs c.turn.at c.instr_at-instr.result.now) c.as_slice-instrs.ensures.value) in
     let moved = subst (λ (ls : List (Level Copy)). (Accepts c.in-Accepts.to (whole code.texts c.act.new.bench c.act.new.memory c.act.new.mails))
     ≡ acted code (see_of c.args.sight.now ls) i c.turn.at xs m) c.turn.invariant.levels c.in-Accepts.ensures.moved in
     over code see (IsUnchanged first) calls start most c.turn.at xs m end c.turn.invariant.runs i q
@@ -183,13 +183,13 @@ returns-in-Accepts-clause-kept g c =
     let see = see_of c.args.sight.now c.args.memory.now.levels in
     let first = whole code.texts c.args.bench.now c.args.memory.now c.args.mails.now in
     let m = whole code.texts c.turn.bench c.turn.memory c.turn.mails in
-    let xs = c.turn.bench.operands in
+    let xs = c.turn.operands in
     let calls = entry_calls (copy_of (last_of c.args.memory.now.levels)) in
     let start = c.turn.invariant.start in
     let most = most_steps code in
-    let end = execute code see most c.args.from c.args.bench.now.operands first in
-    let i = c.index-instr.result.now in
-    let q = fetched code see (IsUnchanged first) calls start most c.turn.at xs m end c.turn.invariant.runs i c.index-instr.ensures in
+    let end = execute code see most c.args.from c.args.operands.now first in
+    let i = c.instr_at-instr.result.now in
+    let q = fetched code see (IsUnchanged first) calls start most c.turn.at xs m end c.turn.invariant.runs i (c.instr_at-instr.ensures ∙ ap (λ (xs : List Instr). get_or xs c.turn.at c.instr_at-instr.result.now) c.as_slice-instrs.ensures.value) in
     let moved = subst (λ (ls : List (Level Copy)). (Accepts c.in-Accepts.to (whole code.texts c.act.new.bench c.act.new.memory c.act.new.mails))
     ≡ acted code (see_of c.args.sight.now ls) i c.turn.at xs m) c.turn.invariant.levels c.in-Accepts.ensures.moved in
     let none = unchanged code see (IsUnchanged first) calls start most c.turn.at xs m end c.turn.invariant.runs i q
@@ -206,13 +206,13 @@ returns-in-Trap-clause-ended g c =
     let see = see_of c.args.sight.now c.args.memory.now.levels in
     let first = whole code.texts c.args.bench.now c.args.memory.now c.args.mails.now in
     let m = whole code.texts c.turn.bench c.turn.memory c.turn.mails in
-    let xs = c.turn.bench.operands in
+    let xs = c.turn.operands in
     let calls = entry_calls (copy_of (last_of c.args.memory.now.levels)) in
     let start = c.turn.invariant.start in
     let most = most_steps code in
-    let end = execute code see most c.args.from c.args.bench.now.operands first in
-    let i = c.index-instr.result.now in
-    let q = fetched code see (IsUnchanged first) calls start most c.turn.at xs m end c.turn.invariant.runs i c.index-instr.ensures in
+    let end = execute code see most c.args.from c.args.operands.now first in
+    let i = c.instr_at-instr.result.now in
+    let q = fetched code see (IsUnchanged first) calls start most c.turn.at xs m end c.turn.invariant.runs i (c.instr_at-instr.ensures ∙ ap (λ (xs : List Instr). get_or xs c.turn.at c.instr_at-instr.result.now) c.as_slice-instrs.ensures.value) in
     let moved = subst
     (λ (ls : List (Level Copy)). (Trapped c.in-Trap.cause)
     ≡ acted code (see_of c.args.sight.now ls) i c.turn.at xs m) c.turn.invariant.levels c.in-Trap.ensures.moved in
@@ -224,13 +224,13 @@ returns-in-Trap-clause-kept g c =
     let see = see_of c.args.sight.now c.args.memory.now.levels in
     let first = whole code.texts c.args.bench.now c.args.memory.now c.args.mails.now in
     let m = whole code.texts c.turn.bench c.turn.memory c.turn.mails in
-    let xs = c.turn.bench.operands in
+    let xs = c.turn.operands in
     let calls = entry_calls (copy_of (last_of c.args.memory.now.levels)) in
     let start = c.turn.invariant.start in
     let most = most_steps code in
-    let end = execute code see most c.args.from c.args.bench.now.operands first in
-    let i = c.index-instr.result.now in
-    let q = fetched code see (IsUnchanged first) calls start most c.turn.at xs m end c.turn.invariant.runs i c.index-instr.ensures in
+    let end = execute code see most c.args.from c.args.operands.now first in
+    let i = c.instr_at-instr.result.now in
+    let q = fetched code see (IsUnchanged first) calls start most c.turn.at xs m end c.turn.invariant.runs i (c.instr_at-instr.ensures ∙ ap (λ (xs : List Instr). get_or xs c.turn.at c.instr_at-instr.result.now) c.as_slice-instrs.ensures.value) in
     let moved = subst
     (λ (ls : List (Level Copy)). (Trapped c.in-Trap.cause)
     ≡ acted code (see_of c.args.sight.now ls) i c.turn.at xs m) c.turn.invariant.levels c.in-Trap.ensures.moved in
@@ -260,13 +260,13 @@ returns-in-Stop-clause-work g c =
     let see = see_of c.args.sight.now c.args.memory.now.levels in
     let first = whole code.texts c.args.bench.now c.args.memory.now c.args.mails.now in
     let m = whole code.texts c.turn.bench c.turn.memory c.turn.mails in
-    let xs = c.turn.bench.operands in
+    let xs = c.turn.operands in
     let calls = entry_calls (copy_of (last_of c.args.memory.now.levels)) in
     let start = c.turn.invariant.start in
     let most = most_steps code in
-    let end = execute code see most c.args.from c.args.bench.now.operands first in
-    let i = c.index-instr.result.now in
-    let q = fetched code see (IsUnchanged first) calls start most c.turn.at xs m end c.turn.invariant.runs i c.index-instr.ensures in
+    let end = execute code see most c.args.from c.args.operands.now first in
+    let i = c.instr_at-instr.result.now in
+    let q = fetched code see (IsUnchanged first) calls start most c.turn.at xs m end c.turn.invariant.runs i (c.instr_at-instr.ensures ∙ ap (λ (xs : List Instr). get_or xs c.turn.at c.instr_at-instr.result.now) c.as_slice-instrs.ensures.value) in
     omega (
       arith,
       names_here code see (IsUnchanged first) calls start most c.turn.at xs m end c.turn.invariant.runs i q,
@@ -280,13 +280,13 @@ returns-in-Accepts-clause-work g c =
     let see = see_of c.args.sight.now c.args.memory.now.levels in
     let first = whole code.texts c.args.bench.now c.args.memory.now c.args.mails.now in
     let m = whole code.texts c.turn.bench c.turn.memory c.turn.mails in
-    let xs = c.turn.bench.operands in
+    let xs = c.turn.operands in
     let calls = entry_calls (copy_of (last_of c.args.memory.now.levels)) in
     let start = c.turn.invariant.start in
     let most = most_steps code in
-    let end = execute code see most c.args.from c.args.bench.now.operands first in
-    let i = c.index-instr.result.now in
-    let q = fetched code see (IsUnchanged first) calls start most c.turn.at xs m end c.turn.invariant.runs i c.index-instr.ensures in
+    let end = execute code see most c.args.from c.args.operands.now first in
+    let i = c.instr_at-instr.result.now in
+    let q = fetched code see (IsUnchanged first) calls start most c.turn.at xs m end c.turn.invariant.runs i (c.instr_at-instr.ensures ∙ ap (λ (xs : List Instr). get_or xs c.turn.at c.instr_at-instr.result.now) c.as_slice-instrs.ensures.value) in
     omega (
       arith,
       names_here code see (IsUnchanged first) calls start most c.turn.at xs m end c.turn.invariant.runs i q,
@@ -300,13 +300,13 @@ returns-in-Trap-clause-work g c =
     let see = see_of c.args.sight.now c.args.memory.now.levels in
     let first = whole code.texts c.args.bench.now c.args.memory.now c.args.mails.now in
     let m = whole code.texts c.turn.bench c.turn.memory c.turn.mails in
-    let xs = c.turn.bench.operands in
+    let xs = c.turn.operands in
     let calls = entry_calls (copy_of (last_of c.args.memory.now.levels)) in
     let start = c.turn.invariant.start in
     let most = most_steps code in
-    let end = execute code see most c.args.from c.args.bench.now.operands first in
-    let i = c.index-instr.result.now in
-    let q = fetched code see (IsUnchanged first) calls start most c.turn.at xs m end c.turn.invariant.runs i c.index-instr.ensures in
+    let end = execute code see most c.args.from c.args.operands.now first in
+    let i = c.instr_at-instr.result.now in
+    let q = fetched code see (IsUnchanged first) calls start most c.turn.at xs m end c.turn.invariant.runs i (c.instr_at-instr.ensures ∙ ap (λ (xs : List Instr). get_or xs c.turn.at c.instr_at-instr.result.now) c.as_slice-instrs.ensures.value) in
     omega (
       arith,
       names_here code see (IsUnchanged first) calls start most c.turn.at xs m end c.turn.invariant.runs i q,
@@ -320,12 +320,12 @@ returns-in-Stop-clause-done g c =
     let see = see_of c.args.sight.now c.args.memory.now.levels in
     let first = whole code.texts c.args.bench.now c.args.memory.now c.args.mails.now in
     let m = whole code.texts c.turn.bench c.turn.memory c.turn.mails in
-    let xs = c.turn.bench.operands in
+    let xs = c.turn.operands in
     let calls = entry_calls (copy_of (last_of c.args.memory.now.levels)) in
     let start = c.turn.invariant.start in
     let most = most_steps code in
-    let end = execute code see most c.args.from c.args.bench.now.operands first in
-    let i = c.index-instr.result.now in
+    let end = execute code see most c.args.from c.args.operands.now first in
+    let i = c.instr_at-instr.result.now in
     let next = slice_get code.instrs (c.turn.at + 1) in
-    let q = fetched code see (IsUnchanged first) calls start most c.turn.at xs m end c.turn.invariant.runs i c.index-instr.ensures in
+    let q = fetched code see (IsUnchanged first) calls start most c.turn.at xs m end c.turn.invariant.runs i (c.instr_at-instr.ensures ∙ ap (λ (xs : List Instr). get_or xs c.turn.at c.instr_at-instr.result.now) c.as_slice-instrs.ensures.value) in
     ap (λ (o : Option Instr). status_at (wants_there code o next)) q ∙ c.is_done.ensures code next

@@ -19,22 +19,22 @@ invariant-turn g l = record {
   runs :
       Runs (plain l.code) (see_of l.sight l.fn.memory.levels) (IsUnchanged (whole (plain l.code).texts l.fn.bench l.fn.memory l.fn.mails))
       (entry_calls (copy_of (last_of l.fn.memory.levels))) start (most_steps (plain l.code))
-      (execute (plain l.code) (see_of l.sight l.fn.memory.levels) (most_steps (plain l.code)) l.from l.fn.bench.operands
+      (execute (plain l.code) (see_of l.sight l.fn.memory.levels) (most_steps (plain l.code)) l.from l.fn.operands
       (whole (plain l.code).texts l.fn.bench l.fn.memory l.fn.mails))
-      l.at l.bench.operands (whole (plain l.code).texts l.bench l.memory l.mails);
+      l.at l.operands (whole (plain l.code).texts l.bench l.memory l.mails);
   levels : l.memory.levels ≡ l.fn.memory.levels;
   waiting : l.memory.waiting ≡ l.fn.memory.waiting;
   sized : AreSized (plain l.code) l.mails;
   -- what was worked so far and what is named from here on are no more than what was named from the start
   work :
-      l.steps + 3 * named_along (plain l.code) (see_of l.sight l.fn.memory.levels) runs.n l.at l.bench.operands
+      l.steps + 3 * named_along (plain l.code) (see_of l.sight l.fn.memory.levels) runs.n l.at l.operands
       (whole (plain l.code).texts l.bench l.memory l.mails)
       ≤ l.fn.steps + 3 * named_along (plain l.code) (see_of l.sight l.fn.memory.levels)
-      (most_steps (plain l.code)) l.from l.fn.bench.operands
+      (most_steps (plain l.code)) l.from l.fn.operands
       (whole (plain l.code).texts l.fn.bench l.fn.memory l.fn.mails);
 }
 
 abbrev pub decreases-turn : goal.decreases-turn
 decreases-turn g l =
-    steps_left (plain l.code) (see_of l.sight l.fn.memory.levels) (most_steps (plain l.code)) l.at l.bench.operands
+    steps_left (plain l.code) (see_of l.sight l.fn.memory.levels) (most_steps (plain l.code)) l.at l.operands
     (whole (plain l.code).texts l.bench l.memory l.mails)

@@ -4,24 +4,27 @@ use Rattle.std.proofs.lemmas.List.{with_items_is}
 use Rattle.rb_world.specs.Kind.{Membership}
 use Rattle.rb_world.specs.Turn.{Told}
 use Rattle.rb_code.specs.Instructions.Plain.{code as plain}
+use Rattle.rb_code.specs.WordMachine.WordKind.{word_kind}
 use Rattle.rb_code.specs.WordMachine.WordRun.{WordWorld}
 use Rattle.rb_conv.specs.Conversations.{memberships}
 use Rattle.rb_proc.specs.Process.{Seen as Process}
 use Rattle.rb_trace.specs.Report.{told_of}
 use Rattle.rb_machine.specs.Machine.{IsKeptEntry, Seen}
 use Rattle.rb_machine.specs.Moves.{world}
-use Rattle.rb_machine.specs.Resting.{AreNoted, IsBare, changed_after, is_still, rests_after}
+use Rattle.rb_machine.specs.Resting.{AreNoted, AreTallied, IsBare, changed_after, is_still, rests_after, tally_after}
 use Rattle.rb_machine.specs.Work.{enters_there, turn_work}
 use Rattle.rb_machine.specs.Worlds.{lines_of, processes_of}
 use Rattle.rb_machine.specs.declared.rests.Rest.{Rest}
 use Rattle.rb_machine.proofs.Turning.TurnOfParts.{none_wait}
+use Rattle.rb_machine.proofs.Knowing.Sizes.{turn-processes}
 use Rattle.rb_machine.proofs.Unmoved.Noted.{noted_after}
 use Rattle.rb_machine.proofs.Unmoved.StillBare.{bare_before}
+use Rattle.rb_machine.proofs.Unmoved.Tallied.{tallied_after}
 use Rattle.rb_machine.proofs.machine.Machine.take.Goals as goal
-use Rattle.rb_machine.proofs.machine.Machine.take.Goals.{else-quiet, then-quiet}
+use Rattle.rb_machine.proofs.machine.Machine.take.Goals.{else-quiet, else-released+else-still, else-released+then-still, then-quiet, then-released}
 
-pub turn-self-inside-requires-clause-work : goal.turn-self-inside-requires-clause-work
-turn-self-inside-requires-clause-work g c = record {
+pub turn-released-requires-clause-work : goal.turn-released-requires-clause-work
+turn-released-requires-clause-work g c = record {
   work = c.self.invariant.work;
   waits = none_wait c.self.inside.parts.procs.items (length c.args.self.now.world.processes)
       (ap (λ (machine : Seen). machine.waiting) c.self.view_is ∙ c.requires.waits);
@@ -32,10 +35,22 @@ invariant_of-self g c =
     let inside = c.self.inside in
     let code = plain inside.code.now in
     let groups : List Membership = memberships inside.parts.table in
-    let turned = c.turn-self-inside in
+    let turned = c.turn-released in
     let after = turned.new.parts in
     let kind = turned.new.report.kind in
     let told : Told = told_of kind turned.new.report.events.items (lines_of after.procs.items) in
+    let as_many : length (world inside.parts).processes ≡ length (world after).processes =
+    sym (turn-processes (word_kind code groups) (inside.taken + 1) c.args.p (world inside.parts))
+    ∙ ap (λ (pair : WordWorld × Told). length pair.0.processes) (sym turned.ensures.turned) in
+    let tallied : AreTallied (length (world after).processes) (rests_after c.if-quiet.still inside.resting.rests.items c.args.p (inside.taken + 1) kind)
+    (changed_after c.if-quiet.still inside.resting.changed (inside.taken + 1))
+    (tally_after c.if-quiet.still inside.resting.changed (slice_get inside.resting.rests.items c.args.p) inside.resting.noted) (inside.taken + 1) =
+    subst (λ n.
+    AreTallied n (rests_after c.if-quiet.still inside.resting.rests.items c.args.p (inside.taken + 1) kind)
+    (changed_after c.if-quiet.still inside.resting.changed (inside.taken + 1))
+    (tally_after c.if-quiet.still inside.resting.changed (slice_get inside.resting.rests.items c.args.p) inside.resting.noted) (inside.taken + 1)) as_many
+    (tallied_after c.if-quiet.still (length (world inside.parts).processes) inside.resting.rests.items inside.resting.changed inside.resting.noted inside.taken
+    c.args.p kind c.self.invariant.tallied c.self.invariant.noted.past) in
     let running = with_items_is inside.running turned.new.running (omega (arith, turned.auto.running, c.deref_mut.ensures.len)) in
     let both : c.if-quiet.still ≡ true → IsBare (slice_get (processes_of after.procs.items) c.args.p) × (is_still kind ≡ true) =
     elim c.if-quiet.branch [
@@ -57,7 +72,12 @@ invariant_of-self g c =
       work = turned.ensures.at_work;
       running_is = running ∙ turned.ensures.running;
       freed = turned.ensures.freed;
-      none_waits = turned.ensures.none_waits;
+      none_waits =
+          elim c.if-released.branch [
+            | then-released w ↦ λ e. absurd (cc)
+            | else-released+then-still w ↦ λ e. turned.ensures.none_waits w.if-released.false
+            | else-released+else-still w ↦ λ e. turned.ensures.none_waits w.if-released.false
+          ];
       links_few = omega (arith, turned.ensures.links, c.self.invariant.links_few);
       links_room = omega (arith, turned.ensures.room, c.self.invariant.links_room);
       taken_few = omega (
@@ -76,20 +96,29 @@ invariant_of-self g c =
           (subst (λ changed.
           AreNoted code groups (world after) (rests_after c.if-quiet.still inside.resting.rests.items c.args.p (inside.taken + 1) kind) changed
           (inside.taken + 1)) (sym c.note.ensures.changed) noted));
+      tallied =
+          subst (λ (rests : List Rest). AreTallied (length (world after).processes) rests c.note.new.self.changed c.note.new.self.noted (inside.taken + 1))
+          (sym c.note.ensures.rests)
+          (subst (λ changed.
+          AreTallied (length (world after).processes) (rests_after c.if-quiet.still inside.resting.rests.items c.args.p (inside.taken + 1) kind)
+          changed c.note.new.self.noted (inside.taken + 1)) (sym c.note.ensures.changed)
+          (subst (λ n.
+          AreTallied (length (world after).processes) (rests_after c.if-quiet.still inside.resting.rests.items c.args.p (inside.taken + 1) kind)
+          (changed_after c.if-quiet.still inside.resting.changed (inside.taken + 1)) n (inside.taken + 1)) (sym c.note.ensures.noted) tallied));
     }
 
 pub returns-clause-work : goal.returns-clause-work
 returns-clause-work g c =
     subst (λ (machine : Seen).
-    c.turn-self-inside.new.steps
+    c.turn-released.new.steps
     ≤ c.args.steps.now + turn_work machine.code machine.groups (machine.taken + 1) c.args.p machine.world)
-    c.self.view_is c.turn-self-inside.ensures.work
+    c.self.view_is c.turn-released.ensures.work
 
 pub returns-clause-entry : goal.returns-clause-entry
 returns-clause-entry g c e =
     let inside = c.self.inside in
     let entry = subst (λ (machine : Seen). IsKeptEntry machine c.args.p) (sym c.self.view_is) e in
-    c.turn-self-inside.ensures.entry
+    c.turn-released.ensures.entry
     (ap (λ (pair : WordWorld × Told). enters_there (plain inside.code.now) pair.1.kind (slice_get (processes_of inside.parts.procs.items) c.args.p))
-    c.turn-self-inside.ensures.turned
+    c.turn-released.ensures.turned
     ∙ entry)

@@ -7,7 +7,7 @@ use Rattle.rb_operands.proofs.operands.Operands.drop_top.Goals as goal
 pub returns : goal.returns
 returns c =
     let h = c.self.inside.height in
-    let vs = c.self.inside.values.items in
+    let vs = c.self.inside.values.now in
     let long = ap (λ (l : List ℤ). length l) c.self.view_is in
     let turned = length-reverse (take h vs) in
     let taken = length-take-le h vs (omega arith) in

@@ -1,4 +1,4 @@
-use Rattle.std.proofs.Common.{◌-◌, ℤ, List, length, take, drop, ap, ◌∙◌, arith, length-take-le}
+use Rattle.std.proofs.Common.{ℤ, List, length, take, ap, ◌∙◌, arith, length-take-le}
 use Rattle.std.proofs.lemmas.List.{length-reverse}
 use Rattle.rb_code.specs.WordMachine.Act.{arguments}
 use Rattle.rb_operands.proofs.Tops.{top_in}
@@ -7,13 +7,12 @@ use Rattle.rb_operands.proofs.operands.Operands.top.Goals as goal
 pub returns : goal.returns
 returns c =
     let h = c.self.inside.height in
-    let vs = c.self.inside.values.items in
+    let vs = c.self.inside.values.now in
     let long = ap (λ (l : List ℤ). length l) c.self.view_is in
     let turned = length-reverse (take h vs) in
     let taken = length-take-le h vs (omega arith) in
     record {
       top =
-          ap (λ (l : List ℤ). take (h - (h - c.args.count)) (drop (h - c.args.count) l)) c.deref.ensures.value
-          ∙ top_in vs h c.args.count (omega arith) (omega arith)
+          top_in vs h c.args.count (omega arith) (omega arith)
           ∙ ap (λ (l : List ℤ). arguments c.args.count l) c.self.view_is;
     }

@@ -1,10 +1,11 @@
-use Rattle.std.proofs.Common.{◌≡◌, ℕ, ◌+◌, ◌*◌, ◌≤◌, false, List, refl, ap, sym, ◌∙◌, subst, arith}
+use Rattle.std.proofs.Common.{◌≡◌, ℕ, ◌+◌, ◌*◌, ◌≤◌, Bool, false, List, refl, ap, sym, ◌∙◌, subst, arith}
 use Rattle.rb_world.specs.Kind.{Membership}
 use Rattle.rb_world.specs.World.{Level, ProcessStatus as Stands}
 use Rattle.rb_code.specs.Instructions.Plain.{code as plain}
 use Rattle.rb_code.specs.SoundCode.Stands.{Serves, StandsSoundly}
 use Rattle.rb_code.specs.WordMachine.Turn.{Copy, want}
 use Rattle.rb_proc.specs.Contents.{Contents}
+use Rattle.rb_proc.specs.Given.{alternate_by}
 use Rattle.rb_proc.specs.Outcomes.{whole}
 use Rattle.rb_proc.specs.Runs.{CursorsRise}
 use Rattle.rb_proc.specs.Process.{Seen, StepsTo, alternate_for, message_for, step_of, wanted_by}
@@ -12,6 +13,7 @@ use Rattle.rb_proc.specs.ProcessInside.{seen, standing}
 use Rattle.rb_proc.specs.Statuses.{status_of}
 use Rattle.rb_proc.specs.Work.{named_in_step}
 use Rattle.rb_proc.specs.declared.answers.Outcome.TheVariants as outcome
+use Rattle.rb_proc.specs.declared.answers.Wanted.{Wanted}
 use Rattle.rb_proc.proofs.Stepping.{accept_comes, executes, step_named, step_safe, step_stays, stop_comes, trap_comes}
 use Rattle.rb_proc.proofs.process.Proc.step.Goals as goal
 
@@ -28,9 +30,9 @@ run-requires-clause-safe g c =
     (alternate_for (want code old.process.state) old.process.levels)
     (message_for code old.process.state c.args.mails.now c.args.there (want code old.process.state)) old.process.levels)
     (sym c.self.view_is) c.requires.serves in
-    step_safe code i.memory i.process i.at i.last_kept i.at_line i.status c.args.mails.now c.args.there c.clear.new.self c.new-sight.result
-    c.args.wanted c.alternate_of.result c.message_of-message.result wanted c.alternate_of.ensures c.message_of-message.ensures.message
-    c.new-sight.ensures.process c.new-sight.ensures.message c.new-sight.ensures.alternate c.clear.ensures.operands c.clear.ensures.line c.clear.ensures.counters
+    step_safe code i.memory i.process i.at i.last_kept i.at_line i.status c.args.mails.now c.args.there c.clear.new.self c.none-operands.result c.new-sight.result
+    c.args.wanted (alternate_by c.args.wanted i.memory.levels) c.message_of-message.result wanted refl c.message_of-message.ensures.message
+    c.new-sight.ensures.process c.new-sight.ensures.message (ap (λ (w : Wanted). alternate_by w i.memory.levels) c.new-sight.ensures.wanted) c.none-operands.ensures c.clear.ensures.line c.clear.ensures.counters
     stands.0 stands.1 serves
 
 pub run-requires-clause-stays : goal.run-requires-clause-stays
@@ -49,9 +51,9 @@ run-requires-clause-stays g c =
       i.memory.words,
       subst (λ (p : ℕ). CursorsRise code p i.memory.words) (sym c.new-sight.ensures.process)
           (subst (λ (old : Seen). CursorsRise code old.process.state.process old.process.state.words) (sym c.self.view_is) c.requires.cursors),
-      step_stays code i.memory i.process i.at i.last_kept i.at_line i.status c.args.mails.now c.args.there c.clear.new.self c.new-sight.result
-          c.args.wanted c.alternate_of.result c.message_of-message.result wanted c.alternate_of.ensures c.message_of-message.ensures.message
-          c.new-sight.ensures.process c.new-sight.ensures.message c.new-sight.ensures.alternate c.clear.ensures.operands c.clear.ensures.line c.clear.ensures.counters
+      step_stays code i.memory i.process i.at i.last_kept i.at_line i.status c.args.mails.now c.args.there c.clear.new.self c.none-operands.result c.new-sight.result
+          c.args.wanted (alternate_by c.args.wanted i.memory.levels) c.message_of-message.result wanted refl c.message_of-message.ensures.message
+          c.new-sight.ensures.process c.new-sight.ensures.message (ap (λ (w : Wanted). alternate_by w i.memory.levels) c.new-sight.ensures.wanted) c.none-operands.ensures c.clear.ensures.line c.clear.ensures.counters
           stands.0 stands.1 serves,
     )
 
@@ -61,16 +63,16 @@ returns-in-Stop-clause-came g c =
     let i = c.self.inside in
     let wanted = subst (λ (old : Seen). c.args.wanted ≡ wanted_by (want code old.process.state)) (sym c.self.view_is) c.requires.wanted in
     let e = c.in-Stop.ensures.ended
-    ∙ executes code i.memory i.process i.at i.last_kept i.at_line i.status c.args.mails.now c.args.there c.clear.new.self c.new-sight.result
-    c.args.wanted c.alternate_of.result c.message_of-message.result wanted c.alternate_of.ensures c.message_of-message.ensures.message
-    c.new-sight.ensures.process c.new-sight.ensures.message c.new-sight.ensures.alternate c.clear.ensures.operands c.clear.ensures.line c.clear.ensures.counters in
+    ∙ executes code i.memory i.process i.at i.last_kept i.at_line i.status c.args.mails.now c.args.there c.clear.new.self c.none-operands.result c.new-sight.result
+    c.args.wanted (alternate_by c.args.wanted i.memory.levels) c.message_of-message.result wanted refl c.message_of-message.ensures.message
+    c.new-sight.ensures.process c.new-sight.ensures.message (ap (λ (w : Wanted). alternate_by w i.memory.levels) c.new-sight.ensures.wanted) c.none-operands.ensures c.clear.ensures.line c.clear.ensures.counters in
     subst (λ (old : Seen). StepsTo code old.process c.args.mails.now
     (step_of code old.process c.args.mails.now c.args.there) outcome.Went
     (record {
       state = standing c.run.new.memory i.process c.in-Stop.at i.last_kept;
       levels =
           c.run.new.memory.levels;
-      at_line = false;
+      at_line = i.at_line;
       status =
           status_of c.status_by-self-inside.result;
     }) c.run.new.mails) c.self.view_is
@@ -81,9 +83,16 @@ returns-in-Stop-clause-came g c =
       state = standing c.run.new.memory i.process c.in-Stop.at i.last_kept;
       levels =
           ls;
-      at_line = false;
+      at_line = i.at_line;
       status = status_of c.status_by-self-inside.result;
     }) c.in-Stop.ensures.kept.0
+    ∙ ap (λ (line : Bool). record {
+      state = standing c.run.new.memory i.process c.in-Stop.at i.last_kept;
+      levels =
+          i.memory.levels;
+      at_line = line;
+      status = status_of c.status_by-self-inside.result;
+    }) (subst (λ (old : Seen). old.process.at_line ≡ false) (sym c.self.view_is) c.requires.away)
     ∙ ap (λ (st : Stands). record {
       state = standing c.run.new.memory i.process c.in-Stop.at i.last_kept;
       levels =
@@ -98,9 +107,9 @@ returns-in-Accepts-clause-came g c =
     let i = c.self.inside in
     let wanted = subst (λ (old : Seen). c.args.wanted ≡ wanted_by (want code old.process.state)) (sym c.self.view_is) c.requires.wanted in
     let e = c.in-Accepts.ensures.ended
-    ∙ executes code i.memory i.process i.at i.last_kept i.at_line i.status c.args.mails.now c.args.there c.clear.new.self c.new-sight.result
-    c.args.wanted c.alternate_of.result c.message_of-message.result wanted c.alternate_of.ensures c.message_of-message.ensures.message
-    c.new-sight.ensures.process c.new-sight.ensures.message c.new-sight.ensures.alternate c.clear.ensures.operands c.clear.ensures.line c.clear.ensures.counters in
+    ∙ executes code i.memory i.process i.at i.last_kept i.at_line i.status c.args.mails.now c.args.there c.clear.new.self c.none-operands.result c.new-sight.result
+    c.args.wanted (alternate_by c.args.wanted i.memory.levels) c.message_of-message.result wanted refl c.message_of-message.ensures.message
+    c.new-sight.ensures.process c.new-sight.ensures.message (ap (λ (w : Wanted). alternate_by w i.memory.levels) c.new-sight.ensures.wanted) c.none-operands.ensures c.clear.ensures.line c.clear.ensures.counters in
     subst (λ (old : Seen). StepsTo code old.process c.args.mails.now
     (step_of code old.process c.args.mails.now c.args.there) outcome.Accepts
     ((seen c.run.new.memory i.process c.in-Accepts.at i.last_kept i.at_line i.status).process) c.run.new.mails) c.self.view_is
@@ -124,9 +133,9 @@ returns-in-Trap-clause-came g c =
     let i = c.self.inside in
     let wanted = subst (λ (old : Seen). c.args.wanted ≡ wanted_by (want code old.process.state)) (sym c.self.view_is) c.requires.wanted in
     let e = c.in-Trap.ensures.ended
-    ∙ executes code i.memory i.process i.at i.last_kept i.at_line i.status c.args.mails.now c.args.there c.clear.new.self c.new-sight.result
-    c.args.wanted c.alternate_of.result c.message_of-message.result wanted c.alternate_of.ensures c.message_of-message.ensures.message
-    c.new-sight.ensures.process c.new-sight.ensures.message c.new-sight.ensures.alternate c.clear.ensures.operands c.clear.ensures.line c.clear.ensures.counters in
+    ∙ executes code i.memory i.process i.at i.last_kept i.at_line i.status c.args.mails.now c.args.there c.clear.new.self c.none-operands.result c.new-sight.result
+    c.args.wanted (alternate_by c.args.wanted i.memory.levels) c.message_of-message.result wanted refl c.message_of-message.ensures.message
+    c.new-sight.ensures.process c.new-sight.ensures.message (ap (λ (w : Wanted). alternate_by w i.memory.levels) c.new-sight.ensures.wanted) c.none-operands.ensures c.clear.ensures.line c.clear.ensures.counters in
     subst (λ (old : Seen). StepsTo code old.process c.args.mails.now
     (step_of code old.process c.args.mails.now c.args.there) (outcome.Trap c.in-Trap.cause)
     ((seen c.run.new.memory i.process i.at i.last_kept i.at_line i.status).process) c.run.new.mails) c.self.view_is
@@ -139,9 +148,9 @@ returns-in-Stop-clause-work g c =
     let code = plain c.args.code.now in
     let i = c.self.inside in
     let wanted = subst (λ (old : Seen). c.args.wanted ≡ wanted_by (want code old.process.state)) (sym c.self.view_is) c.requires.wanted in
-    let same = step_named code i.memory i.process i.at i.last_kept i.at_line i.status c.args.mails.now c.args.there c.clear.new.self c.new-sight.result
-    c.args.wanted c.alternate_of.result c.message_of-message.result wanted c.alternate_of.ensures c.message_of-message.ensures.message
-    c.new-sight.ensures.process c.new-sight.ensures.message c.new-sight.ensures.alternate c.clear.ensures.operands c.clear.ensures.line c.clear.ensures.counters in
+    let same = step_named code i.memory i.process i.at i.last_kept i.at_line i.status c.args.mails.now c.args.there c.clear.new.self c.none-operands.result c.new-sight.result
+    c.args.wanted (alternate_by c.args.wanted i.memory.levels) c.message_of-message.result wanted refl c.message_of-message.ensures.message
+    c.new-sight.ensures.process c.new-sight.ensures.message (ap (λ (w : Wanted). alternate_by w i.memory.levels) c.new-sight.ensures.wanted) c.none-operands.ensures c.clear.ensures.line c.clear.ensures.counters in
     subst (λ (old : Seen). c.run.new.steps ≤ c.args.steps.now + 1 + 3 * named_in_step code old.process c.args.mails.now c.args.there) c.self.view_is
     (omega (arith, same, c.message_of-message.ensures.ticks, c.in-Stop.ensures.work))
 
@@ -150,9 +159,9 @@ returns-in-Accepts-clause-work g c =
     let code = plain c.args.code.now in
     let i = c.self.inside in
     let wanted = subst (λ (old : Seen). c.args.wanted ≡ wanted_by (want code old.process.state)) (sym c.self.view_is) c.requires.wanted in
-    let same = step_named code i.memory i.process i.at i.last_kept i.at_line i.status c.args.mails.now c.args.there c.clear.new.self c.new-sight.result
-    c.args.wanted c.alternate_of.result c.message_of-message.result wanted c.alternate_of.ensures c.message_of-message.ensures.message
-    c.new-sight.ensures.process c.new-sight.ensures.message c.new-sight.ensures.alternate c.clear.ensures.operands c.clear.ensures.line c.clear.ensures.counters in
+    let same = step_named code i.memory i.process i.at i.last_kept i.at_line i.status c.args.mails.now c.args.there c.clear.new.self c.none-operands.result c.new-sight.result
+    c.args.wanted (alternate_by c.args.wanted i.memory.levels) c.message_of-message.result wanted refl c.message_of-message.ensures.message
+    c.new-sight.ensures.process c.new-sight.ensures.message (ap (λ (w : Wanted). alternate_by w i.memory.levels) c.new-sight.ensures.wanted) c.none-operands.ensures c.clear.ensures.line c.clear.ensures.counters in
     subst (λ (old : Seen). c.run.new.steps ≤ c.args.steps.now + 1 + 3 * named_in_step code old.process c.args.mails.now c.args.there) c.self.view_is
     (omega (arith, same, c.message_of-message.ensures.ticks, c.in-Accepts.ensures.work))
 
@@ -161,8 +170,8 @@ returns-in-Trap-clause-work g c =
     let code = plain c.args.code.now in
     let i = c.self.inside in
     let wanted = subst (λ (old : Seen). c.args.wanted ≡ wanted_by (want code old.process.state)) (sym c.self.view_is) c.requires.wanted in
-    let same = step_named code i.memory i.process i.at i.last_kept i.at_line i.status c.args.mails.now c.args.there c.clear.new.self c.new-sight.result
-    c.args.wanted c.alternate_of.result c.message_of-message.result wanted c.alternate_of.ensures c.message_of-message.ensures.message
-    c.new-sight.ensures.process c.new-sight.ensures.message c.new-sight.ensures.alternate c.clear.ensures.operands c.clear.ensures.line c.clear.ensures.counters in
+    let same = step_named code i.memory i.process i.at i.last_kept i.at_line i.status c.args.mails.now c.args.there c.clear.new.self c.none-operands.result c.new-sight.result
+    c.args.wanted (alternate_by c.args.wanted i.memory.levels) c.message_of-message.result wanted refl c.message_of-message.ensures.message
+    c.new-sight.ensures.process c.new-sight.ensures.message (ap (λ (w : Wanted). alternate_by w i.memory.levels) c.new-sight.ensures.wanted) c.none-operands.ensures c.clear.ensures.line c.clear.ensures.counters in
     subst (λ (old : Seen). c.run.new.steps ≤ c.args.steps.now + 1 + 3 * named_in_step code old.process c.args.mails.now c.args.there) c.self.view_is
     (omega (arith, same, c.message_of-message.ensures.ticks, c.in-Trap.ensures.work))
