@@ -6,6 +6,16 @@ use Rattle.rb_outside.specs.Outside.{Faults}
 use Rattle.rb_outside.specs.Puts.{Puts}
 use Rattle.rb_outside.proofs.Puts.{puts_both, puts_same, puts_stopped_at}
 
+-- what a call that went well has written, whatever it answers
+pub put_so : {T E U D : Type 0} {bytes : List ℕ} {w0 w1 : Option (List ℕ)} {f0 f1 : Faults} {v : T} {u : U}
+    → Puts {T = T} {E = E} bytes w0 w1 f0 f1 (Ok v) → Puts {T = U} {E = D} bytes w0 w1 f0 f1 (Ok u)
+put_so p = record { ok = p.ok; quiet = p.quiet; err = p.err; failed = p.failed }
+
+-- and one that did not, whatever it would have answered
+pub failed_so : {T E U : Type 0} {bytes : List ℕ} {w0 w1 : Option (List ℕ)} {f0 f1 : Faults} {e : E}
+    → Puts {T = T} {E = E} bytes w0 w1 f0 f1 (Err e) → Puts {T = U} {E = E} bytes w0 w1 f0 f1 (Err e)
+failed_so p = record { ok = p.ok; quiet = p.quiet; err = p.err; failed = p.failed }
+
 -- so far a text was written up to these bytes
 pub record Remains (rest whole : List ℕ) (old now : Option (List ℕ)) (before at : Faults) : Type 0 where
   pub done : List ℕ

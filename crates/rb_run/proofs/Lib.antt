@@ -14,6 +14,7 @@ pub mod Gathered
 pub mod Recorded
 pub mod TurnsUnseen
 pub mod TurnsWork
+pub mod Rested
 pub mod Survived
 pub mod NoLines
 -- Cursors count what was sent and taken, in the present and in copies.

@@ -34,7 +34,7 @@ lines_first : (one : Told) (all : List Told) → lines_told (one ∷ all) ≡ su
 lines_first one all = sum_by-cons (λ (told : Told). sum_by length told.released) one all
 
 -- counts that have risen by a turn, with those of the turns behind it, are those of all
-counted_with : (old now : Counts) (n : ℕ) (one : Told) (all : List Told) → IsMore old n one.events now → n ≡ sum_by length one.released
+pub counted_with : (old now : Counts) (n : ℕ) (one : Told) (all : List Told) → IsMore old n one.events now → n ≡ sum_by length one.released
     → both_counted (counts now) (told_counts all) ≡ both_counted (counts old) (told_counts (one ∷ all))
 counted_with old now n one all more lines =
     same_counted (both_counted (counts now) (told_counts all)) (both_counted (counts old) (told_counts (one ∷ all)))
@@ -45,7 +45,7 @@ counted_with old now n one all more lines =
     (omega (arith, more.done, events_first is_done one all))
 
 -- with nothing behind them
-counted_alone : (c : Counted) → both_counted c (told_counts []) ≡ c
+pub counted_alone : (c : Counted) → both_counted c (told_counts []) ≡ c
 counted_alone c = same_counted (both_counted c (told_counts [])) c (omega arith) (omega arith) (omega arith) (omega arith) (omega arith)
 
 -- so many turns are left room for

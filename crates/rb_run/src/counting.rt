@@ -49,7 +49,7 @@ pub fn count<L: Ledger>(
     tally
 }
 
-// Takes the turns of a schedule, and adds up their lines.
+// Takes the turns of a schedule, and adds up their lines. Once every process rests the others are taken at once.
 fn count_turns<L: Ledger>(
     machine: &mut Machine<'_, L>,
     mut schedule: Schedule<'_>,
@@ -59,6 +59,7 @@ fn count_turns<L: Ledger>(
 )
     requires waits { NoneWaits machine.old }
     requires turns { machine.old.taken + length schedule.left ≤ machine.old.most }
+    requires end { machine.old.taken + length schedule.left ≡ length schedule.all }
     requires few { machine.old.most < 2 ^ 32 - 1 }
     requires room { AreBelow (2 ^ 32) tally.old }
     ensures counts { counts tally.new
@@ -71,7 +72,12 @@ fn count_turns<L: Ledger>(
 {
     'turns: while let Some(p) = schedule.next() {
         machine.turn(p, report, steps);
+        let may_rest = machine.has_released();
         tally.add(&report.events, machine.drop_released());
+        if may_rest && machine.is_over() {
+            machine.rest_until(schedule.turns());
+            return;
+        }
     }
 }
 

@@ -1,6 +1,6 @@
 //! A run of a loaded machine over a schedule, from its turns to the bytes that it prints.
 
-ghost use Rattle.std.specs.Prelude.{◌≡◌, ℕ, ◌+◌, ◌<◌, ◌≤◌, ◌++◌, false, [], length, replicate, OnOk};
+ghost use Rattle.std.specs.Prelude.{◌≡◌, ℕ, ◌+◌, ◌<◌, ◌≤◌, ◌++◌, false, true, [], length, replicate, IfOk, OnOk};
 ghost use Rattle.rb_code.specs.WordMachine.WordKind.{word_kind};
 ghost use Rattle.rb_code.specs.WordMachine.WordRun.{word_text};
 ghost use Rattle.rb_meaning.specs.Meaning.{run_text};
@@ -10,7 +10,7 @@ ghost use Rattle.rb_trace.specs.Naming.{naming};
 ghost use Rattle.rb_trace.specs.Report.{told_of};
 ghost use Rattle.rb_world.specs.Text.{all_told, told_text};
 ghost use Rattle.rb_world.specs.Turn.{run as run_from};
-ghost use Rattle.rb_machine.specs.Machine.{opening_seen};
+ghost use Rattle.rb_machine.specs.Machine.{IsOver, opening_seen};
 ghost use Rattle.rb_machine.specs.Work.{turns_work};
 ghost use Rattle.rb_run.specs.Running.{HasNoLines, NoneWaits, NamesFit, ran};
 ghost use Rattle.rb_run.specs.Sources.{OfItsSource};
@@ -53,7 +53,8 @@ pub fn run<S: Sink, L: Ledger>(
     write_end(out, turns, names, machine, steps)
 }
 
-// Takes the turns of a schedule, each into the same report, and writes the lines of each.
+// Takes the turns of a schedule, each into the same report, and writes the lines of each. Once every process rests the
+// others are taken at once.
 fn take_turns<S: Sink, L: Ledger>(
     machine: &mut Machine<'_, L>,
     names: &Names,
@@ -65,6 +66,7 @@ fn take_turns<S: Sink, L: Ledger>(
     requires named { length names.now.processes.items ≡ length machine.old.world.processes }
     requires waits { NoneWaits machine.old }
     requires turns { machine.old.taken + length schedule.left ≤ machine.old.most }
+    requires end { machine.old.taken + length schedule.left ≡ length schedule.all }
     ensures text { Puts
         (all_told (naming names.now) (machine.old.taken + 1)
         (run_from (word_kind machine.old.code machine.old.groups) (machine.old.taken + 1) schedule.entry.left machine.old.world).1)
@@ -75,18 +77,22 @@ fn take_turns<S: Sink, L: Ledger>(
 {
     'turns: while let Some(p) = schedule.next() {
         machine.turn(p, report, steps);
-        write_turn(out, report, names, machine)?;
+        let over = write_turn(out, report, names, machine)?;
+        if over {
+            machine.rest_until(schedule.turns());
+            return Ok(());
+        }
     }
     Ok(())
 }
 
-// Writes the lines of the turn that was taken last. Most turns have none.
+// Writes the lines of the turn that was taken last. Most turns have none. True where no turn behind it has any.
 fn write_turn<S: Sink, L: Ledger>(
     out: &mut S,
     report: &Report,
     names: &Names,
     machine: &mut Machine<'_, L>,
-) -> Result<(), Failed>
+) -> Result<bool, Failed>
     requires fit { length machine.old.waiting ≡ length names.now.processes.items }
     requires processes { length machine.old.waiting ≡ length machine.old.world.processes }
     ensures text { Puts
@@ -94,12 +100,13 @@ fn write_turn<S: Sink, L: Ledger>(
         (S.written out.old) (S.written out.new) (S.faults out.old) (S.faults out.new) result }
     ensures none_waits { OnOk result (machine.new.waiting ≡ replicate (length machine.old.waiting) []) }
     ensures rest { record machine.new { waiting = [] } ≡ record machine.old { waiting = [] } }
+    ensures over { IfOk result (λ over. over ≡ true → IsOver machine.new) }
 {
-    if has_lines(report, machine) {
-        write_report(out, machine.turns_taken(), report, names, machine)
-    } else {
-        Ok(())
+    if !has_lines(report, machine) {
+        return Ok(false);
     }
+    write_report(out, machine.turns_taken(), report, names, machine)?;
+    Ok(machine.is_over())
 }
 
 // False where a turn has no lines to be written.

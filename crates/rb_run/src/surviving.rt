@@ -1,10 +1,10 @@
 //! A run that prints nothing, and then writes which of its turns survived.
 
-ghost use Rattle.std.specs.Prelude.{◌≡◌, ◌+◌, ◌≤◌, length};
+ghost use Rattle.std.specs.Prelude.{◌≡◌, ◌+◌, ◌≤◌, true, [], length, replicate};
 ghost use Rattle.rb_code.specs.WordMachine.WordRun.{word_run};
 ghost use Rattle.rb_trace.specs.Naming.{naming};
 ghost use Rattle.rb_world.specs.Text.{record_text};
-ghost use Rattle.rb_machine.specs.Machine.{opening_seen};
+ghost use Rattle.rb_machine.specs.Machine.{IsOver, opening_seen};
 ghost use Rattle.rb_machine.specs.Work.{turns_work};
 ghost use Rattle.rb_machine.specs.Survivors.{word_survivors};
 ghost use Rattle.rb_run.specs.Running.{NoneWaits, ran};
@@ -56,7 +56,7 @@ pub fn survive<S: Sink, L: Ledger>(
     }
 }
 
-// Takes the turns of a schedule, and writes nothing of them.
+// Takes the turns of a schedule, and writes nothing of them. Once every process rests the others are taken at once.
 fn take_unseen<L: Ledger>(
     machine: &mut Machine<'_, L>,
     mut schedule: Schedule<'_>,
@@ -65,14 +65,31 @@ fn take_unseen<L: Ledger>(
 )
     requires waits { NoneWaits machine.old }
     requires turns { machine.old.taken + length schedule.left ≤ machine.old.most }
+    requires end { machine.old.taken + length schedule.left ≡ length schedule.all }
     ensures machine { machine.new ≡ ran machine.old schedule.entry.left }
     ensures work { steps.new
         ≤ steps.old + turns_work machine.old.code machine.old.groups (machine.old.taken + 1) schedule.entry.left machine.old.world }
 {
     'turns: while let Some(p) = schedule.next() {
         machine.turn(p, report, steps);
-        machine.drop_released();
+        if drop_lines(machine) {
+            machine.rest_until(schedule.turns());
+            return;
+        }
     }
+}
+
+// Forgets the released lines of the turn that was taken last. True where no turn behind it changes anything.
+fn drop_lines<L: Ledger>(machine: &mut Machine<'_, L>) -> bool
+    requires { length machine.old.waiting ≡ length machine.old.world.processes }
+    ensures machine { machine.new ≡ record machine.old { waiting = replicate (length machine.old.waiting) [] } }
+    ensures over { result ≡ true → IsOver machine.new }
+{
+    if !machine.has_released() {
+        return false;
+    }
+    machine.drop_released();
+    machine.is_over()
 }
 
 // Writes survivors as a record.

@@ -1,8 +1,12 @@
 -- The opening and all turns are counted from nothing.
-use Rattle.std.proofs.Common.{arith, refl}
+use Rattle.std.proofs.Common.{ap, arith, length, refl}
+use Rattle.rb_machine.specs.Machine.{Seen}
 use Rattle.rb_run.proofs.TurnsUnseen.{none_waits_first}
 use Rattle.rb_run.proofs.TurnsWork.{work_first}
 use Rattle.rb_run.proofs.counting.count.Goals as goal
+
+pub count_turns-requires-clause-end : goal.count_turns-requires-clause-end
+count_turns-requires-clause-end g c = omega (arith, ap (λ (m : Seen). m.taken) c.requires.fresh, ap length c.requires.whole)
 
 pub count_turns-requires-clause-waits : goal.count_turns-requires-clause-waits
 count_turns-requires-clause-waits g c = none_waits_first c.args.machine.now c.requires.fresh

@@ -1,18 +1,20 @@
 -- One turn more, whose lines are counted and forgotten.
-use Rattle.std.proofs.Common.{List, ◌+◌, length, ap, arith, refl, ◌∙◌, subst, sym}
+use Rattle.std.proofs.Common.{◌≡◌, List, ◌+◌, length, ap, arith, refl, ◌∙◌, subst, sym}
 use Rattle.rb_base.specs.declared.event.Event.{Event}
 use Rattle.rb_trace.specs.Report.{told_of}
 use Rattle.rb_machine.specs.Machine.{Seen}
 use Rattle.rb_run.specs.Counting.{IsMore}
+use Rattle.rb_run.proofs.Rested.{rested_counted, rested_ran}
 use Rattle.rb_run.proofs.TurnsTaken.{is_after, led_on, none_waits, ran_all}
 use Rattle.rb_run.proofs.TurnsUnseen.{counted_all, counted_on, none_waiting, rest_same, room_after, room_first}
-use Rattle.rb_run.proofs.TurnsWork.{work_left, work_on}
+use Rattle.rb_run.proofs.TurnsWork.{work_left, work_on, work_through}
 use Rattle.rb_run.proofs.counting.count_turns.Goals as goal
 
 pub turns-init : goal.turns-init
 turns-init g c = record {
   waits = c.requires.waits;
   few = c.requires.turns;
+  end = c.requires.end;
   room = room_first (length c.args.schedule.left) c.args.tally.now (omega (arith, c.requires.turns, c.requires.few)) c.requires.room;
   led = refl;
   work = omega arith;
@@ -34,6 +36,7 @@ turns-preserved g c =
     record {
       waits = none_waits m turning now c.in-Some.p told turned waits none rest;
       few = omega (arith, ap (λ (x : Seen). x.taken) same, ap (λ (x : Seen). x.most) same, ap length parts, c.turns.invariant.few);
+      end = omega (arith, ap (λ (x : Seen). x.taken) same, ap length parts, ap length c.in-Some.ensures.1, c.turns.invariant.end);
       room = room_after c.turns.schedule.left c.next.new.self.left c.in-Some.p c.turns.tally c.add.new.self c.drop_released.result c.deref.result.now
           parts c.turns.invariant.room c.add.ensures c.drop_released.ensures.few (omega (arith, c.deref.ensures.1));
       led = led_on m turning now c.in-Some.p told turned waits none rest c.turns.schedule.left c.next.new.self.left parts ∙ c.turns.invariant.led;
@@ -52,3 +55,95 @@ returns-clause-counts g c =
 
 pub returns-clause-machine : goal.returns-clause-machine
 returns-clause-machine g c = sym (ran_all c.turns.machine c.turns.schedule.left c.in_default.ensures.0) ∙ c.turns.invariant.led
+
+-- Once every process rests, the turns that are left lead nowhere and count nothing.
+pub rest_until-requires-clause-later : goal.rest_until-requires-clause-later
+rest_until-requires-clause-later g c =
+    let parts = c.in-Some.ensures.0 in
+    let m = c.turns.machine in
+    let turning = c.turn.new.self in
+    let now = c.drop_released.new.self in
+    let told = told_of c.turn.new.report.kind c.turn.new.report.events.items turning.waiting in
+    let turned = c.turn.ensures.turned in
+    let waits = c.turns.invariant.waits in
+    let none = none_waiting m turning now c.in-Some.p told turned waits c.drop_released.ensures.machine in
+    let rest = rest_same m turning now c.in-Some.p told turned waits c.drop_released.ensures.machine in
+    let same = is_after m turning now c.in-Some.p told turned waits none rest in
+    omega (
+      arith,
+      ap (λ (x : Seen). x.taken) same,
+      ap length parts,
+      ap length c.in-Some.ensures.1,
+      c.turns.invariant.end,
+      c.turns-then-is_over.ensures.all,
+    )
+
+pub rest_until-requires-clause-most : goal.rest_until-requires-clause-most
+rest_until-requires-clause-most g c =
+    let parts = c.in-Some.ensures.0 in
+    let m = c.turns.machine in
+    let turning = c.turn.new.self in
+    let now = c.drop_released.new.self in
+    let told = told_of c.turn.new.report.kind c.turn.new.report.events.items turning.waiting in
+    let turned = c.turn.ensures.turned in
+    let waits = c.turns.invariant.waits in
+    let none = none_waiting m turning now c.in-Some.p told turned waits c.drop_released.ensures.machine in
+    let rest = rest_same m turning now c.in-Some.p told turned waits c.drop_released.ensures.machine in
+    let same = is_after m turning now c.in-Some.p told turned waits none rest in
+    omega (
+      arith,
+      ap (λ (x : Seen). x.most) same,
+      ap length c.in-Some.ensures.1,
+      c.turns.invariant.end,
+      c.turns.invariant.few,
+      c.turns-then-is_over.ensures.all,
+    )
+
+pub returns-then-is_over-clause-counts : goal.returns-then-is_over-clause-counts
+returns-then-is_over-clause-counts g c =
+    let parts = c.in-Some.ensures.0 in
+    let m = c.turns.machine in
+    let turning = c.turn.new.self in
+    let now = c.drop_released.new.self in
+    let told = told_of c.turn.new.report.kind c.turn.new.report.events.items turning.waiting in
+    let turned = c.turn.ensures.turned in
+    let waits = c.turns.invariant.waits in
+    let none = none_waiting m turning now c.in-Some.p told turned waits c.drop_released.ensures.machine in
+    let rest = rest_same m turning now c.in-Some.p told turned waits c.drop_released.ensures.machine in
+    rested_counted now (c.is_over.ensures c.if-is_over.true) c.next.new.self.left c.add.new.self _
+    (counted_on m turning now c.in-Some.p told turned waits c.drop_released.ensures.machine c.turns.schedule.left
+    c.next.new.self.left parts c.turns.tally c.add.new.self c.drop_released.result
+    (subst (λ (events : List Event). IsMore c.turns.tally c.drop_released.result events c.add.new.self) c.deref.ensures.0 c.add.ensures)
+    c.drop_released.ensures.count
+    ∙ c.turns.invariant.counted)
+
+pub returns-then-is_over-clause-machine : goal.returns-then-is_over-clause-machine
+returns-then-is_over-clause-machine g c =
+    let parts = c.in-Some.ensures.0 in
+    let m = c.turns.machine in
+    let turning = c.turn.new.self in
+    let now = c.drop_released.new.self in
+    let told = told_of c.turn.new.report.kind c.turn.new.report.events.items turning.waiting in
+    let turned = c.turn.ensures.turned in
+    let waits = c.turns.invariant.waits in
+    let none = none_waiting m turning now c.in-Some.p told turned waits c.drop_released.ensures.machine in
+    let rest = rest_same m turning now c.in-Some.p told turned waits c.drop_released.ensures.machine in
+    let same = is_after m turning now c.in-Some.p told turned waits none rest in
+    let end : now.taken + length c.next.new.self.left ≡ c.turns-then-is_over.result =
+    omega (
+      arith,
+      ap (λ (x : Seen). x.taken) same,
+      ap length parts,
+      ap length c.in-Some.ensures.1,
+      c.turns.invariant.end,
+      c.turns-then-is_over.ensures.all,
+    ) in
+    c.rest_until.ensures
+    ∙ rested_ran now (c.is_over.ensures c.if-is_over.true) c.next.new.self.left c.turns-then-is_over.result end
+    ∙ led_on m turning now c.in-Some.p told turned waits none rest c.turns.schedule.left c.next.new.self.left parts
+    ∙ c.turns.invariant.led
+
+pub returns-then-is_over-clause-work : goal.returns-then-is_over-clause-work
+returns-then-is_over-clause-work g c =
+    work_through c.turns.machine c.in-Some.p c.turns.schedule.left c.next.new.self.left c.in-Some.ensures.0 c.turns.steps c.turn.new.steps
+    (c.args.steps.now + work_left c.args.machine.now c.args.schedule.left) c.turn.ensures.work c.turns.invariant.work

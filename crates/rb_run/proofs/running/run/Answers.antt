@@ -1,10 +1,11 @@
 -- The three parts of a run, and what each asks for.
-use Rattle.std.proofs.Common.{arith, length}
+use Rattle.std.proofs.Common.{ap, arith, length}
 use Rattle.rb_trace.specs.Ended.{state_of}
 use Rattle.rb_trace.specs.Naming.{naming}
 use Rattle.rb_trace.specs.Report.{told_of}
 use Rattle.rb_world.specs.Text.{end_text, told_text}
 use Rattle.rb_code.specs.WordMachine.WordRun.{word_final}
+use Rattle.rb_machine.specs.Machine.{Seen}
 use Rattle.rb_run.proofs.AsMeant.{written_as_meant}
 use Rattle.rb_run.proofs.RunWritten.{end_fits, ending_text, first_text, is_end, named_now, states_each, stopped_at_first, stopped_at_second, turns_text, waits_now, written_whole}
 use Rattle.rb_run.proofs.TurnsTaken.{turns_left}
@@ -31,6 +32,15 @@ pub take_turns-requires-clause-waits : goal.take_turns-requires-clause-waits
 take_turns-requires-clause-waits g c =
     waits_now c.args.machine.now c.requires.fresh c.args.names.now c.requires.fit c.write_report.new.lines
     c.in_ok-write_report.ensures.none_waits c.write_report.ensures.rest
+
+pub take_turns-requires-clause-end : goal.take_turns-requires-clause-end
+take_turns-requires-clause-end g c =
+    omega (
+      arith,
+      ap (λ (m : Seen). m.taken) c.requires.fresh,
+      ap (λ (m : Seen). m.taken) c.write_report.ensures.rest,
+      ap length c.requires.whole,
+    )
 
 pub returns-in_err-take_turns-clause-text : goal.returns-in_err-take_turns-clause-text
 returns-in_err-take_turns-clause-text g c =

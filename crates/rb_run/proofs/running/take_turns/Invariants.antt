@@ -12,6 +12,7 @@ invariant-turns g l = record {
   named : length l.names.processes.items ≡ length l.machine.world.processes;
   waits : NoneWaits l.machine;
   few : l.machine.taken + length l.schedule.left ≤ l.machine.most;
+  end : l.machine.taken + length l.schedule.left ≡ length l.schedule.all;
   led : ran l.machine l.schedule.left ≡ ran l.fn.machine l.fn.schedule.left;
   work : l.steps + work_left l.machine l.schedule.left ≤ l.fn.steps + work_left l.fn.machine l.fn.schedule.left;
   text : Remains (turns_left (naming l.names) l.machine l.schedule.left)

@@ -1,9 +1,13 @@
 -- The survivors of all turns, which are those of the meaning.
-use Rattle.std.proofs.Common.{arith, refl}
+use Rattle.std.proofs.Common.{ap, arith, length, refl}
+use Rattle.rb_machine.specs.Machine.{Seen}
 use Rattle.rb_run.proofs.Survived.{erased_over}
 use Rattle.rb_run.proofs.TurnsUnseen.{none_waits_first}
 use Rattle.rb_run.proofs.TurnsWork.{work_first}
 use Rattle.rb_run.proofs.surviving.survive.Goals as goal
+
+pub take_unseen-requires-clause-end : goal.take_unseen-requires-clause-end
+take_unseen-requires-clause-end g c = omega (arith, ap (λ (m : Seen). m.taken) c.requires.fresh, ap length c.requires.whole)
 
 pub take_unseen-requires-clause-waits : goal.take_unseen-requires-clause-waits
 take_unseen-requires-clause-waits g c = none_waits_first c.args.machine.now c.requires.fresh
