@@ -3,11 +3,13 @@ use Rattle.std.proofs.Common.{◌≡◌, ◌≢◌, ℕ, suc, ◌+◌, ◌-◌, 
 use Rattle.std.specs.List.{AllByRecursion}
 use Rattle.std.proofs.lemmas.Bool.{cases_eq}
 use Rattle.std.proofs.lemmas.List.{length-replicate}
+use Rattle.std.proofs.lemmas.List.Folds.{sum_by-replicate}
+use Rattle.std.proofs.lemmas.List.Sums.{sum_by-set}
 use Rattle.std.proofs.Math.Seq.{take-length}
 use Rattle.rb_domino.specs.declared.line.Message.{Message}
 use Rattle.rb_domino.specs.History.{Story}
-use Rattle.rb_domino.specs.Recovery.{message_at, no_message}
-use Rattle.rb_domino.specs.Board.{Among, AreFalling, AreSends, IsBetween, list_at}
+use Rattle.rb_domino.specs.Recovery.{IsOneOf, message_at, no_message}
+use Rattle.rb_domino.specs.Board.{AreFalling, AreSends, IsBetween, list_at}
 use Rattle.rb_domino.proofs.Falling.{list_same, list_other}
 use Rattle.rb_domino.proofs.States.{none_at}
 
@@ -25,9 +27,10 @@ sending_none story lists none known = subst (Sending story 0 story.messages) (sy
   sends = record {
     counted = length-replicate (length story.processes) [];
     falling = λ p. subst AreFalling (sym (none_at {X = ℕ} (length story.processes) p)) tt;
-    below = λ p m among. absurd (subst (Among m) (none_at {X = ℕ} (length story.processes) p) among);
-    own = λ p m among. absurd (subst (Among m) (none_at {X = ℕ} (length story.processes) p) among);
+    below = λ p m among. absurd (subst (IsOneOf m) (none_at {X = ℕ} (length story.processes) p) among);
+    own = λ p m among. absurd (subst (IsOneOf m) (none_at {X = ℕ} (length story.processes) p) among);
     all = λ m below. absurd (let never : ⊥ = omega arith in never);
+    once = omega (arith, sum_by-replicate (length {A = ℕ}) (length story.processes) []);
   };
   here = λ k. let e : k ≡ 0 + k = omega arith in ap (message_at story) e;
   known = known;
@@ -35,7 +38,7 @@ sending_none story lists none known = subst (Sending story 0 story.messages) (sy
 })
 
 -- what is on a list lies below a number
-all_below : (m : ℕ) (ms : List ℕ) → ((n : ℕ) → Among n ms → n < m) → AllByRecursion (λ n. n < m) ms
+all_below : (m : ℕ) (ms : List ℕ) → ((n : ℕ) → IsOneOf n ms → n < m) → AllByRecursion (λ n. n < m) ms
 all_below m [] each = tt
 all_below m (n ∷ ns) each = (each n (inl refl), all_below m ns (λ k among. each k (inr among)))
 
@@ -48,6 +51,7 @@ sends_more story m q lists sends within sender = record {
   below = λ p n among. lower p n (cases_eq p q) among;
   own = λ p n among. owned p n (cases_eq p q) among;
   all = λ n below. lies n below (cases_eq n m) (cases_eq (message_at story n).sender q);
+  once = omega (arith, sends.once, sum_by-set length lists q (m ∷ list_at lists q) [] within);
 }
   where
     at_same : (p : ℕ) → p ≡ q → list_at (slice_set lists q (m ∷ list_at lists q)) p ≡ m ∷ list_at lists q
@@ -57,32 +61,32 @@ sends_more story m q lists sends within sender = record {
     falls p (inl e) = subst AreFalling (sym (at_same p e)) (all_below m (list_at lists q) (sends.below q), sends.falling q)
     falls p (inr apart) = subst AreFalling (sym (list_other lists q p (m ∷ list_at lists q) apart)) (sends.falling p)
 
-    lower_top : (n : ℕ) → (n ≡ m) ⊎ Among n (list_at lists q) → n < m + 1
+    lower_top : (n : ℕ) → (n ≡ m) ⊎ IsOneOf n (list_at lists q) → n < m + 1
     lower_top n (inl e) = omega arith
     lower_top n (inr among) = let low : n < m = sends.below q n among in omega arith
 
-    lower : (p n : ℕ) → (p ≡ q) ⊎ (p ≢ q) → Among n (list_at (slice_set lists q (m ∷ list_at lists q)) p) → n < m + 1
-    lower p n (inl e) among = lower_top n (subst (Among n) (at_same p e) among)
+    lower : (p n : ℕ) → (p ≡ q) ⊎ (p ≢ q) → IsOneOf n (list_at (slice_set lists q (m ∷ list_at lists q)) p) → n < m + 1
+    lower p n (inl e) among = lower_top n (subst (IsOneOf n) (at_same p e) among)
     lower p n (inr apart) among =
-        let low : n < m = sends.below p n (subst (Among n) (list_other lists q p (m ∷ list_at lists q) apart) among) in omega arith
+        let low : n < m = sends.below p n (subst (IsOneOf n) (list_other lists q p (m ∷ list_at lists q) apart) among) in omega arith
 
-    owned_top : (p n : ℕ) → p ≡ q → (n ≡ m) ⊎ Among n (list_at lists q) → (message_at story n).sender ≡ p
+    owned_top : (p n : ℕ) → p ≡ q → (n ≡ m) ⊎ IsOneOf n (list_at lists q) → (message_at story n).sender ≡ p
     owned_top p n e (inl same) = ap (λ k. (message_at story k).sender) same ∙ sender ∙ sym e
     owned_top p n e (inr among) = sends.own q n among ∙ sym e
 
-    owned : (p n : ℕ) → (p ≡ q) ⊎ (p ≢ q) → Among n (list_at (slice_set lists q (m ∷ list_at lists q)) p) → (message_at story n).sender ≡ p
-    owned p n (inl e) among = owned_top p n e (subst (Among n) (at_same p e) among)
-    owned p n (inr apart) among = sends.own p n (subst (Among n) (list_other lists q p (m ∷ list_at lists q) apart) among)
+    owned : (p n : ℕ) → (p ≡ q) ⊎ (p ≢ q) → IsOneOf n (list_at (slice_set lists q (m ∷ list_at lists q)) p) → (message_at story n).sender ≡ p
+    owned p n (inl e) among = owned_top p n e (subst (IsOneOf n) (at_same p e) among)
+    owned p n (inr apart) among = sends.own p n (subst (IsOneOf n) (list_other lists q p (m ∷ list_at lists q) apart) among)
 
     lies : (n : ℕ) → n < m + 1 → (n ≡ m) ⊎ (n ≢ m) → ((message_at story n).sender ≡ q) ⊎ ((message_at story n).sender ≢ q)
-        → Among n (list_at (slice_set lists q (m ∷ list_at lists q)) (message_at story n).sender)
-    lies n below (inl same) (inl e) = subst (Among n) (sym (at_same (message_at story n).sender e)) (inl same)
+        → IsOneOf n (list_at (slice_set lists q (m ∷ list_at lists q)) (message_at story n).sender)
+    lies n below (inl same) (inl e) = subst (IsOneOf n) (sym (at_same (message_at story n).sender e)) (inl same)
     lies n below (inl same) (inr apart) = absurd (apart (ap (λ k. (message_at story k).sender) same ∙ sender))
     lies n below (inr other) (inl e) =
-        subst (Among n) (sym (at_same (message_at story n).sender e))
-        (inr (subst (λ p. Among n (list_at lists p)) e (sends.all n (omega arith))))
+        subst (IsOneOf n) (sym (at_same (message_at story n).sender e))
+        (inr (subst (λ p. IsOneOf n (list_at lists p)) e (sends.all n (omega arith))))
     lies n below (inr other) (inr apart) =
-        subst (Among n) (sym (list_other lists q (message_at story n).sender (m ∷ list_at lists q) apart)) (sends.all n (omega arith))
+        subst (IsOneOf n) (sym (list_other lists q (message_at story n).sender (m ∷ list_at lists q) apart)) (sends.all n (omega arith))
 
 -- the first message of what is left, and the others
 pub sending_step : (story : Story) (m n q : ℕ) (rest : List Message) (lists new : List (List ℕ)) → n ≡ length rest → 0 < length rest

@@ -4,8 +4,8 @@ use Rattle.std.specs.List.{AllByRecursion}
 use Rattle.std.proofs.lemmas.Bool.{cases_eq, ltb-true, ltb-false}
 use Rattle.rb_domino.specs.declared.state.State.{State}
 use Rattle.rb_domino.specs.History.{IsTakenAt, Story}
-use Rattle.rb_domino.specs.Recovery.{latest, left_to, message_at, stands, states_before}
-use Rattle.rb_domino.specs.Board.{Among, AreFalling, AreSplit, AreTakes, Pends, Unsends, list_at}
+use Rattle.rb_domino.specs.Recovery.{IsOneOf, latest, left_to, message_at, stands, states_before}
+use Rattle.rb_domino.specs.Board.{AreFalling, AreSplit, AreTakes, Pends, Unsends, list_at}
 
 -- what is left after a place is dropped stands no later than it
 before_up_to : (after : ℕ) (states : List State) → (latest (states_before after states)).place ≤ after
@@ -84,10 +84,10 @@ split_fallen story takes left sends pending now q after own known sending told s
         → (p ≢ q → P (list_at (slice_set sends q own) p)) → P (list_at (slice_set sends q own) p)
     each P p it others = ⊎_elim it others (cases_eq p q)
 
-    owned : (p m : ℕ) → (p ≡ q) ⊎ (p ≢ q) → Among m (list_at (slice_set sends q own) p) → (message_at story m).sender ≡ p
+    owned : (p m : ℕ) → (p ≡ q) ⊎ (p ≢ q) → IsOneOf m (list_at (slice_set sends q own) p) → (message_at story m).sender ≡ p
     owned p m (inl e) among =
-        split.own q m (unsent.within m (subst (Among m) (ap (list_at (slice_set sends q own)) e ∙ list_same sends q own sending) among)) ∙ sym e
-    owned p m (inr apart) among = split.own p m (subst (Among m) (list_other sends q p own apart) among)
+        split.own q m (unsent.within m (subst (IsOneOf m) (ap (list_at (slice_set sends q own)) e ∙ list_same sends q own sending) among)) ∙ sym e
+    owned p m (inr apart) among = split.own p m (subst (IsOneOf m) (list_other sends q p own apart) among)
 
     up_to : (p : ℕ) → (p ≡ q) ⊎ (p ≢ q)
         → AllByRecursion (λ m. (message_at story m).sent ≤ (stands (slice_set left q (states_before after (left_to left q))) p).place)
@@ -105,28 +105,28 @@ split_fallen story takes left sends pending now q after own known sending told s
         (subst (AllByRecursion (λ m. (message_at story m).sent ≤ (stands left p).place)) (sym (list_other sends q p own apart)) (split.before p))
 
     by_moved : (m taken : ℕ) → IsTakenAt story m taken → (message_at story m).sender ≡ q
-        → Among m own ⊎ ((t : ℕ) → slice_get takes m ≡ Some (Some t) → now t ≡ true)
-        → Among m (list_at (slice_set sends q own) (message_at story m).sender)
+        → IsOneOf m own ⊎ ((t : ℕ) → slice_get takes m ≡ Some (Some t) → now t ≡ true)
+        → IsOneOf m (list_at (slice_set sends q own) (message_at story m).sender)
         ⊎ (taken < (stands (slice_set left q (states_before after (left_to left q))) (message_at story m).receiver).place → now taken ≡ true)
     by_moved m taken is e (inl among) =
-        inl (subst (Among m) (sym (ap (list_at (slice_set sends q own)) e ∙ list_same sends q own sending)) among)
+        inl (subst (IsOneOf m) (sym (ap (list_at (slice_set sends q own)) e ∙ list_same sends q own sending)) among)
     by_moved m taken is e (inr all) = inr (λ lt. all taken (told.told m taken is))
 
     covered : (m taken : ℕ) → IsTakenAt story m taken → ((message_at story m).sender ≡ q) ⊎ ((message_at story m).sender ≢ q)
-        → Among m (list_at sends (message_at story m).sender) ⊎ (taken < (stands left (message_at story m).receiver).place → pending taken ≡ true)
-        → Among m (list_at (slice_set sends q own) (message_at story m).sender)
+        → IsOneOf m (list_at sends (message_at story m).sender) ⊎ (taken < (stands left (message_at story m).receiver).place → pending taken ≡ true)
+        → IsOneOf m (list_at (slice_set sends q own) (message_at story m).sender)
         ⊎ (taken < (stands (slice_set left q (states_before after (left_to left q))) (message_at story m).receiver).place → now taken ≡ true)
     covered m taken is (inl e) (inl among) =
-        by_moved m taken is e (unsent.moved m (subst (λ p. Among m (list_at sends p)) e among))
+        by_moved m taken is e (unsent.moved m (subst (λ p. IsOneOf m (list_at sends p)) e among))
     covered m taken is (inr apart) (inl among) =
-        inl (subst (Among m) (sym (list_other sends q (message_at story m).sender own apart)) among)
+        inl (subst (IsOneOf m) (sym (list_other sends q (message_at story m).sender own apart)) among)
     covered m taken is sender (inr pends) =
         let low : (stands (slice_set left q (states_before after (left_to left q))) (message_at story m).receiver).place
         ≤ (stands left (message_at story m).receiver).place =
         stands_earlier left q after (message_at story m).receiver known in
         inr (λ lt. unsent.keeps taken (pends (omega arith)))
 
-    sounds : (taken : ℕ) → (pending taken ≡ true) ⊎ ((m : ℕ) × Among m (list_at sends q) × (slice_get takes m ≡ Some (Some taken))
+    sounds : (taken : ℕ) → (pending taken ≡ true) ⊎ ((m : ℕ) × IsOneOf m (list_at sends q) × (slice_get takes m ≡ Some (Some taken))
         × ((latest (states_before after (left_to left q))).place < (message_at story m).sent))
         → Pends story (slice_set left q (states_before after (left_to left q))) taken
     sounds taken (inl h) =

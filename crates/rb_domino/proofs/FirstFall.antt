@@ -13,12 +13,12 @@ use Rattle.rb_domino.specs.declared.line.Line.TheVariants.{Begin, Point, Send, T
 use Rattle.rb_domino.specs.declared.line.Message.{Message}
 use Rattle.rb_domino.specs.declared.state.State.{State}
 use Rattle.rb_domino.specs.History.{IsTakenAt, Story}
-use Rattle.rb_domino.specs.Recovery.{breaks, fall_at, fall_by, first_fall, first_fall_from, message_at, no_message, or_later, stands}
-use Rattle.rb_domino.specs.Board.{Among, AreSplit, IsOrderly, NamesKnown, Pends, is_in, list_at}
+use Rattle.rb_domino.specs.Recovery.{IsOneOf, breaks, fall_at, fall_by, first_fall, first_fall_from, message_at, no_message, or_later, stands}
+use Rattle.rb_domino.specs.Board.{AreSplit, IsOrderly, NamesKnown, Pends, is_in, list_at}
 use Rattle.rb_domino.proofs.Pending.{IsRemoved}
 
 -- what holds of all of a list holds of each
-pub all_among : (P : ℕ → Type 0) (m : ℕ) (ms : List ℕ) → AllByRecursion P ms → Among m ms → P m
+pub all_among : (P : ℕ → Type 0) (m : ℕ) (ms : List ℕ) → AllByRecursion P ms → IsOneOf m ms → P m
 all_among P m [] all among = absurd among
 all_among P m (n ∷ ns) all (inl same) = subst P (sym same) all.0
 all_among P m (n ∷ ns) all (inr among) = all_among P m ns all.1 among
@@ -46,7 +46,7 @@ pub breaks_pend : (story : Story) (left : List (List State)) (sends : List (List
 breaks_pend story left sends pending m taken split is e = by (breaks_both left taken (message_at story m) e) (split.covers m taken is)
   where
     by : (taken < (stands left (message_at story m).receiver).place) × ((stands left (message_at story m).sender).place < (message_at story m).sent)
-        → Among m (list_at sends (message_at story m).sender) ⊎ (taken < (stands left (message_at story m).receiver).place → pending taken ≡ true)
+        → IsOneOf m (list_at sends (message_at story m).sender) ⊎ (taken < (stands left (message_at story m).receiver).place → pending taken ≡ true)
         → pending taken ≡ true
     by both (inl among) =
         let sender = (message_at story m).sender in
@@ -144,8 +144,8 @@ split_without story left sends old new m taken split is up_to removed = record {
         absurd (let never : ⊥ = omega arith in never)
 
     by : (n k : ℕ) → IsTakenAt story n k
-        → Among n (list_at sends (message_at story n).sender) ⊎ (k < (stands left (message_at story n).receiver).place → is_in old k ≡ true)
-        → Among n (list_at sends (message_at story n).sender) ⊎ (k < (stands left (message_at story n).receiver).place → is_in new k ≡ true)
+        → IsOneOf n (list_at sends (message_at story n).sender) ⊎ (k < (stands left (message_at story n).receiver).place → is_in old k ≡ true)
+        → IsOneOf n (list_at sends (message_at story n).sender) ⊎ (k < (stands left (message_at story n).receiver).place → is_in new k ≡ true)
     by n k is_n (inl among) = inl among
     by n k is_n (inr pends) = inr (λ lt. kept n k is_n lt (removed.keeps k (pends lt)))
 

@@ -4,6 +4,8 @@ pub mod Stacks
 pub mod GivenUp
 pub mod Pending
 pub mod Unsent
+pub mod Work
+pub mod FewStates
 pub mod Falling
 pub mod FirstFall
 pub mod Orderly

@@ -13,8 +13,8 @@ use Rattle.rb_domino.specs.declared.line.Line.{Line}
 use Rattle.rb_domino.specs.declared.line.Line.TheVariants.{Take}
 use Rattle.rb_domino.specs.declared.state.State.{State}
 use Rattle.rb_domino.specs.History.{IsTakenAt, Story}
-use Rattle.rb_domino.specs.Recovery.{all_states, is_point_of, latest, message_at, no_message, stands, states_from, states_of}
-use Rattle.rb_domino.specs.Board.{Among, AreSends, AreSplit, IsBetween, IsOrderly, NamesKnown, is_in, list_at, stack, stacks}
+use Rattle.rb_domino.specs.Recovery.{IsOneOf, all_states, is_point_of, latest, message_at, no_message, stands, states_from, states_of}
+use Rattle.rb_domino.specs.Board.{AreSends, AreSplit, IsBetween, IsOrderly, NamesKnown, is_in, list_at, stack, stacks}
 use Rattle.rb_domino.proofs.FirstFall.{all_at}
 
 -- each process stands at `now`
@@ -53,7 +53,7 @@ message_known story m taken orderly is =
     all_at (NamesKnown (length story.processes) (length story.messages)) story.lines taken (Take m) orderly.lines is
 
 -- what holds of each on a list holds of all
-all_from : (P : ℕ → Type 0) (ms : List ℕ) → ((m : ℕ) → Among m ms → P m) → AllByRecursion P ms
+all_from : (P : ℕ → Type 0) (ms : List ℕ) → ((m : ℕ) → IsOneOf m ms → P m) → AllByRecursion P ms
 all_from P [] each = tt
 all_from P (m ∷ ms) each = (each m (inl refl), all_from P ms (λ n among. each n (inr among)))
 
@@ -69,7 +69,7 @@ split_opening story sends pending orderly are none = record {
   sound = λ taken h. absurd (let never : list_any (is_at (nat_cmp taken)) [] ≡ true = ap (list_any (is_at (nat_cmp taken))) (sym none) ∙ h in cc);
 }
   where
-    early : (p m : ℕ) → Among m (list_at sends p) → (message_at story m).sent ≤ (stands (all_states story) p).place
+    early : (p m : ℕ) → IsOneOf m (list_at sends p) → (message_at story m).sent ≤ (stands (all_states story) p).place
     early p m among =
         let between = message_between story m orderly (are.below p m among) in
         let mine : (message_at story m).sender ≡ p = are.own p m among in

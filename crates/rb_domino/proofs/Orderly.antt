@@ -177,14 +177,15 @@ orderly (taken {story} m h quiet known untaken) =
     line_more story (Take m) (orderly h) known (λ n e. let same : m ≡ n = cc in subst (λ k. list_any (is_take_of k) story.lines ≡ false) same untaken)
 orderly (failed {story} p h quiet known) = line_more story (Fail p) (orderly h) known (λ m e. absurd (cc))
 
--- each message has a line
-pub few_messages : {story : Story} → IsHistory story → length story.messages ≤ length story.lines
-few_messages nothing = omega arith
-few_messages (begun {story} name h quiet new) =
-    let was = few_messages h in omega (arith, length_added story.lines (Begin (length story.processes)))
-few_messages (pointed {story} p h quiet known) = let was = few_messages h in omega (arith, length_added story.lines (Point p))
-few_messages (sent {story} name p q h quiet new from to) =
-    let was = few_messages h in
+-- each process and each message has a line of its own
+pub few_named : {story : Story} → IsHistory story → length story.processes + length story.messages ≤ length story.lines
+few_named nothing = omega arith
+few_named (begun {story} name h quiet new) =
+    let was = few_named h in
+    omega (arith, length_added story.lines (Begin (length story.processes)), length_added story.processes name)
+few_named (pointed {story} p h quiet known) = let was = few_named h in omega (arith, length_added story.lines (Point p))
+few_named (sent {story} name p q h quiet new from to) =
+    let was = few_named h in
     omega (arith, length_added story.lines (Send (length story.messages)), length_added story.messages (sent_by story name p q))
-few_messages (taken {story} m h quiet known untaken) = let was = few_messages h in omega (arith, length_added story.lines (Take m))
-few_messages (failed {story} p h quiet known) = let was = few_messages h in omega (arith, length_added story.lines (Fail p))
+few_named (taken {story} m h quiet known untaken) = let was = few_named h in omega (arith, length_added story.lines (Take m))
+few_named (failed {story} p h quiet known) = let was = few_named h in omega (arith, length_added story.lines (Fail p))

@@ -2,8 +2,8 @@
 use Rattle.std.proofs.Common.{◌≡◌, ℕ, ◌≤◌, ◌<◌, Bool, true, ◌⊎◌, inl, inr, List, [], ◌∷◌, ◌++◌, length, drop, slice_get, Option, Some, None, refl, ap, ◌∙◌, sym, subst, arith}
 use Rattle.std.specs.List.{AllByRecursion}
 use Rattle.rb_domino.specs.History.{Story}
-use Rattle.rb_domino.specs.Recovery.{message_at}
-use Rattle.rb_domino.specs.Board.{Among, AreFalling, IsOrderly, Unsends, is_in, stack}
+use Rattle.rb_domino.specs.Recovery.{IsOneOf, message_at}
+use Rattle.rb_domino.specs.Board.{AreFalling, IsOrderly, Unsends, is_in, stack}
 use Rattle.std.specs.BTreeSet.{BTreeSet}
 use Rattle.rb_domino.proofs.Pending.{IsAdded}
 use Rattle.rb_domino.proofs.Stacks.{stack_pushed}
@@ -12,11 +12,11 @@ use Rattle.rb_domino.proofs.Stacks.{stack_pushed}
 pub record Unsending (story : Story) (takes : List (Option ℕ)) (place : ℕ) (old left : List ℕ) (before now : ℕ → Bool) : Type 0 where
   pub falling : AreFalling left
   pub known : AllByRecursion (λ m. m < length story.messages) left
-  pub within : (m : ℕ) → Among m left → Among m old
-  pub moved : (m : ℕ) → Among m old → Among m left ⊎ ((taken : ℕ) → slice_get takes m ≡ Some (Some taken) → now taken ≡ true)
+  pub within : (m : ℕ) → IsOneOf m left → IsOneOf m old
+  pub moved : (m : ℕ) → IsOneOf m old → IsOneOf m left ⊎ ((taken : ℕ) → slice_get takes m ≡ Some (Some taken) → now taken ≡ true)
   pub keeps : (taken : ℕ) → before taken ≡ true → now taken ≡ true
   pub sound : (taken : ℕ) → now taken ≡ true →
-      (before taken ≡ true) ⊎ ((m : ℕ) × Among m old × (slice_get takes m ≡ Some (Some taken)) × (place < (message_at story m).sent))
+      (before taken ≡ true) ⊎ ((m : ℕ) × IsOneOf m old × (slice_get takes m ≡ Some (Some taken)) × (place < (message_at story m).sent))
 
 -- none has left yet
 pub unsending_none : (story : Story) (takes : List (Option ℕ)) (place : ℕ) (old : List ℕ) (before : ℕ → Bool) → AreFalling old
@@ -49,14 +49,14 @@ unsending_one story takes place m old rest before now then so_far behind adds = 
   sound = λ taken h. origin taken (adds.only taken h);
 }
   where
-    by : (k : ℕ) → Among k (m ∷ rest) ⊎ ((taken : ℕ) → slice_get takes k ≡ Some (Some taken) → now taken ≡ true)
-        → Among k rest ⊎ ((taken : ℕ) → slice_get takes k ≡ Some (Some taken) → then taken ≡ true)
+    by : (k : ℕ) → IsOneOf k (m ∷ rest) ⊎ ((taken : ℕ) → slice_get takes k ≡ Some (Some taken) → now taken ≡ true)
+        → IsOneOf k rest ⊎ ((taken : ℕ) → slice_get takes k ≡ Some (Some taken) → then taken ≡ true)
     by k (inl (inl same)) = inr (λ taken h. adds.is taken (ap (slice_get takes) (sym same) ∙ h))
     by k (inl (inr among)) = inl among
     by k (inr told) = inr (λ taken h. adds.keeps taken (told taken h))
 
     origin : (taken : ℕ) → (now taken ≡ true) ⊎ (slice_get takes m ≡ Some (Some taken))
-        → (before taken ≡ true) ⊎ ((n : ℕ) × Among n old × (slice_get takes n ≡ Some (Some taken)) × (place < (message_at story n).sent))
+        → (before taken ≡ true) ⊎ ((n : ℕ) × IsOneOf n old × (slice_get takes n ≡ Some (Some taken)) × (place < (message_at story n).sent))
     origin taken (inl h) = so_far.sound taken h
     origin taken (inr h) = inr (m, so_far.within m (inl refl), h, behind)
 

@@ -1,6 +1,6 @@
 -- What an analysis holds while states are given up, beside the states that are left: which messages each process sent before
 -- its state, and which of the others may break the line.
-use Rattle.std.specs.Prelude.{◌≡◌, ℕ, ◌<◌, ◌≤◌, Bool, true, ◌⊎◌, List, [], ◌∷◌, ◌++◌, length, map, reverse, slice_get, slice_index_or, slice_set, vec_len, Vec, Option, Some}
+use Rattle.std.specs.Prelude.{◌≡◌, ℕ, ◌<◌, ◌≤◌, Bool, true, ◌⊎◌, List, [], ◌∷◌, ◌++◌, length, map, reverse, slice_get, slice_index_or, slice_set, sum_by, vec_len, Vec, Option, Some}
 use Rattle.std.specs.List.{AllByRecursion}
 use Rattle.std.specs.Ordering.{nat_cmp}
 use Rattle.std.specs.BTreeSet.{BTreeSet, contains}
@@ -12,7 +12,7 @@ use Rattle.rb_domino.specs.declared.analysis.TheConstants.{NOW}
 use Rattle.rb_domino.specs.declared.board.Board.{Board}
 use Rattle.rb_domino.specs.History.{Story, IsTakenAt}
 use Rattle.rb_domino.specs.declared.analysis.Dropped.{Dropped}
-use Rattle.rb_domino.specs.Recovery.{Outcome, message_at, stands}
+use Rattle.rb_domino.specs.Recovery.{IsOneOf, Outcome, message_at, stands}
 
 -- what a vector holds as a stack, the top first
 abbrev pub stack : {X : Type 0} → List X → List X
@@ -21,13 +21,13 @@ stack items = reverse items
 abbrev pub stacks : {X A : Type 0} → List (Vec X A) → List (List X)
 stacks vectors = map (λ vector. stack vector.items) vectors
 
+-- how many elements lists have in all
+abbrev pub in_all : {X : Type 0} → List (List X) → ℕ
+in_all lists = sum_by length lists
+
 -- of lists, the one of this number
 abbrev pub list_at : {X : Type 0} → List (List X) → ℕ → List X
 list_at lists p = slice_index_or lists p []
-
-abbrev pub Among : ℕ → List ℕ → Type 0
-Among m [] = ⊥
-Among m (n ∷ ns) = (m ≡ n) ⊎ Among m ns
 
 -- messages of these numbers, the last first
 abbrev pub AreFalling : List ℕ → Type 0
@@ -71,10 +71,10 @@ pub record Pends (story : Story) (left : List (List State)) (taken : ℕ) : Type
 pub record AreSplit (story : Story) (left : List (List State)) (sends : List (List ℕ)) (pending : ℕ → Bool) : Type 0 where
   pub falling : (p : ℕ) → AreFalling (list_at sends p)
   pub known : (p : ℕ) → AllByRecursion (λ m. m < length story.messages) (list_at sends p)
-  pub own : (p m : ℕ) → Among m (list_at sends p) → (message_at story m).sender ≡ p
+  pub own : (p m : ℕ) → IsOneOf m (list_at sends p) → (message_at story m).sender ≡ p
   pub before : (p : ℕ) → AllByRecursion (λ m. (message_at story m).sent ≤ (stands left p).place) (list_at sends p)
   pub covers : (m taken : ℕ) → IsTakenAt story m taken →
-      Among m (list_at sends (message_at story m).sender)
+      IsOneOf m (list_at sends (message_at story m).sender)
       ⊎ (taken < (stands left (message_at story m).receiver).place → pending taken ≡ true)
   pub sound : (taken : ℕ) → pending taken ≡ true → Pends story left taken
 
@@ -100,11 +100,11 @@ pub record Unsends (story : Story) (takes : List (Option ℕ)) (place : ℕ) (ol
   pub falling : AreFalling new
   pub known : AllByRecursion (λ m. m < length story.messages) new
   pub kept : AllByRecursion (λ m. (message_at story m).sent ≤ place) new
-  pub within : (m : ℕ) → Among m new → Among m old
-  pub moved : (m : ℕ) → Among m old → Among m new ⊎ ((taken : ℕ) → slice_get takes m ≡ Some (Some taken) → after taken ≡ true)
+  pub within : (m : ℕ) → IsOneOf m new → IsOneOf m old
+  pub moved : (m : ℕ) → IsOneOf m old → IsOneOf m new ⊎ ((taken : ℕ) → slice_get takes m ≡ Some (Some taken) → after taken ≡ true)
   pub keeps : (taken : ℕ) → before taken ≡ true → after taken ≡ true
   pub sound : (taken : ℕ) → after taken ≡ true →
-      (before taken ≡ true) ⊎ ((m : ℕ) × Among m old × (slice_get takes m ≡ Some (Some taken)) × (place < (message_at story m).sent))
+      (before taken ≡ true) ⊎ ((m : ℕ) × IsOneOf m old × (slice_get takes m ≡ Some (Some taken)) × (place < (message_at story m).sent))
 
 -- lists of states, where a recovery point of process p is added
 abbrev pub with_point : ℕ → ℕ → List (List State) → List (List State)
@@ -136,9 +136,10 @@ pub record Topped (end n : ℕ) (old new : List (List State)) : Type 0 where
 pub record AreSends (story : Story) (n : ℕ) (lists : List (List ℕ)) : Type 0 where
   pub counted : length lists ≡ length story.processes
   pub falling : (p : ℕ) → AreFalling (list_at lists p)
-  pub below : (p m : ℕ) → Among m (list_at lists p) → m < n
-  pub own : (p m : ℕ) → Among m (list_at lists p) → (message_at story m).sender ≡ p
-  pub all : (m : ℕ) → m < n → Among m (list_at lists (message_at story m).sender)
+  pub below : (p m : ℕ) → IsOneOf m (list_at lists p) → m < n
+  pub own : (p m : ℕ) → IsOneOf m (list_at lists p) → (message_at story m).sender ≡ p
+  pub all : (m : ℕ) → m < n → IsOneOf m (list_at lists (message_at story m).sender)
+  pub once : in_all lists ≡ n
 
 -- what a line tells of where messages are taken
 abbrev pub noted_take : ℕ → Line → List (Option ℕ) → List (Option ℕ)

@@ -2,6 +2,7 @@ pub mod History
 pub mod Reading
 pub mod Recovery
 pub mod Board
+pub mod Work
 pub mod RecoveryLine
 pub mod Laws
 pub mod Written

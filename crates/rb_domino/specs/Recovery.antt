@@ -1,7 +1,7 @@
 -- Recovery lines of a history: which states a failure leaves to its processes, and which message forces each state that is
 -- given up. A recovery line and its roll-back by messages are those of Randell (1975); that drops go by the order of the `take`
 -- lines is this project's own.
-use Rattle.std.specs.Prelude.{ℕ, zero, suc, ◌+◌, ◌==◌, nat_lt, Bool, false, ◌&&◌, cond, List, [], ◌∷◌, ◌++◌, length, map, slice_index_or, slice_set, Option, Some, None}
+use Rattle.std.specs.Prelude.{◌≡◌, ℕ, zero, suc, ◌+◌, ◌==◌, nat_lt, Bool, false, ◌&&◌, cond, ◌⊎◌, List, [], ◌∷◌, ◌++◌, length, map, slice_index_or, slice_set, Option, Some, None}
 use Rattle.rb_sched.specs.Schedule.{numbers_from}
 use Rattle.rb_domino.specs.declared.line.Line.{Line}
 use Rattle.rb_domino.specs.declared.line.Line.TheVariants.{Begin, Point, Take, Fail}
@@ -11,6 +11,11 @@ use Rattle.rb_domino.specs.declared.state.State.{State}
 use Rattle.rb_domino.specs.declared.state.Fall.{Fall}
 use Rattle.rb_domino.specs.declared.analysis.Dropped.{Dropped}
 use Rattle.rb_domino.specs.History.{Story}
+
+-- one of a list
+abbrev pub IsOneOf : {X : Type 0} → X → List X → Type 0
+IsOneOf x [] = ⊥
+IsOneOf x (y ∷ ys) = (x ≡ y) ⊎ IsOneOf x ys
 
 -- a line at which process p has a recovery point
 abbrev pub is_point_of : ℕ → Line → Bool

@@ -1,11 +1,11 @@
 -- Recovery lines (Randell 1975): which of them are consistent; that the one which an analysis answers is the greatest; and how the
 -- states that are given up, in their order, are a certificate that can be checked by itself.
-use Rattle.std.specs.Prelude.{◌≡◌, ℕ, ◌<◌, ◌≤◌, ◌==◌, cond, ◌⊎◌, List, [], ◌∷◌, drop, length, map, slice_index_or, slice_set, Option, Some, None}
+use Rattle.std.specs.Prelude.{◌≡◌, ℕ, ◌<◌, ◌≤◌, ◌==◌, cond, List, [], ◌∷◌, drop, length, map, slice_index_or, slice_set, Option, Some, None}
 use Rattle.rb_domino.specs.declared.analysis.TheConstants.{NOW}
 use Rattle.rb_domino.specs.declared.state.State.{State}
 use Rattle.rb_domino.specs.declared.analysis.Dropped.{Dropped}
 use Rattle.rb_domino.specs.History.{Story, FailsAt, IsTakenAt}
-use Rattle.rb_domino.specs.Recovery.{all_states, latest, left_to, message_at, outcome_of, stands, states_after, states_of}
+use Rattle.rb_domino.specs.Recovery.{IsOneOf, all_states, latest, left_to, message_at, outcome_of, stands, states_after, states_of}
 
 -- where process p stands on a line
 abbrev pub state_at : List State → ℕ → State
@@ -14,10 +14,6 @@ state_at line p = slice_index_or line p (record { number = 0; place = 0 })
 -- `now`, behind the last line
 abbrev pub now_of : Story → State
 now_of story = record { number = NOW; place = length story.lines }
-
-abbrev pub IsOneOf : State → List State → Type 0
-IsOneOf state [] = ⊥
-IsOneOf state (s ∷ states) = (state ≡ s) ⊎ IsOneOf state states
 
 -- a recovery line: for each process one of its states, and for the process that failed not `now`
 pub record IsLine (story : Story) (line : List State) : Type 0 where

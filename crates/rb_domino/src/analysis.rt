@@ -1,16 +1,18 @@
 //! What a failure leaves of a history.
 
-ghost use Rattle.std.specs.Prelude.{◌≡◌, ◌<◌, ◌^◌, length, IfOk, OnOk};
+ghost use Rattle.std.specs.Prelude.{◌≡◌, ◌+◌, ◌*◌, ◌<◌, ◌≤◌, ◌^◌, length, IfOk, OnOk};
 ghost use Rattle.rb_domino.specs.Board.{Falls, Holds, left_on};
 ghost use Rattle.rb_domino.specs.Recovery.{failure_from, falls, falls_by_messages, line_of, outcome_of};
 ghost use Rattle.rb_domino.specs.RecoveryLine.{IsRecovered, recovery_line};
+ghost use Rattle.rb_domino.specs.Work.{owed};
 
 use crate::board::Board;
 use crate::history::History;
 use crate::line::Line;
 use crate::state::Fall;
-use rb_base::Memory;
+use rb_base::{Memory, Steps};
 use std::alloc::Global;
+use std::sync::ledger::Ledger;
 
 /// The number of the state in which a process stands at the end of a history, behind all its recovery points.
 pub const NOW: u32 = u32::MAX;
@@ -31,69 +33,85 @@ pub struct Analysis {
 }
 
 #[tactic(auto, using(crate::proofs::Orderly::orderly))]
-/// The recovery line of a history, and what was given up for it.
-pub fn analyse(alloc: Global, history: &History) -> Result<Analysis, Memory>
+/// The recovery line of a history, and what was given up for it. It takes at most 10 ticks for each line, also where memory is wanting: one
+/// for each line, process or message that is read, each state that is given up, each message that leaves its sender's list, each place that
+/// is put into the ordered set or taken off it, and each round.
+pub fn analyse<L: Ledger>(
+    alloc: Global,
+    history: &History,
+    steps: &mut Steps<L>,
+) -> Result<Analysis, Memory>
     ensures drops { IfOk result (λ analysis. analysis.drops.items ≡ (outcome_of history.now).drops) }
     ensures line { IfOk result (λ analysis. analysis.line.items ≡ line_of (outcome_of history.now).left) }
     ensures recovered { IfOk result (λ analysis. IsRecovered history.now analysis.drops.items (recovery_line history.now)) }
+    ensures work { steps.new ≤ steps.old + 10 * length history.now.lines }
 {
     let lines = history.lines();
-    let mut board = Board::new(alloc, history)?;
+    let mut board = Board::new(alloc, history, steps)?;
     let mut drops = Vec::new(alloc);
-    fall_all(&mut board, history, lines, &mut drops)?;
-    let line = board.line(alloc)?;
+    fall_all(&mut board, history, lines, &mut drops, steps)?;
+    let line = board.line(alloc, steps)?;
     Ok(Analysis { drops, line })
 }
 
 #[tactic(auto, using(crate::proofs::Rounds::failure_known, crate::proofs::Rounds::falls_first, crate::proofs::Rounds::falls_nowhere))]
 /// The process that failed gives up `now`, and then processes fall by messages.
-fn fall_all(
+fn fall_all<L: Ledger>(
     board: &mut Board,
     history: &History,
     lines: &[Line],
     drops: &mut Vec<Dropped>,
+    steps: &mut Steps<L>,
 ) -> Result<(), Memory>
     requires holds { Holds history.now board.old }
     requires lines { lines.now ≡ history.now.lines }
     requires few { length lines.now < 2 ^ 32 }
-    ensures { OnOk result (Falls (falls (left_on board.old) (failure_from 0 history.now.lines) (falls_by_messages history.now (length history.now.lines))) drops.old.items drops.new.items (left_on board.new)) }
+    ensures falls { OnOk result (Falls (falls (left_on board.old) (failure_from 0 history.now.lines) (falls_by_messages history.now (length history.now.lines))) drops.old.items drops.new.items (left_on board.new)) }
+    ensures holds { OnOk result (Holds history.now board.new) }
+    ensures work { steps.new ≤ steps.old + 2 * length lines.now + owed board.old }
 {
-    let Some(fall) = failure(lines) else {
+    let Some(fall) = failure(lines, steps) else {
         return Ok(());
     };
-    board.fall(history, fall, drops)?;
-    fall_by_messages(board, history, lines.len(), drops)?;
+    board.fall(history, fall, drops, steps)?;
+    fall_by_messages(board, history, lines.len(), drops, steps)?;
     Ok(())
 }
 
 #[tactic(auto, using(crate::proofs::Rounds::falls_on_none, crate::proofs::Rounds::falls_on_more, crate::proofs::Rounds::falls_on_none_left, crate::proofs::Rounds::falls_on_all))]
 /// While a message breaks the line, the first such makes its receiver fall; so often at most.
-fn fall_by_messages(
+fn fall_by_messages<L: Ledger>(
     board: &mut Board,
     history: &History,
     most: usize,
     drops: &mut Vec<Dropped>,
+    steps: &mut Steps<L>,
 ) -> Result<(), Memory>
     requires { Holds history.now board.old }
-    ensures { OnOk result (Falls (falls_by_messages history.now most (left_on board.old)) drops.old.items drops.new.items (left_on board.new)) }
+    ensures falls { OnOk result (Falls (falls_by_messages history.now most (left_on board.old)) drops.old.items drops.new.items (left_on board.new)) }
+    ensures holds { OnOk result (Holds history.now board.new) }
+    ensures work { steps.new ≤ steps.old + owed board.old + most }
 {
     for _round in 0..most {
-        let Some(fall) = board.next_fall(history) else {
+        steps.tick();
+        let Some(fall) = board.next_fall(history, steps) else {
             return Ok(());
         };
-        board.fall(history, fall, drops)?;
+        board.fall(history, fall, drops, steps)?;
     }
     Ok(())
 }
 
 /// The fall of the process that fails.
-fn failure(lines: &[Line]) -> Option<Fall>
+fn failure<L: Ledger>(lines: &[Line], steps: &mut Steps<L>) -> Option<Fall>
     requires { length lines.now < 2 ^ 32 }
-    ensures { result ≡ failure_from 0 lines.now }
+    ensures fails { result ≡ failure_from 0 lines.now }
+    ensures work { steps.new ≤ steps.old + length lines.now }
 {
     let mut at = 0;
     let mut rest = lines;
     while let [line, after @ ..] = rest {
+        steps.tick();
         if let Line::Fail(process) = line {
             return Some(Fall {
                 process: *process,

@@ -1,12 +1,13 @@
 //! The states of processes, and why they are given up.
 
-ghost use Rattle.std.specs.Prelude.{◌≡◌, ◌++◌, map, OnOk};
+ghost use Rattle.std.specs.Prelude.{◌≡◌, ◌+◌, ◌≤◌, ◌++◌, map, vec_len, OnOk};
 ghost use Rattle.rb_domino.specs.Board.{stack};
 ghost use Rattle.rb_domino.specs.Recovery.{latest, states_after, states_before};
 
 use crate::analysis::Dropped;
 use crate::stack::top;
-use rb_base::Memory;
+use rb_base::{Memory, Steps};
+use std::sync::ledger::Ledger;
 
 /// A state of a process: the number of a recovery point, or `NOW`, and its place among the lines of the history.
 #[derive(Clone, Copy, Debug, PartialEq, Eq)]
@@ -33,14 +34,16 @@ pub(crate) fn latest(states: &[State]) -> State
     })
 }
 
-/// Gives up the states after a place, from the latest to the earliest.
-pub(crate) fn give_up(
+/// Gives up the states after a place, from the latest to the earliest, for a tick each.
+pub(crate) fn give_up<L: Ledger>(
     states: &mut Vec<State>,
     fall: Fall,
     drops: &mut Vec<Dropped>,
+    steps: &mut Steps<L>,
 ) -> Result<(), Memory>
     ensures left { OnOk result (stack states.new.items ≡ states_before fall.after (stack states.old.items)) }
     ensures drops { OnOk result (drops.new.items ≡ drops.old.items ++ map (λ state. record { process = fall.process; state = state.number; message = fall.message }) (states_after fall.after (stack states.old.items))) }
+    ensures work { steps.new + vec_len states.new ≤ steps.old + vec_len states.old }
 {
     while let Some(state) = top(states.as_slice()) {
         if state.place <= fall.after {
@@ -52,6 +55,7 @@ pub(crate) fn give_up(
             message: fall.message,
         })?;
         states.pop();
+        steps.tick();
     }
     Ok(())
 }

@@ -3,8 +3,7 @@ use Rattle.std.proofs.Common.{◌≡◌, ℕ, ◌≤◌, ◌<◌, Bool, true, fa
 use Rattle.std.specs.List.{AllByRecursion}
 use Rattle.std.proofs.lemmas.Bool.{lt-ltb, ltb-false, ltb-true}
 use Rattle.rb_domino.specs.declared.state.State.{State}
-use Rattle.rb_domino.specs.Recovery.{latest, states_after, states_before}
-use Rattle.rb_domino.specs.RecoveryLine.{IsOneOf}
+use Rattle.rb_domino.specs.Recovery.{IsOneOf, latest, states_after, states_before}
 
 -- each state is earlier than those before it
 abbrev pub Descend : List State → Type 0

@@ -6,8 +6,8 @@ use Rattle.rb_domino.specs.declared.state.State.{State}
 use Rattle.rb_domino.specs.declared.state.Fall.{Fall}
 use Rattle.rb_domino.specs.declared.analysis.Dropped.{Dropped}
 use Rattle.rb_domino.specs.History.{FailsAt, IsTakenAt, IsWhole, Story}
-use Rattle.rb_domino.specs.Recovery.{all_states, fall_by, left_after, left_to, message_at, outcome_of, stands, states_before, states_of}
-use Rattle.rb_domino.specs.RecoveryLine.{IsConsistent, IsLine, IsOneOf, now_of, state_at}
+use Rattle.rb_domino.specs.Recovery.{IsOneOf, all_states, fall_by, left_after, left_to, message_at, outcome_of, stands, states_before, states_of}
+use Rattle.rb_domino.specs.RecoveryLine.{IsConsistent, IsLine, now_of, state_at}
 use Rattle.rb_domino.specs.Board.{IsBetween, NamesKnown}
 use Rattle.rb_domino.proofs.FirstFall.{all_at, breaks_both}
 use Rattle.rb_domino.proofs.Falling.{list_other, list_same}

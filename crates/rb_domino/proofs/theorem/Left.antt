@@ -7,8 +7,8 @@ use Rattle.rb_domino.specs.declared.line.Line.TheVariants.{Begin}
 use Rattle.rb_domino.specs.declared.state.State.{State}
 use Rattle.rb_domino.specs.declared.state.Fall.{Fall}
 use Rattle.rb_domino.specs.History.{FailsAt, IsTakenAt, Story}
-use Rattle.rb_domino.specs.Recovery.{all_states, breaks, drops_of, fall_by, left_after, left_to, message_at, stands, states_after, states_before, states_of}
-use Rattle.rb_domino.specs.RecoveryLine.{AreForced, IsOneOf, dropped_by, numbers}
+use Rattle.rb_domino.specs.Recovery.{IsOneOf, all_states, breaks, drops_of, fall_by, left_after, left_to, message_at, stands, states_after, states_before, states_of}
+use Rattle.rb_domino.specs.RecoveryLine.{AreForced, dropped_by, numbers}
 use Rattle.rb_domino.specs.Board.{IsOrderly, NamesKnown}
 use Rattle.rb_domino.proofs.FirstFall.{all_at, breaks_both}
 use Rattle.rb_domino.proofs.Falling.{list_other, list_same}

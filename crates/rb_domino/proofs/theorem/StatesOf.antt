@@ -7,8 +7,8 @@ use Rattle.rb_domino.specs.declared.line.Line.{Line}
 use Rattle.rb_domino.specs.declared.analysis.TheConstants.{NOW}
 use Rattle.rb_domino.specs.declared.state.State.{State}
 use Rattle.rb_domino.specs.History.{Story}
-use Rattle.rb_domino.specs.Recovery.{all_states, is_point_of, left_to, states_from, states_of}
-use Rattle.rb_domino.specs.RecoveryLine.{IsOneOf, now_of}
+use Rattle.rb_domino.specs.Recovery.{IsOneOf, all_states, is_point_of, left_to, states_from, states_of}
+use Rattle.rb_domino.specs.RecoveryLine.{now_of}
 use Rattle.rb_domino.proofs.Orderly.{all_weaker}
 use Rattle.rb_domino.proofs.theorem.Descending.{Descend}
 

@@ -5,8 +5,8 @@ use Rattle.std.proofs.lemmas.List.{get_or_past, length-map}
 use Rattle.rb_domino.specs.declared.state.State.{State}
 use Rattle.rb_domino.specs.declared.analysis.Dropped.{Dropped}
 use Rattle.rb_domino.specs.History.{IsTakenAt, IsWhole, Story}
-use Rattle.rb_domino.specs.Recovery.{first_fall, latest, left_to, message_at, outcome_of, stands, states_after, states_of}
-use Rattle.rb_domino.specs.RecoveryLine.{IsConsistent, IsGreatest, IsLine, IsOneOf, IsRecovered, dropped_by, numbers, recovery_line, state_at}
+use Rattle.rb_domino.specs.Recovery.{IsOneOf, first_fall, latest, left_to, message_at, outcome_of, stands, states_after, states_of}
+use Rattle.rb_domino.specs.RecoveryLine.{IsConsistent, IsGreatest, IsLine, IsRecovered, dropped_by, numbers, recovery_line, state_at}
 use Rattle.rb_domino.proofs.FirstFall.{breaks_from}
 use Rattle.rb_domino.proofs.theorem.Descending.{Descend, descend_right, given_after, latest_one, one_of_right, same_place, up_to_latest}
 use Rattle.rb_domino.proofs.theorem.StatesOf.{states_descend}

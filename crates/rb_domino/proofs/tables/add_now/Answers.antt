@@ -8,7 +8,7 @@ use Rattle.rb_domino.proofs.States.{topped_more}
 use Rattle.rb_domino.proofs.tables.add_now.Goals as goal
 
 pub loop-p-preserved : goal.loop-p-preserved
-loop-p-preserved c =
+loop-p-preserved g c =
     let states = c.loop-p.states.items in
     let p = c.loop-p.p in
     let within : p < length states = grind (arith, common_steps) in
@@ -24,4 +24,5 @@ loop-p-preserved c =
     record {
       counted = grind (arith, common_steps);
       top = topped_more c.args.end p _ (stacks states) _ low new c.loop-p.invariant.top;
+      work = omega (arith, c.tick.ensures, c.loop-p.invariant.work);
     }

@@ -4,26 +4,29 @@ use Rattle.std.proofs.lemmas.List.{get_or_read}
 use Rattle.rb_domino.specs.declared.line.Message.{Message}
 use Rattle.rb_domino.specs.Recovery.{no_message}
 use Rattle.rb_domino.specs.Board.{AreSends, list_at, stack, stacks}
-use Rattle.rb_domino.proofs.Orderly.{few_messages}
+use Rattle.rb_domino.proofs.Orderly.{few_named}
 use Rattle.rb_domino.proofs.Stacks.{stack_pushed, stack_read, stacks_set}
 use Rattle.rb_domino.proofs.AllSent.{Sending, sending_none, sending_step}
 use Rattle.rb_domino.proofs.tables.all_sends.Goals as goal
 
 pub overflow_add-m : goal.overflow_add-m
-overflow_add-m c =
-    let few = few_messages c.requires.whole.history in
-    let all = c.loop-rest.invariant.all in
+overflow_add-m g c =
+    let few = few_named c.requires.whole.history in
+    let all = c.loop-rest.invariant.sending.all in
     omega (arith, few, all, c.requires.whole.few_lines)
 
 pub loop-rest-init : goal.loop-rest-init
-loop-rest-init c =
+loop-rest-init g c =
     let story = c.args.history.now in
     let none : stacks c.in_ok-sends.sends.items ≡ replicate (length story.processes) [] = grind (arith, common_steps) in
-    subst (λ (ms : List Message). Sending story 0 ms (stacks c.in_ok-sends.sends.items)) (sym c.messages-rest.ensures)
-    (sending_none story (stacks c.in_ok-sends.sends.items) none c.requires.orderly.messages)
+    record {
+      sending = subst (λ (ms : List Message). Sending story 0 ms (stacks c.in_ok-sends.sends.items)) (sym c.messages-rest.ensures)
+          (sending_none story (stacks c.in_ok-sends.sends.items) none c.requires.orderly.messages);
+      work = grind (arith, common_steps);
+    }
 
 pub loop-rest-preserved : goal.loop-rest-preserved
-loop-rest-preserved c =
+loop-rest-preserved g c =
     let some : 0 < length c.loop-rest.rest.now = omega arith in
     let sends = c.loop-rest.sends.items in
     let m = c.loop-rest.m in
@@ -38,9 +41,19 @@ loop-rest-preserved c =
     ap stack items ∙ stack_pushed c.index_mut.result.now.items m ∙ ap (λ (own : List ℕ). m ∷ own) (sym read) in
     let new : stacks (slice_set sends q c.push.new.self) ≡ slice_set (stacks sends) q (m ∷ list_at (stacks sends) q) =
     stacks_set sends q c.push.new.self ∙ ap (slice_set (stacks sends) q) pushed in
-    sending_step c.args.history.now m _ q c.loop-rest.rest.now (stacks sends) _ refl some c.loop-rest.invariant from new
+    record {
+      sending = sending_step c.args.history.now m _ q c.loop-rest.rest.now (stacks sends) _ refl some c.loop-rest.invariant.sending from new;
+      work = omega (arith, c.tick.ensures, c.loop-rest.invariant.work);
+    }
 
-pub returns : goal.returns
-returns c =
-    let all : c.loop-rest.m ≡ length c.args.history.now.messages = let rest = c.loop-rest.invariant.all in omega arith in
-    subst (λ (n : ℕ). AreSends c.args.history.now n (stacks c.loop-rest.sends.items)) all c.loop-rest.invariant.sends
+pub returns-clause-sends : goal.returns-clause-sends
+returns-clause-sends g c =
+    let all : c.loop-rest.m ≡ length c.args.history.now.messages = let rest = c.loop-rest.invariant.sending.all in omega arith in
+    subst (λ (n : ℕ). AreSends c.args.history.now n (stacks c.loop-rest.sends.items)) all c.loop-rest.invariant.sending.sends
+
+pub returns-in_err-push-clause-work : goal.returns-in_err-push-clause-work
+returns-in_err-push-clause-work g c =
+    omega (arith, c.tick.ensures, c.loop-rest.invariant.work, c.loop-rest.invariant.sending.all, c.in-len1-up.len_at_least)
+
+pub returns-clause-work : goal.returns-clause-work
+returns-clause-work g c = omega (arith, c.loop-rest.invariant.work, c.loop-rest.invariant.sending.all)

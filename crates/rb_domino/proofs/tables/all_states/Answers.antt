@@ -7,32 +7,48 @@ use Rattle.rb_domino.proofs.States.{Stacking, first_known, stacking_none, stacki
 use Rattle.rb_domino.proofs.tables.all_states.Goals as goal
 
 pub loop-rest-init : goal.loop-rest-init
-loop-rest-init c =
+loop-rest-init g c =
     let story = c.args.history.now in
     let none : stacks c.in_ok-states.states.items ≡ replicate (length story.processes) [] = grind (arith, common_steps) in
-    subst (λ (ls : List Line). Stacking story 0 ls (stacks c.in_ok-states.states.items)) (sym c.lines-rest.ensures.lines)
-    (stacking_none story (stacks c.in_ok-states.states.items) none c.requires.lines c.lines-rest.ensures.whole.few_lines)
+    record {
+      stacking = subst (λ (ls : List Line). Stacking story 0 ls (stacks c.in_ok-states.states.items)) (sym c.lines-rest.ensures.lines)
+          (stacking_none story (stacks c.in_ok-states.states.items) none c.requires.lines c.lines-rest.ensures.whole.few_lines);
+      work = grind (arith, common_steps);
+    }
 
 pub loop-rest-preserved : goal.loop-rest-preserved
-loop-rest-preserved c =
+loop-rest-preserved g c =
     let some : 0 < length c.loop-rest.rest.now = omega arith in
-    stacking_step c.args.history.now c.loop-rest.at _ c.loop-rest.rest.now
-    (stacks c.loop-rest.states.items) _ refl some c.loop-rest.invariant c.in_ok-note_line.ensures
+    record {
+      stacking = stacking_step c.args.history.now c.loop-rest.at _ c.loop-rest.rest.now
+          (stacks c.loop-rest.states.items) _ refl some c.loop-rest.invariant.stacking c.in_ok-note_line.ensures;
+      work = grind (arith, common_steps);
+    }
 
-pub returns : goal.returns
-returns c =
+pub returns-clause-states : goal.returns-clause-states
+returns-clause-states g c =
     let none : c.loop-rest.rest.now ≡ [] = grind (arith, common_steps) in
     let all : vec_len c.loop-rest.states ≡ length (stacks c.loop-rest.states.items) = grind (arith, common_steps) in
     topped c.args.history.now c.loop-rest.at (vec_len c.loop-rest.states) c.loop-rest.rest.now
-    (stacks c.loop-rest.states.items) _ c.loop-rest.invariant none all c.in_ok-add_now.ensures
+    (stacks c.loop-rest.states.items) _ c.loop-rest.invariant.stacking none all c.in_ok-add_now.ensures.topped
 
 pub note_line-requires : goal.note_line-requires
-note_line-requires c =
+note_line-requires g c =
     let some : 0 < length c.loop-rest.rest.now = omega arith in
     let counted : length c.args.history.now.processes ≡ vec_len c.loop-rest.states = grind (arith, common_steps) in
     record {
       known = subst (λ (n : ℕ). PointsKnown n (get_or c.loop-rest.rest.now 0 (Begin 0))) counted
-          (first_known c.args.history.now c.loop-rest.at c.loop-rest.rest.now (stacks c.loop-rest.states.items) some c.loop-rest.invariant);
-      short = λ p. let up : length (list_at (stacks c.loop-rest.states.items) p) ≤ c.loop-rest.at = c.loop-rest.invariant.short p in
-          let few = c.loop-rest.invariant.few in omega arith;
+          (first_known c.args.history.now c.loop-rest.at c.loop-rest.rest.now (stacks c.loop-rest.states.items) some c.loop-rest.invariant.stacking);
+      short = λ p. let up : length (list_at (stacks c.loop-rest.states.items) p) ≤ c.loop-rest.at = c.loop-rest.invariant.stacking.short p in
+          let few = c.loop-rest.invariant.stacking.few in omega arith;
     }
+
+pub returns-in_err-add_now-clause-work : goal.returns-in_err-add_now-clause-work
+returns-in_err-add_now-clause-work g c =
+    let counted : vec_len c.loop-rest.states ≡ length c.args.history.now.processes = grind (arith, common_steps) in
+    omega (arith, c.add_now.ensures.work, c.loop-rest.invariant.work, counted)
+
+pub returns-clause-work : goal.returns-clause-work
+returns-clause-work g c =
+    let counted : vec_len c.loop-rest.states ≡ length c.args.history.now.processes = grind (arith, common_steps) in
+    omega (arith, c.add_now.ensures.work, c.loop-rest.invariant.work, counted)

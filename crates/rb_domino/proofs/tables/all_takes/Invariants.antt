@@ -1,12 +1,18 @@
-use Rattle.std.proofs.Common.{◌≡◌, None, length, replicate}
+use Rattle.std.proofs.Common.{◌≡◌, ◌+◌, ◌≤◌, None, length, replicate}
 use Rattle.rb_domino.proofs.AllTaken.{Taking}
 use Rattle.rb_domino.proofs.tables.all_takes.Given as goal
 
 abbrev pub invariant-loop-made : goal.invariant-loop-made
-invariant-loop-made l = l.takes.items ≡ replicate l._made None
+invariant-loop-made g l = record {
+  takes : l.takes.items ≡ replicate l._made None;
+  work : l.steps ≤ l.fn.steps + l._made;
+}
 
 abbrev pub invariant-loop-rest : goal.invariant-loop-rest
-invariant-loop-rest l = Taking l.history l.at l.rest l.takes.items
+invariant-loop-rest g l = record {
+  taking : Taking l.history l.at l.rest l.takes.items;
+  work : l.steps ≤ l.fn.steps + length l.history.messages + l.at;
+}
 
 abbrev pub decreases-loop-rest : goal.decreases-loop-rest
-decreases-loop-rest l = length l.rest
+decreases-loop-rest g l = length l.rest

@@ -24,11 +24,14 @@ line_added vectors i vector states state line added within is same latest_is so_
     ∙ ap (λ k. take k (line_of (stacks vectors))) (sym (add-one i))
 
 pub loop-states-preserved : goal.loop-states-preserved
-loop-states-preserved c =
+loop-states-preserved g c =
     let i = c.loop-states.states-index in
     let here = c.states-item.result in
     let same = c.deref-states-items.ensures.value in
     let within : i < length c.args.self.now.states.items = omega (arith, ap length same) in
     let is : here ≡ slice_index_or c.args.self.now.states.items i here = c.states-item.is ∙ ap (λ vs. slice_index_or vs i here) same in
-    line_added c.args.self.now.states.items i here c.as_slice.result.now c.latest.result c.loop-states.line.items c.push.new.self.items
-    within is c.as_slice.ensures.value c.latest.ensures c.loop-states.invariant c.in_ok-push.ensures.items
+    record {
+      line = line_added c.args.self.now.states.items i here c.as_slice.result.now c.latest.result c.loop-states.line.items c.push.new.self.items
+          within is c.as_slice.ensures.value c.latest.ensures c.loop-states.invariant.line c.in_ok-push.ensures.items;
+      work = omega (arith, c.tick.ensures, c.loop-states.invariant.work);
+    }

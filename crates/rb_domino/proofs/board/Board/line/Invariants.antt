@@ -1,7 +1,10 @@
-use Rattle.std.proofs.Common.{◌≡◌, take}
+use Rattle.std.proofs.Common.{◌≡◌, ◌+◌, ◌≤◌, take}
 use Rattle.rb_domino.specs.Board.{left_on}
 use Rattle.rb_domino.specs.Recovery.{line_of}
 use Rattle.rb_domino.proofs.board.Board.line.Given as goal
 
 abbrev pub invariant-loop-states : goal.invariant-loop-states
-invariant-loop-states l = l.line.items ≡ take l.states-index (line_of (left_on l.self))
+invariant-loop-states g l = record {
+  line : l.line.items ≡ take l.states-index (line_of (left_on l.self));
+  work : l.steps ≤ l.initial.steps + l.states-index;
+}

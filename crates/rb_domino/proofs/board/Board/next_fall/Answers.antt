@@ -14,7 +14,7 @@ use Rattle.rb_domino.proofs.board.Board.next_fall.Goals as goal
 use Rattle.rb_domino.proofs.board.Board.next_fall.Goals.{in-Take+else-taken-place, in_default-lines}
 
 pub returns-then-taken-place-clause-fall : goal.returns-then-taken-place-clause-fall
-returns-then-taken-place-clause-fall c =
+returns-then-taken-place-clause-fall g c =
     let story = c.args.history.now in
     let holds = c.loop-taken.invariant.holds in
     let left = left_on c.loop-taken.self in
@@ -40,7 +40,7 @@ returns-then-taken-place-clause-fall c =
     told ∙ sym fall ∙ ap (first_fall story) (sym same)
 
 pub loop-taken-preserved : goal.loop-taken-preserved
-loop-taken-preserved c =
+loop-taken-preserved g c =
     let story = c.args.history.now in
     let holds = c.loop-taken.invariant.holds in
     let left = left_on c.loop-taken.self in
@@ -80,10 +80,11 @@ loop-taken-preserved c =
         all_sends = holds.all_sends;
         split = split;
       };
+      work = grind (arith, common_steps);
     }
 
 pub returns-clause-fall : goal.returns-clause-fall
-returns-clause-fall c =
+returns-clause-fall g c =
     let story = c.args.history.now in
     let holds = c.loop-taken.invariant.holds in
     let left = left_on c.loop-taken.self in
