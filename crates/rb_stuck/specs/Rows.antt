@@ -10,16 +10,16 @@ use Rattle.rb_stuck.specs.Programs.{tree_standing_text}
 abbrev pub Stands : Tree → List ℕ → List ℕ → Type 0
 Stands tree turns written = tree_standing_text tree turns ≡ written
 
---     program d;
---     channel c from p to q size 1; channel e from q to p size 1;
---     process p { var x; receive e x; }
---     process q { var x; receive c x; }
+--     program table;
+--     channel salt from left to right size 1; channel bread from right to left size 1;
+--     process left { var has; receive bread has; }
+--     process right { var has; receive salt has; }
 --     end.
 abbrev pub deadlock_tree : Tree
 deadlock_tree =
-    let process_p = process_called "p" (scalar "x" ∷ []) [] (receive "e" (variable "x") ∷ []) in
-    let process_q = process_called "q" (scalar "x" ∷ []) [] (receive "c" (variable "x") ∷ []) in
-    program_called "d" (channel_called "c" "p" "q" 1 ∷ channel_called "e" "q" "p" 1 ∷ []) [] (process_p ∷ process_q ∷ [])
+    let left = process_called "left" (scalar "has" ∷ []) [] (receive "bread" (variable "has") ∷ []) in
+    let right = process_called "right" (scalar "has" ∷ []) [] (receive "salt" (variable "has") ∷ []) in
+    program_called "table" (channel_called "salt" "left" "right" 1 ∷ channel_called "bread" "right" "left" 1 ∷ []) [] (left ∷ right ∷ [])
 
 --     program w;
 --     channel c from p to q size 1;
@@ -55,10 +55,10 @@ GoesOn = Stands one_rejection_tree (times 4 first) (codes "open\n")
 
 -- each waits for the other, from the beginning on
 abbrev pub Deadlock : Type 0
-Deadlock = Stands deadlock_tree (rounds 1 2) (codes "stuck\np waits for message e\nq waits for message c\n")
+Deadlock = Stands deadlock_tree (rounds 1 2) (codes "stuck\nleft waits for message bread\nright waits for message salt\n")
 
 abbrev pub FromTheBeginning : Type 0
-FromTheBeginning = Stands deadlock_tree [] (codes "stuck\np waits for message e\nq waits for message c\n")
+FromTheBeginning = Stands deadlock_tree [] (codes "stuck\nleft waits for message bread\nright waits for message salt\n")
 
 -- one waits for room, and the other is done
 abbrev pub NoRoom : Type 0
