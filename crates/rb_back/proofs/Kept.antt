@@ -1,15 +1,18 @@
 -- What a session keeps, before its first turn, behind a turn more, and at another position.
-use Rattle.std.proofs.Common.{◌≡◌, ◌≤◌, ◌<◌, ◌+◌, ◌-◌, ◌^◌, ℕ, zero, suc, ℤ, true, List, [], ◌∷◌, ◌++◌, length, map, take, drop, replicate, slice_get, slice_range, get_or, nat_lt, option_map, unwrap_or, sum_by, count_by, Option, Some, None, refl, sym, ap, ◌∙◌, subst, subst₂, arith}
+use Rattle.std.proofs.Common.{◌≡◌, ◌≤◌, ◌<◌, ◌+◌, ◌-◌, ◌^◌, ℕ, zero, suc, ℤ, pos, true, List, [], ◌∷◌, ◌++◌, length, map, take, drop, replicate, slice_get, slice_index_or, slice_range, get_or, nat_lt, option_map, unwrap_or, sum_by, count_by, Option, Some, None, refl, sym, ap, ◌∙◌, subst, subst₂, arith}
 use Rattle.std.proofs.lemmas.List.{drop-append-le, length-append, length-drop, length-map, map-append, take-append-le, take_all}
 use Rattle.std.proofs.lemmas.Option.{slice_get-map, slice_get_within}
 use Rattle.std.proofs.Math.Seq.{drop-append_seam}
+use Rattle.rb_base.specs.Lines.{belonging}
+use Rattle.rb_base.specs.declared.event.TurnKind.TheVariants.{Undone}
 use Rattle.rb_world.specs.Kind.{Kind, Membership}
 use Rattle.rb_world.specs.Standing.{Each}
 use Rattle.rb_world.specs.Turn.{Told, run, turn}
 use Rattle.rb_world.specs.World.{Process, World}
+use Rattle.rb_world.proofs.Keeping.StandingFacts.{run-size}
 use Rattle.rb_world.proofs.ListFacts.{some_same}
 use Rattle.rb_code.specs.Instructions.Plain.{Code}
-use Rattle.rb_code.specs.WordMachine.Turn.{Copy, Standing}
+use Rattle.rb_code.specs.WordMachine.Turn.{Common, Copy, Standing}
 use Rattle.rb_code.specs.WordMachine.WordKind.{word_kind}
 use Rattle.rb_code.specs.WordMachine.WordRun.{WordWorld, opening_of, variable_words, word_run}
 use Rattle.rb_machine.specs.Known.{IsSoundFor}
@@ -18,6 +21,7 @@ use Rattle.rb_machine.specs.Reading.{states_of, variables_of}
 use Rattle.rb_run.proofs.TurnsTaken.{after_turn, is_after}
 use Rattle.rb_run.proofs.TurnsUnseen.{none_waiting, rest_same}
 use Rattle.rb_back.specs.declared.session.Turn.{Turn}
+use Rattle.rb_back.specs.declared.stores.Stores.{Stores}
 use Rattle.rb_back.specs.declared.view.Change.{Change}
 use Rattle.rb_back.specs.Course.{Course, changed_words}
 use Rattle.rb_back.specs.Journal.{AreNoted, IsKept, course_of, IsNoted, machine_behind, picture_after, processes_of, words_of}
@@ -26,7 +30,10 @@ use Rattle.rb_back.specs.Others.{all_keep_others}
 use Rattle.rb_back.specs.Picture.{Picture, is_word, redone_all, undone_all}
 use Rattle.std.proofs.lemmas.Bool.Decides.{nat_tests}
 use Rattle.rb_back.proofs.Noted.{same_zero, there_is}
-use Rattle.rb_back.proofs.OthersStay.{others_stay}
+use Rattle.rb_back.specs.Stores.{AreAllIn, AreRanges, AreSameBut, IsIn}
+use Rattle.rb_back.proofs.Alike.{own_within}
+use Rattle.rb_back.proofs.OthersStay.{none_passed, others_stay, passes_keep, past_end}
+use Rattle.rb_back.proofs.Storing.TurnStores.{stores_stay}
 use Rattle.rb_back.proofs.Sizes.{few_words, run_all_words, run_processes, run_states, run_words}
 
 -- a run of one turn more
@@ -123,6 +130,50 @@ module _ (m : Seen) (ran : List ℕ) (stands : m ≡ machine_behind m.code m.gro
         ∙ ap (λ (w : WordWorld). option_map own (slice_get w.processes r)) (sym (word_run_last m.code m.groups ran p))
         ∙ sym (slice_get-map own (word_run m.code m.groups (ran ++ p ∷ [])).0.processes r))
 
+    -- a turn that takes nothing back either leaves alone what its address doesn't store
+    pub stores_same : IsSoundFor m.code m.groups → (ranges : List Stores) → AreRanges m.code ranges → all_keep_others told.events ≡ true
+        → (told.kind ≡ Undone → ⊥) → (q : Process Standing Copy) → slice_get m.world.processes p ≡ Some q
+        → AreSameBut (slice_get ranges q.state.at) (belonging (picture_after m.code m.groups ran).words p)
+        (belonging (picture_after m.code m.groups (ran ++ p ∷ [])).words p)
+    stores_same (counts, sound) ranges are keep other q there = by (slice_get (turn Words (length ran + 1) p before).0.processes p) refl
+      where
+        Words : Kind Standing Copy Common
+        Words = word_kind m.code m.groups
+
+        before : WordWorld
+        before = (word_run m.code m.groups ran).0
+
+        told_so : told ≡ (turn Words (length ran + 1) p before).1
+        told_so = h.told_is ∙ ap (λ (end : WordWorld × Told). end.1) turned_is
+
+        here : slice_get before.processes p ≡ Some q
+        here = ap (λ (w : WordWorld). slice_get w.processes p) (sym world_is) ∙ there
+
+        own : (w : WordWorld) (r : Process Standing Copy) → slice_get w.processes p ≡ Some r
+            → variable_words m.code r.state ≡ belonging (variables_of m.code w.processes) p
+        own w r e =
+            sym (ap (λ (o : Option (List ℤ)). unwrap_or o [])
+            (slice_get-map (λ (x : Process Standing Copy). variable_words m.code x.state) w.processes p
+            ∙ ap (option_map (λ (x : Process Standing Copy). variable_words m.code x.state)) e))
+
+        by : (o : Option (Process Standing Copy)) → slice_get (turn Words (length ran + 1) p before).0.processes p ≡ o
+            → AreSameBut (slice_get ranges q.state.at) (belonging (picture_after m.code m.groups ran).words p)
+            (belonging (picture_after m.code m.groups (ran ++ p ∷ [])).words p)
+        by None e = absurd (omega (
+          arith,
+          slice_get_within before.processes p q here,
+          past_end (turn Words (length ran + 1) p before).0.processes p e,
+          (run-size Words (length ran + 1) (p ∷ []) before).of_processes,
+        ))
+        by (Some r) e =
+            let after = word_run_last m.code m.groups ran p in
+            subst₂ (AreSameBut (slice_get ranges q.state.at)) (own before q here)
+            (own (word_run m.code m.groups (ran ++ p ∷ [])).0 r (ap (λ (w : WordWorld). slice_get w.processes p) after ∙ e))
+            (stores_stay m.code m.groups counts sound ranges are ran p q r here e
+            (λ undone. other (ap (λ (one : Told). one.kind) told_so ∙ undone))
+            (none_passed m.code m.groups counts sound ran p
+            (passes_keep m.code m.groups counts sound ran p (ap (λ (one : Told). all_keep_others one.events) (sym told_so) ∙ keep))))
+
 -- what is shown behind two lists of turns has the same sizes
 pub states_alike : (c : Code) (groups : List Membership) (one other : List ℕ)
     → length (picture_after c groups one).states ≡ length (picture_after c groups other).states
@@ -145,6 +196,15 @@ all_numbered c groups (counts, sound) ran = omega (
 pub all_changes : (c : Code) (groups : List Membership) → IsSoundFor c groups → (ran : List ℕ)
     → length (picture_after c groups ran).states + sum_by length (picture_after c groups ran).words ≡ length c.processes + words_of c
 all_changes c groups (counts, sound) ran = omega (arith, run_states c groups ran, run_all_words c groups counts sound ran)
+
+few_changes : (c : Code) (groups : List Membership) → IsSoundFor c groups → length c.processes + words_of c < 2 ^ 20
+few_changes c groups (counts, sound) = few_words c groups counts sound
+
+-- who has a word is there
+within_own : (lists : List (List ℤ)) (p k : ℕ) → k < length (belonging lists p) → p < length lists
+within_own [] p k less = absurd (omega arith)
+within_own (words ∷ lists) zero k less = omega arith
+within_own (words ∷ lists) (suc p) k less = omega (arith, within_own lists p k less)
 
 -- parts of longer lists
 range_front : {A : Type 0} (xs ys : List A) (from to : ℕ) → from ≤ to → to ≤ length xs → slice_range (xs ++ ys) from to ≡ slice_range xs from to
@@ -359,6 +419,35 @@ module _ (m turning now : Seen) (shown : Picture) (turns : List Turn) (room : �
   asked_room =
       ap (λ (one : Picture). length one.states + sum_by length one.words) before_is
       ∙ all_changes m.code m.groups kept.sound so_far ∙ sym kept.most_changes
+
+  -- what isn't compared is as before
+  pub asked_stores : (ranges : List Stores) → AreRanges m.code ranges → (processes : ℕ) → processes ≡ length shown.words → (own compared : Stores)
+      → (p < processes → (q : Process Standing Copy) → slice_get m.world.processes p ≡ Some q → AreAllIn (slice_get ranges q.state.at) own)
+      → ((k : ℕ) → k < 2 ^ 32 - 1 → (IsIn k compared → ⊥) → (told.kind ≡ Undone → ⊥) × (IsIn k own → ⊥))
+      → all_keep_others told.events ≡ true → AreSameBut (Some compared) (belonging shown.words p) (belonging after_is.words p)
+  asked_stores ranges are processes many own compared all left keep k within out = by (slice_get m.world.processes p) refl
+    where
+      low : k < 2 ^ 32 - 1
+      low = omega (arith, within, own_within shown.words p, asked_room, kept.most_changes, few_changes m.code m.groups kept.sound)
+
+      there : p < length shown.words
+      there = within_own shown.words p k within
+
+      by : (o : Option (Process Standing Copy)) → slice_get m.world.processes p ≡ o
+          → slice_index_or (belonging shown.words p) k (pos 0) ≡ slice_index_or (belonging after_is.words p) k (pos 0)
+      by None e = absurd (omega (
+        arith,
+        there,
+        past_end m.world.processes p e,
+        ap (λ (one : Picture). length one.words) before_is,
+        length-map (word_run m.code m.groups so_far).0.processes (λ (q : Process Standing Copy). variable_words m.code q.state),
+        ap (λ (w : WordWorld). length w.processes) (world_is m so_far kept.stands),
+      ))
+      by (Some q) e =
+          subst₂ (λ (one other : Picture). AreSameBut (slice_get ranges q.state.at) (belonging one.words p) (belonging other.words p)) (sym before_is)
+          (sym then_is)
+          (stores_same m so_far kept.stands turning now p told h dropped kept.sound ranges are keep (left k low out).0 q e)
+          k within (λ may. (left k low out).1 (all (omega (arith, there, many)) q e k low may))
 
 -- a session that stands behind its last turn
 pub is_last : (m : Seen) (turns : List Turn) (position : ℕ) (s : Course) → course_of m turns position ≡ s → s.position ≡ length s.ran

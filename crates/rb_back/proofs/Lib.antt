@@ -9,6 +9,7 @@ pub mod Progress
 pub mod Alike
 -- What a turn leaves as it is.
 pub mod OthersStay
+pub mod Storing
 -- What a session keeps.
 pub mod Sizes
 pub mod Kept

@@ -37,6 +37,21 @@ same_front {A} d (x ∷ xs) (y ∷ ys) (suc n) (suc m) long less within front sa
     (same_front d xs ys n m (omega arith) (omega arith) (omega arith) (let tail : take n xs ≡ take n ys = cc in tail)
     (λ k from to. same (suc k) (omega arith) (omega arith)))
 
+-- a front that goes further, over elements that are the same
+pub mixed_further : {A : Type 0} (d : A) (xs ys : List A) (n m : ℕ) → length xs ≡ length ys → n ≤ m → m ≤ length xs
+    → ((k : ℕ) → n ≤ k → k < m → get_or xs k d ≡ get_or ys k d) → take n ys ++ drop n xs ≡ take m ys ++ drop m xs
+mixed_further d xs ys zero zero long less within same = refl
+mixed_further d xs ys (suc n) zero long less within same = absurd (omega arith)
+mixed_further d [] ys n (suc m) long less within same = absurd (omega arith)
+mixed_further d (x ∷ xs) [] n (suc m) long less within same = absurd (omega arith)
+mixed_further {A} d (x ∷ xs) (y ∷ ys) zero (suc m) long less within same =
+    ap (λ (a : A). a ∷ xs) (same 0 (omega arith) (omega arith))
+    ∙ ap (λ (rest : List A). y ∷ rest)
+    (mixed_further d xs ys 0 m (omega arith) (omega arith) (omega arith) (λ k from to. same (suc k) (omega arith) (omega arith)))
+mixed_further {A} d (x ∷ xs) (y ∷ ys) (suc n) (suc m) long less within same =
+    ap (λ (rest : List A). y ∷ rest)
+    (mixed_further d xs ys n m (omega arith) (omega arith) (omega arith) (λ k from to. same (suc k) (omega arith) (omega arith)))
+
 -- an element that is set, and set again
 pub set_twice : {A : Type 0} (xs : List A) (p : ℕ) (x y : A) → slice_set (slice_set xs p x) p y ≡ slice_set xs p y
 set_twice [] p x y = refl

@@ -33,7 +33,7 @@ parts_pass test (x ∷ xs) ys e =
     (ap₂ ◌&&◌ (first_holds (test x) (list_all test (xs ++ ys)) e) rest.0, rest.1)
 
 -- past the end of a list nothing is there
-past_end : {A : Type 0} (xs : List A) (n : ℕ) → slice_get xs n ≡ None → length xs ≤ n
+pub past_end : {A : Type 0} (xs : List A) (n : ℕ) → slice_get xs n ≡ None → length xs ≤ n
 past_end [] n e = omega arith
 past_end (x ∷ xs) zero e = absurd (cc)
 past_end (x ∷ xs) (suc n) e = omega (arith, past_end xs n e)
@@ -89,14 +89,14 @@ module _ (c : Code) (groups : List Membership) (counts : List ℕ) (sound : IsSo
   after = (turn Words (length turns + 1) p before).0
 
   -- the events that are told of the turn, part by part
-  passes_keep : all_keep_others (turn Words (length turns + 1) p before).1.events ≡ true → all_keep_others moved.passes ≡ true
+  pub passes_keep : all_keep_others (turn Words (length turns + 1) p before).1.events ≡ true → all_keep_others moved.passes ≡ true
   passes_keep e =
       let errors : List Event = compared error_at 0 before.processes moved.world.processes in
       let completions : List Event = compared done_at 0 before.processes moved.world.processes in
       let behind = (parts_pass keeps_others moved.rejections (errors ++ (moved.passes ++ completions)) e).1 in
       (parts_pass keeps_others moved.passes completions (parts_pass keeps_others errors (moved.passes ++ completions) behind).1).0
 
-  none_passed : all_keep_others moved.passes ≡ true → moved.passes ≡ []
+  pub none_passed : all_keep_others moved.passes ≡ true → moved.passes ≡ []
   none_passed e = by (move-comes (passes_one Words p before) (length turns + 1))
     where
       by : PassesOne moved → moved.passes ≡ []

@@ -5,7 +5,7 @@ use Rattle.rb_base.specs.Lines.{belonging}
 use Rattle.rb_base.specs.declared.event.State.{State}
 use Rattle.rb_back.specs.Noting.{AreSameWithin}
 use Rattle.rb_back.specs.Picture.{Picture, with_word}
-use Rattle.rb_back.proofs.Mixed.{belonging_set, belonging_there, drop_mixed, length_mixed, mixed_all, same_front, set_belonging, set_next, set_twice, take_mixed}
+use Rattle.rb_back.proofs.Mixed.{belonging_set, belonging_there, drop_mixed, length_mixed, mixed_all, mixed_further, same_front, set_belonging, set_next, set_twice, take_mixed}
 
 module _ (words now : List (List ℤ)) (p : ℕ) where
   abbrev pub mixed : ℕ → List ℤ
@@ -92,6 +92,14 @@ module _ (before here after : Picture) (now : List (List ℤ)) (p : ℕ) (there 
       ∙ ap (λ (words : List (List ℤ)). record before { words = words })
       (block_same before.words now p there long n m less within
       (subst (λ (shown : Picture). AreSameWithin n m (belonging shown.words p) (belonging now p)) is same))
+
+  -- over words that are as before
+  pub skip_same : (n m : ℕ) → here ≡ record before { words = shown_upto before.words now p n } → n ≤ m → m ≤ length (belonging before.words p)
+      → AreSameWithin n m (belonging before.words p) (belonging now p) → here ≡ record before { words = shown_upto before.words now p m }
+  skip_same n m is less within same =
+      is
+      ∙ ap (λ (own : List ℤ). record before { words = slice_set before.words p own })
+      (mixed_further (pos 0) (belonging before.words p) (belonging now p) n m long less within same)
 
   -- where the words of the process are on the way
   pub here_long : (n : ℕ) → here ≡ record before { words = shown_upto before.words now p n } → n ≤ length (belonging before.words p)

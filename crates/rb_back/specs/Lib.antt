@@ -1,6 +1,7 @@
 pub mod Script
 pub mod Walk
 pub mod Picture
+pub mod Stores
 pub mod Noting
 pub mod Others
 pub mod Course

@@ -2,6 +2,7 @@
 
 ghost use Rattle.rb_back.specs.Laws.{BackBehindStep, CodeShowsAsMeant, ViewIsOfRun};
 ghost use Rattle.rb_back.specs.Others.{OthersStay};
+ghost use Rattle.rb_back.specs.Stores.{StoresStay};
 
 /// After every list of steps and backs a session shows the run over the first turns up to its position.
 pub fn view_is_of_run()
@@ -22,4 +23,10 @@ pub fn code_shows_as_meant()
 /// words are compared behind it.
 pub fn others_stay()
     ensures { OthersStay }
+{}
+
+/// A turn that neither takes anything back nor passes a test line changes no word of variables but those that its address may store, in every
+/// run of sound code. So no other word of its process is compared behind it.
+pub fn stores_stay()
+    ensures { StoresStay }
 {}

@@ -10,6 +10,7 @@ pub mod script;
 pub mod session;
 pub mod showing;
 pub mod shown;
+mod stores;
 mod view;
 
 pub use order::Order;

@@ -4,7 +4,9 @@ ghost use Rattle.std.specs.Prelude.{◌≡◌, ℕ, ◌+◌, ◌-◌, ◌<◌, �
 ghost use Rattle.rb_base.specs.Lines.{belonging};
 ghost use Rattle.rb_back.specs.Noting.{AreAlike, AreSameWithin, Notes, OthersAreSame};
 ghost use Rattle.rb_back.specs.Picture.{picture, with_word};
+ghost use Rattle.rb_back.specs.Stores.{AreSameBut};
 
+use crate::stores::Stores;
 use crate::view::{Change, View};
 use rb_base::{Final, State, Steps};
 use std::sync::ledger::Ledger;
@@ -13,12 +15,13 @@ use std::sync::ledger::Ledger;
 const BLOCK: u32 = 64;
 
 /// Shows how a machine stands, and notes what that changes. Where a turn of process p left the words of all others alone, its words alone
-/// are compared.
+/// are compared, and of these only those where it may have stored.
 pub(crate) fn note_turn<M: Final>(
     view: &mut View<M::Ledger>,
     machine: &M,
     p: u32,
     alone: bool,
+    stores: Stores,
     changes: &mut Vec<Change>,
     steps: &mut Steps<M::Ledger>,
 )
@@ -26,6 +29,7 @@ pub(crate) fn note_turn<M: Final>(
     requires words { AreAlike (picture view.old).words (M.words machine.now) }
     requires numbered { length (M.states machine.now) + length (M.words machine.now) < 2 ^ 32 }
     requires alone { alone ≡ true → OthersAreSame p (picture view.old).words (M.words machine.now) }
+    requires stores { alone ≡ true → AreSameBut (Some stores) (belonging (picture view.old).words p) (belonging (M.words machine.now) p) }
     requires room { vec_len changes.old + (length (picture view.old).states + sum_by length (picture view.old).words) ≤ vec_capacity changes.old }
     ensures view { picture view.new ≡ record { states = M.states machine.now; words = M.words machine.now } }
     ensures noted { Notes (M.words machine.now) changes.old.items changes.new.items (picture view.old) (picture view.new) }
@@ -35,7 +39,7 @@ pub(crate) fn note_turn<M: Final>(
     if !alone {
         note_all_words(view, machine, changes, steps);
     } else if (p as usize) < view.words.len() {
-        note_words(view, machine, p, changes, steps);
+        note_words(view, machine, p, stores, changes, steps);
     }
 }
 
@@ -92,20 +96,26 @@ fn note_all_words<M: Final>(
     ensures room { vec_capacity changes.old ≤ vec_capacity changes.new }
 {
     for p in 0..view.words.len() {
-        note_words(view, machine, p as u32, changes, steps);
+        let all = Stores {
+            from: 0,
+            to: view.words[p].height(),
+        };
+        note_words(view, machine, p as u32, all, changes, steps);
     }
 }
 
-// The words of a process. Most blocks of them have not changed.
+// The words of a process where it may have stored. Most blocks of them have not changed.
 fn note_words<M: Final>(
     view: &mut View<M::Ledger>,
     machine: &M,
     process: u32,
+    stores: Stores,
     changes: &mut Vec<Change>,
     steps: &mut Steps<M::Ledger>,
 )
     requires there { process < length (picture view.old).words }
     requires words { length (belonging (picture view.old).words process) ≡ length (belonging (M.words machine.now) process) }
+    requires stores { AreSameBut (Some stores) (belonging (picture view.old).words process) (belonging (M.words machine.now) process) }
     requires room { vec_len changes.old + length (belonging (picture view.old).words process) ≤ vec_capacity changes.old }
     ensures view { picture view.new
         ≡ record (picture view.old) { words = slice_set (picture view.old).words process (belonging (M.words machine.now) process) } }
@@ -114,9 +124,10 @@ fn note_words<M: Final>(
     ensures room { vec_capacity changes.old ≤ vec_capacity changes.new }
 {
     let height = view.words[process as usize].height();
-    let mut from = 0;
-    while from < height {
-        let to = from + BLOCK.min(height - from);
+    let end = stores.to.min(height);
+    let mut from = stores.from.min(height);
+    while from < end {
+        let to = from + BLOCK.min(end - from);
         if !are_same(view, machine, process, from, to, steps) {
             note_block(view, machine, process, from, to, changes, steps);
         }

@@ -1,17 +1,22 @@
 //! A session: a run that is stepped forth turn by turn, and back by undo.
 
-ghost use Rattle.std.specs.Prelude.{◌≡◌, ◌+◌, ◌-◌, ◌<◌, ◌≤◌, ◌^◌, [], ◌∷◌, ◌++◌, length, slice_get, slice_range, vec_len, vec_capacity, IfOk, OnErr, OnOk};
+ghost use Rattle.std.specs.Prelude.{◌≡◌, ◌+◌, ◌-◌, ◌<◌, ◌≤◌, ◌^◌, ℕ, [], ◌∷◌, ◌++◌, Some, length, slice_get, slice_range, vec_len, vec_capacity, IfOk, OnErr, OnOk};
+ghost use Rattle.rb_base.specs.declared.event.TurnKind.TheVariants.{Undone};
 ghost use Rattle.rb_code.specs.Instructions.Plain.{code as plain};
 ghost use Rattle.rb_code.specs.SoundCode.WellFormed.{IsSound};
+ghost use Rattle.rb_code.specs.WordMachine.Turn.{Copy, Standing};
 ghost use Rattle.rb_conv.specs.Conversations.{memberships, opening};
 ghost use Rattle.rb_machine.specs.Known.{IsSoundFor};
 ghost use Rattle.rb_machine.specs.Worlds.{counts_of};
 ghost use Rattle.rb_back.specs.Course.{MayStep, changed_words, opening_course, stepped, went_back};
 ghost use Rattle.rb_back.specs.Journal.{words_of};
 ghost use Rattle.rb_back.specs.Others.{all_keep_others, keeps_others};
+ghost use Rattle.rb_back.specs.Stores.{AreAllIn, IsIn};
+ghost use Rattle.rb_world.specs.World.{Process};
 
 use crate::loading::load_view;
 use crate::noting::note_turn;
+use crate::stores::{EVERYTHING, Stores, store_ranges, stores_at};
 use crate::view::{Change, View, redo_all, undo_all};
 use arrayvec::ArrayVec;
 use rb_base::{Event, Final, Memory, Nested, Report, State, Steps, TurnKind};
@@ -42,6 +47,7 @@ pub struct Session<'a, L: Ledger> {
     turns: Vec<Turn>,
     changes: Vec<Change>,
     most_changed: usize,
+    ranges: Vec<Stores>,
     position: u32,
 }
 
@@ -50,12 +56,14 @@ impl<'a, L: Ledger> Model for Session<'a, L> {
     ghost use Rattle.rb_back.specs.Course.{Course};
     ghost use Rattle.rb_back.specs.Journal.{IsKept, course_of};
     ghost use Rattle.rb_back.specs.Picture.{picture};
+    ghost use Rattle.rb_back.specs.Stores.{AreRanges};
 
     ghost Value = { Course };
 
     ghost view = { λ s. course_of s.machine s.turns.items s.position };
 
-    ghost invariant = { λ s. IsKept s.machine (picture s.view) s.turns.items (vec_capacity s.turns) s.changes.items s.most_changed s.position };
+    ghost invariant = { λ s. IsKept s.machine (picture s.view) s.turns.items (vec_capacity s.turns) s.changes.items s.most_changed s.position
+        × AreRanges s.machine.code s.ranges.items };
 }
 
 impl<'a, L: Ledger> Session<'a, L> {
@@ -73,6 +81,7 @@ impl<'a, L: Ledger> Session<'a, L> {
     {
         let machine = Machine::load(alloc, code, nested, turns, steps)?;
         let view = load_view(alloc, code, &machine, steps)?;
+        let ranges = store_ranges(alloc, code)?;
         let most_changed = most_changes(code);
         let mut changes = Vec::new(alloc);
         changes.try_reserve(most_changed + FIRST_CHANGES)?;
@@ -86,6 +95,7 @@ impl<'a, L: Ledger> Session<'a, L> {
             turns: Vec::with_capacity(alloc, turns as usize)?,
             changes,
             most_changed,
+            ranges,
             position: 0,
         })
     }
@@ -116,15 +126,18 @@ impl<'a, L: Ledger> Session<'a, L> {
         ensures as_before { OnErr result (self.new ≡ self.old) }
     {
         self.changes.try_reserve(self.most_changed)?;
+        let own = stores_of(&self.machine, &self.ranges, self.view.words.len(), p);
         self.machine.turn(p, &mut self.report, steps);
         self.machine.drop_released();
         let from = self.changes.len();
         let alone = keep_others(&self.report.events);
+        let stores = compared(self.report.kind, own);
         note_turn(
             &mut self.view,
             &self.machine,
             p,
             alone,
+            stores,
             &mut self.changes,
             steps,
         );
@@ -210,6 +223,34 @@ fn noted<'c>(changes: &'c [Change], turn: &Turn) -> &'c [Change]
     ensures { result.now ≡ slice_range changes.now turn.now.from turn.now.to }
 {
     &changes[turn.from..turn.to]
+}
+
+// Where a turn of process p, one of so many, may store if it takes nothing back.
+fn stores_of<L: Ledger>(
+    machine: &Machine<'_, L>,
+    ranges: &[Stores],
+    processes: usize,
+    p: u32,
+) -> Stores
+    requires { processes ≤ length machine.now.world.processes }
+    ensures { p < processes → (q : Process Standing Copy) → slice_get machine.now.world.processes p ≡ Some q
+        → AreAllIn (slice_get ranges.now q.state.at) result }
+{
+    if (p as usize) < processes {
+        stores_at(ranges, machine.place(p) as usize)
+    } else {
+        EVERYTHING
+    }
+}
+
+// Which words of its process are compared behind a turn of a kind.
+fn compared(kind: TurnKind, own: Stores) -> Stores
+    ensures { (k : ℕ) → k < 2 ^ 32 - 1 → (IsIn k result → ⊥) → (kind ≡ Undone → ⊥) × (IsIn k own → ⊥) }
+{
+    match kind {
+        TurnKind::Undone => EVERYTHING,
+        TurnKind::Idle | TurnKind::Wait | TurnKind::Took => own,
+    }
 }
 
 // Whether a turn with these events left all other processes as they were: no test line was passed, and no conversation was rejected.

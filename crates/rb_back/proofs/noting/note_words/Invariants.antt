@@ -12,6 +12,7 @@ invariant-loop-from g l =
     record {
       tall : l.height ≡ length (belonging words l.process);
       within : l.from ≤ l.height;
+      ends : l.end ≤ l.height;
       shown : picture l.view
           ≡ record (picture l.fn.view) {
             words = slice_set words l.process (take l.from (belonging now l.process) ++ drop l.from (belonging words l.process));
@@ -22,4 +23,4 @@ invariant-loop-from g l =
     }
 
 abbrev pub decreases-loop-from : goal.decreases-loop-from
-decreases-loop-from g l = l.height - l.from
+decreases-loop-from g l = l.end - l.from
