@@ -1,0 +1,10 @@
+pub mod Loop
+pub mod Formats
+pub mod Numbers
+pub mod Lists
+pub mod Flags
+pub mod Instructions
+pub mod Parts
+pub mod Whole
+pub mod Found
+pub mod Items

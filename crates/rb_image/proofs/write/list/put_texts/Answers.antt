@@ -1,0 +1,14 @@
+use Rattle.std.proofs.Common.{ℕ, List, ap, subst}
+use Rattle.std.specs.Prelude.{OnOk}
+use Rattle.std.proofs.lemmas.List.{map-id}
+use Rattle.rb_outside.proofs.Puts.{puts_same}
+use Rattle.rb_image.specs.Pieces.{list, text}
+use Rattle.rb_image.specs.Ranges.{Are, IsText}
+use Rattle.rb_image.proofs.write.list.put_texts.Goals as goal
+
+pub returns-clause-text : goal.returns-clause-text
+returns-clause-text g c = puts_same _ _ _ _ _ _ _ (ap (list text) (map-id c.args.texts.now)) c.put_list.ensures.text
+
+pub returns-clause-ranges : goal.returns-clause-ranges
+returns-clause-ranges g c =
+    subst (λ (xs : List (List ℕ)). OnOk c.put_list.result (Are IsText xs)) (map-id c.args.texts.now) c.put_list.ensures.ranges

@@ -1,0 +1,6 @@
+use Rattle.rb_outside.proofs.Puts.{puts_both}
+use Rattle.rb_image.specs.Pieces.{natural}
+use Rattle.rb_image.proofs.write.number.put_some.Goals as goal
+
+pub returns : goal.returns
+returns g c = puts_both (natural 1) (natural c.args.n) _ _ _ _ _ _ _ _ c.in_ok-put_natural.ensures c.put_natural-2.ensures

@@ -1,0 +1,9 @@
+pub mod Pieces
+pub mod Instrs
+pub mod Reading
+pub mod ReadInstrs
+pub mod Image
+pub mod ReadParts
+pub mod Ranges
+pub mod Laws
+pub mod Rows
