@@ -1,0 +1,149 @@
+//! Names: how each is spelled.
+
+ghost use Rattle.std.specs.Prelude.{◌≡◌, ◌↔◌, ◌≤◌, ℕ, IsTrue, Some, nat_eq};
+ghost use Rattle.std.specs.List.{All, list_any};
+ghost use Rattle.std.specs.Cmp.Lexicographic.{pointwise};
+ghost use Rattle.rb_base.specs.Reserved.{common_words, is_one_of, is_reserved, own_words};
+ghost use Rattle.rb_scope.specs.Spelled.{IsNaming};
+ghost use Rattle.rb_trace.specs.Naming.{process_naming, variable_naming};
+ghost use Rattle.rb_code.specs.SoundCode.WellFormed.{NamesProcess, NamesVariable};
+ghost use Rattle.rb_lists.specs.Naming.{AreNamings, NamesProcedures};
+
+use rb_base::bytes::is_name;
+use rb_base::{Edition, LONGEST_NAME, MOST_ELEMENTS, ProcessNames, Text, Variable};
+use rb_code::{ProcedureCode, ProcessCode};
+
+// The words that both editions reserve.
+const COMMON_WORDS: [&[u8]; 28] = [
+    b"all",
+    b"and",
+    b"by",
+    b"call",
+    b"channel",
+    b"conversation",
+    b"converse",
+    b"else",
+    b"end",
+    b"ensure",
+    b"error",
+    b"fail",
+    b"from",
+    b"if",
+    b"not",
+    b"or",
+    b"print",
+    b"prior",
+    b"procedure",
+    b"process",
+    b"program",
+    b"receive",
+    b"send",
+    b"size",
+    b"to",
+    b"var",
+    b"while",
+    b"within",
+];
+
+/// Whether all these are names of an edition.
+pub(crate) fn are_namings(edition: Edition, names: &[Text]) -> bool
+    ensures { IsTrue result ↔ AreNamings edition names.now }
+{
+    names.iter().all(|name| is_naming(edition, name.as_bytes()))
+}
+
+/// Whether all procedures of all processes have names of an edition.
+pub(crate) fn name_procedures(edition: Edition, processes: &[ProcessCode]) -> bool
+    ensures { IsTrue result ↔ All (λ process. NamesProcedures edition process) processes.now }
+{
+    processes
+        .iter()
+        .all(|process| names_procedures(edition, process))
+}
+
+fn names_procedures(edition: Edition, process: &ProcessCode) -> bool
+    ensures { IsTrue result ↔ NamesProcedures edition process.now }
+{
+    are_procedures(edition, &process.procedures)
+}
+
+fn are_procedures(edition: Edition, procedures: &[ProcedureCode]) -> bool
+    ensures { IsTrue result ↔ All (λ one. IsNaming edition one.name) procedures.now }
+{
+    procedures
+        .iter()
+        .all(|procedure| is_naming(edition, procedure.name.as_bytes()))
+}
+
+/// Whether what is printed of each process has names of an edition, and no array with too many elements.
+pub(crate) fn name_processes(edition: Edition, processes: &[ProcessNames]) -> bool
+    ensures { IsTrue result ↔ All (λ process. NamesProcess edition (process_naming process)) processes.now }
+{
+    processes
+        .iter()
+        .all(|process| names_process(edition, process))
+}
+
+fn names_process(edition: Edition, process: &ProcessNames) -> bool
+    ensures { IsTrue result ↔ NamesProcess edition (process_naming process.now) }
+{
+    is_naming(edition, process.name.as_bytes()) && name_variables(edition, &process.variables)
+}
+
+fn name_variables(edition: Edition, variables: &[Variable]) -> bool
+    ensures { IsTrue result ↔ All (λ variable. NamesVariable edition (variable_naming variable)) variables.now }
+{
+    variables
+        .iter()
+        .all(|variable| names_variable(edition, variable))
+}
+
+fn names_variable(edition: Edition, variable: &Variable) -> bool
+    ensures { IsTrue result ↔ NamesVariable edition (variable_naming variable.now) }
+{
+    is_naming(edition, variable.name.as_bytes()) && is_size(variable.size)
+}
+
+// Whether an array may have so many elements; of what is no array nothing is asked.
+fn is_size(size: Option<u32>) -> bool
+    ensures { IsTrue result ↔ ((n : ℕ) → size ≡ Some n → n ≤ MOST_ELEMENTS) }
+{
+    match size {
+        None => true,
+        Some(elements) => elements <= MOST_ELEMENTS,
+    }
+}
+
+fn is_naming(edition: Edition, name: &[u8]) -> bool
+    ensures { IsTrue result ↔ IsNaming edition name.now }
+{
+    name.len() <= LONGEST_NAME && is_name(name) && !is_reserved(edition, name)
+}
+
+fn is_reserved(edition: Edition, name: &[u8]) -> bool
+    ensures { result ≡ is_reserved edition name.now }
+{
+    is_common_word(name) || is_own_word(edition, name)
+}
+
+fn is_common_word(name: &[u8]) -> bool
+    ensures { result ≡ is_one_of common_words name.now }
+{
+    is_listed(&COMMON_WORDS, name)
+}
+
+fn is_own_word(edition: Edition, name: &[u8]) -> bool
+    ensures { result ≡ is_one_of (own_words edition) name.now }
+{
+    match edition {
+        Edition::First => false,
+        Edition::Second => is_listed(&[b"edition", b"every", b"some", b"sum"], name),
+    }
+}
+
+// Whether the name is one of these words.
+fn is_listed(words: &[&[u8]], name: &[u8]) -> bool
+    ensures { result ≡ list_any (λ word. pointwise nat_eq word.now name.now) words.now }
+{
+    words.iter().any(|word| *word == name)
+}
