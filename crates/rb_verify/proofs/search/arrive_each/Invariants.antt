@@ -1,0 +1,25 @@
+use Rattle.std.proofs.Common.{◌≡◌, ℕ, drop, length, map}
+use Rattle.rb_code.specs.Instructions.Plain.{code as plain}
+use Rattle.rb_conv.specs.Conversations.{memberships, opening}
+use Rattle.rb_code.specs.SoundCode.Sound.{Table}
+use Rattle.rb_verify.specs.Flow.{goes_to_each}
+use Rattle.rb_verify.specs.Held.{HasGrown, entry_of}
+use Rattle.rb_verify.specs.Search.{HasGained, Pending}
+use Rattle.rb_verify.specs.Found.{found, pending, IsWell, NoneTakes}
+use Rattle.rb_verify.proofs.search.arrive_each.Given as goal
+
+abbrev pub invariant-loop-b : goal.invariant-loop-b
+invariant-loop-b l = record {
+  well : IsWell l.lists l.cells.items l.work;
+  size : length l.cells.items ≡ length l.fn.cells.items;
+  grown : HasGrown l.fn.lists l.lists;
+  completes : (g : Table) (q : Pending)
+      → HasGained (goes_to_each (entry_of l.fn.lists l.x) (drop l.b-index l.list))
+      (found l.lists l.cells.items) (pending l.cells.items) g q
+      → HasGained (goes_to_each (entry_of l.fn.lists l.x) l.list)
+      (found l.fn.lists l.fn.cells.items) (pending l.fn.cells.items) g q;
+  none : NoneTakes (length l.fn.cells.items) (found l.lists l.cells.items)
+      (goes_to_each (entry_of l.fn.lists l.x) (drop l.b-index l.list))
+      → NoneTakes (length l.fn.cells.items) (found l.fn.lists l.fn.cells.items)
+      (goes_to_each (entry_of l.fn.lists l.x) l.list);
+}

@@ -1,0 +1,13 @@
+use Rattle.std.proofs.Common.{◌≡◌, length, map}
+use Rattle.rb_code.specs.Instructions.Plain.{code as plain}
+use Rattle.rb_conv.specs.Conversations.{memberships, opening}
+use Rattle.rb_verify.specs.Search.{IsBeginning}
+use Rattle.rb_verify.specs.Found.{found, pending, IsWell}
+use Rattle.rb_verify.proofs.search.begin.Given as goal
+
+abbrev pub invariant-loop-p : goal.invariant-loop-p
+invariant-loop-p l = record {
+  well : IsWell l.lists l.cells.items l.work;
+  size : length l.cells.items ≡ length l.code.instrs.items;
+  beginning : IsBeginning (plain l.code) (memberships (opening l.nested)) l.p (found l.lists l.cells.items) (pending l.cells.items);
+}

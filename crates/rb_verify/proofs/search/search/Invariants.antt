@@ -1,0 +1,13 @@
+use Rattle.std.proofs.Common.{◌≡◌, length, map}
+use Rattle.rb_code.specs.Instructions.Plain.{code as plain}
+use Rattle.rb_conv.specs.Conversations.{memberships, opening}
+use Rattle.rb_verify.specs.Search.{IsSearching}
+use Rattle.rb_verify.specs.Found.{found, pending, IsWell}
+use Rattle.rb_verify.proofs.search.search.Given as goal
+
+abbrev pub invariant-loop : goal.invariant-loop
+invariant-loop l = record {
+  well : IsWell l.lists l.cells.items l.work;
+  size : length l.cells.items ≡ length l.code.instrs.items;
+  searching : IsSearching (plain l.code) (memberships (opening l.nested)) (found l.lists l.cells.items) (pending l.cells.items);
+}

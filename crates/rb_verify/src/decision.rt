@@ -1,0 +1,72 @@
+//! Whether code is sound.
+
+ghost use Rattle.std.specs.Prelude.{◌≡◌, ◌<◌, length, map, true, false, IfOk, IfErr};
+ghost use Rattle.rb_code.specs.Instructions.Plain.{code as plain};
+ghost use Rattle.rb_code.specs.SoundCode.WellFormed.{IsSound, IsWellFormed};
+ghost use Rattle.rb_conv.specs.Conversations.{Conversation, memberships, opening};
+ghost use Rattle.rb_verify.specs.Ends.{AreEnds};
+ghost use Rattle.rb_verify.specs.Found.{found, IfUnsound};
+ghost use Rattle.rb_verify.specs.Search.{IsFound};
+
+use crate::cell::Refusal;
+use crate::ends::{Ends, all_ends};
+use crate::joining::{joinings, members_join_once};
+use crate::search::{Known, find_table};
+use crate::staying::loops_stay_open;
+use rb_base::Nested;
+use rb_code::Code;
+use std::alloc::Global;
+
+/// Decides whether code is sound with its conversations, where its lists are well formed. `Unsound` says that it is not.
+///
+/// `Memory` is answered for want of memory, and so that no code is costly: for code of more than 8,388,608 instructions; where more than
+/// 16,777,216 operands or open blocks are kept, those of lists with the same ones below counted once; where addresses were followed
+/// 67,108,864 times; for words that 64 bits do not count; and where blocks of conversations are entered at more than 65,536 addresses,
+/// which sound code does not do. Other code may be sound then, but none that a source compiles to comes near.
+pub fn verify(alloc: Global, code: &Code, nested: &Nested) -> Result<(), Refusal>
+    requires well { IsWellFormed (plain code.now) (memberships (opening nested.now)) }
+    ensures sound { IfOk result (λ _. IsSound (plain code.now) (memberships (opening nested.now))
+        (map (λ (one : Conversation). one.alternates) (opening nested.now))) }
+    ensures unsound { IfErr result (λ r. IfUnsound r (IsSound (plain code.now) (memberships (opening nested.now))
+        (map (λ (one : Conversation). one.alternates) (opening nested.now)) → ⊥)) }
+{
+    let ends = match all_ends(alloc, code) {
+        Err(_) => return Err(Refusal::Memory),
+        Ok(ends) => ends,
+    };
+    match find_table(alloc, code, nested, &ends) {
+        Err(refused) => Err(refused),
+        Ok(known) => judge(alloc, code, nested, &ends, &known),
+    }
+}
+
+// Whether loops stay open in the found table, and members join their conversations once.
+fn judge(
+    alloc: Global,
+    code: &Code,
+    nested: &Nested,
+    ends: &Ends,
+    known: &Known,
+) -> Result<(), Refusal>
+    requires well { IsWellFormed (plain code.now) (memberships (opening nested.now)) }
+    requires ends { AreEnds (plain code.now) ends.now }
+    requires few { length code.now.instrs.items < 4294967295 }
+    requires size { length known.now.cells.items ≡ length code.now.instrs.items }
+    requires found { IsFound (plain code.now) (memberships (opening nested.now)) (found known.now.lists known.now.cells.items) }
+    ensures sound { IfOk result (λ _. IsSound (plain code.now) (memberships (opening nested.now))
+        (map (λ (one : Conversation). one.alternates) (opening nested.now))) }
+    ensures unsound { IfErr result (λ r. IfUnsound r (IsSound (plain code.now) (memberships (opening nested.now))
+        (map (λ (one : Conversation). one.alternates) (opening nested.now)) → ⊥)) }
+{
+    if !loops_stay_open(code, nested, ends, &known.lists, &known.cells) {
+        return Err(Refusal::Unsound);
+    }
+    let all = match joinings(alloc, code, &known.lists, &known.cells) {
+        Err(_) => return Err(Refusal::Memory),
+        Ok(all) => all,
+    };
+    if !members_join_once(nested, &all) {
+        return Err(Refusal::Unsound);
+    }
+    Ok(())
+}

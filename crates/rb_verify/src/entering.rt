@@ -1,0 +1,156 @@
+//! Where the entry, the start and the test of a recovery block lead.
+
+ghost use Rattle.std.specs.Prelude.{◌≡◌, ℕ, ◌<◌, ◌+◌, ◌-◌, List, [], ◌∷◌, length, get_or, slice_get, Option, Some, None, IfOk, IfSome};
+ghost use Rattle.rb_code.specs.Instructions.Plain.{code as plain};
+ghost use Rattle.rb_conv.specs.Conversations.{memberships, opening};
+ghost use Rattle.rb_verify.specs.Held.{entry_of, operands_of, IsHeld};
+ghost use Rattle.rb_verify.specs.Flow.{flow as leads};
+ghost use Rattle.rb_verify.specs.Found.{steps_of, AreHeld};
+ghost use Rattle.rb_code.specs.SoundCode.Sound.{Changed};
+ghost use Rattle.rb_verify.specs.Parts.{block_of};
+ghost use Rattle.rb_verify.specs.Held.{blocks_of};
+ghost use Rattle.rb_verify.specs.Flow.{goes};
+ghost use Rattle.rb_verify.specs.Found.{IsFlow};
+ghost use Rattle.rb_code.specs.declared.instr.Instr.TheVariants.{Enter, Start, Test};
+
+use crate::entry::{Held, Mode, OpenBlock};
+use crate::lists::Lists;
+use crate::rules::{
+    conversation_in, is_entered, is_fresh, is_none, is_turn, may_enter, may_trap, no_loops,
+    restarts_at,
+};
+use crate::stacks::Top;
+use crate::way::{Way, when};
+use rb_base::{Memory, Nested};
+use rb_code::Code;
+
+// A block is opened.
+fn put_block(
+    code: &Code,
+    lists: &mut Lists,
+    at: u32,
+    entry: Held,
+    block: OpenBlock,
+) -> Result<Way, Memory>
+    requires held { IsHeld lists.old entry }
+    requires at { at < 4294967295 }
+    ensures { IfOk result (λ way. IsFlow (plain code.now) lists.old lists.new way (goes (at + 1)
+        (record (entry_of lists.old entry) { operands = []; blocks = block_of block ∷ blocks_of lists.old entry.blocks; mode = Changed }))) }
+{
+    let empty = lists.operands.empty();
+    let blocks = match lists.blocks.push(block, entry.blocks) {
+        Err(_) => return Err(Memory),
+        Ok(blocks) => blocks,
+    };
+    Ok(Way::One(
+        at + 1,
+        Held {
+            operands: empty,
+            blocks,
+            mode: Mode::Changed,
+            ..entry
+        },
+    ))
+}
+
+/// A block is entered.
+pub fn enter(
+    code: &Code,
+    nested: &Nested,
+    lists: &mut Lists,
+    at: u32,
+    entry: Held,
+    b: u32,
+) -> Result<Way, Memory>
+    requires held { IsHeld lists.old entry }
+    requires at { at < 4294967295 }
+    ensures { IfOk result (λ way. IsFlow (plain code.now) lists.old lists.new way
+        (leads (plain code.now) (memberships (opening nested.now)) (Enter b) at (entry_of lists.old entry))) }
+{
+    let none = is_none(&lists.operands, entry.operands);
+    let restarts = restarts_at(code, b, at + 1);
+    let turns = is_turn(&code.instrs, at + 1);
+    let conversation = conversation_in(code, b);
+    let may = may_enter(
+        code,
+        nested,
+        &lists.blocks,
+        entry.blocks,
+        conversation,
+        entry.within,
+    );
+    let block = OpenBlock {
+        number: b,
+        words: entry.words,
+    };
+    match put_block(code, lists, at, entry, block) {
+        Err(_) => Err(Memory),
+        Ok(way) => {
+            let way = when(may, way);
+            let way = when(turns, way);
+            let way = when(restarts, way);
+            let way = when(none, way);
+            Ok(when(is_fresh(entry.mode), way))
+        }
+    }
+}
+
+/// To each alternate.
+#[tactic(auto, using(crate::proofs::Chosen::chosen_leads, crate::proofs::Chosen::chosen_held))]
+pub fn start(code: &Code, nested: &Nested, lists: &Lists, at: u32, entry: Held, b: u32) -> Way
+    requires held { IsHeld lists.now entry }
+    requires at { at < 4294967295 }
+    ensures leads { steps_of (plain code.now) lists.now result
+        ≡ leads (plain code.now) (memberships (opening nested.now)) (Start b) at (entry_of lists.now entry) }
+    ensures held { AreHeld lists.now result }
+{
+    let begun = Held {
+        mode: Mode::Begun,
+        ..entry
+    };
+    let way = Way::Each(begun, b);
+    let way = when(is_entered(&lists.blocks, entry.blocks, b, entry.words), way);
+    let way = when(is_none(&lists.operands, entry.operands), way);
+    when(is_fresh(entry.mode), way)
+}
+
+/// A block is closed.
+#[tactic(auto, using(crate::proofs::Chosen::chosen_leads, crate::proofs::Chosen::chosen_held, crate::proofs::Chosen::when_none))]
+pub fn test(
+    code: &Code,
+    nested: &Nested,
+    lists: &Lists,
+    at: u32,
+    entry: Held,
+    x: Top,
+    b: u32,
+) -> Way
+    requires held { IsHeld lists.now entry }
+    requires top { operands_of lists.now entry.operands ≡ x.top ∷ operands_of lists.now x.below }
+    requires below { x.below < length lists.now.operands }
+    requires at { at < 4294967295 }
+    ensures leads { steps_of (plain code.now) lists.now result
+        ≡ leads (plain code.now) (memberships (opening nested.now)) (Test b) at (entry_of lists.now entry) }
+    ensures held { AreHeld lists.now result }
+{
+    match lists.operands.top(x.below) {
+        Some(_) => Way::Broken,
+        None => match lists.blocks.top(entry.blocks) {
+            None => Way::Broken,
+            Some(block) => {
+                let closed = Held {
+                    operands: x.below,
+                    blocks: block.below,
+                    mode: Mode::Changed,
+                    ..entry
+                };
+                let way = Way::One(at + 1, closed);
+                let way = when(block.top.words == entry.words, way);
+                let way = when(block.top.number == b, way);
+                let way = when(no_loops(entry.loops), way);
+                let way = when(entry.pieces == 0, way);
+                when(may_trap(entry.mode), way)
+            }
+        },
+    }
+}
