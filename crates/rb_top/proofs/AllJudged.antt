@@ -6,6 +6,7 @@ use Rattle.rb_base.specs.declared.fault.SourceFault.{SourceFault}
 use Rattle.rb_base.specs.declared.fault.TextFault.{TextFault}
 use Rattle.rb_base.specs.declared.limits.TheConstants.{MOST_BYTES}
 use Rattle.rb_base.specs.declared.kept.Kept.{Kept}
+use Rattle.rb_meaning.specs.Groups.{groups_of}
 use Rattle.rb_meaning.specs.Meaning.{run_text}
 use Rattle.rb_meaning.specs.PlainRun.{plain_text}
 use Rattle.rb_sched.specs.Schedule.{schedule_of}
@@ -14,18 +15,21 @@ use Rattle.rb_judge.specs.Verdict.{IsAccepted, IsRefusedFor}
 use Rattle.rb_plain.specs.Record.{record_of}
 use Rattle.rb_make.specs.Trial.{schedule_of as made_schedule, source_of}
 use Rattle.rb_stuck.specs.Programs.{tree_standing_text}
-use Rattle.rb_top.specs.Words.{Run, Survive, Replay, Check, Compile, Trial, Session, Analyse, Survey}
+use Rattle.rb_top.specs.Words.{Run, Survive, Replay, Check, ListCode, Trial, Session, Analyse, Survey, Compile, Load}
 use Rattle.rb_top.specs.Judgement.{Judgement, ReadsOn, RefusedWith, Writes, too_long_line, source_line, text_line, stuck_line, accepted_line, names_of, SourceRefused, long_source, bad_source, Accepted}
 use Rattle.rb_top.specs.Judgement.{ScheduleRefused, long_schedule, bad_schedule, ScheduleRuns, RecordRefused, RecordPlays, long_record, bad_record, stuck_record, survivors_text, summary_text}
-use Rattle.rb_top.specs.Judgement.{JudgesSource, at_first, source_refused, source_accepted, OverSchedule, reads_schedule, schedule_refused, runs, PlainGoesOn, reads_record, record_refused, plays}
-use Rattle.rb_top.specs.Judgement.{accepts, ListsCodeOf, lists, EndsBy, EndsWith, refused_here, written_here, later}
+use Rattle.rb_top.specs.Judgement.{JudgesSource, at_first, first_refused, first_accepted, OverSchedule, reads_schedule, schedule_refused, runs, PlainGoesOn, reads_record, record_refused, plays}
+use Rattle.rb_top.specs.Judgement.{accepts, CheckGoesOn, CodeGoesOn, CompileGoesOn, IsCodeFor, compiles, counts_from, lists, EndsBy, EndsWith, refused_here, written_here, later}
 use Rattle.rb_top.specs.Judgement.{ListsTurns, SessionGoesOn, SessionRefused, bad_session, long_session, reads_session, reads_turns, session_refused, shows, turns_refused}
 use Rattle.rb_back.specs.declared.order.Order.{Order}
 use Rattle.rb_back.specs.Script.{script_of}
 use Rattle.rb_back.specs.Shown.{tree_session_text}
-use Rattle.rb_top.specs.Laws.{AreJudged}
+use Rattle.rb_code.specs.WordMachine.WordRun.{word_text}
+use Rattle.rb_top.specs.declared.image.TheConstants.{MOST_IMAGE}
+use Rattle.rb_top.specs.Judgement.{ImageHolds, ImageRefused, Program, long_image, names_in, no_image, no_image_line, unsound_image, unsound_line}
+use Rattle.rb_top.specs.Laws.{AreJudged, IsTold}
 use Rattle.rb_top.proofs.Histories.{history_judged}
-use Rattle.rb_top.proofs.BothTexts.{BothEnd, first_refused, second_refused, second_writes}
+use Rattle.rb_top.proofs.BothTexts.{BothEnd, refused_at_first, second_refused, second_writes}
 use Rattle.rb_judge.proofs.BlocksInOrder.{parsed_are_numbered}
 use Rattle.rb_judge.proofs.OwnNumbers.{parsed_have_own_numbers}
 use Rattle.rb_judge.proofs.Verdicts.{have_verdicts}
@@ -35,6 +39,8 @@ use Rattle.rb_scope.specs.Sites.{tree_sites}
 use Rattle.rb_scope.proofs.Answer.{slots_found}
 use Rattle.rb_scope.proofs.ResolvedInFrames.{resolved_in_frames}
 use Rattle.rb_code.specs.Instructions.Listing.{listing_text}
+use Rattle.rb_code.specs.Instructions.Plain.{Code}
+use Rattle.rb_image.specs.Image.{image_of}
 use Rattle.rb_gen.proofs.ExistsProcesses.{code_exists}
 
 -- ---- a source
@@ -62,33 +68,39 @@ Judged goes_on source second = (judgement : Judgement) × BothEnd goes_on source
 
 -- ---- a schedule
 
+-- it is refused with a line, or has a text
+module _ (names : List (List ℕ)) (text_of : List ℕ → List ℕ) (schedule : List ℕ) where
+  abbrev Turned : Type 0
+  Turned = ((line : List ℕ) × ScheduleRefused names schedule line) ⊎ ((text : List ℕ) × ScheduleRuns names text_of schedule text)
+
+  -- it is a list of turns, or has a first fault
+  by_turns : (read : Result (List ℕ) TextFault) → length schedule ≤ MOST_BYTES → schedule_of names schedule ≡ read → Turned
+  by_turns (Ok turns) short e = inr (text_of turns, record { turns = turns; short = short; listed = e; is = refl })
+  by_turns (Err fault) short e = inl (text_line fault, bad_schedule fault short e refl)
+
+  -- it is too long, or not
+  turned : Turned
+  turned = by (nat_lt MOST_BYTES (length schedule)) refl
+    where
+      by : (long : Bool) → nat_lt MOST_BYTES (length schedule) ≡ long → Turned
+      by true e = inl (too_long_line, long_schedule (ltb-true MOST_BYTES (length schedule) e) refl)
+      by false e = by_turns (schedule_of names schedule) (ltb-false MOST_BYTES (length schedule) e) refl
+
 module _ (text_of : Tree → List ℕ → List ℕ) (source schedule : List ℕ) where
   abbrev Scheduled : Type 0
   Scheduled = Judged (OverSchedule text_of) source schedule
 
-  module _ (tree : Tree) (accepted : Accepted source tree) where
-    refuses : (line : List ℕ) → ScheduleRefused tree schedule line → Scheduled
-    refuses line refused = (
-      RefusedWith line,
-      second_refused (OverSchedule text_of) source schedule tree accepted reads_schedule line (schedule_refused schedule line refused),
-    )
-
-    -- it is a list of turns, or has a first fault
-    listed : (read : Result (List ℕ) TextFault) → length schedule ≤ MOST_BYTES → schedule_of (names_of tree) schedule ≡ read → Scheduled
-    listed (Ok turns) short e =
-        let text = text_of tree turns in
-        let ran : ScheduleRuns text_of tree schedule text = record { turns = turns; short = short; listed = e; is = refl } in
-        (Writes text, second_writes (OverSchedule text_of) source schedule tree accepted reads_schedule text (runs schedule text ran))
-    listed (Err fault) short e = refuses (text_line fault) (bad_schedule fault short e refl)
-
-    -- it is too long, or not
-    scheduled : (long : Bool) → nat_lt MOST_BYTES (length schedule) ≡ long → Scheduled
-    scheduled true e = refuses too_long_line (long_schedule (ltb-true MOST_BYTES (length schedule) e) refl)
-    scheduled false e = listed (schedule_of (names_of tree) schedule) (ltb-false MOST_BYTES (length schedule) e) refl
+  scheduled : (tree : Tree) → Accepted source tree → Turned (names_of tree) (text_of tree) schedule → Scheduled
+  scheduled tree accepted (inl (line, refused)) = (
+    RefusedWith line,
+    second_refused (OverSchedule text_of) source schedule tree accepted reads_schedule line (schedule_refused schedule line refused),
+  )
+  scheduled tree accepted (inr (text, ran)) =
+      (Writes text, second_writes (OverSchedule text_of) source schedule tree accepted reads_schedule text (runs schedule text ran))
 
   over_schedule : Sourced source → Scheduled
-  over_schedule (inl (line, refused)) = (RefusedWith line, first_refused (OverSchedule text_of) source schedule line refused)
-  over_schedule (inr (tree, accepted)) = scheduled tree accepted (nat_lt MOST_BYTES (length schedule)) refl
+  over_schedule (inl (line, refused)) = (RefusedWith line, refused_at_first (OverSchedule text_of) source schedule line refused)
+  over_schedule (inr (tree, accepted)) = scheduled tree accepted (turned (names_of tree) (text_of tree) schedule)
 
 -- ---- a record
 
@@ -120,7 +132,7 @@ module _ (source kept : List ℕ) where
     recorded false e = kept_listed (ltb-false MOST_BYTES (length kept) e) (record_of (names_of tree) kept) refl
 
   over_record : Sourced source → Recorded
-  over_record (inl (line, refused)) = (RefusedWith line, first_refused PlainGoesOn source kept line refused)
+  over_record (inl (line, refused)) = (RefusedWith line, refused_at_first PlainGoesOn source kept line refused)
   over_record (inr (tree, accepted)) = recorded tree accepted (nat_lt MOST_BYTES (length kept)) refl
 
 -- ---- a schedule and a session
@@ -135,14 +147,14 @@ module _ (source schedule session : List ℕ) where
     with_schedule v ends = (
       v,
       later [] source (schedule ∷ session ∷ []) v at_first
-          (later (source ∷ []) schedule (session ∷ []) v (source_accepted source tree [] ReadsOn accepted reads_turns) ends),
+          (later (source ∷ []) schedule (session ∷ []) v (first_accepted source tree [] ReadsOn accepted reads_turns) ends),
     )
 
-    refuses_turns : (line : List ℕ) → ScheduleRefused tree schedule line → Followed
+    refuses_turns : (line : List ℕ) → ScheduleRefused (names_of tree) schedule line → Followed
     refuses_turns line refused =
         with_schedule (RefusedWith line)
         (refused_here (source ∷ schedule ∷ []) (session ∷ []) line
-        (source_accepted source tree (schedule ∷ []) (RefusedWith line) accepted (turns_refused schedule line refused)))
+        (first_accepted source tree (schedule ∷ []) (RefusedWith line) accepted (turns_refused schedule line refused)))
 
     module _ (turns : List ℕ) (lists : ListsTurns tree schedule turns) where
       -- and the session
@@ -150,13 +162,13 @@ module _ (source schedule session : List ℕ) where
       with_session v ends =
           with_schedule v
           (later (source ∷ schedule ∷ []) session [] v
-          (source_accepted source tree (schedule ∷ []) ReadsOn accepted (reads_session schedule turns lists)) ends)
+          (first_accepted source tree (schedule ∷ []) ReadsOn accepted (reads_session schedule turns lists)) ends)
 
       refuses_session : (line : List ℕ) → SessionRefused tree turns session line → Followed
       refuses_session line refused =
           with_session (RefusedWith line)
           (refused_here (source ∷ schedule ∷ session ∷ []) [] line
-          (source_accepted source tree (schedule ∷ session ∷ []) (RefusedWith line) accepted
+          (first_accepted source tree (schedule ∷ session ∷ []) (RefusedWith line) accepted
           (session_refused schedule turns session line lists refused)))
 
       -- it gives orders, or has a first fault
@@ -166,7 +178,7 @@ module _ (source schedule session : List ℕ) where
           let text = tree_session_text tree turns orders in
           with_session (Writes text)
           (written_here (source ∷ schedule ∷ session ∷ []) [] text
-          (source_accepted source tree (schedule ∷ session ∷ []) (Writes text) accepted
+          (first_accepted source tree (schedule ∷ session ∷ []) (Writes text) accepted
           (shows schedule turns session text lists (record { orders = orders; short = short; listed = e; is = refl }))))
       orders_read (Err fault) short e = refuses_session (text_line fault) (bad_session fault short e refl)
 
@@ -189,7 +201,7 @@ module _ (source schedule session : List ℕ) where
   followed_over (inl (line, refused)) = (
     RefusedWith line,
     later [] source (schedule ∷ session ∷ []) (RefusedWith line) at_first
-        (refused_here (source ∷ []) (schedule ∷ session ∷ []) line (source_refused source line refused)),
+        (refused_here (source ∷ []) (schedule ∷ session ∷ []) line (first_refused source line refused)),
   )
   followed_over (inr (tree, accepted)) = turns_measured tree accepted (nat_lt MOST_BYTES (length schedule)) refl
 
@@ -237,27 +249,32 @@ trial_judged n [] none = let made =
     over_schedule (summary_text n) (source_of n) (made_schedule n) (sourced (source_of n)) in (made.0, trial_ended n made.0 made.1)
 trial_judged n (text ∷ more) none = absurd (omega (arith, none))
 
--- ---- `check`
+-- ---- over a source alone
 
-checked : (source : List ℕ) → Sourced source → (v : Judgement) × EndsWith Check [] (source ∷ []) v
-checked source (inl (line, refused)) =
-    (RefusedWith line, later [] source [] (RefusedWith line) at_first (refused_here (source ∷ []) [] line (source_refused source line refused)))
-checked source (inr (tree, accepted)) = (
-  Writes accepted_line,
-  later [] source [] (Writes accepted_line) at_first
-      (written_here (source ∷ []) [] accepted_line (source_accepted source tree [] (Writes accepted_line) accepted (accepts accepted_line refl))),
-)
+-- a command that looks at a source first, and has a text of each that is accepted
+module _ (goes_on : Tree → List (List ℕ) → Judgement → Type 0)
+    (written : (source : List ℕ) (tree : Tree) → Accepted source tree → (text : List ℕ) × goes_on tree [] (Writes text)) where
+  from_one : (source : List ℕ) → Sourced source → (v : Judgement) × EndsBy (JudgesSource goes_on) [] (source ∷ []) v
+  from_one source (inl (line, refused)) =
+      (RefusedWith line, later [] source [] (RefusedWith line) at_first (refused_here (source ∷ []) [] line (first_refused source line refused)))
+  from_one source (inr (tree, accepted)) =
+      let made = written source tree accepted in (
+        Writes made.0,
+        later [] source [] (Writes made.0) at_first
+            (written_here (source ∷ []) [] made.0 (first_accepted source tree [] (Writes made.0) accepted made.1)),
+      )
 
--- `check` reads one
-check_judged : (texts : List (List ℕ)) → length texts ≡ 1 → (v : Judgement) × EndsWith Check [] texts v
-check_judged [] one = absurd (omega (arith, one))
-check_judged (source ∷ []) one = checked source (sourced source)
-check_judged (source ∷ other ∷ more) one = absurd (omega (arith, one))
+  one_judged : (texts : List (List ℕ)) → length texts ≡ 1 → (v : Judgement) × EndsBy (JudgesSource goes_on) [] texts v
+  one_judged [] one = absurd (omega (arith, one))
+  one_judged (source ∷ []) one = from_one source (sourced source)
+  one_judged (source ∷ other ∷ more) one = absurd (omega (arith, one))
 
--- ---- `code`
+-- `check` has one
+check_written : (source : List ℕ) (tree : Tree) → Accepted source tree → (text : List ℕ) × CheckGoesOn tree [] (Writes text)
+check_written source tree accepted = (accepted_line, accepts accepted_line refl)
 
 -- there is code for each accepted source
-has_code : (source : List ℕ) (tree : Tree) → Accepted source tree → (text : List ℕ) × ListsCodeOf tree text
+has_code : (source : List ℕ) (tree : Tree) → Accepted source tree → (c : Code) × IsCodeFor tree c
 has_code source tree accepted =
     let slots = (visited (nothing_found tree.names) (tree_sites tree)).slots in
     let resolved : IsResolved tree slots = record {
@@ -266,34 +283,79 @@ has_code source tree accepted =
     } in
     let frames = resolved_in_frames tree slots resolved in
     let made = code_exists tree slots frames (parsed_are_numbered source tree accepted.accepted.derived) in
-    (listing_text made.0, record { slots = slots; listed = made.0; resolved = resolved; frames = frames; stands = made.1; is = refl })
+    (made.0, record { slots = slots; resolved = resolved; frames = frames; stands = made.1 })
 
-code_written : (source : List ℕ) (tree : Tree) → Accepted source tree → (text : List ℕ) × ListsCodeOf tree text
-    → (v : Judgement) × EndsWith Compile [] (source ∷ []) v
-code_written source tree accepted (text, listed) = (
-  Writes text,
-  later [] source [] (Writes text) at_first
-      (written_here (source ∷ []) [] text (source_accepted source tree [] (Writes text) accepted (lists text listed))),
-)
+-- so `code` has one
+code_written : (source : List ℕ) (tree : Tree) → Accepted source tree → (text : List ℕ) × CodeGoesOn tree [] (Writes text)
+code_written source tree accepted =
+    let made = has_code source tree accepted in
+    (listing_text made.0, lists (listing_text made.0) (record { listed = made.0; made = made.1; is = refl }))
 
-listed_code : (source : List ℕ) → Sourced source → (v : Judgement) × EndsWith Compile [] (source ∷ []) v
-listed_code source (inl (line, refused)) =
-    (RefusedWith line, later [] source [] (RefusedWith line) at_first (refused_here (source ∷ []) [] line (source_refused source line refused)))
-listed_code source (inr (tree, accepted)) = code_written source tree accepted (has_code source tree accepted)
+-- and so has `compile`
+image_written : (source : List ℕ) (tree : Tree) → Accepted source tree → (text : List ℕ) × CompileGoesOn tree [] (Writes text)
+image_written source tree accepted =
+    let made = has_code source tree accepted in
+    let text = image_of made.0 (groups_of tree) (counts_from tree 0 (groups_of tree)) in
+    (text, compiles text (record { compiled = made.0; made = made.1; is = refl }))
 
--- `code` reads one
-code_judged : (texts : List (List ℕ)) → length texts ≡ 1 → (v : Judgement) × EndsWith Compile [] texts v
-code_judged [] one = absurd (omega (arith, one))
-code_judged (source ∷ []) one = listed_code source (sourced source)
-code_judged (source ∷ other ∷ more) one = absurd (omega (arith, one))
+-- ---- an image and a schedule
+
+module _ (image schedule : List ℕ) where
+  abbrev Loaded : Type 0
+  Loaded = (v : Judgement) × EndsWith Load [] (image ∷ schedule ∷ []) v
+
+  refuses_image : (line : List ℕ) → ImageRefused image line → Loaded
+  refuses_image line refused =
+      (RefusedWith line, later [] image (schedule ∷ []) (RefusedWith line) at_first (refused_here (image ∷ []) (schedule ∷ []) line (first_refused image line refused)))
+
+  -- a program that may be run reads the schedule, which is refused, or of which it has a text
+  over_program : (program : Program) → ImageHolds image program
+      → (refused : ((line : List ℕ) × ScheduleRefused (names_in program) schedule line)
+      ⊎ ((text : List ℕ) × ScheduleRuns (names_in program) (word_text program.code program.groups) schedule text)) → Loaded
+  over_program program holds (inl (line, refused)) = (
+    RefusedWith line,
+    later [] image (schedule ∷ []) (RefusedWith line) at_first
+        (later (image ∷ []) schedule [] (RefusedWith line) (first_accepted image program [] ReadsOn holds reads_schedule)
+        (refused_here (image ∷ schedule ∷ []) [] line
+        (first_accepted image program (schedule ∷ []) (RefusedWith line) holds (schedule_refused schedule line refused)))),
+  )
+  over_program program holds (inr (text, ran)) = (
+    Writes text,
+    later [] image (schedule ∷ []) (Writes text) at_first
+        (later (image ∷ []) schedule [] (Writes text) (first_accepted image program [] ReadsOn holds reads_schedule)
+        (written_here (image ∷ schedule ∷ []) [] text
+        (first_accepted image program (schedule ∷ []) (Writes text) holds (runs schedule text ran)))),
+  )
+
+  -- and no image is without a verdict
+  loaded : (Loaded → ⊥) → ⊥
+  loaded none = by (nat_lt MOST_IMAGE (length image)) refl
+    where
+      by : (long : Bool) → nat_lt MOST_IMAGE (length image) ≡ long → ⊥
+      by true e = none (refuses_image too_long_line (long_image (ltb-true MOST_IMAGE (length image) e) refl))
+      by false e =
+          let short = ltb-false MOST_IMAGE (length image) e in
+          none (refuses_image no_image_line (no_image short (λ c groups counts is.
+          let program : Program = record { code = c; groups = groups; counts = counts } in
+          none (refuses_image unsound_line (unsound_image program short is (λ may.
+          none (over_program program (record { short = short; image = is; may_run = may })
+          (turned (names_in program) (word_text program.code program.groups) schedule))) refl))) refl))
+
+load_judged : (texts : List (List ℕ)) → length texts ≡ 2 → IsTold Load ((v : Judgement) × EndsWith Load [] texts v)
+load_judged [] two = absurd (omega (arith, two))
+load_judged (image ∷ []) two = absurd (omega (arith, two))
+load_judged (image ∷ schedule ∷ []) two = loaded image schedule
+load_judged (image ∷ schedule ∷ other ∷ more) two = absurd (omega (arith, two))
 
 pub are_judged : AreJudged
 are_judged Run texts two = two_judged (OverSchedule run_text) (over_schedule run_text) texts two
 are_judged Survive texts two = two_judged (OverSchedule survivors_text) (over_schedule survivors_text) texts two
 are_judged Replay texts two = two_judged PlainGoesOn over_record texts two
-are_judged Check texts one = check_judged texts one
-are_judged Compile texts one = code_judged texts one
+are_judged Check texts one = one_judged CheckGoesOn check_written texts one
+are_judged ListCode texts one = one_judged CodeGoesOn code_written texts one
 are_judged (Trial n) texts none = trial_judged n texts none
 are_judged Session texts three = session_judged texts three
 are_judged Analyse texts one = history_judged texts one
 are_judged Survey texts two = two_judged (OverSchedule tree_standing_text) (over_schedule tree_standing_text) texts two
+are_judged Compile texts one = one_judged CompileGoesOn image_written texts one
+are_judged Load texts two = load_judged texts two

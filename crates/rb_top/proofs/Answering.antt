@@ -12,7 +12,7 @@ use Rattle.rb_run.specs.declared.surviving.Ended.TheVariants as survival
 use Rattle.rb_back.specs.Showing.{Shows}
 use Rattle.rb_back.specs.declared.showing.Stopped.{Stopped}
 use Rattle.rb_back.specs.declared.showing.Stopped.TheVariants as halted
-use Rattle.rb_top.specs.Words.{Command, Run, Survive, Replay, Check, Compile, Trial, Session, Analyse, Survey, Wanted, Request}
+use Rattle.rb_top.specs.Words.{Command, Run, Survive, Replay, Check, ListCode, Trial, Session, Analyse, Survey, Compile, Load, Wanted, Request}
 use Rattle.rb_top.specs.declared.read.Unread.{Unread}
 use Rattle.rb_top.specs.declared.read.Unread.TheVariants.{Fault}
 use Rattle.rb_top.specs.declared.read.Unread.TheVariants as unread
@@ -216,11 +216,13 @@ nothing_by_then request Run old new nothing = nothing
 nothing_by_then request Survive old new nothing = nothing
 nothing_by_then request Replay old new nothing = inl nothing
 nothing_by_then request Check old new nothing = nothing
-nothing_by_then request Compile old new nothing = nothing
+nothing_by_then request ListCode old new nothing = nothing
 nothing_by_then request (Trial number) old new nothing = nothing
 nothing_by_then request Session old new nothing = inl nothing
 nothing_by_then request Analyse old new nothing = nothing
 nothing_by_then request Survey old new nothing = nothing
+nothing_by_then request Compile old new nothing = nothing
+nothing_by_then request Load old new nothing = nothing
 
 -- a command that takes memory while it writes
 pub data TakesWhileWriting : Command → Type 0 where
@@ -444,10 +446,12 @@ still_by_then files request Session a b r0 r1 f0 w0 new same (inr front) =
       well = front.well;
     })
 still_by_then files request Check a b r0 r1 f0 w0 new same nothing = record { written = nothing.written; faults = nothing.faults }
-still_by_then files request Compile a b r0 r1 f0 w0 new same nothing = record { written = nothing.written; faults = nothing.faults }
+still_by_then files request ListCode a b r0 r1 f0 w0 new same nothing = record { written = nothing.written; faults = nothing.faults }
 still_by_then files request (Trial number) a b r0 r1 f0 w0 new same nothing = record { written = nothing.written; faults = nothing.faults }
 still_by_then files request Analyse a b r0 r1 f0 w0 new same nothing = record { written = nothing.written; faults = nothing.faults }
 still_by_then files request Survey a b r0 r1 f0 w0 new same nothing = record { written = nothing.written; faults = nothing.faults }
+still_by_then files request Compile a b r0 r1 f0 w0 new same nothing = record { written = nothing.written; faults = nothing.faults }
+still_by_then files request Load a b r0 r1 f0 w0 new same nothing = record { written = nothing.written; faults = nothing.faults }
 
 -- an answer of the later stages is one of the whole, in which nothing but reads without faults came before
 pub resumed : (files : Option (List File)) (request : Request) (a b : List Start) (r0 r1 f0 : Faults) (w0 : Option (List ℕ))

@@ -26,7 +26,7 @@ use Rattle.clap.specs.declared.builder.value_parser.Reading.TheVariants.{AsWritt
 use Rattle.clap.proofs.WalkLemmas.{first_value-rows, walk_stopped}
 use Rattle.clap.proofs.FaultLemmas.{stopped_fault}
 use Rattle.clap.proofs.OnLiterals.{clap_on_literals}
-use Rattle.rb_top.specs.Words.{Request, analyse_of, check_of, code_of, forms, is_plain_word, named_in, plain_of, request_of, run_of, session_of, survey_of, survive_of, trial_number, trial_of, with_three, with_two}
+use Rattle.rb_top.specs.Words.{Request, analyse_of, check_of, code_of, compile_of, forms, is_plain_word, load_of, named_in, plain_of, request_of, run_of, session_of, survey_of, survive_of, trial_number, trial_of, with_three, with_two}
 use Rattle.rb_top.specs.CommandLine.{command_with, program, request_given, required_word, three_given, trial_given, two_given}
 
 -- the program is one of which `clap` says all
@@ -331,7 +331,7 @@ module _ (name i j : Text) (of : Text → Text → Request) (first : bytes_eq i 
       refused (some_fault _ _ _ _ (fault (a ∷ b ∷ c ∷ more)) (two-many name i j first second ahead behind a b c more one.0 other.0 third.0))
       (asks name (a ∷ b ∷ c ∷ more) plain ∙ form (a ∷ b ∷ c ∷ more))
 
--- `run`, `survive`, `plain` and `stuck` take two
+-- `run`, `survive`, `plain`, `stuck` and `load` take two
 run_agrees : (words : List Text) → list_all is_plain_word words ≡ true → Agrees (codes "run" ∷ words)
 run_agrees =
     two_agrees (codes "run") (codes "SOURCE") (codes "SCHEDULE") run_of refl refl refl refl
@@ -358,6 +358,13 @@ stuck_agrees =
     two_agrees (codes "stuck") (codes "SOURCE") (codes "SCHEDULE") survey_of refl refl refl refl
     (λ words. fault-name (codes "stuck") words (leaf (codes "stuck") (codes "SOURCE" ∷ codes "SCHEDULE" ∷ [])) refl refl refl)
     (λ words. subcommand-name (codes "stuck") words (leaf (codes "stuck") (codes "SOURCE" ∷ codes "SCHEDULE" ∷ [])) refl refl refl)
+    (λ given. refl) (λ words. refl)
+
+load_agrees : (words : List Text) → list_all is_plain_word words ≡ true → Agrees (codes "load" ∷ words)
+load_agrees =
+    two_agrees (codes "load") (codes "IMAGE") (codes "SCHEDULE") load_of refl refl refl refl
+    (λ words. fault-name (codes "load") words (leaf (codes "load") (codes "IMAGE" ∷ codes "SCHEDULE" ∷ [])) refl refl refl)
+    (λ words. subcommand-name (codes "load") words (leaf (codes "load") (codes "IMAGE" ∷ codes "SCHEDULE" ∷ [])) refl refl refl)
     (λ given. refl) (λ words. refl)
 
 -- a command that takes three words
@@ -431,7 +438,7 @@ module _ (name i : Text) (of : Text → Option Request) (same : bytes_eq i i ≡
       refused (some_fault _ _ _ _ (fault (a ∷ b ∷ more)) (one-many name i same a b more first.0 second.0))
       (asks name (a ∷ b ∷ more) plain ∙ beyond a b more)
 
--- `check`, `code`, `trial` and `domino` take one
+-- `check`, `code`, `trial`, `domino` and `compile` take one
 check_agrees : (words : List Text) → list_all is_plain_word words ≡ true → Agrees (codes "check" ∷ words)
 check_agrees =
     one_agrees (codes "check") (codes "SOURCE") (λ a. Some (check_of a)) refl
@@ -460,8 +467,16 @@ domino_agrees =
     (λ words. subcommand-name (codes "domino") words (leaf (codes "domino") (codes "HISTORY" ∷ [])) refl refl refl)
     (λ given a e. ap (option_map analyse_of) e) refl (λ a. refl) (λ a b more. refl)
 
+compile_agrees : (words : List Text) → list_all is_plain_word words ≡ true → Agrees (codes "compile" ∷ words)
+compile_agrees =
+    one_agrees (codes "compile") (codes "SOURCE") (λ a. Some (compile_of a)) refl
+    (λ words. fault-name (codes "compile") words (leaf (codes "compile") (codes "SOURCE" ∷ [])) refl refl refl)
+    (λ words. subcommand-name (codes "compile") words (leaf (codes "compile") (codes "SOURCE" ∷ [])) refl refl refl)
+    (λ given a e. ap (option_map compile_of) e) refl (λ a. refl) (λ a b more. refl)
+
 -- which command's name a word is
-pub record AreNamed (name : Text) (is_run is_survive is_plain is_check is_code is_trial is_session is_domino is_stuck : Bool) : Type 0 where
+pub record AreNamed (name : Text) (is_run is_survive is_plain is_check is_code is_trial is_session is_domino is_stuck is_compile is_load : Bool)
+    : Type 0 where
   pub run : bytes_eq (codes "run") name ≡ is_run
   pub survive : bytes_eq (codes "survive") name ≡ is_survive
   pub plain : bytes_eq (codes "plain") name ≡ is_plain
@@ -471,6 +486,8 @@ pub record AreNamed (name : Text) (is_run is_survive is_plain is_check is_code i
   pub session : bytes_eq (codes "session") name ≡ is_session
   pub domino : bytes_eq (codes "domino") name ≡ is_domino
   pub stuck : bytes_eq (codes "stuck") name ≡ is_stuck
+  pub compile : bytes_eq (codes "compile") name ≡ is_compile
+  pub load : bytes_eq (codes "load") name ≡ is_load
 
 module _ (name : Text) (words : List Text) (plain : list_all is_plain_word (name ∷ words) ≡ true) where
   -- a name of which this is known
@@ -478,26 +495,28 @@ module _ (name : Text) (words : List Text) (plain : list_all is_plain_word (name
   of_named known agrees e = subst (λ n. Agrees (n ∷ words)) ((bytes_eq-Decides _ _).0 e) (agrees (and_parts _ _ plain).1)
 
   -- a name of no command
-  unnamed : AreNamed name false false false false false false false false false → Agrees (name ∷ words)
+  unnamed : AreNamed name false false false false false false false false false false false → Agrees (name ∷ words)
   unnamed are =
       let parts = and_parts (is_plain_word name) _ plain in
-      let no_name : subcommand_met names idle name ≡ None = rw (are.run, are.survive, are.plain, are.check, are.code, are.trial, are.session, are.domino, are.stuck) refl in
+      let no_name : subcommand_met names idle name ≡ None = rw (are.run, are.survive, are.plain, are.check, are.code, are.trial, are.session, are.domino, are.stuck, are.compile, are.load) refl in
       refused (λ none. let both : [] ≡ UnknownArgument ∷ InvalidSubcommand ∷ [] = sym none ∙ other_word name words parts.0 no_name in cc)
-      (asks name words parts.1 ∙ rw (are.run, are.survive, are.plain, are.check, are.code, are.trial, are.session, are.domino, are.stuck) refl)
+      (asks name words parts.1 ∙ rw (are.run, are.survive, are.plain, are.check, are.code, are.trial, are.session, are.domino, are.stuck, are.compile, are.load) refl)
 
   -- the first word is a command's name, or none
-  named : (is_run is_survive is_plain is_check is_code is_trial is_session is_domino is_stuck : Bool)
-      → AreNamed name is_run is_survive is_plain is_check is_code is_trial is_session is_domino is_stuck → Agrees (name ∷ words)
-  named true b c d e f g h i are = of_named (codes "run") (run_agrees words) are.run
-  named false true c d e f g h i are = of_named (codes "survive") (survive_agrees words) are.survive
-  named false false true d e f g h i are = of_named (codes "plain") (plain_agrees words) are.plain
-  named false false false true e f g h i are = of_named (codes "check") (check_agrees words) are.check
-  named false false false false true f g h i are = of_named (codes "code") (code_agrees words) are.code
-  named false false false false false true g h i are = of_named (codes "trial") (trial_agrees words) are.trial
-  named false false false false false false true h i are = of_named (codes "session") (session_agrees words) are.session
-  named false false false false false false false true i are = of_named (codes "domino") (domino_agrees words) are.domino
-  named false false false false false false false false true are = of_named (codes "stuck") (stuck_agrees words) are.stuck
-  named false false false false false false false false false are = unnamed are
+  named : (is_run is_survive is_plain is_check is_code is_trial is_session is_domino is_stuck is_compile is_load : Bool)
+      → AreNamed name is_run is_survive is_plain is_check is_code is_trial is_session is_domino is_stuck is_compile is_load → Agrees (name ∷ words)
+  named true b c d e f g h i j k are = of_named (codes "run") (run_agrees words) are.run
+  named false true c d e f g h i j k are = of_named (codes "survive") (survive_agrees words) are.survive
+  named false false true d e f g h i j k are = of_named (codes "plain") (plain_agrees words) are.plain
+  named false false false true e f g h i j k are = of_named (codes "check") (check_agrees words) are.check
+  named false false false false true f g h i j k are = of_named (codes "code") (code_agrees words) are.code
+  named false false false false false true g h i j k are = of_named (codes "trial") (trial_agrees words) are.trial
+  named false false false false false false true h i j k are = of_named (codes "session") (session_agrees words) are.session
+  named false false false false false false false true i j k are = of_named (codes "domino") (domino_agrees words) are.domino
+  named false false false false false false false false true j k are = of_named (codes "stuck") (stuck_agrees words) are.stuck
+  named false false false false false false false false false true k are = of_named (codes "compile") (compile_agrees words) are.compile
+  named false false false false false false false false false false true are = of_named (codes "load") (load_agrees words) are.load
+  named false false false false false false false false false false false are = unnamed are
 
 pub agrees : (words : List Text) → list_all is_plain_word words ≡ true → Agrees words
 agrees [] plain = refused (λ none. let both : [] ≡ MissingSubcommand ∷ [] = sym none ∙ no_words in cc) refl
@@ -505,8 +524,21 @@ agrees (name ∷ words) plain =
     named name words plain (bytes_eq (codes "run") name) (bytes_eq (codes "survive") name) (bytes_eq (codes "plain") name)
     (bytes_eq (codes "check") name)
     (bytes_eq (codes "code") name) (bytes_eq (codes "trial") name) (bytes_eq (codes "session") name) (bytes_eq (codes "domino") name)
-    (bytes_eq (codes "stuck") name)
-    (record { run = refl; survive = refl; plain = refl; check = refl; code = refl; trial = refl; session = refl; domino = refl; stuck = refl })
+    (bytes_eq (codes "stuck") name) (bytes_eq (codes "compile") name)
+    (bytes_eq (codes "load") name)
+    (record {
+      run = refl;
+      survive = refl;
+      plain = refl;
+      check = refl;
+      code = refl;
+      trial = refl;
+      session = refl;
+      domino = refl;
+      stuck = refl;
+      compile = refl;
+      load = refl;
+    })
 
 -- a word that is not plain names no command
 not_named : (name : Text) (words : List Text) → is_plain_word name ≡ false → named_in forms name words ≡ None

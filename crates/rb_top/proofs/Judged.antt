@@ -1,6 +1,7 @@
 -- Texts are judged in one way: a source has one verdict, a schedule or a record is one list or has one fault, and what a command makes
 -- of them is one text.
 use Rattle.std.proofs.Common.{◌≡◌, ℕ, ◌<◌, ◌≤◌, List, [], ◌∷◌, ◌++◌, length, Ok, Err, refl, sym, ap, subst, ◌∙◌, arith}
+use Rattle.rb_meaning.specs.Groups.{groups_of}
 use Rattle.rb_meaning.specs.Meaning.{run_text}
 use Rattle.rb_meaning.specs.PlainRun.{plain_text}
 use Rattle.rb_make.specs.Trial.{schedule_of as made_schedule, source_of}
@@ -10,11 +11,11 @@ use Rattle.rb_base.specs.declared.limits.TheConstants.{MOST_BYTES}
 use Rattle.rb_sched.specs.Schedule.{schedule_of}
 use Rattle.rb_syntax.specs.Tree.{Tree}
 use Rattle.rb_stuck.specs.Programs.{tree_standing_text}
-use Rattle.rb_top.specs.Words.{Command, Run, Survive, Replay, Check, Compile, Trial, Session, Analyse, Survey}
+use Rattle.rb_top.specs.Words.{Command, Run, Survive, Replay, Check, ListCode, Trial, Session, Analyse, Survey, Compile, Load}
 use Rattle.rb_top.specs.Judgement.{Judgement, ReadsOn, RefusedWith, Writes, SourceRefused, long_source, bad_source, source_line, text_line, stuck_line, Accepted}
 use Rattle.rb_top.specs.Judgement.{ScheduleRefused, long_schedule, bad_schedule, ScheduleRuns, RecordRefused, long_record, bad_record, stuck_record, RecordPlays}
-use Rattle.rb_top.specs.Judgement.{JudgesSource, at_first, source_refused, source_accepted, OverSchedule, names_of, reads_schedule, schedule_refused, runs, survivors_text, summary_text}
-use Rattle.rb_top.specs.Judgement.{PlainGoesOn, reads_record, record_refused, plays, CheckGoesOn, accepts, CodeGoesOn, ListsCodeOf, lists, Judges, EndsBy, refused_here, written_here, later}
+use Rattle.rb_top.specs.Judgement.{JudgesSource, at_first, first_refused, first_accepted, OverSchedule, names_of, reads_schedule, schedule_refused, runs, survivors_text, summary_text}
+use Rattle.rb_top.specs.Judgement.{PlainGoesOn, reads_record, record_refused, plays, CheckGoesOn, accepts, CodeGoesOn, lists, CompileGoesOn, IsCodeFor, compiles, counts_from, Judges, EndsBy, refused_here, written_here, later}
 use Rattle.rb_top.specs.Judgement.{ListsTurns, SessionGoesOn, SessionRefused, SessionShows, bad_session, long_session, reads_session, reads_turns, session_refused, shows, turns_refused}
 use Rattle.rb_back.specs.declared.order.Order.{Order}
 use Rattle.rb_back.specs.Shown.{tree_session_text}
@@ -23,6 +24,12 @@ use Rattle.rb_top.proofs.Histories.{history_once}
 use Rattle.rb_judge.proofs.BlocksInOrder.{parsed_are_numbered}
 use Rattle.rb_judge.proofs.Verdicts.{have_one_verdict}
 use Rattle.rb_code.specs.Instructions.Listing.{listing_text}
+use Rattle.rb_code.specs.Instructions.Plain.{Code}
+use Rattle.rb_code.specs.WordMachine.WordRun.{word_text}
+use Rattle.rb_image.specs.Image.{image_of}
+use Rattle.rb_image.specs.Laws.{IsImage}
+use Rattle.rb_image.proofs.Found.{images_are_of_one}
+use Rattle.rb_top.specs.Judgement.{ImageHolds, ImageRefused, LoadGoesOn, MayRun, OverTurns, Program, long_image, names_in, no_image, unsound_image}
 use Rattle.rb_code.proofs.Alike.OneCode.{one_code_stands}
 
 not_both_lengths : (text : List ℕ) {P : Type 0} → MOST_BYTES < length text → length text ≤ MOST_BYTES → P
@@ -46,18 +53,19 @@ accepted_once : (source : List ℕ) (tree other : Tree) → Accepted source tree
 accepted_once source tree other a b = (have_one_verdict source).0 tree other a.accepted b.accepted
 
 -- one line for a schedule
-schedule_once : (tree : Tree) (text line other : List ℕ) → ScheduleRefused tree text line → ScheduleRefused tree text other → line ≡ other
-schedule_once tree text line other (long_schedule long a) (long_schedule again b) = a ∙ sym b
-schedule_once tree text line other (long_schedule long a) (bad_schedule fault short bad b) = not_both_lengths text long short
-schedule_once tree text line other (bad_schedule fault short bad a) (long_schedule long b) = not_both_lengths text long short
-schedule_once tree text line other (bad_schedule fault short bad a) (bad_schedule second again worse b) =
+schedule_once : (names : List (List ℕ)) (text line other : List ℕ) → ScheduleRefused names text line → ScheduleRefused names text other
+    → line ≡ other
+schedule_once names text line other (long_schedule long a) (long_schedule again b) = a ∙ sym b
+schedule_once names text line other (long_schedule long a) (bad_schedule fault short bad b) = not_both_lengths text long short
+schedule_once names text line other (bad_schedule fault short bad a) (long_schedule long b) = not_both_lengths text long short
+schedule_once names text line other (bad_schedule fault short bad a) (bad_schedule second again worse b) =
     let same : fault ≡ second = cc (bad, worse) in a ∙ ap text_line same ∙ sym b
 
 -- a schedule that lists turns is not refused
-listed_stands : (tree : Tree) (text line : List ℕ) (turns : List ℕ) → length text ≤ MOST_BYTES
-    → schedule_of (names_of tree) text ≡ Ok turns → ScheduleRefused tree text line → ⊥
-listed_stands tree text line turns short listed (long_schedule long e) = not_both_lengths text long short
-listed_stands tree text line turns short listed (bad_schedule fault again bad e) = cc (listed, bad)
+listed_stands : (names : List (List ℕ)) (text line : List ℕ) (turns : List ℕ) → length text ≤ MOST_BYTES
+    → schedule_of names text ≡ Ok turns → ScheduleRefused names text line → ⊥
+listed_stands names text line turns short listed (long_schedule long e) = not_both_lengths text long short
+listed_stands names text line turns short listed (bad_schedule fault again bad e) = cc (listed, bad)
 
 -- a command goes on in one way from an accepted source
 abbrev GoesOnOnce : (Tree → List (List ℕ) → Judgement → Type 0) → Type 0
@@ -67,26 +75,25 @@ GoesOnOnce goes_on =
 
 -- ---- over a schedule
 
-module _ (text_of : Tree → List ℕ → List ℕ) where
+module _ (names : List (List ℕ)) (text_of : List ℕ → List ℕ) where
   -- one text
-  run_once : (tree : Tree) (schedule text other : List ℕ) → ScheduleRuns text_of tree schedule text
-      → ScheduleRuns text_of tree schedule other → text ≡ other
-  run_once tree schedule text other r s =
-      let turned : r.turns ≡ s.turns = cc (r.listed, s.listed) in
-      r.is ∙ ap (text_of tree) turned ∙ sym s.is
+  run_once : (schedule text other : List ℕ) → ScheduleRuns names text_of schedule text → ScheduleRuns names text_of schedule other → text ≡ other
+  run_once schedule text other r s = let turned : r.turns ≡ s.turns = cc (r.listed, s.listed) in r.is ∙ ap text_of turned ∙ sym s.is
 
   -- a text is no refusal
-  run_stands : (tree : Tree) (schedule text line : List ℕ) → ScheduleRuns text_of tree schedule text → ScheduleRefused tree schedule line → ⊥
-  run_stands tree schedule text line r refused = listed_stands tree schedule line r.turns r.short r.listed refused
+  run_stands : (schedule text line : List ℕ) → ScheduleRuns names text_of schedule text → ScheduleRefused names schedule line → ⊥
+  run_stands schedule text line r refused = listed_stands names schedule line r.turns r.short r.listed refused
 
-  -- so `run`, `survive` and `trial` go on in one way
-  runs_once : GoesOnOnce (OverSchedule text_of)
-  runs_once source tree texts v w accepted reads_schedule reads_schedule = refl
-  runs_once source tree texts v w accepted (schedule_refused schedule line r) (schedule_refused again other s) =
-      ap RefusedWith (schedule_once tree schedule line other r s)
-  runs_once source tree texts v w accepted (schedule_refused schedule line r) (runs again text s) = absurd (run_stands tree schedule text line s r)
-  runs_once source tree texts v w accepted (runs schedule text r) (schedule_refused again line s) = absurd (run_stands tree schedule text line r s)
-  runs_once source tree texts v w accepted (runs schedule text r) (runs again other s) = ap Writes (run_once tree schedule text other r s)
+  over_once : (texts : List (List ℕ)) (v w : Judgement) → OverTurns names text_of texts v → OverTurns names text_of texts w → v ≡ w
+  over_once texts v w reads_schedule reads_schedule = refl
+  over_once texts v w (schedule_refused schedule line r) (schedule_refused again other s) = ap RefusedWith (schedule_once names schedule line other r s)
+  over_once texts v w (schedule_refused schedule line r) (runs again text s) = absurd (run_stands schedule text line s r)
+  over_once texts v w (runs schedule text r) (schedule_refused again line s) = absurd (run_stands schedule text line r s)
+  over_once texts v w (runs schedule text r) (runs again other s) = ap Writes (run_once schedule text other r s)
+
+-- so `run`, `survive`, `stuck` and `trial` go on in one way
+runs_once : (text_of : Tree → List ℕ → List ℕ) → GoesOnOnce (OverSchedule text_of)
+runs_once text_of source tree texts v w accepted r s = over_once (names_of tree) (text_of tree) texts v w r s
 
 -- ---- over a record
 
@@ -168,11 +175,11 @@ module _ (tree : Tree) (turns session : List ℕ) where
 sessions_once : GoesOnOnce SessionGoesOn
 sessions_once source tree texts v w accepted reads_turns reads_turns = refl
 sessions_once source tree texts v w accepted (turns_refused schedule line r) (turns_refused again other s) =
-    ap RefusedWith (schedule_once tree schedule line other r s)
+    ap RefusedWith (schedule_once (names_of tree) schedule line other r s)
 sessions_once source tree texts v w accepted (turns_refused schedule line r) (reads_session again turns s) =
-    absurd (listed_stands tree schedule line turns s.short s.listed r)
+    absurd (listed_stands (names_of tree) schedule line turns s.short s.listed r)
 sessions_once source tree texts v w accepted (reads_session schedule turns r) (turns_refused again line s) =
-    absurd (listed_stands tree schedule line turns r.short r.listed s)
+    absurd (listed_stands (names_of tree) schedule line turns r.short r.listed s)
 sessions_once source tree texts v w accepted (reads_session schedule turns r) (reads_session again others s) = refl
 sessions_once source tree texts v w accepted (session_refused schedule turns session line l r) (session_refused again others repeated other m s) =
     let same = turns_once tree schedule turns others l m in
@@ -194,25 +201,66 @@ checks_once : GoesOnOnce CheckGoesOn
 checks_once source tree texts v w accepted (accepts text a) (accepts other b) = ap Writes (a ∙ sym b)
 
 -- and so does `code`: one code stands for a tree
-code_once : (source text other : List ℕ) (tree : Tree) → Accepted source tree → ListsCodeOf tree text → ListsCodeOf tree other → text ≡ other
-code_once source text other tree accepted a b =
-    a.is
-    ∙ ap listing_text (one_code_stands tree a.slots b.slots a.listed b.listed (parsed_are_numbered source tree accepted.accepted.derived)
-    a.frames b.frames a.resolved.slots_of b.resolved.slots_of a.stands b.stands)
-    ∙ sym b.is
+code_once : (source : List ℕ) (tree : Tree) (c d : Code) → Accepted source tree → IsCodeFor tree c → IsCodeFor tree d → c ≡ d
+code_once source tree c d accepted a b =
+    one_code_stands tree a.slots b.slots c d (parsed_are_numbered source tree accepted.accepted.derived) a.frames b.frames
+    a.resolved.slots_of b.resolved.slots_of a.stands b.stands
 
 codes_once : GoesOnOnce CodeGoesOn
-codes_once source tree texts v w accepted (lists text a) (lists other b) = ap Writes (code_once source text other tree accepted a b)
+codes_once source tree texts v w accepted (lists text a) (lists other b) =
+    ap Writes (a.is ∙ ap listing_text (code_once source tree a.listed b.listed accepted a.made b.made) ∙ sym b.is)
+
+-- so it has one image
+images_once : GoesOnOnce CompileGoesOn
+images_once source tree texts v w accepted (compiles text a) (compiles other b) =
+    ap Writes
+    (a.is
+    ∙ ap (λ c. image_of c (groups_of tree) (counts_from tree 0 (groups_of tree))) (code_once source tree a.compiled b.compiled accepted a.made b.made)
+    ∙ sym b.is)
 
 module _ (goes_on : Tree → List (List ℕ) → Judgement → Type 0) (once : GoesOnOnce goes_on) where
   -- a command that looks at a source first makes one thing of what it has read
   source_judged_once : (texts : List (List ℕ)) (v w : Judgement) → JudgesSource goes_on texts v → JudgesSource goes_on texts w → v ≡ w
   source_judged_once texts v w at_first at_first = refl
-  source_judged_once texts v w (source_refused source line r) (source_refused again other s) = ap RefusedWith (source_once source line other r s)
-  source_judged_once texts v w (source_refused source line r) (source_accepted again tree more j a on) = absurd (accepted_stands source line tree a r)
-  source_judged_once texts v w (source_accepted source tree more j a on) (source_refused again line r) = absurd (accepted_stands source line tree a r)
-  source_judged_once texts v w (source_accepted source tree more j a on) (source_accepted again other others k b off) =
+  source_judged_once texts v w (first_refused source line r) (first_refused again other s) = ap RefusedWith (source_once source line other r s)
+  source_judged_once texts v w (first_refused source line r) (first_accepted again tree more j a on) = absurd (accepted_stands source line tree a r)
+  source_judged_once texts v w (first_accepted source tree more j a on) (first_refused again line r) = absurd (accepted_stands source line tree a r)
+  source_judged_once texts v w (first_accepted source tree more j a on) (first_accepted again other others k b off) =
       once again other more j k b (subst (λ t. goes_on t more j) (accepted_once source tree other a b) on) off
+
+-- one line for an image
+image_once : (image line other : List ℕ) → ImageRefused image line → ImageRefused image other → line ≡ other
+image_once image line other (long_image long a) (long_image again b) = a ∙ sym b
+image_once image line other (long_image long a) (no_image short none b) = absurd (omega (arith, long, short))
+image_once image line other (long_image long a) (unsound_image program short is bad b) = absurd (omega (arith, long, short))
+image_once image line other (no_image short none a) (long_image long b) = absurd (omega (arith, long, short))
+image_once image line other (no_image short none a) (no_image again nothing b) = a ∙ sym b
+image_once image line other (no_image short none a) (unsound_image p again is bad b) = absurd (none p.code p.groups p.counts is)
+image_once image line other (unsound_image p short is bad a) (long_image long b) = absurd (omega (arith, long, short))
+image_once image line other (unsound_image p short is bad a) (no_image again none b) = absurd (none p.code p.groups p.counts is)
+image_once image line other (unsound_image p short is bad a) (unsound_image q again other_is worse b) = a ∙ sym b
+
+-- it is one of one program
+program_once : (image : List ℕ) (p q : Program) → IsImage image p.code p.groups p.counts → IsImage image q.code q.groups q.counts → p ≡ q
+program_once image p q one other =
+    let same = images_are_of_one image p.code q.code p.groups q.groups p.counts q.counts one other in
+    λ i. record { code = same.0 i; groups = same.1 i; counts = same.2 i }
+
+-- an image that is accepted is not refused
+held_stands : (image line : List ℕ) (p : Program) → ImageHolds image p → ImageRefused image line → ⊥
+held_stands image line p holds (long_image long e) = let short = holds.short in absurd (omega (arith, long, short))
+held_stands image line p holds (no_image short none e) = none p.code p.groups p.counts holds.image
+held_stands image line p holds (unsound_image q short is bad e) = bad (subst MayRun (program_once image p q holds.image is) holds.may_run)
+
+-- so `load` makes one thing of what it has read
+loads_once : (texts : List (List ℕ)) (v w : Judgement) → Judges Load texts v → Judges Load texts w → v ≡ w
+loads_once texts v w at_first at_first = refl
+loads_once texts v w (first_refused image line r) (first_refused again other s) = ap RefusedWith (image_once image line other r s)
+loads_once texts v w (first_refused image line r) (first_accepted again p more j a on) = absurd (held_stands image line p a r)
+loads_once texts v w (first_accepted image p more j a on) (first_refused again line r) = absurd (held_stands image line p a r)
+loads_once texts v w (first_accepted image p more j a on) (first_accepted again q others k b off) =
+    over_once (names_in q) (word_text q.code q.groups) more j k
+    (subst (λ x. LoadGoesOn x more j) (program_once image p q a.image b.image) on) off
 
 refused_goes_on : (line : List ℕ) → RefusedWith line ≡ ReadsOn → ⊥
 refused_goes_on line e = cc
@@ -244,13 +292,15 @@ judges_once Run texts v w r s = source_judged_once (OverSchedule run_text) (runs
 judges_once Survive texts v w r s = source_judged_once (OverSchedule survivors_text) (runs_once survivors_text) texts v w r s
 judges_once Replay texts v w r s = source_judged_once PlainGoesOn plain_once texts v w r s
 judges_once Check texts v w r s = source_judged_once CheckGoesOn checks_once texts v w r s
-judges_once Compile texts v w r s = source_judged_once CodeGoesOn codes_once texts v w r s
+judges_once ListCode texts v w r s = source_judged_once CodeGoesOn codes_once texts v w r s
 judges_once (Trial n) texts v w r s =
     ends_once (JudgesSource (OverSchedule (summary_text n))) (source_judged_once (OverSchedule (summary_text n)) (runs_once (summary_text n))) []
     (source_of n ∷ made_schedule n ∷ []) v w r.1 s.1
 judges_once Session texts v w r s = source_judged_once SessionGoesOn sessions_once texts v w r s
 judges_once Analyse texts v w r s = history_once texts v w r s
 judges_once Survey texts v w r s = source_judged_once (OverSchedule tree_standing_text) (runs_once tree_standing_text) texts v w r s
+judges_once Compile texts v w r s = source_judged_once CompileGoesOn images_once texts v w r s
+judges_once Load texts v w r s = loads_once texts v w r s
 
 pub are_judged_once : AreJudgedOnce
 are_judged_once command texts v w a b = ends_once (Judges command) (judges_once command) [] texts v w a b

@@ -3,6 +3,7 @@ pub mod Chains
 pub mod Answering
 pub mod Sources
 pub mod Histories
+pub mod Images
 pub mod Judged
 pub mod BothTexts
 pub mod KeptTurns

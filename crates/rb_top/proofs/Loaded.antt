@@ -1,19 +1,21 @@
 -- What an accepted source gives to the machine: its conversations, each with its count of alternates, and a run whose text, survivors and
 -- counts are those of the source's tree.
-use Rattle.std.proofs.Common.{◌≡◌, ℕ, zero, suc, ◌+◌, List, [], ◌∷◌, ◌++◌, length, map, slice_get, Some, refl, sym, ap, ap₂, subst, ◌∙◌}
-use Rattle.std.proofs.lemmas.List.{map-id}
+use Rattle.std.proofs.Common.{◌≡◌, ℕ, zero, suc, ◌+◌, List, [], ◌∷◌, ◌++◌, length, map, slice_get, Some, unwrap_or, refl, sym, ap, ap₂, subst, arith, ◌∙◌}
+use Rattle.std.proofs.lemmas.List.{length-map, map-id}
 use Rattle.std.proofs.lemmas.Simd.{map-map}
 use Rattle.rb_base.specs.declared.names.Group.{Group}
 use Rattle.rb_base.specs.declared.names.Nested.{Nested}
 use Rattle.rb_base.specs.declared.event.Event.{Event}
 use Rattle.rb_base.specs.declared.event.TurnKind.TheVariants.{Took}
+use Rattle.rb_syntax.specs.Tree.{Tree}
 use Rattle.rb_world.specs.Kind.{Membership}
 use Rattle.rb_world.specs.World.{Process, Running}
 use Rattle.rb_world.specs.Turn.{Told, done_at, finished_at, told_at_opening}
 use Rattle.rb_world.specs.Text.{Naming, record_text}
 use Rattle.rb_meaning.specs.Groups.{groups_of}
+use Rattle.rb_meaning.specs.Nesting.{alternates_of}
 use Rattle.rb_meaning.specs.Meaning.{naming_of, opening_world, run_text}
-use Rattle.rb_nest.specs.Groups.{alternates, membership as membership_told}
+use Rattle.rb_nest.specs.Groups.{alternates, membership as membership_told, memberships as told_memberships}
 use Rattle.rb_code.specs.Instructions.Plain.{code}
 use Rattle.rb_code.specs.SoundCode.WellFormed.{IsSound}
 use Rattle.rb_code.specs.Agreement.Laws.{Agrees}
@@ -33,9 +35,10 @@ use Rattle.rb_run.proofs.Survived.{erased_over}
 use Rattle.rb_back.specs.declared.order.Order.{Order}
 use Rattle.rb_back.specs.Shown.{session_text, tree_session_text}
 use Rattle.rb_back.proofs.AsMeant.{session_agrees}
+use Rattle.rb_image.specs.Image.{image_of}
 use Rattle.rb_stuck.specs.Programs.{tree_standing_text, word_standing_text}
 use Rattle.rb_stuck.proofs.AsMeant.{code_stands}
-use Rattle.rb_top.specs.Judgement.{run_counts, survivors_text}
+use Rattle.rb_top.specs.Judgement.{IsCodeFor, counts_from, run_counts, survivors_text}
 use Rattle.rb_top.specs.Products.{text_for, word_counts, word_text_for}
 use Rattle.rb_top.specs.declared.over_schedule.Product.{Product}
 use Rattle.rb_top.specs.declared.over_schedule.Product.TheVariants.{Text, Survivors, Standing}
@@ -46,14 +49,14 @@ opened_group group =
     let members = map-map (λ (member : Member). member.process) outsider group.members.items ∙ map-id group.members.items in
     ap (λ (ms : List ℕ). record { members = ms; parent = group.parent }) members
 
-opened_groups : (groups : List Group) → map membership (map opened groups) ≡ map membership_told groups
+pub opened_groups : (groups : List Group) → map membership (map opened groups) ≡ map membership_told groups
 opened_groups [] = refl
 opened_groups (group ∷ groups) =
     ap (λ (first : Membership). first ∷ map membership (map opened groups)) (opened_group group)
     ∙ ap (λ (rest : List Membership). membership_told group ∷ rest) (opened_groups groups)
 
 -- and as many alternates
-opened_counts : (nested : Nested) → counts_of (opening nested) ≡ alternates nested
+pub opened_counts : (nested : Nested) → counts_of (opening nested) ≡ alternates nested
 opened_counts nested = map-map (λ (one : Conversation). one.alternates) opened nested.conversations.items
 
 -- processes of the same statuses are told alike before the first turn
@@ -66,9 +69,44 @@ same_finished p (q ∷ qs) [] as_many same = absurd (cc)
 same_finished p (q ∷ qs) (r ∷ rs) as_many same =
     ap₂ ◌++◌ (ap (done_at p Running) (same zero q r refl refl)) (same_finished (p + 1) qs rs (cc) (λ i. same (suc i)))
 
+-- numbers of alternates that are those of a tree's conversations
+counted : (tree : Tree) (counts : List ℕ) (groups : List Membership) (d : ℕ) → length counts ≡ length groups
+    → ((i n : ℕ) → slice_get counts i ≡ Some n → alternates_of tree (d + i) ≡ Some n) → counts ≡ counts_from tree d groups
+counted tree [] [] d as_many each = refl
+counted tree [] (group ∷ groups) d as_many each = absurd (omega (arith, as_many))
+counted tree (count ∷ counts) [] d as_many each = absurd (omega (arith, as_many))
+counted tree (count ∷ counts) (group ∷ groups) d as_many each =
+    let here : alternates_of tree d ≡ Some count = subst (λ i. alternates_of tree i ≡ Some count) (omega arith) (each 0 count refl) in
+    ap₂ ◌∷◌ (sym (ap (λ o. unwrap_or o 0) here))
+    (counted tree counts groups (d + 1) (omega (arith, as_many))
+    (λ i n at. subst (λ j. alternates_of tree j ≡ Some n) (omega arith) (each (suc i) n at)))
+
 module _ (source : List ℕ) (prepared : Prepared) (accepted : IsPrepared source prepared) where
   groups_are : memberships (opening prepared.nested) ≡ groups_of accepted.tree
   groups_are = opened_groups prepared.nested.conversations.items ∙ accepted.conversations.groups
+
+  -- its code stands for its tree
+  pub made_for : IsCodeFor accepted.tree (code prepared.code)
+  made_for = record {
+    slots = accepted.slots;
+    resolved = accepted.is_code.resolved;
+    frames = accepted.is_code.frames;
+    stands = accepted.is_code.stands;
+  }
+
+  -- and its image is that of the tree
+  pub image_for : image_of (code prepared.code) (told_memberships prepared.nested) (alternates prepared.nested)
+      ≡ image_of (code prepared.code) (groups_of accepted.tree) (counts_from accepted.tree 0 (groups_of accepted.tree))
+  image_for =
+      ap (λ groups. image_of (code prepared.code) groups (alternates prepared.nested)) accepted.conversations.groups
+      ∙ ap (image_of (code prepared.code) (groups_of accepted.tree))
+      (counted accepted.tree (alternates prepared.nested) (groups_of accepted.tree) 0 as_many
+      (λ i n at. subst (λ (j : ℕ). alternates_of accepted.tree j ≡ Some n) (omega arith) (accepted.conversations.counts i n at)))
+    where
+      as_many : length (alternates prepared.nested) ≡ length (groups_of accepted.tree)
+      as_many =
+          length-map prepared.nested.conversations.items (λ (group : Group). group.alternates)
+          ∙ sym (length-map prepared.nested.conversations.items membership_told) ∙ ap length accepted.conversations.groups
 
   pub is_sound : IsSound (code prepared.code) (memberships (opening prepared.nested)) (counts_of (opening prepared.nested))
   is_sound =

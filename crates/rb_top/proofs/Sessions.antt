@@ -17,7 +17,7 @@ use Rattle.rb_top.specs.Words.{Session, session_of, text_named}
 use Rattle.rb_top.specs.Answers.{WithRequest}
 use Rattle.rb_top.specs.Read.{WasReadIn}
 use Rattle.rb_top.specs.Stages.{EndsForSession, HasSource, HasTurns, StageEnds, WritingStageEnds}
-use Rattle.rb_top.specs.Judgement.{Accepted, Judgement, Judges, ReadsOn, RefusedWith, SessionGoesOn, Writes, bad_schedule, bad_session, long_schedule, long_session, names_of, reads_session, reads_turns, session_refused, shows, source_accepted, text_line, too_long_line, turns_refused}
+use Rattle.rb_top.specs.Judgement.{Accepted, Judgement, Judges, ReadsOn, RefusedWith, SessionGoesOn, Writes, bad_schedule, bad_session, long_schedule, long_session, names_of, reads_session, reads_turns, session_refused, shows, first_accepted, text_line, too_long_line, turns_refused}
 use Rattle.rb_top.specs.declared.status.Status.{Status}
 use Rattle.rb_top.proofs.Answering.{AreStarts, next_written, read_before, reads_text, showing}
 use Rattle.rb_top.proofs.Loaded.{session_as_meant}
@@ -116,11 +116,11 @@ module _ (files : Option (List File)) (source schedule session : List ℕ) (prep
 
   judges_session : (text : List ℕ) (j : Judgement) → SessionGoesOn has.accepted.tree (has.schedule ∷ text ∷ []) j
       → Judges Session (has.source ∷ has.schedule ∷ text ∷ []) j
-  judges_session text j h = source_accepted has.source has.accepted.tree (has.schedule ∷ text ∷ []) j accepted_there h
+  judges_session text j h = first_accepted has.source has.accepted.tree (has.schedule ∷ text ∷ []) j accepted_there h
 
   pub session_wanted : Judges Session (has.source ∷ has.schedule ∷ []) ReadsOn
   session_wanted =
-      source_accepted has.source has.accepted.tree (has.schedule ∷ []) ReadsOn accepted_there (reads_session has.schedule turns has.lists)
+      first_accepted has.source has.accepted.tree (has.schedule ∷ []) ReadsOn accepted_there (reads_session has.schedule turns has.lists)
 
   -- each answer of a stage that judges it by what was read of it
   pub session_answered : (others : Option (List File)) (now : List Start) (bytes : List ℕ) (r0 r1 f0 f1 : Faults)

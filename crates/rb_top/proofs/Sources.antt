@@ -15,7 +15,7 @@ use Rattle.rb_top.specs.declared.over_schedule.Product.TheVariants.{Text, Surviv
 use Rattle.rb_top.specs.declared.status.Status.{Status}
 use Rattle.rb_top.specs.declared.status.Status.TheVariants.{Done, Refused, Usage, ReadFault, WriteFault, Memory}
 use Rattle.rb_top.specs.Judgement.{Judgement, ReadsOn, RefusedWith, Writes, long_source, bad_source, Accepted, long_schedule, bad_schedule, long_record, bad_record, stuck_record}
-use Rattle.rb_top.specs.Judgement.{JudgesSource, at_first, source_refused, source_accepted, OverSchedule, reads_schedule, schedule_refused, runs, PlainGoesOn, reads_record, record_refused, plays, Judges}
+use Rattle.rb_top.specs.Judgement.{JudgesSource, at_first, first_refused, first_accepted, OverSchedule, OverTurns, names_of, reads_schedule, schedule_refused, runs, PlainGoesOn, reads_record, record_refused, plays, Judges}
 use Rattle.rb_top.specs.Answers.{WithRequest}
 use Rattle.rb_top.specs.Read.{WasReadIn}
 use Rattle.rb_top.specs.Stages.{HasReadIn, HasSource, EndsForSchedule, EndsForSource, StageEnds, WritingStageEnds}
@@ -58,15 +58,15 @@ module _ (goes_on : Tree → List (List ℕ) → Judgement → Type 0) where
   -- a refused source refuses its command
   pub source_ends : (source : List ℕ) (j : Judgement) → EndsForSource source j → JudgesSource goes_on (source ∷ []) j
   source_ends source ReadsOn h = absurd h
-  source_ends source (RefusedWith line) refused = source_refused source line refused
+  source_ends source (RefusedWith line) refused = first_refused source line refused
   source_ends source (Writes text) h = absurd h
 
   -- what shows that a source is too long shows it of all of it
   still_long : (bytes text : List ℕ) → MOST_BYTES < length bytes → MOST_BYTES < length text → (j : Judgement)
       → JudgesSource goes_on (bytes ∷ []) j → JudgesSource goes_on (text ∷ []) j
-  still_long bytes text long longer j (source_refused source line (long_source many e)) = source_refused text line (long_source longer e)
-  still_long bytes text long longer j (source_refused source line (bad_source fault short bad e)) = absurd (omega (arith, long, short))
-  still_long bytes text long longer j (source_accepted source tree more judgement accepted on) = absurd (omega (arith, long, accepted.short))
+  still_long bytes text long longer j (first_refused source line (long_source many e)) = first_refused text line (long_source longer e)
+  still_long bytes text long longer j (first_refused source line (bad_source fault short bad e)) = absurd (omega (arith, long, short))
+  still_long bytes text long longer j (first_accepted source tree more judgement accepted on) = absurd (omega (arith, long, accepted.short))
 
   -- each answer of a stage that judges the source by what was read of it
   pub source_judged : (command : Command) → ((texts : List (List ℕ)) (j : Judgement) → JudgesSource goes_on texts j → Judges command texts j) →
@@ -102,7 +102,7 @@ module _ (goes_on : Tree → List (List ℕ) → Judgement → Type 0) (command 
     (source : List ℕ) (tree : Tree) (accepted : Accepted source tree) (reads : goes_on tree [] ReadsOn) where
   -- it is wanted
   pub second_wanted : Judges command (source ∷ []) ReadsOn
-  second_wanted = judges (source ∷ []) ReadsOn (source_accepted source tree [] ReadsOn accepted reads)
+  second_wanted = judges (source ∷ []) ReadsOn (first_accepted source tree [] ReadsOn accepted reads)
 
   module _ (files others : Option (List File)) (name second : List ℕ) (rest : List Wanted) (old mid now : List Start) (bytes : List ℕ)
       (r0 r1 f0 f1 : Faults) (w0 w1 : Option (List ℕ)) (status : Status)
@@ -118,7 +118,7 @@ module _ (goes_on : Tree → List (List ℕ) → Judgement → Type 0) (command 
         (record { files = others; starts = now; read_faults = r1; written = w1; write_faults = f1 }) status
 
     judges_second : (text : List ℕ) (j : Judgement) → goes_on tree (text ∷ []) j → Judges command (source ∷ text ∷ []) j
-    judges_second text j h = judges (source ∷ text ∷ []) j (source_accepted source tree (text ∷ []) j accepted h)
+    judges_second text j h = judges (source ∷ text ∷ []) j (first_accepted source tree (text ∷ []) j accepted h)
 
     -- each answer of a stage that judges it by what was read of it
     pub second_judged : StageEnds (goes_on tree (bytes ∷ [])) w0 w1 f0 f1 status → SecondAnswer
@@ -139,13 +139,13 @@ module _ (goes_on : Tree → List (List ℕ) → Judgement → Type 0) (command 
 -- ---- a schedule
 
 -- what shows that a schedule is too long shows it of all of it
-long_schedules : (text_of : Tree → List ℕ → List ℕ) (tree : Tree) (bytes text : List ℕ) → MOST_BYTES < length bytes → MOST_BYTES < length text →
-    (j : Judgement) → OverSchedule text_of tree (bytes ∷ []) j → OverSchedule text_of tree (text ∷ []) j
-long_schedules text_of tree bytes text long longer j (schedule_refused schedule line (long_schedule many e)) =
+pub long_schedules : (names : List (List ℕ)) (text_of : List ℕ → List ℕ) (bytes text : List ℕ) → MOST_BYTES < length bytes
+    → MOST_BYTES < length text → (j : Judgement) → OverTurns names text_of (bytes ∷ []) j → OverTurns names text_of (text ∷ []) j
+long_schedules names text_of bytes text long longer j (schedule_refused schedule line (long_schedule many e)) =
     schedule_refused text line (long_schedule longer e)
-long_schedules text_of tree bytes text long longer j (schedule_refused schedule line (bad_schedule fault short bad e)) =
+long_schedules names text_of bytes text long longer j (schedule_refused schedule line (bad_schedule fault short bad e)) =
     absurd (omega (arith, long, short))
-long_schedules text_of tree bytes text long longer j (runs schedule written ran) = absurd (omega (arith, long, ran.short))
+long_schedules names text_of bytes text long longer j (runs schedule written ran) = absurd (omega (arith, long, ran.short))
 
 -- what a command over a schedule makes of texts
 pub judges_for : (product : Product) (texts : List (List ℕ)) (j : Judgement)
@@ -175,7 +175,7 @@ module _ (product : Product) (files : Option (List File)) (source schedule : Lis
   schedule_judged others now bytes r0 r1 f0 f1 w0 w1 status was well ends =
       let tree = has.accepted.tree in
       second_judged (OverSchedule (text_for product)) (command_for product) (judges_for product) has.source tree accepted_source reads_schedule
-      files others source schedule [] old mid now bytes r0 r1 f0 f1 w0 w1 status has.read was well (long_schedules (text_for product) tree bytes)
+      files others source schedule [] old mid now bytes r0 r1 f0 f1 w0 w1 status has.read was well (long_schedules (names_of tree) (text_for product tree) bytes)
       (stage_as (EndsForSchedule (text_for product) prepared bytes)
       (OverSchedule (text_for product) tree (bytes ∷ [])) w0 w1 f0 f1 status (λ j h. h has.source has.accepted) ends)
 

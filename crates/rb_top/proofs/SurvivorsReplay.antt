@@ -8,7 +8,7 @@ use Rattle.rb_judge.proofs.Accepted.{of_accepted}
 use Rattle.rb_plain.specs.Record.{record_of}
 use Rattle.rb_sched.proofs.Walk.{turns_known}
 use Rattle.rb_world.proofs.ListFacts.{heads_same, tails_same}
-use Rattle.rb_top.specs.Judgement.{Judgement, Writes, Accepted, names_of, ScheduleRuns, JudgesSource, at_first, source_refused, source_accepted}
+use Rattle.rb_top.specs.Judgement.{Judgement, Writes, Accepted, names_of, ScheduleRuns, JudgesSource, at_first, first_refused, first_accepted}
 use Rattle.rb_top.specs.Judgement.{OverSchedule, reads_schedule, schedule_refused, runs, PlainGoesOn, reads_record, plays, EndsBy, refused_here, written_here, later, survivors_text}
 use Rattle.rb_top.specs.Laws.{SurvivorsReplay, replayed_text}
 use Rattle.rb_top.proofs.BothTexts.{second_writes}
@@ -21,7 +21,7 @@ module _ (text_of : Tree → List ℕ → List ℕ) (source schedule kept : List
   record Wrote : Type 0 where
     tree : Tree
     accepted : Accepted source tree
-    ran : ScheduleRuns text_of tree schedule kept
+    ran : ScheduleRuns (names_of tree) (text_of tree) schedule kept
 
   written_same : (text : List ℕ) → Writes text ≡ Writes kept → text ≡ kept
   written_same text e = cc
@@ -34,15 +34,15 @@ module _ (text_of : Tree → List ℕ → List ℕ) (source schedule kept : List
   over_wrote tree more left j first (runs second text ran) e accepted same = record {
     tree = tree;
     accepted = subst (λ (s : List ℕ). Accepted s tree) (heads_same same) accepted;
-    ran = subst (λ (s : List ℕ). ScheduleRuns text_of tree s kept) (heads_same (tails_same same))
-        (subst (ScheduleRuns text_of tree second) (written_same text e) ran);
+    ran = subst (λ (s : List ℕ). ScheduleRuns (names_of tree) (text_of tree) s kept) (heads_same (tails_same same))
+        (subst (ScheduleRuns (names_of tree) (text_of tree) second) (written_same text e) ran);
   }
 
   source_wrote : (read left : List (List ℕ)) (j : Judgement) → JudgesSource (OverSchedule text_of) read j → j ≡ Writes kept
       → read ++ left ≡ source ∷ schedule ∷ [] → Wrote
   source_wrote read left j at_first e same = absurd (cc)
-  source_wrote read left j (source_refused first line refused) e same = absurd (cc)
-  source_wrote read left j (source_accepted first tree more judgement accepted on) e same =
+  source_wrote read left j (first_refused first line refused) e same = absurd (cc)
+  source_wrote read left j (first_accepted first tree more judgement accepted on) e same =
       over_wrote tree more left judgement first on e accepted same
 
   wrote : (read left : List (List ℕ)) (j : Judgement) → EndsBy (JudgesSource (OverSchedule text_of)) read left j

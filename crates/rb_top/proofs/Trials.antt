@@ -10,7 +10,7 @@ use Rattle.rb_top.specs.Words.{Trial}
 use Rattle.rb_top.specs.Judgement.{Judgement, ReadsOn, RefusedWith, Writes, Accepted, Judges, OverSchedule, reads_schedule, schedule_refused, runs, summary_text}
 use Rattle.rb_top.specs.Stages.{EndsForSchedule, EndsForSource, StageEnds}
 use Rattle.rb_top.specs.declared.status.Status.{Status}
-use Rattle.rb_top.proofs.BothTexts.{BothEnd, first_refused, second_refused, second_writes}
+use Rattle.rb_top.proofs.BothTexts.{BothEnd, refused_at_first, second_refused, second_writes}
 use Rattle.rb_top.proofs.Sources.{stage_as}
 
 -- with its schedule, a command reads no more
@@ -25,7 +25,7 @@ module _ (text_of : Tree → List ℕ → List ℕ) (source schedule : List ℕ)
   -- a refused source ends both
   ends_for_source : (j : Judgement) → EndsForSource source j → BothEnd (OverSchedule text_of) source schedule j
   ends_for_source ReadsOn h = absurd h
-  ends_for_source (RefusedWith line) refused = first_refused (OverSchedule text_of) source schedule line refused
+  ends_for_source (RefusedWith line) refused = refused_at_first (OverSchedule text_of) source schedule line refused
   ends_for_source (Writes text) h = absurd h
 
   -- and so does what the schedule of an accepted one comes to

@@ -1,5 +1,5 @@
 -- The request that the code gives, as contracts speak of it.
-use Rattle.rb_top.specs.Words.{Request, run_of, survive_of, plain_of, check_of, code_of, trial_of, session_of, analyse_of, survey_of}
+use Rattle.rb_top.specs.Words.{Request, run_of, survive_of, plain_of, check_of, code_of, trial_of, session_of, analyse_of, survey_of, compile_of, load_of}
 use Rattle.rb_top.specs.declared.request.Request.{Request as Given}
 use Rattle.rb_top.specs.declared.request.Request.TheVariants as given
 
@@ -14,3 +14,5 @@ asked (given.Trial number) = trial_of number
 asked (given.Session source schedule session) = session_of source.now schedule.now session.now
 asked (given.Domino history) = analyse_of history.now
 asked (given.Stuck source schedule) = survey_of source.now schedule.now
+asked (given.Compile source) = compile_of source.now
+asked (given.Load image schedule) = load_of image.now schedule.now

@@ -2,7 +2,7 @@
 use Rattle.std.specs.Prelude.{ℕ, nat_eq, true, false, cond, List, [], ◌∷◌, map, codes, Option, None, option_and_then, option_map}
 use Rattle.std.specs.Cmp.Lexicographic.{pointwise}
 use Rattle.clap.specs.Words.{App, Rule, Shape, new_app, new_rule}
-use Rattle.rb_top.specs.Words.{Request, run_of, survive_of, plain_of, check_of, code_of, trial_number, trial_of, session_of, analyse_of, survey_of}
+use Rattle.rb_top.specs.Words.{Request, run_of, survive_of, plain_of, check_of, code_of, trial_number, trial_of, session_of, analyse_of, survey_of, compile_of, load_of}
 
 -- an argument that has to be given, by its place
 abbrev pub required_word : List ℕ → Rule
@@ -35,7 +35,9 @@ commands =
     ∷ command_with (codes "trial") (codes "NUMBER" ∷ [])
     ∷ command_with (codes "session") (codes "SOURCE" ∷ codes "SCHEDULE" ∷ codes "SESSION" ∷ [])
     ∷ command_with (codes "domino") (codes "HISTORY" ∷ [])
-    ∷ command_with (codes "stuck") (codes "SOURCE" ∷ codes "SCHEDULE" ∷ []) ∷ []
+    ∷ command_with (codes "stuck") (codes "SOURCE" ∷ codes "SCHEDULE" ∷ [])
+    ∷ command_with (codes "compile") (codes "SOURCE" ∷ [])
+    ∷ command_with (codes "load") (codes "IMAGE" ∷ codes "SCHEDULE" ∷ []) ∷ []
 
 -- the program with its commands
 abbrev pub program : App
@@ -64,4 +66,6 @@ request_given name given =
     (cond (pointwise nat_eq name (codes "trial")) (trial_given (given (codes "NUMBER")))
     (cond (pointwise nat_eq name (codes "session")) (three_given session_of (given (codes "SOURCE")) (given (codes "SCHEDULE")) (given (codes "SESSION")))
     (cond (pointwise nat_eq name (codes "domino")) (option_map analyse_of (given (codes "HISTORY")))
-    (cond (pointwise nat_eq name (codes "stuck")) (two_given survey_of (given (codes "SOURCE")) (given (codes "SCHEDULE"))) None))))))))
+    (cond (pointwise nat_eq name (codes "stuck")) (two_given survey_of (given (codes "SOURCE")) (given (codes "SCHEDULE")))
+    (cond (pointwise nat_eq name (codes "compile")) (option_map compile_of (given (codes "SOURCE")))
+    (cond (pointwise nat_eq name (codes "load")) (two_given load_of (given (codes "IMAGE")) (given (codes "SCHEDULE"))) None))))))))))

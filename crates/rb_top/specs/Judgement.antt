@@ -1,12 +1,16 @@
 -- What a command makes of the texts that it has read: its one text, a refusal's line, or the wish for its next file.
-use Rattle.std.specs.Prelude.{◌≡◌, ℕ, ◌<◌, ◌≤◌, List, [], ◌∷◌, ◌++◌, length, map, codes, decimal, Ok, Err}
+use Rattle.std.specs.Prelude.{◌≡◌, ℕ, ◌+◌, ◌<◌, ◌≤◌, List, [], ◌∷◌, ◌++◌, length, map, codes, decimal, unwrap_or, Ok, Err}
+use Rattle.std.specs.List.{AllByRecursion, AllZip}
 use Rattle.rb_base.specs.declared.fault.SourceFault.{SourceFault}
 use Rattle.rb_base.specs.declared.fault.TextFault.{TextFault}
 use Rattle.rb_base.specs.Words.{fault_word}
 use Rattle.rb_syntax.specs.Tree.{Tree}
 use Rattle.rb_base.specs.declared.kept.Kept.{Kept}
-use Rattle.rb_world.specs.Text.{line_of, record_text}
+use Rattle.rb_world.specs.Kind.{Membership}
+use Rattle.rb_world.specs.Text.{ProcessNaming, VariableNaming, line_of, record_text, size_of}
 use Rattle.rb_world.specs.Turn.{told_at_opening}
+use Rattle.rb_meaning.specs.Groups.{groups_of}
+use Rattle.rb_meaning.specs.Nesting.{alternates_of}
 use Rattle.rb_meaning.specs.Meaning.{naming_of, opening_world, run_of, run_text, survivors}
 use Rattle.rb_meaning.specs.PlainRun.{plain_text}
 use Rattle.rb_base.specs.declared.limits.TheConstants.{MOST_BYTES}
@@ -14,9 +18,13 @@ use Rattle.rb_judge.specs.Verdict.{IsAccepted, IsRefusedFor}
 use Rattle.rb_scope.specs.InFrames.{Resolved}
 use Rattle.rb_scope.specs.Resolved.{IsResolved}
 use Rattle.rb_scope.specs.declared.slot.Slot.{Slot}
-use Rattle.rb_code.specs.Instructions.Plain.{Code}
+use Rattle.rb_code.specs.Instructions.Plain.{Code, Part}
 use Rattle.rb_code.specs.Instructions.Listing.{listing_text}
 use Rattle.rb_code.specs.Agreement.StandsFor.{StandsFor}
+use Rattle.rb_code.specs.SoundCode.WellFormed.{IsSound}
+use Rattle.rb_code.specs.WordMachine.WordRun.{word_text}
+use Rattle.rb_image.specs.Image.{image_of}
+use Rattle.rb_image.specs.Laws.{IsImage, IsNoImage}
 use Rattle.rb_sched.specs.Schedule.{schedule_of}
 use Rattle.rb_plain.specs.Record.{record_of}
 use Rattle.rb_make.specs.Trial.{processes_of, schedule_of as made_schedule, source_of}
@@ -28,7 +36,8 @@ use Rattle.rb_stuck.specs.Programs.{tree_standing_text}
 use Rattle.rb_back.specs.declared.order.Order.{Order}
 use Rattle.rb_back.specs.Script.{script_of}
 use Rattle.rb_back.specs.Shown.{tree_session_text}
-use Rattle.rb_top.specs.Words.{Command, Run, Survive, Replay, Check, Compile, Trial, Session, Analyse, Survey}
+use Rattle.rb_top.specs.declared.image.TheConstants.{MOST_IMAGE}
+use Rattle.rb_top.specs.Words.{Command, Run, Survive, Replay, Check, ListCode, Trial, Session, Analyse, Survey, Compile, Load}
 
 -- the line for a text that is too long
 abbrev pub too_long_line : List ℕ
@@ -50,7 +59,7 @@ stuck_line turn = codes "refused V4 at " ++ (decimal turn ++ codes "\n")
 
 -- the line for words that give no command
 abbrev pub usage_line : List ℕ
-usage_line = codes "usage: rbl run SOURCE SCHEDULE | survive SOURCE SCHEDULE | plain SOURCE RECORD | check SOURCE | code SOURCE | trial NUMBER | session SOURCE SCHEDULE SESSION | domino HISTORY | stuck SOURCE SCHEDULE\n"
+usage_line = codes "usage: rbl run SOURCE SCHEDULE | survive SOURCE SCHEDULE | plain SOURCE RECORD | check SOURCE | code SOURCE | trial NUMBER | session SOURCE SCHEDULE SESSION | domino HISTORY | stuck SOURCE SCHEDULE | compile SOURCE | load IMAGE SCHEDULE\n"
 
 -- the line for a source that is accepted
 abbrev pub accepted_line : List ℕ
@@ -70,18 +79,18 @@ pub record Accepted (source : List ℕ) (tree : Tree) : Type 0 where
 abbrev pub names_of : Tree → List (List ℕ)
 names_of tree = map (λ process. process.name.text) tree.processes
 
--- The verdict on a schedule for an accepted source.
-pub data ScheduleRefused (tree : Tree) (text : List ℕ) (line : List ℕ) : Type 0 where
-  long_schedule : MOST_BYTES < length text → line ≡ too_long_line → ScheduleRefused tree text line
-  bad_schedule : (fault : TextFault) → length text ≤ MOST_BYTES → schedule_of (names_of tree) text ≡ Err fault
-      → line ≡ text_line fault → ScheduleRefused tree text line
+-- The verdict on a schedule for processes of these names.
+pub data ScheduleRefused (names : List (List ℕ)) (text : List ℕ) (line : List ℕ) : Type 0 where
+  long_schedule : MOST_BYTES < length text → line ≡ too_long_line → ScheduleRefused names text line
+  bad_schedule : (fault : TextFault) → length text ≤ MOST_BYTES → schedule_of names text ≡ Err fault
+      → line ≡ text_line fault → ScheduleRefused names text line
 
--- The schedule of an accepted source is accepted, and this is the text of the source's tree over its turns.
-pub record ScheduleRuns (text_of : Tree → List ℕ → List ℕ) (tree : Tree) (schedule text : List ℕ) : Type 0 where
+-- The schedule is accepted, and this is the text of its turns.
+pub record ScheduleRuns (names : List (List ℕ)) (text_of : List ℕ → List ℕ) (schedule text : List ℕ) : Type 0 where
   pub turns : List ℕ
   pub short : length schedule ≤ MOST_BYTES
-  pub listed : schedule_of (names_of tree) schedule ≡ Ok turns
-  pub is : text ≡ text_of tree turns
+  pub listed : schedule_of names schedule ≡ Ok turns
+  pub is : text ≡ text_of turns
 
 -- the survivors of a run, as a record
 abbrev pub survivors_text : Tree → List ℕ → List ℕ
@@ -132,21 +141,28 @@ pub data Judgement : Type 0 where
   RefusedWith : (line : List ℕ) → Judgement
   Writes : (text : List ℕ) → Judgement
 
--- A command that looks at a source first: it reads it, and where the source is refused, so is the command; what it makes of an
--- accepted source and of the texts after it is its own.
-pub data JudgesSource (goes_on : Tree → List (List ℕ) → Judgement → Type 0) : List (List ℕ) → Judgement → Type 0 where
-  at_first : JudgesSource goes_on [] ReadsOn
-  source_refused : (source line : List ℕ) → SourceRefused source line → JudgesSource goes_on (source ∷ []) (RefusedWith line)
-  source_accepted : (source : List ℕ) (tree : Tree) (more : List (List ℕ)) (judgement : Judgement) → Accepted source tree
-      → goes_on tree more judgement →
-      JudgesSource goes_on (source ∷ more) judgement
+-- A command that looks at one file first: it reads it, and where that file is refused, so is the command; what it makes of what an
+-- accepted one holds, and of the texts after it, is its own.
+pub data JudgesFirst {X : Type 0} (Refused : List ℕ → List ℕ → Type 0) (Holds : List ℕ → X → Type 0)
+    (goes_on : X → List (List ℕ) → Judgement → Type 0) : List (List ℕ) → Judgement → Type 0 where
+  at_first : JudgesFirst Refused Holds goes_on [] ReadsOn
+  first_refused : (first line : List ℕ) → Refused first line → JudgesFirst Refused Holds goes_on (first ∷ []) (RefusedWith line)
+  first_accepted : (first : List ℕ) (held : X) (more : List (List ℕ)) (judgement : Judgement) → Holds first held
+      → goes_on held more judgement → JudgesFirst Refused Holds goes_on (first ∷ more) judgement
 
--- A command over a schedule, with an accepted source: the schedule is read, and then it is refused, or the command has its text of the
--- source and the turns.
-pub data OverSchedule (text_of : Tree → List ℕ → List ℕ) (tree : Tree) : List (List ℕ) → Judgement → Type 0 where
-  reads_schedule : OverSchedule text_of tree [] ReadsOn
-  schedule_refused : (schedule line : List ℕ) → ScheduleRefused tree schedule line → OverSchedule text_of tree (schedule ∷ []) (RefusedWith line)
-  runs : (schedule text : List ℕ) → ScheduleRuns text_of tree schedule text → OverSchedule text_of tree (schedule ∷ []) (Writes text)
+-- one that looks at a source first
+abbrev pub JudgesSource : (Tree → List (List ℕ) → Judgement → Type 0) → List (List ℕ) → Judgement → Type 0
+JudgesSource goes_on = JudgesFirst SourceRefused Accepted goes_on
+
+-- A command over a schedule for processes of these names: it is read, and then it is refused, or the command has its text of the turns.
+pub data OverTurns (names : List (List ℕ)) (text_of : List ℕ → List ℕ) : List (List ℕ) → Judgement → Type 0 where
+  reads_schedule : OverTurns names text_of [] ReadsOn
+  schedule_refused : (schedule line : List ℕ) → ScheduleRefused names schedule line → OverTurns names text_of (schedule ∷ []) (RefusedWith line)
+  runs : (schedule text : List ℕ) → ScheduleRuns names text_of schedule text → OverTurns names text_of (schedule ∷ []) (Writes text)
+
+-- the same with the tree of an accepted source
+abbrev pub OverSchedule : (Tree → List ℕ → List ℕ) → Tree → List (List ℕ) → Judgement → Type 0
+OverSchedule text_of tree = OverTurns (names_of tree) (text_of tree)
 
 -- `plain`, with an accepted source: the record is read, and then it is refused, or its plain run has a text
 pub data PlainGoesOn (tree : Tree) : List (List ℕ) → Judgement → Type 0 where
@@ -175,7 +191,7 @@ pub record SessionShows (tree : Tree) (turns session text : List ℕ) : Type 0 w
 -- `session`, with an accepted source: the schedule is read, and then it is refused, or the session is read, and is refused, or shows its text
 pub data SessionGoesOn (tree : Tree) : List (List ℕ) → Judgement → Type 0 where
   reads_turns : SessionGoesOn tree [] ReadsOn
-  turns_refused : (schedule line : List ℕ) → ScheduleRefused tree schedule line → SessionGoesOn tree (schedule ∷ []) (RefusedWith line)
+  turns_refused : (schedule line : List ℕ) → ScheduleRefused (names_of tree) schedule line → SessionGoesOn tree (schedule ∷ []) (RefusedWith line)
   reads_session : (schedule turns : List ℕ) → ListsTurns tree schedule turns → SessionGoesOn tree (schedule ∷ []) ReadsOn
   session_refused : (schedule turns session line : List ℕ) → ListsTurns tree schedule turns → SessionRefused tree turns session line
       → SessionGoesOn tree (schedule ∷ session ∷ []) (RefusedWith line)
@@ -186,18 +202,81 @@ pub data SessionGoesOn (tree : Tree) : List (List ℕ) → Judgement → Type 0 
 pub data CheckGoesOn (tree : Tree) : List (List ℕ) → Judgement → Type 0 where
   accepts : (text : List ℕ) → text ≡ accepted_line → CheckGoesOn tree [] (Writes text)
 
--- the text lists the code that stands for a tree
-pub record ListsCodeOf (tree : Tree) (text : List ℕ) : Type 0 where
+-- the code stands for a tree, of which each name that is used has its slot
+pub record IsCodeFor (tree : Tree) (code : Code) : Type 0 where
   pub slots : List Slot
-  pub listed : Code
   pub resolved : IsResolved tree slots
   pub frames : Resolved tree slots
-  pub stands : StandsFor tree slots listed
+  pub stands : StandsFor tree slots code
+
+-- the text lists the code that stands for a tree
+pub record ListsCodeOf (tree : Tree) (text : List ℕ) : Type 0 where
+  pub listed : Code
+  pub made : IsCodeFor tree listed
   pub is : text ≡ listing_text listed
 
 -- `code`, with an accepted source: it lists its code
 pub data CodeGoesOn (tree : Tree) : List (List ℕ) → Judgement → Type 0 where
   lists : (text : List ℕ) → ListsCodeOf tree text → CodeGoesOn tree [] (Writes text)
+
+-- how many alternates these conversations have, the first of which has this number, and none where nobody joins one
+abbrev pub counts_from : Tree → ℕ → List Membership → List ℕ
+counts_from tree d [] = []
+counts_from tree d (group ∷ groups) = unwrap_or (alternates_of tree d) 0 ∷ counts_from tree (d + 1) groups
+
+-- the text is the image of the code that stands for a tree, and of the tree's conversations with their numbers of alternates
+pub record IsImageOf (tree : Tree) (text : List ℕ) : Type 0 where
+  pub compiled : Code
+  pub made : IsCodeFor tree compiled
+  pub is : text ≡ image_of compiled (groups_of tree) (counts_from tree 0 (groups_of tree))
+
+-- `compile`, with an accepted source: it writes its image
+pub data CompileGoesOn (tree : Tree) : List (List ℕ) → Judgement → Type 0 where
+  compiles : (text : List ℕ) → IsImageOf tree text → CompileGoesOn tree [] (Writes text)
+
+-- what an image holds: a code, its conversations, and how many alternates each of these has
+pub record Program : Type 0 where
+  pub code : Code
+  pub groups : List Membership
+  pub counts : List ℕ
+
+-- the variables that are printed of a process lie within its words
+abbrev pub VariablesLie : ProcessNaming → Part → Type 0
+VariablesLie naming part =
+    AllByRecursion (λ (variable : VariableNaming). variable.at + size_of variable.size ≤ part.words) naming.variables
+
+-- A program may be run: it is sound, and what is printed of each process lies within its words.
+pub record MayRun (program : Program) : Type 0 where
+  pub sound : IsSound program.code program.groups program.counts
+  pub lie : AllZip VariablesLie program.code.names.processes program.code.processes
+
+-- the line for bytes that are no image, and the one for an image of what may not be run
+abbrev pub no_image_line : List ℕ
+no_image_line = codes "refused I1\n"
+
+abbrev pub unsound_line : List ℕ
+unsound_line = codes "refused I2\n"
+
+-- The verdict on an image alone: too long, the image of nothing, or that of a program which may not be run.
+pub data ImageRefused (bytes line : List ℕ) : Type 0 where
+  long_image : MOST_IMAGE < length bytes → line ≡ too_long_line → ImageRefused bytes line
+  no_image : length bytes ≤ MOST_IMAGE → IsNoImage bytes → line ≡ no_image_line → ImageRefused bytes line
+  unsound_image : (program : Program) → length bytes ≤ MOST_IMAGE → IsImage bytes program.code program.groups program.counts
+      → (MayRun program → ⊥) → line ≡ unsound_line → ImageRefused bytes line
+
+-- an image that is accepted, with its program
+pub record ImageHolds (bytes : List ℕ) (program : Program) : Type 0 where
+  pub short : length bytes ≤ MOST_IMAGE
+  pub image : IsImage bytes program.code program.groups program.counts
+  pub may_run : MayRun program
+
+-- the names that a schedule for a program may give: those of its processes, in their order
+abbrev pub names_in : Program → List (List ℕ)
+names_in program = map (λ process. process.name) program.code.names.processes
+
+-- `load`, with an accepted image: the schedule is read, and then it is refused, or the word machine's run has a text
+abbrev pub LoadGoesOn : Program → List (List ℕ) → Judgement → Type 0
+LoadGoesOn program = OverTurns (names_in program) (word_text program.code program.groups)
 
 -- The verdict on a history: too long, or its first fault.
 pub data HistoryRefused (text line : List ℕ) : Type 0 where
@@ -230,12 +309,14 @@ Judges Run texts judgement = JudgesSource (OverSchedule run_text) texts judgemen
 Judges Survive texts judgement = JudgesSource (OverSchedule survivors_text) texts judgement
 Judges Replay texts judgement = JudgesSource PlainGoesOn texts judgement
 Judges Check texts judgement = JudgesSource CheckGoesOn texts judgement
-Judges Compile texts judgement = JudgesSource CodeGoesOn texts judgement
+Judges ListCode texts judgement = JudgesSource CodeGoesOn texts judgement
 Judges (Trial n) texts judgement =
     (texts ≡ []) × EndsBy (JudgesSource (OverSchedule (summary_text n))) [] (source_of n ∷ made_schedule n ∷ []) judgement
 Judges Session texts judgement = JudgesSource SessionGoesOn texts judgement
 Judges Analyse texts judgement = JudgesHistory texts judgement
 Judges Survey texts judgement = JudgesSource (OverSchedule tree_standing_text) texts judgement
+Judges Compile texts judgement = JudgesSource CompileGoesOn texts judgement
+Judges Load texts judgement = JudgesFirst ImageRefused ImageHolds LoadGoesOn texts judgement
 
 -- the judgement with which a command ends
 abbrev pub EndsWith : Command → List (List ℕ) → List (List ℕ) → Judgement → Type 0

@@ -7,16 +7,23 @@ use Rattle.rb_world.specs.Text.{outs_text, values_text}
 use Rattle.rb_meaning.specs.Laws.{IsAlwaysErased}
 use Rattle.rb_meaning.specs.Meaning.{final_of, naming_of, run_of, run_text}
 use Rattle.rb_sched.specs.Schedule.{schedule_of}
-use Rattle.rb_top.specs.Words.{Command, Run, Survive, Replay, files_of}
+use Rattle.rb_top.specs.Words.{Command, Load, Run, Survive, Replay, files_of}
 use Rattle.rb_top.specs.Judgement.{Judgement, Writes, Accepted, EndsWith, names_of}
 
 -- a command ends in one way at most with the texts of its files
 abbrev pub AreJudgedOnce : Type 0
 AreJudgedOnce = (command : Command) (texts : List (List ℕ)) (v w : Judgement) → EndsWith command [] texts v → EndsWith command [] texts w → v ≡ w
 
+-- Whether code is sound is told by a search for which memory may be wanting, so that of `load` it is only said that texts are not without
+-- a verdict.
+abbrev pub IsTold : Command → Type 0 → Type 0
+IsTold Load Verdict = (Verdict → ⊥) → ⊥
+IsTold command Verdict = Verdict
+
 -- a command ends in some way with the texts of its files
 abbrev pub AreJudged : Type 0
-AreJudged = (command : Command) (texts : List (List ℕ)) → length texts ≡ files_of command → (v : Judgement) × EndsWith command [] texts v
+AreJudged =
+    (command : Command) (texts : List (List ℕ)) → length texts ≡ files_of command → IsTold command ((v : Judgement) × EndsWith command [] texts v)
 
 -- the `out` lines of a run, in their order, and the values in which it ends
 abbrev pub replayed_text : Tree → List ℕ → List ℕ

@@ -5,13 +5,18 @@ use Rattle.rb_outside.specs.Outside.{File, Faults, Start, WrotePart, failed_once
 use Rattle.rb_syntax.specs.Tree.{Tree}
 use Rattle.rb_prepare.specs.Prepared.{IsPrepared}
 use Rattle.rb_prepare.specs.declared.preparing.Prepared.{Prepared}
+use Rattle.rb_nest.specs.Groups.{alternates, memberships}
+use Rattle.rb_code.specs.Instructions.Plain.{code as plain}
+use Rattle.rb_image.specs.declared.raw.Raw.{Raw}
 use Rattle.rb_back.specs.declared.showing.Stopped.{Stopped}
 use Rattle.rb_back.specs.declared.showing.Stopped.TheVariants as stopped
-use Rattle.rb_top.specs.Judgement.{Judgement, ListsTurns, ReadsOn, OverSchedule, RefusedWith, SessionGoesOn, Writes, SourceRefused}
+use Rattle.rb_top.specs.Judgement.{ImageHolds, ImageRefused, Judgement, ListsTurns, MayRun, ReadsOn, OverSchedule, RefusedWith, Program, SessionGoesOn, Writes, SourceRefused}
 use Rattle.rb_top.specs.Words.{Wanted, Request}
 use Rattle.rb_top.specs.Answers.{HasRead, HasReadUntold}
 use Rattle.rb_run.specs.declared.surviving.Ended.{Ended}
 use Rattle.rb_run.specs.declared.surviving.Ended.TheVariants as ended
+use Rattle.rb_top.specs.declared.image.Unfit.{Unfit}
+use Rattle.rb_top.specs.declared.image.Unfit.TheVariants as unfit
 use Rattle.rb_top.specs.declared.read.Unread.{Unread}
 use Rattle.rb_top.specs.declared.read.Unread.TheVariants as unread
 use Rattle.rb_top.specs.declared.status.Status.{Status}
@@ -51,6 +56,28 @@ abbrev pub EndsForSource : List ℕ → Judgement → Type 0
 EndsForSource source ReadsOn = ⊥
 EndsForSource source (RefusedWith line) = SourceRefused source line
 EndsForSource source (Writes text) = ⊥
+
+-- the program of a code and its conversations in memory
+abbrev pub program_of : Raw → Program
+program_of raw = record { code = plain raw.code; groups = memberships raw.nested; counts = alternates raw.nested }
+
+-- what is known of a program that is not run: it may not be run, or memory was wanting
+abbrev pub IsUnfit : Program → Unfit → Type 0
+IsUnfit program unfit.Unsound = MayRun program → ⊥
+IsUnfit program unfit.Memory = Unit {0}
+
+-- The command has read an image, which holds this program; these files are left.
+pub record HasImage (files : Option (List File)) (request : Request) (program : Program) (rest : List Wanted) (old now : List Start)
+    : Type 0 where
+  pub image : List ℕ
+  pub holds : ImageHolds image program
+  pub read : HasReadIn files request (image ∷ []) rest old now
+
+-- what a refused image comes to
+abbrev pub EndsForImage : List ℕ → Judgement → Type 0
+EndsForImage image ReadsOn = ⊥
+EndsForImage image (RefusedWith line) = ImageRefused image line
+EndsForImage image (Writes text) = ⊥
 
 -- what a schedule comes to under a command with such a text, for whatever source this code was made of
 abbrev pub EndsForSchedule : (Tree → List ℕ → List ℕ) → Prepared → List ℕ → Judgement → Type 0

@@ -4,6 +4,7 @@ use Rattle.std.specs.List.{list_all}
 use Rattle.std.specs.Cmp.Lexicographic.{pointwise}
 use Rattle.rb_base.specs.Bytes.{digits_value, is_number}
 use Rattle.rb_base.specs.declared.limits.TheConstants.{MOST_BYTES}
+use Rattle.rb_top.specs.declared.image.TheConstants.{MOST_IMAGE}
 
 -- a command, with what its words give it beside files
 pub data Command : Type 0 where
@@ -11,11 +12,13 @@ pub data Command : Type 0 where
   Survive : Command
   Replay : Command
   Check : Command
-  Compile : Command
+  ListCode : Command
   Trial : (number : ℕ) → Command
   Session : Command
   Analyse : Command
   Survey : Command
+  Compile : Command
+  Load : Command
 
 -- a file that a command reads: its name, and how many bytes it may have at most
 pub record Wanted : Type 0 where
@@ -33,11 +36,13 @@ files_of Run = 2
 files_of Survive = 2
 files_of Replay = 2
 files_of Check = 1
-files_of Compile = 1
+files_of ListCode = 1
 files_of (Trial number) = 0
 files_of Session = 3
 files_of Analyse = 1
 files_of Survey = 2
+files_of Compile = 1
+files_of Load = 2
 
 -- a word that may follow a command's name: not empty, and without `-` at its front
 abbrev pub is_plain_word : List ℕ → Bool
@@ -47,6 +52,10 @@ is_plain_word (b ∷ bs) = not (nat_eq b 45)
 -- a file that holds a text
 abbrev pub text_named : List ℕ → Wanted
 text_named name = record { name = name; most = MOST_BYTES }
+
+-- and one that holds a compiled image
+abbrev pub image_named : List ℕ → Wanted
+image_named name = record { name = name; most = MOST_IMAGE }
 
 -- a run of the source under one name over the schedule under another
 abbrev pub run_of : List ℕ → List ℕ → Request
@@ -66,7 +75,7 @@ check_of source = record { command = Check; files = text_named source ∷ [] }
 
 -- the code of the source under a name
 abbrev pub code_of : List ℕ → Request
-code_of source = record { command = Compile; files = text_named source ∷ [] }
+code_of source = record { command = ListCode; files = text_named source ∷ [] }
 
 -- the trial of this number, which reads no file
 abbrev pub trial_of : ℕ → Request
@@ -86,6 +95,14 @@ analyse_of history = record { command = Analyse; files = text_named history ∷ 
 -- how that run stands at its end
 abbrev pub survey_of : List ℕ → List ℕ → Request
 survey_of source schedule = record { command = Survey; files = text_named source ∷ text_named schedule ∷ [] }
+
+-- the image of the source under a name
+abbrev pub compile_of : List ℕ → Request
+compile_of source = record { command = Compile; files = text_named source ∷ [] }
+
+-- the run of the image under one name over the schedule under another
+abbrev pub load_of : List ℕ → List ℕ → Request
+load_of image schedule = record { command = Load; files = image_named image ∷ text_named schedule ∷ [] }
 
 -- at most so many digits give the number of a trial
 abbrev pub most_digits : ℕ
@@ -139,7 +156,9 @@ forms =
     ∷ record { name = codes "trial"; with = trial_with }
     ∷ record { name = codes "session"; with = with_three session_of }
     ∷ record { name = codes "domino"; with = with_one analyse_of }
-    ∷ record { name = codes "stuck"; with = with_two survey_of } ∷ []
+    ∷ record { name = codes "stuck"; with = with_two survey_of }
+    ∷ record { name = codes "compile"; with = with_one compile_of }
+    ∷ record { name = codes "load"; with = with_two load_of } ∷ []
 
 -- what the first of these commands that has this name asks for with these words
 abbrev pub named_in : List Form → List ℕ → List (List ℕ) → Option Request

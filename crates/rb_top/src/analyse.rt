@@ -1,5 +1,5 @@
 //! The command `domino`.
-ghost use Rattle.std.specs.Prelude.{◌≡◌, ◌≤◌, [], ◌∷◌, length};
+ghost use Rattle.std.specs.Prelude.{◌≡◌, ◌<◌, ◌≤◌, [], ◌∷◌, length};
 ghost use Rattle.rb_base.specs.declared.limits.TheConstants.{MOST_BYTES};
 ghost use Rattle.rb_domino.specs.History.{history_of};
 ghost use Rattle.rb_domino.specs.Reading.{IsRefusedFor};
@@ -13,10 +13,12 @@ ghost use Rattle.rb_top.specs.Stages.{StageEnds};
 use crate::read::read_file;
 use crate::refuse::{refuse_long, refuse_text};
 use crate::status::{Status, status_after};
-use rb_base::MOST_BYTES;
+use rb_base::{MOST_BYTES, Steps};
 use rb_domino::{History, HistoryRefusal, analyse, write_analysis};
 use rb_outside::{Shelf, Sink};
 use std::alloc::Global;
+use std::marker::Brand;
+use std::sync::ledger::{Blank, Ledger};
 
 /// Reads a history, and writes what its failure leaves.
 pub fn analyse_file<F: Shelf, S: Sink>(
@@ -44,7 +46,7 @@ fn analyse_text<S: Sink>(alloc: Global, bytes: &[u8], out: &mut S) -> Status
         return status_after(refuse_long(out), Status::Refused);
     }
     match History::read(alloc, bytes) {
-        Ok(history) => tell_outcome(alloc, &history, out),
+        Ok(history) => tell_outcome::<S, Brand>(alloc, &history, out, Blank::new(1)),
         Err(refusal) => refused_history(bytes, refusal, out),
     }
 }
@@ -62,12 +64,21 @@ fn refused_history<S: Sink>(bytes: &[u8], refusal: HistoryRefusal, out: &mut S) 
     }
 }
 
-// The text is a history.
-fn tell_outcome<S: Sink>(alloc: Global, history: &History, out: &mut S) -> Status
+// The text is a history. The ledger counts steps, which contracts alone see.
+fn tell_outcome<S: Sink, L: Ledger>(
+    alloc: Global,
+    history: &History,
+    out: &mut S,
+    blank: Blank,
+) -> Status
+    requires name { blank.name ≡ L.name }
+    requires parts { blank.parts ≡ L.parts }
+    requires backed { 0 < blank.parts }
     ensures { StageEnds (λ judgement. judgement ≡ Writes (outcome_text history.now (outcome_of history.now)))
         (S.written out.old) (S.written out.new) (S.faults out.old) (S.faults out.new) result }
 {
-    match analyse(alloc, history) {
+    let mut steps = Steps::<L>::start(blank);
+    match analyse(alloc, history, &mut steps) {
         Ok(analysis) => status_after(write_analysis(history, &analysis, out), Status::Done),
         Err(_) => Status::Memory,
     }

@@ -4,8 +4,11 @@
 pub mod analyse;
 pub mod check;
 pub mod code;
+pub mod compile;
 pub mod ending;
+pub mod image;
 pub mod laws;
+pub mod load;
 pub mod number;
 pub mod over_schedule;
 pub mod plain;

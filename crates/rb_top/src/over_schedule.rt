@@ -153,7 +153,14 @@ fn over_turns<S: Sink>(
         (S.written out.old) (S.written out.new) (S.faults out.old) (S.faults out.new) result }
 {
     match product {
-        Product::Text => run_turns::<S, Brand>(alloc, prepared, schedule, out, Blank::new(1)),
+        Product::Text => run_turns::<S, Brand>(
+            alloc,
+            &prepared.code,
+            &prepared.nested,
+            schedule,
+            out,
+            Blank::new(1),
+        ),
         Product::Survivors => {
             survive_turns::<S, Brand>(alloc, prepared, schedule, out, Blank::new(1))
         }

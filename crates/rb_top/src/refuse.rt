@@ -1,7 +1,7 @@
 //! The lines of refusals, and those that a command answers with.
 ghost use Rattle.std.specs.Prelude.{◌≡◌, ◌++◌, codes};
 ghost use Rattle.rb_outside.specs.Puts.{Puts};
-ghost use Rattle.rb_top.specs.Judgement.{source_line, text_line, stuck_line, too_long_line, accepted_line, usage_line};
+ghost use Rattle.rb_top.specs.Judgement.{source_line, text_line, stuck_line, too_long_line, accepted_line, usage_line, no_image_line, unsound_line};
 
 use itoa::Buffer;
 use rb_base::{SourceFault, TextFault};
@@ -73,13 +73,27 @@ pub fn refuse_long<S: Sink>(out: &mut S) -> Result<(), Failed>
     put(out, b"refused L0\n")
 }
 
+/// Writes the line of bytes that are no image.
+pub fn refuse_bytes<S: Sink>(out: &mut S) -> Result<(), Failed>
+    ensures { Puts no_image_line (S.written out.old) (S.written out.new) (S.faults out.old) (S.faults out.new) result }
+{
+    put(out, b"refused I1\n")
+}
+
+/// Writes the line of an image of what may not be run.
+pub fn refuse_unsound<S: Sink>(out: &mut S) -> Result<(), Failed>
+    ensures { Puts unsound_line (S.written out.old) (S.written out.new) (S.faults out.old) (S.faults out.new) result }
+{
+    put(out, b"refused I2\n")
+}
+
 /// Writes the line that shows the commands.
 pub fn put_usage<S: Sink>(out: &mut S) -> Result<(), Failed>
     ensures { Puts usage_line (S.written out.old) (S.written out.new) (S.faults out.old) (S.faults out.new) result }
 {
     put(
         out,
-        b"usage: rbl run SOURCE SCHEDULE | survive SOURCE SCHEDULE | plain SOURCE RECORD | check SOURCE | code SOURCE | trial NUMBER | session SOURCE SCHEDULE SESSION | domino HISTORY | stuck SOURCE SCHEDULE\n",
+        b"usage: rbl run SOURCE SCHEDULE | survive SOURCE SCHEDULE | plain SOURCE RECORD | check SOURCE | code SOURCE | trial NUMBER | session SOURCE SCHEDULE SESSION | domino HISTORY | stuck SOURCE SCHEDULE | compile SOURCE | load IMAGE SCHEDULE\n",
     )
 }
 

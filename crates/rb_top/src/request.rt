@@ -59,6 +59,15 @@ pub enum Request<'a> {
         source: &'a str,
         schedule: &'a str,
     },
+    /// The image of a source.
+    Compile {
+        source: &'a str,
+    },
+    /// The run of an image over a schedule.
+    Load {
+        image: &'a str,
+        schedule: &'a str,
+    },
 }
 
 /// What the words ask for, if they give a command. `Memory` may come for any words.
@@ -112,13 +121,23 @@ fn command_line<'a>(alloc: Global) -> Result<Command<'a>, AllocError>
 {
     let line = two_files(alloc, program_alone(alloc))?;
     let line = one_word(alloc, line)?;
-    analyses(alloc, line)
+    let line = analyses(alloc, line)?;
+    images(alloc, line)
 }
 
-// The commands that tell what becomes of a program, behind the others.
+// The commands of compiled images, behind all others.
+fn images<'a>(alloc: Global, line: Command<'a>) -> Result<Command<'a>, AllocError>
+    requires { app_of line ≡ record program { subs = take 9 commands } }
+    ensures { IfOk result (λ line. app_of line ≡ program) }
+{
+    line.subcommand(command_with(alloc, "compile", &["SOURCE"])?)?
+        .subcommand(command_with(alloc, "load", &["IMAGE", "SCHEDULE"])?)
+}
+
+// The commands that tell what becomes of a program, behind those that take one word.
 fn analyses<'a>(alloc: Global, line: Command<'a>) -> Result<Command<'a>, AllocError>
     requires { app_of line ≡ record program { subs = take 6 commands } }
-    ensures { IfOk result (λ line. app_of line ≡ program) }
+    ensures { IfOk result (λ line. app_of line ≡ record program { subs = take 9 commands }) }
 {
     line.subcommand(command_with(alloc, "session", &["SOURCE", "SCHEDULE", "SESSION"])?)?
         .subcommand(command_with(alloc, "domino", &["HISTORY"])?)?
@@ -222,6 +241,13 @@ fn request_given<'a>(name: &str, given: &ArgMatches<'a>) -> Option<Request<'a>>
             .get_str("SOURCE")
             .zip(given.get_str("SCHEDULE"))
             .map(|(source, schedule)| Request::Stuck { source, schedule }),
+        "compile" => given
+            .get_str("SOURCE")
+            .map(|source| Request::Compile { source }),
+        "load" => given
+            .get_str("IMAGE")
+            .zip(given.get_str("SCHEDULE"))
+            .map(|(image, schedule)| Request::Load { image, schedule }),
         _ => None,
     }
 }

@@ -1,4 +1,4 @@
-//! The last stage of `stuck`: a source runs over the turns of a schedule with nothing printed, and it is told how it stands.
+//! The end of `stuck`: a source runs over the turns of a schedule with nothing printed, and it is told how it stands.
 ghost use Rattle.std.specs.Prelude.{◌≡◌, ◌≤◌, ◌<◌, ℕ, List, length};
 ghost use Rattle.rb_base.specs.declared.limits.TheConstants.{MOST_TURNS};
 ghost use Rattle.rb_code.specs.Instructions.Plain.{code as plain};

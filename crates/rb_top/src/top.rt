@@ -8,6 +8,8 @@ ghost use Rattle.rb_top.specs.Answers.{scene_of, WithRequest, WhereRequested};
 use crate::analyse::analyse_file;
 use crate::check::check_file;
 use crate::code::code_file;
+use crate::compile::compile_file;
+use crate::load::load_files;
 use crate::over_schedule::{Product, over_files};
 use crate::plain::plain_files;
 use crate::refuse::put_usage;
@@ -24,8 +26,10 @@ use std::alloc::Global;
 /// the line of the first fault of either, or of the turn at which the plain run is stuck. The source is read and judged before the other
 /// file is started. `check SOURCE` says that a source is accepted, and `code SOURCE` lists its code, or they write the line of its first
 /// fault. `trial NUMBER` reads no file: it makes a source and a schedule, and writes how many lines of each kind the run of the one over
-/// the other would print. `domino HISTORY` writes
-/// which recovery points a failure leaves, and what was given up for which message. `stuck SOURCE SCHEDULE` tells how the run of a source over a schedule stands at its end. Memory may be wanting at any time before the first byte is written, and for `plain` after it.
+/// the other would print. `domino HISTORY` writes which recovery points a failure leaves, and what was given up for which message. `stuck
+/// SOURCE SCHEDULE` tells how the run of a source over a schedule stands at its end. `compile SOURCE` writes the image of a source, and
+/// `load IMAGE SCHEDULE` the text of the run of an image; or they write the line of the first fault. Memory may be wanting at any time
+/// before the first byte is written, and for `plain` and `session` after it.
 ///
 /// `answers` says of each answer when it comes, which files were started by then, how far each was read, and what was
 /// written; after a read or a write that failed there was no other. By `complete` a call whose files stand on the shelf,
@@ -88,5 +92,7 @@ fn answer<F: Shelf, S: Sink>(
         Request::Stuck { source, schedule } => {
             over_files(alloc, Product::Standing, source, schedule, shelf, out)
         }
+        Request::Compile { source } => compile_file(alloc, source, shelf, out),
+        Request::Load { image, schedule } => load_files(alloc, image, schedule, shelf, out),
     }
 }

@@ -1,6 +1,6 @@
 use Rattle.std.proofs.Common.{[], ◌∷◌, refl}
 use Rattle.rb_syntax.specs.Plain.{tree}
-use Rattle.rb_top.specs.Judgement.{JudgesSource, CheckGoesOn, Writes, accepted_line, accepts, source_accepted}
+use Rattle.rb_top.specs.Judgement.{JudgesSource, CheckGoesOn, Writes, accepted_line, accepts, first_accepted}
 use Rattle.rb_top.specs.Stages.{EndsForSource}
 use Rattle.rb_top.proofs.Answering.{text_ends}
 use Rattle.rb_top.proofs.Sources.{source_ends, stage_as}
@@ -12,7 +12,7 @@ returns g c =
     text_ends (JudgesSource CheckGoesOn (c.args.bytes.now ∷ [])) _ c.status_after.result accepted_line _ _
     (g.S.Sink.faults c.args.out.now) (g.S.Sink.faults c.put_accepted.new.out)
     written c.status_after.ensures
-    (source_accepted c.args.bytes.now (tree c.in_default.field-0.checked.program) [] (Writes accepted_line)
+    (first_accepted c.args.bytes.now (tree c.in_default.field-0.checked.program) [] (Writes accepted_line)
     (record { short = c.in_default.ensures.short; accepted = c.in_default.ensures.judged.accepted }) (accepts accepted_line refl))
 
 pub returns-in-Err : goal.returns-in-Err

@@ -1,5 +1,5 @@
 use Rattle.std.proofs.Common.{[]}
-use Rattle.rb_top.specs.Words.{Compile, code_of, text_named}
+use Rattle.rb_top.specs.Words.{ListCode, code_of, text_named}
 use Rattle.rb_top.specs.Judgement.{CodeGoesOn, at_first}
 use Rattle.rb_top.proofs.Answering.{nothing_read, unread_ends}
 use Rattle.rb_top.proofs.Sources.{source_judged}
@@ -7,7 +7,7 @@ use Rattle.rb_top.proofs.code.code_file.Goals as goal
 
 pub returns-in-Ok-clause-answers : goal.returns-in-Ok-clause-answers
 returns-in-Ok-clause-answers g c =
-    source_judged CodeGoesOn Compile (λ texts j h. h) (g.F.Shelf.files c.args.shelf.now) (g.F.Shelf.files c.read_file.new.shelf) c.args.source.now []
+    source_judged CodeGoesOn ListCode (λ texts j h. h) (g.F.Shelf.files c.args.shelf.now) (g.F.Shelf.files c.read_file.new.shelf) c.args.source.now []
     (g.F.Shelf.starts c.args.shelf.now) (g.F.Shelf.starts c.read_file.new.shelf) c.in-Ok.bytes.items
     (g.F.Shelf.faults c.args.shelf.now) (g.F.Shelf.faults c.read_file.new.shelf)
     (g.S.Sink.faults c.args.out.now) (g.S.Sink.faults c.code_source.new.out) (g.S.Sink.written c.args.out.now)

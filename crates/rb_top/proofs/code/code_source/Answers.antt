@@ -1,7 +1,8 @@
 use Rattle.std.proofs.Common.{[], ◌∷◌, refl}
 use Rattle.rb_code.specs.Instructions.Plain.{code}
-use Rattle.rb_top.specs.Judgement.{JudgesSource, CodeGoesOn, lists, source_accepted}
+use Rattle.rb_top.specs.Judgement.{JudgesSource, CodeGoesOn, lists, first_accepted}
 use Rattle.rb_top.specs.Stages.{EndsForSource}
+use Rattle.rb_top.proofs.Loaded.{made_for}
 use Rattle.rb_top.proofs.Answering.{text_ends}
 use Rattle.rb_top.proofs.Sources.{source_ends, stage_as}
 use Rattle.rb_top.proofs.code.code_source.Goals as goal
@@ -13,16 +14,9 @@ returns-in-Ok g c =
     text_ends (JudgesSource CodeGoesOn (c.args.bytes.now ∷ [])) _ c.status_after.result _ _ _
     (g.S.Sink.faults c.args.out.now) (g.S.Sink.faults c.listing.new.out)
     written c.status_after.ensures
-    (source_accepted c.args.bytes.now prepared.tree [] _
+    (first_accepted c.args.bytes.now prepared.tree [] _
     (record { short = c.in-Ok.ensures.short; accepted = prepared.accepted })
-    (lists _ (record {
-      slots = prepared.slots;
-      listed = code c.in-Ok.prepared.code;
-      resolved = prepared.is_code.resolved;
-      frames = prepared.is_code.frames;
-      stands = prepared.is_code.stands;
-      is = refl;
-    })))
+    (lists _ (record { listed = code c.in-Ok.prepared.code; made = made_for c.args.bytes.now c.in-Ok.prepared prepared; is = refl })))
 
 pub returns-in-Err : goal.returns-in-Err
 returns-in-Err g c =

@@ -6,11 +6,7 @@ use Rattle.rb_machine.specs.Machine.{Seen, opening_seen}
 use Rattle.rb_run.specs.Running.{NamesFit}
 use Rattle.rb_top.specs.Judgement.{Writes}
 use Rattle.rb_top.proofs.Answering.{text_ends}
-use Rattle.rb_top.proofs.Loaded.{code_names_fit, is_sound}
 use Rattle.rb_top.proofs.run_turns.run_turns.Goals as goal
-
-pub load-requires-clause-sound : goal.load-requires-clause-sound
-load-requires-clause-sound g c = is_sound c.requires.prepared.0 c.args.prepared.now c.requires.prepared.1
 
 pub run-requires-clause-fresh : goal.run-requires-clause-fresh
 run-requires-clause-fresh g c =
@@ -21,17 +17,13 @@ pub run-requires-clause-named : goal.run-requires-clause-named
 run-requires-clause-named g c = ap (λ (m : Seen). m.code.names) (sym c.in-Ok.ensures)
 
 pub run-requires-clause-fit : goal.run-requires-clause-fit
-run-requires-clause-fit g c =
-    let prepared = c.args.prepared.now in
-    subst (λ (m : Seen). NamesFit m.code prepared.code.names) (sym c.in-Ok.ensures)
-    (code_names_fit c.requires.prepared.0 prepared c.requires.prepared.1)
+run-requires-clause-fit g c = subst (λ (m : Seen). NamesFit m.code c.args.code.now.names) (sym c.in-Ok.ensures) c.requires.fit
 
 pub returns-in-Ok : goal.returns-in-Ok
 returns-in-Ok g c =
-    let prepared = c.args.prepared.now in
     let turns = c.args.schedule.all in
     let machine = c.in-Ok.machine in
-    let meant = word_text (code prepared.code) (memberships (opening prepared.nested)) turns in
+    let meant = word_text (code c.args.code.now) (memberships (opening c.args.nested.now)) turns in
     text_ends (λ judgement. judgement ≡ Writes meant) _ c.status_after.result (word_text machine.code machine.groups turns)
     (g.S.Sink.written c.args.out.now) (g.S.Sink.written c.run.new.out) (g.S.Sink.faults c.args.out.now) (g.S.Sink.faults c.run.new.out)
     c.run.ensures.text c.status_after.ensures
