@@ -25,6 +25,8 @@ mod line_samples;
 #[cfg(test)]
 mod listing_tests;
 #[cfg(test)]
+mod lists_tests;
+#[cfg(test)]
 mod mail_tests;
 #[cfg(test)]
 mod make_tests;

@@ -5,7 +5,7 @@ use rb_top::Status;
 use std::alloc::Global;
 
 const USAGE: &str =
-    "usage: rbl run SOURCE SCHEDULE | survive SOURCE SCHEDULE | plain SOURCE RECORD | check SOURCE | code SOURCE | trial NUMBER | session SOURCE SCHEDULE SESSION | domino HISTORY | stuck SOURCE SCHEDULE\n";
+    "usage: rbl run SOURCE SCHEDULE | survive SOURCE SCHEDULE | plain SOURCE RECORD | check SOURCE | code SOURCE | trial NUMBER | session SOURCE SCHEDULE SESSION | domino HISTORY | stuck SOURCE SCHEDULE | compile SOURCE | load IMAGE SCHEDULE\n";
 
 const NO_COMMANDS: u8 = 27;
 
@@ -91,7 +91,7 @@ const FAULTS: u8 = 4;
 
 // What fails while a source is checked, and what comes of it.
 fn fault_row(n: u8) -> (Outside, Status, &'static str) {
-    let mut outside = roomy(199);
+    let mut outside = roomy(237);
     match n {
         0 => {
             outside.bad_read = 0;
@@ -134,7 +134,7 @@ fn shows_the_commands(rt: HostRuntime) {
                 rt.alloc(),
                 line,
                 ACCEPTED,
-                &roomy(199),
+                &roomy(237),
                 Status::Usage,
                 USAGE
             ),
@@ -152,7 +152,7 @@ fn checks(rt: HostRuntime) {
                 rt.alloc(),
                 &["check", "a"],
                 source,
-                &roomy(199),
+                &roomy(237),
                 status,
                 want
             ),
@@ -182,7 +182,7 @@ fn stops_at_a_fault(rt: HostRuntime) {
             rt.alloc(),
             &["check", "b"],
             ACCEPTED,
-            &roomy(199),
+            &roomy(237),
             Status::ReadFault,
             ""
         )

@@ -21,9 +21,9 @@ fn row(n: u8) -> (&'static [&'static str], u64, usize, u8, &'static str) {
         2 => (
             &["go"],
             9,
-            199,
+            237,
             2,
-            "usage: rbl run SOURCE SCHEDULE | survive SOURCE SCHEDULE | plain SOURCE RECORD | check SOURCE | code SOURCE | trial NUMBER | session SOURCE SCHEDULE SESSION | domino HISTORY | stuck SOURCE SCHEDULE\n",
+            "usage: rbl run SOURCE SCHEDULE | survive SOURCE SCHEDULE | plain SOURCE RECORD | check SOURCE | code SOURCE | trial NUMBER | session SOURCE SCHEDULE SESSION | domino HISTORY | stuck SOURCE SCHEDULE | compile SOURCE | load IMAGE SCHEDULE\n",
         ),
         3 => (&["run", "a", "c"], 9, 99, 3, ""),
         4 => (&["run", "a", "b"], 0, 99, 4, ""),

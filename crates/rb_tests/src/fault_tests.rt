@@ -80,7 +80,7 @@ fn stops_at_each_fault(rt: HostRuntime) {
     }
 }
 
-const COMMANDS: u8 = 8;
+const COMMANDS: u8 = 9;
 
 // A command that writes something.
 fn command_row(n: u8) -> &'static [&'static str] {
@@ -92,7 +92,8 @@ fn command_row(n: u8) -> &'static [&'static str] {
         4 => &["trial", "0"],
         5 => &["stuck", "a", "b"],
         6 => &["session", "a", "b", "c"],
-        _ => &["domino", "h"],
+        7 => &["domino", "h"],
+        _ => &["compile", "a"],
     }
 }
 

@@ -16,6 +16,8 @@ mod environment_tests;
 #[cfg(test)]
 mod fault_tests;
 #[cfg(test)]
+mod image_rows;
+#[cfg(test)]
 mod limit_rows;
 #[cfg(test)]
 mod limit_tests;

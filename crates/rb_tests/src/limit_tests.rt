@@ -106,4 +106,5 @@ fn reads_no_more(rt: HostRuntime) {
     assert!(rt; takes_no_more(alloc, &["domino", "b"], "process p\nfail p\n#"));
     assert!(rt; takes_no_more(alloc, &["check", "b"], "program a; process p { } end. #"));
     assert!(rt; takes_no_more(alloc, &["code", "b"], "program a; process p { } end. #"));
+    assert!(rt; takes_no_more(alloc, &["compile", "b"], "program a; process p { } end. #"));
 }

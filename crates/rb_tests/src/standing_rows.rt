@@ -6,7 +6,7 @@ use std::alloc::Global;
 
 // Each of two processes waits for the other.
 const DEADLOCK: &str =
-    "program d; channel c from p to q size 1; channel e from q to p size 1; process p { var x; receive e x; } process q { var x; receive c x; } end.";
+    "program table; channel salt from left to right size 1; channel bread from right to left size 1; process left { var has; receive bread has; } process right { var has; receive salt has; } end.";
 
 // A member at its test line waits for one that waits for what the member sends behind the line.
 const AT_LINE: &str =
@@ -48,7 +48,7 @@ fn row(
             DEADLOCK,
             "all 1",
             Status::Done,
-            "stuck\np waits for message e\nq waits for message c\n",
+            "stuck\nleft waits for message bread\nright waits for message salt\n",
         ),
         1 => (
             stuck,
@@ -101,7 +101,7 @@ fn row(
             DEADLOCK,
             "",
             Status::Done,
-            "stuck\np waits for message e\nq waits for message c\n",
+            "stuck\nleft waits for message bread\nright waits for message salt\n",
         ),
         10 => (stuck, DEADLOCK, "z 1", Status::Refused, "refused T2 at 1\n"),
         11 => (
@@ -125,7 +125,7 @@ fn row(
 }
 
 const USAGE: &str =
-    "usage: rbl run SOURCE SCHEDULE | survive SOURCE SCHEDULE | plain SOURCE RECORD | check SOURCE | code SOURCE | trial NUMBER | session SOURCE SCHEDULE SESSION | domino HISTORY | stuck SOURCE SCHEDULE\n";
+    "usage: rbl run SOURCE SCHEDULE | survive SOURCE SCHEDULE | plain SOURCE RECORD | check SOURCE | code SOURCE | trial NUMBER | session SOURCE SCHEDULE SESSION | domino HISTORY | stuck SOURCE SCHEDULE | compile SOURCE | load IMAGE SCHEDULE\n";
 
 fn writes_row(alloc: Global, n: u8) -> bool {
     let (line, a, b, status, want) = row(n);
