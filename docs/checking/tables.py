@@ -5,10 +5,10 @@ import re
 from .program import ROOT, Check, answer, answer_of, line_of, text_of
 
 PAGE = "docs/LANGUAGE.md"
-ROW = re.compile(r"^\| ([LXYSNTHBV]\d+) \|(.*)\|$", re.MULTILINE)
+ROW = re.compile(r"^\| ([LXYSNTHBVI]\d+) \|(.*)\|$", re.MULTILINE)
 PLACE = re.compile(r",? (?:at (\d+:\d+)|(?:on line|at turn) (\d+))")
 INSIDE = "program a; process p { {} } end."
-FAULTS = ["L0"] + [f"{kind}{n}" for kind, most in [("X", 5), ("Y", 2), ("S", 11), ("N", 13), ("T", 4), ("B", 3), ("H", 5), ("V", 4)] for n in range(1, most + 1)]
+FAULTS = ["L0"] + [f"{kind}{n}" for kind, most in [("X", 5), ("Y", 2), ("S", 11), ("N", 13), ("T", 4), ("B", 3), ("H", 5), ("V", 4), ("I", 2)] for n in range(1, most + 1)]
 # The examples that a cell tells in words.
 IN_WORDS = {
     "L0": " " * 1_048_577,
@@ -18,6 +18,8 @@ IN_WORDS = {
     "Y2": INSIDE.replace("{}", "var x; x := " + "(" * 100),
     "S7": INSIDE.replace("{}", "print " + ", ".join(["1"] * 17) + ";"),
     "V4": "1 q",
+    "I1": "",
+    "I2": "program a; process p { } end.",
     "N13": "program a; "
     + "".join(f"conversation C{n} (p, q); " for n in range(9))
     + "".join(f"process {p} {{ " + "".join(f"converse C{n} ensure 1 within 9 by {{ " for n in range(9)) + "} else error; " * 9 + "} " for p in "pq")
@@ -54,7 +56,15 @@ def answered(fault, text):
     if kind in "TV":
         source = waiting_source() if fault == "V4" else EMPTY
         return answer_of("run" if kind == "T" else "plain", [source, text])
+    if kind == "I":
+        return answer_of("load", [with_return_for_done(text), ""])
     return answer_of("check", [text])
+
+
+def with_return_for_done(source):
+    """The image of a source without statements, in which another byte stands in place of its one instruction."""
+    image = answer_of("compile", [source]).out if source else ""
+    return image[:20] + chr(35) + image[21:] if image else ""
 
 
 def faults():
