@@ -1,13 +1,14 @@
 #!/bin/bash
-# Compiles the program of crates/rbl with nothing proved, and writes it to a file: compile_unproved.sh OUT
+# Compiles a program, rbl if none is named, with nothing proved, and writes it to a file: compile_unproved.sh OUT [NAME]
 #
 # `rt try` compiles a program for one run and keeps nothing. Here it is called in a copy of its kit, in which clang keeps the module that
 # `rt` made of the sources and goes no further; the kit's own clang then compiles that module as fast as it can, and the kit's linker
-# makes the program. That rests on the inside of the toolchain: where it no longer fits, this says so, and `rt run` in crates/rbl is left.
+# makes the program. That rests on the inside of the toolchain: where it no longer fits, this says so, and `rt run` in its crate is left.
 out=$(realpath -m "$1")
+name=${2:-rbl}
 here=$(dirname "$(dirname "$(readlink -f "${BASH_SOURCE[0]}")")")
 rt=$(readlink -f "$(command -v rt)") || rt=
-[ -n "$rt" ] || { echo "rbl: 'rt' is not on the PATH" >&2; exit 1; }
+[ -n "$rt" ] || { echo "$name: 'rt' is not on the PATH" >&2; exit 1; }
 kit=$(dirname "$(dirname "$rt")")
 work=$(mktemp -d) || exit 1
 trap 'rm -rf "$work"' EXIT
@@ -30,10 +31,10 @@ esac
 END
 chmod +x "$work/kit/toolchain/bin/clang"
 
-(cd "$here/crates/rbl" && "$work/kit/bin/rt" try) >"$work/said" 2>&1 </dev/null
+(cd "$here/crates/$name" && "$work/kit/bin/rt" try) >"$work/said" 2>&1 </dev/null
 if [ ! -s "$work/module.bc" ]; then
     cat "$work/said" >&2
-    echo "rbl: 'rt try' made no module of crates/rbl: its sources have a fault, or this toolchain is not the one that README.md names" >&2
+    echo "$name: 'rt try' made no module of crates/$name: its sources have a fault, or this toolchain is not the one that README.md names" >&2
     exit 1
 fi
 target=x86_64-unknown-linux-gnu
@@ -41,5 +42,5 @@ target=x86_64-unknown-linux-gnu
     "$kit/bin/rattle-link" --target $target --toolchain "$kit/toolchain" -o "$work/rbl" "$work/module.o" "$kit/c/libos_c.a" "$kit/c/liblibc_c.a" >>"$work/said" 2>&1 &&
     mkdir -p "$(dirname "$out")" && mv "$work/rbl" "$out.$$" && mv "$out.$$" "$out" && exit 0
 cat "$work/said" >&2
-echo "rbl: the module of crates/rbl was not compiled: this toolchain is not the one that README.md names" >&2
+echo "$name: the module of crates/$name was not compiled: this toolchain is not the one that README.md names" >&2
 exit 1
