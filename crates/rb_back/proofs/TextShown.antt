@@ -25,7 +25,8 @@ use Rattle.rb_meaning.specs.Meaning.{standing}
 use Rattle.rb_code.specs.Instructions.Plain.{Code}
 use Rattle.rb_code.specs.WordMachine.WordRun.{word_final, word_run}
 use Rattle.rb_machine.specs.Known.{IsSoundFor}
-use Rattle.rb_run.specs.Running.{NamesFit, VariablesLie}
+use Rattle.rb_code.specs.Instructions.Variables.{VariablesLie}
+use Rattle.rb_run.specs.Running.{NamesFit}
 use Rattle.rb_run.proofs.EndingFits.{ending_fits}
 use Rattle.rb_run.proofs.OwnWords.{runs_own}
 use Rattle.rb_back.specs.Course.{Course, shown_states, shown_variables}

@@ -3,3 +3,4 @@ pub mod Plain
 pub mod Listing
 pub mod Heads
 pub mod Limits
+pub mod Variables

@@ -15,3 +15,4 @@ mod words;
 
 pub use lexer::Lexer;
 pub use token::{Kind, Token};
+pub use words::is_reserved;

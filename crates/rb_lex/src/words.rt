@@ -37,7 +37,8 @@ fn name_len(bytes: &[u8]) -> usize
     bytes.iter().take_while(|b| is_name_byte(**b)).count()
 }
 
-fn is_reserved(edition: Edition, text: &[u8]) -> bool
+/// Whether a text is a word of the language in this edition, and so no name.
+pub fn is_reserved(edition: Edition, text: &[u8]) -> bool
     ensures { result ≡ is_reserved edition text.now }
 {
     is_common_word(text) || is_own_word(edition, text)

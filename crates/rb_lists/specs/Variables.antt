@@ -1,14 +1,10 @@
 -- Where the printed variables of a code lie.
 use Rattle.std.specs.Prelude.{List}
-use Rattle.std.specs.List.{AllByRecursion, AllZip}
+use Rattle.std.specs.List.{AllZip}
 use Rattle.rb_base.specs.declared.names.ProcessNames.{ProcessNames}
-use Rattle.rb_trace.specs.Fitting.{LiesWithin}
 use Rattle.rb_code.specs.Instructions.Plain.{Part}
+use Rattle.rb_code.specs.Instructions.Variables.{VariablesLie}
 
--- the variables that are printed of a process lie within its words
-abbrev pub VariablesLie : ProcessNames → Part → Type 0
-VariablesLie names part = AllByRecursion (LiesWithin part.words) names.variables.items
-
--- it is so of each process, and there are as many names as processes
+-- the printed variables of each process lie within its words, and there are as many names as processes
 abbrev pub LieInParts : List ProcessNames → List Part → Type 0
 LieInParts names parts = AllZip VariablesLie names parts

@@ -1,11 +1,11 @@
 //! How many there are: of processes, channels and conversations, and of names beside them.
 
 ghost use Rattle.std.specs.Prelude.{◌≡◌, ◌↔◌, IsTrue};
-ghost use Rattle.rb_base.specs.Limits.{most_processes};
 ghost use Rattle.rb_lists.specs.Parts.{AreFew, HaveNames};
 
-use rb_base::{Edition, MOST_CONNECTIONS, MOST_PROCESSES_FIRST, MOST_PROCESSES_SECOND, Nested};
+use rb_base::{MOST_CONNECTIONS, Nested};
 use rb_code::Code;
+use rb_scope::most_processes;
 
 /// Whether processes, channels and conversations are few enough.
 pub(crate) fn are_few(code: &Code, nested: &Nested) -> bool
@@ -14,15 +14,6 @@ pub(crate) fn are_few(code: &Code, nested: &Nested) -> bool
     code.processes.len() <= most_processes(code.edition)
         && code.channels.len() <= MOST_CONNECTIONS
         && nested.conversations.len() <= MOST_CONNECTIONS
-}
-
-fn most_processes(edition: Edition) -> usize
-    ensures { result ≡ most_processes edition }
-{
-    match edition {
-        Edition::First => MOST_PROCESSES_FIRST,
-        Edition::Second => MOST_PROCESSES_SECOND,
-    }
 }
 
 /// Whether there is one name for each process, channel and conversation.

@@ -1,9 +1,7 @@
 //! Names: how each is spelled.
 
-ghost use Rattle.std.specs.Prelude.{◌≡◌, ◌↔◌, ◌≤◌, ℕ, IsTrue, Some, nat_eq};
-ghost use Rattle.std.specs.List.{All, list_any};
-ghost use Rattle.std.specs.Cmp.Lexicographic.{pointwise};
-ghost use Rattle.rb_base.specs.Reserved.{common_words, is_one_of, is_reserved, own_words};
+ghost use Rattle.std.specs.Prelude.{◌≡◌, ◌↔◌, ◌≤◌, ℕ, IsTrue, Some};
+ghost use Rattle.std.specs.List.{All};
 ghost use Rattle.rb_scope.specs.Spelled.{IsNaming};
 ghost use Rattle.rb_trace.specs.Naming.{process_naming, variable_naming};
 ghost use Rattle.rb_code.specs.SoundCode.WellFormed.{NamesProcess, NamesVariable};
@@ -12,38 +10,7 @@ ghost use Rattle.rb_lists.specs.Naming.{AreNamings, NamesProcedures};
 use rb_base::bytes::is_name;
 use rb_base::{Edition, LONGEST_NAME, MOST_ELEMENTS, ProcessNames, Text, Variable};
 use rb_code::{ProcedureCode, ProcessCode};
-
-// The words that both editions reserve.
-const COMMON_WORDS: [&[u8]; 28] = [
-    b"all",
-    b"and",
-    b"by",
-    b"call",
-    b"channel",
-    b"conversation",
-    b"converse",
-    b"else",
-    b"end",
-    b"ensure",
-    b"error",
-    b"fail",
-    b"from",
-    b"if",
-    b"not",
-    b"or",
-    b"print",
-    b"prior",
-    b"procedure",
-    b"process",
-    b"program",
-    b"receive",
-    b"send",
-    b"size",
-    b"to",
-    b"var",
-    b"while",
-    b"within",
-];
+use rb_lex::is_reserved;
 
 /// Whether all these are names of an edition.
 pub(crate) fn are_namings(edition: Edition, names: &[Text]) -> bool
@@ -118,32 +85,4 @@ fn is_naming(edition: Edition, name: &[u8]) -> bool
     ensures { IsTrue result ↔ IsNaming edition name.now }
 {
     name.len() <= LONGEST_NAME && is_name(name) && !is_reserved(edition, name)
-}
-
-fn is_reserved(edition: Edition, name: &[u8]) -> bool
-    ensures { result ≡ is_reserved edition name.now }
-{
-    is_common_word(name) || is_own_word(edition, name)
-}
-
-fn is_common_word(name: &[u8]) -> bool
-    ensures { result ≡ is_one_of common_words name.now }
-{
-    is_listed(&COMMON_WORDS, name)
-}
-
-fn is_own_word(edition: Edition, name: &[u8]) -> bool
-    ensures { result ≡ is_one_of (own_words edition) name.now }
-{
-    match edition {
-        Edition::First => false,
-        Edition::Second => is_listed(&[b"edition", b"every", b"some", b"sum"], name),
-    }
-}
-
-// Whether the name is one of these words.
-fn is_listed(words: &[&[u8]], name: &[u8]) -> bool
-    ensures { result ≡ list_any (λ word. pointwise nat_eq word.now name.now) words.now }
-{
-    words.iter().any(|word| *word == name)
 }

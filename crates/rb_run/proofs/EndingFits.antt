@@ -17,7 +17,8 @@ use Rattle.rb_code.specs.WordMachine.Turn.{Copy, Standing}
 use Rattle.rb_code.specs.SoundCode.WellFormed.{IsPart, IsSound}
 use Rattle.rb_code.specs.WordMachine.WordRun.{WordWorld, counts_sent, counts_taken, variable_words}
 use Rattle.rb_code.proofs.WholeRuns.ProcessesBegin.{all_there}
-use Rattle.rb_run.specs.Running.{NamesFit, VariablesLie}
+use Rattle.rb_code.specs.Instructions.Variables.{VariablesLie}
+use Rattle.rb_run.specs.Running.{NamesFit}
 use Rattle.rb_machine.proofs.Releasing.LentAtWork.{sent_each, taken_each}
 use Rattle.rb_run.proofs.OwnWords.{HasOwnWords, variables_long}
 

@@ -16,7 +16,8 @@ use Rattle.rb_trace.proofs.Lying.{variables_within}
 use Rattle.rb_scope.specs.declared.slot.Slot.{Slot}
 use Rattle.rb_code.specs.Instructions.Plain.{Code, Part}
 use Rattle.rb_code.specs.Agreement.StandsFor.{ProcessesCode, StandsFor}
-use Rattle.rb_run.specs.Running.{NamesFit, VariablesLie}
+use Rattle.rb_code.specs.Instructions.Variables.{VariablesLie}
+use Rattle.rb_run.specs.Running.{NamesFit}
 
 module _ (tree : Tree) (slots : List Slot) (c : Code) where
   processes_lie : (p : ℕ) (processes : List ProcessDeclaration) (parts : List Part) (names : List ProcessNames) (a b : ℕ)

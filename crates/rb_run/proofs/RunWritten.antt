@@ -25,7 +25,8 @@ use Rattle.rb_code.specs.WordMachine.WordRun.{WordWorld, counts_sent, counts_tak
 use Rattle.rb_machine.specs.Known.{IsSoundFor}
 use Rattle.rb_machine.specs.Machine.{Seen, opening_seen}
 use Rattle.rb_machine.proofs.Knowing.Sizes.{length-opening}
-use Rattle.rb_run.specs.Running.{NamesFit, NoneWaits, VariablesLie, ran}
+use Rattle.rb_code.specs.Instructions.Variables.{VariablesLie}
+use Rattle.rb_run.specs.Running.{NamesFit, NoneWaits, ran}
 use Rattle.rb_run.proofs.EndingFits.{ending_fits}
 use Rattle.rb_run.proofs.OwnWords.{runs_own}
 use Rattle.rb_run.proofs.TurnsTaken.{same_but_lines, turns_left}

@@ -1,12 +1,11 @@
 -- A machine that has run.
 use Rattle.std.specs.Prelude.{◌≡◌, ◌+◌, ℕ, List, [], length, replicate}
-use Rattle.std.specs.List.{AllByRecursion, AllZip}
+use Rattle.std.specs.List.{AllZip}
 use Rattle.rb_base.specs.declared.event.Report.{Report}
 use Rattle.rb_base.specs.declared.names.Names.{Names}
-use Rattle.rb_base.specs.declared.names.ProcessNames.{ProcessNames}
-use Rattle.rb_trace.specs.Fitting.{LiesWithin}
 use Rattle.rb_world.specs.Turn.{run}
-use Rattle.rb_code.specs.Instructions.Plain.{Code, Part}
+use Rattle.rb_code.specs.Instructions.Plain.{Code}
+use Rattle.rb_code.specs.Instructions.Variables.{VariablesLie}
 use Rattle.rb_code.specs.WordMachine.WordKind.{word_kind}
 use Rattle.rb_machine.specs.Machine.{Seen}
 
@@ -20,10 +19,6 @@ ran m turns = record m {
   world = (run (word_kind m.code m.groups) (m.taken + 1) turns m.world).0;
   taken = m.taken + length turns;
 }
-
--- the variables that are printed of a process lie within its words
-abbrev pub VariablesLie : ProcessNames → Part → Type 0
-VariablesLie names part = AllByRecursion (LiesWithin part.words) names.variables.items
 
 -- Names fit a code: so it is of each process, and each channel has a name.
 pub record NamesFit (c : Code) (names : Names) : Type 0 where

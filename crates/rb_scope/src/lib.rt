@@ -21,5 +21,6 @@ mod variables;
 mod want;
 
 pub use checked::{Checked, resolve};
+pub use lists::most_processes;
 pub use naming::names;
 pub use slot::Slot;

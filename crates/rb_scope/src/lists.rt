@@ -70,7 +70,8 @@ pub(crate) fn count_processes(edition: Edition, processes: &[Process<'_>], finde
     }
 }
 
-fn most_processes(edition: Edition) -> usize
+/// How many processes a program of this edition has at most.
+pub fn most_processes(edition: Edition) -> usize
     ensures { result ≡ most_processes edition }
 {
     match edition {
