@@ -7,6 +7,8 @@ ghost use Rattle.rb_base.specs.declared.limits.TheConstants.{MOST_HELD_BYTES};
 ghost use Rattle.rb_hold.specs.Held.{held_bytes, IsLine, IsLengthOf};
 ghost use Rattle.rb_hold.specs.Stored.{lines_in, AreLines};
 
+mod looking;
+
 use rb_base::Memory;
 use rb_base::limits::MOST_HELD_BYTES;
 use std::alloc::Global;

@@ -5,6 +5,7 @@ pub mod Written
 pub mod WordsKept
 pub mod SeenWorlds
 pub mod ReadAt
+pub mod Looked
 -- A load, and turns one after another.
 pub mod Beginning
 -- What is known of every world of a run: who stands where, with which levels, at which alternates.

@@ -1,5 +1,6 @@
 -- Messages and their counts.
 pub mod CountedAtWork
+pub mod ChannelsLooked
 pub mod CountsRead
 pub mod Receivers
 pub mod RoomsAndMessages

@@ -12,6 +12,7 @@ pub mod Telling
 pub mod Loading
 pub mod Stepping
 pub mod Reading
+pub mod Looking
 pub mod Resting
 pub mod Machine
 pub mod Entries

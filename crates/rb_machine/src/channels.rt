@@ -11,6 +11,8 @@ ghost use Rattle.rb_code.specs.WordMachine.WordKind.{word_kind};
 ghost use Rattle.rb_machine.specs.Channels.{AreNumbered, HasCursor, IsCopyAt, conversation_in, cursor_at, message_given, outermost_copy};
 ghost use Rattle.rb_machine.specs.Worlds.{processes_of};
 
+pub mod looking;
+
 use rb_base::Steps;
 use rb_code::Code;
 use rb_proc::Proc;

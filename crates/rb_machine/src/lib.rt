@@ -9,6 +9,7 @@ pub mod innermost;
 pub mod laws;
 pub mod links;
 pub mod loading;
+pub mod looking;
 pub mod machine;
 pub mod moves;
 pub mod parts;
@@ -21,4 +22,5 @@ pub mod test_line;
 pub mod turn_laws;
 pub mod undone;
 
+pub use channels::looking::ChannelView;
 pub use machine::Machine;

@@ -21,6 +21,8 @@ ghost use Rattle.rb_machine.specs.Telling.{AreFreed, running_of};
 ghost use Rattle.rb_machine.specs.Work.{enters_there, turn_work};
 ghost use Rattle.rb_machine.specs.Worlds.{NoneWaits, counts_of, kind_with, lines_of, processes_of};
 
+mod looking;
+
 use crate::came::Came;
 use crate::loading::load_parts;
 use crate::moves::take_turn;

@@ -25,3 +25,8 @@ IsViewOf (Some level) view = (facts_seen view ≡ level.facts) × (view.alternat
 abbrev pub CursorThen : Code → ℕ → ℕ → Option (Level Copy) → ℕ → Type 0
 CursorThen c p channel None n = ⊥
 CursorThen c p channel (Some level) n = n ≡ cursor_in c p level.copy.words channel
+
+-- a level is there, and it was entered in this turn, the last kept one of its copy
+abbrev pub IsEntryOf : Option (Level Copy) → ℕ → Type 0
+IsEntryOf None turn = ⊥
+IsEntryOf (Some level) turn = turn ≡ level.copy.last_kept

@@ -28,6 +28,8 @@ ghost use Rattle.rb_proc.specs.Views.{CursorThen, IsViewOf};
 ghost use Rattle.rb_proc.specs.Process.{Seen, StepsTo, alternate_for, kind_of, message_for, step_of, wanted_by, wanted_of};
 ghost use Rattle.rb_proc.specs.Work.{named_in_step, named_settling, places_touched};
 
+mod looking;
+
 use crate::answers::{LevelView, Outcome, ProcessStatus, Wanted};
 use crate::channels::{cursor_place as place_of_cursor, first_variable};
 use crate::recoverable::{Recoverable, natural};

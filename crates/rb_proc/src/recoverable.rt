@@ -7,6 +7,7 @@ ghost use Rattle.rb_proc.specs.Places.{most_places};
 mod calls;
 mod levels;
 mod lines;
+mod looking;
 mod putting_back;
 mod words;
 

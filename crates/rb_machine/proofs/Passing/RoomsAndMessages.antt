@@ -92,24 +92,24 @@ module _ (c : Code) (procs : List Seen) (numbered : AreNumbered c procs) where
 
 module _ (c : Code) (groups : List Membership) where
   -- what an end of a channel has sent or taken is its cursor
-  sent_is : (channel : ℕ) (ends : Ends) (p : ℕ) (words : List ℤ) → slice_get c.channels channel ≡ Some ends → p ≡ ends.sender
+  pub sent_is : (channel : ℕ) (ends : Ends) (p : ℕ) (words : List ℤ) → slice_get c.channels channel ≡ Some ends → p ≡ ends.sender
       → sent_by c p words channel (slice_get c.channels channel) ≡ cursor_in c p words channel
   sent_is channel ends p words there is =
       ap (sent_by c p words channel) there ∙ ap (λ b. cond b (cursor_in c p words channel) 0) (eq-eqb ends.sender p (sym is))
 
-  taken_is : (channel : ℕ) (ends : Ends) (p : ℕ) (words : List ℤ) → slice_get c.channels channel ≡ Some ends → p ≡ ends.receiver
+  pub taken_is : (channel : ℕ) (ends : Ends) (p : ℕ) (words : List ℤ) → slice_get c.channels channel ≡ Some ends → p ≡ ends.receiver
       → taken_by c p words channel (slice_get c.channels channel) ≡ cursor_in c p words channel
   taken_is channel ends p words there is =
       ap (taken_by c p words channel) there ∙ ap (λ b. cond b (cursor_in c p words channel) 0) (eq-eqb ends.receiver p (sym is))
 
   -- the same in a copy
-  from_is : (channel : ℕ) (ends : Ends) (s : Standing) (levels : List (Level Copy)) → slice_get c.channels channel ≡ Some ends
+  pub from_is : (channel : ℕ) (ends : Ends) (s : Standing) (levels : List (Level Copy)) → slice_get c.channels channel ≡ Some ends
       → s.process ≡ ends.receiver
       → room_from (word_kind c groups) s levels channel ≡ cursor_in c s.process (words_then s.words (outermost_copy levels)) channel
   from_is channel ends s [] there is = taken_is channel ends s.process s.words there is
   from_is channel ends s (level ∷ levels) there is = taken_is channel ends s.process level.copy.words there is
 
-  count_is : (channel : ℕ) (ends : Ends) (s : Standing) (copy : Option Copy) → slice_get c.channels channel ≡ Some ends
+  pub count_is : (channel : ℕ) (ends : Ends) (s : Standing) (copy : Option Copy) → slice_get c.channels channel ≡ Some ends
       → s.process ≡ ends.sender → seen_count (word_kind c groups) s copy channel ≡ cursor_in c s.process (words_then s.words copy) channel
   count_is channel ends s None there is = sent_is channel ends s.process s.words there is
   count_is channel ends s (Some copy) there is = sent_is channel ends s.process copy.words there is
