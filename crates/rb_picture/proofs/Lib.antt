@@ -1,0 +1,11 @@
+pub mod Bare
+pub mod Holding
+pub mod InTurn
+pub mod Parts
+pub mod SameShown
+pub mod SameRuns
+pub mod SentOnce
+pub mod MeantTurns
+pub mod MeantWords
+pub mod MeantHead
+pub mod AsMeant

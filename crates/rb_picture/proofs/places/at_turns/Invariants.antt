@@ -1,0 +1,10 @@
+use Rattle.std.proofs.Common.{◌≡◌, ◌≤◌, ◌++◌, drop}
+use Rattle.rb_picture.specs.Places.{placed_from}
+use Rattle.rb_picture.proofs.places.at_turns.Given as goal
+
+-- the places so far, and those of the other instructions; before these no more turns begin than there are instructions
+abbrev pub invariant-loop-instr : goal.invariant-loop-instr
+invariant-loop-instr l = record {
+  placed : l.places.items ++ placed_from l.next l.turns (drop l.instr-index l.instrs) ≡ placed_from 0 l.turns l.instrs;
+  few : l.next ≤ l.instr-index;
+}

@@ -1,0 +1,4 @@
+use Rattle.rb_picture.proofs.turn.write_entry.Goals as goal
+
+pub returns : goal.returns
+returns g c = rw (← c.format.ensures.text, ← c.as_bytes-block.ensures.value) c.put_turn.ensures

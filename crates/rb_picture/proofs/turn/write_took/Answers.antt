@@ -1,0 +1,34 @@
+use Rattle.std.proofs.Common.{ℕ, List, [], ◌∷◌, slice_get, ap, ◌∙◌}
+use Rattle.std.specs.Prelude.{codes}
+use Rattle.std.specs.Option.{unwrap_or}
+use Rattle.rb_outside.proofs.Puts.{puts_same}
+use Rattle.rb_trace.specs.Naming.{naming}
+use Rattle.rb_picture.specs.Changes.{line_in}
+use Rattle.rb_picture.specs.Turns.{place_word}
+use Rattle.rb_picture.proofs.Bare.{takes_step}
+use Rattle.rb_picture.proofs.turn.write_took.Goals as goal
+
+pub returns-in-Entry : goal.returns-in-Entry
+returns-in-Entry g c = rw (c.in-Entry.is) c.write_entry.ensures
+
+pub returns-in-Start : goal.returns-in-Start
+returns-in-Start g c = rw (c.in-Start.is) c.write_start.ensures
+
+pub returns-in-Room : goal.returns-in-Room
+returns-in-Room g c =
+    let name = c.name_at-channel.ensures ∙ ap (λ (names : List (List ℕ)). unwrap_or (slice_get names c.in-Room.c) []) c.deref.ensures.value in
+    rw (c.in-Room.is, ← name) c.put_turn.ensures
+
+pub returns-in-Message : goal.returns-in-Message
+returns-in-Message g c = rw (c.in-Message.is) c.write_receipt.ensures
+
+pub returns-in-Maybe : goal.returns-in-Maybe
+returns-in-Maybe g c = rw (c.in-Maybe.is) c.write_receipt-in-Maybe.ensures
+
+pub returns-in_default : goal.returns-in_default
+returns-in_default g c =
+    puts_same _ _ _ _ _ _ _
+    (ap (λ (words : List (List ℕ)). line_in c.args.number (codes "turn" ∷ c.args.process.now ∷ place_word c.args.place ∷ codes "took" ∷ words))
+    (takes_step (naming c.args.names.now) c.args.asked c.in_default.not-Entry c.in_default.not-Start c.in_default.not-Room
+    c.in_default.not-Message c.in_default.not-Maybe))
+    c.put_turn-in_default.ensures

@@ -1,0 +1,12 @@
+pub mod Numbered
+pub mod Shown
+pub mod Noted
+pub mod Changes
+pub mod Turns
+pub mod Head
+pub mod Heads
+pub mod Trace
+pub mod Places
+pub mod Meant
+pub mod Laws
+pub mod Rows
