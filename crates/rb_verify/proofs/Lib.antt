@@ -10,6 +10,7 @@ pub mod Stacking
 pub mod Blocking
 pub mod Waiting
 pub mod Finding
+pub mod Keeping
 pub mod Chosen
 pub mod Alternates
 pub mod Beginning

@@ -4,6 +4,7 @@ pub mod Join
 pub mod Stacks
 pub mod Parts
 pub mod Held
+pub mod Cells
 pub mod Meeting
 pub mod Found
 pub mod Shapes

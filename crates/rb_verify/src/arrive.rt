@@ -11,6 +11,7 @@ ghost use Rattle.rb_verify.specs.Found.{found, held_in, pending, IfUnsound, IsWe
 ghost use Rattle.rb_verify.specs.declared.lists.Lists.{Lists as AllLists};
 
 use crate::cell::{Cell, Refusal};
+use crate::cells::Cells;
 use crate::entry::{Held, Loop, Loops};
 use crate::join::{Met, meet};
 use crate::lists::Lists;
@@ -19,20 +20,20 @@ use crate::work::{Work, wait};
 /// A step to an address with an entry: what is known there is joined with it, and where that changes it the address is to be followed.
 pub fn arrive(
     lists: &mut Lists,
-    cells: &mut Vec<Cell>,
+    cells: &mut Cells,
     work: &mut Work,
     at: u32,
     entry: Held,
 ) -> Result<(), Refusal>
-    requires well { IsWell lists.old cells.old.items work.old }
+    requires well { IsWell lists.old cells.old work.old }
     requires held { IsHeld lists.old entry }
     ensures gains { IfOk result (λ _. Gains (record { at = at; entry = entry_of lists.old entry } ∷ [])
-        (found lists.old cells.old.items) (pending cells.old.items) (found lists.new cells.new.items) (pending cells.new.items)) }
-    ensures well { IfOk result (λ _. IsWell lists.new cells.new.items work.new) }
-    ensures size { IfOk result (λ _. length cells.new.items ≡ length cells.old.items) }
+        (found lists.old cells.old) (pending cells.old) (found lists.new cells.new) (pending cells.new)) }
+    ensures well { IfOk result (λ _. IsWell lists.new cells.new work.new) }
+    ensures size { IfOk result (λ _. length cells.new ≡ length cells.old) }
     ensures grown { IfOk result (λ _. HasGrown lists.old lists.new) }
     ensures unsound { IfErr result (λ r. IfUnsound r
-        (NoneTakes (length cells.old.items) (found lists.old cells.old.items) (goes at (entry_of lists.old entry)))) }
+        (NoneTakes (length cells.old) (found lists.old cells.old) (goes at (entry_of lists.old entry)))) }
 {
     match cells.get(at as usize) {
         None => Err(Refusal::Unsound),
@@ -45,19 +46,19 @@ pub fn arrive(
 
 fn arrive_first(
     lists: &Lists,
-    cells: &mut Vec<Cell>,
+    cells: &mut Cells,
     work: &mut Work,
     at: u32,
     entry: Held,
 ) -> Result<(), Refusal>
-    requires well { IsWell lists.now cells.old.items work.old }
+    requires well { IsWell lists.now cells.old work.old }
     requires held { IsHeld lists.now entry }
-    requires at { at < length cells.old.items }
-    requires none { held_in (slice_get cells.old.items at) ≡ None }
+    requires at { at < length cells.old }
+    requires none { held_in (slice_get cells.old at) ≡ None }
     ensures gains { IfOk result (λ _. Gains (record { at = at; entry = entry_of lists.now entry } ∷ [])
-        (found lists.now cells.old.items) (pending cells.old.items) (found lists.now cells.new.items) (pending cells.new.items)) }
-    ensures well { IfOk result (λ _. IsWell lists.now cells.new.items work.new) }
-    ensures size { IfOk result (λ _. length cells.new.items ≡ length cells.old.items) }
+        (found lists.now cells.old) (pending cells.old) (found lists.now cells.new) (pending cells.new)) }
+    ensures well { IfOk result (λ _. IsWell lists.now cells.new work.new) }
+    ensures size { IfOk result (λ _. length cells.new ≡ length cells.old) }
     ensures memory { IfErr result (λ r. r ≡ Memory) }
 {
     let entry = staying(at, entry);
@@ -69,23 +70,23 @@ fn arrive_first(
 
 fn arrive_again(
     lists: &mut Lists,
-    cells: &mut Vec<Cell>,
+    cells: &mut Cells,
     work: &mut Work,
     at: u32,
     known: Held,
     entry: Held,
 ) -> Result<(), Refusal>
-    requires well { IsWell lists.old cells.old.items work.old }
+    requires well { IsWell lists.old cells.old work.old }
     requires held { IsHeld lists.old entry }
-    requires at { at < length cells.old.items }
-    requires known { held_in (slice_get cells.old.items at) ≡ Some known }
+    requires at { at < length cells.old }
+    requires known { held_in (slice_get cells.old at) ≡ Some known }
     ensures gains { IfOk result (λ _. Gains (record { at = at; entry = entry_of lists.old entry } ∷ [])
-        (found lists.old cells.old.items) (pending cells.old.items) (found lists.new cells.new.items) (pending cells.new.items)) }
-    ensures well { IfOk result (λ _. IsWell lists.new cells.new.items work.new) }
-    ensures size { IfOk result (λ _. length cells.new.items ≡ length cells.old.items) }
+        (found lists.old cells.old) (pending cells.old) (found lists.new cells.new) (pending cells.new)) }
+    ensures well { IfOk result (λ _. IsWell lists.new cells.new work.new) }
+    ensures size { IfOk result (λ _. length cells.new ≡ length cells.old) }
     ensures grown { IfOk result (λ _. HasGrown lists.old lists.new) }
     ensures unsound { IfErr result (λ r. IfUnsound r
-        (NoneTakes (length cells.old.items) (found lists.old cells.old.items) (goes at (entry_of lists.old entry)))) }
+        (NoneTakes (length cells.old) (found lists.old cells.old) (goes at (entry_of lists.old entry)))) }
 {
     let entry = staying(at, entry);
     match meet(lists, known, entry) {
@@ -102,23 +103,26 @@ fn arrive_again(
 }
 
 // An address has another entry now, and is to be followed.
-fn mark(cells: &mut Vec<Cell>, work: &mut Work, at: u32, entry: Held) -> Result<(), Refusal>
-    requires at { at < length cells.old.items }
-    requires listed { pending cells.old.items at ≡ true → Contains work.old at }
-    ensures cells { IfOk result (λ _. cells.new.items ≡ set cells.old.items at (record { entry = Some entry; pending = true })) }
+fn mark(cells: &mut Cells, work: &mut Work, at: u32, entry: Held) -> Result<(), Refusal>
+    requires at { at < length cells.old }
+    requires listed { pending cells.old at ≡ true → Contains work.old at }
+    ensures cells { IfOk result (λ _. cells.new ≡ set cells.old at (record { entry = Some entry; pending = true })) }
     ensures keeps { IfOk result (λ _. (a : ℕ) → Contains work.old a → Contains work.new a) }
     ensures has { IfOk result (λ _. Contains work.new at) }
     ensures memory { IfErr result (λ r. r ≡ Memory) }
 {
-    match wait(work, cells[at as usize].pending, at) {
+    match wait(work, cells.is_pending(at as usize), at) {
         Err(_) => return Err(Refusal::Memory),
         Ok(()) => {}
     }
-    cells[at as usize] = Cell {
+    let changed = Cell {
         entry: Some(entry),
         pending: true,
     };
-    Ok(())
+    match cells.set(at as usize, changed) {
+        Err(_) => Err(Refusal::Memory),
+        Ok(()) => Ok(()),
+    }
 }
 
 // The entry without the loops that are left at an address.

@@ -51,8 +51,8 @@ fn judge(
     requires well { IsWellFormed (plain code.now) (memberships (opening nested.now)) }
     requires ends { AreEnds (plain code.now) ends.now }
     requires few { length code.now.instrs.items < 4294967295 }
-    requires size { length known.now.cells.items ≡ length code.now.instrs.items }
-    requires found { IsFound (plain code.now) (memberships (opening nested.now)) (found known.now.lists known.now.cells.items) }
+    requires size { length known.now.cells ≡ length code.now.instrs.items }
+    requires found { IsFound (plain code.now) (memberships (opening nested.now)) (found known.now.lists known.now.cells) }
     ensures sound { IfOk result (λ _. IsSound (plain code.now) (memberships (opening nested.now))
         (map (λ (one : Conversation). one.alternates) (opening nested.now))) }
     ensures unsound { IfErr result (λ r. IfUnsound r (IsSound (plain code.now) (memberships (opening nested.now))

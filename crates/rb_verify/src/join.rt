@@ -194,7 +194,7 @@ fn are_alike(lists: &Lists, e: Held, f: Held) -> bool
         && e.pieces == f.pieces
 }
 
-fn are_same_bodies(a: Within, b: Within) -> bool
+pub fn are_same_bodies(a: Within, b: Within) -> bool
     ensures { result ≡ same_within (within_of a) (within_of b) }
 {
     a.process == b.process && are_same_procedures(a.procedure, b.procedure)
@@ -256,7 +256,7 @@ pub fn is_same_loop(a: Loop, b: Loop) -> bool
     a.counter == b.counter && a.first == b.first && a.last == b.last
 }
 
-fn are_same_loops(a: Loops, b: Loops) -> bool
+pub fn are_same_loops(a: Loops, b: Loops) -> bool
     ensures { result ≡ same_loops (loops_of a) (loops_of b) }
 {
     match a {

@@ -5,7 +5,7 @@ ghost use Rattle.rb_code.specs.Instructions.Plain.{code as plain};
 ghost use Rattle.rb_verify.specs.Found.{found, held_in};
 ghost use Rattle.rb_verify.specs.Joinings.{conversed, entered, first_of as first_such, groups_join, joining_at as joining_there, joins_once as has_once, members_join, noted, only_block, AreJoinings};
 
-use crate::cell::Cell;
+use crate::cells::Cells;
 use crate::lists::Lists;
 use crate::staying::entry_at;
 use rb_base::{Group, Memory, Nested};
@@ -29,7 +29,7 @@ pub fn joinings(
     alloc: Global,
     code: &Code,
     lists: &Lists,
-    cells: &[Cell],
+    cells: &Cells,
 ) -> Result<Vec<Joining>, Memory>
     requires few { length code.now.instrs.items < 4294967295 }
     requires size { length cells.now ≡ length code.now.instrs.items }
@@ -57,7 +57,7 @@ fn note(all: &mut Vec<Joining>, one: Option<Joining>) -> Result<(), Memory>
 }
 
 // The block of a conversation that is entered at an address.
-fn joining_at(code: &Code, lists: &Lists, cells: &[Cell], at: usize) -> Option<Joining>
+fn joining_at(code: &Code, lists: &Lists, cells: &Cells, at: usize) -> Option<Joining>
     ensures { result ≡ joining_there (plain code.now) (found lists.now cells.now) at }
 {
     let held = match entry_at(cells, at) {

@@ -4,6 +4,7 @@
 pub mod arrive;
 pub mod blocks;
 pub mod cell;
+pub mod cells;
 pub mod decision;
 pub mod ends;
 pub mod entering;

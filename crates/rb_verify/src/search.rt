@@ -12,6 +12,7 @@ ghost use Rattle.rb_verify.specs.Found.{found, held_in, pending, steps_of, AreHe
 
 use crate::arrive::arrive;
 use crate::cell::{Cell, Refusal};
+use crate::cells::Cells;
 use crate::ends::Ends;
 use crate::entry::{Held, Loops, Mode, Within};
 use crate::flow::flow;
@@ -30,7 +31,7 @@ const MOST_ROUNDS: u32 = 67_108_864;
 #[derive(Drop)]
 pub struct Known {
     pub lists: Lists,
-    pub cells: Vec<Cell>,
+    pub cells: Cells,
 }
 
 /// Finds a table of code, or refuses code that has none.
@@ -41,12 +42,12 @@ pub fn find_table(
     ends: &Ends,
 ) -> Result<Known, Refusal>
     requires ends { AreEnds (plain code.now) ends.now }
-    ensures size { IfOk result (λ known. length known.cells.items ≡ length code.now.instrs.items) }
-    ensures found { IfOk result (λ known. IsFound (plain code.now) (memberships (opening nested.now)) (found known.lists known.cells.items)) }
+    ensures size { IfOk result (λ known. length known.cells ≡ length code.now.instrs.items) }
+    ensures found { IfOk result (λ known. IsFound (plain code.now) (memberships (opening nested.now)) (found known.lists known.cells)) }
     ensures unsound { IfErr result (λ r. IfUnsound r (HasNoTable (plain code.now) (memberships (opening nested.now)))) }
 {
     let mut lists = Lists::new(alloc);
-    let mut cells = match empty_cells(alloc, code.instrs.len()) {
+    let mut cells = match Cells::new(alloc, code.instrs.len()) {
         Err(_) => return Err(Refusal::Memory),
         Ok(cells) => cells,
     };
@@ -61,32 +62,21 @@ pub fn find_table(
     }
 }
 
-fn empty_cells(alloc: Global, n: usize) -> Result<Vec<Cell>, Memory>
-    ensures { IfOk result (λ cells. cells.items ≡ replicate n (record { entry = None; pending = false })) }
-{
-    let nothing = Cell {
-        entry: None,
-        pending: false,
-    };
-    let cells = vec![in alloc; nothing; n]?;
-    Ok(cells)
-}
-
 // The main body of each process begins.
 fn begin(
     code: &Code,
     nested: &Nested,
     lists: &mut Lists,
-    cells: &mut Vec<Cell>,
+    cells: &mut Cells,
     work: &mut Work,
 ) -> Result<(), Refusal>
-    requires well { IsWell lists.old cells.old.items work.old }
-    requires size { length cells.old.items ≡ length code.now.instrs.items }
-    requires beginning { IsBeginning (plain code.now) (memberships (opening nested.now)) 0 (found lists.old cells.old.items) (pending cells.old.items) }
-    ensures well { IfOk result (λ _. IsWell lists.new cells.new.items work.new) }
-    ensures size { IfOk result (λ _. length cells.new.items ≡ length code.now.instrs.items) }
+    requires well { IsWell lists.old cells.old work.old }
+    requires size { length cells.old ≡ length code.now.instrs.items }
+    requires beginning { IsBeginning (plain code.now) (memberships (opening nested.now)) 0 (found lists.old cells.old) (pending cells.old) }
+    ensures well { IfOk result (λ _. IsWell lists.new cells.new work.new) }
+    ensures size { IfOk result (λ _. length cells.new ≡ length code.now.instrs.items) }
     ensures searching { IfOk result (λ _.
-        IsSearching (plain code.now) (memberships (opening nested.now)) (found lists.new cells.new.items) (pending cells.new.items)) }
+        IsSearching (plain code.now) (memberships (opening nested.now)) (found lists.new cells.new) (pending cells.new)) }
     ensures unsound { IfErr result (λ r. IfUnsound r (HasNoTable (plain code.now) (memberships (opening nested.now)))) }
 {
     for p in 0..code.processes.len() {
@@ -103,18 +93,18 @@ fn begin_process(
     code: &Code,
     nested: &Nested,
     lists: &mut Lists,
-    cells: &mut Vec<Cell>,
+    cells: &mut Cells,
     work: &mut Work,
     p: usize,
 ) -> Result<(), Refusal>
-    requires well { IsWell lists.old cells.old.items work.old }
-    requires size { length cells.old.items ≡ length code.now.instrs.items }
+    requires well { IsWell lists.old cells.old work.old }
+    requires size { length cells.old ≡ length code.now.instrs.items }
     requires p { p < length code.now.processes.items }
-    requires beginning { IsBeginning (plain code.now) (memberships (opening nested.now)) p (found lists.old cells.old.items) (pending cells.old.items) }
-    ensures well { IfOk result (λ _. IsWell lists.new cells.new.items work.new) }
-    ensures size { IfOk result (λ _. length cells.new.items ≡ length code.now.instrs.items) }
+    requires beginning { IsBeginning (plain code.now) (memberships (opening nested.now)) p (found lists.old cells.old) (pending cells.old) }
+    ensures well { IfOk result (λ _. IsWell lists.new cells.new work.new) }
+    ensures size { IfOk result (λ _. length cells.new ≡ length code.now.instrs.items) }
     ensures beginning { IfOk result (λ _.
-        IsBeginning (plain code.now) (memberships (opening nested.now)) (p + 1) (found lists.new cells.new.items) (pending cells.new.items)) }
+        IsBeginning (plain code.now) (memberships (opening nested.now)) (p + 1) (found lists.new cells.new) (pending cells.new)) }
     ensures unsound { IfErr result (λ r. IfUnsound r (HasNoTable (plain code.now) (memberships (opening nested.now)))) }
 {
     if p >= 4_294_967_296 {
@@ -142,18 +132,18 @@ fn start_of(code: &Code, p: usize) -> Option<u32>
 // A main body's first entry arrives.
 fn arrive_begun(
     lists: &mut Lists,
-    cells: &mut Vec<Cell>,
+    cells: &mut Cells,
     work: &mut Work,
     process: u32,
     start: u32,
 ) -> Result<(), Refusal>
-    requires well { IsWell lists.old cells.old.items work.old }
+    requires well { IsWell lists.old cells.old work.old }
     ensures gains { IfOk result (λ _. Gains (record { at = start; entry = begins process None 0 } ∷ [])
-        (found lists.old cells.old.items) (pending cells.old.items) (found lists.new cells.new.items) (pending cells.new.items)) }
-    ensures well { IfOk result (λ _. IsWell lists.new cells.new.items work.new) }
-    ensures size { IfOk result (λ _. length cells.new.items ≡ length cells.old.items) }
+        (found lists.old cells.old) (pending cells.old) (found lists.new cells.new) (pending cells.new)) }
+    ensures well { IfOk result (λ _. IsWell lists.new cells.new work.new) }
+    ensures size { IfOk result (λ _. length cells.new ≡ length cells.old) }
     ensures unsound { IfErr result (λ r. IfUnsound r
-        (NoneTakes (length cells.old.items) (found lists.old cells.old.items) (goes start (begins process None 0)))) }
+        (NoneTakes (length cells.old) (found lists.old cells.old) (goes start (begins process None 0)))) }
 {
     let operands = lists.operands.empty();
     let blocks = lists.blocks.empty();
@@ -181,15 +171,15 @@ pub fn search(
     nested: &Nested,
     ends: &Ends,
     lists: &mut Lists,
-    cells: &mut Vec<Cell>,
+    cells: &mut Cells,
     work: &mut Work,
 ) -> Result<(), Refusal>
     requires ends { AreEnds (plain code.now) ends.now }
-    requires well { IsWell lists.old cells.old.items work.old }
-    requires size { length cells.old.items ≡ length code.now.instrs.items }
-    requires searching { IsSearching (plain code.now) (memberships (opening nested.now)) (found lists.old cells.old.items) (pending cells.old.items) }
-    ensures size { IfOk result (λ _. length cells.new.items ≡ length code.now.instrs.items) }
-    ensures found { IfOk result (λ _. IsFound (plain code.now) (memberships (opening nested.now)) (found lists.new cells.new.items)) }
+    requires well { IsWell lists.old cells.old work.old }
+    requires size { length cells.old ≡ length code.now.instrs.items }
+    requires searching { IsSearching (plain code.now) (memberships (opening nested.now)) (found lists.old cells.old) (pending cells.old) }
+    ensures size { IfOk result (λ _. length cells.new ≡ length code.now.instrs.items) }
+    ensures found { IfOk result (λ _. IsFound (plain code.now) (memberships (opening nested.now)) (found lists.new cells.new)) }
     ensures unsound { IfErr result (λ r. IfUnsound r (HasNoTable (plain code.now) (memberships (opening nested.now)))) }
 {
     for _ in 0..MOST_ROUNDS {
@@ -211,18 +201,18 @@ fn follow(
     nested: &Nested,
     ends: &Ends,
     lists: &mut Lists,
-    cells: &mut Vec<Cell>,
+    cells: &mut Cells,
     work: &mut Work,
 ) -> Result<bool, Refusal>
     requires ends { AreEnds (plain code.now) ends.now }
-    requires well { IsWell lists.old cells.old.items work.old }
-    requires size { length cells.old.items ≡ length code.now.instrs.items }
-    requires searching { IsSearching (plain code.now) (memberships (opening nested.now)) (found lists.old cells.old.items) (pending cells.old.items) }
-    ensures well { IfOk result (λ _. IsWell lists.new cells.new.items work.new) }
-    ensures size { IfOk result (λ _. length cells.new.items ≡ length code.now.instrs.items) }
+    requires well { IsWell lists.old cells.old work.old }
+    requires size { length cells.old ≡ length code.now.instrs.items }
+    requires searching { IsSearching (plain code.now) (memberships (opening nested.now)) (found lists.old cells.old) (pending cells.old) }
+    ensures well { IfOk result (λ _. IsWell lists.new cells.new work.new) }
+    ensures size { IfOk result (λ _. length cells.new ≡ length code.now.instrs.items) }
     ensures searching { IfOk result (λ _.
-        IsSearching (plain code.now) (memberships (opening nested.now)) (found lists.new cells.new.items) (pending cells.new.items)) }
-    ensures done { IfOk result (λ more. more ≡ false → (a : ℕ) → pending cells.new.items a ≡ false) }
+        IsSearching (plain code.now) (memberships (opening nested.now)) (found lists.new cells.new) (pending cells.new)) }
+    ensures done { IfOk result (λ more. more ≡ false → (a : ℕ) → pending cells.new a ≡ false) }
     ensures unsound { IfErr result (λ r. IfUnsound r (HasNoTable (plain code.now) (memberships (opening nested.now)))) }
 {
     match work.pop() {
@@ -238,10 +228,10 @@ fn follow(
 }
 
 // The entry at an address, which is no longer to be followed.
-fn take(cells: &mut Vec<Cell>, at: u32) -> Option<Held>
-    ensures at { IfSome result (λ held. at < length cells.old.items) }
-    ensures held { IfSome result (λ held. held_in (slice_get cells.old.items at) ≡ Some held) }
-    ensures cells { IfSome result (λ held. cells.new.items ≡ set cells.old.items at (record { entry = Some held; pending = false })) }
+fn take(cells: &mut Cells, at: u32) -> Option<Held>
+    ensures at { IfSome result (λ held. at < length cells.old) }
+    ensures held { IfSome result (λ held. held_in (slice_get cells.old at) ≡ Some held) }
+    ensures cells { IfSome result (λ held. cells.new ≡ set cells.old at (record { entry = Some held; pending = false })) }
 {
     let held = match cells.get(at as usize) {
         None => return None,
@@ -250,11 +240,14 @@ fn take(cells: &mut Vec<Cell>, at: u32) -> Option<Held>
             Some(held) => held,
         },
     };
-    cells[at as usize] = Cell {
+    let followed = Cell {
         entry: Some(held),
         pending: false,
     };
-    Some(held)
+    match cells.set(at as usize, followed) {
+        Err(_) => None,
+        Ok(()) => Some(held),
+    }
 }
 
 // Follows an address from its entry.
@@ -263,20 +256,20 @@ fn follow_from(
     nested: &Nested,
     ends: &Ends,
     lists: &mut Lists,
-    cells: &mut Vec<Cell>,
+    cells: &mut Cells,
     work: &mut Work,
     at: u32,
     held: Held,
 ) -> Result<(), Refusal>
     requires ends { AreEnds (plain code.now) ends.now }
-    requires well { IsWell lists.old cells.old.items work.old }
-    requires size { length cells.old.items ≡ length code.now.instrs.items }
-    requires is { held_in (slice_get cells.old.items at) ≡ Some held }
-    requires following { IsFollowing (plain code.now) (memberships (opening nested.now)) (found lists.old cells.old.items) (pending cells.old.items) at }
-    ensures well { IfOk result (λ _. IsWell lists.new cells.new.items work.new) }
-    ensures size { IfOk result (λ _. length cells.new.items ≡ length code.now.instrs.items) }
+    requires well { IsWell lists.old cells.old work.old }
+    requires size { length cells.old ≡ length code.now.instrs.items }
+    requires is { held_in (slice_get cells.old at) ≡ Some held }
+    requires following { IsFollowing (plain code.now) (memberships (opening nested.now)) (found lists.old cells.old) (pending cells.old) at }
+    ensures well { IfOk result (λ _. IsWell lists.new cells.new work.new) }
+    ensures size { IfOk result (λ _. length cells.new ≡ length code.now.instrs.items) }
     ensures searching { IfOk result (λ _.
-        IsSearching (plain code.now) (memberships (opening nested.now)) (found lists.new cells.new.items) (pending cells.new.items)) }
+        IsSearching (plain code.now) (memberships (opening nested.now)) (found lists.new cells.new) (pending cells.new)) }
     ensures unsound { IfErr result (λ r. IfUnsound r (HasNoTable (plain code.now) (memberships (opening nested.now)))) }
 {
     match flow(code, nested, ends, lists, at, held) {
@@ -292,17 +285,17 @@ fn follow_from(
 fn carry(
     code: &Code,
     lists: &mut Lists,
-    cells: &mut Vec<Cell>,
+    cells: &mut Cells,
     work: &mut Work,
     way: Way,
 ) -> Result<(), Refusal>
-    requires well { IsWell lists.old cells.old.items work.old }
+    requires well { IsWell lists.old cells.old work.old }
     requires held { AreHeld lists.old way }
     ensures gains { IfOk result (λ _. HasGained (steps_of (plain code.now) lists.old way)
-        (found lists.old cells.old.items) (pending cells.old.items) (found lists.new cells.new.items) (pending cells.new.items)) }
-    ensures well { IfOk result (λ _. IsWell lists.new cells.new.items work.new) }
-    ensures size { IfOk result (λ _. length cells.new.items ≡ length cells.old.items) }
-    ensures unsound { IfErr result (λ r. IfUnsound r (NoneTakes (length cells.old.items) (found lists.old cells.old.items)
+        (found lists.old cells.old) (pending cells.old) (found lists.new cells.new) (pending cells.new)) }
+    ensures well { IfOk result (λ _. IsWell lists.new cells.new work.new) }
+    ensures size { IfOk result (λ _. length cells.new ≡ length cells.old) }
+    ensures unsound { IfErr result (λ r. IfUnsound r (NoneTakes (length cells.old) (found lists.old cells.old)
         (steps_of (plain code.now) lists.old way))) }
 {
     match way {
@@ -326,21 +319,21 @@ fn carry(
 // Two steps arrive.
 fn arrive_both(
     lists: &mut Lists,
-    cells: &mut Vec<Cell>,
+    cells: &mut Cells,
     work: &mut Work,
     b: u32,
     x: Held,
     d: u32,
     y: Held,
 ) -> Result<(), Refusal>
-    requires well { IsWell lists.old cells.old.items work.old }
+    requires well { IsWell lists.old cells.old work.old }
     requires x { IsHeld lists.old x }
     requires y { IsHeld lists.old y }
     ensures gains { IfOk result (λ _. Gains (record { at = b; entry = entry_of lists.old x } ∷ record { at = d; entry = entry_of lists.old y } ∷ [])
-        (found lists.old cells.old.items) (pending cells.old.items) (found lists.new cells.new.items) (pending cells.new.items)) }
-    ensures well { IfOk result (λ _. IsWell lists.new cells.new.items work.new) }
-    ensures size { IfOk result (λ _. length cells.new.items ≡ length cells.old.items) }
-    ensures unsound { IfErr result (λ r. IfUnsound r (NoneTakes (length cells.old.items) (found lists.old cells.old.items)
+        (found lists.old cells.old) (pending cells.old) (found lists.new cells.new) (pending cells.new)) }
+    ensures well { IfOk result (λ _. IsWell lists.new cells.new work.new) }
+    ensures size { IfOk result (λ _. length cells.new ≡ length cells.old) }
+    ensures unsound { IfErr result (λ r. IfUnsound r (NoneTakes (length cells.old) (found lists.old cells.old)
         (goes_both b (entry_of lists.old x) d (entry_of lists.old y)))) }
 {
     match arrive(lists, cells, work, b, x) {
@@ -355,18 +348,18 @@ fn arrive_both(
 // A step to each of these addresses arrives.
 fn arrive_each(
     lists: &mut Lists,
-    cells: &mut Vec<Cell>,
+    cells: &mut Cells,
     work: &mut Work,
     x: Held,
     list: &[u32],
 ) -> Result<(), Refusal>
-    requires well { IsWell lists.old cells.old.items work.old }
+    requires well { IsWell lists.old cells.old work.old }
     requires x { IsHeld lists.old x }
     ensures gains { IfOk result (λ _. HasGained (goes_to_each (entry_of lists.old x) list.now)
-        (found lists.old cells.old.items) (pending cells.old.items) (found lists.new cells.new.items) (pending cells.new.items)) }
-    ensures well { IfOk result (λ _. IsWell lists.new cells.new.items work.new) }
-    ensures size { IfOk result (λ _. length cells.new.items ≡ length cells.old.items) }
-    ensures unsound { IfErr result (λ r. IfUnsound r (NoneTakes (length cells.old.items) (found lists.old cells.old.items)
+        (found lists.old cells.old) (pending cells.old) (found lists.new cells.new) (pending cells.new)) }
+    ensures well { IfOk result (λ _. IsWell lists.new cells.new work.new) }
+    ensures size { IfOk result (λ _. length cells.new ≡ length cells.old) }
+    ensures unsound { IfErr result (λ r. IfUnsound r (NoneTakes (length cells.old) (found lists.old cells.old)
         (goes_to_each (entry_of lists.old x) list.now))) }
 {
     for b in list {

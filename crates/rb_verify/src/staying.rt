@@ -11,7 +11,7 @@ ghost use Rattle.rb_verify.specs.Parts.{loop_of, loops_of};
 ghost use Rattle.rb_verify.specs.Join.{same_loop};
 ghost use Rattle.rb_verify.specs.Watched.{IsLooked, IsWatching, StaysOpen, begun, is_kept as kept, is_open as opened, watched_on};
 
-use crate::cell::Cell;
+use crate::cells::Cells;
 use crate::ends::{Ends, end_of};
 use crate::entry::{Held, Loop, Loops};
 use crate::join::is_same_loop;
@@ -25,7 +25,7 @@ pub fn loops_stay_open(
     nested: &Nested,
     ends: &Ends,
     lists: &Lists,
-    cells: &[Cell],
+    cells: &Cells,
 ) -> bool
     requires ends { AreEnds (plain code.now) ends.now }
     requires few { length code.now.instrs.items < 4294967295 }
@@ -46,7 +46,7 @@ fn stay_open(
     nested: &Nested,
     ends: &Ends,
     lists: &Lists,
-    cells: &[Cell],
+    cells: &Cells,
     counter: u32,
 ) -> bool
     requires ends { AreEnds (plain code.now) ends.now }
@@ -79,7 +79,7 @@ fn look(
     nested: &Nested,
     ends: &Ends,
     lists: &Lists,
-    cells: &[Cell],
+    cells: &Cells,
     counter: u32,
     at: usize,
     watched: Option<Loop>,
@@ -103,7 +103,8 @@ fn look(
 }
 
 /// The entry at an address.
-pub fn entry_at(cells: &[Cell], at: usize) -> Option<Held>
+#[inline(always)]
+pub fn entry_at(cells: &Cells, at: usize) -> Option<Held>
     ensures { result ≡ held_in (slice_get cells.now at) }
 {
     match cells.get(at) {

@@ -1,10 +1,8 @@
-use Rattle.std.proofs.Common.{◌≡◌, List, length, true, false, sym, ap, ◌∙◌, subst}
+use Rattle.std.proofs.Common.{List, sym, ap, ◌∙◌}
 use Rattle.rb_code.specs.Instructions.Plain.{code as plain}
-use Rattle.rb_code.specs.SoundCode.WellFormed.{JoinsOnce, LoopsStayOpen}
 use Rattle.rb_conv.specs.Conversations.{memberships, opening}
 use Rattle.rb_verify.specs.Found.{found}
-use Rattle.rb_verify.specs.Joinings.{AreJoinings, groups_join}
-use Rattle.rb_verify.specs.declared.cell.Cell.{Cell}
+use Rattle.rb_verify.specs.Joinings.{groups_join}
 use Rattle.rb_verify.specs.declared.joining.Joining.{Joining}
 use Rattle.rb_verify.proofs.Judging.{as_many, is_sound, joins_fail, loops_leave}
 use Rattle.rb_verify.proofs.MembersJoin.{counts, join_fails, join_once}
@@ -14,22 +12,20 @@ pub returns-then-not-loops_stay_open-clause-unsound : goal.returns-then-not-loop
 returns-then-not-loops_stay_open-clause-unsound c =
     let code = plain c.args.code.now
     in let lists = c.args.known.now.lists
-    in loops_leave code (memberships (opening c.args.nested.now)) (found lists c.args.known.now.cells.items) c.requires.found
+    in loops_leave code (memberships (opening c.args.nested.now)) (found lists c.args.known.now.cells) c.requires.found
     (counts c.args.nested.now.conversations.items)
-    (subst (λ (cells : List Cell). LoopsStayOpen code (found lists cells) → ⊥) c.deref.ensures.value
-    (c.loops_stay_open.ensures.leave c.if-not-loops_stay_open.true))
+    (c.loops_stay_open.ensures.leave c.if-not-loops_stay_open.true)
 
 pub returns-then-not-members_join_once-clause-unsound : goal.returns-then-not-members_join_once-clause-unsound
 returns-then-not-members_join_once-clause-unsound c =
     let code = plain c.args.code.now
     in let lists = c.args.known.now.lists
     in let groups = c.args.nested.now.conversations.items
-    in let f = found lists c.args.known.now.cells.items
+    in let f = found lists c.args.known.now.cells
     in joins_fail code (memberships (opening c.args.nested.now)) f c.requires.found (counts groups)
     (join_fails code f groups c.in-Ok.all.items
-    (subst (λ (cells : List Cell). AreJoinings code (found lists cells) (length code.instrs) c.in-Ok.all.items) c.deref-2.ensures.value
-    c.in-Ok.ensures)
-    (ap (λ (all : List Joining). groups_join 0 all groups) (sym c.deref-3.ensures.value) ∙ sym c.members_join_once.ensures
+    c.in-Ok.ensures
+    (ap (λ (all : List Joining). groups_join 0 all groups) (sym c.deref.ensures.value) ∙ sym c.members_join_once.ensures
     ∙ c.if-not-members_join_once.true))
 
 pub returns-clause-sound : goal.returns-clause-sound
@@ -37,13 +33,11 @@ returns-clause-sound c =
     let code = plain c.args.code.now
     in let lists = c.args.known.now.lists
     in let groups = c.args.nested.now.conversations.items
-    in let f = found lists c.args.known.now.cells.items
+    in let f = found lists c.args.known.now.cells
     in is_sound code (memberships (opening c.args.nested.now)) f c.requires.found (counts groups) c.requires.well
     (as_many (opening c.args.nested.now))
-    (subst (λ (cells : List Cell). LoopsStayOpen code (found lists cells)) c.deref.ensures.value
-    (c.loops_stay_open.ensures.stay c.if-not-loops_stay_open.false))
+    (c.loops_stay_open.ensures.stay c.if-not-loops_stay_open.false)
     (join_once code f groups c.in-Ok.all.items
-    (subst (λ (cells : List Cell). AreJoinings code (found lists cells) (length code.instrs) c.in-Ok.all.items) c.deref-2.ensures.value
-    c.in-Ok.ensures)
-    (ap (λ (all : List Joining). groups_join 0 all groups) (sym c.deref-3.ensures.value) ∙ sym c.members_join_once.ensures
+    c.in-Ok.ensures
+    (ap (λ (all : List Joining). groups_join 0 all groups) (sym c.deref.ensures.value) ∙ sym c.members_join_once.ensures
     ∙ c.if-not-members_join_once.false))

@@ -11,9 +11,9 @@ pub returns-in-Err-clause-unsound : goal.returns-in-Err-clause-unsound
 returns-in-Err-clause-unsound c =
     let inv = c.loop-b.invariant
     in let lists = c.args.lists.now
-    in let n = length c.args.cells.now.items
+    in let n = length c.args.cells.now
     in let now = c.loop-b.lists
-    in let cells = c.loop-b.cells.items
+    in let cells = c.loop-b.cells
     in if_unsound c.in-Err.refused
     (λ none. inv.none (next_first (entry_of lists c.args.x)
     (entry_of now c.args.x) (grown_entry lists now c.args.x inv.grown c.requires.x) c.args.list.now c.loop-b.b-index (omega arith)
@@ -24,11 +24,11 @@ pub loop-b-preserved : goal.loop-b-preserved
 loop-b-preserved c =
     let inv = c.loop-b.invariant
     in let lists = c.args.lists.now
-    in let n = length c.args.cells.now.items
+    in let n = length c.args.cells.now
     in let now = c.loop-b.lists
-    in let cells = c.loop-b.cells.items
+    in let cells = c.loop-b.cells
     in let after = c.arrive.new.lists
-    in let others = c.arrive.new.cells.items
+    in let others = c.arrive.new.cells
     in record {
       well = c.in-Ok.ensures.well;
       size = c.in-Ok.ensures.size ∙ inv.size;
@@ -46,7 +46,7 @@ returns-clause-gains c =
     let inv = c.loop-b.invariant
     in let lists = c.args.lists.now
     in let now = c.loop-b.lists
-    in let f = found now c.loop-b.cells.items
-    in let p = pending c.loop-b.cells.items
+    in let f = found now c.loop-b.cells
+    in let p = pending c.loop-b.cells
     in inv.completes f p (last_gained (entry_of lists c.args.x)
     (entry_of now c.args.x) (grown_entry lists now c.args.x inv.grown c.requires.x) c.args.list.now c.loop-b.b-index (omega arith) f p)

@@ -10,16 +10,16 @@ use Rattle.rb_verify.proofs.search.arrive_each.Given as goal
 
 abbrev pub invariant-loop-b : goal.invariant-loop-b
 invariant-loop-b l = record {
-  well : IsWell l.lists l.cells.items l.work;
-  size : length l.cells.items ≡ length l.fn.cells.items;
+  well : IsWell l.lists l.cells l.work;
+  size : length l.cells ≡ length l.fn.cells;
   grown : HasGrown l.fn.lists l.lists;
   completes : (g : Table) (q : Pending)
       → HasGained (goes_to_each (entry_of l.fn.lists l.x) (drop l.b-index l.list))
-      (found l.lists l.cells.items) (pending l.cells.items) g q
+      (found l.lists l.cells) (pending l.cells) g q
       → HasGained (goes_to_each (entry_of l.fn.lists l.x) l.list)
-      (found l.fn.lists l.fn.cells.items) (pending l.fn.cells.items) g q;
-  none : NoneTakes (length l.fn.cells.items) (found l.lists l.cells.items)
+      (found l.fn.lists l.fn.cells) (pending l.fn.cells) g q;
+  none : NoneTakes (length l.fn.cells) (found l.lists l.cells)
       (goes_to_each (entry_of l.fn.lists l.x) (drop l.b-index l.list))
-      → NoneTakes (length l.fn.cells.items) (found l.fn.lists l.fn.cells.items)
+      → NoneTakes (length l.fn.cells) (found l.fn.lists l.fn.cells)
       (goes_to_each (entry_of l.fn.lists l.x) l.list);
 }

@@ -9,5 +9,5 @@ use Rattle.rb_verify.proofs.search.begin.Goals as goal
 pub returns-clause-searching : goal.returns-clause-searching
 returns-clause-searching c =
     let few : length (plain c.args.code.now).processes ≤ c.loop-p.p = omega (arith, length-map c.args.code.now.processes.items part)
-    in begun (plain c.args.code.now) (memberships (opening c.args.nested.now)) c.loop-p.p (found c.loop-p.lists c.loop-p.cells.items)
-    (pending c.loop-p.cells.items) few c.loop-p.invariant.beginning
+    in begun (plain c.args.code.now) (memberships (opening c.args.nested.now)) c.loop-p.p (found c.loop-p.lists c.loop-p.cells)
+    (pending c.loop-p.cells) few c.loop-p.invariant.beginning

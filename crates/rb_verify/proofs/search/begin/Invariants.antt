@@ -7,7 +7,7 @@ use Rattle.rb_verify.proofs.search.begin.Given as goal
 
 abbrev pub invariant-loop-p : goal.invariant-loop-p
 invariant-loop-p l = record {
-  well : IsWell l.lists l.cells.items l.work;
-  size : length l.cells.items ≡ length l.code.instrs.items;
-  beginning : IsBeginning (plain l.code) (memberships (opening l.nested)) l.p (found l.lists l.cells.items) (pending l.cells.items);
+  well : IsWell l.lists l.cells l.work;
+  size : length l.cells ≡ length l.code.instrs.items;
+  beginning : IsBeginning (plain l.code) (memberships (opening l.nested)) l.p (found l.lists l.cells) (pending l.cells);
 }

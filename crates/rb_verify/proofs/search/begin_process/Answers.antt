@@ -12,11 +12,11 @@ pub returns-in-Err-clause-unsound : goal.returns-in-Err-clause-unsound
 returns-in-Err-clause-unsound c =
     let code = plain c.args.code.now
     in let p = c.args.p
-    in let n = length c.args.cells.now.items
-    in let f = found c.args.lists.now c.args.cells.now.items
+    in let n = length c.args.cells.now
+    in let f = found c.args.lists.now c.args.cells.now
     in let r = start_is (slice_get code.processes p) c.in-Some.start c.in-Some.ensures
     in if_unsound c.in-Err.refused
-    (λ none. none_begins code (memberships (opening c.args.nested.now)) p n r.0 f (pending c.args.cells.now.items) r.1 c.requires.size c.requires.beginning
+    (λ none. none_begins code (memberships (opening c.args.nested.now)) p n r.0 f (pending c.args.cells.now) r.1 c.requires.size c.requires.beginning
     (subst (λ (k : ℕ). NoneTakes n f (goes k (begins p None 0))) (sym r.2) none))
     c.in-Err.ensures.unsound
 
@@ -24,8 +24,8 @@ pub returns-in-Ok-clause-beginning : goal.returns-in-Ok-clause-beginning
 returns-in-Ok-clause-beginning c =
     let code = plain c.args.code.now
     in let p = c.args.p
-    in let cells = c.args.cells.now.items
-    in let others = c.arrive_begun.new.cells.items
+    in let cells = c.args.cells.now
+    in let others = c.arrive_begun.new.cells
     in let f = found c.args.lists.now cells
     in let g = found c.arrive_begun.new.lists others
     in let r = start_is (slice_get code.processes p) c.in-Some.start c.in-Some.ensures

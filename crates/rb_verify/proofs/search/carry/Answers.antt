@@ -9,7 +9,7 @@ use Rattle.rb_verify.proofs.search.carry.Goals as goal
 
 pub returns-in-Ends-clause-gains : goal.returns-in-Ends-clause-gains
 returns-in-Ends-clause-gains c =
-    let f = found c.args.lists.now c.args.cells.now.items
-    in let p = pending c.args.cells.now.items
+    let f = found c.args.lists.now c.args.cells.now
+    in let p = pending c.args.cells.now
     in subst (λ (w : Way). HasGained (steps_of (plain c.args.code.now) c.args.lists.now w) f p f p)
     (sym c.in-Ends.is) (gains_nothing f p)

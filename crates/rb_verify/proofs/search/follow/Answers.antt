@@ -13,13 +13,13 @@ follow_from-requires-clause-following c =
     in let groups = memberships (opening c.args.nested.now)
     in let lists = c.args.lists.now
     in subst (λ (cells : List Cell). IsFollowing code groups (found lists cells) (pending cells) c.in-Some.at) (sym c.in-Some-take.ensures.cells)
-    (clear_following lists c.args.cells.now.items c.in-Some.at c.in-Some-take.held c.in-Some-take.ensures.at c.in-Some-take.ensures.held
+    (clear_following lists c.args.cells.now c.in-Some.at c.in-Some-take.held c.in-Some-take.ensures.at c.in-Some-take.ensures.held
     code groups c.requires.searching)
 
 pub follow_from-requires-clause-well : goal.follow_from-requires-clause-well
 follow_from-requires-clause-well c =
     let lists = c.args.lists.now
-    in let cells = c.args.cells.now.items
+    in let cells = c.args.cells.now
     in subst (λ (after : List Cell). IsWell lists after c.pop.new.self) (sym c.in-Some-take.ensures.cells)
     (clear_well lists cells c.in-Some.at c.in-Some-take.held c.in-Some-take.ensures.at c.in-Some-take.ensures.held c.pop.new.self
     (taking lists cells c.args.work.now c.pop.new.self c.in-Some.at c.requires.well c.in-Some.ensures))

@@ -8,12 +8,12 @@ use Rattle.rb_verify.proofs.search.follow_from.Goals as goal
 pub returns-in-Err-carry-clause-unsound : goal.returns-in-Err-carry-clause-unsound
 returns-in-Err-carry-clause-unsound c =
     if_unsound c.in-Err-carry.refused
-    (no_table (plain c.args.code.now) (memberships (opening c.args.nested.now)) c.args.lists.now c.flow.new.lists c.args.cells.now.items
+    (no_table (plain c.args.code.now) (memberships (opening c.args.nested.now)) c.args.lists.now c.flow.new.lists c.args.cells.now
     c.args.work.now c.args.at c.args.held c.in-Ok.way c.requires.well c.requires.is c.requires.following c.in-Ok.ensures c.requires.size)
     c.in-Err-carry.ensures.unsound
 
 pub returns-in-Ok-carry-clause-searching : goal.returns-in-Ok-carry-clause-searching
 returns-in-Ok-carry-clause-searching c =
-    goes_on (plain c.args.code.now) (memberships (opening c.args.nested.now)) c.args.lists.now c.flow.new.lists c.args.cells.now.items
+    goes_on (plain c.args.code.now) (memberships (opening c.args.nested.now)) c.args.lists.now c.flow.new.lists c.args.cells.now
     c.args.work.now c.args.at c.args.held c.in-Ok.way c.requires.well c.requires.is c.requires.following c.in-Ok.ensures
-    (found c.carry.new.lists c.carry.new.cells.items) (pending c.carry.new.cells.items) c.in-Ok-carry.ensures.gains
+    (found c.carry.new.lists c.carry.new.cells) (pending c.carry.new.cells) c.in-Ok-carry.ensures.gains

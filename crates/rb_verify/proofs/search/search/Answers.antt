@@ -7,6 +7,6 @@ use Rattle.rb_verify.proofs.search.search.Goals as goal
 
 pub returns-then-not-more-clause-found : goal.returns-then-not-more-clause-found
 returns-then-not-more-clause-found c =
-    let cells = c.follow.new.cells.items
+    let cells = c.follow.new.cells
     in found (plain c.args.code.now) (memberships (opening c.args.nested.now)) (table c.follow.new.lists cells) (pending cells)
     c.in-Ok.ensures.searching (c.in-Ok.ensures.done c.if-not-more.true)

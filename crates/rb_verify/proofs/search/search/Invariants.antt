@@ -7,7 +7,7 @@ use Rattle.rb_verify.proofs.search.search.Given as goal
 
 abbrev pub invariant-loop : goal.invariant-loop
 invariant-loop l = record {
-  well : IsWell l.lists l.cells.items l.work;
-  size : length l.cells.items ≡ length l.code.instrs.items;
-  searching : IsSearching (plain l.code) (memberships (opening l.nested)) (found l.lists l.cells.items) (pending l.cells.items);
+  well : IsWell l.lists l.cells l.work;
+  size : length l.cells ≡ length l.code.instrs.items;
+  searching : IsSearching (plain l.code) (memberships (opening l.nested)) (found l.lists l.cells) (pending l.cells);
 }
