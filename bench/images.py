@@ -24,6 +24,10 @@ ACCEPTED, REFUSED, UNSOUND, LONG = (0, None), (1, b"refused I1\n"), (1, b"refuse
 USAGE = 2
 SECONDS = 10
 MEGABYTES = 1500
+HONEST_SECONDS = 0.3
+HONEST_MEGABYTES = 100
+# The processor seconds that `loop` takes on the machine for which these bounds are given.
+LOOP_SECONDS = 0.3
 
 
 def run(folder, *words):
@@ -100,6 +104,24 @@ def mutants(data):
             yield data[:at] + bytes([other]) + data[at + 1:]
 
 
+def filled(size):
+    """A sound image of so many bytes: texts that no instruction names fill it up."""
+    image = build("turn; done")
+    left = size - len(image_bytes.write({**image, "texts": []}))
+    count = left // 100 - 1
+    image["texts"] = [b"t" * 92] * count + [b"t" * (left - 100 * count - 8)]
+    return image_bytes.write(image)
+
+
+def check_lengths(folder):
+    """What is wrong with the answers on the longest images, and on those of a byte more."""
+    for size, due in ((16_777_216, ACCEPTED), (16_777_217, LONG)):
+        data = filled(size)
+        assert len(data) == size
+        if not is_answer(answer := load(folder, data), due):
+            yield f"a sound image of {size} bytes: {answer}"
+
+
 def check_forms(folder):
     """What is wrong with the answers on bytes that are no image, or are another one."""
     data = image_bytes.write(build("turn; enter 0; r0: turn; start 0; a0: t0: turn; prior g1; test 0; done; f: return; q: done"))
@@ -113,9 +135,20 @@ def check_forms(folder):
             yield f"{len(other)} bytes: {answer}"
 
 
+def loop():
+    return sum(i * i % 7 for i in range(3_000_000))
+
+
+def slowness():
+    """How many times longer this machine takes for the same work as that of the bounds; 1 where it is not slower."""
+    begun = time.process_time()
+    loop()
+    return max(1, (time.process_time() - begun) / LOOP_SECONDS)
+
+
 def limited():
-    """The limit of a command, a little above the one that is asked for: what goes beyond is told."""
-    resource.setrlimit(resource.RLIMIT_CPU, (SECONDS + 2, SECONDS + 2))
+    """The limit of a command, far above the one that is asked for: what goes beyond is told."""
+    resource.setrlimit(resource.RLIMIT_CPU, (10 * SECONDS, 10 * SECONDS))
 
 
 def measured(folder, *words):
@@ -128,6 +161,7 @@ def measured(folder, *words):
 
 def check_worst(folder, told):
     """What is wrong with the answers on the worst images, and what they take."""
+    most = SECONDS * slowness()
     for name, make, status in worst():
         data = make()
         size = len(data)
@@ -137,21 +171,30 @@ def check_worst(folder, told):
         del data
         ended, seconds, megabytes = measured(folder, "load", "image", os.devnull)
         told(f"{name}: {size} bytes, status {ended}, {seconds:.2f} s, {megabytes:.0f} MB")
-        if ended != status or seconds > SECONDS or megabytes > MEGABYTES:
+        if ended != status or seconds > most or megabytes > MEGABYTES:
             yield f"{name}: status {ended} for {status}, {seconds:.2f} s, {megabytes:.0f} MB"
 
 
+def mebibytes():
+    """Sources of a mebibyte: of assignments, and of a sum, of which each byte is an instruction."""
+    yield "assignments", fill("program h; process p { var x; ", "x:=x;", "} end.")
+    yield "sum of numbers", fill("program h; process p { var x; x:=", "1+", "1; } end.")
+    yield "sum of words", fill("program h; process p { var x; x:=", "x+", "x; } end.")
+
+
 def honest(folder):
-    """The largest of our sources, and one of a mebibyte."""
+    """The largest of our sources, and some of a mebibyte."""
     yield max(sources(), key=lambda one: len(run(folder, "compile", one)[1]))
-    largest = os.path.join(folder, "largest.rbl")
-    with open(largest, "w", encoding="ascii") as out:
-        out.write(fill("program h; process p { var x; ", "x:=x;", "} end."))
-    yield largest
+    for name, text in mebibytes():
+        source = os.path.join(folder, f"{name}.rbl")
+        with open(source, "w", encoding="ascii") as out:
+            out.write(text)
+        yield source
 
 
 def check_honest(folder, told):
-    """The image of a large source is cheap."""
+    """The image of a large source is cheap. A machine that is slow now may not be slow a moment later, so the bound is not strict."""
+    most = 2 * HONEST_SECONDS * slowness()
     for source in honest(folder):
         data = run(folder, "compile", source)[1]
         with open(os.path.join(folder, "image"), "wb") as out:
@@ -159,7 +202,7 @@ def check_honest(folder, told):
         ended, seconds, megabytes = measured(folder, "load", "image", os.devnull)
         line = f"{os.path.basename(source)}: an image of {len(data)} bytes, status {ended}, {seconds:.2f} s, {megabytes:.0f} MB"
         told(line)
-        if ended != 0 or seconds > 0.3 or megabytes > 100:
+        if ended != 0 or seconds > most or megabytes > HONEST_MEGABYTES:
             yield line
 
 
@@ -169,6 +212,7 @@ def check(folder, told):
             yield f"{os.path.relpath(source, ROOT)}: {line}"
     yield from check_table(folder, told)
     yield from check_forms(folder)
+    yield from check_lengths(folder)
     yield from check_honest(folder, told)
     yield from check_worst(folder, told)
 

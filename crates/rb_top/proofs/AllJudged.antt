@@ -70,7 +70,7 @@ Judged goes_on source second = (judgement : Judgement) × BothEnd goes_on source
 
 -- it is refused with a line, or has a text
 module _ (names : List (List ℕ)) (text_of : List ℕ → List ℕ) (schedule : List ℕ) where
-  abbrev Turned : Type 0
+  abbrev pub Turned : Type 0
   Turned = ((line : List ℕ) × ScheduleRefused names schedule line) ⊎ ((text : List ℕ) × ScheduleRuns names text_of schedule text)
 
   -- it is a list of turns, or has a first fault
@@ -79,7 +79,7 @@ module _ (names : List (List ℕ)) (text_of : List ℕ → List ℕ) (schedule :
   by_turns (Err fault) short e = inl (text_line fault, bad_schedule fault short e refl)
 
   -- it is too long, or not
-  turned : Turned
+  pub turned : Turned
   turned = by (nat_lt MOST_BYTES (length schedule)) refl
     where
       by : (long : Bool) → nat_lt MOST_BYTES (length schedule) ≡ long → Turned
@@ -308,24 +308,28 @@ module _ (image schedule : List ℕ) where
   refuses_image line refused =
       (RefusedWith line, later [] image (schedule ∷ []) (RefusedWith line) at_first (refused_here (image ∷ []) (schedule ∷ []) line (first_refused image line refused)))
 
-  -- a program that may be run reads the schedule, which is refused, or of which it has a text
-  over_program : (program : Program) → ImageHolds image program
-      → (refused : ((line : List ℕ) × ScheduleRefused (names_in program) schedule line)
-      ⊎ ((text : List ℕ) × ScheduleRuns (names_in program) (word_text program.code program.groups) schedule text)) → Loaded
-  over_program program holds (inl (line, refused)) = (
-    RefusedWith line,
-    later [] image (schedule ∷ []) (RefusedWith line) at_first
+  module _ (program : Program) (holds : ImageHolds image program) where
+    -- a program that may be run reads the schedule, which is refused
+    pub load_refuses : (line : List ℕ) → ScheduleRefused (names_in program) schedule line
+        → EndsWith Load [] (image ∷ schedule ∷ []) (RefusedWith line)
+    load_refuses line refused =
+        later [] image (schedule ∷ []) (RefusedWith line) at_first
         (later (image ∷ []) schedule [] (RefusedWith line) (first_accepted image program [] ReadsOn holds reads_schedule)
         (refused_here (image ∷ schedule ∷ []) [] line
-        (first_accepted image program (schedule ∷ []) (RefusedWith line) holds (schedule_refused schedule line refused)))),
-  )
-  over_program program holds (inr (text, ran)) = (
-    Writes text,
-    later [] image (schedule ∷ []) (Writes text) at_first
+        (first_accepted image program (schedule ∷ []) (RefusedWith line) holds (schedule_refused schedule line refused))))
+
+    -- or of which it has a text
+    pub load_writes : (text : List ℕ) → ScheduleRuns (names_in program) (word_text program.code program.groups) schedule text
+        → EndsWith Load [] (image ∷ schedule ∷ []) (Writes text)
+    load_writes text ran =
+        later [] image (schedule ∷ []) (Writes text) at_first
         (later (image ∷ []) schedule [] (Writes text) (first_accepted image program [] ReadsOn holds reads_schedule)
         (written_here (image ∷ schedule ∷ []) [] text
-        (first_accepted image program (schedule ∷ []) (Writes text) holds (runs schedule text ran)))),
-  )
+        (first_accepted image program (schedule ∷ []) (Writes text) holds (runs schedule text ran))))
+
+    over_program : Turned (names_in program) (word_text program.code program.groups) schedule → Loaded
+    over_program (inl (line, refused)) = (RefusedWith line, load_refuses line refused)
+    over_program (inr (text, ran)) = (Writes text, load_writes text ran)
 
   -- and no image is without a verdict
   loaded : (Loaded → ⊥) → ⊥

@@ -68,7 +68,7 @@ following_ends judged (Err halted.Memory) status text w0 w1 f0 f1 p e written =
 
 module _ (files : List File) (name bytes : List ℕ) (most : ℕ) (others now : List Start) (was : WasRead files name most bytes others now) where
   -- a file that is not too long was read whole
-  read_whole : length bytes ≤ most → (bytes_of files name ≡ Some bytes) × IsRead most bytes (length bytes)
+  pub read_whole : length bytes ≤ most → (bytes_of files name ≡ Some bytes) × IsRead most bytes (length bytes)
   read_whole short = elim was.read.ended [
     | inl same ↦ (
         let all : was.all ≡ bytes = sym (was.front ∙ take_all (length bytes) was.all (omega arith)) in

@@ -17,23 +17,26 @@ use Rattle.rb_trace.specs.Naming.{process_naming, variable_naming}
 use Rattle.rb_trace.proofs.Lying.{variables_within}
 use Rattle.rb_sched.specs.Schedule.{schedule_of}
 use Rattle.rb_nest.specs.Groups.{alternates, memberships as told_memberships}
+use Rattle.rb_code.specs.declared.code.Code.{Code as Held}
 use Rattle.rb_code.specs.Instructions.Plain.{Part, code}
 use Rattle.rb_code.specs.SoundCode.WellFormed.{IsSound, IsWellFormed}
 use Rattle.rb_code.specs.WordMachine.WordRun.{word_text}
 use Rattle.rb_conv.specs.Conversations.{memberships, opening}
 use Rattle.rb_machine.specs.Worlds.{counts_of}
-use Rattle.rb_image.specs.declared.raw.Raw.{Raw}
 use Rattle.rb_lists.specs.Lists.{HasLists}
 use Rattle.rb_lists.specs.Variables.{LieInParts}
 use Rattle.rb_run.specs.Running.{NamesFit}
+use Rattle.rb_image.specs.Laws.{IsImage}
 use Rattle.rb_top.specs.declared.image.TheConstants.{MOST_IMAGE}
+use Rattle.rb_top.specs.declared.image.Unfit.{Unfit}
+use Rattle.rb_top.specs.declared.image.Unfit.TheVariants as unfit
 use Rattle.rb_top.specs.declared.status.Status.{Status}
 use Rattle.rb_top.specs.Words.{Load, Wanted, Request, image_named, load_of, text_named}
 use Rattle.rb_top.specs.Answers.{WithRequest}
 use Rattle.rb_top.specs.Read.{WasReadIn}
-use Rattle.rb_top.specs.Judgement.{ImageHolds, ImageRefused, Judges, JudgesFirst, Judgement, LoadGoesOn, MayRun, Program, ReadsOn, RefusedWith, VariablesLie, Writes}
+use Rattle.rb_top.specs.Judgement.{ImageHolds, ImageRefused, Judges, JudgesFirst, Judgement, LoadGoesOn, MayRun, Program, ReadsOn, RefusedWith, VariablesLie, Writes, program_of}
 use Rattle.rb_top.specs.Judgement.{at_first, bad_schedule, first_accepted, first_refused, long_image, long_schedule, names_in, no_image, reads_schedule, runs, schedule_refused, text_line, too_long_line, unsound_image}
-use Rattle.rb_top.specs.Stages.{EndsForImage, HasImage, HasReadIn, StageEnds, program_of}
+use Rattle.rb_top.specs.Stages.{EndsForImage, HasImage, HasReadIn, IsUnfit, IsUnfitImage, StageEnds}
 use Rattle.rb_top.proofs.Answering.{next_judged, nothing_read, reads_text}
 use Rattle.rb_top.proofs.Loaded.{opened_counts, opened_groups}
 use Rattle.rb_top.proofs.Sources.{long_schedules}
@@ -58,63 +61,78 @@ lie_there [] (part ∷ parts) lie = lie
 lie_there (one ∷ names) [] lie = lie
 lie_there (one ∷ names) (part ∷ parts) (here, others) = (variables_within part.words one.variables.items here, lie_there names parts others)
 
-module _ (raw : Raw) where
-  groups_told : memberships (opening raw.nested) ≡ told_memberships raw.nested
-  groups_told = opened_groups raw.nested.conversations.items
+module _ (held : Held) (nested : Nested) where
+  groups_told : memberships (opening nested) ≡ told_memberships nested
+  groups_told = opened_groups nested.conversations.items
 
   -- its lists are well formed, and it is sound
-  pub fit : HasLists raw.code raw.nested → IsSound (code raw.code) (memberships (opening raw.nested)) (counts_of (opening raw.nested))
-      → MayRun (program_of raw)
+  pub fit : HasLists held nested → IsSound (code held) (memberships (opening nested)) (counts_of (opening nested))
+      → MayRun (program_of held nested)
   fit lists sound = record {
-    sound = subst (IsSound (code raw.code) (told_memberships raw.nested)) (opened_counts raw.nested)
-        (subst (λ (groups : List Membership). IsSound (code raw.code) groups (counts_of (opening raw.nested))) groups_told sound);
-    lie = lie_told raw.code.names.processes.items (code raw.code).processes lists.lie;
+    sound = subst (IsSound (code held) (told_memberships nested)) (opened_counts nested)
+        (subst (λ (groups : List Membership). IsSound (code held) groups (counts_of (opening nested))) groups_told sound);
+    lie = lie_told held.names.processes.items (code held).processes lists.lie;
   }
 
-  module _ (may : MayRun (program_of raw)) where
+  module _ (may : MayRun (program_of held nested)) where
     -- so the machine may be loaded with it
-    pub sound_opened : IsSound (code raw.code) (memberships (opening raw.nested)) (counts_of (opening raw.nested))
+    pub sound_opened : IsSound (code held) (memberships (opening nested)) (counts_of (opening nested))
     sound_opened =
-        subst (λ (groups : List Membership). IsSound (code raw.code) groups (counts_of (opening raw.nested))) (sym groups_told)
-        (subst (IsSound (code raw.code) (told_memberships raw.nested)) (sym (opened_counts raw.nested)) may.sound)
+        subst (λ (groups : List Membership). IsSound (code held) groups (counts_of (opening nested))) (sym groups_told)
+        (subst (IsSound (code held) (told_memberships nested)) (sym (opened_counts nested)) may.sound)
 
-    pub lists_had : HasLists raw.code raw.nested
+    pub lists_had : HasLists held nested
     lists_had = record {
       well = sound_opened.well;
-      lie = lie_there raw.code.names.processes.items (code raw.code).processes may.lie;
+      lie = lie_there held.names.processes.items (code held).processes may.lie;
     }
 
-    pub names_fit_code : NamesFit (code raw.code) raw.code.names
+    pub names_fit_code : NamesFit (code held) held.names
     names_fit_code = record { processes = lists_had.lie; channels = may.sound.well.named.channels_each }
 
   -- its names are those that its schedule is read with
-  its_names : process_names raw.code.names ≡ names_in (program_of raw)
-  its_names = sym (map-map (λ (p : ProcessNaming). p.name) process_naming raw.code.names.processes.items)
+  its_names : process_names held.names ≡ names_in (program_of held nested)
+  its_names = sym (map-map (λ (p : ProcessNaming). p.name) process_naming held.names.processes.items)
 
   module _ (bytes : List ℕ) where
-    told : schedule_of (names_in (program_of raw)) bytes ≡ schedule_of (process_names raw.code.names) bytes
+    told : schedule_of (names_in (program_of held nested)) bytes ≡ schedule_of (process_names held.names) bytes
     told = ap (λ (names : List (List ℕ)). schedule_of names bytes) (sym its_names)
 
     -- a schedule that is too long, one with a fault, and one that lists turns
-    pub load_long : MOST_BYTES < length bytes → LoadGoesOn (program_of raw) (bytes ∷ []) (RefusedWith too_long_line)
+    pub load_long : MOST_BYTES < length bytes → LoadGoesOn (program_of held nested) (bytes ∷ []) (RefusedWith too_long_line)
     load_long long = schedule_refused bytes too_long_line (long_schedule long refl)
 
-    pub load_refused : length bytes ≤ MOST_BYTES → (fault : TextFault) → schedule_of (process_names raw.code.names) bytes ≡ Err fault
-        → LoadGoesOn (program_of raw) (bytes ∷ []) (RefusedWith (text_line fault))
+    pub load_refused : length bytes ≤ MOST_BYTES → (fault : TextFault) → schedule_of (process_names held.names) bytes ≡ Err fault
+        → LoadGoesOn (program_of held nested) (bytes ∷ []) (RefusedWith (text_line fault))
     load_refused short fault bad = schedule_refused bytes (text_line fault) (bad_schedule fault short (told ∙ bad) refl)
 
-    pub load_written : length bytes ≤ MOST_BYTES → (turns all : List ℕ) → schedule_of (process_names raw.code.names) bytes ≡ Ok turns
-        → all ≡ turns → (j : Judgement) → j ≡ Writes (word_text (code raw.code) (memberships (opening raw.nested)) all)
-        → LoadGoesOn (program_of raw) (bytes ∷ []) j
+    pub load_written : length bytes ≤ MOST_BYTES → (turns all : List ℕ) → schedule_of (process_names held.names) bytes ≡ Ok turns
+        → all ≡ turns → (j : Judgement) → j ≡ Writes (word_text (code held) (memberships (opening nested)) all)
+        → LoadGoesOn (program_of held nested) (bytes ∷ []) j
     load_written short turns all listed same j written =
-        let text : List ℕ = word_text (code raw.code) (told_memberships raw.nested) turns in
+        let text : List ℕ = word_text (code held) (told_memberships nested) turns in
         let is : j ≡ Writes text =
-        written ∙ ap (λ (groups : List Membership). Writes (word_text (code raw.code) groups all)) groups_told
-        ∙ ap (λ (ts : List ℕ). Writes (word_text (code raw.code) (told_memberships raw.nested) ts)) same in
-        subst (LoadGoesOn (program_of raw) (bytes ∷ [])) (sym is)
+        written ∙ ap (λ (groups : List Membership). Writes (word_text (code held) groups all)) groups_told
+        ∙ ap (λ (ts : List ℕ). Writes (word_text (code held) (told_memberships nested) ts)) same in
+        subst (LoadGoesOn (program_of held nested) (bytes ∷ [])) (sym is)
         (runs bytes text (record { turns = turns; short = short; listed = told ∙ listed; is = refl }))
 
 -- ---- the image
+
+-- what is known of bytes that are the image of a program which is not run
+pub unfit_image : (bytes : List ℕ) (program : Program) → length bytes ≤ MOST_IMAGE → IsImage bytes program.code program.groups program.counts
+    → (why : Unfit) → IsUnfit program why → IsUnfitImage bytes why
+unfit_image bytes program short is unfit.Unsound bad = unsound_image program short is bad refl
+unfit_image bytes program short is unfit.Memory h = tt
+
+-- and of one that is
+pub image_held : (bytes : List ℕ) (program held : Program) → length bytes ≤ MOST_IMAGE → IsImage bytes program.code program.groups program.counts
+    → held ≡ program → MayRun held → ImageHolds bytes held
+image_held bytes program held short is same may = record {
+  short = short;
+  image = subst (λ (one : Program). IsImage bytes one.code one.groups one.counts) (sym same) is;
+  may_run = may;
+}
 
 -- a refused image refuses the command
 pub image_ends : (image : List ℕ) (j : Judgement) → EndsForImage image j → Judges Load (image ∷ []) j

@@ -12,6 +12,7 @@ pub mod SurvivorsKept
 pub mod SurvivorsReplay
 pub mod Complete
 pub mod AllJudged
+pub mod Compiled
 pub mod Loaded
 pub mod Surveys
 pub mod Digits

@@ -3,6 +3,7 @@ use Rattle.std.specs.Prelude.{◌≡◌, ℕ, ◌+◌, ◌<◌, ◌≤◌, List,
 use Rattle.std.specs.List.{AllByRecursion, AllZip}
 use Rattle.rb_base.specs.declared.fault.SourceFault.{SourceFault}
 use Rattle.rb_base.specs.declared.fault.TextFault.{TextFault}
+use Rattle.rb_base.specs.declared.names.Nested.{Nested}
 use Rattle.rb_base.specs.Words.{fault_word}
 use Rattle.rb_syntax.specs.Tree.{Tree}
 use Rattle.rb_base.specs.declared.kept.Kept.{Kept}
@@ -18,7 +19,9 @@ use Rattle.rb_judge.specs.Verdict.{IsAccepted, IsRefusedFor}
 use Rattle.rb_scope.specs.InFrames.{Resolved}
 use Rattle.rb_scope.specs.Resolved.{IsResolved}
 use Rattle.rb_scope.specs.declared.slot.Slot.{Slot}
-use Rattle.rb_code.specs.Instructions.Plain.{Code, Part}
+use Rattle.rb_nest.specs.Groups.{alternates, memberships}
+use Rattle.rb_code.specs.declared.code.Code.{Code as Held}
+use Rattle.rb_code.specs.Instructions.Plain.{Code, Part, code as plain}
 use Rattle.rb_code.specs.Instructions.Listing.{listing_text}
 use Rattle.rb_code.specs.Agreement.StandsFor.{StandsFor}
 use Rattle.rb_code.specs.SoundCode.WellFormed.{IsSound}
@@ -239,6 +242,10 @@ pub record Program : Type 0 where
   pub code : Code
   pub groups : List Membership
   pub counts : List ℕ
+
+-- the program of a code and its conversations in memory
+abbrev pub program_of : Held → Nested → Program
+program_of held nested = record { code = plain held; groups = memberships nested; counts = alternates nested }
 
 -- the variables that are printed of a process lie within its words
 abbrev pub VariablesLie : ProcessNaming → Part → Type 0

@@ -1,5 +1,5 @@
 -- Laws of judgements.
-use Rattle.std.specs.Prelude.{◌≡◌, ◌≤◌, ℕ, List, [], ◌∷◌, ◌++◌, length, Ok}
+use Rattle.std.specs.Prelude.{◌≡◌, ◌≤◌, ◌↔◌, ℕ, List, [], ◌∷◌, ◌++◌, length, Ok}
 use Rattle.rb_base.specs.declared.limits.TheConstants.{MOST_BYTES}
 use Rattle.rb_syntax.specs.Tree.{Tree}
 use Rattle.rb_world.specs.Erased.{numbered}
@@ -9,6 +9,8 @@ use Rattle.rb_meaning.specs.Meaning.{final_of, naming_of, run_of, run_text}
 use Rattle.rb_sched.specs.Schedule.{schedule_of}
 use Rattle.rb_top.specs.Words.{Command, Load, Run, Survive, Replay, files_of}
 use Rattle.rb_top.specs.Judgement.{Judgement, Writes, Accepted, EndsWith, names_of}
+use Rattle.rb_top.specs.Compiled.{IsCompiled}
+use Rattle.rb_top.specs.declared.image.TheConstants.{MOST_IMAGE}
 
 -- a command ends in one way at most with the texts of its files
 abbrev pub AreJudgedOnce : Type 0
@@ -50,3 +52,11 @@ SurvivorsReplay =
 -- releases the same lines in the same turns.
 abbrev pub SurvivorsEndAlike : Type 0
 SurvivorsEndAlike = (source : List ℕ) (tree : Tree) → Accepted source tree → IsAlwaysErased tree
+
+-- What was compiled of an accepted source, where it is no longer than an image may be, `load` runs as `run` runs the source: over each
+-- schedule both write one text, or are refused with one line.
+abbrev pub ImagesRunAsTheirSources : Type 0
+ImagesRunAsTheirSources =
+    (source image : List ℕ) (tree : Tree) → Accepted source tree → IsCompiled tree image → length image ≤ MOST_IMAGE
+    → (schedule : List ℕ) (judgement : Judgement)
+    → EndsWith Load [] (image ∷ schedule ∷ []) judgement ↔ EndsWith Run [] (source ∷ schedule ∷ []) judgement

@@ -7,5 +7,6 @@ pub mod Read
 pub mod Stages
 pub mod Products
 pub mod Complete
+pub mod Compiled
 pub mod Laws
 pub mod Ending

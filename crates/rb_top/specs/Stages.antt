@@ -5,12 +5,9 @@ use Rattle.rb_outside.specs.Outside.{File, Faults, Start, WrotePart, failed_once
 use Rattle.rb_syntax.specs.Tree.{Tree}
 use Rattle.rb_prepare.specs.Prepared.{IsPrepared}
 use Rattle.rb_prepare.specs.declared.preparing.Prepared.{Prepared}
-use Rattle.rb_nest.specs.Groups.{alternates, memberships}
-use Rattle.rb_code.specs.Instructions.Plain.{code as plain}
-use Rattle.rb_image.specs.declared.raw.Raw.{Raw}
 use Rattle.rb_back.specs.declared.showing.Stopped.{Stopped}
 use Rattle.rb_back.specs.declared.showing.Stopped.TheVariants as stopped
-use Rattle.rb_top.specs.Judgement.{ImageHolds, ImageRefused, Judgement, ListsTurns, MayRun, ReadsOn, OverSchedule, RefusedWith, Program, SessionGoesOn, Writes, SourceRefused}
+use Rattle.rb_top.specs.Judgement.{ImageHolds, ImageRefused, Judgement, ListsTurns, MayRun, ReadsOn, OverSchedule, RefusedWith, Program, SessionGoesOn, Writes, SourceRefused, unsound_line}
 use Rattle.rb_top.specs.Words.{Wanted, Request}
 use Rattle.rb_top.specs.Answers.{HasRead, HasReadUntold}
 use Rattle.rb_run.specs.declared.surviving.Ended.{Ended}
@@ -57,14 +54,15 @@ EndsForSource source ReadsOn = ⊥
 EndsForSource source (RefusedWith line) = SourceRefused source line
 EndsForSource source (Writes text) = ⊥
 
--- the program of a code and its conversations in memory
-abbrev pub program_of : Raw → Program
-program_of raw = record { code = plain raw.code; groups = memberships raw.nested; counts = alternates raw.nested }
-
 -- what is known of a program that is not run: it may not be run, or memory was wanting
 abbrev pub IsUnfit : Program → Unfit → Type 0
 IsUnfit program unfit.Unsound = MayRun program → ⊥
 IsUnfit program unfit.Memory = Unit {0}
+
+-- and of bytes which are the image of one
+abbrev pub IsUnfitImage : List ℕ → Unfit → Type 0
+IsUnfitImage bytes unfit.Unsound = ImageRefused bytes unsound_line
+IsUnfitImage bytes unfit.Memory = Unit {0}
 
 -- The command has read an image, which holds this program; these files are left.
 pub record HasImage (files : Option (List File)) (request : Request) (program : Program) (rest : List Wanted) (old now : List Start)

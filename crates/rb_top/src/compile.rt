@@ -1,7 +1,8 @@
 //! The command `compile`.
 ghost use Rattle.std.specs.Prelude.{◌≡◌, [], ◌∷◌};
-ghost use Rattle.rb_top.specs.Words.{compile_of};
+ghost use Rattle.rb_top.specs.Words.{Compile, compile_of, text_named};
 ghost use Rattle.rb_top.specs.Answers.{scene_of, WithRequest};
+ghost use Rattle.rb_top.specs.Compiled.{Compiles, WritesImage};
 ghost use Rattle.rb_top.specs.Judgement.{JudgesSource, CompileGoesOn};
 ghost use Rattle.rb_top.specs.Stages.{StageEnds};
 
@@ -25,6 +26,10 @@ pub fn compile_file<F: Shelf, S: Sink>(
         (scene_of F.files F.starts F.faults S.written S.faults shelf.old out.old)
         (scene_of F.files F.starts F.faults S.written S.faults shelf.new out.new)
         result }
+    ensures compiled { Compiles Compile (text_named source.now ∷ [])
+        (scene_of F.files F.starts F.faults S.written S.faults shelf.old out.old)
+        (scene_of F.files F.starts F.faults S.written S.faults shelf.new out.new)
+        result }
 {
     match read_file(alloc, shelf, source, MOST_BYTES) {
         Ok(bytes) => compile_source(alloc, bytes.as_slice(), out),
@@ -33,8 +38,9 @@ pub fn compile_file<F: Shelf, S: Sink>(
 }
 
 fn compile_source<S: Sink>(alloc: Global, bytes: &[u8], out: &mut S) -> Status
-    ensures { StageEnds (JudgesSource CompileGoesOn (bytes.now ∷ [])) (S.written out.old) (S.written out.new)
+    ensures answers { StageEnds (JudgesSource CompileGoesOn (bytes.now ∷ [])) (S.written out.old) (S.written out.new)
         (S.faults out.old) (S.faults out.new) result }
+    ensures compiled { WritesImage bytes.now (S.written out.old) (S.written out.new) result }
 {
     match prepared_source(alloc, bytes, out) {
         Ok(prepared) => status_after(

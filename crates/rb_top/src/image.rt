@@ -1,19 +1,25 @@
-//! The verdict on an image that was read.
-ghost use Rattle.std.specs.Prelude.{◌≡◌, ◌≤◌, length, IfOk, IfErr, OnOk};
+//! Images that may be run, and the verdict on those that may not.
+ghost use Rattle.std.specs.Prelude.{◌≡◌, ◌≤◌, [], ◌∷◌, length, IfOk, IfErr, OnOk};
 ghost use Rattle.rb_code.specs.Instructions.Plain.{code as plain};
 ghost use Rattle.rb_nest.specs.Groups.{alternates, memberships};
 ghost use Rattle.rb_image.specs.Laws.{IsImage, IsRefused};
 ghost use Rattle.rb_lists.specs.Lists.{HasLists};
-ghost use Rattle.rb_top.specs.Judgement.{ImageHolds, MayRun};
-ghost use Rattle.rb_top.specs.Stages.{EndsForImage, IsUnfit, StageEnds, program_of};
+ghost use Rattle.rb_top.specs.Judgement.{ImageHolds, LoadGoesOn, MayRun, program_of};
+ghost use Rattle.rb_top.specs.Stages.{EndsForImage, IsUnfit, IsUnfitImage, StageEnds};
 
-use crate::refuse::{refuse_bytes, refuse_long, refuse_unsound};
+use crate::refuse::{refuse_bytes, refuse_long, refuse_text, refuse_unsound};
+use crate::run_turns::run_turns;
 use crate::status::{Status, status_after};
+use rb_base::{MOST_BYTES, Nested};
+use rb_code::Code;
 use rb_image::{FormRefusal, Raw, read_image};
 use rb_lists::check_lists;
 use rb_outside::Sink;
+use rb_sched::Schedule;
 use rb_verify::verify;
 use std::alloc::Global;
+use std::marker::{Brand, Model};
+use std::sync::ledger::Blank;
 
 /// The most bytes that an image may have.
 pub const MOST_IMAGE: usize = 16_777_216;
@@ -27,9 +33,87 @@ pub enum Unfit {
     Memory,
 }
 
+/// A program that may be run: its code is sound, and what is printed of each process lies within the words of the process. Contracts see
+/// the program.
+#[derive(Drop)]
+pub struct Image {
+    code: Code,
+    nested: Nested,
+}
+
+impl Model for Image {
+    ghost use Rattle.rb_top.specs.Judgement.{MayRun, Program, program_of};
+
+    ghost Value = { Program };
+
+    ghost view = { λ i. program_of i.code i.nested };
+
+    ghost invariant = { λ i. MayRun (program_of i.code i.nested) };
+}
+
+impl Image {
+    /// Takes what bytes were read as, if it may be run: its lists are looked at first, and then what its code does.
+    pub fn accept(alloc: Global, raw: Raw) -> Result<Image, Unfit>
+        ensures same { IfOk result (λ image. image ≡ program_of raw.code raw.nested) }
+        ensures fit { IfOk result MayRun }
+        ensures unfit { IfErr result (IsUnfit (program_of raw.code raw.nested)) }
+    {
+        match check_lists(alloc, &raw.code, &raw.nested) {
+            Ok(()) => Image::verified(alloc, raw),
+            Err(rb_lists::Refusal::Unsound) => Err(Unfit::Unsound),
+            Err(rb_lists::Refusal::Memory) => Err(Unfit::Memory),
+        }
+    }
+
+    // The same where its lists are well formed.
+    fn verified(alloc: Global, raw: Raw) -> Result<Image, Unfit>
+        requires { HasLists raw.code raw.nested }
+        ensures same { IfOk result (λ image. image ≡ program_of raw.code raw.nested) }
+        ensures fit { IfOk result MayRun }
+        ensures unfit { IfErr result (IsUnfit (program_of raw.code raw.nested)) }
+    {
+        match verify(alloc, &raw.code, &raw.nested) {
+            Ok(()) => Ok(Image {
+                code: raw.code,
+                nested: raw.nested,
+            }),
+            Err(rb_verify::Refusal::Unsound) => Err(Unfit::Unsound),
+            Err(rb_verify::Refusal::Memory) => Err(Unfit::Memory),
+        }
+    }
+
+    /// Judges a schedule by the bytes that were read of it, runs the program over its turns, and writes the text of the run.
+    pub fn run<S: Sink>(&self, alloc: Global, bytes: &[u8], out: &mut S) -> Status
+        ensures { StageEnds (LoadGoesOn self.now (bytes.now ∷ [])) (S.written out.old) (S.written out.new) (S.faults out.old)
+            (S.faults out.new) result }
+    {
+        run_over(alloc, &self.code, &self.nested, bytes, out)
+    }
+}
+
+fn run_over<S: Sink>(
+    alloc: Global,
+    code: &Code,
+    nested: &Nested,
+    bytes: &[u8],
+    out: &mut S,
+) -> Status
+    requires { MayRun (program_of code.now nested.now) }
+    ensures { StageEnds (LoadGoesOn (program_of code.now nested.now) (bytes.now ∷ [])) (S.written out.old) (S.written out.new)
+        (S.faults out.old) (S.faults out.new) result }
+{
+    if bytes.len() > MOST_BYTES {
+        return status_after(refuse_long(out), Status::Refused);
+    }
+    match Schedule::read(bytes, &code.names) {
+        Ok(schedule) => { run_turns::<S, Brand>(alloc, code, nested, schedule, out, Blank::new(1)) }
+        Err(fault) => status_after(refuse_text(out, fault), Status::Refused),
+    }
+}
+
 /// Judges an image by the bytes that were read of it. Where it is refused, its line is written, and the call ends so.
-pub fn accepted_image<S: Sink>(alloc: Global, bytes: &[u8], out: &mut S) -> Result<Raw, Status>
-    ensures holds { IfOk result (λ raw. ImageHolds bytes.now (program_of raw)) }
+pub fn accepted_image<S: Sink>(alloc: Global, bytes: &[u8], out: &mut S) -> Result<Image, Status>
+    ensures holds { IfOk result (ImageHolds bytes.now) }
     ensures written { OnOk result (S.written out.new ≡ S.written out.old) }
     ensures faults { OnOk result (S.faults out.new ≡ S.faults out.old) }
     ensures ended { IfErr result (StageEnds (EndsForImage bytes.now) (S.written out.old) (S.written out.new) (S.faults out.old) (S.faults out.new)) }
@@ -62,55 +146,28 @@ fn accepted_program<S: Sink>(
     bytes: &[u8],
     raw: Raw,
     out: &mut S,
-) -> Result<Raw, Status>
+) -> Result<Image, Status>
     requires short { length bytes.now ≤ MOST_IMAGE }
     requires image { IsImage bytes.now (plain raw.code) (memberships raw.nested) (alternates raw.nested) }
-    ensures holds { IfOk result (λ raw. ImageHolds bytes.now (program_of raw)) }
+    ensures holds { IfOk result (ImageHolds bytes.now) }
     ensures written { OnOk result (S.written out.new ≡ S.written out.old) }
     ensures faults { OnOk result (S.faults out.new ≡ S.faults out.old) }
     ensures ended { IfErr result (StageEnds (EndsForImage bytes.now) (S.written out.old) (S.written out.new) (S.faults out.old) (S.faults out.new)) }
 {
-    match may_run(alloc, &raw) {
-        Ok(()) => Ok(raw),
-        Err(unfit) => Err(refused_program(bytes, &raw, unfit, out)),
+    match Image::accept(alloc, raw) {
+        Ok(image) => Ok(image),
+        Err(unfit) => Err(refused_program(bytes, unfit, out)),
     }
 }
 
 // How the call ends where they are the image of a program that is not run.
-fn refused_program<S: Sink>(bytes: &[u8], raw: &Raw, unfit: Unfit, out: &mut S) -> Status
-    requires short { length bytes.now ≤ MOST_IMAGE }
-    requires image { IsImage bytes.now (plain raw.now.code) (memberships raw.now.nested) (alternates raw.now.nested) }
-    requires unfit { IsUnfit (program_of raw.now) unfit }
+fn refused_program<S: Sink>(bytes: &[u8], unfit: Unfit, out: &mut S) -> Status
+    requires { IsUnfitImage bytes.now unfit }
     ensures { StageEnds (EndsForImage bytes.now) (S.written out.old) (S.written out.new) (S.faults out.old) (S.faults out.new) result }
 {
     let _ = bytes;
-    let _ = raw;
     match unfit {
         Unfit::Unsound => status_after(refuse_unsound(out), Status::Refused),
         Unfit::Memory => Status::Memory,
-    }
-}
-
-// Whether a program may be run: its lists are looked at first, and then what its code does.
-fn may_run(alloc: Global, raw: &Raw) -> Result<(), Unfit>
-    ensures fit { OnOk result (MayRun (program_of raw.now)) }
-    ensures unfit { IfErr result (IsUnfit (program_of raw.now)) }
-{
-    match check_lists(alloc, &raw.code, &raw.nested) {
-        Ok(()) => is_sound(alloc, raw),
-        Err(rb_lists::Refusal::Unsound) => Err(Unfit::Unsound),
-        Err(rb_lists::Refusal::Memory) => Err(Unfit::Memory),
-    }
-}
-
-fn is_sound(alloc: Global, raw: &Raw) -> Result<(), Unfit>
-    requires lists { HasLists raw.now.code raw.now.nested }
-    ensures fit { OnOk result (MayRun (program_of raw.now)) }
-    ensures unfit { IfErr result (IsUnfit (program_of raw.now)) }
-{
-    match verify(alloc, &raw.code, &raw.nested) {
-        Ok(()) => Ok(()),
-        Err(rb_verify::Refusal::Unsound) => Err(Unfit::Unsound),
-        Err(rb_verify::Refusal::Memory) => Err(Unfit::Memory),
     }
 }

@@ -1,5 +1,5 @@
 //! Laws of judgements.
-ghost use Rattle.rb_top.specs.Laws.{AreJudged, AreJudgedOnce, SurvivorsEndAlike, SurvivorsReplay};
+ghost use Rattle.rb_top.specs.Laws.{AreJudged, AreJudgedOnce, ImagesRunAsTheirSources, SurvivorsEndAlike, SurvivorsReplay};
 
 /// The texts of a command's files are judged in one way at most: it is refused with one line, or writes one text.
 pub fn are_judged_once()
@@ -20,4 +20,10 @@ pub fn survivors_replay()
 /// Of every accepted source the survivors of a run, run alone, come to the end to which the run came.
 pub fn survivors_end_alike()
     ensures { SurvivorsEndAlike }
+{}
+
+/// What was compiled of an accepted source runs as the source does: over each schedule `load` of it writes the very text of `run`, or is
+/// refused with the same line, where the image is no longer than one may be.
+pub fn images_run_as_their_sources()
+    ensures { ImagesRunAsTheirSources }
 {}

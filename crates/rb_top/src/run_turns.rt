@@ -21,6 +21,7 @@ use std::alloc::Global;
 use std::sync::ledger::{Blank, Ledger};
 
 /// Runs sound code over turns, and writes the text of the run. The ledger counts steps, which contracts alone see.
+#[inline(always)]
 pub fn run_turns<S: Sink, L: Ledger>(
     alloc: Global,
     code: &Code,

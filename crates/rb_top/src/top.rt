@@ -3,6 +3,7 @@ ghost use Rattle.std.specs.Prelude.{◌≡◌};
 ghost use Rattle.rb_top.specs.Words.{request_of};
 ghost use Rattle.rb_top.specs.Asked.{asked};
 ghost use Rattle.rb_top.specs.Complete.{IsComplete};
+ghost use Rattle.rb_top.specs.Compiled.{Compiles, CompilesWhereAsked};
 ghost use Rattle.rb_top.specs.Answers.{scene_of, WithRequest, WhereRequested};
 
 use crate::analyse::analyse_file;
@@ -50,6 +51,10 @@ pub fn command<F: Shelf, S: Sink>(
         (scene_of F.files F.starts F.faults S.written S.faults shelf.old out.old)
         (scene_of F.files F.starts F.faults S.written S.faults shelf.new out.new)
         result }
+    ensures compiled { CompilesWhereAsked (request_of words.now)
+        (scene_of F.files F.starts F.faults S.written S.faults shelf.old out.old)
+        (scene_of F.files F.starts F.faults S.written S.faults shelf.new out.new)
+        result }
 {
     let Ok(given) = requested(alloc, words) else {
         return Status::Memory;
@@ -68,6 +73,10 @@ fn answer<F: Shelf, S: Sink>(
 ) -> Status
     ensures files { F.files shelf.new ≡ F.files shelf.old }
     ensures answers { WithRequest (asked request.entry)
+        (scene_of F.files F.starts F.faults S.written S.faults shelf.old out.old)
+        (scene_of F.files F.starts F.faults S.written S.faults shelf.new out.new)
+        result }
+    ensures compiled { Compiles (asked request.entry).command (asked request.entry).files
         (scene_of F.files F.starts F.faults S.written S.faults shelf.old out.old)
         (scene_of F.files F.starts F.faults S.written S.faults shelf.new out.new)
         result }

@@ -1,7 +1,9 @@
 use Rattle.std.proofs.Common.{[]}
 use Rattle.rb_top.specs.Words.{Compile, compile_of, text_named}
+use Rattle.rb_top.specs.Answers.{Scene}
 use Rattle.rb_top.specs.Judgement.{CompileGoesOn, at_first}
 use Rattle.rb_top.proofs.Answering.{nothing_read, unread_ends}
+use Rattle.rb_top.proofs.Compiled.{image_of_file, none_of_file}
 use Rattle.rb_top.proofs.Sources.{source_judged}
 use Rattle.rb_top.proofs.compile.compile_file.Goals as goal
 
@@ -12,7 +14,34 @@ returns-in-Ok-clause-answers g c =
     (g.F.Shelf.faults c.args.shelf.now) (g.F.Shelf.faults c.read_file.new.shelf)
     (g.S.Sink.faults c.args.out.now) (g.S.Sink.faults c.compile_source.new.out) (g.S.Sink.written c.args.out.now)
     (g.S.Sink.written c.compile_source.new.out) c.compile_source.result
-    c.in-Ok.ensures.ok c.in-Ok.ensures.quiet (rw c.as_slice.ensures.value at c.compile_source.ensures)
+    c.in-Ok.ensures.ok c.in-Ok.ensures.quiet (rw c.as_slice.ensures.value at c.compile_source.ensures.answers)
+
+pub returns-in-Ok-clause-compiled : goal.returns-in-Ok-clause-compiled
+returns-in-Ok-clause-compiled g c =
+    image_of_file (g.F.Shelf.files c.args.shelf.now) (g.F.Shelf.files c.read_file.new.shelf) c.args.source.now c.in-Ok.bytes.items
+    (g.F.Shelf.starts c.args.shelf.now) (g.F.Shelf.starts c.read_file.new.shelf)
+    (g.F.Shelf.faults c.args.shelf.now) (g.F.Shelf.faults c.read_file.new.shelf)
+    (g.S.Sink.faults c.args.out.now) (g.S.Sink.faults c.compile_source.new.out) (g.S.Sink.written c.args.out.now)
+    (g.S.Sink.written c.compile_source.new.out) c.compile_source.result
+    c.in-Ok.ensures.ok (rw c.as_slice.ensures.value at c.compile_source.ensures.compiled)
+
+pub returns-in-Err-clause-compiled : goal.returns-in-Err-clause-compiled
+returns-in-Err-clause-compiled g c =
+    let old : Scene = record {
+      files = g.F.Shelf.files c.args.shelf.now;
+      starts = g.F.Shelf.starts c.args.shelf.now;
+      read_faults = g.F.Shelf.faults c.args.shelf.now;
+      written = g.S.Sink.written c.args.out.now;
+      write_faults = g.S.Sink.faults c.args.out.now;
+    } in
+    let new : Scene = record {
+      files = g.F.Shelf.files c.read_file.new.shelf;
+      starts = g.F.Shelf.starts c.read_file.new.shelf;
+      read_faults = g.F.Shelf.faults c.read_file.new.shelf;
+      written = g.S.Sink.written c.args.out.now;
+      write_faults = g.S.Sink.faults c.args.out.now;
+    } in
+    rw c.status.ensures (none_of_file c.args.source.now old new c.in-Err.unread)
 
 pub returns-in-Err-clause-answers : goal.returns-in-Err-clause-answers
 returns-in-Err-clause-answers g c =

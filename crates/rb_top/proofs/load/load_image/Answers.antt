@@ -1,7 +1,7 @@
 use Rattle.std.proofs.Common.{[], ◌∷◌, drop, refl}
 use Rattle.rb_top.specs.Words.{Load}
 use Rattle.rb_top.specs.Judgement.{Judges}
-use Rattle.rb_top.specs.Stages.{EndsForImage, program_of}
+use Rattle.rb_top.specs.Stages.{EndsForImage}
 use Rattle.rb_top.proofs.Images.{image_ends, image_judged, image_read}
 use Rattle.rb_top.proofs.Sources.{stage_as}
 use Rattle.rb_top.proofs.load.load_image.Goals as goal
@@ -21,5 +21,5 @@ returns-in-Err-clause-answers g c =
 pub load_schedule-requires : goal.load_schedule-requires
 load_schedule-requires g c =
     let now = g.F.Shelf.starts c.args.shelf.now in
-    image_read (g.F.Shelf.files c.args.shelf.now) c.args.image.now c.args.schedule.now (program_of c.in-Ok.raw) (drop 1 now) now
+    image_read (g.F.Shelf.files c.args.shelf.now) c.args.image.now c.args.schedule.now c.in-Ok.accepted (drop 1 now) now
     c.args.bytes.now c.requires c.in-Ok.ensures.holds

@@ -1,23 +1,19 @@
 use Rattle.std.proofs.Common.{[], ◌∷◌, drop}
 use Rattle.rb_top.specs.Words.{load_of, text_named}
-use Rattle.rb_top.specs.Stages.{program_of}
 use Rattle.rb_top.proofs.Answering.{unread_ends}
 use Rattle.rb_top.proofs.Images.{load_judged, load_wanted}
 use Rattle.rb_top.proofs.load.load_schedule.Goals as goal
-
-pub load_turns-requires : goal.load_turns-requires
-load_turns-requires g c = c.requires.holds.may_run
 
 pub returns-in-Ok-clause-answers : goal.returns-in-Ok-clause-answers
 returns-in-Ok-clause-answers g c =
     let mid = g.F.Shelf.starts c.args.shelf.now in
     load_judged
-    (g.F.Shelf.files c.args.shelf.now) c.args.image.now c.args.schedule.now (program_of c.args.raw.now) (drop 1 mid) mid c.requires
+    (g.F.Shelf.files c.args.shelf.now) c.args.image.now c.args.schedule.now c.args.accepted.now (drop 1 mid) mid c.requires
     (g.F.Shelf.files c.read_file.new.shelf) (g.F.Shelf.starts c.read_file.new.shelf) c.in-Ok.bytes.items
     (g.F.Shelf.faults c.args.shelf.now) (g.F.Shelf.faults c.read_file.new.shelf)
-    (g.S.Sink.faults c.args.out.now) (g.S.Sink.faults c.load_turns.new.out) (g.S.Sink.written c.args.out.now)
-    (g.S.Sink.written c.load_turns.new.out) c.load_turns.result
-    c.in-Ok.ensures.ok c.in-Ok.ensures.quiet (rw c.as_slice.ensures.value at c.load_turns.ensures)
+    (g.S.Sink.faults c.args.out.now) (g.S.Sink.faults c.run.new.out) (g.S.Sink.written c.args.out.now)
+    (g.S.Sink.written c.run.new.out) c.run.result
+    c.in-Ok.ensures.ok c.in-Ok.ensures.quiet (rw c.as_slice.ensures.value at c.run.ensures)
 
 pub returns-in-Err-clause-answers : goal.returns-in-Err-clause-answers
 returns-in-Err-clause-answers g c =
@@ -30,4 +26,4 @@ returns-in-Err-clause-answers g c =
     (drop 1 mid) mid (g.F.Shelf.starts c.read_file.new.shelf) c.in-Err.unread (g.F.Shelf.faults c.args.shelf.now)
     (g.F.Shelf.faults c.read_file.new.shelf)
     (g.S.Sink.faults c.args.out.now) (g.S.Sink.written c.args.out.now)
-    has.read (load_wanted files c.args.image.now c.args.schedule.now (program_of c.args.raw.now) (drop 1 mid) mid has) c.in-Err.ensures.err)
+    has.read (load_wanted files c.args.image.now c.args.schedule.now c.args.accepted.now (drop 1 mid) mid has) c.in-Err.ensures.err)

@@ -1,9 +1,11 @@
 use Rattle.std.proofs.Common.{◌≡◌, ◌∙◌, Option, Some, option_map, ap, sym, subst}
 use Rattle.rb_top.specs.Answers.{Scene}
 use Rattle.rb_top.specs.Complete.{IsComplete}
+use Rattle.rb_top.specs.Compiled.{CompilesWhereAsked}
 use Rattle.rb_top.specs.Words.{Request, request_of}
 use Rattle.rb_top.specs.Asked.{asked}
 use Rattle.rb_top.proofs.Answering.{memory_at_once}
+use Rattle.rb_top.proofs.Compiled.{nothing_asked}
 use Rattle.rb_top.proofs.Complete.{complete_at_once, completed}
 use Rattle.rb_top.proofs.top.command.Goals as goal
 
@@ -12,6 +14,28 @@ returns-in_default-clause-answers g c = memory_at_once (request_of c.args.words.
 
 pub returns-in_default-clause-complete : goal.returns-in_default-clause-complete
 returns-in_default-clause-complete g c = complete_at_once (request_of c.args.words.now) _ _
+
+pub returns-in_default-clause-compiled : goal.returns-in_default-clause-compiled
+returns-in_default-clause-compiled g c = nothing_asked (request_of c.args.words.now) _ _
+
+pub returns-in-Some-clause-compiled : goal.returns-in-Some-clause-compiled
+returns-in-Some-clause-compiled g c =
+    let old : Scene = record {
+      files = g.F.Shelf.files c.args.shelf.now;
+      starts = g.F.Shelf.starts c.args.shelf.now;
+      read_faults = g.F.Shelf.faults c.args.shelf.now;
+      written = g.S.Sink.written c.args.out.now;
+      write_faults = g.S.Sink.faults c.args.out.now;
+    } in
+    let new : Scene = record {
+      files = g.F.Shelf.files c.answer.new.shelf;
+      starts = g.F.Shelf.starts c.answer.new.shelf;
+      read_faults = g.F.Shelf.faults c.answer.new.shelf;
+      written = g.S.Sink.written c.answer.new.out;
+      write_faults = g.S.Sink.faults c.answer.new.out;
+    } in
+    let given : request_of c.args.words.now ≡ Some (asked c.in-Some.request) = c.in-Ok.ensures ∙ ap (option_map asked) c.in-Some.is in
+    subst (λ (r : Option Request). CompilesWhereAsked r old new c.answer.result) (sym given) c.answer.ensures.compiled
 
 pub returns-in-Some-clause-complete : goal.returns-in-Some-clause-complete
 returns-in-Some-clause-complete g c =
