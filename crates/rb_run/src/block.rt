@@ -26,6 +26,7 @@ impl Block {
     }
 
     /// Adds bytes to those that wait. Where there is no room for them, all that wait are put first.
+    #[inline(always)]
     pub fn add<S: Sink>(&mut self, out: &mut S, bytes: &[u8]) -> Result<(), Failed>
         ensures { Gathers bytes.now self.old.bytes.items self.new.bytes.items (S.written out.old) (S.written out.new)
             (S.faults out.old) (S.faults out.new) result }
