@@ -11,8 +11,6 @@ mod cell_tests;
 #[cfg(test)]
 mod conv_tests;
 #[cfg(test)]
-mod fault_rows;
-#[cfg(test)]
 mod hold_tests;
 #[cfg(test)]
 mod host_tests;

@@ -1,7 +1,7 @@
-//! Schedules that are walked to their end, the longest one too, and texts that are refused.
+//! Schedules that are walked to their end, the longest one too.
 
 use crate::names::names_of;
-use rb_base::{FaultName, Names, TextFault};
+use rb_base::Names;
 use rb_sched::Schedule;
 use std::alloc::Global;
 
@@ -43,47 +43,6 @@ fn walks(rt: HostRuntime) {
     assert!(rt; has_turns(alloc, b"p 1#x", &[0]));
     assert!(rt; has_turns(alloc, b"p 1 # a\rb\nq1 1\r", &[0, 1]));
     assert!(rt; has_turns(alloc, b"q1 00000000000000000000000000000000000000001", &[1]));
-}
-
-// Whether a text over the processes p and q1 is refused for this fault, in this line.
-fn is_refused(alloc: Global, text: &[u8], name: FaultName, at: u32) -> bool {
-    let Ok(names) = names_of(alloc, b"p", b"q1") else {
-        return false;
-    };
-    if text.len() >= 100 {
-        return false;
-    }
-    match Schedule::read(text, &names) {
-        Ok(_) => false,
-        Err(fault) => fault == TextFault { name, at },
-    }
-}
-
-#[test]
-fn refuses(rt: HostRuntime) {
-    let alloc = rt.alloc();
-    assert!(rt; is_refused(alloc, b"p", FaultName::T1, 1));
-    assert!(rt; is_refused(alloc, b"p 1\np 1 1", FaultName::T1, 2));
-    assert!(rt; is_refused(alloc, b"1p 1", FaultName::T1, 1));
-    assert!(rt; is_refused(alloc, b"p -1", FaultName::T1, 1));
-    assert!(rt; is_refused(alloc, b"p\r1", FaultName::T1, 1));
-    assert!(rt; is_refused(alloc, b"p 1\r\r\n", FaultName::T1, 1));
-    assert!(rt; is_refused(alloc, b"all 1\n\nr 1\np", FaultName::T2, 3));
-    assert!(rt; is_refused(alloc, b"r 0", FaultName::T2, 1));
-    assert!(rt; is_refused(alloc, b"q 1", FaultName::T2, 1));
-    assert!(rt;
-        is_refused(
-            alloc,
-            b"aaaaaaaaaaaaaaaaaaaaaaaaaaaaaaaaaaaaaaaaaaaaaaaaaaaaaaaaaaaaaaaaaaaaaa 1",
-            FaultName::T2,
-            1
-        )
-    );
-    assert!(rt; is_refused(alloc, b"p 1\np 00", FaultName::T3, 2));
-    assert!(rt; is_refused(alloc, b"p 1000001", FaultName::T3, 1));
-    assert!(rt; is_refused(alloc, b"all 99999999999999999999999999", FaultName::T3, 1));
-    assert!(rt; is_refused(alloc, b"p 600000\np 600000", FaultName::T4, 2));
-    assert!(rt; is_refused(alloc, b"all 500001", FaultName::T4, 1));
 }
 
 // Whether the turns take both processes in turn, so many times, and then the first alone.

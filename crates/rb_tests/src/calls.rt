@@ -1,8 +1,7 @@
-//! Calls of the program over files and a sink in memory, and the long texts of some files.
+//! Calls of the program over files and a sink in memory.
 
 ghost use Rattle.std.specs.Prelude.{◌≡◌, ◌<◌, [], IfSome};
 
-use rb_base::MOST_BYTES;
 use rb_outside::{MemoryShelf, MemorySink};
 use rb_top::{Status, Words, command};
 use std::alloc::{AllocError, Global};
@@ -99,20 +98,6 @@ pub(crate) fn writes(
     }
 }
 
-/// Whether the call goes well where nothing fails outside, and the text that it writes ends so.
-pub(crate) fn writes_to_the_end(
-    alloc: Global,
-    line: &[&str],
-    files: &[File<'_>],
-    room: usize,
-    end: &[u8],
-) -> bool {
-    match called(alloc, line, files, &roomy(room)) {
-        Some((status, sink)) => status == Status::Done && sink.bytes().ends_with(end),
-        None => false,
-    }
-}
-
 /// A piece so many times between two texts.
 pub(crate) fn repeated(
     alloc: Global,
@@ -126,14 +111,5 @@ pub(crate) fn repeated(
         text.push_str(piece)?;
     }
     text.push_str(after)?;
-    Ok(text)
-}
-
-/// A text that is filled up to the most bytes by a comment that it opens at its end.
-pub(crate) fn filled(alloc: Global, before: &str) -> Result<String, AllocError> {
-    let mut text = String::from_str(alloc, before)?;
-    for _ in before.len()..MOST_BYTES {
-        text.push('c')?;
-    }
     Ok(text)
 }

@@ -29,7 +29,7 @@ fn told(alloc: Global, source: &[u8], what: Telling) -> Result<String, AllocErro
 }
 
 /// Adds for what a source is refused.
-pub(crate) fn tell_refusal(out: &mut String, refusal: &Refusal) -> Result<(), AllocError> {
+fn tell_refusal(out: &mut String, refusal: &Refusal) -> Result<(), AllocError> {
     match refusal {
         Refusal::Fault(fault) => {
             let name = fault.name;

@@ -1,6 +1,6 @@
-//! Tests of records (rb_plain): the turns that a text lists, and its first fault.
+//! Tests of records (rb_plain): the turns that a text lists.
 
-use rb_base::{FaultName, Kept, Memory, Names, ProcessNames, Text, TextFault};
+use rb_base::{Kept, Memory, Names, ProcessNames, Text};
 use rb_plain::record::{Record, RecordRefusal};
 use std::alloc::Global;
 
@@ -77,31 +77,4 @@ fn reads(rt: HostRuntime) {
             &[kept(1, 0, 1)]
         )
     );
-}
-
-// Whether a text is refused for this fault, in this line.
-fn is_refused(alloc: Global, text: &[u8], name: FaultName, at: u32) -> bool {
-    match read(alloc, text) {
-        Ok(_) => false,
-        Err(refusal) => refusal == RecordRefusal::Fault(TextFault { name, at }),
-    }
-}
-
-#[test]
-fn refuses(rt: HostRuntime) {
-    let alloc = rt.alloc();
-    assert!(rt; is_refused(alloc, b"1", FaultName::V1, 1));
-    assert!(rt; is_refused(alloc, b"1 p\n2 p 1 1", FaultName::V1, 2));
-    assert!(rt; is_refused(alloc, b"p 1", FaultName::V1, 1));
-    assert!(rt; is_refused(alloc, b"1 1p", FaultName::V1, 1));
-    assert!(rt; is_refused(alloc, b"0 p", FaultName::V1, 1));
-    assert!(rt; is_refused(alloc, b"1000001 p", FaultName::V1, 1));
-    assert!(rt; is_refused(alloc, b"1 p 0", FaultName::V1, 1));
-    assert!(rt; is_refused(alloc, b"1 p 99999999999999999999999999", FaultName::V1, 1));
-    assert!(rt; is_refused(alloc, b"1\rp", FaultName::V1, 1));
-    assert!(rt; is_refused(alloc, b"2 p\n1 r 0", FaultName::V1, 2));
-    assert!(rt; is_refused(alloc, b"1 all", FaultName::V2, 1));
-    assert!(rt; is_refused(alloc, b"2 p\n\n1 r", FaultName::V2, 3));
-    assert!(rt; is_refused(alloc, b"3 p\n3 p", FaultName::V3, 2));
-    assert!(rt; is_refused(alloc, b"3 p\n# 4 p\n2 q1 1\n1", FaultName::V3, 3));
 }

@@ -1,10 +1,16 @@
 //! Tests of `run`: texts of runs, refusals, and what fails outside.
 
-use crate::calls::{Outside, repeated, roomy, writes};
-use crate::recovery_rows::{self, FULL_SCHEDULE, FULL_WANT, Row, full_source, recovery_row};
-use crate::whole_rows::{self, whole_row};
+use crate::calls::{Outside, roomy, writes};
 use rb_top::Status;
-use std::alloc::{AllocError, Global};
+use std::alloc::Global;
+
+/// A source, a schedule, and the text of the run.
+#[derive(Clone, Copy)]
+struct Row {
+    source: &'static str,
+    schedule: &'static str,
+    want: &'static str,
+}
 
 // The rows stand in functions, so that a proof does not carry their texts.
 
@@ -213,26 +219,6 @@ fn runs(rt: HostRuntime) {
 }
 
 #[test]
-fn recovers(rt: HostRuntime) {
-    for n in 0..recovery_rows::ROWS {
-        assert!(rt;
-            row_ends(rt.alloc(), &recovery_row(n), Status::Done),
-            "row {n}"
-        );
-    }
-}
-
-#[test]
-fn runs_whole_programs(rt: HostRuntime) {
-    for n in 0..whole_rows::ROWS {
-        assert!(rt;
-            row_ends(rt.alloc(), &whole_row(n), Status::Done),
-            "row {n}"
-        );
-    }
-}
-
-#[test]
 fn refuses(rt: HostRuntime) {
     for n in 0..12 {
         assert!(rt;
@@ -240,79 +226,6 @@ fn refuses(rt: HostRuntime) {
             "row {n}"
         );
     }
-}
-
-// Whether a source that is made ends so.
-fn made_ends(
-    alloc: Global,
-    source: Result<String, AllocError>,
-    schedule: &str,
-    status: Status,
-    want: &str,
-) -> bool {
-    match source {
-        Ok(source) => ends_so(alloc, &source, schedule, status, want),
-        Err(_) => false,
-    }
-}
-
-// As many held bytes as may be, and one line more.
-#[test]
-fn holds_no_more(rt: HostRuntime) {
-    let source = full_source(rt.alloc());
-    assert!(rt; made_ends(rt.alloc(), source, FULL_SCHEDULE, Status::Done, FULL_WANT));
-}
-
-// A source with so many round brackets inside each other, all inside the bracket of the process.
-fn bracketed(alloc: Global, count: usize) -> Result<String, AllocError> {
-    let opened = repeated(
-        alloc,
-        "program a; process p { var x; x := ",
-        "(",
-        count,
-        "1",
-    )?;
-    repeated(alloc, &opened, ")", count, "; } end.")
-}
-
-// A hundred brackets may be open, and the next one is refused.
-#[test]
-fn counts_brackets(rt: HostRuntime) {
-    let alloc = rt.alloc();
-    let want = "1 done p\nend 1\np done\np.x = 1\n";
-    assert!(rt; made_ends(alloc, bracketed(alloc, 99), "p 1", Status::Done, want));
-    let refused = "refused Y2 at 1:135\n";
-    assert!(rt;
-        made_ends(
-            alloc,
-            bracketed(alloc, 100),
-            "p 1",
-            Status::Refused,
-            refused
-        )
-    );
-}
-
-// A file that is one byte too long.
-fn refuses_longer(alloc: Global) -> bool {
-    let Ok(longer) = vec![in alloc; 32u8; 1048577] else {
-        return false;
-    };
-    let files = [(b"a".as_slice(), longer.as_slice())];
-    let want = b"refused L0\n";
-    writes(
-        alloc,
-        &["run", "a", "b"],
-        &files,
-        &roomy(99),
-        Status::Refused,
-        want,
-    )
-}
-
-#[test]
-fn refuses_long(rt: HostRuntime) {
-    assert!(rt; refuses_longer(rt.alloc()));
 }
 
 fn answers_so(alloc: Global, call: &Call) -> bool {
