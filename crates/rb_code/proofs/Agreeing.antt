@@ -15,6 +15,7 @@ pub mod TextLeft
 pub mod Loops
 pub mod Mail
 pub mod StatesMeet
+pub mod Placed
 pub mod Printing
 pub mod Quantified
 pub mod Settles

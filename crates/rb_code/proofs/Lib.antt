@@ -6,5 +6,6 @@ pub mod Looping
 pub mod Reaching
 pub mod Tables
 pub mod Agreeing
+pub mod Placing
 pub mod InWords
 pub mod Alike

@@ -9,7 +9,7 @@ use Rattle.rb_scope.specs.declared.slot.Slot.{Slot}
 use Rattle.rb_code.specs.declared.instr.Instr.TheVariants.{Turn, Jump, Enter, Start, Test}
 use Rattle.rb_code.specs.Instructions.Plain.{Block}
 use Rattle.rb_code.specs.Agreement.Template.{One}
-use Rattle.rb_code.specs.Agreement.Forms.{AlternatesCode, BlockCode, BodyCode, CommandCode, ExpressionCode, OthersCode}
+use Rattle.rb_code.specs.Agreement.Forms.{AlternatesForm, BlockForm, BodyForm, CommandForm, ExpressionCode, OthersForm}
 use Rattle.rb_draft.specs.Output.{Output, added, filled_with, patched, settled}
 use Rattle.rb_draft.specs.Emits.{Adds}
 use Rattle.rb_draft.specs.Lookups.{joined_of}
@@ -27,7 +27,7 @@ module _ (slots : List Slot) (words : List ℕ) where
       → Adds (One Turn) c2 c3 → Adds (One (Start number)) c3 c4 → WritesAlternates slots words alternates entry.alternates entry.test c4 c5
       → entry.test ≡ length c5.instrs → Adds (One Turn) c5 c6 → Adds (ExpressionCode slots test) c6 c7 → Adds (One (Test number)) c7 c8
       → f ≡ settled c8 number entry → WritesRecovery slots words x c f
-  unfolding CommandCode BlockCode AlternatesCode
+  unfolding CommandForm BlockForm AlternatesForm
   recovered number conversation place test limit alternates entry {c = c} {c2 = c2} {c5 = c5} {f =
       f} is line joined bound turn enter restart turn2 start inside testing turn3 value tests settles =
       subst (λ x. WritesRecovery slots words x c f) (sym is) (λ s n (numbered, conversation_is, given).
@@ -41,18 +41,18 @@ module _ (slots : List Slot) (words : List ℕ) where
 
   pub no_alternate : (t : ℕ) {a : Alternates} (addresses : List ℕ) (c : Output) → a ≡ NoAlternate → addresses ≡ []
       → WritesAlternates slots words a addresses t c c
-  unfolding AlternatesCode
+  unfolding AlternatesForm
   no_alternate t addresses c is none =
       subst (λ x. WritesAlternates slots words x addresses t c c) (sym is) (λ s n g. upto (only n c none) (omega arith))
 
   pub no_other : (t : ℕ) {a : Alternates} (c : Output) → a ≡ NoAlternate → WritesOthers slots words a [] t c c
-  unfolding OthersCode AlternatesCode
+  unfolding OthersForm AlternatesForm
   no_other t c is = subst (λ x. WritesOthers slots words x [] t c c) (sym is) (λ s n g. upto (only n c refl) (omega arith))
 
   pub first_alternate : (t address : ℕ) (more : List ℕ) {a others : Alternates} {b : Body} {c d e : Output} → a ≡ Alternate b others
       → address ≡ length c.instrs → WritesBody slots words b c d → WritesOthers slots words others more t d e
       → WritesAlternates slots words a (address ∷ more) t c e
-  unfolding AlternatesCode OthersCode BodyCode
+  unfolding AlternatesForm OthersForm BodyForm
   first_alternate t address more {b = b} {c = c} {e = e} is here p q =
       subst (λ x. WritesAlternates slots words x (address ∷ more) t c e) (sym is)
       (λ s n (g, h). upto (listed here (both (p s n g) (q s (n + blocks_in_body b) h))) (omega arith))
@@ -61,7 +61,7 @@ module _ (slots : List Slot) (words : List ℕ) where
   pub further : (t address place : ℕ) (more : List ℕ) {a others : Alternates} {b : Body} {c d e f : Output} → a ≡ Alternate b others
       → (place ≡ length c.instrs) × (d ≡ added (Jump 0) c) → address ≡ length d.instrs → WritesBody slots words b d e
       → WritesOthers slots words others more t e f → WritesOthers slots words a (address ∷ more) t c (patched f place (Jump t))
-  unfolding OthersCode AlternatesCode BodyCode
+  unfolding OthersForm AlternatesForm BodyForm
   further t address place more {b = b} {c = c} {f = f} is left here p q =
       subst (λ x. WritesOthers slots words x (address ∷ more) t c (patched f place (Jump t))) (sym is)
       (λ s n (g, h). upto (filled (Jump t) refl left refl (listed here (both (p s n g) (q s (n + blocks_in_body b) h)))) (omega arith))

@@ -7,7 +7,7 @@ use Rattle.rb_scope.specs.declared.slot.Slot.{Slot}
 use Rattle.rb_code.specs.declared.instr.Instr.TheVariants.{Turn, There, Take, Room, Put, Absent, Jump, JumpZero, Print, Fail}
 use Rattle.rb_code.specs.Agreement.Slots.{channel_of}
 use Rattle.rb_code.specs.Agreement.Template.{One, ◌⨾◌, At, Label}
-use Rattle.rb_code.specs.Agreement.Forms.{BodyCode, BranchesCode, CallCode, CommandCode, CommandsCode, DropCode, ExpressionCode, FrameCode, ItemsCode, ReceiptCode, StoreCode}
+use Rattle.rb_code.specs.Agreement.Forms.{BodyCode, BodyForm, BranchesForm, CallCode, CommandForm, CommandsForm, DropCode, ExpressionCode, FrameCode, ItemsCode, ReceiptForm, StoreCode}
 use Rattle.rb_draft.specs.Output.{Output, added, linked, patched}
 use Rattle.rb_draft.specs.Emits.{Adds, Emits}
 use Rattle.rb_gen.specs.InMemory.{LeavesTest}
@@ -22,34 +22,34 @@ module _ (slots : List Slot) (words : List ℕ) where
 
   pub assigned : {t : Command} {to : Reference} {value : Expression} {c d : Output} → t ≡ Assignment to value
       → Adds (One Turn ⨾ StoreCode slots to (ExpressionCode slots value)) c d → WritesCommand slots words t c d
-  unfolding CommandCode
+  unfolding CommandForm
   assigned is p = same_command is (λ s n g. upto (p s.owner.number n) (omega arith))
 
   pub printing : {t : Command} {items : List PrintItem} {c d : Output} → t ≡ Printing items → Adds (One Turn ⨾ ItemsCode slots items ⨾ One Print) c d
       → WritesCommand slots words t c d
-  unfolding CommandCode
+  unfolding CommandForm
   printing is p = same_command is (λ s n g. upto (p s.owner.number n) (omega arith))
 
   pub sending : {t : Command} {channel : Identifier} {value : Expression} {c d : Output} → t ≡ Sending channel value
       → Adds (One Turn ⨾ One (Room (channel_of slots channel.id)) ⨾ ExpressionCode slots value ⨾ One (Put (channel_of slots channel.id))) c d
       → WritesCommand slots words t c d
-  unfolding CommandCode
+  unfolding CommandForm
   sending is p = same_command is (λ s n g. upto (p s.owner.number n) (omega arith))
 
   pub called : {t : Command} {name : Identifier} {arguments : List Expression} {c d : Output} → t ≡ Invocation name arguments
       → ((s : Setting words) (n : ℕ) → Emits (linked s.owner.number) n n (CallCode slots s.owner name arguments) c d)
       → WritesCommand slots words t c d
-  unfolding CommandCode
+  unfolding CommandForm
   called is p = same_command is (λ s n g. upto (p s n) (omega arith))
 
   pub failed : {t : Command} {c d : Output} → t ≡ Failure → Adds (One Turn ⨾ One Fail) c d → WritesCommand slots words t c d
-  unfolding CommandCode
+  unfolding CommandForm
   failed is p = same_command is (λ s n g. upto (p s.owner.number n) (omega arith))
 
   pub received : {t : Command} {channel : Identifier} {to : Reference} {number : ℕ} {c d e f : Output} → t ≡ Receiving channel to NoElse
       → number ≡ channel_of slots channel.id → Adds (One Turn) c d → Adds (One (There number)) d e → Adds (StoreCode slots to (One (Take number))) e f
       → WritesCommand slots words t c f
-  unfolding CommandCode ReceiptCode
+  unfolding CommandForm ReceiptForm
   received {channel = channel} {to = to} {c = c} {f = f} is same p q r =
       let all : Adds (One Turn ⨾ One (There (channel_of slots channel.id)) ⨾ StoreCode slots to (One (Take (channel_of slots channel.id)))) c f =
       subst (λ (k : ℕ). Adds (One Turn ⨾ One (There k) ⨾ StoreCode slots to (One (Take k))) c f) same (then_adds p (then_adds q r)) in
@@ -61,7 +61,7 @@ module _ (slots : List Slot) (words : List ℕ) where
       → (absent ≡ length d.instrs) × (e ≡ added (Jump 0) d) → Adds (StoreCode slots to (One (Take number))) e f
       → WritesElse slots words none other f g
       → h ≡ patched g absent (Absent number none) → WritesCommand slots words t c h
-  unfolding CommandCode ReceiptCode BodyCode
+  unfolding CommandForm ReceiptForm BodyForm
   received_else {channel = channel} {to = to} {other = other} {number = number} {absent = absent} {none = none} {c = c} {h =
       h} is same p left q r end =
       same_command is (λ s n given.
@@ -80,7 +80,7 @@ module _ (slots : List Slot) (words : List ℕ) where
   pub conditional : {t : Command} {test : Expression} {then : Body} {over end : ℕ} {c d e f : Output} → t ≡ Conditional test then NoElse
       → LeavesTest slots test over c d → WritesBody slots words then d e → end ≡ length e.instrs → f ≡ patched e over (JumpZero end)
       → WritesCommand slots words t c f
-  unfolding CommandCode BranchesCode BodyCode
+  unfolding CommandForm BranchesForm BodyForm
   conditional {then = then} {end = end} {e = e} is (o, tested, left) p here patches =
       same_command is (λ s n (given, unit).
       upto (labelled end (as_if (λ w a b (m, (k, turn, value), rest). (k, turn, (m, value, rest)))
@@ -91,7 +91,7 @@ module _ (slots : List Slot) (words : List ℕ) where
       → t ≡ Conditional test then (Else other) → LeavesTest slots test over c d → WritesBody slots words then d e
       → WritesElse slots words gone other e f
       → g ≡ patched f over (JumpZero gone) → WritesCommand slots words t c g
-  unfolding CommandCode BranchesCode BodyCode
+  unfolding CommandForm BranchesForm BodyForm
   conditional_else {then = then} {other = other} {gone = gone} is (o, tested, left) p q patches =
       same_command is (λ s n (given, more).
       upto (as_if
@@ -120,7 +120,7 @@ module _ (slots : List Slot) (words : List ℕ) where
   pub looped : {t : Command} {test : Expression} {over_again : Body} {loop over end : ℕ} {c d e f g : Output} → t ≡ Loop test over_again
       → loop ≡ length c.instrs → LeavesTest slots test over c d → WritesBody slots words over_again d e → Adds (One (Jump loop)) e f
       → end ≡ length f.instrs → g ≡ patched f over (JumpZero end) → WritesCommand slots words t c g
-  unfolding CommandCode BodyCode
+  unfolding CommandForm BodyForm
   looped {over_again = x} {loop = loop} {end = end} {c = c} {f = f} is first (o, tested, left) p q here patches =
       same_command is (λ s n given.
       labelled loop (labelled end (both (at n c first) (as_if (λ w a b (m, (k, turn, value), rest). (k, turn, (m, value, rest)))
@@ -129,19 +129,19 @@ module _ (slots : List Slot) (words : List ℕ) where
       (both (p s n given) (both (q s.owner.number (n + blocks_in_body x)) (at (n + blocks_in_body x) f here)))))))))
 
   pub no_command : {l : Commands} (c : Output) → l ≡ NoCommand → WritesCommands slots words l c c
-  unfolding CommandsCode
+  unfolding CommandsForm
   no_command c is = subst (λ x. WritesCommands slots words x c c) (sym is) (λ s n g. upto (empty n c) (omega arith))
 
   pub one_command : {l rest : Commands} {first : Command} {c d e : Output} → l ≡ Then first rest → WritesCommand slots words first c d
       → WritesCommands slots words rest d e → WritesCommands slots words l c e
-  unfolding CommandsCode
+  unfolding CommandsForm
   one_command {first = first} {c = c} {e = e} is p q =
       subst (λ x. WritesCommands slots words x c e) (sym is) (λ s n (g, h). upto (both (p s n g) (q s (n + blocks_in_command first) h)) (omega arith))
 
   pub body_row : (variables : List Declaration) (l : Commands) {k : Commands} {size : ℕ} {c d e f : Output} → k ≡ l
       → size ≡ frame_words (frame_of variables) → Adds (FrameCode size) c d → WritesCommands slots words k d e → Adds (DropCode size) e f
       → WritesBody slots words (Scope variables l) c f
-  unfolding BodyCode CommandsCode
+  unfolding BodyForm CommandsForm
   body_row variables l {c = c} {d = d} {e = e} {f = f} is same p q r =
       let frame : Adds (FrameCode (frame_words (frame_of variables))) c d = subst (λ (i : ℕ). Adds (FrameCode i) c d) same p in
       let drops : Adds (DropCode (frame_words (frame_of variables))) e f = subst (λ (i : ℕ). Adds (DropCode i) e f) same r in

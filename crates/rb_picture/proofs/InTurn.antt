@@ -3,7 +3,7 @@ use Rattle.std.proofs.Common.{◌≡◌, List, [], ◌∷◌, map, option_map, s
 use Rattle.std.proofs.lemmas.List.{append-nil, append_assoc}
 use Rattle.rb_syntax.specs.declared.statement.Item.{Item}
 use Rattle.rb_syntax.specs.Plain.{print_item}
-use Rattle.rb_picture.specs.Places.{items_place}
+use Rattle.rb_code.specs.Agreement.Places.{items_place}
 
 -- for walks over parts that are looked through one after another
 pub ruleset walks = (append-nil, append_assoc)

@@ -8,4 +8,5 @@ pub mod SentOnce
 pub mod MeantTurns
 pub mod MeantWords
 pub mod MeantHead
+pub mod PlacesMeant
 pub mod AsMeant

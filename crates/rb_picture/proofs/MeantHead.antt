@@ -14,7 +14,7 @@ use Rattle.rb_meaning.specs.Nesting.{alternates_of}
 use Rattle.rb_meaning.specs.Step.{commands_of}
 use Rattle.rb_scope.specs.declared.slot.Slot.{Slot}
 use Rattle.rb_code.specs.Instructions.Plain.{Block, Code, Part, Procedure}
-use Rattle.rb_code.specs.Agreement.Forms.{AlternatesCode, BlockCode, BodyCode, BranchesCode, CommandCode, CommandsCode, ExpressionCode, OthersCode, Owner, ProceduresCode, ReceiptCode, StoreCode}
+use Rattle.rb_code.specs.Agreement.Forms.{AlternatesCode, AlternatesForm, BlockCode, BlockForm, BodyCode, BodyForm, BranchesCode, BranchesForm, CommandCode, CommandForm, CommandsCode, CommandsForm, ExpressionCode, OthersCode, OthersForm, Owner, ProceduresCode, ReceiptCode, ReceiptForm, StoreCode}
 use Rattle.rb_code.specs.Agreement.StandsFor.{ProcessesCode, StandsFor}
 use Rattle.rb_code.specs.Agreement.Slots.{channel_of}
 use Rattle.rb_code.specs.Agreement.Template.{One}
@@ -101,7 +101,7 @@ blocks_joined c n m (facts ∷ first) others e one other =
 module _ (tree : Tree) (slots : List Slot) (c : Code) where
   module _ (owner : Owner) where
     mutual
-      unfolding AlternatesCode OthersCode
+      unfolding AlternatesForm OthersForm
 
       -- each alternate has its address
       alternates_count : (alternates : Alternates) (addresses : List ℕ) (test a b : ℕ) → AlternatesCode tree slots owner alternates addresses test c a b
@@ -119,7 +119,7 @@ module _ (tree : Tree) (slots : List Slot) (c : Code) where
           omega (arith, counted, ap (λ (all : List ℕ). length all) is)
 
     mutual
-      unfolding CommandCode CommandsCode BodyCode ReceiptCode BranchesCode BlockCode AlternatesCode OthersCode
+      unfolding CommandForm CommandsForm BodyForm ReceiptForm BranchesForm BlockForm AlternatesForm OthersForm
 
       command_told : (command : Command) (n a b : ℕ) → CommandNumbered n command → CommandCode tree slots owner command c a b
           → AreBlocks c n (blocks_of_command tree command)

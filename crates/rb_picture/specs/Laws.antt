@@ -12,6 +12,7 @@ use Rattle.rb_scope.specs.InFrames.{Resolved}
 use Rattle.rb_scope.specs.Limits.{IsWithinLimits}
 use Rattle.rb_scope.specs.declared.slot.Slot.{Slot}
 use Rattle.rb_code.specs.Instructions.Plain.{Code}
+use Rattle.rb_code.specs.Agreement.Places.{places_told}
 use Rattle.rb_code.specs.Agreement.RoomInTree.{FewOperands}
 use Rattle.rb_code.specs.Agreement.StandsFor.{StandsFor}
 use Rattle.rb_code.specs.WordMachine.Turn.{Copy, Standing}
@@ -42,10 +43,20 @@ TellsPlaces tree c places turns =
     → slice_get (run_of tree before).0.processes p ≡ Some q → slice_get (word_run c (groups_of tree) before).0.processes p ≡ Some r
     → place_at places (address_told c r.status r) ≡ place_meant q.status q
 
+-- The places that are told of the code of a tree are those that are meant, before each turn of every run.
+abbrev pub PlacesAreMeant : Type 0
+PlacesAreMeant = (tree : Tree) (slots : List Slot) (c : Code) (turns : List ℕ) → IsCodeOf tree slots c
+    → TellsPlaces tree c (places_told tree c.instrs) turns
+
 abbrev pub TraceIsMeantWhere : Type 0
 TraceIsMeantWhere = (tree : Tree) (slots : List Slot) (c : Code) (counts : List ℕ) (places : List (Option Place)) (turns : List ℕ)
     → IsCodeOf tree slots c → AreCounts tree counts → TellsPlaces tree c places turns
     → trace_text c (groups_of tree) counts places turns ≡ tree_trace_text tree turns
+
+-- So with these places the trace is that of the meaning, to the last byte.
+abbrev pub TraceIsToldAsMeant : Type 0
+TraceIsToldAsMeant = (tree : Tree) (slots : List Slot) (c : Code) (counts turns : List ℕ) → IsCodeOf tree slots c → AreCounts tree counts
+    → trace_text c (groups_of tree) counts (places_told tree c.instrs) turns ≡ tree_trace_text tree turns
 
 -- a reading that knows no place
 abbrev pub unplaced : {S C M : Type 0} → Reading S C M → Reading S C M

@@ -6,7 +6,6 @@ pub mod Turns
 pub mod Head
 pub mod Heads
 pub mod Trace
-pub mod Places
 pub mod Meant
 pub mod Laws
 pub mod Rows

@@ -2,7 +2,7 @@
 
 ghost use Rattle.std.specs.Prelude.{◌≡◌, map};
 ghost use Rattle.rb_syntax.specs.Plain.{command, expression, print_item};
-ghost use Rattle.rb_picture.specs.Places.{command_place, expression_place, items_place};
+ghost use Rattle.rb_code.specs.Agreement.Places.{command_place, expression_place, items_place};
 
 use rb_base::Place;
 use rb_syntax::{Expr, Item, Statement};

@@ -2,7 +2,7 @@
 
 ghost use Rattle.std.specs.Prelude.{◌≡◌, IfOk};
 ghost use Rattle.rb_syntax.specs.Plain.{tree};
-ghost use Rattle.rb_picture.specs.Places.{is_turn, place_number, placed_from, places_told};
+ghost use Rattle.rb_code.specs.Agreement.Places.{is_turn, place_number, placed_from, places_told};
 
 use crate::turn_places::places_of_turns;
 use rb_base::{Memory, Place};

@@ -2,7 +2,7 @@
 
 ghost use Rattle.std.specs.Prelude.{◌≡◌, [], ◌∷◌, ◌++◌, map, OnOk, IfOk};
 ghost use Rattle.rb_syntax.specs.Plain.{alternates_of, body, command, commands_of, otherwise, procedure_declaration, process_declaration, recovery_block, tree};
-ghost use Rattle.rb_picture.specs.Places.{alternates_turns, body_turns, command_turns, commands_turns, otherwise_turns, procedures_turns, processes_turns, recovery_turns};
+ghost use Rattle.rb_code.specs.Agreement.Places.{alternates_turns, body_turns, command_turns, commands_turns, otherwise_turns, procedures_turns, processes_turns, recovery_turns};
 
 use crate::place::place_of;
 use rb_base::{Memory, Place};

@@ -74,7 +74,7 @@ module _ (tree : Tree) (slots : List Slot) (c : Code) (see : Sight) (has : HasCu
       }
 
   pub test_judged : (copy : State) (called : List OpenCall) → IsPrior tree c see.process s m.calls copy see.prior called
-      → (block : RecoveryBlock) (rest : List Item) (a b : ℕ) → TestCode slots block c a b
+      → (block : RecoveryBlock) (rest : List Item) (a b : ℕ) → TestCode tree slots block c a b
       → TestInFrames slots (frames_of tree slots c see has s) block
       → Left tree slots c see.process (stacks_of s.environment.calls) rest m.calls b
       → Judged (a + 1) rest (value s.environment copy.environment [] (test_in block))

@@ -11,12 +11,12 @@ use Rattle.rb_scope.specs.declared.slot.Slot.{Slot}
 use Rattle.rb_code.specs.Instructions.Plain.{Block, Code}
 use Rattle.rb_code.specs.WordMachine.Workspace.{Workspace}
 use Rattle.rb_code.specs.WordMachine.Act.{Going, Sight, Trapped, alternate_address, if_there}
-use Rattle.rb_code.specs.Agreement.Template.{One, ◌⨾◌}
-use Rattle.rb_code.specs.Agreement.Forms.{AlternatesCode, BodyCode, CommandCode, ExpressionCode, OthersCode, Owner}
-use Rattle.rb_code.specs.declared.instr.Instr.TheVariants.{Fail, Start, Test, Turn}
+use Rattle.rb_code.specs.Agreement.Forms.{CommandForm, Owner}
+use Rattle.rb_code.specs.declared.instr.Instr.TheVariants.{Fail, Start}
+use Rattle.rb_code.proofs.Agreeing.Placed.{AlternatesPlaced, BodyPlaced, CommandPlaced, OthersPlaced}
 use Rattle.rb_code.proofs.Agreeing.Leads.{ends, goes}
 use Rattle.rb_code.proofs.InWords.LaidOut.{stacks_of}
-use Rattle.rb_code.proofs.Agreeing.TextLeft.{Left, Onward, StartCode, owner_of}
+use Rattle.rb_code.proofs.Agreeing.TextLeft.{Left, Onward, StartCode, TestCode, owner_of}
 use Rattle.rb_code.proofs.Agreeing.Stores.{frames_of}
 use Rattle.rb_code.proofs.Agreeing.Blocks.{block_took}
 use Rattle.rb_code.proofs.Agreeing.StepOutcomes.{HasCursors, InTurn, Took, took_from}
@@ -27,7 +27,7 @@ pub record IsAlternate (tree : Tree) (slots : List Slot) (owner : Owner) (c : Co
   pub first : ℕ
   pub end : ℕ
   pub entry : slice_get addresses k ≡ Some first
-  pub code : BodyCode tree slots owner body c first end
+  pub code : BodyPlaced tree slots owner body c first end
   pub on : Onward c end test
   pub in_frames : BodyInFrames tree slots owner.number frames body
 
@@ -48,16 +48,16 @@ module _ (tree : Tree) (slots : List Slot) (owner : Owner) (c : Code) (frames : 
 
   -- behind an alternate its test stands, or a jump to it
   others_onward : (others : Alternates) (addresses : List ℕ) (a b : ℕ)
-      → OthersCode tree slots owner others addresses test c a b → b ≡ test → Onward c a test
-  unfolding CommandCode
+      → OthersPlaced tree slots owner others addresses test c a b → b ≡ test → Onward c a test
+  unfolding CommandForm
   others_onward NoAlternate addresses a b code e = inl (sym e ∙ code.1)
   others_onward (Alternate body more) addresses a b (d, jump, code) e = inr jump.0
 
   mutual
-    unfolding CommandCode
+    unfolding CommandForm
 
     pub alternate_at : (alternates : Alternates) (addresses : List ℕ) (a b k : ℕ) (body : Body)
-        → AlternatesCode tree slots owner alternates addresses test c a b
+        → AlternatesPlaced tree slots owner alternates addresses test c a b
         → b ≡ test → AlternatesInFrames tree slots owner.number frames alternates
         → alternate_number (suc k) alternates ≡ Some body → At addresses k body
     alternate_at NoAlternate addresses a b k body code e is n = absurd (none_some n)
@@ -67,14 +67,14 @@ module _ (tree : Tree) (slots : List Slot) (owner : Owner) (c : Code) (frames : 
           first = a;
           end = d;
           entry = ap (λ xs. slice_get xs 0) same;
-          code = subst (λ x. BodyCode tree slots owner x c a d) it code;
+          code = subst (λ x. BodyPlaced tree slots owner x c a d) it code;
           on = others_onward others more d b rest e;
           in_frames = subst (λ x. BodyInFrames tree slots owner.number frames x) it is.0;
         }
     alternate_at (Alternate first others) addresses a b (suc k) body (more, same, (d, code, rest)) e is n =
         one_on a addresses more k body same (other_at others more d b k body rest e is.1 n)
 
-    other_at : (others : Alternates) (addresses : List ℕ) (a b k : ℕ) (body : Body) → OthersCode tree slots owner others addresses test c a b
+    other_at : (others : Alternates) (addresses : List ℕ) (a b k : ℕ) (body : Body) → OthersPlaced tree slots owner others addresses test c a b
         → b ≡ test → AlternatesInFrames tree slots owner.number frames others → alternate_number (suc k) others ≡ Some body → At addresses k body
     other_at NoAlternate addresses a b k body code e is n = absurd (none_some n)
     other_at (Alternate first others) addresses a b zero body (h, jump, (more, same, (d, code, rest))) e is n =
@@ -83,7 +83,7 @@ module _ (tree : Tree) (slots : List Slot) (owner : Owner) (c : Code) (frames : 
           first = h;
           end = d;
           entry = ap (λ xs. slice_get xs 0) same;
-          code = subst (λ x. BodyCode tree slots owner x c h d) it code;
+          code = subst (λ x. BodyPlaced tree slots owner x c h d) it code;
           on = others_onward others more d b rest e;
           in_frames = subst (λ x. BodyInFrames tree slots owner.number frames x) it is.0;
         }
@@ -92,16 +92,16 @@ module _ (tree : Tree) (slots : List Slot) (owner : Owner) (c : Code) (frames : 
 
   -- a block that has no such alternate has no address for it
   mutual
-    unfolding CommandCode
+    unfolding CommandForm
 
-    pub no_alternate_at : (alternates : Alternates) (addresses : List ℕ) (a b k : ℕ) → AlternatesCode tree slots owner alternates addresses test c a b
+    pub no_alternate_at : (alternates : Alternates) (addresses : List ℕ) (a b k : ℕ) → AlternatesPlaced tree slots owner alternates addresses test c a b
         → alternate_number (suc k) alternates ≡ None → slice_get addresses k ≡ None
     no_alternate_at NoAlternate addresses a b k code n = ap (λ xs. slice_get xs k) code.0
     no_alternate_at (Alternate first others) addresses a b zero code n = absurd (none_some (sym n))
     no_alternate_at (Alternate first others) addresses a b (suc k) (more, same, (d, code, rest)) n =
         ap (λ xs. slice_get xs (suc k)) same ∙ no_other_at others more d b k rest n
 
-    no_other_at : (others : Alternates) (addresses : List ℕ) (a b k : ℕ) → OthersCode tree slots owner others addresses test c a b
+    no_other_at : (others : Alternates) (addresses : List ℕ) (a b k : ℕ) → OthersPlaced tree slots owner others addresses test c a b
         → alternate_number (suc k) others ≡ None → slice_get addresses k ≡ None
     no_other_at NoAlternate addresses a b k code n = ap (λ xs. slice_get xs k) code.0
     no_other_at (Alternate first others) addresses a b zero code n = absurd (none_some (sym n))
@@ -110,9 +110,9 @@ module _ (tree : Tree) (slots : List Slot) (owner : Owner) (c : Code) (frames : 
 
 module _ (tree : Tree) (slots : List Slot) (c : Code) (see : Sight) (has : HasCursors c see.process) (s : State)
     (m : Workspace) (turn : InTurn tree slots c see has s m) where
-  pub failure_took : (rest : List Item) (a b : ℕ) → CommandCode tree slots (owner_of tree see.process) Failure c a b
+  pub failure_took : (rest : List Item) (a b : ℕ) → CommandPlaced tree slots (owner_of tree see.process) Failure c a b
       → Took tree slots c see has (a + 1) [] m (λ later. m.slots) (performs tree see.message s rest Failure)
-  unfolding CommandCode
+  unfolding CommandForm
   failure_took rest a b (d, begin, code) =
       ends c see Fail (a + 1) [] m (Trapped FailCause) (subst (λ z. slice_get c.instrs z ≡ Some Fail) begin.1 code.0) refl refl
 
@@ -120,7 +120,7 @@ module _ (tree : Tree) (slots : List Slot) (c : Code) (see : Sight) (has : HasCu
   started : (number : ℕ) (blk : Block) (alternates : Alternates) (block : RecoveryBlock) (rest : List Item) (f h end n : ℕ)
       → slice_get c.blocks number ≡ Some blk
       → slice_get c.instrs f ≡ Some (Start number) → see.alternate ≡ n
-      → AlternatesCode tree slots (owner_of tree see.process) alternates blk.alternates blk.test c h end
+      → AlternatesPlaced tree slots (owner_of tree see.process) alternates blk.alternates blk.test c h end
       → end ≡ blk.test → AlternatesInFrames tree slots see.process (frames_of tree slots c see has s) alternates
       → Left tree slots c see.process (stacks_of s.environment.calls) (TestOf block ∷ rest) m.calls blk.test
       → (o : Option Body) → alternate_number n alternates ≡ o
@@ -166,7 +166,7 @@ module _ (tree : Tree) (slots : List Slot) (c : Code) (see : Sight) (has : HasCu
       (started number blk alternates block rest (a + 1) g h see.alternate there
       (subst (λ z. slice_get c.instrs z ≡ Some (Start number)) begin start.0) refl code at_test.0 is.2 (
         b,
-        (subst (λ z. (One Turn ⨾ ExpressionCode slots test ⨾ One (Test number)) c z b) (at_test.1 ∙ at_test.0)
+        (subst (λ z. TestCode tree slots block c z b) (at_test.1 ∙ at_test.0)
             (j, turn2, (k, test_code, tests))),
         is.1,
         left,

@@ -12,7 +12,8 @@ use Rattle.rb_scope.specs.declared.slot.Slot.{Slot}
 use Rattle.rb_code.specs.Instructions.Plain.{Code}
 use Rattle.rb_code.specs.WordMachine.Workspace.{Workspace, OpenCall, part_of, written}
 use Rattle.rb_code.specs.WordMachine.Act.{Sight}
-use Rattle.rb_code.specs.Agreement.Forms.{CommandCode, ExpressionCode, StoreCode}
+use Rattle.rb_code.specs.Agreement.Forms.{CommandForm, ExpressionCode, StoreCode}
+use Rattle.rb_code.proofs.Agreeing.Placed.{CommandPlaced}
 use Rattle.rb_code.proofs.Agreeing.ResultsReached.{recounted}
 use Rattle.rb_code.proofs.InWords.LaidOut.{place_lying, stacks_of}
 use Rattle.rb_code.proofs.Agreeing.TextLeft.{Left, owner_of}
@@ -52,11 +53,11 @@ module _ (tree : Tree) (slots : List Slot) (c : Code) (see : Sight) (has : HasCu
       subst (λ stacks. Left tree slots c see.process stacks items calls a) (sym (store_kept s.environment x k v).1) left
 
   pub assignment_took : (s : State) (m : Workspace) → InTurn tree slots c see has s m → (to : Reference) (e : Expression) (rest : List Item) (a b : ℕ)
-      → CommandCode tree slots (owner_of tree see.process) (Assignment to e) c a b
+      → CommandPlaced tree slots (owner_of tree see.process) (Assignment to e) c a b
       → CommandInFrames tree slots see.process (frames_of tree slots c see has s) (Assignment to e)
       → Left tree slots c see.process (stacks_of s.environment.calls) rest m.calls b
       → Took tree slots c see has (a + 1) [] m (λ later. m.slots) (performs tree see.message s rest (Assignment to e))
-  unfolding CommandCode
+  unfolding CommandForm
   assignment_took s m turn to e rest a b (d, begin, code) is left =
       store_took tree slots c see has s m turn (ExpressionCode slots e) (present_value s.environment e) m refl
       (λ a1 b1 set os two code1. plain_comes tree slots c see has s m turn e is.1 a1 b1 set os two code1)

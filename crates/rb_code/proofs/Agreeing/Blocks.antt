@@ -15,7 +15,8 @@ use Rattle.rb_scope.proofs.WithinLimits.{shape_words-frame}
 use Rattle.rb_code.specs.Instructions.Plain.{Code}
 use Rattle.rb_code.specs.WordMachine.Workspace.{Counting, Workspace, framed, part_of, variables_place}
 use Rattle.rb_code.specs.WordMachine.Act.{Sight}
-use Rattle.rb_code.specs.Agreement.Forms.{BodyCode, CommandCode, CommandsCode, DropCode}
+use Rattle.rb_code.specs.Agreement.Forms.{CommandForm, DropCode}
+use Rattle.rb_code.proofs.Agreeing.Placed.{BodyPlaced, CommandsPlaced}
 use Rattle.rb_code.proofs.Agreeing.ResultsReached.{recounted}
 use Rattle.rb_code.proofs.InWords.LaidOut.{Laid, running, stacks_of}
 use Rattle.rb_code.proofs.Agreeing.StatesMeet.{WordsMeet}
@@ -41,7 +42,7 @@ module _ (tree : Tree) (slots : List Slot) (c : Code) (see : Sight) (has : HasCu
     -- what is left once a block was begun
     left_pushed : (variables : List Declaration) (commands : Commands) (rest : List Item) (a d b next : ℕ)
         (main : HasMain (stacks_of s.environment.calls))
-        → CommandsCode tree slots (owner_of tree see.process) commands c a d
+        → CommandsPlaced tree slots (owner_of tree see.process) commands c a d
         → BodyInFrames tree slots see.process (frames_of tree slots c see has s) (Scope variables commands)
         → DropCode (frame_words (frame_of variables)) c d b → Onward c b next
         → Left tree slots c see.process (stacks_of s.environment.calls) rest m.calls next
@@ -61,11 +62,11 @@ module _ (tree : Tree) (slots : List Slot) (c : Code) (see : Sight) (has : HasCu
           subst (λ stacks. Left tree slots c p stacks rest m.calls next) main.is left,
         ))
 
-    pub block_took : (body : Body) (rest : List Item) (a b next : ℕ) → BodyCode tree slots (owner_of tree see.process) body c a b
+    pub block_took : (body : Body) (rest : List Item) (a b next : ℕ) → BodyPlaced tree slots (owner_of tree see.process) body c a b
         → BodyInFrames tree slots see.process (frames_of tree slots c see has s) body → Onward c b next
         → Left tree slots c see.process (stacks_of s.environment.calls) rest m.calls next
         → Took tree slots c see has a [] m (λ later. m.slots) (pushes c.edition body rest s)
-    unfolding CommandCode
+    unfolding CommandForm
     block_took (Scope variables commands) rest a b next (d, frame, (e, code, drop)) is on left =
         by (nat_lt (most_words c.edition) (words env)) refl
       where

@@ -12,8 +12,9 @@ use Rattle.rb_scope.specs.declared.slot.Slot.{Slot}
 use Rattle.rb_code.specs.Instructions.Plain.{Code, Part}
 use Rattle.rb_code.specs.WordMachine.Workspace.{Workspace, OpenCall, body_place, framed, variables_place, with_words}
 use Rattle.rb_code.specs.WordMachine.Act.{Going, Sight, Trapped, here}
-use Rattle.rb_code.specs.Agreement.Forms.{CommandCode, CommandsCode, FrameCode}
+use Rattle.rb_code.specs.Agreement.Forms.{CommandForm, FrameCode}
 use Rattle.rb_code.specs.declared.instr.Instr.TheVariants.{Frame as FrameInstr}
+use Rattle.rb_code.proofs.Agreeing.Placed.{CommandsPlaced}
 use Rattle.rb_code.proofs.Agreeing.Leads.{EndsIn, Leads, ends, passes, stays}
 use Rattle.rb_code.proofs.InWords.LaidOut.{Based, Laid, running, stacks_of}
 use Rattle.rb_code.proofs.Agreeing.TextLeft.{Left, frames_at, owner_of}
@@ -73,9 +74,9 @@ module _ (c : Code) (see : Sight) where
 module _ (tree : Tree) (slots : List Slot) (c : Code) (p : ℕ) where
   -- statements stand before what is left
   pub commands_left : (commands : Commands) (rest : List Item) (stacks : List (List Shape)) (calls : List OpenCall) (a b : ℕ)
-      → CommandsCode tree slots (owner_of tree p) commands c a b → CommandsInFrames tree slots p (frames_at tree p (running stacks)) commands
+      → CommandsPlaced tree slots (owner_of tree p) commands c a b → CommandsInFrames tree slots p (frames_at tree p (running stacks)) commands
       → Left tree slots c p stacks rest calls b → Left tree slots c p stacks (performed commands rest) calls a
-  unfolding CommandCode
+  unfolding CommandForm
   commands_left NoCommand rest stacks calls a b code is left = subst (λ x. Left tree slots c p stacks rest calls x) code left
   commands_left (Then first more) rest stacks calls a b (d, code, others) is left =
       (d, code, is.0, commands_left more rest stacks calls d b others is.1 left)

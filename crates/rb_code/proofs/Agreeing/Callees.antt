@@ -10,9 +10,10 @@ use Rattle.rb_scope.specs.InFrames.{CommandsInFrames, ProcedureInFrames, Resolve
 use Rattle.rb_scope.specs.declared.slot.Slot.{Slot}
 use Rattle.rb_code.specs.Instructions.Plain.{Code, Part, Procedure}
 use Rattle.rb_code.specs.WordMachine.Workspace.{no_part}
-use Rattle.rb_code.specs.Agreement.Forms.{CommandsCode, Owner, ProceduresCode, procedure_start}
+use Rattle.rb_code.specs.Agreement.Forms.{Owner, procedure_start}
 use Rattle.rb_code.specs.Agreement.StandsFor.{StandsFor}
 use Rattle.rb_code.specs.declared.instr.Instr.TheVariants.{Return}
+use Rattle.rb_code.proofs.Agreeing.Placed.{CommandsPlaced, ProceduresPlaced}
 use Rattle.rb_code.proofs.Agreeing.TextLeft.{frames_at, owner_of, variables_of_process}
 use Rattle.rb_code.proofs.Agreeing.Calls.{IsCallee}
 use Rattle.rb_code.proofs.Agreeing.StepComes.{HasCallees}
@@ -34,12 +35,12 @@ pub record StandsThere (tree : Tree) (slots : List Slot) (owner : Owner) (c : Co
   pub entry : Procedure
   pub listed : slice_get entries number ≡ Some entry
   pub end : ℕ
-  pub commands : CommandsCode tree slots owner (commands_of procedure.body) c entry.start end
+  pub commands : CommandsPlaced tree slots owner (commands_of procedure.body) c entry.start end
   pub return : slice_get c.instrs end ≡ Some Return
 
 procedure_there : (tree : Tree) (slots : List Slot) (owner : Owner) (c : Code) (procedures : List ProcedureDeclaration)
     (entries : List Procedure) (a b number : ℕ)
-    (procedure : ProcedureDeclaration) → ProceduresCode tree slots owner procedures entries c a b → slice_get procedures number ≡ Some procedure
+    (procedure : ProcedureDeclaration) → ProceduresPlaced tree slots owner procedures entries c a b → slice_get procedures number ≡ Some procedure
     → StandsThere tree slots owner c entries number procedure
 procedure_there tree slots owner c [] entries a b number procedure code e = absurd (none_some e)
 procedure_there tree slots owner c (one ∷ others) entries a b zero procedure (more, is, (d, commands, (f, return, rest))) e =
@@ -48,7 +49,7 @@ procedure_there tree slots owner c (one ∷ others) entries a b zero procedure (
       entry = first;
       listed = ap (λ (list : List Procedure). slice_get list 0) is;
       end = d;
-      commands = subst (λ (x : ProcedureDeclaration). CommandsCode tree slots owner (commands_of x.body) c a d) (some_same e) commands;
+      commands = subst (λ (x : ProcedureDeclaration). CommandsPlaced tree slots owner (commands_of x.body) c a d) (some_same e) commands;
       return = return.0;
     }
 procedure_there tree slots owner c (one ∷ others) entries a b (suc number) procedure (more, is, (d, commands, (f, return, rest))) e =
@@ -82,9 +83,9 @@ module _ (tree : Tree) (slots : List Slot) (c : Code) (stands : StandsFor tree s
       all_there (ProcedureInFrames tree slots p process) process.procedures number procedure (resolved.processes p process there).procedures e in
       record {
         end = found.end;
-        commands = subst (λ (a : ℕ). CommandsCode tree slots (owner_of tree p) (commands_of procedure.body) c a found.end) (sym start)
+        commands = subst (λ (a : ℕ). CommandsPlaced tree slots (owner_of tree p) (commands_of procedure.body) c a found.end) (sym start)
             (subst
-            (λ (owner : Owner). CommandsCode tree slots owner (commands_of procedure.body) c found.entry.start found.end)
+            (λ (owner : Owner). CommandsPlaced tree slots owner (commands_of procedure.body) c found.entry.start found.end)
             (sym owner_is) found.commands);
         return = found.return;
         in_frames = subst (λ (frames : Frames). CommandsInFrames tree slots p frames (commands_of procedure.body)) (sym frames_are) inside;

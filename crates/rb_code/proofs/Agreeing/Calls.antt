@@ -18,8 +18,9 @@ use Rattle.rb_code.specs.Instructions.Plain.{Code, Part}
 use Rattle.rb_code.specs.WordMachine.Workspace.{Counting, Workspace, OpenCall, body_place, called, part_of, variables_place}
 use Rattle.rb_code.specs.WordMachine.Act.{Going, Sight, Trapped, act, arguments, below, has_words_for}
 use Rattle.rb_code.specs.Agreement.Slots.{procedure_in, procedure_of}
-use Rattle.rb_code.specs.Agreement.Forms.{ArgumentsCode, CommandCode, CommandsCode, procedure_start, procedure_words}
+use Rattle.rb_code.specs.Agreement.Forms.{ArgumentsCode, CommandForm, procedure_start, procedure_words}
 use Rattle.rb_code.specs.declared.instr.Instr.TheVariants.{Call, Return}
+use Rattle.rb_code.proofs.Agreeing.Placed.{CommandPlaced, CommandsPlaced}
 use Rattle.rb_code.proofs.Agreeing.Leads.{Leads, ends, goes, stays}
 use Rattle.rb_code.proofs.Agreeing.ResultsReached.{Comes, comes_on, kept_here, recounted}
 use Rattle.rb_code.proofs.InWords.LaidOut.{Based, Laid, flat_frame, shapes_of, stacks_of}
@@ -103,7 +104,7 @@ as_many_open part front env all calls l =
 -- Procedure number n of process number p: its statements stand at its first address, and then the way back.
 pub record IsCallee (tree : Tree) (slots : List Slot) (c : Code) (p number : ℕ) (procedure : ProcedureDeclaration) : Type 0 where
   pub end : ℕ
-  pub commands : CommandsCode tree slots (owner_of tree p) (commands_of procedure.body) c (procedure_start c p number) end
+  pub commands : CommandsPlaced tree slots (owner_of tree p) (commands_of procedure.body) c (procedure_start c p number) end
   pub return : slice_get c.instrs end ≡ Some Return
   pub in_frames : CommandsInFrames tree slots p (frames_at tree p (call_shape procedure ∷ [])) (commands_of procedure.body)
 
@@ -255,11 +256,11 @@ module _ (tree : Tree) (slots : List Slot) (c : Code) (see : Sight) (has : HasCu
       → ((number : ℕ) (procedure : ProcedureDeclaration) → slice_get (procedures_of (slice_get tree.processes see.process)) number ≡ Some procedure
       → IsCallee tree slots c see.process number procedure)
       → (name : Identifier) (es : List Expression) (rest : List Item) (a b : ℕ)
-      → CommandCode tree slots (owner_of tree see.process) (Invocation name es) c a b
+      → CommandPlaced tree slots (owner_of tree see.process) (Invocation name es) c a b
       → CommandInFrames tree slots see.process (frames_of tree slots c see has s) (Invocation name es)
       → Left tree slots c see.process (stacks_of s.environment.calls) rest m.calls b
       → Took tree slots c see has (a + 1) [] m (λ later. m.slots) (performs tree see.message s rest (Invocation name es))
-  unfolding CommandCode
+  unfolding CommandForm
   invocation_took edition mine callees name es rest a b (d, begin, (e, code, call)) (is, fit) left =
       let p = see.process in
       let declared = procedures_of (slice_get tree.processes p) in

@@ -1,5 +1,6 @@
 -- A `send` and a `receive` do the same in the meaning and in the machine.
 use Rattle.std.proofs.Common.{◌≡◌, inl, ℕ, ◌+◌, ℤ, pos, List, [], ◌∷◌, length, slice_get, unwrap_or, Option, Some, None, Ok, refl, sym, ap, ◌∙◌, subst}
+use Rattle.rb_base.specs.declared.place.Place.{Place}
 use Rattle.rb_world.proofs.ListFacts.{slice_get-end}
 use Rattle.rb_world.specs.Slots.{Slots, put_slot}
 use Rattle.rb_syntax.specs.Tree.{Sending, Receiving, Expression, Identifier, Otherwise, NoElse, Else, Reference, Tree}
@@ -15,8 +16,9 @@ use Rattle.rb_code.specs.WordMachine.Workspace.{Workspace, cursor_place, part_of
 use Rattle.rb_code.specs.WordMachine.Act.{Going, Outcome, Sight, act, if_there, put, risen}
 use Rattle.rb_code.specs.Agreement.Slots.{channel_in, channel_of}
 use Rattle.rb_code.specs.Agreement.Template.{One}
-use Rattle.rb_code.specs.Agreement.Forms.{BodyCode, CommandCode, ReceiptCode, StoreCode}
+use Rattle.rb_code.specs.Agreement.Forms.{CommandForm, StoreCode}
 use Rattle.rb_code.specs.declared.instr.Instr.TheVariants.{Absent, Put, Room, Take, There}
+use Rattle.rb_code.proofs.Agreeing.Placed.{BodyPlaced, CommandPlaced, ReceiptPlaced}
 use Rattle.rb_code.proofs.Agreeing.Leads.{Leads, goes, passes, stays}
 use Rattle.rb_code.proofs.Agreeing.ResultsReached.{recounted}
 use Rattle.rb_code.proofs.Agreeing.ResultsReached.{kept_here}
@@ -50,11 +52,11 @@ module _ (tree : Tree) (slots : List Slot) (c : Code) (see : Sight) (has : HasCu
       ∙ ap (λ x. put_slot (channels_of tree) channel n x m.slots) (sym last)
 
   pub sending_took : (name : Identifier) (e : Expression) (rest : List Item) (a b : ℕ) → IsSender c see.process s (channel_number tree name.text)
-      → CommandCode tree slots (owner_of tree see.process) (Sending name e) c a b
+      → CommandPlaced tree slots (owner_of tree see.process) (Sending name e) c a b
       → CommandInFrames tree slots see.process (frames_of tree slots c see has s) (Sending name e)
       → Left tree slots c see.process (stacks_of s.environment.calls) rest m.calls b
       → Took tree slots c see has (a + 1) [] m (slots_then (channel_number tree name.text)) (performs tree see.message s rest (Sending name e))
-  unfolding CommandCode
+  unfolding CommandForm
   sending_took name e rest a b me (d, begin, (d1, room, (d2, code, last))) is left =
       let channel = channel_number tree name.text in
       let same : channel_of slots name.id ≡ channel = ap channel_in is.0.slot in
@@ -128,44 +130,44 @@ module _ (tree : Tree) (slots : List Slot) (c : Code) (see : Sight) (has : HasCu
   MayReceive None NoElse = ⊥
   MayReceive None (Else other) = Unit {0}
 
-  receipt_took : (message : Option ℤ) → see.message ≡ message → (channel : ℕ) → IsReceiver c see.process s channel
+  receipt_took : (place : Option Place) (message : Option ℤ) → see.message ≡ message → (channel : ℕ) → IsReceiver c see.process s channel
       → (to : Reference) (otherwise : Otherwise)
       (rest : List Item) (a b : ℕ) → MayReceive message otherwise
-      → ReceiptCode tree slots (owner_of tree see.process) channel (StoreCode slots to (One (Take channel))) otherwise c a b
+      → ReceiptPlaced tree slots (owner_of tree see.process) place channel (StoreCode slots to (One (Take channel))) otherwise c a b
       → ReferenceInFrames slots (frames_of tree slots c see has s) (IsScalar slots (frames_of tree slots c see has s)) to
       → OtherwiseInFrames tree slots see.process (frames_of tree slots c see has s) otherwise
       → Left tree slots c see.process (stacks_of s.environment.calls) rest m.calls b
       → Took tree slots c see has (a + 1) [] m (λ later. m.slots) (receives tree channel to otherwise rest s message)
-  unfolding CommandCode
-  receipt_took (Some v) there channel me to NoElse rest a b may (d, begin, (d1, is_there, taken)) is other_is left =
+  unfolding CommandForm
+  receipt_took place (Some v) there channel me to NoElse rest a b may (d, begin, (d1, is_there, taken)) is other_is left =
       took_from tree slots c see has (a + 1) d1 [] [] m m (λ later. m.slots) (takes (continue_with rest s) channel to v)
       (subst (λ x. Leads c see x [] m d1 [] m) begin.1 (passes c see (There channel) d d1 [] [] m m is_there refl))
       (takes_took v there channel me to rest d1 b b is taken (λ n. stays c see b [] n) left)
-  receipt_took (Some v) there channel me to (Else other) rest a b may
+  receipt_took place (Some v) there channel me to (Else other) rest a b may
       (none, (end, (d, begin, (d1, absent, (d2, taken, (d3, jump, (d4, at_none, (d5, other_code, at_end)))))))) is other_is left =
       took_from tree slots c see has (a + 1) d1 [] [] m m (λ later. m.slots) (takes (continue_with rest s) channel to v)
       (subst (λ x. Leads c see x [] m d1 [] m) begin.1
       (passes c see (Absent channel none) d d1 [] [] m m absent (absent_by (Some v) there channel none d)))
       (takes_took v there channel me to rest d1 d2 b is taken
       (λ n. to_there c see d2 end b [] [] n n (sym (at_end.1 ∙ at_end.0)) (jumps c see d2 end d3 [] n jump)) left)
-  receipt_took None there channel me to NoElse rest a b may code is other_is left = absurd may
-  receipt_took None there channel me to (Else other) rest a b may
+  receipt_took place None there channel me to NoElse rest a b may code is other_is left = absurd may
+  receipt_took place None there channel me to (Else other) rest a b may
       (none, (end, (d, begin, (d1, absent, (d2, taken, (d3, jump, (d4, at_none, (d5, other_code, at_end)))))))) is other_is left =
       took_from tree slots c see has (a + 1) none [] [] m m (λ later. m.slots) (pushes tree.edition other rest s)
       (subst (λ x. Leads c see x [] m none [] m) begin.1
       (goes c see (Absent channel none) d none [] [] m m absent.0 (absent_by None there channel none d)))
       (subst (λ e. Took tree slots c see has none [] m (λ later. m.slots) (pushes e other rest s)) edition
       (block_took tree slots c see has s m turn other rest none d5 b
-      (subst (λ z. BodyCode tree slots (owner_of tree see.process) other c z d5) (at_none.1 ∙ at_none.0) other_code) other_is (inl at_end.1) left))
+      (subst (λ z. BodyPlaced tree slots (owner_of tree see.process) other c z d5) (at_none.1 ∙ at_none.0) other_code) other_is (inl at_end.1) left))
 
   pub receiving_took : (name : Identifier) (to : Reference) (otherwise : Otherwise) (rest : List Item) (a b : ℕ)
       → IsReceiver c see.process s (channel_number tree name.text) → MayReceive see.message otherwise
-      → CommandCode tree slots (owner_of tree see.process) (Receiving name to otherwise) c a b
+      → CommandPlaced tree slots (owner_of tree see.process) (Receiving name to otherwise) c a b
       → CommandInFrames tree slots see.process (frames_of tree slots c see has s) (Receiving name to otherwise)
       → Left tree slots c see.process (stacks_of s.environment.calls) rest m.calls b
       → Took tree slots c see has (a + 1) [] m (λ later. m.slots) (performs tree see.message s rest (Receiving name to otherwise))
-  unfolding CommandCode
+  unfolding CommandForm
   receiving_took name to otherwise rest a b me may code is left =
       let same : channel_of slots name.id ≡ channel_number tree name.text = ap channel_in is.0.slot in
-      receipt_took see.message refl (channel_number tree name.text) me to otherwise rest a b may
-      (subst (λ x. ReceiptCode tree slots (owner_of tree see.process) x (StoreCode slots to (One (Take x))) otherwise c a b) same code) is.1 is.2 left
+      receipt_took (Some name.place) see.message refl (channel_number tree name.text) me to otherwise rest a b may
+      (subst (λ x. ReceiptPlaced tree slots (owner_of tree see.process) (Some name.place) x (StoreCode slots to (One (Take x))) otherwise c a b) same code) is.1 is.2 left

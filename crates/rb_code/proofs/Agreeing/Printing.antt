@@ -17,8 +17,9 @@ use Rattle.rb_code.specs.Instructions.Plain.{Code}
 use Rattle.rb_code.specs.WordMachine.Workspace.{Counting, Workspace, held_place, part_of, word_at}
 use Rattle.rb_code.specs.WordMachine.Act.{Going, Sight, Trapped, act, if_there, joined_pieces, line_held, printed as prints_line}
 use Rattle.rb_code.specs.Agreement.Template.{One}
-use Rattle.rb_code.specs.Agreement.Forms.{CommandCode, ItemsCode, PrintedCode}
+use Rattle.rb_code.specs.Agreement.Forms.{CommandForm, ItemsCode, PrintedCode}
 use Rattle.rb_code.specs.declared.instr.Instr.TheVariants.{Item as ItemInstr, Print, Text}
+use Rattle.rb_code.proofs.Agreeing.Placed.{CommandPlaced}
 use Rattle.rb_code.proofs.Agreeing.Leads.{Leads, ends, passes, stays}
 use Rattle.rb_code.proofs.Agreeing.ResultsReached.{Comes, comes_on, kept_here, recounted}
 use Rattle.rb_code.proofs.InWords.LaidOut.{stacks_of}
@@ -182,11 +183,11 @@ module _ (tree : Tree) (slots : List Slot) (c : Code) (see : Sight) (has : HasCu
           (record { words_meet = words_held line rest; held = ap (λ lines. lines ++ line ∷ []) turn.held; two = two }) left refl)
 
   pub printing_took : m.pieces ≡ [] → (items : List PrintItem) (rest : List Item) (a b : ℕ)
-      → CommandCode tree slots (owner_of tree see.process) (Printing items) c a b
+      → CommandPlaced tree slots (owner_of tree see.process) (Printing items) c a b
       → CommandInFrames tree slots see.process (frames_of tree slots c see has s) (Printing items)
       → Left tree slots c see.process (stacks_of s.environment.calls) rest m.calls b
       → Took tree slots c see has (a + 1) [] m (λ later. m.slots) (performs tree see.message s rest (Printing items))
-  unfolding CommandCode
+  unfolding CommandForm
   printing_took none items rest a b (d, begin, (e, code, print)) is left =
       let hold : List ℕ → Result State Cause = held_with (continue_with rest s) in
       same_took tree slots c see has (a + 1) [] m (λ later. m.slots) (and_then (texts_of s.environment items) (λ texts. hold (joined_pieces texts))) _

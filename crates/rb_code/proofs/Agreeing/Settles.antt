@@ -1,7 +1,8 @@
 -- Ends of blocks and calls are taken off by drops, returns and jumps, up to the next turn.
-use Rattle.std.proofs.Common.{◌≡◌, ◌⊎◌, inl, inr, ◌≤◌, ℕ, zero, suc, ◌-◌, ℤ, List, [], ◌∷◌, length, take, slice_get, Some, refl, sym, ap, ◌∙◌, subst, arith}
+use Rattle.std.proofs.Common.{◌≡◌, ◌⊎◌, inl, inr, ◌≤◌, ℕ, zero, suc, ◌-◌, ℤ, List, [], ◌∷◌, length, take, slice_get, Option, Some, refl, sym, ap, ◌∙◌, subst, arith}
 use Rattle.std.proofs.lemmas.List.{length-take}
 use Rattle.std.proofs.Math.Seq.{take-length}
+use Rattle.rb_base.specs.declared.place.Place.{Place}
 use Rattle.rb_syntax.specs.Tree.{Command, Assignment, Printing, Sending, Receiving, Conditional, Loop, Invocation, Failure, Recovering, Otherwise, NoElse, Else, RecoveryBlock, Recovers, Tree}
 use Rattle.rb_meaning.specs.Environment.{Environment, pop_call, pop_frame}
 use Rattle.rb_meaning.specs.State.{Item, Perform, StartOf, TestOf, EndBlock, EndCall, settle_items}
@@ -10,8 +11,10 @@ use Rattle.rb_scope.specs.declared.slot.Slot.{Slot}
 use Rattle.rb_code.specs.Instructions.Plain.{Code}
 use Rattle.rb_code.specs.WordMachine.Workspace.{Workspace, OpenCall, dropped, part_of, with_words}
 use Rattle.rb_code.specs.WordMachine.Act.{Sight}
-use Rattle.rb_code.specs.Agreement.Forms.{BranchesCode, CommandCode, DropCode, ExpressionCode, Owner, ReceiptCode}
+use Rattle.rb_code.specs.Agreement.Forms.{CommandForm, DropCode, ExpressionCode, Owner}
+use Rattle.rb_code.specs.Agreement.Places.{block_place, command_place, place_number, places_told}
 use Rattle.rb_code.specs.declared.instr.Instr.TheVariants.{Done, Drop, Jump, Return, Turn}
+use Rattle.rb_code.proofs.Agreeing.Placed.{BranchesPlaced, CommandPlaced, ReceiptPlaced, TurnAt}
 use Rattle.rb_code.proofs.Agreeing.Leads.{Leads, goes, leads_on, passes, stays}
 use Rattle.rb_code.proofs.InWords.LaidOut.{Laid, stacks_of}
 use Rattle.rb_code.proofs.Agreeing.TextLeft.{IsSettled, Left, Onward, StartCode, TestCode, owner_of}
@@ -25,39 +28,47 @@ with_calls words calls m = record m { words = words; calls = calls }
 abbrev pub IsTurn : Code → ℕ → Type 0
 IsTurn c a = slice_get c.instrs a ≡ Some Turn
 
+-- where a turn begins at which this place is told
+abbrev pub IsTurnOf : Tree → Code → Option Place → ℕ → Type 0
+IsTurnOf tree c place a = IsTurn c a × (place_number (places_told tree c.instrs) a ≡ place)
+
 module _ (tree : Tree) (slots : List Slot) (owner : Owner) (c : Code) where
-  receipt_turn : (channel : ℕ) (taken : Code → ℕ → ℕ → Type 0) (otherwise : Otherwise) (a b : ℕ)
-      → ReceiptCode tree slots owner channel taken otherwise c a b → IsTurn c a
-  unfolding ExpressionCode CommandCode
-  receipt_turn channel taken NoElse a b (d, turn, more) = turn.0
-  receipt_turn channel taken (Else other) a b (none, (end, (d, turn, more))) = turn.0
+  -- a turn is one under another name of its address
+  turn_there : (place : Option Place) (a b d : ℕ) → d ≡ a → TurnAt tree place c d b → IsTurnOf tree c place a
+  turn_there place a b d same turn = subst (λ x. IsTurnOf tree c place x) same (turn.0, turn.2)
 
-  branches_turn : (test body : Code → ℕ → ℕ → Type 0) (otherwise : Otherwise) (a b : ℕ)
-      → BranchesCode tree slots owner test body otherwise c a b → IsTurn c a
-  unfolding ExpressionCode CommandCode
-  branches_turn test body NoElse a b (end, (d, turn, more)) = turn.0
-  branches_turn test body (Else other) a b (end, (other_, (d, turn, more))) = turn.0
+  receipt_turn : (place : Option Place) (channel : ℕ) (taken : Code → ℕ → ℕ → Type 0) (otherwise : Otherwise) (a b : ℕ)
+      → ReceiptPlaced tree slots owner place channel taken otherwise c a b → IsTurnOf tree c place a
+  unfolding ExpressionCode CommandForm
+  receipt_turn place channel taken NoElse a b (d, turn, more) = (turn.0, turn.2)
+  receipt_turn place channel taken (Else other) a b (none, (end, (d, turn, more))) = (turn.0, turn.2)
 
-  -- each statement begins with a turn
-  pub command_turn : (command : Command) (a b : ℕ) → CommandCode tree slots owner command c a b → IsTurn c a
-  unfolding ExpressionCode CommandCode
-  command_turn (Assignment to value) a b (d, turn, more) = turn.0
-  command_turn (Printing items) a b (d, turn, more) = turn.0
-  command_turn (Sending channel value) a b (d, turn, more) = turn.0
-  command_turn (Receiving channel to otherwise) a b code = receipt_turn _ _ otherwise a b code
-  command_turn (Conditional test body otherwise) a b code = branches_turn _ _ otherwise a b code
-  command_turn (Loop test body) a b (loop, (end, (d, at_loop, (e, turn, more)))) = subst (λ x. slice_get c.instrs x ≡ Some Turn) at_loop.1 turn.0
-  command_turn (Invocation procedure arguments) a b (d, turn, more) = turn.0
-  command_turn Failure a b (d, turn, more) = turn.0
+  branches_turn : (place : Option Place) (test body : Code → ℕ → ℕ → Type 0) (otherwise : Otherwise) (a b : ℕ)
+      → BranchesPlaced tree slots owner place test body otherwise c a b → IsTurnOf tree c place a
+  unfolding ExpressionCode CommandForm
+  branches_turn place test body NoElse a b (end, (d, turn, more)) = (turn.0, turn.2)
+  branches_turn place test body (Else other) a b (end, (other_, (d, turn, more))) = (turn.0, turn.2)
+
+  -- each statement begins with a turn, at which its place is told
+  pub command_turn : (command : Command) (a b : ℕ) → CommandPlaced tree slots owner command c a b → IsTurnOf tree c (command_place command) a
+  unfolding ExpressionCode CommandForm
+  command_turn (Assignment to value) a b (d, turn, more) = (turn.0, turn.2)
+  command_turn (Printing items) a b (d, turn, more) = (turn.0, turn.2)
+  command_turn (Sending channel value) a b (d, turn, more) = (turn.0, turn.2)
+  command_turn (Receiving channel to otherwise) a b code = receipt_turn _ _ _ otherwise a b code
+  command_turn (Conditional test body otherwise) a b code = branches_turn _ _ _ otherwise a b code
+  command_turn (Loop test body) a b (loop, (end, (d, at_loop, (e, turn, more)))) = turn_there _ a e d at_loop.1 turn
+  command_turn (Invocation procedure arguments) a b (d, turn, more) = (turn.0, turn.2)
+  command_turn Failure a b (d, turn, more) = (turn.0, turn.2)
   command_turn (Recovering (Recovers number conversation place test bound alternates)) a b (block, there, (d, tells, (e, turn, more))) =
-      subst (λ x. slice_get c.instrs x ≡ Some Turn) tells.1 turn.0
+      turn_there _ a e d tells.1 turn
 
-  pub start_turn : (block : RecoveryBlock) (a b : ℕ) → StartCode tree slots owner block c a b → IsTurn c a
+  pub start_turn : (block : RecoveryBlock) (a b : ℕ) → StartCode tree slots owner block c a b → IsTurnOf tree c (Some (block_place block)) a
   start_turn (Recovers number conversation place test bound alternates) a b (block, there, (d, tells, (e, at_restart, (f, turn, more)))) =
-      subst (λ x. slice_get c.instrs x ≡ Some Turn) (at_restart.1 ∙ tells.1) turn.0
+      turn_there _ a f e (at_restart.1 ∙ tells.1) turn
 
-  pub test_turn : (block : RecoveryBlock) (a b : ℕ) → TestCode slots block c a b → IsTurn c a
-  test_turn (Recovers number conversation place test bound alternates) a b (d, turn, more) = turn.0
+  pub test_turn : (block : RecoveryBlock) (a b : ℕ) → TestCode tree slots block c a b → IsTurnOf tree c (Some (block_place block)) a
+  test_turn (Recovers number conversation place test bound alternates) a b (d, turn, more) = (turn.0, turn.2)
 
 -- a list cut at its end, and cut somewhere
 cut_nothing : (all : List ℤ) → take (length all - 0) all ≡ all
@@ -133,15 +144,15 @@ module _ (c : Code) (see : Sight) where
     settles front (Perform command ∷ rest) env stacks e a m all calls left l =
         settled_here front a m all calls (Perform command ∷ rest) env
         (subst (λ s. Left tree slots c p s (Perform command ∷ rest) calls a) (sym e) left) l tt
-        (inl (command_turn tree slots (owner_of tree p) c command a left.0 left.1))
+        (inl (command_turn tree slots (owner_of tree p) c command a left.0 left.1).0)
     settles front (StartOf block ∷ rest) env stacks e a m all calls left l =
         settled_here front a m all calls (StartOf block ∷ rest) env
         (subst (λ s. Left tree slots c p s (StartOf block ∷ rest) calls a) (sym e) left) l tt
-        (inl (start_turn tree slots (owner_of tree p) c block a left.0 left.1))
+        (inl (start_turn tree slots (owner_of tree p) c block a left.0 left.1).0)
     settles front (TestOf block ∷ rest) env stacks e a m all calls left l =
         settled_here front a m all calls (TestOf block ∷ rest) env
         (subst (λ s. Left tree slots c p s (TestOf block ∷ rest) calls a) (sym e) left) l tt
-        (inl (test_turn tree slots (owner_of tree p) c block a left.0 left.1))
+        (inl (test_turn tree slots (owner_of tree p) c block a left.0 left.1).0)
     settles front (EndBlock ∷ rest) env [] e a m all calls left l = absurd left
     settles front (EndBlock ∷ rest) env ([] ∷ outer) e a m all calls left l = absurd left
     settles front (EndBlock ∷ rest) env ((shape ∷ shapes) ∷ outer) e a m all calls (d, b, drop, on, left) l =

@@ -10,8 +10,9 @@ use Rattle.rb_scope.specs.declared.slot.Slot.{Slot}
 use Rattle.rb_code.specs.Instructions.Plain.{Code}
 use Rattle.rb_code.specs.WordMachine.Workspace.{OpenCall}
 use Rattle.rb_code.specs.Agreement.Template.{Template, One, ◌⨾◌, At, WithBlock, Only}
-use Rattle.rb_code.specs.Agreement.Forms.{AlternatesCode, CommandCode, DropCode, ExpressionCode, Owner, TellsOf}
-use Rattle.rb_code.specs.declared.instr.Instr.TheVariants.{Done, Jump, Return, Start, Test, Turn}
+use Rattle.rb_code.specs.Agreement.Forms.{DropCode, ExpressionCode, Owner, TellsOf}
+use Rattle.rb_code.specs.declared.instr.Instr.TheVariants.{Done, Jump, Return, Start, Test}
+use Rattle.rb_code.proofs.Agreeing.Placed.{AlternatesPlaced, CommandPlaced, TurnAt}
 use Rattle.rb_code.proofs.InWords.LaidOut.{running}
 
 -- the variables of a process, and none where there is no process
@@ -35,15 +36,16 @@ abbrev pub Onward : Code → ℕ → ℕ → Type 0
 Onward c a b = (b ≡ a) ⊎ (slice_get c.instrs a ≡ Some (Jump b))
 
 -- the acceptance test of a recovery block, and its alternates with it
-abbrev pub TestCode : List Slot → RecoveryBlock → Template
-TestCode slots (Recovers number conversation place test bound alternates) = One Turn ⨾ ExpressionCode slots test ⨾ One (Test number)
+abbrev pub TestCode : Tree → List Slot → RecoveryBlock → Template
+TestCode tree slots (Recovers number conversation place test bound alternates) =
+    TurnAt tree (Some place) ⨾ ExpressionCode slots test ⨾ One (Test number)
 
 abbrev pub StartCode : Tree → List Slot → Owner → RecoveryBlock → Template
 StartCode tree slots owner (Recovers number conversation place test bound alternates) =
     WithBlock number (λ block.
-    Only (TellsOf tree conversation place.line (natural bound.value) block) ⨾ At block.restart ⨾ One Turn ⨾ One (Start number)
-    ⨾ AlternatesCode tree slots owner alternates block.alternates block.test ⨾ At block.test ⨾ One Turn ⨾ ExpressionCode slots test
-    ⨾ One (Test number))
+    Only (TellsOf tree conversation place.line (natural bound.value) block) ⨾ At block.restart ⨾ TurnAt tree (Some place) ⨾ One (Start number)
+    ⨾ AlternatesPlaced tree slots owner alternates block.alternates block.test ⨾ At block.test ⨾ TurnAt tree (Some place)
+    ⨾ ExpressionCode slots test ⨾ One (Test number))
 
 -- the acceptance test in its frames
 abbrev pub TestInFrames : List Slot → Frames → RecoveryBlock → Type 0
@@ -54,13 +56,13 @@ module _ (tree : Tree) (slots : List Slot) (c : Code) (p : ℕ) where
   abbrev pub Left : List (List Shape) → List Item → List OpenCall → ℕ → Type 0
   Left stacks [] calls a = (slice_get c.instrs a ≡ Some Done) × (calls ≡ [])
   Left stacks (Perform command ∷ rest) calls a =
-      (b : ℕ) × CommandCode tree slots (owner_of tree p) command c a b
+      (b : ℕ) × CommandPlaced tree slots (owner_of tree p) command c a b
       × CommandInFrames tree slots p (frames_at tree p (running stacks)) command × Left stacks rest calls b
   Left stacks (StartOf block ∷ rest) calls a =
       (b : ℕ) × StartCode tree slots (owner_of tree p) block c a b
       × RecoveryInFrames tree slots p (frames_at tree p (running stacks)) block × Left stacks rest calls b
   Left stacks (TestOf block ∷ rest) calls a =
-      (b : ℕ) × TestCode slots block c a b
+      (b : ℕ) × TestCode tree slots block c a b
       × TestInFrames slots (frames_at tree p (running stacks)) block × Left stacks rest calls b
   Left ((shape ∷ shapes) ∷ outer) (EndBlock ∷ rest) calls a =
       (m b : ℕ) × DropCode (shape_words shape) c a m × Onward c m b × Left (shapes ∷ outer) rest calls b

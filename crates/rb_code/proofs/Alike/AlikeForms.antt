@@ -6,7 +6,7 @@ use Rattle.rb_syntax.specs.declared.expression.Quantifier.{Quantifier}
 use Rattle.rb_syntax.specs.declared.expression.Quantifier.TheVariants.{Every, Any, Total}
 use Rattle.rb_code.specs.Instructions.Plain.{Code}
 use Rattle.rb_code.specs.Agreement.Template.{Template, One, ◌⨾◌, At, Label}
-use Rattle.rb_code.specs.Agreement.Forms.{AndCode, DropCode, FrameCode, IfCode, IfElseCode, OperatorCode, OrCode, QuantifiedCode, ReceiveCode, ReceiveElseCode, ScalarCode, WhileCode}
+use Rattle.rb_code.specs.Agreement.Forms.{AndCode, DropCode, FrameCode, IfElseForm, IfForm, OperatorCode, OrCode, QuantifiedCode, ReceiveElseForm, ReceiveForm, ScalarCode, WhileForm}
 use Rattle.rb_code.specs.declared.instr.Spot.{Spot}
 use Rattle.rb_code.specs.declared.instr.Instr.TheVariants as instr
 use Rattle.rb_code.proofs.Alike.AlikeCode.{Fixed, Same, fixed_one, same_at, same_closed, same_empty, same_labels, same_label, same_one, same_then, shown}
@@ -221,7 +221,7 @@ module _ (c d : Code) where
   abbrev if_parts : Template → Template → ℕ → Template
   if_parts test body end = One instr.Turn ⨾ test ⨾ One (instr.JumpZero end) ⨾ body ⨾ At end
 
-  pub if_alike : {H T : Type 0} (test body : Template) → Fixed c d test → Same c d H T body body → Same c d H T (IfCode test body) (IfCode test body)
+  pub if_alike : {H T : Type 0} (test body : Template) → Fixed c d test → Same c d H T body body → Same c d H T (IfForm (One instr.Turn) test body) (IfForm (One instr.Turn) test body)
   if_alike test body f g =
       same_label c d (if_parts test body) (if_parts test body) (λ end end'.
       same_closed c d
@@ -238,7 +238,7 @@ module _ (c d : Code) where
       One instr.Turn ⨾ test ⨾ One (instr.JumpZero fails) ⨾ body ⨾ One (instr.Jump end) ⨾ At fails ⨾ other ⨾ At end
 
   pub if_else_alike : {H T U : Type 0} (test body other : Template) → Fixed c d test → Same c d H T body body → Same c d H U other other
-      → Same c d H (T × U) (IfElseCode test body other) (IfElseCode test body other)
+      → Same c d H (T × U) (IfElseForm (One instr.Turn) test body other) (IfElseForm (One instr.Turn) test body other)
   if_else_alike test body other f g h =
       same_labels c d (if_else_parts test body other) (λ fails end fails' end'.
       same_closed c d
@@ -258,7 +258,7 @@ module _ (c d : Code) where
   while_parts test body loop end = At loop ⨾ One instr.Turn ⨾ test ⨾ One (instr.JumpZero end) ⨾ body ⨾ One (instr.Jump loop) ⨾ At end
 
   pub while_alike : {H T : Type 0} (test body : Template) → Fixed c d test → Same c d H T body body
-      → Same c d H T (WhileCode test body) (WhileCode test body)
+      → Same c d H T (WhileForm (One instr.Turn) test body) (WhileForm (One instr.Turn) test body)
   while_alike test body f g =
       same_labels c d (while_parts test body) (λ loop end loop' end'.
       same_closed c d
@@ -278,7 +278,7 @@ module _ (c d : Code) where
       One instr.Turn ⨾ One (instr.Absent channel none) ⨾ taken ⨾ One (instr.Jump end) ⨾ At none ⨾ other ⨾ At end
 
   pub receive_else_alike : {H T : Type 0} (channel : ℕ) (taken other : Template) → Fixed c d taken → Same c d H T other other
-      → Same c d H T (ReceiveElseCode channel taken other) (ReceiveElseCode channel taken other)
+      → Same c d H T (ReceiveElseForm (One instr.Turn) channel taken other) (ReceiveElseForm (One instr.Turn) channel taken other)
   receive_else_alike channel taken other f g =
       same_labels c d (receive_parts channel taken other) (λ none end none' end'.
       same_closed c d
@@ -293,6 +293,6 @@ module _ (c d : Code) where
       (tt, (absent_alike channel none none' at_none, (tt, (jump_alike end end' at_end, (tt, (asked, tt)))))))
       (λ (t0, (t1, (t2, (t3, (at_none, (told, at_end)))))). told))
 
-  pub receive_alike : (channel : ℕ) (taken : Template) → Fixed c d taken → Fixed c d (ReceiveCode channel taken)
+  pub receive_alike : (channel : ℕ) (taken : Template) → Fixed c d taken → Fixed c d (ReceiveForm (One instr.Turn) channel taken)
   receive_alike channel taken f =
       fixed_then (fixed_one c d instr.Turn refl) (fixed_then (fixed_one c d (instr.There channel) refl) f)

@@ -7,7 +7,7 @@ use Rattle.rb_scope.specs.declared.slot.Slot.{Slot}
 use Rattle.rb_code.specs.Instructions.Plain.{Block, Code}
 use Rattle.rb_code.specs.Agreement.Slots.{channel_of}
 use Rattle.rb_code.specs.Agreement.Template.{Template, One, ◌⨾◌, At, Only}
-use Rattle.rb_code.specs.Agreement.Forms.{AlternatesCode, BlockCode, BodyCode, BranchesCode, CommandCode, CommandsCode, ExpressionCode, OthersCode, Owner, ReceiptCode, StoreCode, TellsOf}
+use Rattle.rb_code.specs.Agreement.Forms.{AlternatesCode, AlternatesForm, BlockForm, BodyCode, BodyForm, BranchesForm, CommandCode, CommandForm, CommandsCode, CommandsForm, ExpressionCode, OthersCode, OthersForm, Owner, ReceiptForm, StoreCode, TellsOf}
 use Rattle.rb_code.specs.declared.instr.Instr.TheVariants as instr
 use Rattle.rb_code.proofs.Alike.AlikeCode.{Fixed, Same, fixed_one, same_at, same_block, same_closed, same_empty, same_listed, same_one, same_only, same_then}
 use Rattle.rb_code.proofs.Alike.AlikeForms.{drop_alike, fixed_then, frame_alike, if_alike, if_else_alike, jump_alike, receive_alike, receive_else_alike, while_alike}
@@ -117,7 +117,7 @@ module _ (c d : Code) where
         (λ (here, inside). with_block n number (blocks_in_alternates alternates) is here inside)
 
     mutual
-      unfolding CommandCode CommandsCode BodyCode ReceiptCode BranchesCode BlockCode AlternatesCode OthersCode
+      unfolding CommandForm CommandsForm BodyForm ReceiptForm BranchesForm BlockForm AlternatesForm OthersForm
 
       pub command_alike : (n : ℕ) (command : Command) → CommandNumbered n command
           → Statement n (n + blocks_in_command command) (CommandCode tree slots owner command)

@@ -12,7 +12,7 @@ use Rattle.rb_scope.specs.declared.slot.Slot.{Slot}
 use Rattle.rb_code.specs.Instructions.Plain.{Part, Procedure}
 use Rattle.rb_code.specs.Agreement.Slots.{channel_in, counter_in, elements_in, procedure_in, quantified_in, spot_in}
 use Rattle.rb_code.specs.Agreement.Template.{Template, One, ◌⨾◌, Listed}
-use Rattle.rb_code.specs.Agreement.Forms.{AlternatesCode, ArgumentsCode, BlockCode, BodyCode, BranchesCode, Called, CommandCode, CommandsCode, DropCode, ExpressionCode, FrameCode, IfCode, IfElseCode, ItemsCode, LinksCode, OperatorCode, OthersCode, Owner, PrintedCode, ProceduresCode, QuantifiedCode, ReceiptCode, ReceiveCode, ReceiveElseCode, RecoveryCode, ScalarCode, StoreCode, SubscriptCode, TellsOf, WhileCode, procedure_words}
+use Rattle.rb_code.specs.Agreement.Forms.{AlternatesCode, AlternatesForm, ArgumentsCode, BlockForm, BodyCode, BodyForm, BranchesForm, Called, CommandCode, CommandForm, CommandsCode, CommandsForm, DropCode, ExpressionCode, FrameCode, IfElseForm, IfForm, ItemsCode, LinksCode, OperatorCode, OthersCode, OthersForm, Owner, PrintedCode, ProceduresCode, QuantifiedCode, ReceiptForm, ReceiveElseForm, ReceiveForm, RecoveryForm, ScalarCode, StoreCode, SubscriptCode, TellsOf, WhileForm, procedure_words}
 use Rattle.rb_code.specs.Agreement.StandsFor.{ProcessCode, ProcessesCode, TellsOfProcess}
 use Rattle.rb_code.specs.declared.instr.Instr.TheVariants as instr
 use Rattle.rb_code.proofs.Alike.OneSlot.{array_slot_same, channel_slot_same, procedure_slot_same, scalar_slot_same, value_slot_same}
@@ -98,7 +98,7 @@ module _ (slots others : List Slot) where
 
   module _ (tree : Tree) (are : AreSlots tree slots) (p : ℕ) (owner : Owner) where
     mutual
-      unfolding CommandCode CommandsCode BodyCode ReceiptCode BranchesCode BlockCode AlternatesCode OthersCode
+      unfolding CommandForm CommandsForm BodyForm ReceiptForm BranchesForm BlockForm AlternatesForm OthersForm
 
       command_same : (command : Command) (frames : Frames) → CommandInFrames tree slots p frames command
           → CommandInFrames tree others p frames command
@@ -116,28 +116,28 @@ module _ (slots others : List Slot) where
           ∙ ap (λ (P : Template). One instr.Turn ⨾ One (instr.Room (channel_in (slice_get others channel.id))) ⨾ P
           ⨾ One (instr.Put (channel_in (slice_get others channel.id)))) (expression_same value frames is.1 it.1)
       command_same (Receiving channel to NoElse) frames is it =
-          ap (λ o. ReceiveCode (channel_in o) (StoreCode slots to (One (instr.Take (channel_in o)))))
+          ap (λ o. ReceiveForm (One instr.Turn) (channel_in o) (StoreCode slots to (One (instr.Take (channel_in o)))))
           (channel_slot_same slots others tree channel is.0 it.0)
-          ∙ ap (λ (P : Template). ReceiveCode (channel_in (slice_get others channel.id)) P)
+          ∙ ap (λ (P : Template). ReceiveForm (One instr.Turn) (channel_in (slice_get others channel.id)) P)
           (store_same to (One (instr.Take (channel_in (slice_get others channel.id)))) frames is.1 it.1)
       command_same (Receiving channel to (Else other)) frames is it =
-          ap (λ o. ReceiveElseCode (channel_in o) (StoreCode slots to (One (instr.Take (channel_in o)))) (BodyCode tree slots owner other))
+          ap (λ o. ReceiveElseForm (One instr.Turn) (channel_in o) (StoreCode slots to (One (instr.Take (channel_in o)))) (BodyCode tree slots owner other))
           (channel_slot_same slots others tree channel is.0 it.0)
-          ∙ ap (λ (P : Template). ReceiveElseCode (channel_in (slice_get others channel.id)) P (BodyCode tree slots owner other))
+          ∙ ap (λ (P : Template). ReceiveElseForm (One instr.Turn) (channel_in (slice_get others channel.id)) P (BodyCode tree slots owner other))
           (store_same to (One (instr.Take (channel_in (slice_get others channel.id)))) frames is.1 it.1)
-          ∙ ap (λ (P : Template). ReceiveElseCode (channel_in (slice_get others channel.id))
+          ∙ ap (λ (P : Template). ReceiveElseForm (One instr.Turn) (channel_in (slice_get others channel.id))
           (StoreCode others to (One (instr.Take (channel_in (slice_get others channel.id))))) P) (body_same other frames is.2 it.2)
       command_same (Conditional test body NoElse) frames is it =
-          ap (λ (P : Template). IfCode P (BodyCode tree slots owner body)) (expression_same test frames is.0 it.0)
-          ∙ ap (λ (P : Template). IfCode (ExpressionCode others test) P) (body_same body frames is.1 it.1)
+          ap (λ (P : Template). IfForm (One instr.Turn) P (BodyCode tree slots owner body)) (expression_same test frames is.0 it.0)
+          ∙ ap (λ (P : Template). IfForm (One instr.Turn) (ExpressionCode others test) P) (body_same body frames is.1 it.1)
       command_same (Conditional test body (Else other)) frames is it =
-          ap (λ (P : Template). IfElseCode P (BodyCode tree slots owner body) (BodyCode tree slots owner other))
+          ap (λ (P : Template). IfElseForm (One instr.Turn) P (BodyCode tree slots owner body) (BodyCode tree slots owner other))
           (expression_same test frames is.0 it.0)
-          ∙ ap (λ (P : Template). IfElseCode (ExpressionCode others test) P (BodyCode tree slots owner other)) (body_same body frames is.1 it.1)
-          ∙ ap (λ (P : Template). IfElseCode (ExpressionCode others test) (BodyCode tree others owner body) P) (body_same other frames is.2 it.2)
+          ∙ ap (λ (P : Template). IfElseForm (One instr.Turn) (ExpressionCode others test) P (BodyCode tree slots owner other)) (body_same body frames is.1 it.1)
+          ∙ ap (λ (P : Template). IfElseForm (One instr.Turn) (ExpressionCode others test) (BodyCode tree others owner body) P) (body_same other frames is.2 it.2)
       command_same (Loop test body) frames is it =
-          ap (λ (P : Template). WhileCode P (BodyCode tree slots owner body)) (expression_same test frames is.0 it.0)
-          ∙ ap (λ (P : Template). WhileCode (ExpressionCode others test) P) (body_same body frames is.1 it.1)
+          ap (λ (P : Template). WhileForm (One instr.Turn) P (BodyCode tree slots owner body)) (expression_same test frames is.0 it.0)
+          ∙ ap (λ (P : Template). WhileForm (One instr.Turn) (ExpressionCode others test) P) (body_same body frames is.1 it.1)
       command_same (Invocation procedure arguments) frames is it =
           ap (λ o. One instr.Turn ⨾ ArgumentsCode slots arguments
           ⨾ Called owner.number (procedure_in o) (length arguments) (procedure_words owner.procedures (procedure_in o)))
@@ -149,9 +149,9 @@ module _ (slots others : List Slot) where
       command_same Failure frames is it = refl
       command_same (Recovering (Recovers number conversation place test bound alternates)) frames is it =
           let Tells = TellsOf tree conversation place.line (natural bound.value) in
-          ap (λ (P : Template). RecoveryCode number Tells (AlternatesCode tree slots owner alternates) P)
+          ap (λ (P : Template). RecoveryForm (One instr.Turn) number Tells (AlternatesCode tree slots owner alternates) P)
           (expression_same test (in_acceptance frames) is.1 it.1)
-          ∙ ap (λ (P : List ℕ → ℕ → Template). RecoveryCode number Tells P (ExpressionCode others test)) (alternates_same alternates frames is.2 it.2)
+          ∙ ap (λ (P : List ℕ → ℕ → Template). RecoveryForm (One instr.Turn) number Tells P (ExpressionCode others test)) (alternates_same alternates frames is.2 it.2)
 
       commands_same : (commands : Commands) (frames : Frames) → CommandsInFrames tree slots p frames commands
           → CommandsInFrames tree others p frames commands

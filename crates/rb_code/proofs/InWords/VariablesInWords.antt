@@ -43,7 +43,7 @@ pub record Lies (values : Option (List ℤ)) (words : List ℤ) (wrote : ℕ →
   pub writes : (i : ℕ) (x : ℤ) → i < n → wrote i x ≡ slice_set words (o + i) x
 
 -- behind other words
-get_behind : {A : Type 0} (xs ys : List A) (i : ℕ) → slice_get (xs ++ ys) (length xs + i) ≡ slice_get ys i
+pub get_behind : {A : Type 0} (xs ys : List A) (i : ℕ) → slice_get (xs ++ ys) (length xs + i) ≡ slice_get ys i
 get_behind [] ys i = ap (slice_get ys) (omega arith)
 get_behind (x ∷ xs) ys i =
     let e : length (x ∷ xs) + i ≡ suc (length xs + i) = omega arith in ap (slice_get (x ∷ (xs ++ ys))) e ∙ get_behind xs ys i

@@ -18,7 +18,7 @@ use Rattle.rb_code.specs.Agreement.Operands.{HasRoom}
 use Rattle.rb_code.specs.Agreement.RoomInTree.{AlternatesHaveRoom, BodyHasRoom, CommandHasRoom, CommandsHaveRoom, StoreHasRoom}
 use Rattle.rb_code.specs.SoundCode.Sound.{Begun, Changed, Free, Fresh, InnermostIs, IsAbove, IsMain, IsReceiver, MayEnter, MayFrame, MayTake, Mode, OpenBlock, Within, conversation_of}
 use Rattle.rb_code.specs.Agreement.Template.{One}
-use Rattle.rb_code.specs.Agreement.Forms.{AlternatesCode, BlockCode, BodyCode, BranchesCode, CommandCode, CommandsCode, ExpressionCode, OthersCode, Owner, ReceiptCode, StoreCode}
+use Rattle.rb_code.specs.Agreement.Forms.{AlternatesCode, AlternatesForm, BlockForm, BodyCode, BodyForm, BranchesForm, CommandCode, CommandForm, CommandsCode, CommandsForm, ExpressionCode, OthersCode, OthersForm, Owner, ReceiptForm, StoreCode}
 use Rattle.rb_code.specs.declared.instr.Instr.TheVariants.{Absent, Jump, JumpZero, Take, Turn}
 use Rattle.rb_code.proofs.Tables.Tabled.{Around}
 use Rattle.rb_code.proofs.Tables.Resting.{resting}
@@ -130,7 +130,7 @@ module _ (tree : Tree) (slots : List Slot) (c : Code) (owner : Owner) (P : Aroun
         )
 
     mutual
-      unfolding CommandCode CommandsCode BodyCode ReceiptCode BranchesCode BlockCode AlternatesCode OthersCode
+      unfolding CommandForm CommandsForm BodyForm ReceiptForm BranchesForm BlockForm AlternatesForm OthersForm
 
       pub command_tabled : (words : ℕ) (blocks : List OpenBlock) (frames : Frames) (spot : Spot) (command : Command) (a b : ℕ)
           → Known words blocks frames spot

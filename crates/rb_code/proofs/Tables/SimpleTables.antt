@@ -19,7 +19,7 @@ use Rattle.rb_code.specs.Agreement.Operands.{HasRoom}
 use Rattle.rb_code.specs.Agreement.RoomInTree.{CommandHasRoom, StoreHasRoom}
 use Rattle.rb_code.specs.SoundCode.Sound.{BeginsAs, Changed, Entry, Free, Fresh, IsProcedureAt, IsReceiver, Mode, IsSender, LeadsTo, MayTake, OpenBlock, Table, Within}
 use Rattle.rb_code.specs.Agreement.Template.{One}
-use Rattle.rb_code.specs.Agreement.Forms.{CommandCode, ExpressionCode, Owner, ReceiptCode, StoreCode, procedure_start, procedure_words}
+use Rattle.rb_code.specs.Agreement.Forms.{CommandCode, CommandForm, ExpressionCode, Owner, ReceiptForm, StoreCode, procedure_start, procedure_words}
 use Rattle.rb_code.specs.declared.instr.Instr.TheVariants.{Take}
 use Rattle.rb_code.proofs.Tables.CommandTables.{IsSimple, Known, MayLookBack, SimpleAreTabled, TakenIsTabled, TestsAreTabled}
 use Rattle.rb_code.proofs.Tables.BranchTables.{Judged, Onward}
@@ -98,7 +98,7 @@ module _ (tree : Tree) (slots : List Slot) (c : Code) (owner : Owner) (P : Aroun
         → CommandCode tree slots owner command c a b
         → TabledFirst c (groups_of tree) (λ t. P t × LeadsTo c (groups_of tree) t b (resting within words blocks Changed)) a b
         (resting within words blocks Changed)
-    unfolding CommandCode ReceiptCode
+    unfolding CommandForm ReceiptForm
     simple_tabled words blocks frames spot command a b simple known rules outside is limits room code =
         by command simple rules
         (subst (λ f. CommandInFrames tree slots within.process f command) (plain_frames words blocks frames spot known) is) limits room code

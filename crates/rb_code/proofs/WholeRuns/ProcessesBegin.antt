@@ -19,10 +19,12 @@ use Rattle.rb_scope.specs.Limits.{IsWithinLimits, ProcessWithin}
 use Rattle.rb_scope.specs.declared.slot.Slot.{Slot}
 use Rattle.rb_code.specs.Instructions.Plain.{Code, Part}
 use Rattle.rb_code.specs.WordMachine.Workspace.{body_place, no_part, part_of, variables_place, word_at}
-use Rattle.rb_code.specs.Agreement.Forms.{CommandsCode, Owner}
-use Rattle.rb_code.specs.Agreement.StandsFor.{ProcessCode, ProcessesCode, StandsFor}
+use Rattle.rb_code.specs.Agreement.Forms.{Owner}
+use Rattle.rb_code.specs.Agreement.StandsFor.{ProcessesForm, StandsFor}
 use Rattle.rb_code.specs.WordMachine.Turn.{Standing, settle as settles}
 use Rattle.rb_code.specs.WordMachine.WordRun.{opening_standing}
+use Rattle.rb_code.proofs.Agreeing.Placed.{CommandsPlaced, ProcessPlaced, TurnAt}
+use Rattle.rb_code.proofs.Placing.PlacedCode.{all_placed}
 use Rattle.rb_code.proofs.Agreeing.BlocksBegin.{commands_left}
 use Rattle.rb_code.proofs.InWords.Environments.{words_of_frame}
 use Rattle.rb_code.proofs.InWords.LaidOut.{Laid, flat_frame}
@@ -48,15 +50,15 @@ zero_there zero k = refl
 zero_there (suc n) zero = refl
 zero_there (suc n) (suc k) = zero_there n k
 
--- the code of a process, where the list of processes stands
+-- the code of a process, where the list of processes stands, with the places of its turns
 pub record StandsAt (tree : Tree) (slots : List Slot) (c : Code) (p : ℕ) (process : ProcessDeclaration) (part : Part) : Type 0 where
   pub from : ℕ
   pub to : ℕ
-  pub code : ProcessCode tree slots p process part c from to
+  pub code : ProcessPlaced tree slots p process part c from to
 
 stands_among : (tree : Tree) (slots : List Slot) (c : Code) (p n r a b : ℕ) (processes : List ProcessDeclaration)
     (parts : List Part) (process : ProcessDeclaration) (part : Part)
-    → ProcessesCode tree slots p processes parts c a b → n ≡ p + r → slice_get processes r ≡ Some process → slice_get parts r ≡ Some part
+    → ProcessesForm (TurnAt tree) tree slots p processes parts c a b → n ≡ p + r → slice_get processes r ≡ Some process → slice_get parts r ≡ Some part
     → StandsAt tree slots c n process part
 stands_among tree slots c p n r a b [] parts process part code same e f = absurd (none_some e)
 stands_among tree slots c p n zero a b (one ∷ processes) parts process part (first, more, is, (m, code, others)) same e f =
@@ -72,7 +74,7 @@ stands_among tree slots c p n (suc r) a b (one ∷ processes) parts process part
 pub stands_at : (tree : Tree) (slots : List Slot) (c : Code) → StandsFor tree slots c → (p : ℕ) (process : ProcessDeclaration) (part : Part)
     → slice_get tree.processes p ≡ Some process → slice_get c.processes p ≡ Some part → StandsAt tree slots c p process part
 stands_at tree slots c stands p process part e f =
-    stands_among tree slots c 0 p p 0 (length c.instrs) tree.processes c.processes process part stands.instrs_are (omega arith) e f
+    stands_among tree slots c 0 p p 0 (length c.instrs) tree.processes c.processes process part (all_placed tree slots c stands) (omega arith) e f
 
 -- statements alone have settled
 performed_settled : (commands : Commands) → IsSettled (performed commands [])
@@ -110,7 +112,7 @@ module _ (tree : Tree) (slots : List Slot) (c : Code) (stands : StandsFor tree s
   text_left =
       let code = at.code in
       let body = code.1 in
-      let commands = subst (λ (owner : Owner). CommandsCode tree slots owner process.commands c at.from body.0) (sym owner_is) body.1 in
+      let commands = subst (λ (owner : Owner). CommandsPlaced tree slots owner process.commands c at.from body.0) (sym owner_is) body.1 in
       let inside =
       subst (λ frames. CommandsInFrames tree slots p frames process.commands) (sym frames_are)
       (resolved.processes p process there).commands in

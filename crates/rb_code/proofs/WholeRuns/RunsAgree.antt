@@ -72,7 +72,7 @@ module _ (tree : Tree) (slots : List Slot) (c : Code) (meets : Meeting) (laws : 
       slots_first (all_openings_agree tree c meets laws slots stands)
 
   module _ (turns : List ℕ) where
-    both_run : RunsMeet SameSlots (Agreed meets) (run_with_slots tree turns) (word_run c (groups_of tree) turns)
+    pub both_run : RunsMeet SameSlots (Agreed meets) (run_with_slots tree turns) (word_run c (groups_of tree) turns)
     both_run =
         opening_run_meets (words_simulate tree c meets laws stands.channels_are (reading tree nested) (reads tree nested)) (along tree nested) turns
         (tt, zero_slots (channels_of tree)) opening_memory (opening_states tree 0 tree.processes) (opening_standings 0 c.processes)

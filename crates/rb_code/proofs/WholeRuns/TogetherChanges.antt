@@ -15,9 +15,10 @@ use Rattle.rb_scope.specs.declared.slot.Slot.{Slot}
 use Rattle.rb_code.specs.Instructions.Plain.{Code}
 use Rattle.rb_code.specs.WordMachine.Workspace.{OpenCall}
 use Rattle.rb_code.specs.WordMachine.Act.{Sight, Stopped}
-use Rattle.rb_code.specs.Agreement.Forms.{CommandCode}
+use Rattle.rb_code.specs.Agreement.Forms.{CommandForm}
 use Rattle.rb_code.specs.WordMachine.Turn.{Copy, Standing, memory_of, most_steps, settled_by, settle as settles, sight, standing_at, want}
 use Rattle.rb_code.specs.WordMachine.WordKind.{copied, entered_at, released, restored}
+use Rattle.rb_code.proofs.Agreeing.Placed.{CommandPlaced}
 use Rattle.rb_code.proofs.InWords.LaidOut.{stacks_of}
 use Rattle.rb_code.proofs.Agreeing.Leads.{enough}
 use Rattle.rb_code.proofs.Agreeing.TextLeft.{IsSettled, Left, StartCode, owner_of}
@@ -34,9 +35,9 @@ use Rattle.rb_code.proofs.WholeRuns.WordsOfStates.{kept_meets, released_meets}
 
 module _ (tree : Tree) (slots : List Slot) (c : Code) (p : ℕ) where
   -- behind its entry the start of a recovery block stands
-  start_behind : (block : RecoveryBlock) (a b : ℕ) → CommandCode tree slots (owner_of tree p) (Recovering block) c a b
+  start_behind : (block : RecoveryBlock) (a b : ℕ) → CommandPlaced tree slots (owner_of tree p) (Recovering block) c a b
       → StartCode tree slots (owner_of tree p) block c (a + 2) b
-  unfolding CommandCode
+  unfolding CommandForm
   start_behind (Recovers number conversation place test bound alternates) a b (block, there, (d, tells, (e, turn, (f, enter, more)))) =
       let at : f ≡ a + 2 = omega (arith, enter.1, turn.1, tells.1) in
       subst (λ x. StartCode tree slots (owner_of tree p) (Recovers number conversation place test bound alternates) c x b) at

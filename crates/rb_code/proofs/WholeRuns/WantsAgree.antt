@@ -1,5 +1,6 @@
 -- What stands first in what is left of a text is what the instructions at its address ask of the turn.
 use Rattle.std.proofs.Common.{◌≡◌, ℕ, ◌+◌, List, [], ◌∷◌, length, slice_get, Option, Some, None, sym, ap, ◌∙◌, subst, arith}
+use Rattle.rb_base.specs.declared.place.Place.{Place}
 use Rattle.rb_syntax.specs.declared.expression.Quantifier.{Quantifier}
 use Rattle.rb_syntax.specs.declared.expression.Quantifier.TheVariants.{Every, Any, Total}
 use Rattle.rb_syntax.specs.Tree.{Identifier, Expression, Literal, Variable, Former, Minus, Negation, Chained, Quantification, Reference, Refer, Subscript, Scalar, Element, Printed, Words, Amount, PrintItem, Command, Assignment, Printing, Sending, Receiving, Conditional, Loop, Invocation, Failure, Recovering, Otherwise, NoElse, Else, RecoveryBlock, Recovers, Alternates, NoAlternate, Alternate, Tree}
@@ -16,11 +17,12 @@ use Rattle.rb_code.specs.Instructions.Plain.{Block, Code}
 use Rattle.rb_code.specs.WordMachine.Workspace.{OpenCall}
 use Rattle.rb_code.specs.Agreement.Slots.{channel_in, channel_of, counter_of, elements_of, spot_of}
 use Rattle.rb_code.specs.Agreement.Template.{Template, One}
-use Rattle.rb_code.specs.Agreement.Forms.{AlternatesCode, ArgumentsCode, BlockCode, BodyCode, BranchesCode, CommandCode, ExpressionCode, ItemsCode, OthersCode, Owner, PrintedCode, QuantifiedCode, ReceiptCode, ScalarCode, StoreCode, SubscriptCode, TellsOf}
+use Rattle.rb_code.specs.Agreement.Forms.{ArgumentsCode, CommandForm, ExpressionCode, ItemsCode, Owner, PrintedCode, QuantifiedCode, ScalarCode, StoreCode, SubscriptCode, TellsOf}
 use Rattle.rb_code.specs.WordMachine.Turn.{block_facts, enters, wants_behind, wants_by, wants_there}
 use Rattle.rb_code.specs.declared.instr.Spot.{Spot}
 use Rattle.rb_code.specs.declared.instr.Instr.{Instr}
-use Rattle.rb_code.specs.declared.instr.Instr.TheVariants.{LoadAt, Prior, PriorAt, Take, Turn}
+use Rattle.rb_code.specs.declared.instr.Instr.TheVariants.{LoadAt, Prior, PriorAt, Take}
+use Rattle.rb_code.proofs.Agreeing.Placed.{AlternatesPlaced, BodyPlaced, BranchesPlaced, CommandPlaced, OthersPlaced, ReceiptPlaced, TurnAt}
 use Rattle.rb_code.proofs.Agreeing.TextLeft.{IsSettled, Left, StartCode, TestCode, owner_of}
 
 module _ (c : Code) where
@@ -32,8 +34,8 @@ module _ (c : Code) where
   asks_by instr a b one = ap (wants_behind c) one.0
 
   -- behind a `turn`
-  asks_behind : (a b : ℕ) (w : Want) → One Turn c a b → Asks b w → w ≡ wants_there c (slice_get c.instrs a) (slice_get c.instrs (a + 1))
-  asks_behind a b w turn asks =
+  asks_behind : (tree : Tree) (place : Option Place) (a b : ℕ) (w : Want) → TurnAt tree place c a b → Asks b w → w ≡ wants_there c (slice_get c.instrs a) (slice_get c.instrs (a + 1))
+  asks_behind tree place a b w turn asks =
       sym (ap (λ o. wants_there c o (slice_get c.instrs (a + 1))) turn.0
       ∙ ap (λ n. wants_behind c (slice_get c.instrs n)) (sym turn.1) ∙ asks)
 
@@ -103,33 +105,33 @@ module _ (c : Code) where
     channel_is : (tree_number : ℕ) (id : ℕ) → slice_get slots id ≡ Some (Channel tree_number) → channel_of slots id ≡ tree_number
     channel_is n id e = ap channel_in e
 
-    receipt_agrees : (channel : ℕ) (taken : Template) (otherwise : Otherwise) (a b : ℕ) → ReceiptCode tree slots owner channel taken otherwise c a b
+    receipt_agrees : (place : Option Place) (channel : ℕ) (taken : Template) (otherwise : Otherwise) (a b : ℕ) → ReceiptPlaced tree slots owner place channel taken otherwise c a b
         → Agree (wants_receipt channel otherwise) a
-    unfolding ExpressionCode CommandCode
-    receipt_agrees channel taken NoElse a b (d, turn, (e, there, more)) = asks_behind a d (ReceivesOn channel) turn (asks_by _ d e there)
-    receipt_agrees channel taken (Else other) a b (none, (end, (d, turn, (e, absent, more)))) =
-        asks_behind a d (MayReceiveOn channel) turn (asks_by _ d e absent)
+    unfolding ExpressionCode CommandForm
+    receipt_agrees place channel taken NoElse a b (d, turn, (e, there, more)) = asks_behind tree _ a d (ReceivesOn channel) turn (asks_by _ d e there)
+    receipt_agrees place channel taken (Else other) a b (none, (end, (d, turn, (e, absent, more)))) =
+        asks_behind tree _ a d (MayReceiveOn channel) turn (asks_by _ d e absent)
 
-    branches_agree : (test : Expression) (body : Template) (otherwise : Otherwise) (a b : ℕ)
-        → BranchesCode tree slots owner (ExpressionCode slots test) body otherwise c a b
+    branches_agree : (place : Option Place) (test : Expression) (body : Template) (otherwise : Otherwise) (a b : ℕ)
+        → BranchesPlaced tree slots owner place (ExpressionCode slots test) body otherwise c a b
         → Agree Acts a
-    unfolding CommandCode
-    branches_agree test body NoElse a b (end, (d, turn, (e, code, more))) = asks_behind a d Acts turn (expression_asks slots test d e code)
-    branches_agree test body (Else other) a b (other_, (end, (d, turn, (e, code, more)))) =
-        asks_behind a d Acts turn (expression_asks slots test d e code)
+    unfolding CommandForm
+    branches_agree place test body NoElse a b (end, (d, turn, (e, code, more))) = asks_behind tree _ a d Acts turn (expression_asks slots test d e code)
+    branches_agree place test body (Else other) a b (other_, (end, (d, turn, (e, code, more)))) =
+        asks_behind tree _ a d Acts turn (expression_asks slots test d e code)
 
     -- as many addresses as alternates
-    others_listed : (others : Alternates) (addresses : List ℕ) (test a b : ℕ) → OthersCode tree slots owner others addresses test c a b
+    others_listed : (others : Alternates) (addresses : List ℕ) (test a b : ℕ) → OthersPlaced tree slots owner others addresses test c a b
         → length addresses ≡ count_alternates others
-    unfolding CommandCode
+    unfolding CommandForm
     others_listed NoAlternate addresses test a b code = ap (λ (list : List ℕ). length list) code.0
     others_listed (Alternate body others) addresses test a b (d, jump, (more, same, (e, code, rest))) =
         ap (λ (list : List ℕ). length list) same ∙ (let n = others_listed others more test e b rest in omega (arith, n))
 
     pub alternates_listed : (alternates : Alternates) (addresses : List ℕ) (test a b : ℕ)
-        → AlternatesCode tree slots owner alternates addresses test c a b
+        → AlternatesPlaced tree slots owner alternates addresses test c a b
         → length addresses ≡ count_alternates alternates
-    unfolding CommandCode
+    unfolding CommandForm
     alternates_listed NoAlternate addresses test a b code = ap (λ (list : List ℕ). length list) code.0
     alternates_listed (Alternate body others) addresses test a b (more, same, (e, code, rest)) =
         ap (λ (list : List ℕ). length list) same ∙ (let n = others_listed others more test e b rest in omega (arith, n))
@@ -157,12 +159,12 @@ module _ (c : Code) where
         → enters number (slice_get c.blocks number) ≡ Enters facts
     enters_there number block facts there same = ap (enters number) there ∙ ap Enters same
 
-    block_agrees : (block : RecoveryBlock) (a b : ℕ) → BlockCode tree slots owner block c a b → Agree (Enters (facts_of tree block)) a
-    unfolding CommandCode
+    block_agrees : (block : RecoveryBlock) (a b : ℕ) → CommandPlaced tree slots owner (Recovering block) c a b → Agree (Enters (facts_of tree block)) a
+    unfolding CommandForm
     block_agrees (Recovers number conversation place test bound alternates) a b
         (block, there, (d, tells, (e, turn, (f, enter, (g, restart, (h, turn2, (i, start, (j, list, more)))))))) =
         let agree : Agree (Enters (facts_of tree (Recovers number conversation place test bound alternates))) d =
-        asks_behind d e (Enters (facts_of tree (Recovers number conversation place test bound alternates))) turn
+        asks_behind tree _ d e (Enters (facts_of tree (Recovers number conversation place test bound alternates))) turn
         (asks_by _ e f enter
         ∙ enters_there number block (facts_of tree (Recovers number conversation place test bound alternates)) there
         (facts_agree number conversation place.line (natural bound.value) (count_alternates alternates) block tells.0
@@ -170,37 +172,37 @@ module _ (c : Code) where
         subst (Agree (Enters (facts_of tree (Recovers number conversation place test bound alternates)))) tells.1 agree
 
     -- each statement
-    command_agrees : (p : ℕ) (frames : Frames) (command : Command) (a b : ℕ) → CommandCode tree slots owner command c a b
+    command_agrees : (p : ℕ) (frames : Frames) (command : Command) (a b : ℕ) → CommandPlaced tree slots owner command c a b
         → CommandInFrames tree slots p frames command
         → Agree (wants tree command) a
-    unfolding ExpressionCode CommandCode
+    unfolding ExpressionCode CommandForm
     command_agrees p frames (Assignment to value) a b (d, turn, code) inside =
-        asks_behind a d Acts turn (store_asks slots to (ExpressionCode slots value) d b (λ e first. expression_asks slots value d e first) code)
+        asks_behind tree _ a d Acts turn (store_asks slots to (ExpressionCode slots value) d b (λ e first. expression_asks slots value d e first) code)
     command_agrees p frames (Printing items) a b (d, turn, (e, code, print)) inside =
-        asks_behind a d Acts turn (items_ask slots items d e code (asks_by _ e b print))
+        asks_behind tree _ a d Acts turn (items_ask slots items d e code (asks_by _ e b print))
     command_agrees p frames (Sending channel value) a b (d, turn, (e, room, more)) inside =
-        asks_behind a d (SendsOn (channel_number tree channel.text)) turn
+        asks_behind tree _ a d (SendsOn (channel_number tree channel.text)) turn
         (asks_by _ d e room ∙ ap SendsOn (channel_is (channel_number tree channel.text) channel.id inside.0.slot))
     command_agrees p frames (Receiving channel to otherwise) a b code inside =
         ap (λ n. wants_receipt n otherwise) (sym (channel_is (channel_number tree channel.text) channel.id inside.0.slot))
-        ∙ receipt_agrees (channel_of slots channel.id) (StoreCode slots to (One (Take (channel_of slots channel.id)))) otherwise a b code
+        ∙ receipt_agrees _ (channel_of slots channel.id) (StoreCode slots to (One (Take (channel_of slots channel.id)))) otherwise a b code
     command_agrees p frames (Conditional test body otherwise) a b code inside =
-        branches_agree test (BodyCode tree slots owner body) otherwise a b code
+        branches_agree _ test (BodyPlaced tree slots owner body) otherwise a b code
     command_agrees p frames (Loop test body) a b (loop, (end, (d, at_loop, (e, turn, (f, code, more))))) inside =
-        subst (Agree Acts) at_loop.1 (asks_behind d e Acts turn (expression_asks slots test e f code))
+        subst (Agree Acts) at_loop.1 (asks_behind tree _ d e Acts turn (expression_asks slots test e f code))
     command_agrees p frames (Invocation procedure arguments) a b (d, turn, (e, code, call)) inside =
-        asks_behind a d Acts turn (arguments_ask slots arguments d e code (asks_by _ e b call))
-    command_agrees p frames Failure a b (d, turn, fail) inside = asks_behind a d Acts turn (asks_by _ d b fail)
+        asks_behind tree _ a d Acts turn (arguments_ask slots arguments d e code (asks_by _ e b call))
+    command_agrees p frames Failure a b (d, turn, fail) inside = asks_behind tree _ a d Acts turn (asks_by _ d b fail)
     command_agrees p frames (Recovering block) a b code inside = block_agrees block a b code
 
     start_agrees : (block : RecoveryBlock) (a b : ℕ) → StartCode tree slots owner block c a b → Agree Starts a
     start_agrees (Recovers number conversation place test bound alternates) a b
         (block, there, (d, tells, (e, restart, (f, turn, (g, start, more))))) =
-        subst (Agree Starts) (restart.1 ∙ tells.1) (asks_behind e f Starts turn (asks_by _ f g start))
+        subst (Agree Starts) (restart.1 ∙ tells.1) (asks_behind tree _ e f Starts turn (asks_by _ f g start))
 
-    test_agrees : (block : RecoveryBlock) (a b : ℕ) → TestCode slots block c a b → Agree Acts a
+    test_agrees : (block : RecoveryBlock) (a b : ℕ) → TestCode tree slots block c a b → Agree Acts a
     test_agrees (Recovers number conversation place test bound alternates) a b (d, turn, (e, code, more)) =
-        asks_behind a d Acts turn (expression_asks slots test d e code)
+        asks_behind tree _ a d Acts turn (expression_asks slots test d e code)
 
   -- what is left, where no end stands first
   pub wants_agree : (tree : Tree) (slots : List Slot) (p : ℕ) (stacks : List (List Shape)) (items : List Item) (calls : List OpenCall) (a : ℕ)

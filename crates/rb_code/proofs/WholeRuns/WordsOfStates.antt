@@ -80,9 +80,9 @@ module _ (tree : Tree) (slots : List Slot) (c : Code) (p : ℕ) where
       → (slice_get c.instrs a ≡ Some Turn) ⊎ (slice_get c.instrs a ≡ Some Done)
   left_at_rest stacks [] calls a left settled = inr left.0
   left_at_rest stacks (Perform command ∷ rest) calls a (b, code, inside, more) settled =
-      inl (command_turn tree slots (owner_of tree p) c command a b code)
-  left_at_rest stacks (StartOf block ∷ rest) calls a (b, code, inside, more) settled = inl (start_turn tree slots (owner_of tree p) c block a b code)
-  left_at_rest stacks (TestOf block ∷ rest) calls a (b, code, inside, more) settled = inl (test_turn tree slots (owner_of tree p) c block a b code)
+      inl (command_turn tree slots (owner_of tree p) c command a b code).0
+  left_at_rest stacks (StartOf block ∷ rest) calls a (b, code, inside, more) settled = inl (start_turn tree slots (owner_of tree p) c block a b code).0
+  left_at_rest stacks (TestOf block ∷ rest) calls a (b, code, inside, more) settled = inl (test_turn tree slots (owner_of tree p) c block a b code).0
   left_at_rest stacks (EndBlock ∷ rest) calls a left settled = absurd settled
   left_at_rest stacks (EndCall ∷ rest) calls a left settled = absurd settled
 

@@ -1,6 +1,7 @@
 -- The code of each form of the language.
 use Rattle.std.specs.Prelude.{◌≡◌, ℕ, zero, suc, pos, List, [], ◌∷◌, length, slice_get, Option, Some, None}
 use Rattle.std.specs.Option.{option_map, unwrap_or}
+use Rattle.rb_base.specs.declared.place.Place.{Place}
 use Rattle.rb_syntax.specs.declared.expression.Op.{Op}
 use Rattle.rb_syntax.specs.declared.expression.Op.TheVariants as op
 use Rattle.rb_syntax.specs.declared.expression.Quantifier.{Quantifier}
@@ -12,6 +13,7 @@ use Rattle.rb_meaning.specs.Groups.{conversation_of}
 use Rattle.rb_scope.specs.declared.slot.Slot.{Slot}
 use Rattle.rb_code.specs.Instructions.Plain.{Block, Code, Procedure}
 use Rattle.rb_code.specs.WordMachine.Workspace.{part_of}
+use Rattle.rb_code.specs.Agreement.Places.{command_place}
 use Rattle.rb_code.specs.Agreement.Slots.{channel_of, counter_of, elements_of, procedure_of, quantified_of, spot_of}
 use Rattle.rb_code.specs.Agreement.Template.{Template, One, ◌⨾◌, Empty, Only, At, Label, Quoted, WithBlock, Listed}
 use Rattle.rb_code.specs.declared.instr.Spot.{Spot}
@@ -147,32 +149,33 @@ pub record Owner : Type 0 where
   pub number : ℕ
   pub procedures : List ProcedureDeclaration
 
-abbrev pub CallCode : List Slot → Owner → Identifier → List Expression → Template
-CallCode slots owner name arguments =
-    One Turn ⨾ ArgumentsCode slots arguments
+-- Forms of statements, each by the template of a turn's beginning.
+abbrev pub CallForm : Template → List Slot → Owner → Identifier → List Expression → Template
+CallForm turn slots owner name arguments =
+    turn ⨾ ArgumentsCode slots arguments
     ⨾ Called owner.number (procedure_of slots name.id) (length arguments) (procedure_words owner.procedures (procedure_of slots name.id))
 
-abbrev pub IfCode : Template → Template → Template
-IfCode test body = Label (λ end. One Turn ⨾ test ⨾ One (JumpZero end) ⨾ body ⨾ At end)
+abbrev pub IfForm : Template → Template → Template → Template
+IfForm turn test body = Label (λ end. turn ⨾ test ⨾ One (JumpZero end) ⨾ body ⨾ At end)
 
-abbrev pub IfElseCode : Template → Template → Template → Template
-IfElseCode test body other =
+abbrev pub IfElseForm : Template → Template → Template → Template → Template
+IfElseForm turn test body other =
     Label (λ no. Label (λ end.
-    One Turn ⨾ test ⨾ One (JumpZero no) ⨾ body ⨾ One (Jump end) ⨾ At no ⨾ other ⨾ At end))
+    turn ⨾ test ⨾ One (JumpZero no) ⨾ body ⨾ One (Jump end) ⨾ At no ⨾ other ⨾ At end))
 
-abbrev pub WhileCode : Template → Template → Template
-WhileCode test body =
+abbrev pub WhileForm : Template → Template → Template → Template
+WhileForm turn test body =
     Label (λ loop. Label (λ end.
-    At loop ⨾ One Turn ⨾ test ⨾ One (JumpZero end) ⨾ body ⨾ One (Jump loop) ⨾ At end))
+    At loop ⨾ turn ⨾ test ⨾ One (JumpZero end) ⨾ body ⨾ One (Jump loop) ⨾ At end))
 
 -- `receive`, and `receive` with an `else`
-abbrev pub ReceiveCode : ℕ → Template → Template
-ReceiveCode channel taken = One Turn ⨾ One (There channel) ⨾ taken
+abbrev pub ReceiveForm : Template → ℕ → Template → Template
+ReceiveForm turn channel taken = turn ⨾ One (There channel) ⨾ taken
 
-abbrev pub ReceiveElseCode : ℕ → Template → Template → Template
-ReceiveElseCode channel taken other =
+abbrev pub ReceiveElseForm : Template → ℕ → Template → Template → Template
+ReceiveElseForm turn channel taken other =
     Label (λ none. Label (λ end.
-    One Turn ⨾ One (Absent channel none) ⨾ taken ⨾ One (Jump end) ⨾ At none ⨾ other ⨾ At end))
+    turn ⨾ One (Absent channel none) ⨾ taken ⨾ One (Jump end) ⨾ At none ⨾ other ⨾ At end))
 
 -- what the list of recovery blocks tells of one
 pub record TellsOf (tree : Tree) (conversation : Option Identifier) (line bound : ℕ) (block : Block) : Type 0 where
@@ -181,69 +184,110 @@ pub record TellsOf (tree : Tree) (conversation : Option Identifier) (line bound 
   pub bound_is : block.bound ≡ bound
 
 -- a recovery block: its entry, the start of its alternates, these, and its acceptance test
-abbrev pub RecoveryCode : ℕ → (Block → Type 0) → (List ℕ → ℕ → Template) → Template → Template
-RecoveryCode number Tells alternates test =
+abbrev pub RecoveryForm : Template → ℕ → (Block → Type 0) → (List ℕ → ℕ → Template) → Template → Template
+RecoveryForm turn number Tells alternates test =
     WithBlock number (λ block.
-    Only (Tells block) ⨾ One Turn ⨾ One (Enter number) ⨾ At block.restart ⨾ One Turn ⨾ One (Start number)
-    ⨾ alternates block.alternates block.test ⨾ At block.test ⨾ One Turn ⨾ test ⨾ One (Test number))
+    Only (Tells block) ⨾ turn ⨾ One (Enter number) ⨾ At block.restart ⨾ turn ⨾ One (Start number)
+    ⨾ alternates block.alternates block.test ⨾ At block.test ⨾ turn ⨾ test ⨾ One (Test number))
 
-unfoldable mutual
-  -- a statement of a process
-  pub CommandCode : Tree → List Slot → Owner → Command → Template
-  CommandCode tree slots owner (Assignment to value) = One Turn ⨾ StoreCode slots to (ExpressionCode slots value)
-  CommandCode tree slots owner (Printing items) = One Turn ⨾ ItemsCode slots items ⨾ One Print
-  CommandCode tree slots owner (Sending channel value) =
-      One Turn ⨾ One (Room (channel_of slots channel.id)) ⨾ ExpressionCode slots value ⨾ One (Put (channel_of slots channel.id))
-  CommandCode tree slots owner (Receiving channel to otherwise) =
-      ReceiptCode tree slots owner (channel_of slots channel.id) (StoreCode slots to (One (Take (channel_of slots channel.id)))) otherwise
-  CommandCode tree slots owner (Conditional test body otherwise) =
-      BranchesCode tree slots owner (ExpressionCode slots test) (BodyCode tree slots owner body) otherwise
-  CommandCode tree slots owner (Loop test body) = WhileCode (ExpressionCode slots test) (BodyCode tree slots owner body)
-  CommandCode tree slots owner (Invocation procedure arguments) = CallCode slots owner procedure arguments
-  CommandCode tree slots owner Failure = One Turn ⨾ One Fail
-  CommandCode tree slots owner (Recovering block) = BlockCode tree slots owner block
+-- Statements, by how a turn begins for a statement that stands at a place in the source.
+module _ (begin : Option Place → Template) where
+  unfoldable mutual
+    -- a statement of a process
+    pub CommandForm : Tree → List Slot → Owner → Command → Template
+    CommandForm tree slots owner (Assignment to value) = begin (command_place (Assignment to value)) ⨾ StoreCode slots to (ExpressionCode slots value)
+    CommandForm tree slots owner (Printing items) = begin (command_place (Printing items)) ⨾ ItemsCode slots items ⨾ One Print
+    CommandForm tree slots owner (Sending channel value) =
+        begin (command_place (Sending channel value)) ⨾ One (Room (channel_of slots channel.id)) ⨾ ExpressionCode slots value
+        ⨾ One (Put (channel_of slots channel.id))
+    CommandForm tree slots owner (Receiving channel to otherwise) =
+        ReceiptForm tree slots owner (begin (command_place (Receiving channel to otherwise))) (channel_of slots channel.id)
+        (StoreCode slots to (One (Take (channel_of slots channel.id)))) otherwise
+    CommandForm tree slots owner (Conditional test body otherwise) =
+        BranchesForm tree slots owner (begin (command_place (Conditional test body otherwise))) (ExpressionCode slots test)
+        (BodyForm tree slots owner body) otherwise
+    CommandForm tree slots owner (Loop test body) =
+        WhileForm (begin (command_place (Loop test body))) (ExpressionCode slots test) (BodyForm tree slots owner body)
+    CommandForm tree slots owner (Invocation procedure arguments) =
+        CallForm (begin (command_place (Invocation procedure arguments))) slots owner procedure arguments
+    CommandForm tree slots owner Failure = begin (command_place Failure) ⨾ One Fail
+    CommandForm tree slots owner (Recovering block) = BlockForm tree slots owner block
 
-  -- statements
-  pub CommandsCode : Tree → List Slot → Owner → Commands → Template
-  CommandsCode tree slots owner NoCommand = Empty
-  CommandsCode tree slots owner (Then first rest) = CommandCode tree slots owner first ⨾ CommandsCode tree slots owner rest
+    -- statements
+    pub CommandsForm : Tree → List Slot → Owner → Commands → Template
+    CommandsForm tree slots owner NoCommand = Empty
+    CommandsForm tree slots owner (Then first rest) = CommandForm tree slots owner first ⨾ CommandsForm tree slots owner rest
 
-  -- a block: the words of its variables are pushed, and dropped behind its statements
-  pub BodyCode : Tree → List Slot → Owner → Body → Template
-  BodyCode tree slots owner (Scope variables commands) =
-      FrameCode (frame_words (frame_of variables)) ⨾ CommandsCode tree slots owner commands ⨾ DropCode (frame_words (frame_of variables))
+    -- a block: the words of its variables are pushed, and dropped behind its statements
+    pub BodyForm : Tree → List Slot → Owner → Body → Template
+    BodyForm tree slots owner (Scope variables commands) =
+        FrameCode (frame_words (frame_of variables)) ⨾ CommandsForm tree slots owner commands ⨾ DropCode (frame_words (frame_of variables))
 
-  -- a receipt, by its `else`
-  pub ReceiptCode : Tree → List Slot → Owner → ℕ → Template → Otherwise → Template
-  ReceiptCode tree slots owner channel taken NoElse = ReceiveCode channel taken
-  ReceiptCode tree slots owner channel taken (Else other) = ReceiveElseCode channel taken (BodyCode tree slots owner other)
+    -- a receipt, by its `else`
+    pub ReceiptForm : Tree → List Slot → Owner → Template → ℕ → Template → Otherwise → Template
+    ReceiptForm tree slots owner turn channel taken NoElse = ReceiveForm turn channel taken
+    ReceiptForm tree slots owner turn channel taken (Else other) = ReceiveElseForm turn channel taken (BodyForm tree slots owner other)
 
-  -- an `if`, by its `else`
-  pub BranchesCode : Tree → List Slot → Owner → Template → Template → Otherwise → Template
-  BranchesCode tree slots owner test body NoElse = IfCode test body
-  BranchesCode tree slots owner test body (Else other) = IfElseCode test body (BodyCode tree slots owner other)
+    -- an `if`, by its `else`
+    pub BranchesForm : Tree → List Slot → Owner → Template → Template → Template → Otherwise → Template
+    BranchesForm tree slots owner turn test body NoElse = IfForm turn test body
+    BranchesForm tree slots owner turn test body (Else other) = IfElseForm turn test body (BodyForm tree slots owner other)
 
-  -- a recovery block
-  pub BlockCode : Tree → List Slot → Owner → RecoveryBlock → Template
-  BlockCode tree slots owner (Recovers number conversation place test bound alternates) =
-      RecoveryCode number (TellsOf tree conversation place.line (natural bound.value)) (AlternatesCode tree slots owner alternates)
-      (ExpressionCode slots test)
+    -- a recovery block
+    pub BlockForm : Tree → List Slot → Owner → RecoveryBlock → Template
+    BlockForm tree slots owner (Recovers number conversation place test bound alternates) =
+        RecoveryForm (begin (Some place)) number (TellsOf tree conversation place.line (natural bound.value))
+        (AlternatesForm tree slots owner alternates) (ExpressionCode slots test)
 
-  -- alternates, each at its address, and each but the last followed by a jump to the acceptance test
-  pub AlternatesCode : Tree → List Slot → Owner → Alternates → List ℕ → ℕ → Template
-  AlternatesCode tree slots owner NoAlternate addresses test = Only (addresses ≡ [])
-  AlternatesCode tree slots owner (Alternate body others) addresses test =
-      Listed addresses (λ more. BodyCode tree slots owner body ⨾ OthersCode tree slots owner others more test)
+    -- alternates, each at its address, and each but the last followed by a jump to the acceptance test
+    pub AlternatesForm : Tree → List Slot → Owner → Alternates → List ℕ → ℕ → Template
+    AlternatesForm tree slots owner NoAlternate addresses test = Only (addresses ≡ [])
+    AlternatesForm tree slots owner (Alternate body others) addresses test =
+        Listed addresses (λ more. BodyForm tree slots owner body ⨾ OthersForm tree slots owner others more test)
 
-  pub OthersCode : Tree → List Slot → Owner → Alternates → List ℕ → ℕ → Template
-  OthersCode tree slots owner NoAlternate addresses test = Only (addresses ≡ [])
-  OthersCode tree slots owner (Alternate body others) addresses test =
-      One (Jump test)
-      ⨾ Listed addresses (λ more. BodyCode tree slots owner body ⨾ OthersCode tree slots owner others more test)
+    pub OthersForm : Tree → List Slot → Owner → Alternates → List ℕ → ℕ → Template
+    OthersForm tree slots owner NoAlternate addresses test = Only (addresses ≡ [])
+    OthersForm tree slots owner (Alternate body others) addresses test =
+        One (Jump test)
+        ⨾ Listed addresses (λ more. BodyForm tree slots owner body ⨾ OthersForm tree slots owner others more test)
 
--- procedures, each at its first address: the statements of its block, whose variables its call pushes, and the way back
+  -- procedures, each at its first address: the statements of its block, whose variables its call pushes, and the way back
+  abbrev pub ProceduresForm : Tree → List Slot → Owner → List ProcedureDeclaration → List Procedure → Template
+  ProceduresForm tree slots owner [] entries c a b = (entries ≡ []) × (b ≡ a)
+  ProceduresForm tree slots owner (procedure ∷ others) entries c a b =
+      (more : List Procedure) × (entries ≡ record { name = procedure.name.text; start = a } ∷ more)
+      × (CommandsForm tree slots owner (commands_of procedure.body) ⨾ One Return ⨾ ProceduresForm tree slots owner others more) c a b
+
+-- In code each turn begins with a `turn`, wherever its statement stands.
+abbrev pub any_turn : Option Place → Template
+any_turn place = One Turn
+
+abbrev pub CommandCode : Tree → List Slot → Owner → Command → Template
+CommandCode = CommandForm any_turn
+
+abbrev pub CommandsCode : Tree → List Slot → Owner → Commands → Template
+CommandsCode = CommandsForm any_turn
+
+abbrev pub BodyCode : Tree → List Slot → Owner → Body → Template
+BodyCode = BodyForm any_turn
+
+abbrev pub ReceiptCode : Tree → List Slot → Owner → ℕ → Template → Otherwise → Template
+ReceiptCode tree slots owner = ReceiptForm any_turn tree slots owner (One Turn)
+
+abbrev pub BranchesCode : Tree → List Slot → Owner → Template → Template → Otherwise → Template
+BranchesCode tree slots owner = BranchesForm any_turn tree slots owner (One Turn)
+
+abbrev pub CallCode : List Slot → Owner → Identifier → List Expression → Template
+CallCode = CallForm (One Turn)
+
+abbrev pub BlockCode : Tree → List Slot → Owner → RecoveryBlock → Template
+BlockCode = BlockForm any_turn
+
+abbrev pub AlternatesCode : Tree → List Slot → Owner → Alternates → List ℕ → ℕ → Template
+AlternatesCode = AlternatesForm any_turn
+
+abbrev pub OthersCode : Tree → List Slot → Owner → Alternates → List ℕ → ℕ → Template
+OthersCode = OthersForm any_turn
+
 abbrev pub ProceduresCode : Tree → List Slot → Owner → List ProcedureDeclaration → List Procedure → Template
-ProceduresCode tree slots owner [] entries c a b = (entries ≡ []) × (b ≡ a)
-ProceduresCode tree slots owner (procedure ∷ others) entries c a b =
-    (more : List Procedure) × (entries ≡ record { name = procedure.name.text; start = a } ∷ more)
-    × (CommandsCode tree slots owner (commands_of procedure.body) ⨾ One Return ⨾ ProceduresCode tree slots owner others more) c a b
+ProceduresCode = ProceduresForm any_turn

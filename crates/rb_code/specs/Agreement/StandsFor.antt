@@ -1,5 +1,6 @@
 -- Which code stands for a tree whose names have these slots.
-use Rattle.std.specs.Prelude.{◌≡◌, ℕ, ◌+◌, nat_eq, cond, ◌||◌, List, [], ◌∷◌, length}
+use Rattle.std.specs.Prelude.{◌≡◌, ℕ, ◌+◌, nat_eq, cond, ◌||◌, List, [], ◌∷◌, length, Option}
+use Rattle.rb_base.specs.declared.place.Place.{Place}
 use Rattle.rb_syntax.specs.Tree.{ProcessDeclaration, Tree}
 use Rattle.rb_meaning.specs.Environment.{frame_of, frame_words}
 use Rattle.rb_meaning.specs.Groups.{channels_of}
@@ -8,7 +9,7 @@ use Rattle.rb_world.specs.Kind.{Ends}
 use Rattle.rb_scope.specs.declared.slot.Slot.{Slot}
 use Rattle.rb_code.specs.Instructions.Plain.{Code, Part}
 use Rattle.rb_code.specs.Agreement.Template.{Template, One, ◌⨾◌}
-use Rattle.rb_code.specs.Agreement.Forms.{CommandsCode, ProceduresCode}
+use Rattle.rb_code.specs.Agreement.Forms.{CommandsForm, ProceduresForm, any_turn}
 use Rattle.rb_code.specs.declared.instr.Instr.{Instr}
 use Rattle.rb_code.specs.declared.instr.Instr.TheVariants.{Done, Text}
 
@@ -24,19 +25,27 @@ pub record TellsOfProcess (tree : Tree) (p : ℕ) (process : ProcessDeclaration)
   pub words_are : part.words ≡ frame_words (frame_of process.variables)
   pub channels_are : part.channels ≡ channels_from p 0 (channels_of tree)
 
--- process number p, of which the list has this part: its body, `done`, and its procedures
-abbrev pub ProcessCode : Tree → List Slot → ℕ → ProcessDeclaration → Part → Template
-ProcessCode tree slots p process part c a b =
-    TellsOfProcess tree p process a part
-    × (CommandsCode tree slots (record { number = p; procedures = process.procedures }) process.commands ⨾ One Done
-    ⨾ ProceduresCode tree slots (record { number = p; procedures = process.procedures }) process.procedures part.procedures) c a b
+-- Processes, by how a turn begins for a statement that stands at a place in the source.
+module _ (begin : Option Place → Template) where
+  -- process number p, of which the list has this part: its body, `done`, and its procedures
+  abbrev pub ProcessForm : Tree → List Slot → ℕ → ProcessDeclaration → Part → Template
+  ProcessForm tree slots p process part c a b =
+      TellsOfProcess tree p process a part
+      × (CommandsForm begin tree slots (record { number = p; procedures = process.procedures }) process.commands ⨾ One Done
+      ⨾ ProceduresForm begin tree slots (record { number = p; procedures = process.procedures }) process.procedures part.procedures) c a b
 
--- the processes from number p on, one after another
+  -- the processes from number p on, one after another
+  abbrev pub ProcessesForm : Tree → List Slot → ℕ → List ProcessDeclaration → List Part → Template
+  ProcessesForm tree slots p [] parts c a b = (parts ≡ []) × (b ≡ a)
+  ProcessesForm tree slots p (process ∷ others) parts c a b =
+      (part : Part) × (more : List Part) × (parts ≡ part ∷ more)
+      × (ProcessForm tree slots p process part ⨾ ProcessesForm tree slots (p + 1) others more) c a b
+
+abbrev pub ProcessCode : Tree → List Slot → ℕ → ProcessDeclaration → Part → Template
+ProcessCode = ProcessForm any_turn
+
 abbrev pub ProcessesCode : Tree → List Slot → ℕ → List ProcessDeclaration → List Part → Template
-ProcessesCode tree slots p [] parts c a b = (parts ≡ []) × (b ≡ a)
-ProcessesCode tree slots p (process ∷ others) parts c a b =
-    (part : Part) × (more : List Part) × (parts ≡ part ∷ more)
-    × (ProcessCode tree slots p process part ⨾ ProcessesCode tree slots (p + 1) others more) c a b
+ProcessesCode = ProcessesForm any_turn
 
 -- the numbers of the texts that instructions name, in the order of their addresses
 abbrev pub text_numbers : List Instr → List ℕ

@@ -3,8 +3,8 @@ use Rattle.std.proofs.Common.{◌≡◌, ℕ, zero, suc, ◌+◌, ◌<◌, ◌�
 use Rattle.rb_syntax.specs.Tree.{Tree}
 use Rattle.rb_code.specs.Instructions.Plain.{Block, Code}
 use Rattle.rb_code.specs.SoundCode.Sound.{Each, alternates_at}
-use Rattle.rb_code.specs.Agreement.Template.{Template}
-use Rattle.rb_code.specs.Agreement.Forms.{DropCode, FrameCode, IfCode, IfElseCode, ReceiveCode, ReceiveElseCode, RecoveryCode, WhileCode}
+use Rattle.rb_code.specs.Agreement.Template.{One, Template}
+use Rattle.rb_code.specs.Agreement.Forms.{DropCode, FrameCode, IfElseForm, IfForm, ReceiveElseForm, ReceiveForm, RecoveryForm, WhileForm}
 use Rattle.rb_code.specs.declared.instr.Instr.{Instr}
 use Rattle.rb_code.specs.declared.instr.Instr.TheVariants.{Turn, Jump, JumpZero, Frame, Drop, There, Absent, Enter, Start, Test}
 use Rattle.rb_prepare.proofs.Walking.Laid.{BlockLies, Inside, Right, each_weaker, inside_more, laid_one, one_if}
@@ -42,7 +42,7 @@ module _ (c : Code) (tree : Tree) (s : Scene) (plain : (instr : Instr) → IsPla
   drop_walked zero a b e = walked_none c tree s a b e
   drop_walked (suc k) a b one = walked_one c tree s plain a b (Drop (suc k)) one tt tt tt
 
-  pub if_walked : (n : ℕ) (test body : Template) → Walks c tree s plain test → WalksBy n body → WalksBy n (IfCode test body)
+  pub if_walked : (n : ℕ) (test body : Template) → Walks c tree s plain test → WalksBy n body → WalksBy n (IfForm (One Turn) test body)
   if_walked n test body tests bodies a b (end, (m, turn, (r, judged, (q, zero_test, (d, code, at_end))))) =
       let t = tests m r judged in let y = bodies q d code in
       let o0 = t.laid.ordered in let o1 = y.laid.ordered in let e0 = turn.1 in let e1 = zero_test.1 in let e2 = at_end.1 in let to_end = at_end.0 in
@@ -61,7 +61,7 @@ module _ (c : Code) (tree : Tree) (s : Scene) (plain : (instr : Instr) → IsPla
       }
 
   pub if_else_walked : (n k : ℕ) (test body other : Template) → Walks c tree s plain test → WalksBy n body → WalksBy k other
-      → WalksBy (n + k) (IfElseCode test body other)
+      → WalksBy (n + k) (IfElseForm (One Turn) test body other)
   if_else_walked n k test body other tests bodies others a b
       (fails, (end, (m, turn, (r, judged, (q, zero_test, (d, code, (u, jump, (v, at_no, (x, else_code, at_end))))))))) =
       let t = tests m r judged in let y = bodies q d code in let z = others v x else_code in
@@ -87,7 +87,7 @@ module _ (c : Code) (tree : Tree) (s : Scene) (plain : (instr : Instr) → IsPla
             (up_to c from v x x b (omega arith) all2 (at_last c from x b e4 (all2 x o2 (omega arith))))));
       }
 
-  pub while_walked : (n : ℕ) (test body : Template) → Walks c tree s plain test → WalksBy n body → WalksBy n (WhileCode test body)
+  pub while_walked : (n : ℕ) (test body : Template) → Walks c tree s plain test → WalksBy n body → WalksBy n (WhileForm (One Turn) test body)
   while_walked n test body tests bodies a b (loop, (end, (a0, at_loop, (m, turn, (r, judged, (q, zero_test, (d, code, (u, jump, at_end)))))))) =
       let t = tests m r judged in let y = bodies q d code in
       let o0 = t.laid.ordered in let o1 = y.laid.ordered in let e = at_loop.1 in let to_loop = at_loop.0 in
@@ -112,13 +112,13 @@ module _ (c : Code) (tree : Tree) (s : Scene) (plain : (instr : Instr) → IsPla
       }
 
   pub receive_walked : (channel : ℕ) (taken : Template) → channel < length c.channels → Walks c tree s plain taken
-      → Walks c tree s plain (ReceiveCode channel taken)
+      → Walks c tree s plain (ReceiveForm (One Turn) channel taken)
   receive_walked channel taken known takes a b (m, turn, (r, there, code)) =
       before 0 a m b (walked_one c tree s plain a m Turn turn tt tt tt)
       (before 0 m r b (walked_one c tree s plain m r (There channel) there known tt tt) (takes r b code))
 
   pub receive_else_walked : (n channel : ℕ) (taken other : Template) → channel < length c.channels → Walks c tree s plain taken → WalksBy n other
-      → WalksBy n (ReceiveElseCode channel taken other)
+      → WalksBy n (ReceiveElseForm (One Turn) channel taken other)
   receive_else_walked n channel taken other known takes others a b
       (none, (end, (m, turn, (r, absent, (q, code, (u, jump, (v, at_none, (x, else_code, at_end)))))))) =
       let t = takes r q code in let z = others v x else_code in
@@ -211,7 +211,7 @@ module _ (c : Code) (tree : Tree) (s : Scene) (plain : (instr : Instr) → IsPla
       → ((block : Block) (p q : ℕ) → slice_get c.blocks number ≡ Some block → Tells block → length block.alternates ≡ k → p ≤ q
       → Inside p q block.restart → Inside p q block.test → Each block.alternates (Inside p q) → BlockLies tree p q block)
       → ((addresses : List ℕ) (to p q : ℕ) → to ≡ q → alternates addresses to c p q → Alternatives n p q k addresses (λ from. 1 ≤ k))
-      → Walks c tree s plain test → WalksBy (w + n) (RecoveryCode number Tells alternates test)
+      → Walks c tree s plain test → WalksBy (w + n) (RecoveryForm (One Turn) number Tells alternates test)
   recovery_walked number n k w Tells alternates test some weighs lies alternative_walks tests a b (
     block,
     at,

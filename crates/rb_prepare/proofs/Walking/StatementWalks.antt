@@ -22,7 +22,7 @@ use Rattle.rb_code.specs.Agreement.Slots.{channel_in, channel_of, elements_of, p
 use Rattle.rb_code.specs.WordMachine.Workspace.{part_of}
 use Rattle.rb_code.specs.SoundCode.Sound.{Each, IsProcedureAt}
 use Rattle.rb_code.specs.Agreement.Template.{One, Template}
-use Rattle.rb_code.specs.Agreement.Forms.{AlternatesCode, ArgumentsCode, BlockCode, BodyCode, BranchesCode, CommandCode, CommandsCode, ExpressionCode, ItemsCode, OthersCode, Owner, PrintedCode, ReceiptCode, StoreCode, TellsOf, procedure_start, procedure_words}
+use Rattle.rb_code.specs.Agreement.Forms.{AlternatesCode, AlternatesForm, ArgumentsCode, BlockForm, BodyCode, BodyForm, BranchesForm, CommandCode, CommandForm, CommandsCode, CommandsForm, ExpressionCode, ItemsCode, OthersCode, OthersForm, Owner, PrintedCode, ReceiptForm, StoreCode, TellsOf, procedure_start, procedure_words}
 use Rattle.rb_code.specs.declared.instr.Instr.{Instr}
 use Rattle.rb_code.specs.declared.instr.Instr.TheVariants.{Turn, Bound, Store, StoreAt, Text, Item, Print, Room, Put, Take, Call, Fail, Enter, Start, Test}
 use Rattle.rb_judge.specs.HasAlternates.{AlternatesHaveAlternates, BodyHasAlternates, CommandHasAlternates, CommandsHaveAlternates}
@@ -128,7 +128,7 @@ module _ (c : Code) (tree : Tree) where
         (λ a b one. walked_one c tree s plain a b (Take (channel_of slots channel.id)) one (channel_there channel is) tt tt)
 
     mutual
-      unfolding CommandCode CommandsCode BodyCode ReceiptCode BranchesCode BlockCode AlternatesCode OthersCode
+      unfolding CommandForm CommandsForm BodyForm ReceiptForm BranchesForm BlockForm AlternatesForm OthersForm
 
       pub command_walked : (frames : Frames) (spot : Spot) (command : Command) → CommandInFrames tree slots p frames command → CommandWithin command
           → CommandSpelled command → CommandHasAlternates command → AsMany tree (uses_in_command spot command)

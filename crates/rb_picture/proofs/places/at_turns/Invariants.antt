@@ -1,5 +1,5 @@
 use Rattle.std.proofs.Common.{◌≡◌, ◌≤◌, ◌++◌, drop}
-use Rattle.rb_picture.specs.Places.{placed_from}
+use Rattle.rb_code.specs.Agreement.Places.{placed_from}
 use Rattle.rb_picture.proofs.places.at_turns.Given as goal
 
 -- the places so far, and those of the other instructions; before these no more turns begin than there are instructions

@@ -1,6 +1,6 @@
 use Rattle.std.proofs.Common.{◌≡◌, ◌++◌, drop}
 use Rattle.rb_syntax.specs.Plain.{alternates_of, commands_of}
-use Rattle.rb_picture.specs.Places.{alternates_turns, commands_turns}
+use Rattle.rb_code.specs.Agreement.Places.{alternates_turns, commands_turns}
 use Rattle.rb_picture.proofs.turn_places.+statement.Given as goal
 
 -- the places so far, and those of the other statements

@@ -1,6 +1,6 @@
 use Rattle.std.proofs.Common.{◌≡◌, ◌++◌, drop, map}
 use Rattle.rb_syntax.specs.Plain.{procedure_declaration}
-use Rattle.rb_picture.specs.Places.{procedures_turns}
+use Rattle.rb_code.specs.Agreement.Places.{procedures_turns}
 use Rattle.rb_picture.proofs.turn_places.add_procedures.Given as goal
 
 -- the places so far, and those of the other procedures

@@ -1,6 +1,6 @@
 use Rattle.std.proofs.Common.{◌≡◌, ◌++◌, drop, map}
 use Rattle.rb_syntax.specs.Plain.{process_declaration}
-use Rattle.rb_picture.specs.Places.{processes_turns}
+use Rattle.rb_code.specs.Agreement.Places.{processes_turns}
 use Rattle.rb_picture.proofs.turn_places.add_processes.Given as goal
 
 -- the places so far, and those of the other processes
