@@ -1,5 +1,5 @@
 -- Texts have a verdict: a source has one, and a schedule or a record is a list of turns or has a fault.
-use Rattle.std.proofs.Common.{◌≡◌, ◌⊎◌, ℕ, ◌≤◌, Bool, true, false, List, [], ◌∷◌, ◌++◌, length, Result, Ok, Err, refl, inl, inr, arith}
+use Rattle.std.proofs.Common.{◌≡◌, ◌⊎◌, ℕ, ◌≤◌, Bool, true, false, List, [], ◌∷◌, ◌++◌, length, Result, Ok, Err, refl, sym, inl, inr, arith}
 use Rattle.std.specs.Prelude.{nat_lt}
 use Rattle.std.proofs.lemmas.Bool.{ltb-true, ltb-false}
 use Rattle.rb_base.specs.declared.fault.SourceFault.{SourceFault}
@@ -15,12 +15,15 @@ use Rattle.rb_judge.specs.Verdict.{IsAccepted, IsRefusedFor}
 use Rattle.rb_plain.specs.Record.{record_of}
 use Rattle.rb_make.specs.Trial.{schedule_of as made_schedule, source_of}
 use Rattle.rb_stuck.specs.Programs.{tree_standing_text}
-use Rattle.rb_top.specs.Words.{Run, Survive, Replay, Check, ListCode, Trial, Session, Analyse, Survey, Compile, Load}
+use Rattle.rb_picture.specs.Meant.{tree_trace_text}
+use Rattle.rb_top.specs.Words.{Run, Survive, Replay, Check, ListCode, Trial, Session, Analyse, Survey, Compile, Load, Trace, Page}
 use Rattle.rb_top.specs.Judgement.{Judgement, ReadsOn, RefusedWith, Writes, too_long_line, source_line, text_line, stuck_line, accepted_line, names_of, SourceRefused, long_source, bad_source, Accepted}
 use Rattle.rb_top.specs.Judgement.{ScheduleRefused, long_schedule, bad_schedule, ScheduleRuns, RecordRefused, RecordPlays, long_record, bad_record, stuck_record, survivors_text, summary_text}
 use Rattle.rb_top.specs.Judgement.{JudgesSource, at_first, first_refused, first_accepted, OverSchedule, reads_schedule, schedule_refused, runs, PlainGoesOn, reads_record, record_refused, plays}
 use Rattle.rb_top.specs.Judgement.{accepts, CheckGoesOn, CodeGoesOn, CompileGoesOn, IsCodeFor, compiles, counts_from, lists, EndsBy, EndsWith, refused_here, written_here, later}
 use Rattle.rb_top.specs.Judgement.{ListsTurns, SessionGoesOn, SessionRefused, bad_session, long_session, reads_session, reads_turns, session_refused, shows, turns_refused}
+use Rattle.rb_top.specs.Judgement.{JudgesPage, behind_page, in_page, page_refused, reads_page}
+use Rattle.rb_page.specs.Page.{page_text}
 use Rattle.rb_back.specs.declared.order.Order.{Order}
 use Rattle.rb_back.specs.Script.{script_of}
 use Rattle.rb_back.specs.Shown.{tree_session_text}
@@ -298,6 +301,48 @@ image_written source tree accepted =
     let text = image_of made.0 (groups_of tree) (counts_from tree 0 (groups_of tree)) in
     (text, compiles text (record { compiled = made.0; made = made.1; is = refl }))
 
+-- ---- a page with a trace
+
+-- in a page a text stays one
+text_in_page : (page : List ℕ) (texts : List (List ℕ)) (trace : List ℕ) → (text : List ℕ) × (in_page page texts (Writes trace) ≡ Writes text)
+text_in_page page [] trace = (trace, refl)
+text_in_page page (source ∷ []) trace = (trace, refl)
+text_in_page page (source ∷ schedule ∷ more) trace = (page_text page source schedule trace, refl)
+
+-- whatever ends behind a page that is not too long ends in it
+module _ (page : List ℕ) (short : length page ≤ MOST_BYTES) where
+  page_ended : (read left : List (List ℕ)) (v : Judgement) → EndsBy (JudgesSource (OverSchedule tree_trace_text)) read left v
+      → (w : Judgement) × EndsBy JudgesPage (page ∷ read) left w
+  page_ended read left v (refused_here a b line h) =
+      (RefusedWith line, refused_here (page ∷ read) left line (behind_page page read (RefusedWith line) (RefusedWith line) short h refl))
+  page_ended read left v (written_here a b trace h) =
+      let made = text_in_page page read trace in
+      (Writes made.0, written_here (page ∷ read) left made.0 (behind_page page read (Writes trace) (Writes made.0) short h (sym made.1)))
+  page_ended read left v (later a next rest j goes ends) =
+      let made = page_ended (read ++ next ∷ []) rest v ends in
+      (made.0, later (page ∷ read) next rest made.0 (behind_page page read ReadsOn ReadsOn short goes refl) made.1)
+
+module _ (page source schedule : List ℕ) where
+  paged : (long : Bool) → nat_lt MOST_BYTES (length page) ≡ long → (v : Judgement) × EndsBy JudgesPage [] (page ∷ source ∷ schedule ∷ []) v
+  paged true e = (
+    RefusedWith too_long_line,
+    later [] page (source ∷ schedule ∷ []) (RefusedWith too_long_line) reads_page
+        (refused_here (page ∷ []) (source ∷ schedule ∷ []) too_long_line
+        (page_refused page too_long_line (ltb-true MOST_BYTES (length page) e) refl)),
+  )
+  paged false e =
+      let traced = over_schedule tree_trace_text source schedule (sourced source) in
+      let made = page_ended page (ltb-false MOST_BYTES (length page) e) [] (source ∷ schedule ∷ []) traced.0 traced.1 in
+      (made.0, later [] page (source ∷ schedule ∷ []) made.0 reads_page made.1)
+
+-- `page` reads three texts
+page_judged : (texts : List (List ℕ)) → length texts ≡ 3 → (v : Judgement) × EndsBy JudgesPage [] texts v
+page_judged [] three = absurd (omega (arith, three))
+page_judged (page ∷ []) three = absurd (omega (arith, three))
+page_judged (page ∷ source ∷ []) three = absurd (omega (arith, three))
+page_judged (page ∷ source ∷ schedule ∷ []) three = paged page source schedule (nat_lt MOST_BYTES (length page)) refl
+page_judged (page ∷ source ∷ schedule ∷ other ∷ more) three = absurd (omega (arith, three))
+
 -- ---- an image and a schedule
 
 module _ (image schedule : List ℕ) where
@@ -363,3 +408,5 @@ are_judged Analyse texts one = history_judged texts one
 are_judged Survey texts two = two_judged (OverSchedule tree_standing_text) (over_schedule tree_standing_text) texts two
 are_judged Compile texts one = one_judged CompileGoesOn image_written texts one
 are_judged Load texts two = load_judged texts two
+are_judged Trace texts two = two_judged (OverSchedule tree_trace_text) (over_schedule tree_trace_text) texts two
+are_judged Page texts three = page_judged texts three

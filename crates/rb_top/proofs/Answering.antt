@@ -12,7 +12,7 @@ use Rattle.rb_run.specs.declared.surviving.Ended.TheVariants as survival
 use Rattle.rb_back.specs.Showing.{Shows}
 use Rattle.rb_back.specs.declared.showing.Stopped.{Stopped}
 use Rattle.rb_back.specs.declared.showing.Stopped.TheVariants as halted
-use Rattle.rb_top.specs.Words.{Command, Run, Survive, Replay, Check, ListCode, Trial, Session, Analyse, Survey, Compile, Load, Wanted, Request}
+use Rattle.rb_top.specs.Words.{Command, Run, Survive, Replay, Check, ListCode, Trial, Session, Analyse, Survey, Compile, Load, Trace, Page, Wanted, Request}
 use Rattle.rb_top.specs.declared.read.Unread.{Unread}
 use Rattle.rb_top.specs.declared.read.Unread.TheVariants.{Fault}
 use Rattle.rb_top.specs.declared.read.Unread.TheVariants as unread
@@ -223,6 +223,8 @@ nothing_by_then request Analyse old new nothing = nothing
 nothing_by_then request Survey old new nothing = nothing
 nothing_by_then request Compile old new nothing = nothing
 nothing_by_then request Load old new nothing = nothing
+nothing_by_then request Trace old new nothing = nothing
+nothing_by_then request Page old new nothing = nothing
 
 -- a command that takes memory while it writes
 pub data TakesWhileWriting : Command → Type 0 where
@@ -452,6 +454,8 @@ still_by_then files request Analyse a b r0 r1 f0 w0 new same nothing = record { 
 still_by_then files request Survey a b r0 r1 f0 w0 new same nothing = record { written = nothing.written; faults = nothing.faults }
 still_by_then files request Compile a b r0 r1 f0 w0 new same nothing = record { written = nothing.written; faults = nothing.faults }
 still_by_then files request Load a b r0 r1 f0 w0 new same nothing = record { written = nothing.written; faults = nothing.faults }
+still_by_then files request Trace a b r0 r1 f0 w0 new same nothing = record { written = nothing.written; faults = nothing.faults }
+still_by_then files request Page a b r0 r1 f0 w0 new same nothing = record { written = nothing.written; faults = nothing.faults }
 
 -- an answer of the later stages is one of the whole, in which nothing but reads without faults came before
 pub resumed : (files : Option (List File)) (request : Request) (a b : List Start) (r0 r1 f0 : Faults) (w0 : Option (List ℕ))

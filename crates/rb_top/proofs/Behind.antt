@@ -5,7 +5,7 @@ use Rattle.std.proofs.Math.Seq.{take-append_seam, take-length}
 use Rattle.rb_world.proofs.ListFacts.{second_holds}
 use Rattle.rb_outside.specs.Outside.{File, Faults, Start, WrotePart, failed_once, went_well, then_written}
 use Rattle.rb_outside.proofs.Puts.{failed_after}
-use Rattle.rb_top.specs.Words.{Command, Run, Survive, Replay, Check, ListCode, Trial, Session, Analyse, Survey, Compile, Load, Request}
+use Rattle.rb_top.specs.Words.{Command, Run, Survive, Replay, Check, ListCode, Trial, Session, Analyse, Survey, Compile, Load, Trace, Page, Request}
 use Rattle.rb_top.specs.Judgement.{usage_line}
 use Rattle.rb_top.specs.Answers.{Scene, ReadFails, by_fault, by_missing, WritesByThen, WritesFront, WritesAll, WritesPart, WritesNothing, WithoutRequest, WithRequest, WhereRequested}
 use Rattle.rb_top.specs.Complete.{IsUnhindered, EndsAs, IsComplete}
@@ -240,6 +240,8 @@ module _ (files0 : Option (List File)) (starts0 : List Start) (r0 : Faults) (w0 
   writes_by_then request Survey none = passed_none none
   writes_by_then request Compile none = passed_none none
   writes_by_then request Load none = passed_none none
+  writes_by_then request Trace none = passed_none none
+  writes_by_then request Page none = passed_none none
 
   behind_some : (request : Request) (s t : Status) → WithRequest request old mid s → Finishes s t told w1 w2 s1 s2 → Seen (Some request) old new t
   behind_some request Usage t h f = absurd h

@@ -28,7 +28,7 @@ use Rattle.rb_top.specs.declared.read.Unread.{Unread}
 use Rattle.rb_top.specs.declared.read.Unread.TheVariants as unread
 use Rattle.rb_top.specs.declared.status.Status.{Status}
 use Rattle.rb_top.specs.declared.status.Status.TheVariants.{Done, Refused, Usage, ReadFault, WriteFault, Memory}
-use Rattle.rb_top.specs.Words.{Command, Run, Survive, Replay, Check, ListCode, Trial, Session, Analyse, Survey, Compile, Load, Request, Wanted, text_named}
+use Rattle.rb_top.specs.Words.{Command, Run, Survive, Replay, Check, ListCode, Trial, Session, Analyse, Survey, Compile, Load, Trace, Page, Request, Wanted, text_named}
 use Rattle.rb_top.specs.Judgement.{Accepted, EndsWith, ImageHolds, Judgement, OverSchedule, Program, RefusedWith, ScheduleRefused, ScheduleRuns, VariablesLie, Writes, names_in, names_of, reads_schedule, runs, schedule_refused}
 use Rattle.rb_top.specs.Answers.{Scene}
 use Rattle.rb_top.specs.Read.{WasReadIn}
@@ -115,6 +115,8 @@ nothing_compiled Compile [] old new = tt
 nothing_compiled Compile (one ∷ []) old new = tt
 nothing_compiled Compile (one ∷ other ∷ more) old new = tt
 nothing_compiled Load files old new = tt
+nothing_compiled Trace files old new = tt
+nothing_compiled Page files old new = tt
 
 pub nothing_asked : (asked : Option Request) (old new : Scene) → CompilesWhereAsked asked old new Memory
 nothing_asked None old new = tt

@@ -11,12 +11,14 @@ use Rattle.rb_base.specs.declared.limits.TheConstants.{MOST_BYTES}
 use Rattle.rb_sched.specs.Schedule.{schedule_of}
 use Rattle.rb_syntax.specs.Tree.{Tree}
 use Rattle.rb_stuck.specs.Programs.{tree_standing_text}
-use Rattle.rb_top.specs.Words.{Command, Run, Survive, Replay, Check, ListCode, Trial, Session, Analyse, Survey, Compile, Load}
+use Rattle.rb_picture.specs.Meant.{tree_trace_text}
+use Rattle.rb_top.specs.Words.{Command, Run, Survive, Replay, Check, ListCode, Trial, Session, Analyse, Survey, Compile, Load, Trace, Page}
 use Rattle.rb_top.specs.Judgement.{Judgement, ReadsOn, RefusedWith, Writes, SourceRefused, long_source, bad_source, source_line, text_line, stuck_line, Accepted}
 use Rattle.rb_top.specs.Judgement.{ScheduleRefused, long_schedule, bad_schedule, ScheduleRuns, RecordRefused, long_record, bad_record, stuck_record, RecordPlays}
 use Rattle.rb_top.specs.Judgement.{JudgesSource, at_first, first_refused, first_accepted, OverSchedule, names_of, reads_schedule, schedule_refused, runs, survivors_text, summary_text}
 use Rattle.rb_top.specs.Judgement.{PlainGoesOn, reads_record, record_refused, plays, CheckGoesOn, accepts, CodeGoesOn, lists, CompileGoesOn, IsCodeFor, compiles, counts_from, Judges, EndsBy, refused_here, written_here, later}
 use Rattle.rb_top.specs.Judgement.{ListsTurns, SessionGoesOn, SessionRefused, SessionShows, bad_session, long_session, reads_session, reads_turns, session_refused, shows, turns_refused}
+use Rattle.rb_top.specs.Judgement.{JudgesPage, behind_page, in_page, page_refused, reads_page}
 use Rattle.rb_back.specs.declared.order.Order.{Order}
 use Rattle.rb_back.specs.Shown.{tree_session_text}
 use Rattle.rb_top.specs.Laws.{AreJudgedOnce}
@@ -228,6 +230,15 @@ module _ (goes_on : Tree → List (List ℕ) → Judgement → Type 0) (once : G
   source_judged_once texts v w (first_accepted source tree more j a on) (first_accepted again other others k b off) =
       once again other more j k b (subst (λ t. goes_on t more j) (accepted_once source tree other a b) on) off
 
+-- a page makes one thing of what is judged behind it
+pages_once : (texts : List (List ℕ)) (v w : Judgement) → JudgesPage texts v → JudgesPage texts w → v ≡ w
+pages_once texts v w reads_page reads_page = refl
+pages_once texts v w (page_refused page line long a) (page_refused again other longer b) = ap RefusedWith (a ∙ sym b)
+pages_once texts v w (page_refused page line long a) (behind_page again more j k short on e) = not_both_lengths page long short
+pages_once texts v w (behind_page page more j k short on e) (page_refused again line long a) = not_both_lengths page long short
+pages_once texts v w (behind_page page more i j short on e) (behind_page again others k l few off f) =
+    e ∙ ap (in_page page more) (source_judged_once (OverSchedule tree_trace_text) (runs_once tree_trace_text) more i k on off) ∙ sym f
+
 -- one line for an image
 image_once : (image line other : List ℕ) → ImageRefused image line → ImageRefused image other → line ≡ other
 image_once image line other (long_image long a) (long_image again b) = a ∙ sym b
@@ -301,6 +312,8 @@ judges_once Analyse texts v w r s = history_once texts v w r s
 judges_once Survey texts v w r s = source_judged_once (OverSchedule tree_standing_text) (runs_once tree_standing_text) texts v w r s
 judges_once Compile texts v w r s = source_judged_once CompileGoesOn images_once texts v w r s
 judges_once Load texts v w r s = loads_once texts v w r s
+judges_once Trace texts v w r s = source_judged_once (OverSchedule tree_trace_text) (runs_once tree_trace_text) texts v w r s
+judges_once Page texts v w r s = pages_once texts v w r s
 
 pub are_judged_once : AreJudgedOnce
 are_judged_once command texts v w a b = ends_once (Judges command) (judges_once command) [] texts v w a b

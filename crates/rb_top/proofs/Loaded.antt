@@ -82,7 +82,7 @@ counted tree (count ∷ counts) (group ∷ groups) d as_many each =
     (λ i n at. subst (λ j. alternates_of tree j ≡ Some n) (omega arith) (each (suc i) n at)))
 
 module _ (source : List ℕ) (prepared : Prepared) (accepted : IsPrepared source prepared) where
-  groups_are : memberships (opening prepared.nested) ≡ groups_of accepted.tree
+  pub groups_are : memberships (opening prepared.nested) ≡ groups_of accepted.tree
   groups_are = opened_groups prepared.nested.conversations.items ∙ accepted.conversations.groups
 
   -- its code stands for its tree

@@ -1,7 +1,7 @@
 -- What the top call answers when, what it has written by then, and which files it has started, and how far it has read them.
 use Rattle.std.specs.Prelude.{◌≡◌, ◌⊎◌, ℕ, ◌+◌, ◌<◌, ◌≤◌, true, List, [], ◌∷◌, ◌++◌, length, drop, Option, Some, None}
 use Rattle.rb_outside.specs.Outside.{File, Start, Faults, WrotePart, bytes_of, named, failed_once, was_missing, then_written}
-use Rattle.rb_top.specs.Words.{Command, Run, Survive, Replay, Check, ListCode, Trial, Session, Analyse, Survey, Compile, Load, Wanted, Request}
+use Rattle.rb_top.specs.Words.{Command, Run, Survive, Replay, Check, ListCode, Trial, Session, Analyse, Survey, Compile, Load, Trace, Page, Wanted, Request}
 use Rattle.rb_top.specs.Judgement.{Judgement, ReadsOn, RefusedWith, Writes, Judges, usage_line}
 use Rattle.rb_top.specs.declared.status.Status.{Status}
 use Rattle.rb_top.specs.declared.status.Status.TheVariants.{Done, Refused, Usage, ReadFault, WriteFault, Memory}
@@ -193,6 +193,8 @@ WritesByThen request Analyse old new = WritesNothing old new
 WritesByThen request Survey old new = WritesNothing old new
 WritesByThen request Compile old new = WritesNothing old new
 WritesByThen request Load old new = WritesNothing old new
+WritesByThen request Trace old new = WritesNothing old new
+WritesByThen request Page old new = WritesNothing old new
 
 -- each answer, where the words ask for nothing
 abbrev pub WithoutRequest : Scene → Scene → Status → Type 0

@@ -1,16 +1,10 @@
 -- The command line as `clap` is told of it, and what is read from what it finds.
-use Rattle.std.specs.Prelude.{ℕ, nat_eq, true, false, cond, List, [], ◌∷◌, map, codes, Option, None, option_and_then, option_map}
+use Rattle.std.specs.Prelude.{ℕ, nat_eq, true, false, cond, List, [], ◌∷◌, codes, Option, None, option_and_then, option_map}
 use Rattle.std.specs.Cmp.Lexicographic.{pointwise}
-use Rattle.clap.specs.Words.{App, Rule, Shape, new_app, new_rule}
+use Rattle.clap.specs.Words.{App, Shape, new_app}
+use Rattle.rb_words.specs.Given.{three_given, two_given}
+use Rattle.rb_words.specs.Leaf.{command_with}
 use Rattle.rb_top.specs.Words.{Request, run_of, survive_of, plain_of, check_of, code_of, trial_number, trial_of, session_of, analyse_of, survey_of, compile_of, load_of}
-
--- an argument that has to be given, by its place
-abbrev pub required_word : List ℕ → Rule
-required_word id = record (new_rule id) { required = true }
-
--- a command of this name that takes these words
-abbrev pub command_with : List ℕ → List (List ℕ) → Shape
-command_with name words = record (new_app name).top { rules = map required_word words }
 
 -- the program, before it is told of its commands: one of them has to be named, and there are no others
 abbrev pub program_alone : App
@@ -42,14 +36,6 @@ commands =
 -- the program with its commands
 abbrev pub program : App
 program = record { top = record program_alone.top { is_leaf = false }; subs = commands }
-
--- what two files that are given ask for
-abbrev pub two_given : (List ℕ → List ℕ → Request) → Option (List ℕ) → Option (List ℕ) → Option Request
-two_given of a b = option_and_then (λ x. option_map (of x) b) a
-
--- and what three files ask for
-abbrev pub three_given : (List ℕ → List ℕ → List ℕ → Request) → Option (List ℕ) → Option (List ℕ) → Option (List ℕ) → Option Request
-three_given of a b c = option_and_then (λ x. two_given (of x) b c) a
 
 -- the trial of a number that is given
 abbrev pub trial_given : Option (List ℕ) → Option Request

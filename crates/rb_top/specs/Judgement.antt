@@ -39,8 +39,10 @@ use Rattle.rb_stuck.specs.Programs.{tree_standing_text}
 use Rattle.rb_back.specs.declared.order.Order.{Order}
 use Rattle.rb_back.specs.Script.{script_of}
 use Rattle.rb_back.specs.Shown.{tree_session_text}
+use Rattle.rb_page.specs.Page.{page_text}
+use Rattle.rb_picture.specs.Meant.{tree_trace_text}
 use Rattle.rb_top.specs.declared.image.TheConstants.{MOST_IMAGE}
-use Rattle.rb_top.specs.Words.{Command, Run, Survive, Replay, Check, ListCode, Trial, Session, Analyse, Survey, Compile, Load}
+use Rattle.rb_top.specs.Words.{Command, Run, Survive, Replay, Check, ListCode, Trial, Session, Analyse, Survey, Compile, Load, Trace, Page}
 
 -- the line for a text that is too long
 abbrev pub too_long_line : List ℕ
@@ -303,6 +305,21 @@ pub data JudgesHistory : List (List ℕ) → Judgement → Type 0 where
   history_refused : (text line : List ℕ) → HistoryRefused text line → JudgesHistory (text ∷ []) (RefusedWith line)
   history_told : (text written : List ℕ) → HistoryTells text written → JudgesHistory (text ∷ []) (Writes written)
 
+-- what a page makes of a judgement of the texts behind it: in place of a trace, the page with source, schedule and trace at its marks
+abbrev pub in_page : List ℕ → List (List ℕ) → Judgement → Judgement
+in_page page texts ReadsOn = ReadsOn
+in_page page texts (RefusedWith line) = RefusedWith line
+in_page page [] (Writes trace) = Writes trace
+in_page page (source ∷ []) (Writes trace) = Writes trace
+in_page page (source ∷ schedule ∷ more) (Writes trace) = Writes (page_text page source schedule trace)
+
+-- `page`: it reads a page, which is refused where it is too long, and then goes on as `trace` does
+pub data JudgesPage : List (List ℕ) → Judgement → Type 0 where
+  reads_page : JudgesPage [] ReadsOn
+  page_refused : (page line : List ℕ) → MOST_BYTES < length page → line ≡ too_long_line → JudgesPage (page ∷ []) (RefusedWith line)
+  behind_page : (page : List ℕ) (texts : List (List ℕ)) (traced judgement : Judgement) → length page ≤ MOST_BYTES
+      → JudgesSource (OverSchedule tree_trace_text) texts traced → judgement ≡ in_page page texts traced → JudgesPage (page ∷ texts) judgement
+
 -- The judgement with which whoever makes so of texts ends: these texts were read already, and these are those of the files after them.
 pub data EndsBy (judges : List (List ℕ) → Judgement → Type 0) : List (List ℕ) → List (List ℕ) → Judgement → Type 0 where
   refused_here : (read rest : List (List ℕ)) (line : List ℕ) → judges read (RefusedWith line) → EndsBy judges read rest (RefusedWith line)
@@ -324,6 +341,8 @@ Judges Analyse texts judgement = JudgesHistory texts judgement
 Judges Survey texts judgement = JudgesSource (OverSchedule tree_standing_text) texts judgement
 Judges Compile texts judgement = JudgesSource CompileGoesOn texts judgement
 Judges Load texts judgement = JudgesFirst ImageRefused ImageHolds LoadGoesOn texts judgement
+Judges Trace texts judgement = JudgesSource (OverSchedule tree_trace_text) texts judgement
+Judges Page texts judgement = JudgesPage texts judgement
 
 -- the judgement with which a command ends
 abbrev pub EndsWith : Command → List (List ℕ) → List (List ℕ) → Judgement → Type 0

@@ -1,8 +1,10 @@
 -- The words of a command line, and what they ask for. All of it is this project's own.
-use Rattle.std.specs.Prelude.{ℕ, ◌^◌, nat_eq, nat_le, nat_lt, Bool, false, not, ◌&&◌, cond, List, [], ◌∷◌, length, codes, Option, Some, None, option_map}
+use Rattle.std.specs.Prelude.{ℕ, ◌^◌, nat_eq, nat_le, nat_lt, ◌&&◌, cond, List, [], ◌∷◌, length, codes, Option, Some, None, option_map}
 use Rattle.std.specs.List.{list_all}
 use Rattle.std.specs.Cmp.Lexicographic.{pointwise}
 use Rattle.rb_base.specs.Bytes.{digits_value, is_number}
+use Rattle.rb_words.specs.Given.{with_one, with_three, with_two}
+use Rattle.rb_words.specs.Plain.{is_plain_word}
 use Rattle.rb_base.specs.declared.limits.TheConstants.{MOST_BYTES}
 use Rattle.rb_top.specs.declared.image.TheConstants.{MOST_IMAGE}
 
@@ -19,6 +21,8 @@ pub data Command : Type 0 where
   Survey : Command
   Compile : Command
   Load : Command
+  Trace : Command
+  Page : Command
 
 -- a file that a command reads: its name, and how many bytes it may have at most
 pub record Wanted : Type 0 where
@@ -43,11 +47,8 @@ files_of Analyse = 1
 files_of Survey = 2
 files_of Compile = 1
 files_of Load = 2
-
--- a word that may follow a command's name: not empty, and without `-` at its front
-abbrev pub is_plain_word : List ℕ → Bool
-is_plain_word [] = false
-is_plain_word (b ∷ bs) = not (nat_eq b 45)
+files_of Trace = 2
+files_of Page = 3
 
 -- a file that holds a text
 abbrev pub text_named : List ℕ → Wanted
@@ -104,6 +105,14 @@ compile_of source = record { command = Compile; files = text_named source ∷ []
 abbrev pub load_of : List ℕ → List ℕ → Request
 load_of image schedule = record { command = Load; files = image_named image ∷ text_named schedule ∷ [] }
 
+-- the trace of the run of the source under one name over the schedule under another
+abbrev pub trace_of : List ℕ → List ℕ → Request
+trace_of source schedule = record { command = Trace; files = text_named source ∷ text_named schedule ∷ [] }
+
+-- the page under a name, with that source, that schedule and that trace in it
+abbrev pub page_of : List ℕ → List ℕ → List ℕ → Request
+page_of page source schedule = record { command = Page; files = text_named page ∷ text_named source ∷ text_named schedule ∷ [] }
+
 -- at most so many digits give the number of a trial
 abbrev pub most_digits : ℕ
 most_digits = 20
@@ -112,27 +121,6 @@ most_digits = 20
 abbrev pub trial_number : List ℕ → Option ℕ
 trial_number word =
     cond (is_number word && (nat_le (length word) most_digits && nat_lt (digits_value 0 word) (2 ^ 64))) (Some (digits_value 0 word)) None
-
--- what a command asks for that takes three names
-abbrev pub with_three : (List ℕ → List ℕ → List ℕ → Request) → List (List ℕ) → Option Request
-with_three of [] = None
-with_three of (a ∷ []) = None
-with_three of (a ∷ b ∷ []) = None
-with_three of (a ∷ b ∷ c ∷ []) = Some (of a b c)
-with_three of (a ∷ b ∷ c ∷ d ∷ more) = None
-
--- what a command asks for that takes two names
-abbrev pub with_two : (List ℕ → List ℕ → Request) → List (List ℕ) → Option Request
-with_two of [] = None
-with_two of (a ∷ []) = None
-with_two of (a ∷ b ∷ []) = Some (of a b)
-with_two of (a ∷ b ∷ c ∷ more) = None
-
--- what a command asks for that takes one name
-abbrev pub with_one : (List ℕ → Request) → List (List ℕ) → Option Request
-with_one of [] = None
-with_one of (a ∷ []) = Some (of a)
-with_one of (a ∷ b ∷ more) = None
 
 -- what `trial` asks for with its one word
 abbrev pub trial_with : List (List ℕ) → Option Request

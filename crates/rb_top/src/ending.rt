@@ -49,8 +49,8 @@ pub fn carry_out<F: Shelf, S: Sink + Drop>(
     }
 }
 
-// Passes on what waits, where something was written and no write failed.
-fn finish<S: Sink>(out: &mut Buffered<S>, status: Status) -> Status
+/// Passes on what waits, where something was written and no write failed.
+pub fn finish<S: Sink>(out: &mut Buffered<S>, status: Status) -> Status
     ensures waits { ⟦<Buffered<S> as Sink>⟧.written out.new ≡ ⟦<Buffered<S> as Sink>⟧.written out.old }
     ensures finishes { Finishes status result (⟦<Buffered<S> as Sink>⟧.written out.old) (S.written out.old.sink)
         (S.written out.new.sink) (S.faults out.old.sink) (S.faults out.new.sink) }

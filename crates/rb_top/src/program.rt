@@ -25,7 +25,8 @@ pub fn run_program<R: Env + Files + Print + Eprint + AllocGlobal>(rt: &R) -> u8
     }
 }
 
-fn words_given<R: Env + AllocGlobal>(rt: &R) -> Result<Words, u8>
+/// The words of the command line behind the name of the program; or the exit status where memory is wanting for them, or where they are no text.
+pub fn words_given<R: Env + AllocGlobal>(rt: &R) -> Result<Words, u8>
     ensures { IfErr result IsExitStatus }
 {
     match env::args(rt) {

@@ -1,17 +1,16 @@
 //! What the words of the command line ask for. They are read with `clap`.
-ghost use Rattle.std.specs.Prelude.{◌≡◌, IfOk, None, [], false, map, take, option_and_then, option_map, string_bytes};
-ghost use Rattle.std.specs.List.{list_all};
+ghost use Rattle.std.specs.Prelude.{◌≡◌, IfOk, None, take, option_and_then, option_map};
 ghost use Rattle.clap.specs.Words.{app_of, first_of, first_value, found_of, subcommand_rows_of};
-ghost use Rattle.clap.specs.declared.builder.command.Command.TheViews.{out-Command as fields_of};
-ghost use Rattle.rb_top.specs.Words.{request_of, is_plain_word};
+ghost use Rattle.rb_top.specs.Words.{request_of};
 ghost use Rattle.rb_top.specs.Asked.{asked};
-ghost use Rattle.rb_top.specs.CommandLine.{commands, program, program_alone, command_with, request_given};
+ghost use Rattle.rb_top.specs.CommandLine.{commands, program, program_alone, request_given};
 
 use crate::number::trial_number;
 use crate::words::Words;
 use clap::error::ErrorKind;
-use clap::{Arg, ArgMatches, Command};
+use clap::{ArgMatches, Command};
 use rb_base::Memory;
+use rb_words::{are_plain, command_with};
 use std::alloc::{AllocError, Global};
 
 /// What the words ask for, with the names of the files that are read for it.
@@ -94,27 +93,6 @@ fn none_unless_memory<'a>(kind: ErrorKind) -> Result<Option<Request<'a>>, Memory
     Ok(None)
 }
 
-// Words of which none is empty or has `-` at its front.
-fn are_plain(words: &[String]) -> bool
-    ensures { result ≡ list_all (λ word. is_plain_word (string_bytes word)) words.now }
-{
-    for word in words {
-        if !is_plain(word.as_str()) {
-            return false;
-        }
-    }
-    true
-}
-
-fn is_plain(word: &str) -> bool
-    ensures { result ≡ is_plain_word word.now }
-{
-    match word.as_bytes() {
-        [] => false,
-        [first, ..] => *first != b'-',
-    }
-}
-
 // The program with its commands.
 fn command_line<'a>(alloc: Global) -> Result<Command<'a>, AllocError>
     ensures { IfOk result (λ line. app_of line ≡ program) }
@@ -173,22 +151,6 @@ fn program_alone<'a>(alloc: Global) -> Command<'a>
         .disable_help_flag(true)
         .disable_help_subcommand(true)
         .subcommand_required(true)
-}
-
-// A command that takes as many words as these, which name them.
-fn command_with<'a>(
-    alloc: Global,
-    name: &'a str,
-    words: &[&'a str],
-) -> Result<Command<'a>, AllocError>
-    ensures app { IfOk result (λ command. app_of command ≡ record { top = command_with name.entry.now (map (λ w. w.now) words.now); subs = [] }) }
-    ensures local { IfOk result (λ command. (fields_of command).has_globals ≡ false) }
-{
-    let mut command = Command::new(alloc, name);
-    for word in words {
-        command = command.arg(Arg::new(alloc, word).required(true))?;
-    }
-    Ok(command)
 }
 
 // The command that was found, with its words.

@@ -1,13 +1,7 @@
-//! The program `rblview`: what the faults and the causes of the language mean.
+//! The program `rblview`: what the faults and the causes of the language mean, and what a run did, turn by turn.
 #![tactic(auto)]
 
-mod command;
-mod program;
-mod request;
-mod status;
-mod words;
-
-use program::run_program;
+use rb_show::run_program;
 use std::process::ExitCode;
 
 fn main(rt: HostRuntime) -> ExitCode {

@@ -1,6 +1,7 @@
 use Rattle.std.proofs.Common.{◌∙◌, ap, sym}
 use Rattle.clap.specs.Words.{found_of}
-use Rattle.rb_top.proofs.CommandLine.{found_in, given_by, subcommand_is}
+use Rattle.rb_words.proofs.Leaves.{subcommand_is}
+use Rattle.rb_top.proofs.CommandLine.{found_in, given_by}
 use Rattle.rb_top.proofs.request.request_in.Goals as goal
 
 pub returns : goal.returns

@@ -4,7 +4,8 @@ use Rattle.std.specs.List.{list_all}
 use Rattle.std.proofs.lemmas.List.Folds.{list_all-map}
 use Rattle.clap.specs.Words.{is_simple}
 use Rattle.rb_top.specs.Asked.{asked}
-use Rattle.rb_top.specs.Words.{is_plain_word, request_of}
+use Rattle.rb_words.specs.Plain.{is_plain_word}
+use Rattle.rb_top.specs.Words.{request_of}
 use Rattle.rb_top.proofs.CommandLine.{answer_taken, answer_refused, asks_none, found_in, is_told_simple}
 use Rattle.rb_top.proofs.request.requested.Goals as goal
 

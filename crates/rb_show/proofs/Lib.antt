@@ -1,0 +1,5 @@
+mod CommandLine
+mod Drawings
+mod Putting
+mod Ready
+mod Wishes

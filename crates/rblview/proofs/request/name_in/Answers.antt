@@ -1,9 +1,0 @@
-use Rattle.std.proofs.Common.{◌∙◌, ap, sym}
-use Rattle.clap.specs.Words.{found_of}
-use Rattle.rblview.proofs.CommandLine.{found_in, given_by, subcommand_is}
-use Rattle.rblview.proofs.request.name_in.Goals as goal
-
-pub returns : goal.returns
-returns c =
-    c.name_given.ensures ∙ given_by c.in_ok-name.name.now (found_of c.in_ok-name.given.now)
-    ∙ ap found_in (sym (subcommand_is _ _ _ c.in_ok-name.ensures.name c.in_ok-name.ensures.rows))

@@ -1,4 +1,0 @@
-pub mod Words
-pub mod CommandLine
-pub mod Status
-pub mod Answers
