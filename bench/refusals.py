@@ -1,9 +1,9 @@
 #!/usr/bin/env python3
-"""Refuses the proved program one allocation, one read or one write after another, and looks at what it answers.
+"""Refuses the proved programs one allocation, one read or one write after another, and looks at what it answers.
 
 An allocation that is refused is status 5, with nothing written, but that `plain` and `session` may have written a prefix; a read is status 3 with nothing
 written; a write is status 4 with a prefix. Where nothing is refused any more the answer is whole. Status 1 only where the program stands
-built, there is a C compiler, and an answer is another one. RBL may name another program.
+built, there is a C compiler, and an answer is another one. RBL and RBLVIEW may name other programs.
 """
 import glob
 import os
@@ -14,6 +14,8 @@ import tempfile
 
 ROOT = os.path.dirname(os.path.dirname(os.path.abspath(__file__)))
 PROGRAM = os.environ.get("RBL", os.path.join(ROOT, "crates/rbl/out/rbl"))
+VIEWER = os.environ.get("RBLVIEW", os.path.join(ROOT, "crates/rblview/out/rblview"))
+VIEWS = ("trace", "page", "explain")
 STATUS = {"memory": 5, "read": 3, "write": 4}
 SECOND = """edition 2;
 program second;
@@ -31,7 +33,8 @@ def answer(words, folder, refuse=None, number=0, shim=None):
     env = dict(os.environ)
     if refuse:
         env.update(LD_PRELOAD=shim, REFUSE=refuse, REFUSED=str(number))
-    run = subprocess.run([PROGRAM, *words], cwd=folder, env=env, capture_output=True, timeout=60)
+    program = VIEWER if words[0] in VIEWS else PROGRAM
+    run = subprocess.run([program, *words], cwd=folder, env=env, capture_output=True, timeout=60)
     return run.returncode, run.stdout
 
 
@@ -61,11 +64,17 @@ def commands(folder):
                 out.write(open(os.path.join(ROOT, path), encoding="ascii").read() if path else text)
         with open(os.path.join(folder, "r"), "wb") as out:
             out.write(answer(["survive", "a", "b"], folder)[1])
-        for words in [["run", "a", "b"], ["survive", "a", "b"], ["plain", "a", "r"], ["check", "a"], ["code", "a"], ["stuck", "a", "b"], ["session", "a", "b", "c"]]:
+        for words in [["run", "a", "b"], ["survive", "a", "b"], ["plain", "a", "r"], ["check", "a"], ["code", "a"], ["stuck", "a", "b"], ["session", "a", "b", "c"], *views(folder)]:
             yield f"{words[0]}, {name}", words
     shutil.copy(os.path.join(ROOT, "examples/domino.history"), os.path.join(folder, "a"))
     yield "domino", ["domino", "a"]
     yield "trial 0", ["trial", "0"]
+
+
+def views(folder):
+    """Those of the other program, where it stands built."""
+    shutil.copy(os.path.join(ROOT, "view/page.html"), os.path.join(folder, "page"))
+    return [["trace", "a", "b"], ["page", "page", "a", "b"], ["explain", "N4"]] if os.path.exists(VIEWER) else []
 
 
 def is_right(words, refuse, status, written, whole):

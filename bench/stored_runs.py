@@ -1,10 +1,10 @@
 #!/usr/bin/env python3
-"""Runs the proved program, as each of the two compilers built it, on worked rows and at the limits of the language, and compares what comes.
+"""Runs the proved programs, as each of the two compilers built them, on worked rows and at the limits of the language, and compares what comes.
 
 The rows stand in bench/runs/*.rows. There `=== TITLE` begins a row, `$ WORDS` are its words, `--- NAME` begins the text of a file, and `--- STATUS`
 what is written, with the status. A file's text has no newline at its end, but where an empty line ends it; ␍ stands for a carriage return. What
-reaches a limit is made by limit_runs.py. Status 1 only where the program stands built and one of the runs comes out otherwise. RBL may name another
-program.
+reaches a limit is made by limit_runs.py. The rows of views.rows are of `rblview`, all others of `rbl`. Status 1 only where a program stands built and
+one of the runs comes out otherwise. RBL and RBLVIEW may name other programs.
 """
 import glob
 import os
@@ -18,9 +18,15 @@ sys.dont_write_bytecode = True
 from limit_runs import Parts, Run, made_runs
 
 ROOT = os.path.dirname(os.path.dirname(os.path.abspath(__file__)))
-BUILT = os.path.join(ROOT, "crates/rbl/out/rbl")
-PROGRAMS = [os.path.abspath(os.environ["RBL"])] if "RBL" in os.environ else [BUILT, f"{BUILT}.by-rattle"]
-LEAST = 680
+LEAST = 700
+
+
+def programs(name):
+    """The paths at which a program may stand built."""
+    if name.upper() in os.environ:
+        return [os.path.abspath(os.environ[name.upper()])]
+    built = os.path.join(ROOT, f"crates/{name}/out/{name}")
+    return [built, f"{built}.by-rattle"]
 
 
 def row_of(table, text):
@@ -61,17 +67,22 @@ def fault(program, run):
     return None if is_wanted(written, run.written) else f"writes {written[:60]!r}"
 
 
+def of_program(run):
+    """The program of which a run is."""
+    return "rblview" if run.title.startswith("views.rows") else "rbl"
+
+
 def main():
-    built = [it for it in PROGRAMS if os.path.exists(it)]
-    if not built:
-        print(f"stored runs: not tried, for want of {PROGRAMS[0]}")
-        return 0
+    built = {name: [it for it in programs(name) if os.path.exists(it)] for name in ("rbl", "rblview")}
+    for name, found in built.items():
+        if not found:
+            print(f"stored runs: those of {name} not tried, for want of {programs(name)[0]}")
     runs = [*rows(), *made_runs()]
-    faults = [(program, run.title, fault(program, run)) for program in built for run in runs]
+    faults = [(program, run.title, fault(program, run)) for run in runs for program in built[of_program(run)]]
     wrong = [f"{os.path.basename(program)}, {title}: {why}" for program, title, why in faults if why]
     if len(runs) < LEAST:
         wrong.append(f"only {len(runs)} runs, and not {LEAST}: some were lost")
-    print(f"stored runs: {len(runs)} by {len(built)} built programs; {len(wrong)} wrong")
+    print(f"stored runs: {len(runs)}, {len(faults)} by the built programs; {len(wrong)} wrong")
     for line in wrong:
         print(line)
     return 1 if wrong else 0
