@@ -86,7 +86,7 @@ def faults():
 
 
 def statuses():
-    """A check of each exit status that needs nothing but words, and that the tables of pages have all of them."""
+    """A check of each exit status that needs nothing but words, and that the table has all of them."""
     first, schedule = "examples/first.rbl", "examples/first.schedule"
     cases = [
         (0, ["check", first], "accepted\n", False),
@@ -109,6 +109,5 @@ def statuses():
         with open("/dev/full", "wb") as full:
             status = answer(["check", first], ROOT, full).status
         yield Check("exit statuses", None if status == 4 else f"where nothing can be written: status {status}")
-    for page in (PAGE, "README.md"):
-        table = [int(n) for n in re.findall(r"^\| (\d) \|", text_of(page), re.MULTILINE)]
-        yield Check(page, None if set(table[-7:]) == set(range(7)) or page == "README.md" else "its table of exit statuses lacks one")
+    table = [int(n) for n in re.findall(r"^\| (\d) \|", text_of(PAGE), re.MULTILINE)]
+    yield Check(PAGE, None if set(table[-7:]) == set(range(7)) else "its table of exit statuses lacks one")
