@@ -1,4 +1,4 @@
--- The regions of a recovery cache, one for each open level, and what is undone with them: the recovery cache of
+-- The regions of a recovery cache, one for each open level, and what is undone with them. That only what changes is saved is of
 -- Horning, Lauer, Melliar-Smith and Randell (1974).
 use Rattle.std.specs.Prelude.{ℕ, ℤ, List, [], ◌∷◌, ◌++◌, Option, Some, None, slice_get, slice_set, take, drop}
 
