@@ -4,11 +4,11 @@ ghost use Rattle.std.specs.Prelude.{◌≡◌, ◌+◌, map, nat_lt, option_map,
 ghost use Rattle.std.specs.Option.{unwrap_or};
 ghost use Rattle.rb_syntax.specs.Tree.{Tree};
 ghost use Rattle.rb_syntax.specs.Plain.{tree};
-ghost use Rattle.rb_world.specs.Channels.{first_message, has_room, message_there, room_from, seen_copy, seen_count};
+ghost use Rattle.rb_world.specs.Channels.{first_message, has_room, has_room_for, message_between, message_there, room_from, seen_copy, seen_count};
 ghost use Rattle.rb_world.specs.World.{is_shared};
 ghost use Rattle.rb_meaning.specs.Environment.{natural};
 ghost use Rattle.rb_meaning.specs.Meaning.{taken_on};
-ghost use Rattle.rb_plain.specs.Worlds.{level_of, unkept_kind, world_of};
+ghost use Rattle.rb_plain.specs.Worlds.{level_of, process_of, unkept_kind, world_of};
 ghost use Rattle.rb_walk.specs.States.{state_of};
 
 use crate::process::{Level, Process};
@@ -26,15 +26,31 @@ pub(crate) fn has_room<'a>(
     let Some(declared) = program.channels.get(channel) else {
         return false;
     };
-    let sender = processes.get(process_number(program, declared.sender.text));
-    let receiver = processes.get(process_number(program, declared.receiver.text));
-    match (sender, receiver) {
-        (Some(sender), Some(receiver)) => {
-            let from = room_from(receiver, channel);
-            has_room_behind(sender.state.sent_on(channel), from, declared.size)
-        }
-        _ => false,
+    let sender = process_number(program, declared.sender.text);
+    let receiver = process_number(program, declared.receiver.text);
+    has_room_between(processes, sender, receiver, channel, declared.size)
+}
+
+// Whether a send of one of these processes to another has room, by their numbers; none where one of the two is missing.
+fn has_room_between(
+    processes: &[Process<'_, '_>],
+    sender: usize,
+    receiver: usize,
+    channel: usize,
+    size: Number,
+) -> bool
+    ensures { (tree : Tree) →
+        result ≡ has_room_for (unkept_kind tree) channel (record { sender = sender; receiver = receiver; size = natural size.value })
+        (slice_get (map process_of processes.now) sender) (slice_get (map process_of processes.now) receiver) }
+{
+    if sender >= processes.len() {
+        return false;
     }
+    if receiver >= processes.len() {
+        return false;
+    }
+    let from = room_from(&processes[receiver], channel);
+    has_room_behind(processes[sender].state.sent_on(channel), from, size)
 }
 
 // So many were sent, and fewer than `size` of them come after this number; a size below 0 counts as 0.
@@ -73,12 +89,29 @@ pub(crate) fn message_there<'a>(
     ensures { result ≡ message_there (unkept_kind (tree program.now)) (world_of (tree program.now) processes.now) channel }
 {
     let declared = program.channels.get(channel)?;
-    let sender = processes.get(process_number(program, declared.sender.text));
-    let receiver = processes.get(process_number(program, declared.receiver.text));
-    match (sender, receiver) {
-        (Some(sender), Some(receiver)) => first_message(sender, receiver, channel),
-        _ => None,
+    let sender = process_number(program, declared.sender.text);
+    let receiver = process_number(program, declared.receiver.text);
+    message_between(processes, sender, receiver, channel)
+}
+
+// The first message that one of these processes can see of another and did not take, by their numbers; none where one of the two is missing.
+fn message_between(
+    processes: &[Process<'_, '_>],
+    sender: usize,
+    receiver: usize,
+    channel: usize,
+) -> Option<i64>
+    ensures { (tree : Tree) →
+        result ≡ message_between (unkept_kind tree) tt channel
+        (slice_get (map process_of processes.now) sender) (slice_get (map process_of processes.now) receiver) }
+{
+    if sender >= processes.len() {
+        return None;
     }
+    if receiver >= processes.len() {
+        return None;
+    }
+    first_message(&processes[sender], &processes[receiver], channel)
 }
 
 // The first message between these two that is seen and was not taken.

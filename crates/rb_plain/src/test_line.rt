@@ -93,10 +93,8 @@ fn do_stand(members: &[u32], processes: &[Process<'_, '_>], conversation: usize)
 fn stands_there(processes: &[Process<'_, '_>], process: u32, conversation: usize) -> bool
     ensures { result ≡ stands_there conversation (slice_get (map process_of processes.now) process) }
 {
-    match processes.get(process as usize) {
-        Some(process) => process.stands_at(conversation),
-        None => false,
-    }
+    let p = process as usize;
+    p < processes.len() && processes[p].stands_at(conversation)
 }
 
 // Whoever stands at the test line of a conversation leaves, and goes on without its level.

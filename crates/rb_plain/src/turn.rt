@@ -42,7 +42,10 @@ pub(crate) fn take_turn<'t, 'a>(
 fn first_ready<'t, 'a>(processes: &[Process<'t, 'a>], p: usize) -> Option<First<'t, 'a>>
     ensures { IsFirstReady (slice_get processes.now p) result }
 {
-    let process = processes.get(p)?;
+    if p >= processes.len() {
+        return None;
+    }
+    let process = &processes[p];
     if process.is_done || process.at_line {
         return None;
     }
