@@ -1,9 +1,8 @@
 -- The innermost level, and what is known of a level's recovery block.
-use Rattle.std.proofs.Common.{◌≡◌, ◌-◌, ◌<◌, ◌&&◌, nat_le, nat_lt, ℕ, true, zero, suc, List, [], ◌∷◌, length, map, take, Option, Some, None, option_map, Bor, vec_len, refl, sym, ap, ◌∙◌, arith}
+use Rattle.std.proofs.Common.{◌≡◌, ◌-◌, ℕ, zero, suc, List, [], ◌∷◌, length, map, take, Option, Some, None, option_map, Bor, vec_len, refl, sym, ap, ◌∙◌, arith}
 use Rattle.std.proofs.Math.Seq.{take-nil}
 use Rattle.std.specs.Option.{option_copied}
 use Rattle.std.specs.List.{slice_get}
-use Rattle.std.proofs.lemmas.Bool.Decides.{nat_tests}
 use Rattle.rb_syntax.specs.declared.statement.Block.{Block}
 use Rattle.rb_syntax.specs.declared.statement.Recovery.{Recovery, out-Recovery}
 use Rattle.rb_syntax.specs.Plain.{alternates_of, recovery_block}
@@ -61,14 +60,8 @@ facts_alternates : (conversation : Option ℕ) (block : Recovery)
 facts_alternates conversation block =
     ap (λ plain. (facts_with conversation plain).alternates) (recovery_out block) ∙ counted (out-Recovery block).alternates.items
 
--- a number from 1 on
-is_counted : (n : ℕ) → 0 < n → nat_lt 0 n ≡ true
-is_counted n some = grind (arith, nat_tests)
-
--- the block has the alternate of a number from 1 on where the number of its alternates reaches it
-pub alternate_there : (n : ℕ) (conversation : Option ℕ) (block : Recovery) (count : ℕ) → 0 < n → count ≡ vec_len (out-Recovery block).alternates
-    → nat_le n count ≡ nat_lt 0 n && nat_le n (facts_with conversation (recovery_block block)).alternates
-alternate_there n conversation block count some e =
+pub alternates_there : (conversation : Option ℕ) (block : Recovery) (count : ℕ) → count ≡ vec_len (out-Recovery block).alternates
+    → count ≡ (facts_with conversation (recovery_block block)).alternates
+alternates_there conversation block count e =
     let all : count ≡ length (out-Recovery block).alternates.items = omega (arith, e, (out-Recovery block).alternates.ok.0) in
-    ap (nat_le n) (all ∙ sym (facts_alternates conversation block))
-    ∙ ap (λ b. b && nat_le n (facts_with conversation (recovery_block block)).alternates) (sym (is_counted n some))
+    all ∙ sym (facts_alternates conversation block)

@@ -15,3 +15,5 @@ pub mod MovedProcesses
 pub mod AcceptedTests
 pub mod ActedWorlds
 pub mod TurnsMoved
+pub mod WholeTurns
+pub mod StuckTurns

@@ -17,7 +17,7 @@ use Rattle.rb_plain.specs.declared.answer.PlainAnswer.{PlainAnswer}
 use Rattle.rb_plain.specs.declared.answer.PlainAnswer.TheVariants.{Stuck, WriteFault, Memory}
 
 -- what is told of a turn changes neither whether the others are stuck, nor the world at the end
-stuck_told : {S C M : Type 0} (t : ℕ) (one : Told) (end : PlainEnd S C M) → stuck_in (plain_told t one end) ≡ stuck_in end
+pub stuck_told : {S C M : Type 0} (t : ℕ) (one : Told) (end : PlainEnd S C M) → stuck_in (plain_told t one end) ≡ stuck_in end
 stuck_told t one (Ended w lines) = refl
 stuck_told t one (StuckAt u) = refl
 

@@ -4,3 +4,4 @@ pub mod Worlds
 pub mod Members
 pub mod Moves
 pub mod Played
+pub mod Stuck

@@ -2,6 +2,7 @@
 
 ghost use Rattle.rb_plain.specs.Played.{UnnotedTurnsTellSame};
 ghost use Rattle.rb_plain.specs.Recorded.{RecordsRise};
+ghost use Rattle.rb_plain.specs.Stuck.{StuckTurnsAreFound};
 
 /// The turns of each record are those of its processes, and rise within the limits.
 pub fn records_rise()
@@ -12,4 +13,9 @@ pub fn records_rise()
 /// the same turn.
 pub fn unnoted_turns_tell_same()
     ensures { UnnotedTurnsTellSame }
+{}
+
+/// Where the plain run of turns that rise is stuck, the turn and the cause that are told are those of the turn which can't be taken.
+pub fn stuck_turns_are_found()
+    ensures { StuckTurnsAreFound }
 {}

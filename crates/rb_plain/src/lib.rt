@@ -10,6 +10,7 @@ mod playing;
 mod process;
 pub mod record;
 mod record_line;
+pub mod stuck;
 mod test_line;
 mod turn;
 mod values;
@@ -17,3 +18,4 @@ mod want;
 
 pub use answer::PlainAnswer;
 pub use plain_run::plain;
+pub use stuck::{StuckCause, StuckTurn, stuck_cause};

@@ -139,8 +139,8 @@ fn take<'t, 'a>(
     }
 }
 
-// No process without an open level holds a line any more.
-fn free_all<'a>(program: &Program<'a>, processes: &mut [Process<'_, 'a>])
+/// No process without an open level holds a line any more.
+pub(crate) fn free_all<'a>(program: &Program<'a>, processes: &mut [Process<'_, 'a>])
     ensures { world_of (tree program.now) processes.new
         ≡ with_each (freed (unkept_kind (tree program.now))) (world_of (tree program.now) processes.old) }
 {

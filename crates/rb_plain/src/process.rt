@@ -59,11 +59,11 @@ impl<'t, 'a> Level<'t, 'a> {
         })
     }
 
-    // Whether its recovery block has this alternate, counted from 1.
-    fn has_alternate(&self, alternate: u32) -> bool
-        ensures { result ≡ nat_lt 0 alternate && nat_le alternate (level_of self.now).facts.alternates }
+    // How many alternates its recovery block has.
+    fn alternates(&self) -> usize
+        ensures { result ≡ (level_of self.now).facts.alternates }
     {
-        0 < alternate && alternate as usize <= self.block.alternates.len()
+        self.block.alternates.len()
     }
 }
 
@@ -95,14 +95,21 @@ impl<'t, 'a> Process<'t, 'a> {
         }
     }
 
+    /// How many alternates the innermost recovery block has; none without a level.
+    pub(crate) fn alternates(&self) -> usize
+        ensures { result ≡ alternates_of (last_of (map level_of self.now.levels.items)) }
+    {
+        match self.innermost() {
+            Some(level) => level.alternates(),
+            None => 0,
+        }
+    }
+
     /// Whether the innermost recovery block has this alternate, counted from 1.
     pub(crate) fn has_alternate(&self, alternate: u32) -> bool
         ensures { result ≡ nat_lt 0 alternate && nat_le alternate (alternates_of (last_of (map level_of self.now.levels.items))) }
     {
-        match self.innermost() {
-            Some(level) => level.has_alternate(alternate),
-            None => false,
-        }
+        0 < alternate && alternate as usize <= self.alternates()
     }
 
     /// Whether it stands at the test line of this conversation.
