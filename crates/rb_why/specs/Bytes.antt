@@ -1,0 +1,41 @@
+-- Sentences about bytes that no token has, and about texts that do not end.
+use Rattle.std.specs.Prelude.{ℕ, nat_eq, ◌==◌, Bool, cond, List, [], ◌∷◌, length, drop, take, codes, decimal}
+use Rattle.std.specs.List.{list_any}
+use Rattle.std.specs.Cmp.Lexicographic.{pointwise}
+use Rattle.rb_base.specs.declared.fault.FaultName.TheVariants.{X1, X2}
+use Rattle.rb_base.specs.declared.place.Place.{Place}
+use Rattle.rb_sched.specs.Schedule.{without_cr}
+use Rattle.rb_why.specs.Lines.{before, line_at}
+use Rattle.rb_why.specs.Phrases.{sentence}
+
+-- whether a text begins with a byte order mark
+abbrev pub has_order_mark : List ℕ → Bool
+has_order_mark text = pointwise nat_eq (take 3 text) (239 ∷ 187 ∷ 191 ∷ [])
+
+abbrev pub order_mark_words : List ℕ
+order_mark_words = codes "a byte order mark stands at the front: save the file as plain ASCII without one"
+
+abbrev pub carriage_return_words : List ℕ
+carriage_return_words = codes "a carriage return stands in the middle of this line"
+
+-- whether a line has a CR that does not end it
+abbrev pub has_inner_cr : List ℕ → Bool
+has_inner_cr line = list_any (nat_eq 13) (without_cr line)
+
+-- the sentence about the byte at the front, which can't stand there
+abbrev pub front_byte_words : List ℕ → List ℕ
+front_byte_words [] = sentence X1 []
+front_byte_words (b ∷ bs) = cond (b == 58) (codes "a `:` has no `=` behind it") (sentence X1 (decimal b))
+
+-- the sentence about the bytes from a place on
+abbrev pub rest_words : List ℕ → List ℕ
+rest_words rest = cond (has_order_mark rest) order_mark_words (front_byte_words rest)
+
+-- the sentence about the byte at a place of a source, which can't stand there
+abbrev pub byte_words : List ℕ → Place → List ℕ
+byte_words source place = rest_words (drop (length (before source place)) source)
+
+-- the sentence about the text at a place, which has no closing quote on its line
+abbrev pub open_words : List ℕ → Place → List ℕ
+open_words source place =
+    cond (has_inner_cr (line_at place.line source)) (codes "a carriage return stands in this text before its closing quote") (sentence X2 [])

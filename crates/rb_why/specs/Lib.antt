@@ -1,0 +1,14 @@
+pub mod Lines
+pub mod Frame
+pub mod Phrases
+pub mod Tokens
+pub mod Listed
+pub mod Words
+pub mod Converses
+pub mod Nested
+pub mod Expected
+pub mod Bytes
+pub mod Likeness
+pub mod Source
+pub mod Text
+pub mod Stuck

@@ -1,0 +1,24 @@
+//! Why a text is refused, in words: where, what is wrong, and what to look at next.
+#![tactic(auto)]
+
+mod bytes;
+mod converses;
+mod expected;
+pub mod file;
+mod frame;
+mod joined;
+mod likeness;
+mod lines;
+mod listed;
+mod nested;
+mod phrases;
+pub mod source;
+pub mod stuck;
+pub mod text;
+mod tokens;
+mod words;
+
+pub use file::{file_reason, long_reason};
+pub use source::source_reason;
+pub use stuck::stuck_reason;
+pub use text::text_reason;

@@ -1,0 +1,44 @@
+//! Words with commas between them.
+
+ghost use Rattle.std.specs.Prelude.{◌≡◌, [], IfOk};
+ghost use Rattle.rb_base.specs.Naming.{process_names};
+ghost use Rattle.rb_why.specs.Listed.{listed, quoted, with_word};
+
+use crate::joined::joined;
+use rb_base::{Memory, Names};
+use std::alloc::Global;
+
+/// The list with one more word.
+pub(crate) fn with_word<'w>(
+    alloc: Global,
+    told: &'w [u8],
+    word: &'w [u8],
+) -> Result<Vec<u8>, Memory>
+    ensures { IfOk result (λ words. words.items ≡ with_word told.now word.now) }
+{
+    if told.is_empty() {
+        return joined(alloc, &[word]);
+    }
+    joined(alloc, &[told, b", ", word])
+}
+
+/// A word as it is quoted.
+pub(crate) fn quoted(alloc: Global, word: &[u8]) -> Result<Vec<u8>, Memory>
+    ensures { IfOk result (λ words. words.items ≡ quoted word.now) }
+{
+    joined(alloc, &[b"`", word, b"`"])
+}
+
+/// The processes of a program, in the order of declaration.
+pub(crate) fn processes_listed(alloc: Global, names: &Names) -> Result<Vec<u8>, Memory>
+    ensures { IfOk result (λ words. words.items ≡ listed (process_names names.now) []) }
+{
+    let mut told = Vec::new(alloc);
+    let mut rest = names.processes.as_slice();
+    while let [process, after @ ..] = rest {
+        let name = quoted(alloc, process.name.as_bytes())?;
+        told = with_word(alloc, told.as_slice(), name.as_slice())?;
+        rest = after;
+    }
+    Ok(told)
+}
