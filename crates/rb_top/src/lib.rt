@@ -12,7 +12,6 @@ pub mod load;
 pub mod number;
 pub mod over_schedule;
 pub mod plain;
-pub mod program;
 pub mod read;
 pub mod refuse;
 pub mod request;
@@ -28,7 +27,6 @@ pub mod trial;
 pub mod words;
 
 pub use ending::{Carried, carry_out};
-pub use program::run_program;
 pub use status::Status;
 pub use top::command;
 pub use words::Words;
