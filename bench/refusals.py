@@ -2,8 +2,9 @@
 """Refuses the proved programs one allocation, one read or one write after another, and looks at what it answers.
 
 An allocation that is refused is status 5, with nothing written, but that `plain` and `session` may have written a prefix; a read is status 3 with nothing
-written; a write is status 4 with a prefix. Where nothing is refused any more the answer is whole. Status 1 only where the program stands
-built, there is a C compiler, and an answer is another one. RBL and RBLVIEW may name other programs.
+written; a write is status 4 with a prefix. Where nothing is refused any more the answer is whole. Where the text itself is refused, what is
+wanted after its line was written costs the reason on standard error, and neither the line nor status 1. Status 1 only where the program
+stands built, there is a C compiler, and an answer is another one. RBL and RBLVIEW may name other programs.
 """
 import glob
 import os
@@ -28,13 +29,29 @@ end.
 """
 
 
-def answer(words, folder, refuse=None, number=0, shim=None):
-    """The status of a command, and what it wrote; with one call refused, if one is named."""
+# Texts that are refused, by the names of the files: the reason of each takes another way.
+REFUSED = {
+    "a name": (["check", "a"], {"a": "program a; process p { x := 1; } end.\n"}),
+    "a stray token": (["check", "a"], {"a": "program a; process p { var x; x := ; } end.\n"}),
+    "a process": (["run", "a", "b"], {"a": "program a; process p { } end.\n", "b": "q 1\n"}),
+    "a record": (["plain", "a", "b"], {"a": "program a; process p { } end.\n", "b": "3 p\n"}),
+    "an image": (["load", "a", "b"], {"a": "no image", "b": "p 1\n"}),
+    "a history": (["domino", "a"], {"a": "process p\nfail q\n"}),
+}
+
+
+def ended(words, folder, refuse=None, number=0, shim=None):
+    """How a command ended; with one call refused, if one is named."""
     env = dict(os.environ)
     if refuse:
         env.update(LD_PRELOAD=shim, REFUSE=refuse, REFUSED=str(number))
     program = VIEWER if words[0] in VIEWS else PROGRAM
-    run = subprocess.run([program, *words], cwd=folder, env=env, capture_output=True, timeout=60)
+    return subprocess.run([program, *words], cwd=folder, env=env, capture_output=True, timeout=60)
+
+
+def answer(words, folder, refuse=None, number=0, shim=None):
+    """The status of a command, and what it wrote."""
+    run = ended(words, folder, refuse, number, shim)
     return run.returncode, run.stdout
 
 
@@ -92,12 +109,39 @@ def refused_in_turn(words, folder, refuse, shim):
     if status != 0:
         return 0, f"status {status} with nothing refused"
     for number in range(100_000):
-        ended, written = answer(words, folder, refuse, number, shim)
-        if (ended, written) == (0, whole):
+        status, written = answer(words, folder, refuse, number, shim)
+        if (status, written) == (0, whole):
             return number, None
-        if not is_right(words, refuse, ended, written, whole):
-            return number, f"{refuse} {number}: status {ended}, {len(written)} bytes"
+        if not is_right(words, refuse, status, written, whole):
+            return number, f"{refuse} {number}: status {status}, {len(written)} bytes"
     return 0, "no end"
+
+
+def reason_refused_in_turn(words, folder, refuse, shim):
+    """The same for a command whose text is refused."""
+    whole = ended(words, folder)
+    if whole.returncode != 1 or not whole.stderr:
+        return 0, f"status {whole.returncode} with nothing refused"
+    for number in range(100_000):
+        run = ended(words, folder, refuse, number, shim)
+        now, wanted = (run.returncode, run.stdout, run.stderr), (1, whole.stdout, whole.stderr)
+        if now == wanted:
+            return number, None
+        if now[:2] != wanted[:2] and not is_right(words, refuse, run.returncode, run.stdout, whole.stdout):
+            return number, f"{refuse} {number}: status {run.returncode}, {len(run.stdout)} bytes"
+        if run.returncode == 1 and run.stderr not in (b"", whole.stderr):
+            return number, f"{refuse} {number}: half a reason, {len(run.stderr)} bytes"
+    return 0, "no end"
+
+
+def refused_texts(folder, shim):
+    """What was refused of each text that is refused, and the first wrong answer."""
+    for name, (words, files) in REFUSED.items():
+        for file, text in files.items():
+            with open(os.path.join(folder, file), "w", encoding="ascii") as out:
+                out.write(text)
+        for refuse in STATUS:
+            yield name, refuse, *reason_refused_in_turn(words, folder, refuse, shim)
 
 
 def same_for_longer_runs(folder, shim):
@@ -141,6 +185,10 @@ def main():
                 counted[refuse] += number
                 if fault:
                     wrong.append(f"{name}: {fault}")
+        for name, refuse, number, fault in refused_texts(folder, shim):
+            counted[refuse] += number
+            if fault:
+                wrong.append(f"{name}: {fault}")
         short, long = same_for_longer_runs(folder, shim)
         if short != long:
             wrong.append(f"a run of 10 rounds takes memory {short} times, one of 23 {long} times")

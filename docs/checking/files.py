@@ -65,8 +65,10 @@ def told():
 
 
 def named(pages):
-    """A check of each file: some page names it, or it is a schedule of a source that is named."""
+    """A check of each file: some page names it, or it is a schedule of a source that is named. What `reasons_told.py` wants, it counts."""
     text = "".join(map(text_of, pages))
     for file in below("*.*"):
+        if file.startswith("examples/reasons/"):
+            continue
         source = re.sub(r"(\.\w+)?\.schedule$", ".rbl", file)
         yield Check(file, None if file in text or (source != file and source in text) else "no page names it")

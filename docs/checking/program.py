@@ -39,10 +39,11 @@ def answer_of(command, texts):
 
 
 def wanted(shown, real):
-    """What is wrong with an answer, where a page shows all that stands on standard output: a refusal alone has status 1."""
+    """What is wrong with an answer, where a page shows all that stands on standard output: a refusal alone has status 1, and its reason."""
     status = 1 if shown.startswith("refused ") else 0
     if real.out != shown:
         return "the program writes something else: " + (real.out.split("\n")[0] or "nothing")
-    if (real.status, real.err) != (status, ""):
+    reason = f": {shown.split()[1]}: " if status else ""
+    if real.status != status or bool(real.err) != bool(reason) or reason not in real.err:
         return f"status {real.status} for {status}, and on standard error: {real.err or 'nothing'}"
     return None

@@ -79,7 +79,7 @@ def faults():
         real = answered(fault, text)
         right = f"refused {fault}" + (f" at {place}" if place else "")
         fits = real.out == right + "\n" or (fault == "N13" and real.out.startswith("refused N13 at "))
-        wrong = None if fits and real.status == 1 and not real.err else f"{fault}: the program answers {real.out.strip()} with status {real.status}"
+        wrong = None if fits and real.status == 1 and f": {fault}: " in real.err else f"{fault}: the program answers {real.out.strip()} with status {real.status}"
         yield Check(f"{PAGE}:{line_of(page, row.start())}", wrong)
     missing = set(FAULTS) - {row.group(1) for row in rows}
     yield Check(PAGE, f"the tables lack {missing}" if missing else None)
@@ -89,25 +89,26 @@ def statuses():
     """A check of each exit status that needs nothing but words, and that the table has all of them."""
     first, schedule = "examples/first.rbl", "examples/first.schedule"
     cases = [
-        (0, ["check", first], "accepted\n", False),
-        (1, ["check", schedule], "refused Y1 at 1:1\n", False),
-        (1, ["run", schedule, "no such file"], "refused Y1 at 1:1\n", False),
-        (2, [], None, False),
-        (2, ["--help"], None, False),
-        (2, ["check", first, schedule], None, False),
-        (3, ["check", "no such file"], "", True),
-        (3, ["run", first, "examples"], "", True),
-        (6, ["check", b"\xff"], "", False),
+        (0, ["check", first], "accepted\n", ""),
+        (1, ["check", schedule], "refused Y1 at 1:1\n", f"{schedule}:1:1: Y1: "),
+        (1, ["run", schedule, "no such file"], "refused Y1 at 1:1\n", f"{schedule}:1:1: Y1: "),
+        (2, [], None, ""),
+        (2, ["--help"], None, ""),
+        (2, ["check", first, schedule], None, ""),
+        (3, ["check", "no such file"], "", "rbl: cannot read no such file: "),
+        (3, ["run", first, "examples"], "", "rbl: cannot read examples: "),
+        (6, ["check", b"\xff"], "", ""),
     ]
     for status, words, out, told in cases:
         real = answer(words, ROOT)
         usage = real.out.startswith("usage: rbl ") and real.out.count("\n") == 1
-        right = real.status == status and (usage if out is None else real.out == out) and bool(real.err) == told
-        right = right and (not told or real.err == f"rbl: cannot read {words[-1]}\n")
+        right = real.status == status and (usage if out is None else real.out == out) and bool(real.err) == bool(told)
+        right = right and real.err.startswith(told)
         yield Check("exit statuses", None if right else f"{words}: status {real.status}, {real.out!r}, {real.err!r}")
     if os.path.exists("/dev/full"):
         with open("/dev/full", "wb") as full:
-            status = answer(["check", first], ROOT, full).status
-        yield Check("exit statuses", None if status == 4 else f"where nothing can be written: status {status}")
+            real = answer(["check", first], ROOT, full)
+        right = real.status == 4 and real.err.startswith("rbl: cannot write to standard output: ")
+        yield Check("exit statuses", None if right else f"where nothing can be written: status {real.status}, {real.err!r}")
     table = [int(n) for n in re.findall(r"^\| (\d) \|", text_of(PAGE), re.MULTILINE)]
     yield Check(PAGE, None if set(table[-7:]) == set(range(7)) else "its table of exit statuses lacks one")
