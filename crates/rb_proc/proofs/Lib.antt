@@ -4,6 +4,7 @@ pub mod Fronts
 pub mod Levels
 pub mod Tied
 pub mod Returns
+pub mod Alternates
 pub mod Backs
 pub mod TouchedPlaces
 pub mod Mailed

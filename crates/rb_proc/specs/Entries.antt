@@ -1,21 +1,17 @@
 -- Entries of recovery blocks.
-use Rattle.std.specs.Prelude.{◌≡◌, ℕ, [], ◌∷◌, ◌++◌, Option, Some, None}
+use Rattle.std.specs.Prelude.{◌≡◌, ℕ, [], ◌∷◌, ◌++◌}
 use Rattle.rb_world.specs.Kind.{Facts, Want, Enters}
 use Rattle.rb_world.specs.Turn.{new_level}
 use Rattle.rb_world.specs.World.{Process, goes_on}
 use Rattle.rb_code.specs.Instructions.Plain.{Code}
 use Rattle.rb_code.specs.WordMachine.Turn.{Copy, Standing}
 use Rattle.rb_code.specs.WordMachine.WordKind.{entered_at}
-use Rattle.rb_proc.specs.Contents.{facts_of}
 use Rattle.rb_proc.specs.Process.{kind_of}
-use Rattle.rb_proc.specs.declared.recoverable.BlockFacts.{BlockFacts}
 
--- these are the facts of the block that is entered, if one is
-abbrev pub EntryIs : Want → Option BlockFacts → Type 0
-EntryIs (Enters facts) None = ⊥
-EntryIs (Enters facts) (Some one) = facts_of one ≡ facts
-EntryIs w None = Unit {0}
-EntryIs w (Some one) = ⊥
+-- a process wants to enter this block
+abbrev pub WantsBlock : ℕ → Want → Type 0
+WantsBlock b (Enters facts) = facts.number ≡ b
+WantsBlock b w = ⊥
 
 -- the process at its entry, in its new level
 abbrev pub state_entered : ℕ → Standing → Standing

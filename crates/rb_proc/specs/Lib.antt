@@ -7,6 +7,7 @@ pub mod Outcomes
 pub mod Executable
 pub mod Statuses
 pub mod Acts
+pub mod Kinds
 pub mod Runs
 pub mod Given
 pub mod Process

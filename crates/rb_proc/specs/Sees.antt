@@ -5,7 +5,7 @@ use Rattle.rb_world.specs.Kind.{Ends}
 use Rattle.rb_world.specs.Slots.{Slots}
 use Rattle.rb_world.specs.World.{Level, copy_of, last_of}
 use Rattle.rb_code.specs.Instructions.Plain.{Code}
-use Rattle.rb_code.specs.WordMachine.Workspace.{body_place, part_of, variables_place}
+use Rattle.rb_code.specs.WordMachine.Workspace.{part_of, variables_place}
 use Rattle.rb_code.specs.WordMachine.Act.{Sight as Seen}
 use Rattle.rb_code.specs.WordMachine.Turn.{Copy, prior_words}
 use Rattle.rb_proc.specs.Given.{alternate_by}
@@ -24,7 +24,7 @@ see_of sight levels = record {
 pub record IsTurnOf (c : Code) (sight : Sight) : Type 0 where
   pub exists : sight.process < length c.processes
   pub variables : sight.variables ≡ variables_place (part_of c sight.process)
-  pub body : sight.body ≡ body_place (part_of c sight.process)
+  pub words : (part_of c sight.process).words ≤ most_words c.edition
   pub few : variables_place (part_of c sight.process) + most_words c.edition ≤ most_places
 
 -- each list of slots has as many as its channel's size

@@ -1,16 +1,17 @@
 //! Instructions on channels and lines.
 
-ghost use Rattle.std.specs.Prelude.{◌≡◌, ℕ, ◌+◌, ◌-◌, ◌<◌, ◌≤◌, ◌^◌, ◌+ℤ◌, ℤ, pos, cond, List, [], ◌∷◌, map, length, Option};
+ghost use Rattle.std.specs.Prelude.{◌≡◌, ℕ, ◌+◌, ◌-◌, ◌<◌, ◌≤◌, ◌^◌, ◌+ℤ◌, ℤ, pos, List, [], ◌∷◌, map, length, Option};
 ghost use Rattle.rb_base.specs.declared.limits.TheConstants.{MOST_OPERANDS};
 ghost use Rattle.rb_meaning.specs.Environment.{natural as count};
 ghost use Rattle.rb_world.specs.Slots.{Slots, put_slot};
 ghost use Rattle.rb_code.specs.Instructions.Plain.{Code as Plain, code as plain};
 ghost use Rattle.rb_code.specs.WordMachine.Workspace.{Counting as Counts, cursor_place, held_place, part_of, place_among, variables_place, word_at};
 ghost use Rattle.rb_code.specs.WordMachine.Act.{Going, Sight as Seen, if_there, joined_pieces, on_top, printed, put, risen};
+ghost use Rattle.rb_code.specs.SoundCode.Safe.{IsThere};
 ghost use Rattle.rb_operands.specs.Outcomes.{outcome_of};
 ghost use Rattle.rb_proc.specs.Outcomes.{Keeps, mem};
 ghost use Rattle.rb_operands.specs.Pieces.{AreTexts, piece_text};
-ghost use Rattle.rb_proc.specs.Sees.{AreSized, IsTurnOf};
+ghost use Rattle.rb_proc.specs.Sees.{AreSized};
 
 use crate::recoverable::{Recoverable, natural};
 use rb_base::{Cause, Steps, Text};
@@ -119,6 +120,7 @@ pub fn take_message<L: Ledger>(
     requires at { at + 1 < 2 ^ 32 }
     requires process { process < length code.now.processes.items }
     requires room { length operands.old < MOST_OPERANDS }
+    requires message { IsThere message }
     requires there { cursor_place (part_of (plain code.now) process) channel < length memory.old.words }
     requires low { count (word_at memory.old.words (cursor_place (part_of (plain code.now) process) channel)) < 2 ^ 32 - 1 }
     ensures moved { (see : Seen) (pieces : List (List ℕ)) (counters : List (Option Counts)) (slots : Slots)
@@ -129,9 +131,7 @@ pub fn take_message<L: Ledger>(
     ensures kept { (slots : Slots) → Keeps result memory.old memory.new slots slots }
     ensures ticks { steps.new ≤ steps.old + 3 }
 {
-    let Some(value) = message else {
-        return Next::Trap(Cause::Fail);
-    };
+    let Some(value) = message else { unreachable!() };
     let place = cursor_place(code, process, channel);
     let cursor = memory.load(place, steps);
     memory.store(place, one_further(cursor), steps);

@@ -5,8 +5,8 @@ ghost use Rattle.rb_world.specs.World.{copy_of, last_of};
 ghost use Rattle.rb_code.specs.Instructions.Plain.{code as plain};
 ghost use Rattle.rb_code.specs.WordMachine.Workspace.{Workspace};
 ghost use Rattle.rb_code.specs.WordMachine.Act.{Going, act as acted, alternate_address, if_there};
-ghost use Rattle.rb_code.specs.SoundCode.Safe.{Ready};
-ghost use Rattle.rb_code.specs.SoundCode.Stays.{HasEnough, entry_calls};
+ghost use Rattle.rb_code.specs.SoundCode.Safe.{IsThere, Ready};
+ghost use Rattle.rb_code.specs.SoundCode.Stays.{entry_calls};
 ghost use Rattle.rb_proc.specs.Acts.{CursorRises, LeavesEnough, cause_by};
 ghost use Rattle.rb_operands.specs.Outcomes.{outcome_of};
 ghost use Rattle.rb_proc.specs.Outcomes.{Keeps, whole};
@@ -14,20 +14,17 @@ ghost use Rattle.rb_operands.specs.Pieces.{AreTexts};
 ghost use Rattle.rb_proc.specs.Sees.{AreSized, IsTurnOf, see_of};
 ghost use Rattle.rb_proc.specs.Work.{named};
 
-use crate::channels::{print, put_value, take_message};
+use crate::kinds::{
+    act_on_channel, act_on_counters, act_on_elements, act_on_frames, act_on_line, act_on_numbers,
+};
 use crate::recoverable::Recoverable;
 use crate::sight::Sight;
 use crate::wants::alternate_of;
-use crate::words::{
-    call, drop_words, frame, go_back, load, load_at, prior, prior_at, store, store_at,
-};
+use crate::words::{load, store};
 use rb_base::{Cause, Steps};
 use rb_code::{Code, Instr};
 use rb_mail::Mail;
-use rb_operands::calculate::{
-    again, bound, counter, jump_zero, negate, operate, push, range, test, test_zero,
-};
-use rb_operands::line::Piece;
+use rb_operands::calculate::{bound, jump_zero, operate, push, test};
 use rb_operands::operands::Operands;
 use rb_operands::{Bench, Next};
 use rb_syntax::Op;
@@ -36,17 +33,13 @@ use std::sync::ledger::Ledger;
 /// Goes to an alternate of a recovery block, counted from 1.
 #[inline(always)]
 fn start(code: &Code, block: u32, alternate: u32) -> Next
+    requires { IsThere (alternate_address (slice_get (plain code.now).blocks block) alternate) }
     ensures { (a : ℕ) (operands : List ℤ) (m : Workspace)
         → outcome_of result a operands m
         ≡ if_there (alternate_address (slice_get (plain code.now).blocks block) alternate) (λ to. Going to operands m) }
 {
-    match code.blocks.get(block as usize) {
-        Some(one) if alternate > 0 => match one.alternates.get(alternate as usize - 1) {
-            Some(to) => Next::Go(*to),
-            None => Next::Trap(Cause::Fail),
-        },
-        _ => Next::Trap(Cause::Fail),
-    }
+    let one = &code.blocks[block as usize];
+    Next::Go(one.alternates[alternate as usize - 1])
 }
 
 // The cause of a trap by an instruction alone. It is looked up, since a constant for it would be loaded before each instruction.
@@ -95,82 +88,40 @@ pub fn act<L: Ledger>(
     match *instr {
         Instr::Turn | Instr::Done => Next::Stop,
         Instr::Push(n) => push(n, at, operands),
-        Instr::Load(spot) => load(sight.place(memory, spot), at, operands, memory, steps),
-        Instr::Prior(spot) => prior(sight.place(memory, spot), at, operands, memory, steps),
+        Instr::Load(spot) => load(sight.place(code, memory, spot), at, operands, memory, steps),
+        Instr::Store(spot) => store(sight.place(code, memory, spot), at, operands, memory, steps),
         Instr::Bound(n) => bound(n, at, operands),
-        Instr::LoadAt(spot) => load_at(sight.place(memory, spot), at, operands, memory, steps),
-        Instr::PriorAt(spot) => prior_at(sight.place(memory, spot), at, operands, memory, steps),
-        Instr::Store(spot) => store(sight.place(memory, spot), at, operands, memory, steps),
-        Instr::StoreAt(spot) => store_at(sight.place(memory, spot), at, operands, memory, steps),
         Instr::Add => operate(Op::Add, at, operands),
         Instr::Sub => operate(Op::Sub, at, operands),
-        Instr::Mul => operate(Op::Mul, at, operands),
-        Instr::Div => operate(Op::Div, at, operands),
-        Instr::Rem => operate(Op::Rem, at, operands),
         Instr::Eq => operate(Op::Eq, at, operands),
         Instr::Ne => operate(Op::Ne, at, operands),
         Instr::Lt => operate(Op::Lt, at, operands),
         Instr::Le => operate(Op::Le, at, operands),
         Instr::Gt => operate(Op::Gt, at, operands),
         Instr::Ge => operate(Op::Ge, at, operands),
-        Instr::Neg => negate(at, operands),
-        Instr::Not => test_zero(true, at, operands),
-        Instr::Bool => test_zero(false, at, operands),
         Instr::Jump(to) => Next::Go(to),
         Instr::JumpZero(to) => jump_zero(to, at, operands),
-        Instr::Frame(n) => frame(n, sight.most(code), at, memory, steps),
-        Instr::Drop(n) => drop_words(n, at, memory),
-        Instr::Text(k) => {
-            bench.line.add(Piece::Text(k));
-            Next::Go(at + 1)
-        }
-        Instr::Item => {
-            let number = operands.pop();
-            bench.line.add(Piece::Number(number));
-            Next::Go(at + 1)
-        }
-        Instr::Print => print(&code.texts, at, &mut bench.line, memory, steps),
         Instr::Room(_) | Instr::There(_) => Next::Go(at + 1),
-        Instr::Put(channel) => put_value(
-            code,
-            sight.process,
-            channel,
-            at,
-            operands,
-            memory,
-            mails,
-            steps,
-        ),
-        Instr::Take(channel) => take_message(
-            code,
-            sight.process,
-            sight.message,
-            channel,
-            at,
-            operands,
-            memory,
-            steps,
-        ),
-        Instr::Call(to, count, zeros) => call(
-            to,
-            count,
-            zeros,
-            sight.most(code),
-            at,
-            operands,
-            memory,
-            steps,
-        ),
-        Instr::Return => go_back(at, memory),
-        Instr::Fail | Instr::Enter(_) => Next::Trap(cause_of(instr)),
         Instr::Start(block) => start(code, block, alternate_of(sight.wanted, memory)),
         Instr::Test(_) => test(at, operands),
-        Instr::Range(k, past) => range(k, past, at, operands, &mut bench.counters),
-        Instr::Again(k, first) => again(k, first, at, &mut bench.counters),
-        Instr::Counter(k) => counter(k, at, operands, &bench.counters),
-        Instr::Absent(_, to) => match sight.message {
-            None => Next::Go(to),
-            Some(_) => Next::Go(at + 1),
-        },
+        Instr::Fail | Instr::Enter(_) => Next::Trap(cause_of(instr)),
+        Instr::Mul | Instr::Div | Instr::Rem | Instr::Neg | Instr::Not | Instr::Bool => {
+            act_on_numbers(instr, at, operands)
+        }
+        Instr::LoadAt(_) | Instr::StoreAt(_) | Instr::Prior(_) | Instr::PriorAt(_) => {
+            act_on_elements(code, sight, instr, at, operands, memory, steps)
+        }
+        Instr::Frame(_) | Instr::Drop(_) | Instr::Call(..) | Instr::Return => {
+            act_on_frames(code, sight, instr, at, operands, memory, steps)
+        }
+        Instr::Text(_) | Instr::Item | Instr::Print => {
+            act_on_line(code, instr, at, operands, bench, memory, steps)
+        }
+        Instr::Put(_) | Instr::Take(_) | Instr::Absent(..) => {
+            act_on_channel(code, sight, instr, at, operands, memory, mails, steps)
+        }
+        Instr::Range(..) | Instr::Again(..) | Instr::Counter(_) => {
+            act_on_counters(instr, at, operands, &mut bench.counters)
+        }
     }
 }

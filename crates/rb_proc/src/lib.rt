@@ -4,6 +4,7 @@
 pub mod answers;
 pub mod channels;
 pub mod instruction;
+pub mod kinds;
 mod marks;
 pub mod process;
 pub mod recoverable;

@@ -1,13 +1,11 @@
 //! One process: what it wants, its steps, its levels and its lines.
 
-ghost use Rattle.std.specs.Prelude.{◌≡◌, ℕ, ◌+◌, ◌-◌, ◌*◌, ◌<◌, ◌≤◌, ◌^◌, false, true, List, [], ◌∷◌, ◌++◌, length, position, drop, slice_get, Some, IfOk, option_copied};
-ghost use Rattle.std.specs.Borrow.{sem};
-ghost use Rattle.std.specs.Io.BufRead.{Rests};
-ghost use Rattle.rb_base.specs.declared.limits.TheConstants.{MOST_HELD_BYTES, MOST_OPEN_LEVELS};
+ghost use Rattle.std.specs.Prelude.{◌≡◌, ◌+◌, ◌-◌, ◌*◌, ◌<◌, ◌≤◌, ◌^◌, false, List, [], length, position, slice_get, Some, IfOk};
+ghost use Rattle.rb_base.specs.declared.limits.TheConstants.{MOST_OPEN_LEVELS};
 ghost use Rattle.rb_world.specs.Kind.{Membership};
 ghost use Rattle.rb_world.specs.Reject.{fallen, put_back as put_back_at, raised};
 ghost use Rattle.rb_world.specs.Standing.{Each};
-ghost use Rattle.rb_world.specs.Turn.{freed, is_over, lines_freed, stands_at, stands_now, turn_used};
+ghost use Rattle.rb_world.specs.Turn.{is_over, stands_at, stands_now, turn_used};
 ghost use Rattle.rb_world.specs.World.{Running, is_of, settled, without_last};
 ghost use Rattle.rb_cache.specs.Copies.{accepted};
 ghost use Rattle.rb_code.specs.Instructions.Plain.{Code as Plain, code as plain};
@@ -15,29 +13,27 @@ ghost use Rattle.rb_code.specs.SoundCode.Stands.{Serves, SettlesSoundly, StandsS
 ghost use Rattle.rb_code.specs.WordMachine.Turn.{want as wanted_in};
 ghost use Rattle.rb_trace.specs.Ended.{state_of};
 ghost use Rattle.rb_code.specs.WordMachine.Workspace.{part_of};
-ghost use Rattle.rb_code.specs.WordMachine.WordKind.{cursor_in};
-ghost use Rattle.rb_code.specs.WordMachine.WordRun.{opening_standing, variable_words};
+ghost use Rattle.rb_code.specs.WordMachine.WordRun.{opening_standing};
 ghost use Rattle.rb_proc.specs.Contents.{IsBelowLast};
-ghost use Rattle.rb_proc.specs.Entries.{EntersAs};
+ghost use Rattle.rb_proc.specs.Entries.{EntersAs, WantsBlock};
 ghost use Rattle.rb_proc.specs.Executable.{HasNext, IsExecutable};
 ghost use Rattle.rb_operands.specs.Outcomes.{stop_at};
 ghost use Rattle.rb_proc.specs.Runs.{CursorsRise};
 ghost use Rattle.rb_proc.specs.Sees.{AreSized};
 ghost use Rattle.rb_proc.specs.Statuses.{status_of};
-ghost use Rattle.rb_proc.specs.Views.{CursorThen, IsViewOf};
+ghost use Rattle.rb_proc.specs.Views.{IsViewOf};
 ghost use Rattle.rb_proc.specs.Process.{Seen, StepsTo, alternate_for, kind_of, message_for, step_of, wanted_by, wanted_of};
 ghost use Rattle.rb_proc.specs.Work.{named_in_step, named_settling, places_touched};
 
+mod lines;
 mod looking;
+mod words;
 
 use crate::answers::{LevelView, Outcome, ProcessStatus, Wanted};
-use crate::channels::{cursor_place as place_of_cursor, first_variable};
-use crate::recoverable::{Recoverable, natural};
+use crate::recoverable::Recoverable;
 use crate::run::run;
 use crate::sight::Sight;
-use crate::wants::{
-    cursor_of, entry_at, landing, message_of, status_by, status_here, want_at, want_next,
-};
+use crate::wants::{facts_of, landing, message_of, status_by, status_here, want_at, want_next};
 use rb_base::{Cause, MOST_OPERANDS, Memory, State, Steps};
 use rb_code::Code;
 use rb_mail::Mail;
@@ -71,8 +67,6 @@ impl<L: Ledger> Model for Proc<L> {
 }
 
 impl<L: Ledger> Proc<L> {
-    ghost use Rattle.rb_proc.specs.contracts.process.Proc.{the_row};
-
     /// Process number p of a code, at its body, once it has settled; `Memory` if it is wanting. No other call takes memory.
     pub fn new(
         alloc: Global,
@@ -93,7 +87,7 @@ impl<L: Ledger> Proc<L> {
             }) }
     {
         let sight = Sight::new(code, process, None, Wanted::Step);
-        let memory = Recoverable::new(alloc, sight.body, steps)?;
+        let memory = Recoverable::new(alloc, sight.body(code), steps)?;
         let values = Box::new(alloc, [0; MOST_OPERANDS])?;
         let bench = Bench::new(alloc)?;
         let mut proc = Proc {
@@ -362,13 +356,27 @@ impl<L: Ledger> Proc<L> {
             (wanted_in (plain code.now) self.old.process.state) alternate turn self.old.process self.new.process }
         ensures waiting { self.new.waiting ≡ self.old.waiting }
     {
-        if let Some(facts) = entry_at(code, self.at) {
-            self.at += 2;
-            self.last_kept = turn;
-            self.memory.open(facts, alternate, self.at, turn);
-            self.at_line = false;
-            self.status = status_here(code, self.at);
+        if let Wanted::Entry(block) = want_at(code, self.at) {
+            self.enter_block(code, block, alternate, turn);
         }
+    }
+
+    /// The same where it is known which block stands next.
+    #[inline(always)]
+    pub fn enter_block(&mut self, code: &Code, block: u32, alternate: u32, turn: u32)
+        requires code { IsExecutable (plain code.now) }
+        requires wants { WantsBlock block (wanted_in (plain code.now) self.old.process.state) }
+        requires room { length self.old.process.levels < MOST_OPEN_LEVELS }
+        ensures process { EntersAs (plain code.now)
+            (wanted_in (plain code.now) self.old.process.state) alternate turn self.old.process self.new.process }
+        ensures waiting { self.new.waiting ≡ self.old.waiting }
+    {
+        let facts = facts_of(code, block);
+        self.at += 2;
+        self.last_kept = turn;
+        self.memory.open(facts, alternate, self.at, turn);
+        self.at_line = false;
+        self.status = status_here(code, self.at);
     }
 
     /// The copy of an open level is put back, and the levels inside it go. At most one tick for each place that was touched in a level and no
@@ -401,100 +409,6 @@ impl<L: Ledger> Proc<L> {
         self.memory.forget_levels();
         self.at_line = false;
         self.status = ProcessStatus::Failed(cause);
-    }
-
-    /// Its held lines are released if no level is open. Where one is, or no line is held, nothing is touched.
-    #[inline(always)]
-    pub fn release_if_free(&mut self, steps: &mut Steps<L>)
-        requires none_waits { self.old.waiting ≡ [] }
-        ensures freed { (c : Plain)
-            → self.new ≡ record {
-              process = freed (kind_of c) self.old.process;
-              waiting =
-                  lines_freed (kind_of c) self.old.process.state self.old.process.levels;
-            } }
-        ensures ticks { steps.new ≤ steps.old + 2 }
-        ensures quiet { self.old.process.state.held ≡ [] → steps.new ≡ steps.old }
-        ensures within { 0 < length self.old.process.levels → steps.new ≡ steps.old }
-    {
-        self.memory.release_if_free(steps);
-    }
-
-    /// Whether a release would tell lines: some are held, and no level is open.
-    #[inline(always)]
-    pub fn may_release(&self) -> bool
-        ensures { (c : Plain) → result ≡ false → lines_freed (kind_of c) self.now.process.state self.now.process.levels ≡ [] }
-    {
-        self.memory.may_release()
-    }
-
-    /// Whether it goes on, and no held line of it is to be released: then a release changes nothing.
-    #[inline(always)]
-    pub fn is_quiet(&self) -> bool
-        ensures running { result ≡ true → self.now.process.status ≡ Running }
-        ensures same { (c : Plain)
-            → result ≡ true
-            → record {
-              process = freed (kind_of c) self.now.process;
-              waiting =
-                  lines_freed (kind_of c) self.now.process.state self.now.process.levels;
-            }
-            ≡ record self.now { waiting = [] } }
-    {
-        match self.status {
-            ProcessStatus::Running => !self.memory.may_release(),
-            ProcessStatus::Finished | ProcessStatus::Failed(_) => false,
-        }
-    }
-
-    /// Lends the first released line that waits, which no longer does then; `None` exactly where none waits.
-    pub fn released(&mut self) -> Option<&[u8]>
-        ensures lent { option_copied result ≡ slice_get self.old.waiting 0 }
-        ensures* after { sem 𝓛 (Rests (the_row L.row L.Ledger) self.entry (λ new. new ≡ record self.old { waiting = drop 1 self.old.waiting })) }
-    {
-        self.memory.released()
-    }
-
-    /// Forgets the released lines that wait, and answers how many they were.
-    pub fn drop_released(&mut self) -> u32
-        ensures count { result ≡ length self.old.waiting }
-        ensures few { result ≤ MOST_HELD_BYTES }
-        ensures none { self.new ≡ record self.old { waiting = [] } }
-    {
-        self.memory.drop_released()
-    }
-
-    /// The cursor of a channel.
-    pub fn cursor(&self, code: &Code, channel: u32, steps: &mut Steps<L>) -> u64
-        requires { self.now.process.state.process < length code.now.processes.items }
-        ensures cursor { result ≡ cursor_in (plain code.now) self.now.process.state.process self.now.process.state.words channel }
-        ensures ticks { steps.new ≤ steps.old + 1 }
-        ensures rise { steps.old ≤ steps.new }
-    {
-        cursor_of(code, self.process, channel, &self.memory, steps)
-    }
-
-    /// The cursor of a channel as it was at the entry of an open level; levels count from 0, the outermost.
-    pub fn cursor_then(&self, code: &Code, channel: u32, level: u32, steps: &mut Steps<L>) -> u64
-        requires process { self.now.process.state.process < length code.now.processes.items }
-        requires level { level < length self.now.process.levels }
-        ensures cursor { CursorThen (plain code.now) self.now.process.state.process channel (slice_get self.now.process.levels level) result }
-        ensures ticks { steps.new ≤ steps.old + 1 }
-    {
-        let place = place_of_cursor(code, self.process, channel);
-        natural(self.memory.at_entry(level, place, steps))
-    }
-
-    /// A word of its variables, by its place among them.
-    pub fn word(&self, code: &Code, at: u32, steps: &mut Steps<L>) -> i64
-        requires process { self.now.process.state.process < length code.now.processes.items }
-        requires at { at < length (variable_words (plain code.now) self.now.process.state) }
-        ensures word { slice_get (variable_words (plain code.now) self.now.process.state) at ≡ Some result }
-        ensures ticks { steps.new ≤ steps.old + 1 }
-        ensures rise { steps.old ≤ steps.new }
-    {
-        let first = first_variable(code, self.process);
-        self.memory.load(first + at as usize, steps)
     }
 
     /// Whether it runs, is done, or has failed, and then with which cause.

@@ -1,10 +1,10 @@
 //! What a turn sees beside what it changes, and where its words lie.
 
-ghost use Rattle.std.specs.Prelude.{◌≡◌, ℕ, ◌+◌, ◌<◌, ◌≤◌, ◌^◌, length};
+ghost use Rattle.std.specs.Prelude.{◌≡◌, ◌+◌, ◌<◌, ◌≤◌, ◌^◌, length};
 ghost use Rattle.rb_code.specs.WordMachine.Act.{place};
-ghost use Rattle.rb_code.specs.Instructions.Plain.{Code as Plain, code as plain};
+ghost use Rattle.rb_code.specs.Instructions.Plain.{code as plain};
 ghost use Rattle.rb_base.specs.Limits.{most_words};
-ghost use Rattle.rb_code.specs.WordMachine.Workspace.{part_of, variables_place};
+ghost use Rattle.rb_code.specs.WordMachine.Workspace.{base_of, body_place, part_of, variables_place};
 ghost use Rattle.rb_proc.specs.Places.{most_places};
 ghost use Rattle.rb_proc.specs.Sees.{IsTurnOf, see_of};
 
@@ -13,13 +13,12 @@ use crate::recoverable::Recoverable;
 use rb_code::{Code, Spot};
 use std::sync::ledger::Ledger;
 
-/// What a turn sees: its process, where the variables and the words of the main body begin, the message that is there if one is, and what
-/// the process wants, by which the alternate is known that is to be started.
+/// What a turn sees: its process, where the variables begin, the message that is there if one is, and what the process wants, by which the
+/// alternate is known that is to be started.
 #[derive(Clone, Copy)]
 pub struct Sight {
     pub process: u32,
     pub variables: u32,
-    pub body: u32,
     pub message: Option<i64>,
     pub wanted: Wanted,
 }
@@ -35,12 +34,9 @@ impl Sight {
         ensures message { result.message ≡ message }
         ensures wanted { result.wanted ≡ wanted }
     {
-        let part = &code.processes[process as usize];
-        let variables = 1 + part.channels.len() as u32;
         Sight {
             process,
-            variables,
-            body: variables + part.words,
+            variables: 1 + code.processes[process as usize].channels.len() as u32,
             message,
             wanted,
         }
@@ -55,16 +51,36 @@ impl Sight {
         self.variables + code.edition.most_words()
     }
 
+    /// Where the words of the main body begin.
+    pub fn body(&self, code: &Code) -> u32
+        requires { IsTurnOf (plain code.now) self.now }
+        ensures { result ≡ body_place (part_of (plain code.now) self.now.process) }
+    {
+        self.variables + code.processes[self.process as usize].words
+    }
+
     /// Where a variable's first word lies.
-    pub fn place<L: Ledger>(&self, memory: &Recoverable<L>, spot: Spot) -> usize
-        requires { 0 < self.now.body }
-        ensures place { (c : Plain) → IsTurnOf c self.now → result ≡ place c (see_of self.now memory.now.levels) memory.now.calls spot }
-        ensures some { 0 < self.now.variables → 0 < result }
+    pub fn place<L: Ledger>(&self, code: &Code, memory: &Recoverable<L>, spot: Spot) -> usize
+        requires { IsTurnOf (plain code.now) self.now }
+        ensures place { result ≡ place (plain code.now) (see_of self.now memory.now.levels) memory.now.calls spot }
+        ensures some { 0 < result }
         ensures small { result < 2 ^ 33 }
     {
         match spot {
             Spot::Global(k) => self.variables as usize + k as usize,
-            Spot::Local(k) => memory.base(self.body) as usize + k as usize,
+            Spot::Local(k) => self.base(code, memory) as usize + k as usize,
+        }
+    }
+
+    // Where the words of the running call begin, or those of the main body, which are looked up only then.
+    fn base<L: Ledger>(&self, code: &Code, memory: &Recoverable<L>) -> u32
+        requires { IsTurnOf (plain code.now) self.now }
+        ensures base { result ≡ base_of (part_of (plain code.now) self.now.process) memory.now.calls }
+        ensures some { 0 < result }
+    {
+        match memory.call_base() {
+            None => self.body(code),
+            Some(base) => base,
         }
     }
 }

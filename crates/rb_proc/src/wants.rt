@@ -1,13 +1,14 @@
 //! What a process wants, by the instructions at which it stands.
 
 ghost use Rattle.std.specs.Prelude.{◌≡◌, ◌+◌, ◌<◌, ◌≤◌, ◌^◌, length, slice_get, IfSome};
+ghost use Rattle.rb_world.specs.Kind.{Enters};
 ghost use Rattle.rb_world.specs.World.{status_at};
 ghost use Rattle.rb_code.specs.Instructions.Plain.{code as plain};
 ghost use Rattle.rb_code.specs.WordMachine.Turn.{enters, wants_by, wants_there};
 ghost use Rattle.rb_world.specs.Slots.{slot_of};
 ghost use Rattle.rb_code.specs.WordMachine.WordKind.{cursor_in};
 ghost use Rattle.rb_proc.specs.Process.{wanted_by};
-ghost use Rattle.rb_proc.specs.Entries.{EntryIs};
+ghost use Rattle.rb_proc.specs.Contents.{facts_of as facts};
 ghost use Rattle.rb_proc.specs.Executable.{HasNext, IsExecutable, IsTurnAt, LandsAt, ends};
 ghost use Rattle.rb_proc.specs.Given.{alternate_by, message_by};
 ghost use Rattle.rb_proc.specs.Runs.{done_or_running};
@@ -198,49 +199,19 @@ pub fn cursor_of<L: Ledger>(
     }
 }
 
-/// The recovery block that a process at an address enters, if it does.
-pub fn entry_at(code: &Code, at: u32) -> Option<BlockFacts>
-    requires { IsExecutable (plain code.now) }
-    ensures entry { EntryIs
-        (wants_there (plain code.now) (slice_get (plain code.now).instrs at) (slice_get (plain code.now).instrs (at + 1))) result }
-    ensures within { IfSome result (λ facts. at + 1 < length code.now.instrs.items) }
+/// What is known of a recovery block at its entry.
+#[inline(always)]
+pub fn facts_of(code: &Code, block: u32) -> BlockFacts
+    requires code { IsExecutable (plain code.now) }
+    requires block { block < length code.now.blocks.items }
+    ensures { Enters (facts result) ≡ enters block (slice_get (plain code.now).blocks block) }
 {
-    match code.instrs.get(at as usize) {
-        None => None,
-        Some(Instr::Done) => None,
-        Some(_) => match code.instrs.get(at as usize + 1) {
-            None => None,
-            Some(instr) => entry_of(code, *instr),
-        },
-    }
-}
-
-// The recovery block that an instruction enters, if it does.
-fn entry_of(code: &Code, instr: Instr) -> Option<BlockFacts>
-    requires { IsExecutable (plain code.now) }
-    ensures { EntryIs (wants_by (plain code.now) instr) result }
-{
-    match instr {
-        Instr::Enter(block) => facts_at(code, block),
-        _ => None,
-    }
-}
-
-// What is known of a recovery block at its entry.
-fn facts_at(code: &Code, block: u32) -> Option<BlockFacts>
-    requires { IsExecutable (plain code.now) }
-    ensures { EntryIs (enters block (slice_get (plain code.now).blocks block)) result }
-{
-    if (block as usize) < code.blocks.len() {
-        let one = &code.blocks[block as usize];
-        Some(BlockFacts {
-            number: block,
-            line: one.line,
-            conversation: one.conversation,
-            bound: one.bound,
-            alternates: one.alternates.len() as u32,
-        })
-    } else {
-        None
+    let one = &code.blocks[block as usize];
+    BlockFacts {
+        number: block,
+        line: one.line,
+        conversation: one.conversation,
+        bound: one.bound,
+        alternates: one.alternates.len() as u32,
     }
 }

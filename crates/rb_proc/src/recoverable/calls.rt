@@ -1,6 +1,7 @@
 //! The open calls of a process, whose words lie on top of the others.
 
-ghost use Rattle.std.specs.Prelude.{◌≡◌, ◌+◌, ◌*◌, ◌<◌, ◌≤◌, pos, List, ◌∷◌, ◌++◌, length, take, replicate};
+ghost use Rattle.std.specs.Prelude.{◌≡◌, ◌+◌, ◌*◌, ◌<◌, ◌≤◌, pos, List, ◌∷◌, ◌++◌, length, take, replicate, IfSome};
+ghost use Rattle.std.specs.Option.{unwrap_or};
 ghost use Rattle.rb_base.specs.declared.limits.TheConstants.{MOST_OPEN_CALLS};
 ghost use Rattle.rb_world.specs.World.{last_of, copy_of};
 ghost use Rattle.rb_code.specs.Instructions.Plain.{Part};
@@ -23,17 +24,16 @@ impl<L: Ledger> Recoverable<L> {
         self.calls.len()
     }
 
-    /// Where the words of the running call begin, or those of the main body.
-    pub fn base(&self, body: u32) -> u32
-        requires { 0 < body }
-        ensures base { (part : Part) → body_place part ≡ body → result ≡ base_of part self.now.calls }
-        ensures some { 0 < result }
+    /// Where the words of the running call begin, if one is open.
+    pub fn call_base(&self) -> Option<u32>
+        ensures base { (part : Part) → base_of part self.now.calls ≡ unwrap_or result (body_place part) }
+        ensures some { IfSome result (λ base. 0 < base) }
     {
         let count = self.calls.len();
         if count == 0 {
-            body
+            None
         } else {
-            self.calls[count - 1].base
+            Some(self.calls[count - 1].base)
         }
     }
 

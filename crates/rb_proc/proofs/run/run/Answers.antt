@@ -45,7 +45,8 @@ act-requires-clause-ready g c =
     let most = most_steps code in
     let end = execute code see most c.args.from c.args.operands.now first in
     let i = c.instr_at-instr.result.now in
-    let q = fetched code see (IsUnchanged first) calls start most c.turn.at xs m end c.turn.invariant.runs i (c.instr_at-instr.ensures ∙ ap (λ (xs : List Instr). get_or xs c.turn.at c.instr_at-instr.result.now) c.as_slice-instrs.ensures.value) in
+    let q = fetched code see (IsUnchanged first) calls start most c.turn.at xs m end c.turn.invariant.runs i
+    (c.instr_at-instr.ensures ∙ ap (λ (xs : List Instr). get_or xs c.turn.at c.instr_at-instr.result.now) c.as_slice-instrs.ensures.value) in
     subst (λ (ls : List (Level Copy)). Ready code (see_of c.args.sight.now ls) i xs m) (sym c.turn.invariant.levels)
     (ready_here code see (IsUnchanged first) calls start most c.turn.at xs m end c.turn.invariant.runs i q)
 
@@ -61,7 +62,8 @@ act-requires-clause-cursor g c =
     let most = most_steps code in
     let end = execute code see most c.args.from c.args.operands.now first in
     let i = c.instr_at-instr.result.now in
-    let q = fetched code see (IsUnchanged first) calls start most c.turn.at xs m end c.turn.invariant.runs i (c.instr_at-instr.ensures ∙ ap (λ (xs : List Instr). get_or xs c.turn.at c.instr_at-instr.result.now) c.as_slice-instrs.ensures.value) in
+    let q = fetched code see (IsUnchanged first) calls start most c.turn.at xs m end c.turn.invariant.runs i
+    (c.instr_at-instr.ensures ∙ ap (λ (xs : List Instr). get_or xs c.turn.at c.instr_at-instr.result.now) c.as_slice-instrs.ensures.value) in
     subst (λ (ls : List (Level Copy)). CursorRises code (see_of c.args.sight.now ls) c.turn.memory.words i) (sym c.turn.invariant.levels)
     (rises code see (IsUnchanged first) calls start most c.turn.at xs m end c.turn.invariant.runs i q c.turn.invariant.cursors)
 
@@ -77,7 +79,8 @@ act-requires-clause-stays g c =
     let most = most_steps code in
     let end = execute code see most c.args.from c.args.operands.now first in
     let i = c.instr_at-instr.result.now in
-    let q = fetched code see (IsUnchanged first) calls start most c.turn.at xs m end c.turn.invariant.runs i (c.instr_at-instr.ensures ∙ ap (λ (xs : List Instr). get_or xs c.turn.at c.instr_at-instr.result.now) c.as_slice-instrs.ensures.value) in
+    let q = fetched code see (IsUnchanged first) calls start most c.turn.at xs m end c.turn.invariant.runs i
+    (c.instr_at-instr.ensures ∙ ap (λ (xs : List Instr). get_or xs c.turn.at c.instr_at-instr.result.now) c.as_slice-instrs.ensures.value) in
     subst
     (λ (ls : List (Level Copy)). LeavesEnough (entry_calls (copy_of (last_of ls)))
     (acted code (see_of c.args.sight.now ls) i c.turn.at xs m))
@@ -96,7 +99,8 @@ turn-smaller g c =
     let most = most_steps code in
     let end = execute code see most c.args.from c.args.operands.now first in
     let i = c.instr_at-instr.result.now in
-    let q = fetched code see (IsUnchanged first) calls start most c.turn.at xs m end c.turn.invariant.runs i (c.instr_at-instr.ensures ∙ ap (λ (xs : List Instr). get_or xs c.turn.at c.instr_at-instr.result.now) c.as_slice-instrs.ensures.value) in
+    let q = fetched code see (IsUnchanged first) calls start most c.turn.at xs m end c.turn.invariant.runs i
+    (c.instr_at-instr.ensures ∙ ap (λ (xs : List Instr). get_or xs c.turn.at c.instr_at-instr.result.now) c.as_slice-instrs.ensures.value) in
     let moved = subst
     (λ (ls : List (Level Copy)). Going c.in-Go.to c.act.new.operands
     (whole code.texts c.act.new.bench c.act.new.memory c.act.new.mails)
@@ -117,7 +121,8 @@ turn-preserved g c =
     let most = most_steps code in
     let end = execute code see most c.args.from c.args.operands.now first in
     let i = c.instr_at-instr.result.now in
-    let q = fetched code see (IsUnchanged first) calls start most c.turn.at xs m end c.turn.invariant.runs i (c.instr_at-instr.ensures ∙ ap (λ (xs : List Instr). get_or xs c.turn.at c.instr_at-instr.result.now) c.as_slice-instrs.ensures.value) in
+    let q = fetched code see (IsUnchanged first) calls start most c.turn.at xs m end c.turn.invariant.runs i
+    (c.instr_at-instr.ensures ∙ ap (λ (xs : List Instr). get_or xs c.turn.at c.instr_at-instr.result.now) c.as_slice-instrs.ensures.value) in
     let moved = subst
     (λ (ls : List (Level Copy)). Going c.in-Go.to c.act.new.operands
     (whole code.texts c.act.new.bench c.act.new.memory c.act.new.mails)
@@ -147,7 +152,8 @@ returns-in-Stop-clause-ended g c =
     let most = most_steps code in
     let end = execute code see most c.args.from c.args.operands.now first in
     let i = c.instr_at-instr.result.now in
-    let q = fetched code see (IsUnchanged first) calls start most c.turn.at xs m end c.turn.invariant.runs i (c.instr_at-instr.ensures ∙ ap (λ (xs : List Instr). get_or xs c.turn.at c.instr_at-instr.result.now) c.as_slice-instrs.ensures.value) in
+    let q = fetched code see (IsUnchanged first) calls start most c.turn.at xs m end c.turn.invariant.runs i
+    (c.instr_at-instr.ensures ∙ ap (λ (xs : List Instr). get_or xs c.turn.at c.instr_at-instr.result.now) c.as_slice-instrs.ensures.value) in
     let moved = subst (λ (ls : List (Level Copy)). (Stopped c.turn.at (whole code.texts c.act.new.bench c.act.new.memory c.act.new.mails))
     ≡ acted code (see_of c.args.sight.now ls) i c.turn.at xs m) c.turn.invariant.levels c.in-Stop.ensures.moved in
     over code see (IsUnchanged first) calls start most c.turn.at xs m end c.turn.invariant.runs i q
@@ -171,7 +177,8 @@ returns-in-Accepts-clause-ended g c =
     let most = most_steps code in
     let end = execute code see most c.args.from c.args.operands.now first in
     let i = c.instr_at-instr.result.now in
-    let q = fetched code see (IsUnchanged first) calls start most c.turn.at xs m end c.turn.invariant.runs i (c.instr_at-instr.ensures ∙ ap (λ (xs : List Instr). get_or xs c.turn.at c.instr_at-instr.result.now) c.as_slice-instrs.ensures.value) in
+    let q = fetched code see (IsUnchanged first) calls start most c.turn.at xs m end c.turn.invariant.runs i
+    (c.instr_at-instr.ensures ∙ ap (λ (xs : List Instr). get_or xs c.turn.at c.instr_at-instr.result.now) c.as_slice-instrs.ensures.value) in
     let moved = subst (λ (ls : List (Level Copy)). (Accepts c.in-Accepts.to (whole code.texts c.act.new.bench c.act.new.memory c.act.new.mails))
     ≡ acted code (see_of c.args.sight.now ls) i c.turn.at xs m) c.turn.invariant.levels c.in-Accepts.ensures.moved in
     over code see (IsUnchanged first) calls start most c.turn.at xs m end c.turn.invariant.runs i q
@@ -189,14 +196,16 @@ returns-in-Accepts-clause-kept g c =
     let most = most_steps code in
     let end = execute code see most c.args.from c.args.operands.now first in
     let i = c.instr_at-instr.result.now in
-    let q = fetched code see (IsUnchanged first) calls start most c.turn.at xs m end c.turn.invariant.runs i (c.instr_at-instr.ensures ∙ ap (λ (xs : List Instr). get_or xs c.turn.at c.instr_at-instr.result.now) c.as_slice-instrs.ensures.value) in
+    let q = fetched code see (IsUnchanged first) calls start most c.turn.at xs m end c.turn.invariant.runs i
+    (c.instr_at-instr.ensures ∙ ap (λ (xs : List Instr). get_or xs c.turn.at c.instr_at-instr.result.now) c.as_slice-instrs.ensures.value) in
     let moved = subst (λ (ls : List (Level Copy)). (Accepts c.in-Accepts.to (whole code.texts c.act.new.bench c.act.new.memory c.act.new.mails))
     ≡ acted code (see_of c.args.sight.now ls) i c.turn.at xs m) c.turn.invariant.levels c.in-Accepts.ensures.moved in
     let none = unchanged code see (IsUnchanged first) calls start most c.turn.at xs m end c.turn.invariant.runs i q
     (Accepts c.in-Accepts.to (whole code.texts c.act.new.bench c.act.new.memory c.act.new.mails)) moved tt in (
       c.in-Accepts.ensures.kept.0
           ∙ same_contents c.args.memory.now c.turn.memory (pieces_in code.texts c.args.bench.now)
-          (pieces_in code.texts c.turn.bench) c.args.bench.now.counters c.turn.bench.counters c.args.mails.now c.turn.mails none c.turn.invariant.levels c.turn.invariant.waiting,
+          (pieces_in code.texts c.turn.bench) c.args.bench.now.counters c.turn.bench.counters c.args.mails.now c.turn.mails none
+          c.turn.invariant.levels c.turn.invariant.waiting,
       c.in-Accepts.ensures.kept.1 ∙ none.slots,
     )
 
@@ -212,7 +221,8 @@ returns-in-Trap-clause-ended g c =
     let most = most_steps code in
     let end = execute code see most c.args.from c.args.operands.now first in
     let i = c.instr_at-instr.result.now in
-    let q = fetched code see (IsUnchanged first) calls start most c.turn.at xs m end c.turn.invariant.runs i (c.instr_at-instr.ensures ∙ ap (λ (xs : List Instr). get_or xs c.turn.at c.instr_at-instr.result.now) c.as_slice-instrs.ensures.value) in
+    let q = fetched code see (IsUnchanged first) calls start most c.turn.at xs m end c.turn.invariant.runs i
+    (c.instr_at-instr.ensures ∙ ap (λ (xs : List Instr). get_or xs c.turn.at c.instr_at-instr.result.now) c.as_slice-instrs.ensures.value) in
     let moved = subst
     (λ (ls : List (Level Copy)). (Trapped c.in-Trap.cause)
     ≡ acted code (see_of c.args.sight.now ls) i c.turn.at xs m) c.turn.invariant.levels c.in-Trap.ensures.moved in
@@ -230,7 +240,8 @@ returns-in-Trap-clause-kept g c =
     let most = most_steps code in
     let end = execute code see most c.args.from c.args.operands.now first in
     let i = c.instr_at-instr.result.now in
-    let q = fetched code see (IsUnchanged first) calls start most c.turn.at xs m end c.turn.invariant.runs i (c.instr_at-instr.ensures ∙ ap (λ (xs : List Instr). get_or xs c.turn.at c.instr_at-instr.result.now) c.as_slice-instrs.ensures.value) in
+    let q = fetched code see (IsUnchanged first) calls start most c.turn.at xs m end c.turn.invariant.runs i
+    (c.instr_at-instr.ensures ∙ ap (λ (xs : List Instr). get_or xs c.turn.at c.instr_at-instr.result.now) c.as_slice-instrs.ensures.value) in
     let moved = subst
     (λ (ls : List (Level Copy)). (Trapped c.in-Trap.cause)
     ≡ acted code (see_of c.args.sight.now ls) i c.turn.at xs m) c.turn.invariant.levels c.in-Trap.ensures.moved in
@@ -238,7 +249,8 @@ returns-in-Trap-clause-kept g c =
     (Trapped c.in-Trap.cause) moved tt in (
       c.in-Trap.ensures.kept.0
           ∙ same_contents c.args.memory.now c.turn.memory (pieces_in code.texts c.args.bench.now)
-          (pieces_in code.texts c.turn.bench) c.args.bench.now.counters c.turn.bench.counters c.args.mails.now c.turn.mails none c.turn.invariant.levels c.turn.invariant.waiting,
+          (pieces_in code.texts c.turn.bench) c.args.bench.now.counters c.turn.bench.counters c.args.mails.now c.turn.mails none
+          c.turn.invariant.levels c.turn.invariant.waiting,
       c.in-Trap.ensures.kept.1 ∙ none.slots,
     )
 
@@ -266,7 +278,8 @@ returns-in-Stop-clause-work g c =
     let most = most_steps code in
     let end = execute code see most c.args.from c.args.operands.now first in
     let i = c.instr_at-instr.result.now in
-    let q = fetched code see (IsUnchanged first) calls start most c.turn.at xs m end c.turn.invariant.runs i (c.instr_at-instr.ensures ∙ ap (λ (xs : List Instr). get_or xs c.turn.at c.instr_at-instr.result.now) c.as_slice-instrs.ensures.value) in
+    let q = fetched code see (IsUnchanged first) calls start most c.turn.at xs m end c.turn.invariant.runs i
+    (c.instr_at-instr.ensures ∙ ap (λ (xs : List Instr). get_or xs c.turn.at c.instr_at-instr.result.now) c.as_slice-instrs.ensures.value) in
     omega (
       arith,
       names_here code see (IsUnchanged first) calls start most c.turn.at xs m end c.turn.invariant.runs i q,
@@ -286,7 +299,8 @@ returns-in-Accepts-clause-work g c =
     let most = most_steps code in
     let end = execute code see most c.args.from c.args.operands.now first in
     let i = c.instr_at-instr.result.now in
-    let q = fetched code see (IsUnchanged first) calls start most c.turn.at xs m end c.turn.invariant.runs i (c.instr_at-instr.ensures ∙ ap (λ (xs : List Instr). get_or xs c.turn.at c.instr_at-instr.result.now) c.as_slice-instrs.ensures.value) in
+    let q = fetched code see (IsUnchanged first) calls start most c.turn.at xs m end c.turn.invariant.runs i
+    (c.instr_at-instr.ensures ∙ ap (λ (xs : List Instr). get_or xs c.turn.at c.instr_at-instr.result.now) c.as_slice-instrs.ensures.value) in
     omega (
       arith,
       names_here code see (IsUnchanged first) calls start most c.turn.at xs m end c.turn.invariant.runs i q,
@@ -306,7 +320,8 @@ returns-in-Trap-clause-work g c =
     let most = most_steps code in
     let end = execute code see most c.args.from c.args.operands.now first in
     let i = c.instr_at-instr.result.now in
-    let q = fetched code see (IsUnchanged first) calls start most c.turn.at xs m end c.turn.invariant.runs i (c.instr_at-instr.ensures ∙ ap (λ (xs : List Instr). get_or xs c.turn.at c.instr_at-instr.result.now) c.as_slice-instrs.ensures.value) in
+    let q = fetched code see (IsUnchanged first) calls start most c.turn.at xs m end c.turn.invariant.runs i
+    (c.instr_at-instr.ensures ∙ ap (λ (xs : List Instr). get_or xs c.turn.at c.instr_at-instr.result.now) c.as_slice-instrs.ensures.value) in
     omega (
       arith,
       names_here code see (IsUnchanged first) calls start most c.turn.at xs m end c.turn.invariant.runs i q,
@@ -327,5 +342,6 @@ returns-in-Stop-clause-done g c =
     let end = execute code see most c.args.from c.args.operands.now first in
     let i = c.instr_at-instr.result.now in
     let next = slice_get code.instrs (c.turn.at + 1) in
-    let q = fetched code see (IsUnchanged first) calls start most c.turn.at xs m end c.turn.invariant.runs i (c.instr_at-instr.ensures ∙ ap (λ (xs : List Instr). get_or xs c.turn.at c.instr_at-instr.result.now) c.as_slice-instrs.ensures.value) in
+    let q = fetched code see (IsUnchanged first) calls start most c.turn.at xs m end c.turn.invariant.runs i
+    (c.instr_at-instr.ensures ∙ ap (λ (xs : List Instr). get_or xs c.turn.at c.instr_at-instr.result.now) c.as_slice-instrs.ensures.value) in
     ap (λ (o : Option Instr). status_at (wants_there code o next)) q ∙ c.is_done.ensures code next

@@ -18,7 +18,9 @@ run-ended-requires-clause-safe g c =
     let settles =
     subst (λ (old : Seen). (groups : List Membership) × SettlesSoundly code groups old.process.state old.process.levels)
     (sym c.self.view_is) c.requires.settles in
-    settle_safe code i.memory i.process i.at i.last_kept c.clear.new.self c.none-operands.result c.new-sight.result c.new-sight.ensures.process c.new-sight.ensures.message (ap (λ (w : Wanted). alternate_by w i.memory.levels) c.new-sight.ensures.wanted) c.none-operands.ensures c.clear.ensures.line c.clear.ensures.counters
+    settle_safe code i.memory i.process i.at i.last_kept c.clear.new.self c.none-operands.result c.new-sight.result c.new-sight.ensures.process
+    c.new-sight.ensures.message (ap (λ (w : Wanted). alternate_by w i.memory.levels) c.new-sight.ensures.wanted) c.none-operands.ensures
+    c.clear.ensures.line c.clear.ensures.counters
     settles.0 settles.1
 
 pub run-ended-requires-clause-stays : goal.run-ended-requires-clause-stays
@@ -30,14 +32,18 @@ run-ended-requires-clause-stays g c =
     (sym c.self.view_is) c.requires.settles in (
       [],
       none_rise code c.new-sight.result.process,
-      settle_stays code i.memory i.process i.at i.last_kept c.clear.new.self c.none-operands.result c.new-sight.result c.new-sight.ensures.process c.new-sight.ensures.message (ap (λ (w : Wanted). alternate_by w i.memory.levels) c.new-sight.ensures.wanted) c.none-operands.ensures c.clear.ensures.line c.clear.ensures.counters settles.0 settles.1,
+      settle_stays code i.memory i.process i.at i.last_kept c.clear.new.self c.none-operands.result c.new-sight.result c.new-sight.ensures.process
+          c.new-sight.ensures.message (ap (λ (w : Wanted). alternate_by w i.memory.levels) c.new-sight.ensures.wanted) c.none-operands.ensures
+          c.clear.ensures.line c.clear.ensures.counters settles.0 settles.1,
     )
 
 pub returns-clause-settled : goal.returns-clause-settled
 returns-clause-settled g c =
     let code = plain c.args.code.now in
     let i = c.self.inside in
-    settle_seen code i.memory i.process i.at i.last_kept c.clear.new.self c.none-operands.result c.new-sight.result c.new-sight.ensures.process c.new-sight.ensures.message (ap (λ (w : Wanted). alternate_by w i.memory.levels) c.new-sight.ensures.wanted) c.none-operands.ensures c.clear.ensures.line c.clear.ensures.counters
+    settle_seen code i.memory i.process i.at i.last_kept c.clear.new.self c.none-operands.result c.new-sight.result c.new-sight.ensures.process
+    c.new-sight.ensures.message (ap (λ (w : Wanted). alternate_by w i.memory.levels) c.new-sight.ensures.wanted) c.none-operands.ensures
+    c.clear.ensures.line c.clear.ensures.counters
     c.run-ended.result c.run-ended.new.memory (pieces_in code.texts c.run-ended.new.bench) c.run-ended.new.bench.counters c.run-ended.new.mails
     c.status_here-self-inside.result c.end_of-at.result c.run-ended.ensures.ended c.run-ended.ensures.kept c.end_of-at.ensures c.status_here-self-inside.ensures
     ∙ ap (λ (old : Seen). record old { process = settled (kind_of code) old.process.state old.process.levels }) c.self.view_is
@@ -46,6 +52,8 @@ pub returns-clause-work : goal.returns-clause-work
 returns-clause-work g c =
     let code = plain c.args.code.now in
     let i = c.self.inside in
-    let same = settle_named code i.memory i.process i.at i.last_kept c.clear.new.self c.none-operands.result c.new-sight.result c.new-sight.ensures.process c.new-sight.ensures.message (ap (λ (w : Wanted). alternate_by w i.memory.levels) c.new-sight.ensures.wanted) c.none-operands.ensures c.clear.ensures.line c.clear.ensures.counters in
+    let same = settle_named code i.memory i.process i.at i.last_kept c.clear.new.self c.none-operands.result c.new-sight.result
+    c.new-sight.ensures.process c.new-sight.ensures.message (ap (λ (w : Wanted). alternate_by w i.memory.levels) c.new-sight.ensures.wanted)
+    c.none-operands.ensures c.clear.ensures.line c.clear.ensures.counters in
     subst (λ (old : Seen). c.run-ended.new.steps ≤ c.args.steps.now + 3 * named_settling code old.process.state old.process.levels) c.self.view_is
     (omega (arith, same, c.run-ended.ensures.work))

@@ -32,7 +32,8 @@ run-requires-clause-safe g c =
     (sym c.self.view_is) c.requires.serves in
     step_safe code i.memory i.process i.at i.last_kept i.at_line i.status c.args.mails.now c.args.there c.clear.new.self c.none-operands.result c.new-sight.result
     c.args.wanted (alternate_by c.args.wanted i.memory.levels) c.message_of-message.result wanted refl c.message_of-message.ensures.message
-    c.new-sight.ensures.process c.new-sight.ensures.message (ap (λ (w : Wanted). alternate_by w i.memory.levels) c.new-sight.ensures.wanted) c.none-operands.ensures c.clear.ensures.line c.clear.ensures.counters
+    c.new-sight.ensures.process c.new-sight.ensures.message (ap (λ (w : Wanted). alternate_by w i.memory.levels) c.new-sight.ensures.wanted)
+    c.none-operands.ensures c.clear.ensures.line c.clear.ensures.counters
     stands.0 stands.1 serves
 
 pub run-requires-clause-stays : goal.run-requires-clause-stays
@@ -53,7 +54,8 @@ run-requires-clause-stays g c =
           (subst (λ (old : Seen). CursorsRise code old.process.state.process old.process.state.words) (sym c.self.view_is) c.requires.cursors),
       step_stays code i.memory i.process i.at i.last_kept i.at_line i.status c.args.mails.now c.args.there c.clear.new.self c.none-operands.result c.new-sight.result
           c.args.wanted (alternate_by c.args.wanted i.memory.levels) c.message_of-message.result wanted refl c.message_of-message.ensures.message
-          c.new-sight.ensures.process c.new-sight.ensures.message (ap (λ (w : Wanted). alternate_by w i.memory.levels) c.new-sight.ensures.wanted) c.none-operands.ensures c.clear.ensures.line c.clear.ensures.counters
+          c.new-sight.ensures.process c.new-sight.ensures.message (ap (λ (w : Wanted). alternate_by w i.memory.levels) c.new-sight.ensures.wanted)
+          c.none-operands.ensures c.clear.ensures.line c.clear.ensures.counters
           stands.0 stands.1 serves,
     )
 
@@ -65,7 +67,8 @@ returns-in-Stop-clause-came g c =
     let e = c.in-Stop.ensures.ended
     ∙ executes code i.memory i.process i.at i.last_kept i.at_line i.status c.args.mails.now c.args.there c.clear.new.self c.none-operands.result c.new-sight.result
     c.args.wanted (alternate_by c.args.wanted i.memory.levels) c.message_of-message.result wanted refl c.message_of-message.ensures.message
-    c.new-sight.ensures.process c.new-sight.ensures.message (ap (λ (w : Wanted). alternate_by w i.memory.levels) c.new-sight.ensures.wanted) c.none-operands.ensures c.clear.ensures.line c.clear.ensures.counters in
+    c.new-sight.ensures.process c.new-sight.ensures.message (ap (λ (w : Wanted). alternate_by w i.memory.levels) c.new-sight.ensures.wanted)
+    c.none-operands.ensures c.clear.ensures.line c.clear.ensures.counters in
     subst (λ (old : Seen). StepsTo code old.process c.args.mails.now
     (step_of code old.process c.args.mails.now c.args.there) outcome.Went
     (record {
@@ -109,7 +112,8 @@ returns-in-Accepts-clause-came g c =
     let e = c.in-Accepts.ensures.ended
     ∙ executes code i.memory i.process i.at i.last_kept i.at_line i.status c.args.mails.now c.args.there c.clear.new.self c.none-operands.result c.new-sight.result
     c.args.wanted (alternate_by c.args.wanted i.memory.levels) c.message_of-message.result wanted refl c.message_of-message.ensures.message
-    c.new-sight.ensures.process c.new-sight.ensures.message (ap (λ (w : Wanted). alternate_by w i.memory.levels) c.new-sight.ensures.wanted) c.none-operands.ensures c.clear.ensures.line c.clear.ensures.counters in
+    c.new-sight.ensures.process c.new-sight.ensures.message (ap (λ (w : Wanted). alternate_by w i.memory.levels) c.new-sight.ensures.wanted)
+    c.none-operands.ensures c.clear.ensures.line c.clear.ensures.counters in
     subst (λ (old : Seen). StepsTo code old.process c.args.mails.now
     (step_of code old.process c.args.mails.now c.args.there) outcome.Accepts
     ((seen c.run.new.memory i.process c.in-Accepts.at i.last_kept i.at_line i.status).process) c.run.new.mails) c.self.view_is
@@ -135,7 +139,8 @@ returns-in-Trap-clause-came g c =
     let e = c.in-Trap.ensures.ended
     ∙ executes code i.memory i.process i.at i.last_kept i.at_line i.status c.args.mails.now c.args.there c.clear.new.self c.none-operands.result c.new-sight.result
     c.args.wanted (alternate_by c.args.wanted i.memory.levels) c.message_of-message.result wanted refl c.message_of-message.ensures.message
-    c.new-sight.ensures.process c.new-sight.ensures.message (ap (λ (w : Wanted). alternate_by w i.memory.levels) c.new-sight.ensures.wanted) c.none-operands.ensures c.clear.ensures.line c.clear.ensures.counters in
+    c.new-sight.ensures.process c.new-sight.ensures.message (ap (λ (w : Wanted). alternate_by w i.memory.levels) c.new-sight.ensures.wanted)
+    c.none-operands.ensures c.clear.ensures.line c.clear.ensures.counters in
     subst (λ (old : Seen). StepsTo code old.process c.args.mails.now
     (step_of code old.process c.args.mails.now c.args.there) (outcome.Trap c.in-Trap.cause)
     ((seen c.run.new.memory i.process i.at i.last_kept i.at_line i.status).process) c.run.new.mails) c.self.view_is
@@ -148,9 +153,11 @@ returns-in-Stop-clause-work g c =
     let code = plain c.args.code.now in
     let i = c.self.inside in
     let wanted = subst (λ (old : Seen). c.args.wanted ≡ wanted_by (want code old.process.state)) (sym c.self.view_is) c.requires.wanted in
-    let same = step_named code i.memory i.process i.at i.last_kept i.at_line i.status c.args.mails.now c.args.there c.clear.new.self c.none-operands.result c.new-sight.result
+    let same = step_named code i.memory i.process i.at i.last_kept i.at_line i.status c.args.mails.now c.args.there c.clear.new.self
+    c.none-operands.result c.new-sight.result
     c.args.wanted (alternate_by c.args.wanted i.memory.levels) c.message_of-message.result wanted refl c.message_of-message.ensures.message
-    c.new-sight.ensures.process c.new-sight.ensures.message (ap (λ (w : Wanted). alternate_by w i.memory.levels) c.new-sight.ensures.wanted) c.none-operands.ensures c.clear.ensures.line c.clear.ensures.counters in
+    c.new-sight.ensures.process c.new-sight.ensures.message (ap (λ (w : Wanted). alternate_by w i.memory.levels) c.new-sight.ensures.wanted)
+    c.none-operands.ensures c.clear.ensures.line c.clear.ensures.counters in
     subst (λ (old : Seen). c.run.new.steps ≤ c.args.steps.now + 1 + 3 * named_in_step code old.process c.args.mails.now c.args.there) c.self.view_is
     (omega (arith, same, c.message_of-message.ensures.ticks, c.in-Stop.ensures.work))
 
@@ -159,9 +166,11 @@ returns-in-Accepts-clause-work g c =
     let code = plain c.args.code.now in
     let i = c.self.inside in
     let wanted = subst (λ (old : Seen). c.args.wanted ≡ wanted_by (want code old.process.state)) (sym c.self.view_is) c.requires.wanted in
-    let same = step_named code i.memory i.process i.at i.last_kept i.at_line i.status c.args.mails.now c.args.there c.clear.new.self c.none-operands.result c.new-sight.result
+    let same = step_named code i.memory i.process i.at i.last_kept i.at_line i.status c.args.mails.now c.args.there c.clear.new.self
+    c.none-operands.result c.new-sight.result
     c.args.wanted (alternate_by c.args.wanted i.memory.levels) c.message_of-message.result wanted refl c.message_of-message.ensures.message
-    c.new-sight.ensures.process c.new-sight.ensures.message (ap (λ (w : Wanted). alternate_by w i.memory.levels) c.new-sight.ensures.wanted) c.none-operands.ensures c.clear.ensures.line c.clear.ensures.counters in
+    c.new-sight.ensures.process c.new-sight.ensures.message (ap (λ (w : Wanted). alternate_by w i.memory.levels) c.new-sight.ensures.wanted)
+    c.none-operands.ensures c.clear.ensures.line c.clear.ensures.counters in
     subst (λ (old : Seen). c.run.new.steps ≤ c.args.steps.now + 1 + 3 * named_in_step code old.process c.args.mails.now c.args.there) c.self.view_is
     (omega (arith, same, c.message_of-message.ensures.ticks, c.in-Accepts.ensures.work))
 
@@ -170,8 +179,10 @@ returns-in-Trap-clause-work g c =
     let code = plain c.args.code.now in
     let i = c.self.inside in
     let wanted = subst (λ (old : Seen). c.args.wanted ≡ wanted_by (want code old.process.state)) (sym c.self.view_is) c.requires.wanted in
-    let same = step_named code i.memory i.process i.at i.last_kept i.at_line i.status c.args.mails.now c.args.there c.clear.new.self c.none-operands.result c.new-sight.result
+    let same = step_named code i.memory i.process i.at i.last_kept i.at_line i.status c.args.mails.now c.args.there c.clear.new.self
+    c.none-operands.result c.new-sight.result
     c.args.wanted (alternate_by c.args.wanted i.memory.levels) c.message_of-message.result wanted refl c.message_of-message.ensures.message
-    c.new-sight.ensures.process c.new-sight.ensures.message (ap (λ (w : Wanted). alternate_by w i.memory.levels) c.new-sight.ensures.wanted) c.none-operands.ensures c.clear.ensures.line c.clear.ensures.counters in
+    c.new-sight.ensures.process c.new-sight.ensures.message (ap (λ (w : Wanted). alternate_by w i.memory.levels) c.new-sight.ensures.wanted)
+    c.none-operands.ensures c.clear.ensures.line c.clear.ensures.counters in
     subst (λ (old : Seen). c.run.new.steps ≤ c.args.steps.now + 1 + 3 * named_in_step code old.process c.args.mails.now c.args.there) c.self.view_is
     (omega (arith, same, c.message_of-message.ensures.ticks, c.in-Trap.ensures.work))

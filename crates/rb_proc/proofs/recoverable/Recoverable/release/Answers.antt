@@ -15,7 +15,8 @@ invariant_of-self g c =
     (λ (two : TwoLists). IsTied c.write.new.cells c.write.new.self i.calls.items (vec_capacity i.calls) i.marks.items
     (vec_capacity i.marks) two)
     (sym c.release.ensures)
-    (tied_release _ _ _ _ _ _ _ c.self.invariant none c.write.new.cells c.write.new.self c.write.ensures.cells c.write.ensures.copies c.write.ensures.levels c.write.ensures.fits c.write.ensures.limits)
+    (tied_release _ _ _ _ _ _ _ c.self.invariant none c.write.new.cells c.write.new.self c.write.ensures.cells c.write.ensures.copies
+    c.write.ensures.levels c.write.ensures.fits c.write.ensures.limits)
 
 pub returns-clause-lines : goal.returns-clause-lines
 returns-clause-lines g c =
