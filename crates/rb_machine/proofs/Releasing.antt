@@ -2,6 +2,7 @@
 pub mod EndsTold
 pub mod Finished
 pub mod Quiet
+pub mod Waited
 pub mod Dropped
 pub mod LinesLent
 pub mod Released

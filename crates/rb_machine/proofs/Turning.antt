@@ -1,6 +1,7 @@
 -- One turn of the parts, by what stands first in the process.
 pub mod Acting
 pub mod Entering
+pub mod Entered
 pub mod TakenSteps
 pub mod TestLines
 pub mod TurnsTaken
@@ -9,3 +10,4 @@ pub mod StepTaken
 pub mod ReadyFor
 pub mod InnermostLevel
 pub mod StepFacts
+pub mod Ended

@@ -3,6 +3,7 @@ pub mod Linked
 pub mod Known
 pub mod Worlds
 pub mod Cascade
+pub mod Receipts
 pub mod Rejections
 pub mod Channels
 pub mod AtWork
@@ -17,6 +18,7 @@ pub mod Resting
 pub mod Machine
 pub mod Entries
 pub mod Turns
+pub mod Ends
 pub mod Rising
 pub mod Survivors
 pub mod TurnLaws

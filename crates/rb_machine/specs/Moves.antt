@@ -12,6 +12,7 @@ use Rattle.rb_code.specs.WordMachine.Turn.{Common, Copy, Standing, want}
 use Rattle.rb_code.specs.WordMachine.WordKind.{word_kind}
 use Rattle.rb_code.specs.WordMachine.WordRun.{WordWorld}
 use Rattle.rb_conv.specs.Conversations.{Conversation, memberships}
+use Rattle.rb_proc.specs.Entries.{WantsBlock}
 use Rattle.rb_proc.specs.Process.{Seen, alternate_for, message_for, wanted_by}
 use Rattle.rb_proc.specs.declared.answers.Wanted.{Wanted}
 use Rattle.rb_proc.specs.Sees.{AreSized}
@@ -56,11 +57,6 @@ pub record IsLeft {L : Type 0} (c : Code) (before after : Parts L) (events : Lis
   pub groups : SameGroups before.table after.table
   pub sized : AreSized c after.mails.items
   pub few : length (passes_of came.pass) + length events ≤ MOST_OPEN_LEVELS
-
--- a block is entered, which has this number
-abbrev pub WantsBlock : ℕ → Want → Type 0
-WantsBlock b (Enters facts) = facts.number ≡ b
-WantsBlock b _ = ⊥
 
 -- What process number p does in its turn, by what it is ready for: it idles, waits, enters a block, or steps, with the message that is there
 -- or without one; and a step names the words that count for what stands first.

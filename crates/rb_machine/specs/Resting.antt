@@ -1,5 +1,5 @@
 -- Processes whose turns change nothing, as long as no other process goes on.
-use Rattle.std.specs.Prelude.{◌≡◌, ◌≤◌, ◌+◌, ℕ, nat_lt, cond, Bool, true, false, List, [], count_by, length, replicate, set, slice_get, Option, Some, None}
+use Rattle.std.specs.Prelude.{◌≡◌, ◌≤◌, ℕ, nat_eq, nat_lt, cond, Bool, true, false, List, [], count_by, length, replicate, slice_get, Option, Some, None}
 use Rattle.rb_base.specs.declared.event.TurnKind.{TurnKind}
 use Rattle.rb_base.specs.declared.event.TurnKind.TheVariants.{Idle, Wait, Took, Undone}
 use Rattle.rb_world.specs.Kind.{Membership}
@@ -27,7 +27,7 @@ abbrev pub RestsAs : Code → List Membership → WordWorld → ℕ → TurnKind
 RestsAs c groups w p kind = (n : ℕ)
     → turn (word_kind c groups) n p w ≡ (w, record { kind = kind; events = []; released = replicate (length w.processes) [] })
 
--- the kind of a process's next turn, where it was noted that it rests, later than the last turn that changed something
+-- the kind of a process's next turn, where it was noted that it rests, later than the last turn in which notes were forgotten
 abbrev pub kind_noted : ℕ → Option Rest → Option TurnKind
 kind_noted changed None = None
 kind_noted changed (Some rest) = cond (nat_lt changed rest.since) (Some rest.kind) None
@@ -44,30 +44,21 @@ pub record AreNoted (c : Code) (groups : List Membership) (w : WordWorld) (rests
 abbrev pub AllRest : Code → List Membership → WordWorld → Type 0
 AllRest c groups w = (p : ℕ) → (kind : TurnKind) × RestsAs c groups w p kind
 
--- whether it was noted later than the last turn that changed something
+-- whether it was noted later than the last turn in which notes were forgotten
 abbrev pub is_noted : ℕ → Rest → Bool
 is_noted changed rest = nat_lt changed rest.since
 
--- Each process has a note, and so many of them are later than the last turn that changed something, which was taken.
+-- Each process has a note, and so many of them are later than the last turn in which notes were forgotten, which was taken.
 pub record AreTallied (processes : ℕ) (rests : List Rest) (changed noted taken : ℕ) : Type 0 where
   pub each : length rests ≡ processes
   pub last : changed ≤ taken
   pub count : noted ≡ count_by (is_noted changed) rests
-
--- What is noted after a turn: of a still one that its process rests since then, and of any other that it changed something.
-abbrev pub rests_after : Bool → List Rest → ℕ → ℕ → TurnKind → List Rest
-rests_after true rests p turn kind = set rests p (record { since = turn; kind = kind })
-rests_after false rests p turn kind = rests
 
 -- one more is noted, where it wasn't yet
 abbrev pub one_more : ℕ → Option Rest → ℕ
 one_more changed None = 0
 one_more changed (Some rest) = cond (is_noted changed rest) 0 1
 
-abbrev pub tally_after : Bool → ℕ → Option Rest → ℕ → ℕ
-tally_after true changed before noted = noted + one_more changed before
-tally_after false changed before noted = 0
-
-abbrev pub changed_after : Bool → ℕ → ℕ → ℕ
-changed_after true changed turn = changed
-changed_after false changed turn = turn
+-- In a turn that changes something the notes are forgotten, if some were made since the last such turn.
+abbrev pub changed_after : ℕ → ℕ → ℕ → ℕ
+changed_after noted changed turn = cond (nat_eq noted 0) changed turn

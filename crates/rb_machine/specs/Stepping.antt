@@ -1,5 +1,5 @@
 -- What a step of a process asks for and leaves, and an acceptance test that held.
-use Rattle.std.specs.Prelude.{◌≡◌, ℕ, ◌<◌, Bool, true, false, List, [], length, Option, Some, None}
+use Rattle.std.specs.Prelude.{◌≡◌, ℕ, ◌<◌, Bool, true, false, List, [], ◌∷◌, ◌++◌, length, Option, Some, None}
 use Rattle.rb_base.specs.declared.event.Event.{Event}
 use Rattle.rb_base.specs.declared.event.TurnKind.TheVariants.{Took}
 use Rattle.rb_cache.specs.Copies.{accepted}
@@ -16,8 +16,13 @@ use Rattle.rb_proc.specs.Runs.{CursorsRise}
 use Rattle.rb_proc.specs.Views.{IsViewOf}
 use Rattle.rb_proc.specs.declared.answers.LevelView.{LevelView}
 use Rattle.rb_proc.specs.declared.answers.Outcome.{Outcome}
+use Rattle.rb_proc.specs.declared.answers.Outcome.TheVariants as outcome
 use Rattle.rb_machine.specs.Moves.{passes_of}
+use Rattle.rb_machine.specs.Telling.{GoesOn}
 use Rattle.rb_machine.specs.Worlds.{world_of}
+use Rattle.rb_machine.specs.declared.links.Link.{Link}
+use Rattle.rb_machine.specs.declared.moves.Move.{Move}
+use Rattle.rb_machine.specs.declared.moves.Move.TheVariants as did
 
 -- these are the levels' innermost one, if there is one
 abbrev pub IsInnermost : Option (Level Copy) → Option LevelView → Type 0
@@ -41,16 +46,44 @@ pub record MayStep (c : Code) (slots : Slots) (there : Bool) (one : Seen) : Type
       (message_for c one.process.state slots there (want c one.process.state)) one.process.levels
   pub cursors : CursorsRise c one.process.state.process one.process.state.words
 
--- process number p has taken a step, and no other has changed
-pub record HasStepped (c : Code) (there : Bool) (p : ℕ) (one : Seen) (answer : Outcome) (slots slots' : Slots)
-    (procs procs' : List Seen) : Type 0 where
-  pub later : Process Standing Copy
-  pub comes : StepsTo c one.process slots (step_of c one.process slots there) answer later slots'
-  pub processes : procs' ≡ change_at p (λ _. record { process = later; waiting = [] }) procs
-
 -- a process of which a turn was kept
 abbrev pub turn_kept : ℕ → Seen → Seen
 turn_kept turn one = record one { process = record one.process { state = record one.process.state { last_kept = turn } } }
+
+-- a process has taken a step that did not trap, and its turn was kept
+pub record HasKept (c : Code) (turn : ℕ) (there : Bool) (one : Seen) (answer : Outcome) (slots slots' : Slots) (one' : Seen) : Type 0 where
+  pub later : Process Standing Copy
+  pub comes : StepsTo c one.process slots (step_of c one.process slots there) answer later slots'
+  pub kept : one' ≡ turn_kept turn (record { process = later; waiting = [] })
+
+-- What a process has done in a step: it went on, with nothing to tell or with something, or its test held; or it is to be rejected.
+abbrev pub HasDone : Code → ℕ → Bool → Seen → Move → Slots → Slots → Seen → Type 0
+HasDone c turn there one did.Went slots slots' one' = HasKept c turn there one outcome.Went slots slots' one' × GoesOn one'
+HasDone c turn there one did.Tells slots slots' one' = HasKept c turn there one outcome.Went slots slots' one'
+HasDone c turn there one did.Accepts slots slots' one' = HasKept c turn there one outcome.Accepts slots slots' one'
+HasDone c turn there one (did.Rejects left cause) slots slots' one' =
+    StepsTo c one.process slots (step_of c one.process slots there) (outcome.Trap cause) one'.process slots' × (one'.waiting ≡ [])
+    × (left ≡ length one'.process.levels)
+HasDone c turn there one did.Rests slots slots' one' = ⊥
+HasDone c turn there one did.Waits slots slots' one' = ⊥
+HasDone c turn there one (did.Enters b) slots slots' one' = ⊥
+
+-- process number p has done so, and no other has changed
+pub record HasDoneAt (c : Code) (turn : ℕ) (there : Bool) (p : ℕ) (one : Seen) (m : Move) (slots slots' : Slots)
+    (procs procs' : List Seen) : Type 0 where
+  pub later : Seen
+  pub does : HasDone c turn there one m slots slots' later
+  pub processes : procs' ≡ change_at p (λ _. later) procs
+
+-- the link of such a turn was added, unless it is undone
+abbrev pub AddsLink : Move → Link → List Link → List Link → Type 0
+AddsLink (did.Rejects left cause) link links links' = links' ≡ links
+AddsLink did.Rests link links links' = links' ≡ links ++ link ∷ []
+AddsLink did.Waits link links links' = links' ≡ links ++ link ∷ []
+AddsLink did.Went link links links' = links' ≡ links ++ link ∷ []
+AddsLink did.Tells link links links' = links' ≡ links ++ link ∷ []
+AddsLink did.Accepts link links links' = links' ≡ links ++ link ∷ []
+AddsLink (did.Enters b) link links links' = links' ≡ links ++ link ∷ []
 
 -- once the innermost level goes the process settles
 abbrev pub SettlesOnceAccepted : Code → Process Standing Copy → Type 0

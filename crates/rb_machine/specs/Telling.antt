@@ -93,9 +93,9 @@ pub record GoesOn (one : Seen) : Type 0 where
   pub running : one.process.status ≡ Running
   pub same : (c : Code) → freed_one c one ≡ record one { waiting = [] }
 
--- A step was taken after which process number p goes on, and no test line was passed: there is nothing to tell and nothing to release.
+-- Process number p goes on after a turn that took nothing back and passed no test line: there is nothing to tell and nothing to release.
 pub record IsQuiet (came : Came) (procs : List Seen) (p : ℕ) : Type 0 where
-  pub kind : came.kind ≡ Took
+  pub kind : takes_nothing_back came.kind ≡ true
   pub none : passes_of came.pass ≡ []
   pub goes_on : (one : Seen) → slice_get procs p ≡ Some one → GoesOn one
 

@@ -1,13 +1,13 @@
 //! What a turn came to before lines are released.
 
-ghost use Rattle.std.specs.Prelude.{◌≡◌, false, None};
+ghost use Rattle.std.specs.Prelude.{◌≡◌, true, false, None};
 ghost use Rattle.rb_machine.specs.Moves.{passes_of};
 ghost use Rattle.rb_machine.specs.Telling.{is_alone};
 
 use rb_base::{Event, TurnKind};
 
-/// The kind of a turn, the event of a test line that was passed in it, and whether it is known to end quietly: a step was taken after which
-/// the process goes on and there is nothing to tell or to release.
+/// The kind of a turn, the event of a test line that was passed in it, and whether it is known to end quietly: its process ran before it and
+/// goes on, and there is nothing to tell or to release.
 #[derive(Clone, Copy)]
 pub struct Came {
     pub kind: TurnKind,
@@ -27,6 +27,20 @@ impl Came {
             kind,
             pass: None,
             quiet: false,
+        }
+    }
+
+    /// A turn of this kind after which the process goes on, and there is nothing to tell or to release.
+    #[inline(always)]
+    pub fn quietly(kind: TurnKind) -> Self
+        ensures kind { result.kind ≡ kind }
+        ensures pass { result.pass ≡ None }
+        ensures quiet { result.quiet ≡ true }
+    {
+        Came {
+            kind,
+            pass: None,
+            quiet: true,
         }
     }
 

@@ -35,14 +35,16 @@ pub fn has_room<L: Ledger>(
     let Some(ends) = code.channels.get(channel as usize) else {
         return false;
     };
-    let Some(sender) = procs.get(ends.sender as usize) else {
+    let sender = ends.sender as usize;
+    let receiver = ends.receiver as usize;
+    if sender >= procs.len() {
         return false;
-    };
-    let Some(receiver) = procs.get(ends.receiver as usize) else {
+    }
+    if receiver >= procs.len() {
         return false;
-    };
-    let sent = sender.cursor(code, channel, steps);
-    let from = room_from(code, receiver, channel, steps);
+    }
+    let sent = procs[sender].cursor(code, channel, steps);
+    let from = room_from(code, &procs[receiver], channel, steps);
     is_within(sent, from, ends.size)
 }
 
@@ -64,14 +66,12 @@ pub fn message_there<L: Ledger>(
         ≡ message_given (plain code.now) memory.slots procs.now p channel result }
     ensures ticks { steps.new ≤ steps.old + 2 }
 {
-    let Some(ends) = code.channels.get(channel as usize) else {
+    let sender = code.channels[channel as usize].sender as usize;
+    if sender >= procs.len() {
         return false;
-    };
-    let Some(sender) = procs.get(ends.sender as usize) else {
-        return false;
-    };
+    }
     let receiver = &procs[p as usize];
-    let seen = seen_count(code, sender, receiver, channel, steps);
+    let seen = seen_count(code, &procs[sender], receiver, channel, steps);
     let taken = receiver.cursor(code, channel, steps);
     taken < seen
 }

@@ -1,8 +1,9 @@
 //! The entry of a recovery block, alone or as a member of a conversation.
 
-ghost use Rattle.std.specs.Prelude.{◌≡◌, ◌+◌, ◌<◌, ◌≤◌, false, [], ◌∷◌, ◌++◌, length, slice_get, vec_len, vec_capacity, Some};
+ghost use Rattle.std.specs.Prelude.{◌≡◌, ◌+◌, ◌<◌, ◌≤◌, true, [], ◌∷◌, ◌++◌, length, slice_get, vec_len, vec_capacity, Some};
 ghost use Rattle.rb_base.specs.declared.limits.TheConstants.{MOST_OPEN_LEVELS};
 ghost use Rattle.rb_base.specs.declared.event.Cause.TheVariants.{Broken};
+ghost use Rattle.rb_base.specs.declared.event.TurnKind.TheVariants.{Took};
 ghost use Rattle.rb_world.specs.Kind.{Facts, Enters};
 ghost use Rattle.rb_world.specs.Reject.{fallen};
 ghost use Rattle.rb_world.specs.Turn.{enters};
@@ -11,14 +12,15 @@ ghost use Rattle.rb_code.specs.Instructions.Plain.{Code as Plain, code as plain}
 ghost use Rattle.rb_code.specs.SoundCode.Sound.{conversation_of};
 ghost use Rattle.rb_code.specs.WordMachine.Turn.{want};
 ghost use Rattle.rb_conv.specs.Conversations.{conversation_at, talks};
-ghost use Rattle.rb_proc.specs.Entries.{entered_process};
+ghost use Rattle.rb_proc.specs.Entries.{WantsBlock, entered_process};
 ghost use Rattle.rb_proc.specs.Executable.{IsExecutable};
 ghost use Rattle.rb_proc.specs.Process.{Seen, kind_of};
 ghost use Rattle.rb_machine.specs.AtWork.{MayAct};
 ghost use Rattle.rb_machine.specs.Cascade.{SameGroups};
 ghost use Rattle.rb_machine.specs.Entries.{IsListedBlock, entry_at, joined_at};
-ghost use Rattle.rb_machine.specs.Moves.{AreAtWork, HasMoved, IsLeft, MovesAt, WantsBlock};
+ghost use Rattle.rb_machine.specs.Moves.{AreAtWork, HasMoved, IsLeft, MovesAt};
 ghost use Rattle.rb_machine.specs.Rejections.{changed};
+ghost use Rattle.rb_machine.specs.Telling.{IsQuiet};
 ghost use Rattle.rb_machine.specs.Work.{undoing};
 ghost use Rattle.rb_machine.specs.Worlds.{kind_with, processes_of};
 
@@ -56,7 +58,8 @@ pub fn enter<L: Ledger>(
         (λ moved. ((one : Seen) → slice_get parts.old.procs.items p ≡ Some one → want (plain code.now) one.process.state ≡ Enters facts)
         → HasMoved parts.new events.new.items result moved) }
     ensures left { IsLeft (plain code.now) parts.old parts.new events.new.items result }
-    ensures quiet { result.quiet ≡ false }
+    ensures took { result.quiet ≡ true → result.kind ≡ Took }
+    ensures quiet { result.quiet ≡ true → IsQuiet result parts.new.procs.items p }
     ensures links { vec_len parts.new.links ≤ vec_len parts.old.links + 1 }
     ensures room { vec_capacity parts.old.links ≤ vec_capacity parts.new.links }
     ensures work { steps.new
@@ -72,8 +75,16 @@ pub fn enter<L: Ledger>(
             Came::without_pass(TurnKind::Undone)
         }
         Some(alternate) => {
-            open(code, &mut parts.procs, &mut parts.links, turn, p, alternate);
-            Came::without_pass(TurnKind::Took)
+            open(
+                code,
+                &mut parts.procs,
+                &mut parts.links,
+                turn,
+                p,
+                block,
+                alternate,
+            );
+            Came::quietly(TurnKind::Took)
         }
     }
 }
@@ -108,8 +119,8 @@ fn join(table: &mut Table, p: u32, conversation: u32) -> Option<u32>
     }
 }
 
-// Process p opens a level of the block that stands next, at an alternate. The turn is kept before, so that it is the last kept one of the
-// level's copy.
+// Process p opens a level of the block that stands next, which is known, at an alternate. The turn is kept before, so that it is the last
+// kept one of the level's copy.
 #[inline(always)]
 fn open<L: Ledger>(
     code: &Code,
@@ -117,10 +128,12 @@ fn open<L: Ledger>(
     links: &mut Vec<Link>,
     turn: u32,
     p: u32,
+    block: u32,
     alternate: u32,
 )
     requires code { IsExecutable (plain code.now) }
     requires process { p < length procs.old }
+    requires wants { (one : Seen) → slice_get procs.old p ≡ Some one → WantsBlock block (want (plain code.now) one.process.state) }
     requires shallow { (one : Seen) → slice_get procs.old p ≡ Some one → length one.process.levels < MOST_OPEN_LEVELS }
     requires room { vec_len links.old < vec_capacity links.old }
     ensures processes { (one : Seen) (facts : Facts) → slice_get procs.old p ≡ Some one
@@ -131,8 +144,9 @@ fn open<L: Ledger>(
     ensures len { vec_len links.new ≡ vec_len links.old + 1 }
     ensures room { vec_capacity links.old ≤ vec_capacity links.new }
 {
-    let before = procs[p as usize].last_kept();
-    procs[p as usize].enter(code, alternate, turn);
+    let proc = &mut procs[p as usize];
+    let before = proc.last_kept();
+    proc.enter_block(code, block, alternate, turn);
     add(
         links,
         Link {

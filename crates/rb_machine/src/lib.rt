@@ -4,6 +4,7 @@
 pub mod came;
 pub mod cascade;
 pub mod channels;
+pub mod ends;
 pub mod entry;
 pub mod innermost;
 pub mod laws;

@@ -23,14 +23,14 @@ ghost use Rattle.rb_machine.specs.Worlds.{NoneWaits, counts_of, kind_with, lines
 
 mod looking;
 
-use crate::came::Came;
+use crate::ends::end_turn;
 use crate::loading::load_parts;
 use crate::moves::take_turn;
 use crate::parts::Parts;
 use crate::reading::{line_at, place_at, sent_on, state_at, taken_on, want_at, word_at};
 use crate::rests::{Resting, is_bare, is_still};
 use crate::survivors::survivors;
-use crate::telling::{drop_all_released, finish, tell_opening};
+use crate::telling::{drop_all_released, tell_opening};
 use arrayvec::ArrayVec;
 use rb_base::{Final, Kept, Lines, Memory, Nested, Report, State, Steps, TurnKind};
 use rb_code::Code;
@@ -150,8 +150,13 @@ impl<'a, L: Ledger> Machine<'a, L> {
         );
         let quiet = is_still(report.kind);
         let still = quiet && is_bare(&self.parts.procs, p);
-        self.resting.note(still, p, self.taken, report.kind);
-        self.released = released || still && self.resting.is_all();
+        if still {
+            self.resting.note(p, self.taken, report.kind);
+            self.released = released || self.resting.is_all();
+        } else {
+            self.resting.forget(self.taken);
+            self.released = released;
+        }
     }
 
     /// Forgets the released lines that wait, and answers how many they were.
@@ -283,14 +288,14 @@ impl<'a, L: Ledger> Final for Machine<'a, L> {
 fn turn<L: Ledger>(
     code: &Code,
     parts: &mut Parts<L>,
-    running: &mut [bool],
+    running: &mut Vec<bool>,
     number: u32,
     p: u32,
     report: &mut Report,
     steps: &mut Steps<L>,
 ) -> bool
     requires work { AreAtWork (plain code.now) number parts.old }
-    requires running { running.old ≡ running_of (processes_of parts.old.procs.items) }
+    requires running { running.old.items ≡ running_of (processes_of parts.old.procs.items) }
     requires room { vec_len parts.old.links < vec_capacity parts.old.links }
     requires few { number < 2 ^ 32 - 1 }
     requires freed { AreFreed (processes_of parts.old.procs.items) }
@@ -298,7 +303,7 @@ fn turn<L: Ledger>(
         ≡ turn (kind_with (plain code.now) parts.old.table) number p (world parts.old) }
     ensures groups { SameGroups parts.old.table parts.new.table }
     ensures at_work { IsAtWork (plain code.now) (number + 1) parts.new.procs.items parts.new.table parts.new.mails.items parts.new.links.items }
-    ensures running { running.new ≡ running_of (processes_of parts.new.procs.items) }
+    ensures running { running.new.items ≡ running_of (processes_of parts.new.procs.items) }
     ensures freed { AreFreed (processes_of parts.new.procs.items) }
     ensures none_waits { result ≡ false → NoneWaits parts.new.procs.items }
     ensures links { vec_len parts.new.links ≤ vec_len parts.old.links + 1 }
@@ -307,16 +312,6 @@ fn turn<L: Ledger>(
     ensures entry { enters_there (plain code.now) report.new.kind (slice_get (processes_of parts.old.procs.items) p) ≡ true → steps.new ≤ steps.old }
 {
     report.events.clear();
-    let came = take_turn(code, parts, number, p, &mut report.events, steps);
-    report.kind = came.kind;
-    let alone = came.is_alone();
-    finish(
-        &mut parts.procs,
-        running,
-        p,
-        alone,
-        came,
-        &mut report.events,
-        steps,
-    )
+    let moved = take_turn(code, parts, number, p, steps);
+    end_turn(code, parts, running, number, p, moved, report, steps)
 }

@@ -1,7 +1,7 @@
 //! What a process does in its turn: it waits, steps, enters, or is rejected since a level has used up its turns.
 
 ghost use Rattle.std.specs.Prelude.{◌≡◌, ◌+◌, ◌*◌, ◌-◌, ◌<◌, ◌≤◌, ◌^◌, true, [], length, position, slice_get, vec_len, vec_capacity, Some};
-ghost use Rattle.rb_world.specs.Kind.{SendsOn, ReceivesOn, MayReceiveOn};
+ghost use Rattle.rb_world.specs.Kind.{SendsOn};
 ghost use Rattle.rb_world.specs.Standing.{Each};
 ghost use Rattle.rb_world.specs.Turn.{acts, bounded, is_over, move, runs, turn_used};
 ghost use Rattle.rb_world.specs.World.{Running, change_at};
@@ -12,24 +12,40 @@ ghost use Rattle.rb_conv.specs.Conversations.{memberships};
 ghost use Rattle.rb_proc.specs.Process.{Seen};
 ghost use Rattle.rb_machine.specs.AtWork.{MayAct};
 ghost use Rattle.rb_machine.specs.Channels.{AreNumbered};
-ghost use Rattle.rb_machine.specs.Moves.{AreAtWork, HasMoved, IsEntryReady, IsLeft, IsReadyAt, MovesAt, ReceivesThere, WantsThere, world};
+ghost use Rattle.rb_machine.specs.Ends.{LeadsTo, StaysOpen, links_yet, named_yet};
+ghost use Rattle.rb_machine.specs.Moves.{AreAtWork, IsEntryReady, IsReadyAt, MovesAt, ReceivesThere, WantsThere, world};
+ghost use Rattle.rb_machine.specs.Receipts.{is_receipt_that_waits, receipt};
 ghost use Rattle.rb_machine.specs.Rejections.{changed};
-ghost use Rattle.rb_machine.specs.Telling.{IsQuiet};
 ghost use Rattle.rb_machine.specs.Turns.{runs_there};
-ghost use Rattle.rb_machine.specs.Work.{enters_there, looking, move_work, named_by_acts, named_running, named_within, undoing};
+ghost use Rattle.rb_machine.specs.Work.{enters_there, looking, named_by_acts, named_in_turn, named_running, named_within};
 ghost use Rattle.rb_machine.specs.Worlds.{kind_with, processes_of};
 
-use crate::came::Came;
 use crate::channels::{has_room, message_there};
-use crate::entry::enter;
 use crate::parts::Parts;
 use crate::step::take_step;
-use crate::undone::undo;
-use arrayvec::ArrayVec;
-use rb_base::{Cause, Event, MOST_EVENTS, Steps, TurnKind};
+use rb_base::{Cause, Steps};
 use rb_code::Code;
 use rb_proc::{Proc, ProcessStatus, Wanted};
 use std::sync::ledger::Ledger;
+
+/// What a process does in its turn: its step, if it takes one, is taken.
+#[derive(Clone, Copy)]
+pub enum Move {
+    /// Nothing: it is done, or there is no such process.
+    Rests,
+    /// It waits for room or for a message, or at a test line.
+    Waits,
+    /// It took a step, and goes on; there is nothing to tell and nothing to release.
+    Went,
+    /// It took a step, and is done, or releases lines.
+    Tells,
+    /// It took a step to the end of an alternate whose acceptance test held.
+    Accepts,
+    /// It is to enter a recovery block.
+    Enters(u32),
+    /// It is to be rejected from the innermost of its first so many levels on.
+    Rejects(u32, Cause),
+}
 
 /// What a process is ready for in its turn.
 #[derive(Clone, Copy)]
@@ -51,33 +67,32 @@ pub fn act<L: Ledger>(
     parts: &mut Parts<L>,
     turn: u32,
     p: u32,
-    events: &mut ArrayVec<Event, MOST_EVENTS>,
     steps: &mut Steps<L>,
-) -> Came
+) -> Move
     requires work { AreAtWork (plain code.now) (turn + 1) parts.old }
     requires process { p < length parts.old.procs.items }
     requires acting { MayAct parts.old.procs.items p }
     requires room { vec_len parts.old.links < vec_capacity parts.old.links }
-    requires none { length events.old.items ≡ 0 }
-    ensures moved { MovesAt parts.old p
+    ensures leads { MovesAt parts.old p
         (λ q w. acts (kind_with (plain code.now) parts.old.table) turn p q w (want (plain code.now) q.state))
-        (HasMoved parts.new events.new.items result) }
-    ensures left { IsLeft (plain code.now) parts.old parts.new events.new.items result }
-    ensures quiet { result.quiet ≡ true → IsQuiet result parts.new.procs.items p }
-    ensures links { vec_len parts.new.links ≤ vec_len parts.old.links + 1 }
+        (LeadsTo (plain code.now) turn p (processes_of parts.old.procs.items) parts.new result) }
+    ensures stays { StaysOpen (plain code.now) parts.old parts.new }
+    ensures links { vec_len parts.new.links + links_yet result ≤ vec_len parts.old.links + 1 }
     ensures room { vec_capacity parts.old.links ≤ vec_capacity parts.new.links }
     ensures work { (one : Seen) → slice_get parts.old.procs.items p ≡ Some one
-        → steps.new ≤ steps.old + looking (enters_there (plain code.now) result.kind (Some one.process))
+        → steps.new + 3 * named_yet (plain code.now) (memberships parts.old.table) p (world parts.new) result
+        ≤ steps.old + looking (enters_there (plain code.now)
+        (acts (kind_with (plain code.now) parts.old.table) turn p one.process (world parts.old) (want (plain code.now) one.process.state)).kind
+        (Some one.process))
         + 3 * named_by_acts (plain code.now) (memberships parts.old.table) turn p one.process (world parts.old)
-        (want (plain code.now) one.process.state)
-        + undoing result.kind (processes_of parts.old.procs.items) events.new.items (processes_of parts.new.procs.items) }
+        (want (plain code.now) one.process.state) }
 {
     let wanted = parts.procs[p as usize].want_next(code);
     match ready(code, &parts.procs, p, wanted, steps) {
-        ReadyFor::Idle => Came::without_pass(TurnKind::Idle),
-        ReadyFor::Waits => Came::without_pass(TurnKind::Wait),
-        ReadyFor::Enters(block) => enter(code, parts, turn, p, block, events, steps),
-        ReadyFor::Steps(there) => take_step(code, parts, turn, p, wanted, there, events, steps),
+        ReadyFor::Idle => Move::Rests,
+        ReadyFor::Waits => Move::Waits,
+        ReadyFor::Enters(block) => Move::Enters(block),
+        ReadyFor::Steps(there) => take_step(code, parts, turn, p, wanted, there, steps),
     }
 }
 
@@ -101,8 +116,9 @@ fn ready<L: Ledger>(
     match wanted {
         Wanted::Idle | Wanted::Line => ReadyFor::Idle,
         Wanted::Room(channel) => send(code, procs, p, channel, steps),
-        Wanted::Message(channel) => receive(code, procs, p, channel, steps),
-        Wanted::Maybe(channel) => look(code, procs, p, channel, steps),
+        Wanted::Message(channel) | Wanted::Maybe(channel) => {
+            receive(code, procs, p, channel, waits_for_message(wanted), steps)
+        }
         Wanted::Entry(block) => ReadyFor::Enters(block),
         Wanted::Start | Wanted::Step => ReadyFor::Steps(false),
     }
@@ -130,76 +146,66 @@ fn send<L: Ledger>(
     }
 }
 
-// Process p, at a receipt, waits for a message.
+// Process p, at a receipt, is ready where a message is there, and without one where it does not wait for one.
 #[inline(always)]
 fn receive<L: Ledger>(
     code: &Code,
     procs: &[Proc<L>],
     p: u32,
     channel: u32,
+    waits: bool,
     steps: &mut Steps<L>,
 ) -> ReadyFor
     requires numbered { AreNumbered (plain code.now) procs.now }
     requires process { p < length procs.now }
     requires receiver { IsReceiver (slice_get (plain code.now).channels channel) p }
-    requires wants { (one : Seen) → slice_get procs.now p ≡ Some one → want (plain code.now) one.process.state ≡ ReceivesOn channel }
+    requires wants { (one : Seen) → slice_get procs.now p ≡ Some one → want (plain code.now) one.process.state ≡ receipt waits channel }
     ensures ready { IsReadyAt (plain code.now) procs.now p result }
     ensures work { steps.new ≤ steps.old + 2 }
 {
-    if message_there(code, procs, p, channel, steps) {
-        ReadyFor::Steps(true)
-    } else {
+    let there = message_there(code, procs, p, channel, steps);
+    if waits && !there {
         ReadyFor::Waits
+    } else {
+        ReadyFor::Steps(there)
     }
 }
 
-// Process p takes a message if one is there, and goes on without one if none is.
+// Whether who wants this waits for a message.
 #[inline(always)]
-fn look<L: Ledger>(
-    code: &Code,
-    procs: &[Proc<L>],
-    p: u32,
-    channel: u32,
-    steps: &mut Steps<L>,
-) -> ReadyFor
-    requires numbered { AreNumbered (plain code.now) procs.now }
-    requires process { p < length procs.now }
-    requires receiver { IsReceiver (slice_get (plain code.now).channels channel) p }
-    requires wants { (one : Seen) → slice_get procs.now p ≡ Some one → want (plain code.now) one.process.state ≡ MayReceiveOn channel }
-    ensures ready { IsReadyAt (plain code.now) procs.now p result }
-    ensures work { steps.new ≤ steps.old + 2 }
+fn waits_for_message(wanted: Wanted) -> bool
+    ensures { result ≡ is_receipt_that_waits wanted }
 {
-    ReadyFor::Steps(message_there(code, procs, p, channel, steps))
+    matches!(wanted, Wanted::Message(_))
 }
 
-/// Turn number `turn` of process p, before lines are released.
+/// Turn number `turn` of process p, up to its end.
 #[inline(always)]
 pub fn take_turn<L: Ledger>(
     code: &Code,
     parts: &mut Parts<L>,
     turn: u32,
     p: u32,
-    events: &mut ArrayVec<Event, MOST_EVENTS>,
     steps: &mut Steps<L>,
-) -> Came
+) -> Move
     requires work { AreAtWork (plain code.now) turn parts.old }
     requires turns { turn < 2 ^ 32 - 1 }
     requires room { vec_len parts.old.links < vec_capacity parts.old.links }
-    requires none { length events.old.items ≡ 0 }
-    ensures moved { HasMoved parts.new events.new.items result (move (kind_with (plain code.now) parts.old.table) turn p (world parts.old)) }
-    ensures left { IsLeft (plain code.now) parts.old parts.new events.new.items result }
-    ensures quiet { result.quiet ≡ true → IsQuiet result parts.new.procs.items p }
-    ensures ran { result.quiet ≡ true → runs_there (slice_get (processes_of parts.old.procs.items) p) ≡ true }
-    ensures links { vec_len parts.new.links ≤ vec_len parts.old.links + 1 }
-    ensures room { vec_capacity parts.old.links ≤ vec_capacity parts.new.links }
-    ensures work { steps.new
-        ≤ steps.old + move_work (plain code.now) (memberships parts.old.table) turn p (world parts.old)
+    ensures leads { LeadsTo (plain code.now) turn p (processes_of parts.old.procs.items) parts.new result
         (move (kind_with (plain code.now) parts.old.table) turn p (world parts.old)) }
+    ensures ran { result ≡ Move.Went → runs_there (slice_get (processes_of parts.old.procs.items) p) ≡ true }
+    ensures stays { StaysOpen (plain code.now) parts.old parts.new }
+    ensures links { vec_len parts.new.links + links_yet result ≤ vec_len parts.old.links + 1 }
+    ensures room { vec_capacity parts.old.links ≤ vec_capacity parts.new.links }
+    ensures work { steps.new + 3 * named_yet (plain code.now) (memberships parts.old.table) p (world parts.new) result
+        ≤ steps.old + looking (enters_there (plain code.now)
+        (move (kind_with (plain code.now) parts.old.table) turn p (world parts.old)).kind (slice_get (processes_of parts.old.procs.items) p))
+        + 3 * named_in_turn (plain code.now) (memberships parts.old.table) turn p (world parts.old) }
 {
     if is_running(&parts.procs, p) {
-        run(code, parts, turn, p, events, steps)
+        run(code, parts, turn, p, steps)
     } else {
-        Came::without_pass(TurnKind::Idle)
+        Move::Rests
     }
 }
 
@@ -221,28 +227,26 @@ fn run<L: Ledger>(
     parts: &mut Parts<L>,
     turn: u32,
     p: u32,
-    events: &mut ArrayVec<Event, MOST_EVENTS>,
     steps: &mut Steps<L>,
-) -> Came
+) -> Move
     requires work { AreAtWork (plain code.now) turn parts.old }
     requires turns { turn < 2 ^ 32 - 1 }
     requires process { p < length parts.old.procs.items }
     requires running { (one : Seen) → slice_get parts.old.procs.items p ≡ Some one → one.process.status ≡ Running }
     requires room { vec_len parts.old.links < vec_capacity parts.old.links }
-    requires none { length events.old.items ≡ 0 }
-    ensures moved { MovesAt parts.old p (λ q w. runs (kind_with (plain code.now) parts.old.table) turn p (turn_used q) w)
-        (HasMoved parts.new events.new.items result) }
-    ensures left { IsLeft (plain code.now) parts.old parts.new events.new.items result }
-    ensures quiet { result.quiet ≡ true → IsQuiet result parts.new.procs.items p }
-    ensures links { vec_len parts.new.links ≤ vec_len parts.old.links + 1 }
+    ensures leads { MovesAt parts.old p (λ q w. runs (kind_with (plain code.now) parts.old.table) turn p (turn_used q) w)
+        (LeadsTo (plain code.now) turn p (processes_of parts.old.procs.items) parts.new result) }
+    ensures stays { StaysOpen (plain code.now) parts.old parts.new }
+    ensures links { vec_len parts.new.links + links_yet result ≤ vec_len parts.old.links + 1 }
     ensures room { vec_capacity parts.old.links ≤ vec_capacity parts.new.links }
     ensures work { (one : Seen) → slice_get parts.old.procs.items p ≡ Some one
-        → steps.new ≤ steps.old + looking (enters_there (plain code.now) result.kind (Some one.process))
-        + 3 * named_running (plain code.now) (memberships parts.old.table) turn p (turn_used one.process) (world parts.old)
-        + undoing result.kind (processes_of parts.old.procs.items) events.new.items (processes_of parts.new.procs.items) }
+        → steps.new + 3 * named_yet (plain code.now) (memberships parts.old.table) p (world parts.new) result
+        ≤ steps.old + looking (enters_there (plain code.now)
+        (runs (kind_with (plain code.now) parts.old.table) turn p (turn_used one.process) (world parts.old)).kind (Some one.process))
+        + 3 * named_running (plain code.now) (memberships parts.old.table) turn p (turn_used one.process) (world parts.old) }
 {
     let over = count(&mut parts.procs, p);
-    go_on(code, parts, turn, p, over, events, steps)
+    go_on(code, parts, turn, p, over, steps)
 }
 
 // The turn is counted at each level of process p; answers which is the outermost that is beyond its bound.
@@ -265,31 +269,30 @@ fn go_on<L: Ledger>(
     turn: u32,
     p: u32,
     over: Option<u32>,
-    events: &mut ArrayVec<Event, MOST_EVENTS>,
     steps: &mut Steps<L>,
-) -> Came
+) -> Move
     requires work { AreAtWork (plain code.now) (turn + 1) parts.old }
     requires process { p < length parts.old.procs.items }
     requires running { (one : Seen) → slice_get parts.old.procs.items p ≡ Some one → one.process.status ≡ Running }
     requires over { (one : Seen) → slice_get parts.old.procs.items p ≡ Some one → over ≡ position is_over one.process.levels }
     requires room { vec_len parts.old.links < vec_capacity parts.old.links }
-    requires none { length events.old.items ≡ 0 }
-    ensures moved { MovesAt parts.old p
+    ensures leads { MovesAt parts.old p
         (λ q w. bounded (kind_with (plain code.now) parts.old.table) turn p q w (position is_over q.levels))
-        (HasMoved parts.new events.new.items result) }
-    ensures left { IsLeft (plain code.now) parts.old parts.new events.new.items result }
-    ensures quiet { result.quiet ≡ true → IsQuiet result parts.new.procs.items p }
-    ensures links { vec_len parts.new.links ≤ vec_len parts.old.links + 1 }
+        (LeadsTo (plain code.now) turn p (processes_of parts.old.procs.items) parts.new result) }
+    ensures stays { StaysOpen (plain code.now) parts.old parts.new }
+    ensures links { vec_len parts.new.links + links_yet result ≤ vec_len parts.old.links + 1 }
     ensures room { vec_capacity parts.old.links ≤ vec_capacity parts.new.links }
     ensures work { (one : Seen) → slice_get parts.old.procs.items p ≡ Some one
-        → steps.new ≤ steps.old + looking (enters_there (plain code.now) result.kind (Some one.process))
+        → steps.new + 3 * named_yet (plain code.now) (memberships parts.old.table) p (world parts.new) result
+        ≤ steps.old + looking (enters_there (plain code.now)
+        (bounded (kind_with (plain code.now) parts.old.table) turn p one.process (world parts.old) (position is_over one.process.levels)).kind
+        (Some one.process))
         + 3 * named_within (plain code.now) (memberships parts.old.table) turn p one.process (world parts.old)
-        (position is_over one.process.levels)
-        + undoing result.kind (processes_of parts.old.procs.items) events.new.items (processes_of parts.new.procs.items) }
+        (position is_over one.process.levels) }
 {
     match over {
-        Some(level) => undo(parts, p, level + 1, Cause::Overrun, events, steps),
-        None if parts.procs[p as usize].at_line() => Came::without_pass(TurnKind::Wait),
-        None => act(code, parts, turn, p, events, steps),
+        Some(level) => Move::Rejects(level + 1, Cause::Overrun),
+        None if parts.procs[p as usize].at_line() => Move::Waits,
+        None => act(code, parts, turn, p, steps),
     }
 }

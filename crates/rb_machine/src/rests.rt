@@ -1,8 +1,8 @@
 //! Which processes rest: a turn of one that is done, or that waits with no level open, changes nothing until another process goes on.
 
-ghost use Rattle.std.specs.Prelude.{◌≡◌, ◌<◌, ◌-◌, ◌^◌, nat_eq, true, length, replicate, slice_get, IfOk};
+ghost use Rattle.std.specs.Prelude.{◌≡◌, ◌+◌, ◌<◌, ◌-◌, ◌^◌, nat_eq, true, length, replicate, set, slice_get, IfOk};
 ghost use Rattle.rb_base.specs.declared.event.TurnKind.TheVariants.{Idle};
-ghost use Rattle.rb_machine.specs.Resting.{IsBare, changed_after, is_still, kind_of, rests_after, tally_after};
+ghost use Rattle.rb_machine.specs.Resting.{IsBare, changed_after, is_still, kind_of, one_more};
 ghost use Rattle.rb_machine.specs.Worlds.{processes_of};
 
 use rb_base::{Memory, TurnKind};
@@ -17,8 +17,8 @@ pub struct Rest {
     pub kind: TurnKind,
 }
 
-/// What was noted of each process, which turn was the last that changed something, and of how many processes it was noted since then that
-/// they rest.
+/// What was noted of each process, the last turn in which notes were forgotten, since it changed something, and of how many processes it was
+/// noted since then that they rest.
 #[derive(Drop)]
 pub struct Resting {
     pub rests: Vec<Rest>,
@@ -54,22 +54,31 @@ impl Resting {
         }
     }
 
-    /// Notes turn number `turn` of process p: where it was still, the process rests since then, and else it changed something, so that
-    /// nothing is known any more.
-    pub fn note(&mut self, still: bool, p: u32, turn: u32, kind: TurnKind)
+    /// Notes in turn number `turn` of process p that it rests since then, in turns of this kind.
+    pub fn note(&mut self, p: u32, turn: u32, kind: TurnKind)
         requires few { self.old.noted < 2 ^ 32 - 1 }
-        ensures rests { self.new.rests.items ≡ rests_after still self.old.rests.items p turn kind }
-        ensures changed { self.new.changed ≡ changed_after still self.old.changed turn }
-        ensures noted { self.new.noted ≡ tally_after still self.old.changed (slice_get self.old.rests.items p) self.old.noted }
+        ensures rests { self.new.rests.items ≡ set self.old.rests.items p (record { since = turn; kind = kind }) }
+        ensures changed { self.new.changed ≡ self.old.changed }
+        ensures noted { self.new.noted ≡ self.old.noted + one_more self.old.changed (slice_get self.old.rests.items p) }
     {
-        if !still {
-            self.changed = turn;
-            self.noted = 0;
-        } else if (p as usize) < self.rests.len() {
+        if (p as usize) < self.rests.len() {
             if self.rests[p as usize].since <= self.changed {
                 self.noted += 1;
             }
             self.rests[p as usize] = Rest { since: turn, kind };
+        }
+    }
+
+    /// Turn number `turn` changed something: of those that were noted to rest, if there are some, nothing is known any more.
+    #[inline(always)]
+    pub fn forget(&mut self, turn: u32)
+        ensures rests { self.new.rests.items ≡ self.old.rests.items }
+        ensures changed { self.new.changed ≡ changed_after self.old.noted self.old.changed turn }
+        ensures noted { self.new.noted ≡ 0 }
+    {
+        if self.noted != 0 {
+            self.changed = turn;
+            self.noted = 0;
         }
     }
 
@@ -95,8 +104,8 @@ pub fn is_still(kind: TurnKind) -> bool
 pub fn is_bare<L: Ledger>(procs: &[Proc<L>], p: u32) -> bool
     ensures { result ≡ true → IsBare (slice_get (processes_of procs.now) p) }
 {
-    match procs.get(p as usize) {
-        None => true,
-        Some(proc) => proc.levels() == 0,
+    if p as usize >= procs.len() {
+        return true;
     }
+    procs[p as usize].levels() == 0
 }

@@ -1,60 +1,31 @@
 //! A step of a process in its turn: it goes on, traps, or comes to the end of an alternate whose acceptance test held.
 
-ghost use Rattle.std.specs.Prelude.{◌≡◌, ◌+◌, ◌*◌, ◌<◌, ◌≤◌, true, length, slice_get, vec_len, vec_capacity, Some};
+ghost use Rattle.std.specs.Prelude.{◌≡◌, ◌+◌, ◌*◌, ◌<◌, ◌≤◌, length, slice_get, vec_len, vec_capacity, Some};
 ghost use Rattle.rb_world.specs.Turn.{steps as stepping};
-ghost use Rattle.rb_world.specs.World.{change_at};
 ghost use Rattle.rb_code.specs.Instructions.Plain.{code as plain};
 ghost use Rattle.rb_code.specs.WordMachine.Turn.{want};
 ghost use Rattle.rb_proc.specs.Executable.{IsExecutable};
 ghost use Rattle.rb_proc.specs.Given.{alternate_by};
-ghost use Rattle.rb_proc.specs.Process.{Seen, alternate_for, message_for};
+ghost use Rattle.rb_proc.specs.Process.{Seen, alternate_for, message_for, wanted_by};
 ghost use Rattle.rb_proc.specs.Sees.{AreSized};
 ghost use Rattle.rb_proc.specs.Work.{named_in_step};
 ghost use Rattle.rb_machine.specs.AtWork.{IsStep, MayAct};
 ghost use Rattle.rb_conv.specs.Conversations.{memberships};
-ghost use Rattle.rb_machine.specs.Moves.{AreAtWork, HasMoved, IsLeft, MovesAt, WantsThere, world};
-ghost use Rattle.rb_machine.specs.Stepping.{HasStepped, MayStep, turn_kept};
-ghost use Rattle.rb_machine.specs.Telling.{IsQuiet};
-ghost use Rattle.rb_machine.specs.Work.{named_by_steps, undoing};
+ghost use Rattle.rb_machine.specs.Ends.{LeadsTo, StaysOpen, links_yet, named_yet};
+ghost use Rattle.rb_machine.specs.Moves.{AreAtWork, MovesAt, WantsThere, world};
+ghost use Rattle.rb_machine.specs.Stepping.{AddsLink, HasDone, HasDoneAt, MayStep};
+ghost use Rattle.rb_machine.specs.Work.{named_by_steps};
 ghost use Rattle.rb_machine.specs.Worlds.{kind_with, processes_of};
 
-use crate::came::Came;
-use crate::cascade::reject;
 use crate::innermost::started;
 use crate::links::{Link, add, take_back};
+use crate::moves::Move;
 use crate::parts::Parts;
-use crate::test_line::accept;
-use arrayvec::ArrayVec;
-use rb_base::{Event, MOST_EVENTS, Steps, TurnKind};
+use rb_base::Steps;
 use rb_code::Code;
 use rb_mail::Mail;
 use rb_proc::{Outcome, Proc, Wanted};
 use std::sync::ledger::Ledger;
-
-// Process p takes a step, and the others stay as they are.
-#[inline(always)]
-fn step_one<L: Ledger>(
-    code: &Code,
-    procs: &mut [Proc<L>],
-    mails: &mut [Mail],
-    p: u32,
-    wanted: Wanted,
-    there: bool,
-    steps: &mut Steps<L>,
-) -> Outcome
-    requires code { IsExecutable (plain code.now) }
-    requires process { p < length procs.old }
-    requires may { (one : Seen) → slice_get procs.old p ≡ Some one → MayStep (plain code.now) mails.old there one }
-    requires wanted { WantsThere (plain code.now) procs.old p wanted }
-    requires sized { AreSized (plain code.now) mails.old }
-    ensures stepped { (one : Seen) → slice_get procs.old p ≡ Some one
-        → HasStepped (plain code.now) there p one result mails.old mails.new procs.old procs.new }
-    ensures sized { AreSized (plain code.now) mails.new }
-    ensures work { (one : Seen) → slice_get procs.old p ≡ Some one
-        → steps.new ≤ steps.old + 1 + 3 * named_in_step (plain code.now) one.process mails.old there }
-{
-    procs[p as usize].step(code, mails, wanted, there, steps)
-}
 
 // The link of a turn of process p, by how the process stands before it.
 #[inline(always)]
@@ -75,18 +46,101 @@ fn link_of<L: Ledger>(proc: &Proc<L>, turn: u32, p: u32, wanted: Wanted) -> Link
     }
 }
 
-// A turn of process p is kept: it is the last one of the process.
+// A process takes a step. The link of the turn, to the last kept turn before, is added first; a turn that goes on or whose test held is
+// kept, and a trap takes the link back.
 #[inline(always)]
-fn keep_turn<L: Ledger>(procs: &mut [Proc<L>], turn: u32, p: u32)
-    requires { p < length procs.old }
-    ensures { procs.new ≡ change_at p (turn_kept turn) procs.old }
+fn step_kept<L: Ledger>(
+    code: &Code,
+    proc: &mut Proc<L>,
+    mails: &mut [Mail],
+    links: &mut Vec<Link>,
+    turn: u32,
+    p: u32,
+    wanted: Wanted,
+    there: bool,
+    steps: &mut Steps<L>,
+) -> Move
+    requires code { IsExecutable (plain code.now) }
+    requires may { MayStep (plain code.now) mails.old there proc.old }
+    requires wanted { wanted ≡ wanted_by (want (plain code.now) proc.old.process.state) }
+    requires sized { AreSized (plain code.now) mails.old }
+    requires room { vec_len links.old < vec_capacity links.old }
+    ensures done { HasDone (plain code.now) turn there proc.old result mails.old mails.new proc.new }
+    ensures sized { AreSized (plain code.now) mails.new }
+    ensures links { AddsLink result
+        (record { turn = turn; process = p; alternate = alternate_by wanted proc.old.process.levels; before = proc.old.process.state.last_kept })
+        links.old.items links.new.items }
+    ensures len { vec_len links.new ≤ vec_len links.old + 1 }
+    ensures room { vec_capacity links.old ≤ vec_capacity links.new }
+    ensures work { steps.new ≤ steps.old + 1 + 3 * named_in_step (plain code.now) proc.old.process mails.old there }
 {
-    procs[p as usize].keep(turn);
+    let link = link_of(proc, turn, p, wanted);
+    add(links, link);
+    match proc.step(code, mails, wanted, there, steps) {
+        Outcome::Went => {
+            proc.keep(turn);
+            if proc.is_quiet() {
+                Move::Went
+            } else {
+                Move::Tells
+            }
+        }
+        Outcome::Accepts => {
+            proc.keep(turn);
+            Move::Accepts
+        }
+        Outcome::Trap(cause) => {
+            take_back(links);
+            Move::Rejects(proc.levels(), cause)
+        }
+    }
 }
 
-/// One step of process p, whose link, to the last kept turn before, is added first. Where it goes on the turn is kept. A trap takes the link
-/// back, and rejects the innermost level, or fails a process without one. Where the acceptance test held a private level goes; a member of a
-/// conversation comes to its test line, and once all members stand there they leave together.
+// Process p takes a step, and the others stay as they are.
+#[inline(always)]
+fn step_one<L: Ledger>(
+    code: &Code,
+    procs: &mut [Proc<L>],
+    mails: &mut [Mail],
+    links: &mut Vec<Link>,
+    turn: u32,
+    p: u32,
+    wanted: Wanted,
+    there: bool,
+    steps: &mut Steps<L>,
+) -> Move
+    requires code { IsExecutable (plain code.now) }
+    requires process { p < length procs.old }
+    requires may { (one : Seen) → slice_get procs.old p ≡ Some one → MayStep (plain code.now) mails.old there one }
+    requires wanted { WantsThere (plain code.now) procs.old p wanted }
+    requires sized { AreSized (plain code.now) mails.old }
+    requires room { vec_len links.old < vec_capacity links.old }
+    ensures done { (one : Seen) → slice_get procs.old p ≡ Some one
+        → HasDoneAt (plain code.now) turn there p one result mails.old mails.new procs.old procs.new }
+    ensures sized { AreSized (plain code.now) mails.new }
+    ensures links { (one : Seen) → slice_get procs.old p ≡ Some one
+        → AddsLink result
+        (record { turn = turn; process = p; alternate = alternate_by wanted one.process.levels; before = one.process.state.last_kept })
+        links.old.items links.new.items }
+    ensures len { vec_len links.new ≤ vec_len links.old + 1 }
+    ensures room { vec_capacity links.old ≤ vec_capacity links.new }
+    ensures work { (one : Seen) → slice_get procs.old p ≡ Some one
+        → steps.new ≤ steps.old + 1 + 3 * named_in_step (plain code.now) one.process mails.old there }
+{
+    step_kept(
+        code,
+        &mut procs[p as usize],
+        mails,
+        links,
+        turn,
+        p,
+        wanted,
+        there,
+        steps,
+    )
+}
+
+/// One step of process p: where it leads, and what is left to do of its turn.
 #[inline(always)]
 pub fn take_step<L: Ledger>(
     code: &Code,
@@ -95,68 +149,40 @@ pub fn take_step<L: Ledger>(
     p: u32,
     wanted: Wanted,
     there: bool,
-    events: &mut ArrayVec<Event, MOST_EVENTS>,
     steps: &mut Steps<L>,
-) -> Came
+) -> Move
     requires work { AreAtWork (plain code.now) (turn + 1) parts.old }
     requires process { p < length parts.old.procs.items }
     requires acting { MayAct parts.old.procs.items p }
     requires step { (one : Seen) → slice_get parts.old.procs.items p ≡ Some one → IsStep there (want (plain code.now) one.process.state) }
     requires wanted { WantsThere (plain code.now) parts.old.procs.items p wanted }
     requires room { vec_len parts.old.links < vec_capacity parts.old.links }
-    requires none { length events.old.items ≡ 0 }
-    ensures moved { MovesAt parts.old p
+    ensures leads { MovesAt parts.old p
         (λ q w. stepping (kind_with (plain code.now) parts.old.table) turn p
         (alternate_for (want (plain code.now) q.state) q.levels)
         (message_for (plain code.now) q.state parts.old.mails.items there (want (plain code.now) q.state)) q w)
-        (HasMoved parts.new events.new.items result) }
-    ensures left { IsLeft (plain code.now) parts.old parts.new events.new.items result }
-    ensures quiet { result.quiet ≡ true → IsQuiet result parts.new.procs.items p }
-    ensures links { vec_len parts.new.links ≤ vec_len parts.old.links + 1 }
+        (LeadsTo (plain code.now) turn p (processes_of parts.old.procs.items) parts.new result) }
+    ensures stays { StaysOpen (plain code.now) parts.old parts.new }
+    ensures links { vec_len parts.new.links + links_yet result ≤ vec_len parts.old.links + 1 }
     ensures room { vec_capacity parts.old.links ≤ vec_capacity parts.new.links }
     ensures work { (one : Seen) → slice_get parts.old.procs.items p ≡ Some one
-        → steps.new ≤ steps.old + 1
+        → steps.new + 3 * named_yet (plain code.now) (memberships parts.old.table) p (world parts.new) result
+        ≤ steps.old + 1
         + 3 * named_by_steps (plain code.now) (memberships parts.old.table) turn p
         (alternate_for (want (plain code.now) one.process.state) one.process.levels)
         (message_for (plain code.now) one.process.state parts.old.mails.items there
         (want (plain code.now) one.process.state)) one.process
-        (world parts.old)
-        + undoing result.kind (processes_of parts.old.procs.items) events.new.items (processes_of parts.new.procs.items) }
+        (world parts.old) }
 {
-    let link = link_of(&parts.procs[p as usize], turn, p, wanted);
-    add(&mut parts.links, link);
-    match step_one(
+    step_one(
         code,
         &mut parts.procs,
         &mut parts.mails,
+        &mut parts.links,
+        turn,
         p,
         wanted,
         there,
         steps,
-    ) {
-        Outcome::Trap(cause) => {
-            take_back(&mut parts.links);
-            let procs = &mut parts.procs;
-            let left = procs[p as usize].levels();
-            reject(procs, &mut parts.table, p, left, cause, events, steps);
-            Came::without_pass(TurnKind::Undone)
-        }
-        Outcome::Went => {
-            keep_turn(&mut parts.procs, turn, p);
-            Came {
-                kind: TurnKind::Took,
-                pass: None,
-                quiet: parts.procs[p as usize].is_quiet(),
-            }
-        }
-        Outcome::Accepts => {
-            keep_turn(&mut parts.procs, turn, p);
-            let pass = accept(code, &mut parts.procs, &mut parts.table, p, steps);
-            Came {
-                kind: TurnKind::Took,
-                pass,
-                quiet: false,
-            }
-        }
-    }
+    )
 }

@@ -147,10 +147,8 @@ fn all_stand<L: Ledger>(procs: &[Proc<L>], table: &Table, conversation: u32) -> 
 fn stands_there<L: Ledger>(procs: &[Proc<L>], process: u32, conversation: u32) -> bool
     ensures { result ≡ stands_there conversation (slice_get (processes_of procs.now) process) }
 {
-    match procs.get(process as usize) {
-        None => false,
-        Some(proc) => proc.stands_at(conversation),
-    }
+    let p = process as usize;
+    p < procs.len() && procs[p].stands_at(conversation)
 }
 
 // Whoever stands at the test line of a conversation leaves, and goes on without its level.

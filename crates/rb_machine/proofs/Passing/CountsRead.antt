@@ -113,6 +113,12 @@ module _ (c : Code) (procs : List Seen) (counted : AreCounted c procs) (channel 
       ∙ ap Some (own_cursor c ends.receiver one.process.state.process channel one.process.state.words (counted.numbered.numbers ends.receiver one e))
 
 -- a channel of the code that was read by its number
+-- a channel of which someone is the receiver is there
+pub receiver_within : (list : List Ends) (k p : ℕ) → IsReceiver (slice_get list k) p → k < length list
+receiver_within [] k p h = absurd h
+receiver_within (ends ∷ list) zero p h = omega arith
+receiver_within (ends ∷ list) (suc k) p h = omega (arith, receiver_within list k p h)
+
 pub channel_there : (code : Held) (n : ℕ) (one : ChannelCode) → n < length (plain code).channels → one ≡ get_or code.channels.items n one
     → slice_get (plain code).channels n ≡ Some (ends_of one)
 channel_there code n one h read =

@@ -93,7 +93,7 @@ pub no_lines : (c : Code) (groups : List Membership) (levels : List (Level Copy)
 no_lines c groups [] s none = none.1
 no_lines c groups (level ∷ levels) s none = refl
 
-freed_same : (c : Code) (one : Seen) → IsFreed one.process → one.waiting ≡ [] → one ≡ freed_one c one
+pub freed_same : (c : Code) (one : Seen) → IsFreed one.process → one.waiting ≡ [] → one ≡ freed_one c one
 freed_same c one free none =
     let q = one.process in
     let state = state_same c q.levels q.state free in

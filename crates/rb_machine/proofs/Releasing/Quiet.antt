@@ -3,18 +3,17 @@ use Rattle.std.proofs.Common.{◌≡◌, ℕ, Bool, true, List, [], length, Some
 use Rattle.std.proofs.lemmas.Option.{slice_get-map, slice_get_within}
 use Rattle.rb_base.specs.declared.event.Event.{Event}
 use Rattle.rb_base.specs.declared.event.TurnKind.{TurnKind}
-use Rattle.rb_base.specs.declared.event.TurnKind.TheVariants.{Took}
 use Rattle.rb_world.specs.World.{Process}
 use Rattle.rb_code.specs.WordMachine.Turn.{Copy, Standing}
 use Rattle.rb_proc.specs.Process.{Seen}
-use Rattle.rb_machine.specs.Telling.{GoesOnThere, IsQuiet, is_alone, is_running, running_of}
+use Rattle.rb_machine.specs.Telling.{GoesOnThere, IsQuiet, is_alone, is_running, running_of, takes_nothing_back}
 use Rattle.rb_machine.specs.Turns.{runs_there}
 use Rattle.rb_machine.specs.Worlds.{processes_of}
 use Rattle.rb_machine.specs.declared.came.Came.{Came}
 use Rattle.rb_machine.proofs.Turning.TurnsTaken.{running_there}
 
-pub quiet_alone : (kind : TurnKind) (passes : List Event) → kind ≡ Took → passes ≡ [] → is_alone kind passes ≡ true
-quiet_alone kind passes took none = ap (λ (k : TurnKind). is_alone k passes) took ∙ ap (is_alone Took) none
+pub quiet_alone : (kind : TurnKind) (passes : List Event) → takes_nothing_back kind ≡ true → passes ≡ [] → is_alone kind passes ≡ true
+quiet_alone kind passes nothing none = ap (is_alone kind) none ∙ nothing
 
 pub quiet_goes_on : (before after : List Seen) (p : ℕ) (running : List Bool) (came : Came) → running ≡ running_of (processes_of before)
     → length running ≡ length after → runs_there (slice_get (processes_of before) p) ≡ true → IsQuiet came after p

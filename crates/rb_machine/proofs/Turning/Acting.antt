@@ -11,11 +11,12 @@ use Rattle.rb_world.proofs.ListFacts.{some_same}
 use Rattle.rb_code.specs.Instructions.Plain.{Code}
 use Rattle.rb_code.specs.WordMachine.Turn.{Common, Copy, Standing, want}
 use Rattle.rb_code.specs.WordMachine.WordRun.{WordWorld}
+use Rattle.rb_proc.specs.Entries.{WantsBlock}
 use Rattle.rb_proc.specs.Process.{Seen, alternate_for, message_for, wanted_by, wanted_now, wanted_of}
 use Rattle.rb_proc.specs.declared.answers.Wanted.{Wanted}
 use Rattle.rb_proc.specs.declared.answers.Wanted.TheVariants as wanted
 use Rattle.rb_machine.specs.AtWork.{IsStep, MayActNow}
-use Rattle.rb_machine.specs.Moves.{HasMoved, WantsBlock}
+use Rattle.rb_machine.specs.Moves.{HasMoved}
 use Rattle.rb_machine.specs.declared.came.Came.{Came}
 use Rattle.rb_machine.specs.declared.parts.Parts.{Parts}
 

@@ -18,13 +18,12 @@ use Rattle.rb_code.specs.WordMachine.Turn.{Common, Copy, Link as Kept, Standing,
 use Rattle.rb_code.specs.WordMachine.WordRun.{WordWorld}
 use Rattle.rb_conv.specs.Conversations.{Conversation, conversation_at, entered, membership, memberships, talks}
 use Rattle.rb_conv.proofs.TalksAfterCalls.{members_stay, talks_are_the_worlds}
-use Rattle.rb_proc.specs.Entries.{EntersAs, entered_process}
+use Rattle.rb_proc.specs.Entries.{EntersAs, WantsBlock, entered_process}
 use Rattle.rb_proc.specs.Process.{Seen, kind_of}
 use Rattle.rb_machine.specs.AtWork.{IsAtWork, MayActNow}
 use Rattle.rb_machine.specs.Cascade.{SameGroups}
 use Rattle.rb_machine.specs.Entries.{IsListedBlock, entry_at}
 use Rattle.rb_machine.specs.Known.{IsPlaced}
-use Rattle.rb_machine.specs.Moves.{WantsBlock}
 use Rattle.rb_machine.specs.Rejections.{changed}
 use Rattle.rb_machine.specs.Worlds.{counts_of, kind_with, link_of, memory_of, processes_of, world_of}
 use Rattle.rb_machine.specs.declared.links.Link.{Link}

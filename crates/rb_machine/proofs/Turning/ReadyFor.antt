@@ -1,5 +1,5 @@
 -- What a process is ready for in its turn, by what it wants.
-use Rattle.std.proofs.Common.{◌≡◌, ◌⊎◌, ℕ, ◌<◌, Bool, true, false, List, length, get_or, Some, slice_get, refl, ap, sym, ◌∙◌, subst}
+use Rattle.std.proofs.Common.{◌≡◌, ◌⊎◌, inl, inr, ℕ, ◌<◌, Bool, true, false, List, length, get_or, Some, slice_get, refl, ap, sym, ◌∙◌, subst}
 use Rattle.rb_world.specs.Channels.{has_room, message_there}
 use Rattle.rb_world.specs.Kind.{Want, NothingLeft, SendsOn, ReceivesOn, MayReceiveOn, Enters, Starts, Acts}
 use Rattle.rb_world.specs.Slots.{Slots}
@@ -16,6 +16,8 @@ use Rattle.rb_proc.specs.declared.answers.Wanted.TheVariants as wanted
 use Rattle.rb_machine.specs.AtWork.{IsAtWork, IsStep, MayAct}
 use Rattle.rb_machine.specs.Channels.{AreNumbered, message_given}
 use Rattle.rb_machine.specs.Moves.{IsReadyAt, IsReceiverIf, ReceivesThere, WantsThere}
+use Rattle.rb_machine.specs.Receipts.{is_receipt_that_waits, receipt}
+use Rattle.rb_machine.specs.Work.{is_entry as enters_by}
 use Rattle.rb_machine.specs.Worlds.{kind_with, world_of}
 use Rattle.rb_machine.specs.declared.links.Link.{Link}
 use Rattle.rb_machine.specs.declared.moves.ReadyFor.TheVariants as ready
@@ -53,6 +55,11 @@ receives_there c t procs table slots links work p may one there = by (want c one
     by Starts e = tt
     by Acts e = tt
 
+-- a receipt is no entry
+pub receipt_is_no_entry : (waits : Bool) (channel : ℕ) → enters_by (receipt waits channel) ≡ false
+receipt_is_no_entry true channel = refl
+receipt_is_no_entry false channel = refl
+
 module _ (c : Code) (procs : List Seen) (p : ℕ) where
   module _ (answer : Wanted) (wants : WantsThere c procs p answer) where
     pub idles_ready : (answer ≡ wanted.Idle) ⊎ (answer ≡ wanted.Line) → IsReadyAt c procs p ready.Idle
@@ -70,16 +77,29 @@ module _ (c : Code) (procs : List Seen) (p : ℕ) where
       step_names c (memberships table) t p x.process (world_of procs table memory) memory.slots answer (sym (wants x there)) e,
     )
 
-    -- who takes a message is the receiver
-    pub receiver_here : (channel : ℕ) → ReceivesThere c procs p → answer ≡ wanted.Message channel → (x : Seen) → slice_get procs p ≡ Some x
-        → IsReceiver (slice_get c.channels channel) p
-    receiver_here channel receives e x there =
-        subst (IsReceiverIf c p) (is_message (want c x.process.state) channel (sym (wants x there) ∙ e)) (receives x there)
+    -- who takes a message is the receiver, whether it waits for one or not
+    module _ (channel : ℕ) (takes : (answer ≡ wanted.Message channel) ⊎ (answer ≡ wanted.Maybe channel)) (x : Seen)
+        (there : slice_get procs p ≡ Some x) where
+      receipt_of : (waits : Bool) → waits ≡ is_receipt_that_waits answer
+          → (answer ≡ wanted.Message channel) ⊎ (answer ≡ wanted.Maybe channel) → want c x.process.state ≡ receipt waits channel
+      receipt_of waits says (inl e) =
+          is_message (want c x.process.state) channel (sym (wants x there) ∙ e)
+          ∙ ap (λ (b : Bool). receipt b channel) (sym (says ∙ ap is_receipt_that_waits e))
+      receipt_of waits says (inr e) =
+          is_maybe (want c x.process.state) channel (sym (wants x there) ∙ e)
+          ∙ ap (λ (b : Bool). receipt b channel) (sym (says ∙ ap is_receipt_that_waits e))
 
-    pub receiver_if_here : (channel : ℕ) → ReceivesThere c procs p → answer ≡ wanted.Maybe channel → (x : Seen) → slice_get procs p ≡ Some x
-        → IsReceiver (slice_get c.channels channel) p
-    receiver_if_here channel receives e x there =
-        subst (IsReceiverIf c p) (is_maybe (want c x.process.state) channel (sym (wants x there) ∙ e)) (receives x there)
+      pub receipt_here : (waits : Bool) → waits ≡ is_receipt_that_waits answer → want c x.process.state ≡ receipt waits channel
+      receipt_here waits says = receipt_of waits says takes
+
+      of_receipt : (waits : Bool) → IsReceiverIf c p (receipt waits channel) → IsReceiver (slice_get c.channels channel) p
+      of_receipt true h = h
+      of_receipt false h = h
+
+      pub receiver_here : ReceivesThere c procs p → IsReceiver (slice_get c.channels channel) p
+      receiver_here receives =
+          let waits = is_receipt_that_waits answer in
+          of_receipt waits (subst (IsReceiverIf c p) (receipt_here waits refl) (receives x there))
 
   -- a send, by whether there is room
   module _ (channel : ℕ) (wants : (x : Seen) → slice_get procs p ≡ Some x → want c x.process.state ≡ SendsOn channel) where
@@ -131,3 +151,11 @@ module _ (c : Code) (procs : List Seen) (p : ℕ) where
           look_steps c (kind_with c table) t p x.process (world_of procs table memory) memory.slots seen channel (wants x there) is,
           look_names c (memberships table) t p x.process (world_of procs table memory) memory.slots seen channel (wants x there) is,
         )
+
+    -- either, with what is there
+    pub receipt_with : (waits : Bool) → ((x : Seen) → slice_get procs p ≡ Some x → want c x.process.state ≡ receipt waits channel)
+        → ((waits ≡ true) × (seen ≡ true)) ⊎ (waits ≡ false) → IsReadyAt c procs p (ready.Steps seen)
+    receipt_with waits wants (inl (waiting, found)) =
+        subst (λ (b : Bool). IsReadyAt c procs p (ready.Steps b)) (sym found)
+        (receipt_ready (λ x here. wants x here ∙ ap (λ (b : Bool). receipt b channel) waiting) found)
+    receipt_with waits wants (inr none) = look_ready (λ x here. wants x here ∙ ap (λ (b : Bool). receipt b channel) none)

@@ -1,30 +1,39 @@
 -- A step of process number p, from what is known of the machine's parts: what it asks for, and where each of its outcomes leads.
-use Rattle.std.proofs.Common.{◌≡◌, ℕ, ◌+◌, ◌≤◌, Bool, List, [], ◌∷◌, ◌++◌, length, slice_get, get_or, Option, Some, None, ap, sym, ◌∙◌, subst, arith}
-use Rattle.std.proofs.lemmas.Option.{get_or_from_slice_get}
+use Rattle.std.proofs.Common.{◌≡◌, ℕ, ◌+◌, ◌<◌, ◌≤◌, Bool, List, [], ◌∷◌, ◌++◌, length, slice_get, get_or, Option, Some, None, option_map, refl, ap, sym, ◌∙◌, subst, arith}
+use Rattle.std.proofs.lemmas.Option.{get_or_from_slice_get, slice_get_within}
 use Rattle.rb_base.specs.declared.event.Cause.{Cause}
 use Rattle.rb_base.specs.declared.event.Event.{Event}
 use Rattle.rb_base.specs.declared.event.TurnKind.{TurnKind}
-use Rattle.rb_base.specs.declared.event.TurnKind.TheVariants.{Took, Undone}
+use Rattle.rb_base.specs.declared.event.TurnKind.TheVariants.{Took}
 use Rattle.rb_world.specs.Reject.{reject}
 use Rattle.rb_world.specs.Slots.{Slots}
 use Rattle.rb_world.specs.Standing.{Each}
-use Rattle.rb_world.specs.Turn.{Moved, accepted, steps}
-use Rattle.rb_world.specs.World.{change_at, last_of}
-use Rattle.rb_world.proofs.ListFacts.{some_same}
+use Rattle.rb_world.specs.Turn.{Moved, accepted, steps, undone}
+use Rattle.rb_world.specs.World.{Process, change_at, last_of}
+use Rattle.rb_world.proofs.ListFacts.{slice_get-change_at, some_same}
 use Rattle.rb_code.specs.Instructions.Plain.{Code}
 use Rattle.rb_code.specs.WordMachine.Turn.{Common, Copy, Standing, want}
+use Rattle.rb_code.specs.WordMachine.WordRun.{WordWorld}
 use Rattle.rb_conv.specs.Conversations.{Conversation}
-use Rattle.rb_proc.specs.Process.{Seen, alternate_for, message_for}
+use Rattle.rb_proc.specs.Process.{Seen, StepsTo, alternate_for, message_for, step_of}
 use Rattle.rb_proc.specs.declared.answers.Outcome.{Outcome}
 use Rattle.rb_proc.specs.declared.answers.Outcome.TheVariants as outcome
 use Rattle.rb_machine.specs.AtWork.{IsAtWork, IsStep, MayAct}
-use Rattle.rb_machine.specs.Cascade.{AreQuiet, HasHappened, MayRejectAt}
-use Rattle.rb_machine.specs.Moves.{passes_of}
+use Rattle.rb_machine.specs.Cascade.{AreQuiet, MayRejectAt}
+use Rattle.rb_machine.specs.Ends.{LeadsTo, links_yet}
+use Rattle.rb_machine.specs.Moves.{passes_of, world}
 use Rattle.rb_machine.specs.Channels.{conversation_in}
-use Rattle.rb_machine.specs.Stepping.{HasStepped, HasTaken, HoldsTest, IsListed, MayLeave, MayStep, turn_kept}
-use Rattle.rb_machine.specs.Worlds.{NoneWaits, kind_with, memory_of, world_of}
+use Rattle.rb_machine.specs.Stepping.{AddsLink, HasDoneAt, HasKept, HasTaken, HoldsTest, IsListed, MayLeave, MayStep, turn_kept}
+use Rattle.rb_machine.specs.Telling.{GoesOn}
+use Rattle.rb_machine.specs.Work.{undoing}
+use Rattle.rb_machine.specs.Worlds.{NoneWaits, kind_with, memory_of, processes_of, world_of}
 use Rattle.rb_machine.specs.declared.links.Link.{Link as Linked}
+use Rattle.rb_machine.specs.declared.moves.Move.{Move}
+use Rattle.rb_machine.specs.declared.moves.Move.TheVariants as did
+use Rattle.rb_machine.specs.declared.parts.Parts.{Parts}
 use Rattle.rb_machine.proofs.Knowing.KnownHere.{are_quiet, is_listed, may_leave, may_reject, may_step, process_there}
+use Rattle.rb_machine.proofs.Changed.{change_after}
+use Rattle.rb_machine.proofs.Turning.TakenSteps.{HasStepped}
 use Rattle.rb_machine.proofs.Turning.TakenSteps as taken
 
 -- The parts have come to where a move of their world leads.
@@ -36,13 +45,17 @@ taken_comes : (memory : Common) (procs : List Seen) (table : List Conversation) 
     (moved : Moved Standing Copy Common) → events ≡ [] → HasTaken memory procs table pass moved → ComesTo procs table memory Took events pass moved
 taken_comes memory procs table events pass moved none h = (h.world, sym h.kind, none ∙ sym h.rejections, h.passes)
 
--- so they have where other lists are the same
-pub comes_as : (xs procs : List Seen) (table : List Conversation) (ss slots : Slots) (links : List Linked) (kind : TurnKind) (events : List Event)
-    (pass : Option Event) (moved : Moved Standing Copy Common) → xs ≡ procs → ss ≡ slots
-    → ComesTo procs table (memory_of slots links) kind events pass moved → ComesTo xs table (memory_of ss links) kind events pass moved
-comes_as xs procs table ss slots links kind events pass moved e f h =
-    subst (λ (ys : List Seen). ComesTo ys table (memory_of ss links) kind events pass moved) (sym e)
-    (subst (λ (os : Slots). ComesTo procs table (memory_of os links) kind events pass moved) (sym f) h)
+-- a move that has come so far with no event is told by where it has come
+pub comes_is : (procs : List Seen) (table : List Conversation) (memory : Common) (kind : TurnKind) (moved : Moved Standing Copy Common)
+    → ComesTo procs table memory kind [] None moved
+    → moved ≡ record { world = world_of procs table memory; kind = kind; rejections = []; passes = [] }
+comes_is procs table memory kind moved h =
+    let so : WordWorld → TurnKind → List Event → List Event → Moved Standing Copy Common =
+    λ w turned rejections passes. record { world = w; kind = turned; rejections = rejections; passes = passes } in
+    ap (λ (w : WordWorld). so w moved.kind moved.rejections moved.passes) (sym h.0)
+    ∙ (ap (λ (turned : TurnKind). so (world_of procs table memory) turned moved.rejections moved.passes) (sym h.1)
+    ∙ (ap (λ (events : List Event). so (world_of procs table memory) kind events moved.passes) (sym h.2)
+    ∙ ap (λ (events : List Event). so (world_of procs table memory) kind [] events) (sym h.3)))
 
 -- what was read at a number is what stands there
 pub read_there : (procs : List Seen) (p : ℕ) (x one : Seen) → x ≡ get_or procs p x → slice_get procs p ≡ Some one → x ≡ one
@@ -68,13 +81,6 @@ module _ {c : Code} {turn p : ℕ} {there : Bool} {procs : List Seen} {table : L
       → MayStep c slots0 there one
   may_from procs0 slots0 e f one found =
       subst (λ (ss : Slots). MayStep c ss there one) (sym f) (may one (sym (ap (λ (xs : List Seen). slice_get xs p) e) ∙ found))
-
-  pub stepped_here : (answer : Outcome) (procs0 procs1 : List Seen) (slots0 slots' : Slots) → procs0 ≡ procs → slots0 ≡ slots
-      → ((one : Seen) → slice_get procs0 p ≡ Some one → HasStepped c there p one answer slots0 slots' procs0 procs1)
-      → (one : Seen) → slice_get procs p ≡ Some one → HasStepped c there p one answer slots slots' procs procs1
-  stepped_here answer procs0 procs1 slots0 slots' e f h =
-      subst (λ (xs : List Seen). (one : Seen) → slice_get xs p ≡ Some one → HasStepped c there p one answer slots slots' xs procs1) e
-      (subst (λ (ss : Slots). (one : Seen) → slice_get procs0 p ≡ Some one → HasStepped c there p one answer ss slots' procs0 procs1) f h)
 
   module _ (one : Seen) (here : slice_get procs p ≡ Some one) where
     -- what the world makes of it
@@ -126,10 +132,10 @@ module _ {c : Code} {turn p : ℕ} {there : Bool} {procs : List Seen} {table : L
       pub kept1 : procs4 ≡ change_at p (turn_kept turn) procs1
       kept1 = again ∙ (kept ∙ ap (change_at p (turn_kept turn)) same)
 
-      abbrev holder : Seen
+      abbrev pub holder : Seen
       holder = taken.holder c table slots links there turn p one procs here (may one here) number slots' procs1 procs4 stepping kept1
 
-      holder_there : slice_get procs4 p ≡ Some holder
+      pub holder_there : slice_get procs4 p ≡ Some holder
       holder_there = taken.holder_there c table slots links there turn p one procs here (may one here) number slots' procs1 procs4 stepping kept1
 
       holder_is : (x : Seen) → slice_get procs4 p ≡ Some x → holder ≡ x
@@ -155,19 +161,15 @@ module _ {c : Code} {turn p : ℕ} {there : Bool} {procs : List Seen} {table : L
           taken.held_leave c table slots links there turn p one procs here (may one here) number slots' procs1 procs4 stepping kept1
           (may_leave c table at.work.sound (turn + 1) procs (memory_of slots links) at.work.known)
 
-      pub held_comes : (procs' : List Seen) (table' : List Conversation) (links' : List Linked) (events : List Event) (pass : Option Event) (x : Seen)
-          (n : ℕ) → events ≡ [] → x ≡ get_or procs p x → n ≡ alternate_for (want c x.process.state) x.process.levels
+      pub held_moves : (links' : List Linked) (x : Seen) (n : ℕ) → x ≡ get_or procs p x
+          → n ≡ alternate_for (want c x.process.state) x.process.levels
           → links' ≡ links ++ link_by n x.process.state.last_kept ∷ []
-          → ((y : Seen) (memory : Common) → slice_get procs4 p ≡ Some y → HasTaken memory procs' table' pass
-          (accepted (kind_with c table) p y.process.levels (last_of y.process.levels) (world_of procs4 table memory) (y.process.state, memory)))
-          → ComesTo procs' table' (memory_of slots' links') Took events pass
-          moves
-      held_comes procs' table' links' events pass x n none read is linked comes =
-          taken_comes (memory_of slots' links') procs' table' events pass _ none
-          (taken.held_world c table slots links there turn p one procs here
-          (may one here) number slots' procs1 procs4 stepping kept1 links' procs' table' pass
+          → moves
+          ≡ accepted (kind_with c table) p holder.process.levels (last_of holder.process.levels) (world_of procs4 table (memory_of slots' links'))
+          (holder.process.state, memory_of slots' links')
+      held_moves links' x n read is linked =
+          taken.held_is c table slots links there turn p one procs here (may one here) number slots' procs1 procs4 stepping kept1 links'
           (link_here x n links' read is linked)
-          (comes holder (memory_of slots' links') holder_there))
 
     -- it trapped
     module _ (slots' : Slots) (procs1 procs2 : List Seen) (cause : Cause)
@@ -196,15 +198,152 @@ module _ {c : Code} {turn p : ℕ} {there : Bool} {procs : List Seen} {table : L
           subst AreQuiet (sym unchanged)
           (are_quiet c table at.work.sound (turn + 1) procs (memory_of slots links) at.work.known at.work.few at.waits)
 
-      pub trap_comes : (procs' : List Seen) (table' : List Conversation) (links' : List Linked) (events events' : List Event) (left : ℕ)
-          → events ≡ [] → left ≡ length one.process.levels → links' ≡ links
-          → HasHappened (reject (kind_with c table) p left cause) (memory_of slots' links) procs2 table events procs' table' events'
-          → ComesTo procs' table' (memory_of slots' links') Undone events' None
-          moves
-      trap_comes procs' table' links' events events' left none long back h =
-          let world = taken.trap_world c table slots links there turn p one procs here
-          (may one here) number slots' procs1 cause stepping procs' table' events events' left long
-          (subst (λ (xs : List Seen). HasHappened (reject (kind_with c table) p left cause)
-          (memory_of slots' links) xs table events procs' table' events') again h) in
-          subst (λ (ls : List Linked). ComesTo procs' table' (memory_of slots' ls) Undone events' None moves) (sym back)
-          (world.0, sym world.1, world.2 ∙ ap (λ (es : List Event). es ++ moves.rejections) none, sym world.3)
+      pub trap_moves : (links' : List Linked) (left : ℕ) → left ≡ length one.process.levels → links' ≡ links
+          → moves ≡ undone (reject (kind_with c table) p left cause (world_of procs2 table (memory_of slots' links')))
+      trap_moves links' left long back =
+          taken.trap_is c table slots links there turn p one procs here (may one here) number slots' procs1 cause stepping procs2 links' left again back
+          long
+
+-- what was done of lists that are the same
+pub done_here : {c : Code} {turn p : ℕ} {there : Bool} {one : Seen} {m : Move} {procs0 procs procs1 procs' : List Seen}
+    {slots0 slots slots1 slots' : Slots} → procs0 ≡ procs → slots0 ≡ slots → procs' ≡ procs1 → slots' ≡ slots1
+    → HasDoneAt c turn there p one m slots0 slots1 procs0 procs1 → HasDoneAt c turn there p one m slots slots' procs procs'
+done_here {c} {turn} {p} {there} {one} {m} {procs0} {procs} {procs1} {procs'} {slots0} {slots} {slots1} {slots'} e f g h done =
+    subst (λ (xs : List Seen). HasDoneAt c turn there p one m slots slots' xs procs') e
+    (subst (λ (ss : Slots). HasDoneAt c turn there p one m ss slots' procs0 procs') f
+    (subst (λ (xs : List Seen). HasDoneAt c turn there p one m slots0 slots' procs0 xs) (sym g)
+    (subst (λ (ss : Slots). HasDoneAt c turn there p one m slots0 ss procs0 procs1) (sym h) done)))
+
+-- What a process has done in its step tells what is left of its turn.
+module _ {L : Type 0} {c : Code} {turn p : ℕ} {there : Bool} {procs : List Seen} {slots : Slots} {links : List Linked} (after : Parts L)
+    (at : AtStep c turn p there procs after.table slots links) (one : Seen) (here : slice_get procs p ≡ Some one) where
+  -- the processes as the step left them, before the turn was kept
+  abbrev pub calm_at : Process Standing Copy → List Seen
+  calm_at later = change_at p (λ _. taken.calm later) procs
+
+  pub stepping : (answer : Outcome) (later : Process Standing Copy)
+      → StepsTo c one.process slots (step_of c one.process slots there) answer later after.mails.items
+      → HasStepped c there p one answer slots after.mails.items procs (calm_at later)
+  stepping answer later comes = record { later = later; comes = comes; processes = refl }
+
+  pub kept_at : (answer : Outcome) (later : Seen) (k : HasKept c turn there one answer slots after.mails.items later)
+      → after.procs.items ≡ change_at p (λ _. later) procs → after.procs.items ≡ change_at p (turn_kept turn) (calm_at k.later)
+  kept_at answer later k processes =
+      processes ∙ (ap (λ (x : Seen). change_at p (λ _. x) procs) k.kept ∙ sym (change_after p (turn_kept turn) (taken.calm k.later) procs))
+
+  later_there : (later : Seen) → after.procs.items ≡ change_at p (λ _. later) procs → slice_get after.procs.items p ≡ Some later
+  later_there later processes =
+      ap (λ (xs : List Seen). slice_get xs p) processes
+      ∙ (slice_get-change_at p (λ _. later) procs ∙ ap (option_map (λ (_ : Seen). later)) here)
+
+  read : one ≡ get_or procs p one
+  read = sym (get_or_from_slice_get procs p one one here)
+
+  abbrev alternate : ℕ
+  alternate = alternate_for (want c one.process.state) one.process.levels
+
+  went : (later : Seen) (k : HasKept c turn there one outcome.Went slots after.mails.items later)
+      → after.procs.items ≡ change_at p (λ _. later) procs
+      → after.links.items
+      ≡ links ++ record { turn = turn; process = p; alternate = alternate; before = one.process.state.last_kept } ∷ []
+      → moves at one here ≡ record { world = world after; kind = Took; rejections = []; passes = [] }
+  went later k processes linked =
+      comes_is after.procs.items after.table (memory_of after.mails.items after.links.items) Took (moves at one here)
+      (went_comes at one here after.mails.items (calm_at k.later) (stepping outcome.Went k.later k.comes) (calm_at k.later)
+      after.procs.items after.links.items [] one alternate refl refl (kept_at outcome.Went later k processes) read refl linked)
+
+  -- a trap changes nothing
+  trapped : (left : ℕ) (cause : Cause) (done : HasDoneAt c turn there p one (did.Rejects left cause) slots after.mails.items procs after.procs.items)
+      → after.procs.items ≡ calm_at done.later.process
+  trapped left cause done =
+      done.processes
+      ∙ ap (λ (x : Seen). change_at p (λ _. x) procs)
+      (ap (λ (ls : List (List ℕ)). record { process = done.later.process; waiting = ls }) done.does.1)
+
+  trapped_same : (left : ℕ) (cause : Cause)
+      (done : HasDoneAt c turn there p one (did.Rejects left cause) slots after.mails.items procs after.procs.items) → after.procs.items ≡ procs
+  trapped_same left cause done =
+      unchanged at one here after.mails.items (calm_at done.later.process) after.procs.items cause
+      (stepping (outcome.Trap cause) done.later.process done.does.0) (trapped left cause done)
+
+  left_over : (left : ℕ) (cause : Cause)
+      (done : HasDoneAt c turn there p one (did.Rejects left cause) slots after.mails.items procs after.procs.items)
+      → left ≡ length one.process.levels
+  left_over left cause done =
+      done.does.2
+      ∙ ap (λ (x : Seen). length x.process.levels)
+      (some_same (sym (later_there done.later done.processes)
+      ∙ (ap (λ (xs : List Seen). slice_get xs p) (trapped_same left cause done) ∙ here)))
+
+  pub step_leads : (m : Move) → HasDoneAt c turn there p one m slots after.mails.items procs after.procs.items
+      → AddsLink m (record { turn = turn; process = p; alternate = alternate; before = one.process.state.last_kept }) links after.links.items
+      → LeadsTo c turn p (processes_of procs) after m (moves at one here)
+  step_leads did.Went done linked = record {
+    moves = went done.later done.does.0 done.processes linked;
+    goes_on = λ x e. subst GoesOn (some_same (sym (later_there done.later done.processes) ∙ e)) done.does.1;
+  }
+  step_leads did.Tells done linked = went done.later done.does done.processes linked
+  step_leads did.Accepts done linked =
+      let k = done.does in
+      let kept = kept_at outcome.Accepts done.later k done.processes in
+      let steps = stepping outcome.Accepts k.later k.comes in
+      let middle = calm_at k.later in
+      let now = after.procs.items in
+      let holds = holder at one here after.mails.items middle middle now now steps refl kept refl in
+      let found = holder_there at one here after.mails.items middle middle now now steps refl kept refl in
+      record {
+        one = holds;
+        there = found;
+        executable = at.work.executable;
+        holds = held_holds at one here after.mails.items middle middle now now steps refl kept refl holds found;
+        listed = held_listed at one here after.mails.items middle middle now now steps refl kept refl holds found;
+        leave = held_leave at one here after.mails.items middle middle now now steps refl kept refl;
+        moves = held_moves at one here after.mails.items middle middle now now steps refl kept refl after.links.items one alternate read refl linked;
+      }
+  step_leads (did.Rejects left cause) done linked =
+      let steps = stepping (outcome.Trap cause) done.later.process done.does.0 in
+      let again = trapped left cause done in
+      let same = trapped_same left cause done in
+      let middle = calm_at done.later.process in
+      let over = left_over left cause done in
+      record {
+        there = subst (λ (xs : List Seen). p < length xs) (sym same) (slice_get_within procs p one here);
+        may = trap_may at one here after.mails.items middle after.procs.items cause steps again left over;
+        quiet = trap_quiet at one here after.mails.items middle after.procs.items cause steps again;
+        few = omega (arith, over, few_left at one here after.mails.items middle after.procs.items cause steps again);
+        moves = trap_moves at one here after.mails.items middle after.procs.items cause steps again after.links.items left over linked;
+        costs = λ kind events back. ap (λ (xs : List Seen). undoing kind (processes_of xs) events back) same;
+      }
+  step_leads did.Rests done linked = absurd done.does
+  step_leads did.Waits done linked = absurd done.does
+  step_leads (did.Enters b) done linked = absurd done.does
+
+  -- no line waits then
+  pub step_waits : (m : Move) → HasDoneAt c turn there p one m slots after.mails.items procs after.procs.items → NoneWaits after.procs.items
+  step_waits did.Went done =
+      let k = done.does.0 in
+      went_waits at one here after.mails.items (calm_at k.later) (stepping outcome.Went k.later k.comes) (calm_at k.later) after.procs.items refl
+      (kept_at outcome.Went done.later k done.processes)
+  step_waits did.Tells done =
+      let k = done.does in
+      went_waits at one here after.mails.items (calm_at k.later) (stepping outcome.Went k.later k.comes) (calm_at k.later) after.procs.items refl
+      (kept_at outcome.Went done.later k done.processes)
+  step_waits did.Accepts done =
+      let k = done.does in
+      held_waits at one here after.mails.items (calm_at k.later) (calm_at k.later) after.procs.items after.procs.items
+      (stepping outcome.Accepts k.later k.comes) refl (kept_at outcome.Accepts done.later k done.processes) refl
+  step_waits (did.Rejects left cause) done = subst NoneWaits (sym (trapped_same left cause done)) at.waits
+  step_waits did.Rests done = absurd done.does
+  step_waits did.Waits done = absurd done.does
+  step_waits (did.Enters b) done = absurd done.does
+
+-- a step leaves no link to be added
+pub no_link_yet : {c : Code} {turn p : ℕ} {there : Bool} {one : Seen} {slots slots' : Slots} {procs procs' : List Seen} (m : Move)
+    → HasDoneAt c turn there p one m slots slots' procs procs' → links_yet m ≡ 0
+no_link_yet did.Went done = refl
+no_link_yet did.Tells done = refl
+no_link_yet did.Accepts done = refl
+no_link_yet (did.Rejects left cause) done = refl
+no_link_yet did.Rests done = refl
+no_link_yet did.Waits done = refl
+no_link_yet (did.Enters b) done = absurd done.does

@@ -2,8 +2,6 @@
 use Rattle.std.proofs.Common.{◌≡◌, ℕ, ◌<◌, ℤ, Bool, List, [], ◌∷◌, ◌++◌, length, map, reverse, slice_get, Option, Some, None, option_map, refl, ap, sym, ◌∙◌, subst, true≢false}
 use Rattle.std.proofs.lemmas.List.{map-append, reverse-append}
 use Rattle.rb_base.specs.declared.event.Cause.{Cause}
-use Rattle.rb_base.specs.declared.event.Event.{Event}
-use Rattle.rb_base.specs.declared.event.TurnKind.TheVariants.{Undone}
 use Rattle.rb_cache.specs.Copies.{accepted as accepted_in}
 use Rattle.rb_world.specs.Kind.{Stepped}
 use Rattle.rb_world.specs.Reject.{reject}
@@ -17,12 +15,11 @@ use Rattle.rb_code.specs.WordMachine.Turn.{Common, Copy, Link, Standing, want}
 use Rattle.rb_code.specs.WordMachine.WordRun.{WordWorld}
 use Rattle.rb_conv.specs.Conversations.{Conversation, talks}
 use Rattle.rb_conv.proofs.TalksAfterCalls.{map_changed}
-use Rattle.rb_proc.specs.Process.{Seen, alternate_for, message_for, step_of}
+use Rattle.rb_proc.specs.Process.{Seen, StepsTo, alternate_for, message_for, step_of}
 use Rattle.rb_proc.specs.declared.answers.Outcome.{Outcome}
 use Rattle.rb_proc.specs.declared.answers.Outcome.TheVariants as outcome
-use Rattle.rb_machine.specs.Cascade.{HasHappened}
 use Rattle.rb_machine.specs.Channels.{conversation_in}
-use Rattle.rb_machine.specs.Stepping.{HasStepped, HasTaken, HoldsTest, IsListed, MayLeave, MayStep, SettlesOnceAccepted, turn_kept}
+use Rattle.rb_machine.specs.Stepping.{HasTaken, HoldsTest, IsListed, MayLeave, MayStep, SettlesOnceAccepted, turn_kept}
 use Rattle.rb_machine.specs.Worlds.{NoneWaits, kind_with, link_of, memory_of, processes_of, world_of}
 use Rattle.rb_machine.specs.declared.links.Link.{Link as Linked}
 use Rattle.rb_machine.proofs.Changed.{all_changed, change_after, change_twice, none_last, same_there}
@@ -40,6 +37,13 @@ newest_first slots links link =
 pub processes_put : (p : ℕ) (one : Seen) (procs : List Seen)
     → processes_of (change_at p (λ _. one) procs) ≡ change_at p (λ _. one.process) (processes_of procs)
 processes_put p one procs = map_changed (λ (x : Seen). x.process) (λ _. one) (λ _. one.process) p procs (λ x e. refl)
+
+-- process number p has taken a step, and no other has changed
+pub record HasStepped (c : Code) (there : Bool) (p : ℕ) (one : Seen) (answer : Outcome) (slots slots' : Slots)
+    (procs procs' : List Seen) : Type 0 where
+  pub later : Process Standing Copy
+  pub comes : StepsTo c one.process slots (step_of c one.process slots there) answer later slots'
+  pub processes : procs' ≡ change_at p (λ _. record { process = later; waiting = [] }) procs
 
 -- a process of which no released line waits
 abbrev pub calm : Process Standing Copy → Seen
@@ -242,24 +246,24 @@ module _ (c : Code) (table : List Conversation) (slots : Slots) (links : List Li
         (record { processes = ps; talks = talks table; memory = later }))
         (change_twice p f (stands_now s levels) qs)
 
-    -- the world after it
-    pub held_world : (links' : List Linked) (procs' : List Seen) (table' : List Conversation) (pass : Option Event)
+    -- what is said of the acceptance of the process as it stands is said of the step
+    held_as : (links' : List Linked) (P : Moved Standing Copy Common → Type 0)
         → links' ≡ links ++ record { turn = turn; process = p; alternate = alternate; before = one.process.state.last_kept } ∷ []
-        → HasTaken (memory_of slots' links') procs' table' pass (accepted (kind_with c table) p holder.process.levels (last_of holder.process.levels)
-        (world_of procs2 table (memory_of slots' links')) (holder.process.state, memory_of slots' links'))
-        → HasTaken (memory_of slots' links') procs' table' pass taken
-    held_world links' procs' table' pass e h =
-        subst (HasTaken (memory_of slots' links') procs' table' pass)
+        → P (accepted (kind_with c table) p holder.process.levels (last_of holder.process.levels) (world_of procs2 table (memory_of slots' links'))
+        (holder.process.state, memory_of slots' links'))
+        → P taken
+    held_as links' P e h =
+        subst P
         (sym (is_made ∙ ap (λ (o : Stepped Standing Common). made (relinked linked o)) held.is))
         (by (last_of one.process.levels) refl
-        (subst (λ (x : Process Standing Copy). HasTaken (memory_of slots' links') procs' table' pass
+        (subst (λ (x : Process Standing Copy). P
         (accepted (kind_with c table) p x.levels (last_of x.levels)
         (world_of procs2 table (memory_of slots' links')) (x.state, memory_of slots' links'))) holder_is h))
       where
         on_level : (o : Option ℕ)
-            → HasTaken (memory_of slots' links') procs' table' pass (accepted_at (kind_with c table) p one.process.levels o
+            → P (accepted_at (kind_with c table) p one.process.levels o
             (world_of procs2 table (memory_of slots' links')) (at_test, memory_of slots' links'))
-            → HasTaken (memory_of slots' links') procs' table' pass (accepted_at (kind_with c table) p one.process.levels o before (
+            → P (accepted_at (kind_with c table) p one.process.levels o before (
               at_test,
               record {
                 slots = slots;
@@ -268,22 +272,22 @@ module _ (c : Code) (table : List Conversation) (slots : Slots) (links : List Li
               },
             ))
         on_level o k =
-            subst (λ (m : Common). HasTaken (memory_of slots' links') procs' table' pass
+            subst (λ (m : Common). P
             (accepted_at (kind_with c table) p one.process.levels o before (at_test, m)))
             (held_memory links' e)
-            (subst (HasTaken (memory_of slots' links') procs' table' pass)
+            (subst P
             (accepted_again (processes_of procs) (λ _. holder.process) (memory_of slots' links') (memory_of slots links)
             (memory_of slots' links') at_test one.process.levels o)
-            (subst (λ (qs : List (Process Standing Copy)). HasTaken (memory_of slots' links') procs' table' pass
+            (subst (λ (qs : List (Process Standing Copy)). P
             (accepted_at (kind_with c table) p one.process.levels o
             (record { processes = qs; talks = talks table; memory = memory_of slots' links' })
             (at_test, memory_of slots' links')))
             (ap processes_of put_held ∙ processes_put p holder procs) k))
 
         by : (o : Option (Level Copy)) → last_of one.process.levels ≡ o
-            → HasTaken (memory_of slots' links') procs' table' pass (accepted (kind_with c table) p one.process.levels o
+            → P (accepted (kind_with c table) p one.process.levels o
             (world_of procs2 table (memory_of slots' links')) (at_test, memory_of slots' links'))
-            → HasTaken (memory_of slots' links') procs' table' pass (accepted (kind_with c table) p one.process.levels o before (
+            → P (accepted (kind_with c table) p one.process.levels o before (
               at_test,
               record {
                 slots = slots;
@@ -296,6 +300,16 @@ module _ (c : Code) (table : List Conversation) (slots : Slots) (links : List Li
             (held_inside c may.stands.0 one.process.state one.process.levels alternate message may.stands.1 may.serves
             (record { slots = slots; links = [] }) held.later held.is) last)
         by (Some level) last k = on_level level.facts.conversation k
+
+    -- so the step comes to what that acceptance comes to
+    pub held_is : (links' : List Linked)
+        → links' ≡ links ++ record { turn = turn; process = p; alternate = alternate; before = one.process.state.last_kept } ∷ []
+        → taken ≡ accepted (kind_with c table) p holder.process.levels (last_of holder.process.levels)
+        (world_of procs2 table (memory_of slots' links')) (holder.process.state, memory_of slots' links')
+    held_is links' e =
+        held_as links' (λ (moved : Moved Standing Copy Common). moved
+        ≡ accepted (kind_with c table) p holder.process.levels (last_of holder.process.levels)
+        (world_of procs2 table (memory_of slots' links')) (holder.process.state, memory_of slots' links')) e refl
 
   -- it trapped
   module _ (slots' : Slots) (procs1 : List Seen) (cause : Cause)
@@ -313,24 +327,16 @@ module _ (c : Code) (table : List Conversation) (slots : Slots) (links : List Li
     pub same_slots : slots' ≡ slots
     same_slots = has_fallen.slots_stay
 
-    -- the world after the cascade
-    pub trap_world : (procs' : List Seen) (table' : List Conversation) (events events' : List Event) (left : ℕ) → left ≡ length one.process.levels
-        → HasHappened (reject (kind_with c table) p left cause) (memory_of slots' links) procs1 table events procs' table' events'
-        → (world_of procs' table' (memory_of slots' links) ≡ taken.world) × (taken.kind ≡ Undone)
-        × (events' ≡ events ++ taken.rejections) × (taken.passes ≡ [])
-    trap_world procs' table' events events' left long h =
+    -- so the step comes to the rejection of the innermost level
+    pub trap_is : (procs2 : List Seen) (links' : List Linked) (left : ℕ) → procs2 ≡ procs1 → links' ≡ links → left ≡ length one.process.levels
+        → taken ≡ undone (reject (kind_with c table) p left cause (world_of procs2 table (memory_of slots' links')))
+    trap_is procs2 links' left again back long =
         let n : length (process_levels before p) ≡ left =
         ap (λ (o : Option (Process Standing Copy)). length (levels_of o)) (process_there procs p one here) ∙ sym long in
-        let is : taken ≡ undone (reject (kind_with c table) p left cause before) =
+        let start : before ≡ world_of procs2 table (memory_of slots' links') =
+        ap (λ (xs : List Seen). world_of xs table (memory_of slots links)) (sym (again ∙ same_processes))
+        ∙ (ap (λ (ss : Slots). world_of procs2 table (memory_of ss links)) (sym same_slots)
+        ∙ ap (λ (ls : List Linked). world_of procs2 table (memory_of slots' ls)) (sym back)) in
         is_made ∙ (ap (λ (o : Stepped Standing Common). made (relinked linked o)) has_fallen.is
-        ∙ ap (λ (k : ℕ). undone (reject (kind_with c table) p k cause before)) n) in
-        let start : world_of procs1 table (memory_of slots' links) ≡ before =
-        ap (λ (xs : List Seen). world_of xs table (memory_of slots' links)) same_processes
-        ∙ ap (λ (ss : Slots). world_of procs table (memory_of ss links)) same_slots in (
-          h.world ∙ (ap (λ (w : WordWorld). (reject (kind_with c table) p left cause w).0) start
-              ∙ ap (λ (x : Moved Standing Copy Common). x.world) (sym is)),
-          ap (λ (x : Moved Standing Copy Common). x.kind) is,
-          h.told ∙ (ap (λ (w : WordWorld). events ++ (reject (kind_with c table) p left cause w).1) start
-              ∙ ap (λ (x : Moved Standing Copy Common). events ++ x.rejections) (sym is)),
-          ap (λ (x : Moved Standing Copy Common). x.passes) is,
-        )
+        ∙ (ap (λ (k : ℕ). undone (reject (kind_with c table) p k cause before)) n
+        ∙ ap (λ (w : WordWorld). undone (reject (kind_with c table) p left cause w)) start))

@@ -1,9 +1,10 @@
 -- Whose turn it is: where it leads in the world, by whether the process runs and whether a level is beyond its bound.
 use Rattle.std.proofs.Common.{◌≡◌, ℕ, zero, suc, ◌+◌, Bool, true, false, cond, List, [], ◌∷◌, Option, Some, None, position, slice_get, refl, ap, sym, ◌∙◌, true≢false}
 use Rattle.rb_base.specs.declared.event.Cause.TheVariants.{Overrun}
+use Rattle.rb_base.specs.declared.event.TurnKind.TheVariants.{Idle, Took}
 use Rattle.rb_world.specs.Kind.{Kind}
 use Rattle.rb_world.specs.Reject.{reject}
-use Rattle.rb_world.specs.Turn.{acts, bounded, by_status, idles, is_over, move, moves, runs, turn_used, undone, waits}
+use Rattle.rb_world.specs.Turn.{Moved, acts, bounded, by_status, idles, is_over, move, moves, runs, turn_used, undone, waits}
 use Rattle.rb_world.specs.World.{Process, ProcessStatus, Running, Finished, FailedWith}
 use Rattle.rb_code.specs.WordMachine.Turn.{Common, Copy, Standing}
 use Rattle.rb_code.specs.WordMachine.WordRun.{WordWorld}
@@ -25,6 +26,9 @@ running_there [] p e = absurd (true≢false (sym e))
 running_there (one ∷ procs) zero e = (one, refl, status_running one.process.status e)
 running_there (one ∷ procs) (suc p) e = running_there procs p e
 
+idle_took : Idle ≡ Took → ⊥
+idle_took e = cc
+
 module _ (k : Kind Standing Copy Common) (t p : ℕ) (w : WordWorld) where
   rests_by : (q : Process Standing Copy) (status : ProcessStatus) → is_running status ≡ false → by_status k t p q w status ≡ idles w
   rests_by q Running e = absurd (true≢false e)
@@ -38,6 +42,14 @@ module _ (k : Kind Standing Copy Common) (t p : ℕ) (w : WordWorld) where
   -- a process that is not there, or does not run, idles
   pub rests : runs_there (slice_get w.processes p) ≡ false → move k t p w ≡ idles w
   rests e = rests_there (slice_get w.processes p) e
+
+  -- so who took a step, or entered a block, ran
+  pub took_ran : (move k t p w).kind ≡ Took → runs_there (slice_get w.processes p) ≡ true
+  took_ran took = by (runs_there (slice_get w.processes p)) refl
+    where
+      by : (b : Bool) → runs_there (slice_get w.processes p) ≡ b → b ≡ true
+      by true e = refl
+      by false e = absurd (idle_took (ap (λ (moved : Moved Standing Copy Common). moved.kind) (sym (rests e)) ∙ took))
 
   -- a running one counts its turn
   pub runs_counted : (q : Process Standing Copy) → slice_get w.processes p ≡ Some q → q.status ≡ Running

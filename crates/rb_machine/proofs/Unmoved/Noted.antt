@@ -10,7 +10,7 @@ use Rattle.rb_world.proofs.ListFacts.{none_some, some_same}
 use Rattle.rb_code.specs.Instructions.Plain.{Code}
 use Rattle.rb_code.specs.WordMachine.WordKind.{word_kind}
 use Rattle.rb_code.specs.WordMachine.WordRun.{WordWorld}
-use Rattle.rb_machine.specs.Resting.{AreNoted, IsBare, RestsAs, changed_after, is_still, kind_noted, rests_after}
+use Rattle.rb_machine.specs.Resting.{AreNoted, IsBare, RestsAs, is_still, kind_noted}
 use Rattle.rb_machine.specs.Telling.{AreFreed}
 use Rattle.rb_machine.specs.declared.rests.Rest.{Rest}
 use Rattle.rb_machine.proofs.Unmoved.TurnsUnmoved.{rests_so}
@@ -57,7 +57,7 @@ none_noted c groups w n = record {
 
 module _ (c : Code) (groups : List Membership) (rests : List Rest) (changed taken : ℕ) where
   -- a turn that changed something
-  forgotten : (w after : WordWorld) → AreNoted c groups w rests changed taken → AreNoted c groups after rests (taken + 1) (taken + 1)
+  pub forgotten : (w after : WordWorld) → AreNoted c groups w rests changed taken → AreNoted c groups after rests (taken + 1) (taken + 1)
   forgotten w after noted =
       let past : (p : ℕ) (one : Rest) → slice_get rests p ≡ Some one → one.since ≤ taken + 1 =
       λ p one e. omega (arith, noted.past p one e) in
@@ -81,16 +81,15 @@ module _ (c : Code) (groups : List Membership) (rests : List Rest) (changed take
   pub rested : (w : WordWorld) → AreNoted c groups w rests changed taken → AreNoted c groups w rests changed (taken + 1)
   rested w noted = record { rest = noted.rest; past = λ p one e. omega (arith, noted.past p one e) }
 
-  -- so it is so after any turn
-  pub noted_after : (still : Bool) (w after : WordWorld) (n p : ℕ) (told : Told) (kind : TurnKind)
+  -- a still turn of a process with no level
+  pub noted_after : (w after : WordWorld) (n p : ℕ) (told : Told) (kind : TurnKind)
       → AreNoted c groups w rests changed taken → AreFreed w.processes → (after, told) ≡ turn (word_kind c groups) n p w → told.kind ≡ kind
-      → (still ≡ true → IsBare (slice_get w.processes p)) → (still ≡ true → is_still kind ≡ true)
-      → AreNoted c groups after (rests_after still rests p (taken + 1) kind) (changed_after still changed (taken + 1)) (taken + 1)
-  noted_after false w after n p told kind noted free is kind_is bare stays = forgotten w after noted
-  noted_after true w after n p told kind noted free is kind_is bare stays =
+      → IsBare (slice_get w.processes p) → is_still kind ≡ true
+      → AreNoted c groups after (set rests p (record { since = taken + 1; kind = kind })) changed (taken + 1)
+  noted_after w after n p told kind noted free is kind_is bare still =
       let one : (turn (word_kind c groups) n p w).1.kind ≡ kind =
       ap (λ (pair : WordWorld × Told). pair.1.kind) (sym is) ∙ kind_is in
-      let rests_as : RestsAs c groups w p kind = rests_so c groups n p w kind free (bare refl) one (stays refl) in
+      let rests_as : RestsAs c groups w p kind = rests_so c groups n p w kind free bare one still in
       let same : w ≡ after = ap (λ (pair : WordWorld × Told). pair.0) (sym (is ∙ rests_as n)) in
       subst (λ (v : WordWorld). AreNoted c groups v (set rests p (record { since = taken + 1; kind = kind })) changed (taken + 1)) same
       (added w p kind noted rests_as)

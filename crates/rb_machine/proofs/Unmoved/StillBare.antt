@@ -1,10 +1,11 @@
--- A turn that is idle or waits leaves each process its levels, so who has none after it had none before.
+-- A turn that is idle or waits leaves each process its levels, so who has none after it had none before; and a process that waits runs.
 use Rattle.std.proofs.Common.{◌≡◌, ℕ, ◌+◌, ℤ, Bool, true, false, cond, List, [], ◌∷◌, length, map, position, Option, Some, None, slice_get, option_map, refl, ap, sym, ◌∙◌, subst}
 use Rattle.std.specs.Prelude.{nat_le}
 use Rattle.std.proofs.lemmas.Option.{slice_get-map}
 use Rattle.rb_base.specs.declared.event.Cause.{Cause}
 use Rattle.rb_base.specs.declared.event.Cause.TheVariants.{Overrun, Depth, Broken}
 use Rattle.rb_base.specs.declared.event.Event.TheVariants.{Pass}
+use Rattle.rb_base.specs.declared.event.TurnKind.TheVariants.{Wait}
 use Rattle.rb_world.specs.Channels.{has_room, message_there}
 use Rattle.rb_world.specs.Kind.{Facts, Kind, Membership, Want, NothingLeft, SendsOn, ReceivesOn, MayReceiveOn, Enters, Starts, Acts, Stepped, Trapped, Went, Held}
 use Rattle.rb_world.specs.Reject.{Happened, fallen, reject}
@@ -18,6 +19,13 @@ use Rattle.rb_machine.specs.Resting.{IsBare, is_still}
 
 untrue : false ≡ true → ⊥
 untrue e = cc
+
+-- No more was done in a turn than to count it, for a process that is there and runs.
+pub record OnlyCounted {S C M : Type 0} (p : ℕ) (there : Option (Process S C)) (w after : World S C M) : Type 0 where
+  pub one : Process S C
+  pub is : there ≡ Some one
+  pub runs : one.status ≡ Running
+  pub counted : after ≡ with_process p (λ _. turn_used one) w
 
 none_used : {C : Type 0} (levels : List (Level C)) → map one_used levels ≡ [] → levels ≡ []
 none_used [] e = refl
@@ -121,6 +129,28 @@ module _ {S C M : Type 0} (k : Kind S C M) (n p : ℕ) where
       → is_still (moves k n p w there).kind ≡ true → IsBare (slice_get (moves k n p w there).world.processes p) → IsBare there
   moves_bare None w here still bare = tt
   moves_bare (Some q) w here still bare = by_status_bare q.status q w here still bare
+
+  by_status_waits : (status : ProcessStatus) (q : Process S C) (w : World S C M) → q.status ≡ status
+      → (by_status k n p q w status).kind ≡ Wait → OnlyCounted p (Some q) w (by_status k n p q w status).world
+  by_status_waits Running q w is waits =
+      let used : Process S C = turn_used q in
+      record {
+        one = q;
+        is = refl;
+        runs = is;
+        counted = bounded_stays (position is_over used.levels) used (with_process p (λ _. used) w) (ap is_still waits);
+      }
+  by_status_waits Finished q w is waits = absurd (cc)
+  by_status_waits (FailedWith cause) q w is waits = absurd (cc)
+
+  moves_wait : (there : Option (Process S C)) (w : World S C M) → (moves k n p w there).kind ≡ Wait
+      → OnlyCounted p there w (moves k n p w there).world
+  moves_wait None w waits = absurd (cc)
+  moves_wait (Some q) w waits = by_status_waits q.status q w refl waits
+
+  -- no more is done in a turn that waits
+  pub waits_counted : (w : World S C M) → (move k n p w).kind ≡ Wait → OnlyCounted p (slice_get w.processes p) w (move k n p w).world
+  waits_counted w waits = moves_wait (slice_get w.processes p) w waits
 
   freed_bare : (there : Option (Process S C)) → IsBare (option_map (freed k) there) → IsBare there
   freed_bare None bare = tt

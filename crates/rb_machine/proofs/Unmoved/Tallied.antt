@@ -1,7 +1,7 @@
 -- How many processes are known to rest; and once all are, no turn changes anything any more.
 use Rattle.std.proofs.Common.{◌≡◌, ℕ, zero, suc, ◌+◌, ◌<◌, ◌≤◌, ◌⊎◌, inl, inr, Bool, true, false, cond, List, [], ◌∷◌, count_by, length, replicate, set, slice_get, Option, Some, None, refl, ap, sym, ◌∙◌, subst, arith}
-use Rattle.std.specs.Prelude.{get_or}
-use Rattle.std.proofs.lemmas.Bool.{lt-ltb, ltb-true}
+use Rattle.std.specs.Prelude.{get_or, nat_eq}
+use Rattle.std.proofs.lemmas.Bool.{eqb-true, lt-ltb, ltb-true}
 use Rattle.std.proofs.lemmas.List.{length-replicate, length-set}
 use Rattle.std.proofs.lemmas.List.Sums.{count_by-le-length, sum_by-cons}
 use Rattle.std.proofs.lemmas.Option.{slice_get_cases, slice_get_past}
@@ -15,9 +15,10 @@ use Rattle.rb_code.specs.Instructions.Plain.{Code}
 use Rattle.rb_code.specs.WordMachine.Turn.{Copy, Standing}
 use Rattle.rb_code.specs.WordMachine.WordKind.{word_kind}
 use Rattle.rb_code.specs.WordMachine.WordRun.{WordWorld}
-use Rattle.rb_machine.specs.Resting.{AllRest, AreNoted, AreTallied, IsBare, RestsAs, changed_after, is_noted, kind_of, kind_noted, one_more, rests_after, tally_after}
+use Rattle.rb_machine.specs.Resting.{AllRest, AreNoted, AreTallied, IsBare, RestsAs, changed_after, is_noted, kind_of, kind_noted, one_more}
 use Rattle.rb_machine.specs.Telling.{AreFreed}
 use Rattle.rb_machine.specs.declared.rests.Rest.{Rest}
+use Rattle.rb_machine.proofs.Unmoved.Noted.{forgotten}
 use Rattle.rb_machine.proofs.Unmoved.TurnsUnmoved.{rests_so}
 
 -- a note counts, or is one more
@@ -76,23 +77,63 @@ set_counts changed (x ∷ rests) (suc p) one new =
       counted_first (is_noted changed) x (set rests p one),
     )
 
--- so it is after any turn
-pub tallied_after : (still : Bool) (n : ℕ) (rests : List Rest) (changed noted taken p : ℕ) (kind : TurnKind)
-    → AreTallied n rests changed noted taken → ((q : ℕ) (one : Rest) → slice_get rests q ≡ Some one → one.since ≤ taken)
-    → AreTallied n (rests_after still rests p (taken + 1) kind) (changed_after still changed (taken + 1))
-    (tally_after still changed (slice_get rests p) noted) (taken + 1)
-tallied_after false n rests changed noted taken p kind tallied past = record {
-  each = tallied.each;
-  last = omega arith;
-  count = past_counts_not (taken + 1) rests (λ q one e. omega (arith, past q one e));
-}
-tallied_after true n rests changed noted taken p kind tallied past = record {
+-- so it is after a still turn
+pub tallied_after : (n : ℕ) (rests : List Rest) (changed noted taken p : ℕ) (kind : TurnKind) → AreTallied n rests changed noted taken
+    → AreTallied n (set rests p (record { since = taken + 1; kind = kind })) changed (noted + one_more changed (slice_get rests p)) (taken + 1)
+tallied_after n rests changed noted taken p kind tallied = record {
   last = omega (arith, tallied.last);
   each = length-set rests p (record { since = taken + 1; kind = kind }) ∙ tallied.each;
   count = ap (λ m. m + one_more changed (slice_get rests p)) tallied.count
       ∙ sym (set_counts changed rests p (record { since = taken + 1; kind = kind })
       (lt-ltb changed (taken + 1) (omega (arith, tallied.last))));
 }
+
+-- where none counts none is known to rest
+not_first : (b : Bool) (n : ℕ) → 0 ≡ cond b 1 0 + n → b ≡ false
+not_first true n e = absurd (omega (arith, e))
+not_first false n e = refl
+
+nor_others : (b : Bool) (n : ℕ) → 0 ≡ cond b 1 0 + n → 0 ≡ n
+nor_others true n e = absurd (omega (arith, e))
+nor_others false n e = omega (arith, e)
+
+none_known : (changed : ℕ) (rests : List Rest) → 0 ≡ count_by (is_noted changed) rests → (p : ℕ) → kind_of rests changed p ≡ None
+none_known changed [] none p = refl
+none_known changed (x ∷ rests) none zero =
+    ap (λ b. cond b (Some x.kind) None)
+    (not_first (is_noted changed x) (count_by (is_noted changed) rests) (none ∙ counted_first (is_noted changed) x rests))
+none_known changed (x ∷ rests) none (suc p) =
+    none_known changed rests
+    (nor_others (is_noted changed x) (count_by (is_noted changed) rests) (none ∙ counted_first (is_noted changed) x rests)) p
+
+-- So it is after a turn that changed something.
+module _ (c : Code) (groups : List Membership) (w after : WordWorld) (n : ℕ) (rests : List Rest) (changed noted taken : ℕ)
+    (are_noted : AreNoted c groups w rests changed taken) (tallied : AreTallied n rests changed noted taken) where
+  pub record AreForgotten (last : ℕ) : Type 0 where
+    pub notes : AreNoted c groups after rests last (taken + 1)
+    pub tally : AreTallied n rests last 0 (taken + 1)
+
+  forgotten_if : (none : Bool) → nat_eq noted 0 ≡ none → AreForgotten (cond none changed (taken + 1))
+  forgotten_if true e =
+      let none : 0 ≡ count_by (is_noted changed) rests = sym (eqb-true noted 0 e) ∙ tallied.count in
+      record {
+        notes = record {
+          rest = λ p kind known. absurd (none_some (sym (none_known changed rests none p) ∙ known));
+          past = λ p one here. omega (arith, are_noted.past p one here);
+        };
+        tally = record { each = tallied.each; last = omega (arith, tallied.last); count = none };
+      }
+  forgotten_if false e = record {
+    notes = forgotten c groups rests changed taken w after are_noted;
+    tally = record {
+      each = tallied.each;
+      last = omega arith;
+      count = past_counts_not (taken + 1) rests (λ q one here. omega (arith, are_noted.past q one here));
+    };
+  }
+
+  pub forgotten_after : AreForgotten (changed_after noted changed (taken + 1))
+  forgotten_after = forgotten_if (nat_eq noted 0) refl
 
 -- where all count each does
 first_so : (b : Bool) (n m : ℕ) → cond b 1 0 + n ≡ suc m → n ≤ m → b ≡ true

@@ -9,22 +9,20 @@ use Rattle.rb_base.specs.declared.event.TurnKind.{TurnKind}
 use Rattle.rb_world.specs.Channels.{has_room, message_there}
 use Rattle.rb_world.specs.Kind.{Membership, Want, NothingLeft, SendsOn, ReceivesOn, MayReceiveOn, Enters, Starts, Acts}
 use Rattle.rb_world.specs.Slots.{Slots}
-use Rattle.rb_world.specs.Turn.{Moved, is_over, one_used, turn_used}
+use Rattle.rb_world.specs.Turn.{is_over, one_used, turn_used}
 use Rattle.rb_world.specs.World.{Level, Process, Running, change_at, is_of}
 use Rattle.rb_code.specs.Instructions.Plain.{Code}
-use Rattle.rb_code.specs.WordMachine.Turn.{Common, Copy, Standing, want}
+use Rattle.rb_code.specs.WordMachine.Turn.{Copy, Standing, want}
 use Rattle.rb_code.specs.WordMachine.WordKind.{word_kind}
 use Rattle.rb_code.specs.WordMachine.WordRun.{WordWorld}
 use Rattle.rb_proc.specs.Process.{Seen, alternate_for, message_for, wanted_by}
 use Rattle.rb_proc.specs.declared.answers.Wanted.{Wanted}
 use Rattle.rb_proc.specs.declared.answers.Wanted.TheVariants as wanted
 use Rattle.rb_machine.specs.AtWork.{IsStep}
-use Rattle.rb_machine.specs.Moves.{HasMoved, IsEntryReady, IsReadyAt, world}
-use Rattle.rb_machine.specs.Work.{enters_there, inside_one, is_entry, is_kept, levels_put_back, looking, move_work, named_by_acts, named_by_receipt, named_by_status, named_by_steps, named_in_turn, named_running, named_there, named_within, places_put_back, put_back_by, touched_by, touched_in, undoing}
-use Rattle.rb_machine.specs.declared.came.Came.{Came}
+use Rattle.rb_machine.specs.Moves.{IsEntryReady, IsReadyAt}
+use Rattle.rb_machine.specs.Work.{enters_there, inside_one, is_entry, is_kept, levels_put_back, looking, named_by_acts, named_by_receipt, named_by_status, named_by_steps, named_in_turn, named_running, named_there, named_within, places_put_back, put_back_by, touched_by, touched_in, undoing}
 use Rattle.rb_machine.specs.declared.moves.ReadyFor.{ReadyFor}
 use Rattle.rb_machine.specs.declared.moves.ReadyFor.TheVariants as ready
-use Rattle.rb_machine.specs.declared.parts.Parts.{Parts}
 use Rattle.rb_machine.proofs.Turning.Acting.{is_start, is_step}
 use Rattle.rb_machine.proofs.Turning.Entering.{wants_block}
 
@@ -89,32 +87,22 @@ module _ (c : Code) (groups : List Membership) (t p : ℕ) (q : Process Standing
     step_names answer e (inl start) = subst (NamesBy false) (sym (is_start (want c q.state) (e ∙ start))) refl
     step_names answer e (inr step) = subst (NamesBy false) (sym (is_step (want c q.state) (e ∙ step))) refl
 
--- ticks of looking, of the words that are named, and of going back add up
-pub pays_waiting : (old now look names back : ℕ) → now ≤ old + 2 → look ≡ 4 → now ≤ old + look + 3 * names + back
-pays_waiting old now look names back ready e = omega (arith, ready, e)
+-- ticks of looking and of the words that are named add up
+pub pays_waiting : (old now look names : ℕ) → now ≤ old + 2 → look ≡ 4 → now + 3 * 0 ≤ old + look + 3 * names
+pays_waiting old now look names ready e = omega (arith, ready, e)
 
-pub pays_entry : (old now done look names back : ℕ) → now ≤ old → done ≤ now + back → done ≤ old + look + 3 * names + back
-pays_entry old now done look names back entry work = omega (arith, entry, work)
+pub pays_entry : (old now look names : ℕ) → now ≤ old → now + 3 * 0 ≤ old + look + 3 * names
+pays_entry old now look names entry = omega (arith, entry)
 
-pub pays_undoing : (old done look names back : ℕ) → done ≤ old + back → done ≤ old + look + 3 * names + back
-pays_undoing old done look names back work = omega (arith, work)
+pub pays_step : (old now done later look names same : ℕ) → now ≤ old + 2 → done + 3 * later ≤ now + 1 + 3 * same → look ≡ 4 → names ≡ same
+    → done + 3 * later ≤ old + look + 3 * names
+pays_step old now done later look names same ready work e is = omega (arith, ready, work, e, is)
 
-pub pays_step : (old now done look names same back : ℕ) → now ≤ old + 2 → done ≤ now + 1 + 3 * same + back → look ≡ 4 → names ≡ same
-    → done ≤ old + look + 3 * names + back
-pays_step old now done look names same back ready work e is = omega (arith, ready, work, e, is)
+pub pays_same : (old done look names looked same : ℕ) → done ≤ old + looked + 3 * same → look ≡ looked → names ≡ same → done ≤ old + look + 3 * names
+pays_same old done look names looked same work e is = omega (arith, work, e, is)
 
-pub pays_same : (old done look names same back again : ℕ) → done ≤ old + look + 3 * same + again → names ≡ same → back ≡ again
-    → done ≤ old + look + 3 * names + back
-pays_same old done look names same back again work e is = omega (arith, work, e, is)
-
-pub pays_move : (old done look names back move : ℕ) → done ≤ old + look + 3 * names + back → look + 3 * names + back ≡ move → done ≤ old + move
-pays_move old done look names back move work e = omega (arith, work, e)
-
-pub pays_rest : (old look names back : ℕ) → old ≤ old + look + 3 * names + back
-pays_rest old look names back = omega arith
-
-pub pays_more : (old more : ℕ) → old ≤ old + more
-pays_more old more = omega arith
+pub pays_nothing : (old look names : ℕ) → old + 3 * 0 ≤ old + look + 3 * names
+pays_nothing old look names = omega arith
 
 -- A turn that was counted changes no sum over the processes that does not see how many turns a level has used.
 sum_changed : {A : Type 0} (f : A → ℕ) (g : A → A) → ((x : A) → f (g x) ≡ f x) → (p : ℕ) (xs : List A)
@@ -159,25 +147,14 @@ module _ (p : ℕ) (processes : List (Process Standing Copy)) where
       ap (λ (n : ℕ). places_put_back kind n (touched_in after) + 4 * levels_put_back (change_at p turn_used processes) events) counted_touched
       ∙ ap (λ (n : ℕ). places_put_back kind (touched_in processes) (touched_in after) + 4 * n) (counted_levels events)
 
--- the work of a running process is that of its move
+-- the work of a running process is that of its turn
 module _ (c : Code) (groups : List Membership) (t p : ℕ) (before : WordWorld) (q : Process Standing Copy)
     (there : slice_get before.processes p ≡ Some q)
     (running : q.status ≡ Running) where
-  abbrev Costs : TurnKind → Option (Process Standing Copy) → ℕ → List Event → WordWorld → ℕ
-  Costs kind o names events after =
-      looking (enters_there c kind o) + 3 * names + undoing kind before.processes events after.processes
+  -- what is looked at, and what is named
+  pub running_looks : (kind : TurnKind)
+      → looking (enters_there c kind (slice_get before.processes p)) ≡ looking (enters_there c kind (Some q))
+  running_looks kind = ap (λ (o : Option (Process Standing Copy)). looking (enters_there c kind o)) there
 
-  named_of_running : named_running c groups t p (turn_used q) before ≡ named_in_turn c groups t p before
-  named_of_running = ap (named_by_status c groups t p q before) (sym running) ∙ ap (named_there c groups t p before) (sym there)
-
-  pub running_moves : {L : Type 0} (parts : Parts L) (events : List Event) (came : Came) (moved : Moved Standing Copy Common)
-      → HasMoved parts events came moved
-      → Costs came.kind (Some q) (named_running c groups t p (turn_used q) before) events (world parts) ≡ move_work c groups t p before moved
-  running_moves parts events came moved has =
-      let names = named_running c groups t p (turn_used q) before in
-      ap (λ (kind : TurnKind). Costs kind (Some q) names events (world parts)) has.kind
-      ∙ (ap (λ (o : Option (Process Standing Copy)). Costs moved.kind o names events (world parts)) (sym there)
-      ∙ (ap (λ (n : ℕ). Costs moved.kind (slice_get before.processes p) n events (world parts)) named_of_running
-      ∙ (ap (λ (es : List Event). Costs moved.kind (slice_get before.processes p) (named_in_turn c groups t p before) es (world parts)) has.rejections
-      ∙ ap (λ (after : WordWorld). Costs moved.kind (slice_get before.processes p)
-      (named_in_turn c groups t p before) moved.rejections after) has.worlds)))
+  pub running_names : named_in_turn c groups t p before ≡ named_running c groups t p (turn_used q) before
+  running_names = ap (named_there c groups t p before) there ∙ ap (named_by_status c groups t p q before) running

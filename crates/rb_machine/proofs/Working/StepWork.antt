@@ -1,9 +1,5 @@
--- The work of a step of process number p, by where it leads: the words that it names, those that are named behind it where its test held, and
--- what its rejection puts back.
-use Rattle.std.proofs.Common.{◌≡◌, ℕ, ◌+◌, ◌*◌, ◌-◌, ◌≤◌, ℤ, Bool, List, [], slice_get, Option, Some, None, refl, ap, sym, ◌∙◌, subst, arith}
-use Rattle.rb_base.specs.declared.event.Cause.{Cause}
-use Rattle.rb_base.specs.declared.event.Event.{Event}
-use Rattle.rb_base.specs.declared.event.TurnKind.TheVariants.{Took, Undone}
+-- The work of a step of process number p: the words that it names, and those that are named behind it where its test held.
+use Rattle.std.proofs.Common.{◌≡◌, ℕ, ◌+◌, ◌*◌, ◌≤◌, ℤ, Bool, List, slice_get, Option, Some, None, refl, ap, sym, ◌∙◌, subst, arith}
 use Rattle.rb_world.specs.Kind.{Stepped}
 use Rattle.rb_world.specs.Slots.{Slots}
 use Rattle.rb_world.specs.Turn.{stands_now}
@@ -15,25 +11,44 @@ use Rattle.rb_conv.specs.Conversations.{Conversation, memberships, talks}
 use Rattle.rb_proc.specs.Process.{Seen, alternate_for, message_for, step_of}
 use Rattle.rb_proc.specs.Work.{named_in_step}
 use Rattle.rb_proc.specs.declared.answers.Outcome.TheVariants as outcome
-use Rattle.rb_machine.specs.Stepping.{HasStepped, turn_kept}
-use Rattle.rb_machine.specs.Work.{Undoes, levels_put_back, named_accepted, named_accepted_at, named_at_line, named_behind, named_by_steps, touched_in, undoing}
+use Rattle.rb_machine.specs.Stepping.{HasDoneAt, turn_kept}
+use Rattle.rb_machine.specs.Ends.{named_by_test, named_yet}
+use Rattle.rb_machine.specs.Moves.{world}
+use Rattle.rb_machine.specs.Work.{named_accepted, named_accepted_at, named_at_line, named_behind, named_by_steps}
 use Rattle.rb_machine.specs.Worlds.{memory_of, processes_of, world_of}
 use Rattle.rb_machine.specs.declared.links.Link.{Link as Linked}
+use Rattle.rb_machine.specs.declared.moves.Move.{Move}
+use Rattle.rb_machine.specs.declared.moves.Move.TheVariants as did
+use Rattle.rb_machine.specs.declared.parts.Parts.{Parts}
 use Rattle.rb_machine.proofs.Changed.{change_twice}
+use Rattle.rb_machine.proofs.Knowing.KnownHere.{process_there}
 use Rattle.rb_machine.proofs.Turning.StepFacts.{HeldTest, relinked, step_relinked}
 use Rattle.rb_machine.proofs.Turning.StepTaken.{AtStep}
 use Rattle.rb_machine.proofs.Turning.StepTaken as known
+use Rattle.rb_machine.proofs.Turning.TakenSteps.{HasStepped}
 use Rattle.rb_machine.proofs.Turning.TakenSteps as taken
 
--- a step that names n words, with others behind it
-kept_within : (start stepped after n others back : ℕ) → stepped ≤ start + 1 + 3 * n → after ≤ stepped + 3 * others
-    → after ≤ start + 1 + 3 * (n + others) + (0 + 4 * back)
-kept_within start stepped after n others back counted behind = omega (arith, counted, behind)
+-- a step that names n words, with others behind it that are named later, or not at all
+kept_within : (start stepped n others later : ℕ) → stepped ≤ start + 1 + 3 * n → later ≡ others
+    → stepped + 3 * later ≤ start + 1 + 3 * (n + others)
+kept_within start stepped n others later counted is = omega (arith, counted, is)
 
--- where it is undone, what is no longer touched pays for what is put back
-undone_within : (start stepped after n others before left told back : ℕ) → stepped ≤ start + 1 + 3 * n → told ≡ 0
-    → after + left + 4 * told ≤ stepped + before + 4 * back → after ≤ start + 1 + 3 * (n + others) + ((before - left) + 4 * back)
-undone_within start stepped after n others before left told back counted none undoes = omega (arith, counted, none, undoes)
+ended_within : (start stepped n others : ℕ) → stepped ≤ start + 1 + 3 * n → stepped + 3 * 0 ≤ start + 1 + 3 * (n + others)
+ended_within start stepped n others counted = omega (arith, counted)
+
+-- what an acceptance names does not depend on slots and links
+named_anywhere : (c : Code) (table : List Conversation) (p : ℕ) (levels : List (Level Copy)) (m m' : Common) (s : Standing)
+    (qs : List (Process Standing Copy)) (o : Option (Level Copy))
+    → named_accepted c (memberships table) p levels o (record { processes = qs; talks = talks table; memory = m }) s
+    ≡ named_accepted c (memberships table) p levels o (record { processes = qs; talks = talks table; memory = m' }) s
+named_anywhere c table p levels m m' s qs None = refl
+named_anywhere c table p levels m m' s qs (Some level) = by level.facts.conversation
+  where
+    by : (o : Option ℕ)
+        → named_accepted_at c (memberships table) p levels o (record { processes = qs; talks = talks table; memory = m }) s
+        ≡ named_accepted_at c (memberships table) p levels o (record { processes = qs; talks = talks table; memory = m' }) s
+    by None = refl
+    by (Some d) = refl
 
 -- what an acceptance names is the same, whatever state the process was left in
 named_again : (c : Code) (table : List Conversation) (p : ℕ) (levels : List (Level Copy)) (memory : Common) (s : Standing) (q : Process Standing Copy)
@@ -81,28 +96,11 @@ module _ {c : Code} {turn p : ℕ} {there : Bool} {procs : List Seen} {table : L
       subst (λ (ss : Slots). stepped ≤ start + 1 + 3 * named_in_step c one.process ss there) f
       (h one (ap (λ (xs : List Seen). slice_get xs p) e ∙ here))
 
-  -- it went on
-  pub went_work : (procs' : List Seen) (events : List Event) (start stepped : ℕ) → Counted start stepped
-      → stepped ≤ start + 1 + 3 * Named + undoing Took (processes_of procs) events (processes_of procs')
-  went_work procs' events start stepped counted =
-      kept_within start stepped stepped (named_in_step c one.process slots there)
-      (Behind (step c alternate (copy_of (last_of one.process.levels)) one.process.state message before.memory))
-      (levels_put_back (processes_of procs) events) counted (omega arith)
-
-  -- it trapped
-  pub trap_work : (slots' : Slots) (procs1 procs2 : List Seen) (cause : Cause)
-      (stepping : HasStepped c there p one (outcome.Trap cause) slots slots' procs procs1) → procs2 ≡ procs1 → (procs' final : List Seen)
-      (events events' : List Event) (start stepped after : ℕ) → events ≡ [] → final ≡ procs' → Counted start stepped
-      → Undoes stepped after (processes_of procs2) events (processes_of procs') events'
-      → after ≤ start + 1 + 3 * Named + undoing Undone (processes_of procs) events' (processes_of final)
-  trap_work slots' procs1 procs2 cause stepping again procs' final events events' start stepped after none last counted undoes =
-      let same : procs2 ≡ procs = known.unchanged at one here slots' procs1 procs2 cause stepping again in
-      let undone = subst (λ (xs : List Seen). Undoes stepped after (processes_of procs) events (processes_of xs) events') (sym last)
-      (subst (λ (xs : List Seen). Undoes stepped after (processes_of xs) events (processes_of procs') events') same undoes) in
-      undone_within start stepped after (named_in_step c one.process slots there)
-      (Behind (step c alternate (copy_of (last_of one.process.levels)) one.process.state message before.memory))
-      (touched_in (processes_of procs)) (touched_in (processes_of final)) (levels_put_back (processes_of procs) events)
-      (levels_put_back (processes_of procs) events') counted (ap (levels_put_back (processes_of procs)) none) undone
+  -- a step behind which nothing is named later
+  pub ended_work : (start stepped : ℕ) → Counted start stepped → stepped + 3 * 0 ≤ start + 1 + 3 * Named
+  ended_work start stepped counted =
+      ended_within start stepped (named_in_step c one.process slots there)
+      (Behind (step c alternate (copy_of (last_of one.process.levels)) one.process.state message before.memory)) counted
 
   -- its acceptance test held
   module _ (slots' : Slots) (procs1 procs2 procs3 procs4 : List Seen) (stepping : HasStepped c there p one outcome.Accepts slots slots' procs procs1)
@@ -125,32 +123,53 @@ module _ {c : Code} {turn p : ℕ} {there : Bool} {procs : List Seen} {table : L
         ≡ named_accepted c (memberships table) p one.process.levels (last_of one.process.levels) before at_test
     behind_is = ap Behind (step_relinked c one.process slots there before.memory.links ∙ ap (relinked before.memory.links) held.is)
 
-    pub held_work : (procs' : List Seen) (events : List Event) (start stepped after : ℕ) → Counted start stepped
-        → ((y : Seen) (memory : Common) → slice_get procs4 p ≡ Some y
-        → after ≤ stepped
-        + 3 * named_accepted c (memberships table) p y.process.levels (last_of y.process.levels)
-        (world_of procs4 table memory) y.process.state)
-        → after ≤ start + 1 + 3 * Named + undoing Took (processes_of procs) events (processes_of procs')
-    held_work procs' events start stepped after counted accepts =
-        kept_within start stepped after (named_in_step c one.process slots there)
-        (Behind (step c alternate (copy_of (last_of one.process.levels)) one.process.state message before.memory))
-        (levels_put_back (processes_of procs) events) counted (subst (λ (n : ℕ). after ≤ stepped + 3 * n) (sym behind_is) behind)
-      where
-        behind : after ≤ stepped + 3 * named_accepted c (memberships table) p one.process.levels (last_of one.process.levels) before at_test
-        behind =
-            subst (λ (n : ℕ). after ≤ stepped + 3 * n)
-            (ap (λ (qs : List (Process Standing Copy)). named_accepted c (memberships table) p one.process.levels (last_of one.process.levels)
-            (record { processes = qs; talks = talks table; memory = before.memory }) at_test)
-            (ap processes_of
-            (taken.put_held c table slots links there turn p one procs here (known.may at one here)
-            (known.number at one here) slots' procs1 procs4 stepping kept1)
-            ∙ taken.processes_put p holder procs)
-            ∙ named_again c table p one.process.levels before.memory at_test holder.process (processes_of procs) (last_of one.process.levels))
-            (subst (λ (x : Process Standing Copy). after
-            ≤ stepped + 3 * named_accepted c (memberships table) p x.levels (last_of x.levels)
-            (world_of procs4 table before.memory) x.state)
-            (taken.holder_is c table slots links there turn p one procs here (known.may at one here)
-            (known.number at one here) slots' procs1 procs4 stepping kept1)
-            (accepts holder before.memory
-            (taken.holder_there c table slots links there turn p one procs here (known.may at one here)
-            (known.number at one here) slots' procs1 procs4 stepping kept1)))
+    -- so what the acceptance names later is what is named behind the step
+    held_names : (memory : Common)
+        → named_accepted c (memberships table) p holder.process.levels (last_of holder.process.levels) (world_of procs4 table memory)
+        holder.process.state
+        ≡ Behind (step c alternate (copy_of (last_of one.process.levels)) one.process.state message before.memory)
+    held_names memory =
+        ap (λ (x : Process Standing Copy). named_accepted c (memberships table) p x.levels (last_of x.levels) (world_of procs4 table memory) x.state)
+        (taken.holder_is c table slots links there turn p one procs here (known.may at one here)
+        (known.number at one here) slots' procs1 procs4 stepping kept1)
+        ∙ (ap (λ (qs : List (Process Standing Copy)). named_accepted c (memberships table) p one.process.levels (last_of one.process.levels)
+        (record { processes = qs; talks = talks table; memory = memory }) at_test)
+        (ap processes_of
+        (taken.put_held c table slots links there turn p one procs here (known.may at one here)
+        (known.number at one here) slots' procs1 procs4 stepping kept1)
+        ∙ taken.processes_put p holder procs)
+        ∙ (named_again c table p one.process.levels memory at_test holder.process (processes_of procs) (last_of one.process.levels)
+        ∙ (named_anywhere c table p one.process.levels memory before.memory at_test (processes_of procs) (last_of one.process.levels)
+        ∙ sym behind_is)))
+
+    pub held_work : (start stepped : ℕ) (memory : Common) → Counted start stepped
+        → stepped
+        + 3 * named_by_test c (memberships table) p (world_of procs4 table memory) (slice_get (processes_of procs4) p)
+        ≤ start + 1 + 3 * Named
+    held_work start stepped memory counted =
+        kept_within start stepped (named_in_step c one.process slots there)
+        (Behind (step c alternate (copy_of (last_of one.process.levels)) one.process.state message before.memory)) _ counted
+        (ap (named_by_test c (memberships table) p (world_of procs4 table memory))
+        (process_there procs4 p holder
+        (taken.holder_there c table slots links there turn p one procs here (known.may at one here)
+        (known.number at one here) slots' procs1 procs4 stepping kept1))
+        ∙ held_names memory)
+
+-- the words that a step names, with those that are named at the end of its turn
+module _ {L : Type 0} {c : Code} {turn p : ℕ} {there : Bool} {procs : List Seen} {slots : Slots} {links : List Linked} (after : Parts L)
+    (at : AtStep c turn p there procs after.table slots links) (one : Seen) (here : slice_get procs p ≡ Some one) where
+  pub step_names : (m : Move) → HasDoneAt c turn there p one m slots after.mails.items procs after.procs.items → (start stepped : ℕ)
+      → Counted at one here start stepped
+      → stepped + 3 * named_yet c (memberships after.table) p (world after) m ≤ start + 1 + 3 * Named at one here
+  step_names did.Went done start stepped counted = ended_work at one here start stepped counted
+  step_names did.Tells done start stepped counted = ended_work at one here start stepped counted
+  step_names (did.Rejects left cause) done start stepped counted = ended_work at one here start stepped counted
+  step_names did.Accepts done start stepped counted =
+      let k = done.does in
+      held_work at one here after.mails.items (known.calm_at after at one here k.later) (known.calm_at after at one here k.later) after.procs.items
+      after.procs.items (known.stepping after at one here outcome.Accepts k.later k.comes) refl
+      (known.kept_at after at one here outcome.Accepts done.later k done.processes) refl start stepped
+      (memory_of after.mails.items after.links.items) counted
+  step_names did.Rests done start stepped counted = absurd done.does
+  step_names did.Waits done start stepped counted = absurd done.does
+  step_names (did.Enters b) done start stepped counted = absurd done.does

@@ -34,7 +34,7 @@ level_more : (levels : List (Level Copy)) (level : Level Copy) (s : Standing) �
 level_more [] level s = tt
 level_more (one ∷ levels) level s = tt
 
-used_freed : (levels : List (Level Copy)) (s : Standing) → HoldsNone levels s → HoldsNone (map one_used levels) s
+pub used_freed : (levels : List (Level Copy)) (s : Standing) → HoldsNone levels s → HoldsNone (map one_used levels) s
 used_freed [] s none = none
 used_freed (level ∷ levels) s none = tt
 

@@ -8,13 +8,16 @@ use Rattle.rb_world.specs.World.{change_at}
 use Rattle.rb_world.proofs.ListFacts.{some_same}
 use Rattle.rb_code.specs.Instructions.Plain.{code as plain}
 use Rattle.rb_code.specs.WordMachine.Turn.{want}
-use Rattle.rb_proc.specs.Entries.{entered_process}
+use Rattle.rb_proc.specs.Entries.{WantsBlock, entered_process}
 use Rattle.rb_proc.specs.Process.{Seen, kind_of}
 use Rattle.rb_proc.proofs.Leaving.{none_there}
-use Rattle.rb_machine.specs.Moves.{WantsBlock, passes_of}
+use Rattle.rb_machine.specs.Moves.{passes_of}
 use Rattle.rb_machine.specs.Rejections.{changed}
+use Rattle.rb_machine.specs.Telling.{takes_nothing_back}
 use Rattle.rb_machine.specs.Worlds.{NoneWaits, memory_of, world_of}
 use Rattle.rb_machine.proofs.Turning.Acting.{moved_as}
+use Rattle.rb_machine.proofs.Turning.Ended.{not_quiet}
+use Rattle.rb_machine.proofs.Turning.Entered.{entered_goes_on}
 use Rattle.rb_machine.proofs.Turning.Entering.{entry_trapped, few_levels, has_failed, has_opened, is_listed, wants_block}
 use Rattle.rb_machine.proofs.Knowing.KnownHere.{are_quiet, may_reject}
 use Rattle.rb_machine.proofs.Rejecting.QuietProcesses.{waits_at}
@@ -66,6 +69,12 @@ returns-then-levels-ge-MOST_OPEN_LEVELS-clause-moved g c facts one there wants =
 pub returns-then-levels-ge-MOST_OPEN_LEVELS-clause-left : goal.returns-then-levels-ge-MOST_OPEN_LEVELS-clause-left
 returns-then-levels-ge-MOST_OPEN_LEVELS-clause-left g c = c.undo.ensures.left (plain c.args.code.now) c.requires.work.work.sized
 
+pub returns-then-levels-ge-MOST_OPEN_LEVELS-clause-took : goal.returns-then-levels-ge-MOST_OPEN_LEVELS-clause-took
+returns-then-levels-ge-MOST_OPEN_LEVELS-clause-took g c = λ e. not_quiet (sym c.undo.ensures.quiet ∙ e)
+
+pub returns-then-levels-ge-MOST_OPEN_LEVELS-clause-quiet : goal.returns-then-levels-ge-MOST_OPEN_LEVELS-clause-quiet
+returns-then-levels-ge-MOST_OPEN_LEVELS-clause-quiet g c = λ e. not_quiet (sym c.undo.ensures.quiet ∙ e)
+
 pub alternate_for-requires : goal.alternate_for-requires
 alternate_for-requires g c =
     let code = plain c.args.code.now in
@@ -83,6 +92,10 @@ open-requires-clause-shallow g c one there =
     let here = slice_get_read procs (length procs) c.args.p c.index.result.now refl c.requires.process c.index.ensures in
     let same = some_same (sym here ∙ (ap (λ (xs : List Seen). slice_get xs c.args.p) (sym c.deref_mut-in-Some.ensures.value) ∙ there)) in
     omega (arith, c.levels-levels.ensures, ap (λ (x : Seen). length x.process.levels) same)
+
+pub open-requires-clause-wants : goal.open-requires-clause-wants
+open-requires-clause-wants g c one there =
+    c.requires.wants one (ap (λ (xs : List Seen). slice_get xs c.args.p) (sym c.deref_mut-in-Some.ensures.value) ∙ there)
 
 pub returns-in-None-clause-moved : goal.returns-in-None-clause-moved
 returns-in-None-clause-moved g c facts one there wants =
@@ -121,6 +134,12 @@ returns-in-None-clause-left g c =
       few = omega (arith, c.requires.none, ap (λ pass. length (passes_of pass)) c.without_pass.ensures.pass);
     }
 
+pub returns-in-None-clause-took : goal.returns-in-None-clause-took
+returns-in-None-clause-took g c = λ e. not_quiet (sym c.without_pass.ensures.quiet ∙ e)
+
+pub returns-in-None-clause-quiet : goal.returns-in-None-clause-quiet
+returns-in-None-clause-quiet g c = λ e. not_quiet (sym c.without_pass.ensures.quiet ∙ e)
+
 pub returns-in-Some-clause-moved : goal.returns-in-Some-clause-moved
 returns-in-Some-clause-moved g c facts one there wants =
     let code = plain c.args.code.now in
@@ -141,9 +160,9 @@ returns-in-Some-clause-moved g c facts one there wants =
     let kept = with_items_is parts.procs c.open.new.procs (omega (arith, c.open.auto.procs, c.deref_mut-in-Some.ensures.len)) in
     record {
       worlds = ap (λ (xs : List Seen). world_of xs c.alternate_for.new.table (memory_of parts.mails.items c.open.new.links.items)) kept ∙ h.world;
-      kind = c.without_pass-in-Some.ensures.kind ∙ h.kind;
+      kind = c.quietly.ensures.kind ∙ h.kind;
       rejections = none_there c.args.events.now.items c.requires.none ∙ h.rejections;
-      passes = ap passes_of c.without_pass-in-Some.ensures.pass ∙ h.passes;
+      passes = ap passes_of c.quietly.ensures.pass ∙ h.passes;
     }
 
 pub returns-in-Some-clause-left : goal.returns-in-Some-clause-left
@@ -164,5 +183,28 @@ returns-in-Some-clause-left g c =
           (waits_at c.args.p (entered_process code wants.0 c.in-Some.alternate c.args.turn) procs c.requires.work.waits);
       groups = c.alternate_for.ensures.groups;
       sized = c.requires.work.work.sized;
-      few = omega (arith, c.requires.none, ap (λ pass. length (passes_of pass)) c.without_pass-in-Some.ensures.pass);
+      few = omega (arith, c.requires.none, ap (λ pass. length (passes_of pass)) c.quietly.ensures.pass);
+    }
+
+pub returns-in-Some-clause-took : goal.returns-in-Some-clause-took
+returns-in-Some-clause-took g c = λ e. c.quietly.ensures.kind
+
+pub returns-in-Some-clause-quiet : goal.returns-in-Some-clause-quiet
+returns-in-Some-clause-quiet g c = λ e.
+    let code = plain c.args.code.now in
+    let parts = c.args.parts.now in
+    let procs = parts.procs.items in
+    let one = c.index.result.now in
+    let here = slice_get_read procs (length procs) c.args.p one refl c.requires.process c.index.ensures in
+    let wants = wants_block c.args.block (want code one.process.state) (c.requires.wants one here) in
+    let lent = ap (λ (xs : List Seen). slice_get xs c.args.p) c.deref_mut-in-Some.ensures.value ∙ here in
+    let opens = subst
+    (λ (xs : List Seen). c.open.new.procs ≡ change_at c.args.p (changed (entered_process code wants.0 c.in-Some.alternate c.args.turn)) xs)
+    c.deref_mut-in-Some.ensures.value (c.open.ensures.processes one wants.0 lent wants.1) in
+    let kept = with_items_is parts.procs c.open.new.procs (omega (arith, c.open.auto.procs, c.deref_mut-in-Some.ensures.len)) in
+    record {
+      kind = ap takes_nothing_back c.quietly.ensures.kind;
+      none = ap passes_of c.quietly.ensures.pass;
+      goes_on = entered_goes_on code (c.args.turn + 1) procs parts.table parts.mails.items parts.links.items c.requires.work.work c.args.p one here
+          (c.requires.acting one here) wants.0 wants.1 c.in-Some.alternate c.args.turn _ (kept ∙ opens);
     }

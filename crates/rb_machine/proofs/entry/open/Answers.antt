@@ -1,6 +1,6 @@
 -- Only the process that enters is changed, and its last kept turn is read before.
 use Rattle.std.proofs.Common.{◌≡◌, ap, sym, ◌∙◌, get_or, set, subst}
-use Rattle.std.proofs.lemmas.Option.{get_or_from_slice_get}
+use Rattle.std.proofs.lemmas.Option.{get_or_from_slice_get, slice_get-get_or}
 use Rattle.rb_world.specs.Kind.{Enters}
 use Rattle.rb_code.specs.Instructions.Plain.{code as plain}
 use Rattle.rb_code.specs.WordMachine.Turn.{want}
@@ -11,14 +11,20 @@ use Rattle.rb_machine.specs.Rejections.{changed}
 use Rattle.rb_machine.proofs.Turning.Entering.{entered_seen, entry_link}
 use Rattle.rb_machine.proofs.entry.open.Goals as goal
 
+pub enter_block-requires-clause-wants : goal.enter_block-requires-clause-wants
+enter_block-requires-clause-wants g c =
+    let procs = c.args.procs.now in
+    let was = c.index-procs-p.result in
+    c.requires.wants (get_or procs c.args.p was) (slice_get-get_or procs c.args.p was c.requires.process)
+
 pub returns-clause-processes : goal.returns-clause-processes
 returns-clause-processes g c one facts there wants =
     let code = plain c.args.code.now in
     let procs = c.args.procs.now in
-    let was = c.index-procs-p-2.result in
+    let was = c.index-procs-p.result in
     let is : get_or procs c.args.p was ≡ one = get_or_from_slice_get procs c.args.p one was there in
-    let entered = entered_seen code facts c.args.alternate c.args.turn (get_or procs c.args.p was) c.enter.new.self
-    (subst (λ (x : Seen). want code x.process.state ≡ Enters facts) (sym is) wants) c.enter.ensures.process c.enter.ensures.waiting in
+    let entered = entered_seen code facts c.args.alternate c.args.turn (get_or procs c.args.p was) c.enter_block.new.self
+    (subst (λ (x : Seen). want code x.process.state ≡ Enters facts) (sym is) wants) c.enter_block.ensures.process c.enter_block.ensures.waiting in
     ap (set procs c.args.p) entered
     ∙ set-changes (changed (entered_process code facts c.args.alternate c.args.turn)) procs c.args.p was c.requires.process
 

@@ -3,10 +3,11 @@ use Rattle.std.proofs.Common.{ap, sym, ◌∙◌}
 use Rattle.rb_world.proofs.ListFacts.{slice_get-there}
 use Rattle.rb_code.specs.Instructions.Plain.{code as plain}
 use Rattle.rb_code.specs.WordMachine.Turn.{want}
-use Rattle.rb_machine.proofs.Turning.Acting.{is_maybe, is_message, is_room}
+use Rattle.rb_machine.proofs.Turning.Acting.{is_room}
+use Rattle.rb_machine.specs.Receipts.{is_receipt_that_waits}
 use Rattle.rb_machine.specs.Work.{is_entry}
 use Rattle.rb_machine.proofs.Working.MoveWork.{is_no_entry}
-use Rattle.rb_machine.proofs.Turning.ReadyFor.{enters_ready, idles_ready, receiver_here, receiver_if_here, steps_ready}
+use Rattle.rb_machine.proofs.Turning.ReadyFor.{enters_ready, idles_ready, receipt_here, receipt_is_no_entry, receiver_here, steps_ready}
 use Rattle.rb_machine.proofs.moves.ready.Goals as goal
 
 pub send-requires-clause-wants : goal.send-requires-clause-wants
@@ -16,22 +17,13 @@ send-requires-clause-wants g c one there =
 pub receive-requires-clause-receiver : goal.receive-requires-clause-receiver
 receive-requires-clause-receiver g c =
     let here = slice_get-there c.args.procs.now c.args.p c.requires.process in
-    receiver_here (plain c.args.code.now) c.args.procs.now c.args.p c.args.wanted c.requires.wanted c.in-Message.channel c.requires.receiver
-    c.in-Message.is here.0 here.1
+    receiver_here (plain c.args.code.now) c.args.procs.now c.args.p c.args.wanted c.requires.wanted c.in-Message.channel c.in-Message.is
+    here.0 here.1 c.requires.receiver
 
 pub receive-requires-clause-wants : goal.receive-requires-clause-wants
 receive-requires-clause-wants g c one there =
-    is_message (want (plain c.args.code.now) one.process.state) c.in-Message.channel (sym (c.requires.wanted one there) ∙ c.in-Message.is)
-
-pub look-requires-clause-receiver : goal.look-requires-clause-receiver
-look-requires-clause-receiver g c =
-    let here = slice_get-there c.args.procs.now c.args.p c.requires.process in
-    receiver_if_here (plain c.args.code.now) c.args.procs.now c.args.p c.args.wanted c.requires.wanted c.in-Maybe.channel c.requires.receiver
-    c.in-Maybe.is here.0 here.1
-
-pub look-requires-clause-wants : goal.look-requires-clause-wants
-look-requires-clause-wants g c one there =
-    is_maybe (want (plain c.args.code.now) one.process.state) c.in-Maybe.channel (sym (c.requires.wanted one there) ∙ c.in-Maybe.is)
+    receipt_here (plain c.args.code.now) c.args.procs.now c.args.p c.args.wanted c.requires.wanted c.in-Message.channel c.in-Message.is
+    one there c.waits_for_message.result (c.waits_for_message.ensures ∙ ap is_receipt_that_waits c.in-Message.wanted-is)
 
 pub returns-in-Idle-clause-ready : goal.returns-in-Idle-clause-ready
 returns-in-Idle-clause-ready g c = idles_ready (plain c.args.code.now) c.args.procs.now c.args.p c.args.wanted c.requires.wanted c.in-Idle.is
@@ -54,13 +46,10 @@ returns-in-Room-clause-entry g c entry =
 pub returns-in-Message-clause-entry : goal.returns-in-Message-clause-entry
 returns-in-Message-clause-entry g c entry =
     let code = plain c.args.code.now in
-    let here = slice_get-there c.args.procs.now c.args.p c.requires.process in
-    let wants = is_message (want code here.0.process.state) c.in-Message.channel (sym (c.requires.wanted here.0 here.1) ∙ c.in-Message.is) in
-    absurd (is_no_entry code c.args.procs.now c.args.p c.receive.result here.0 c.receive.ensures.ready here.1 (ap is_entry wants) entry)
-
-pub returns-in-Maybe-clause-entry : goal.returns-in-Maybe-clause-entry
-returns-in-Maybe-clause-entry g c entry =
-    let code = plain c.args.code.now in
-    let here = slice_get-there c.args.procs.now c.args.p c.requires.process in
-    let wants = is_maybe (want code here.0.process.state) c.in-Maybe.channel (sym (c.requires.wanted here.0 here.1) ∙ c.in-Maybe.is) in
-    absurd (is_no_entry code c.args.procs.now c.args.p c.look.result here.0 c.look.ensures.ready here.1 (ap is_entry wants) entry)
+    let procs = c.args.procs.now in
+    let here = slice_get-there procs c.args.p c.requires.process in
+    let waits = c.waits_for_message.result in
+    let wants = receipt_here code procs c.args.p c.args.wanted c.requires.wanted c.in-Message.channel c.in-Message.is here.0 here.1 waits
+    (c.waits_for_message.ensures ∙ ap is_receipt_that_waits c.in-Message.wanted-is) in
+    absurd (is_no_entry code procs c.args.p c.receive.result here.0 c.receive.ensures.ready here.1
+    (ap is_entry wants ∙ receipt_is_no_entry waits c.in-Message.channel) entry)

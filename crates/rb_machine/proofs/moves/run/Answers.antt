@@ -1,8 +1,9 @@
 -- The turn is counted, and then goes on in the world in which it was.
-use Rattle.std.proofs.Common.{ap, sym, ◌∙◌, subst, List, option_map, slice_get, position, arith}
+use Rattle.std.proofs.Common.{ap, sym, ◌∙◌, subst, List, Some, option_map, slice_get, position, arith}
 use Rattle.std.proofs.lemmas.List.{with_items_is}
+use Rattle.std.specs.Vec.{with_items}
 use Rattle.rb_world.specs.Turn.{bounded, is_over, turn_used}
-use Rattle.rb_world.specs.World.{Process, change_at}
+use Rattle.rb_world.specs.World.{Process, change_at, with_process}
 use Rattle.rb_world.proofs.ListFacts.{slice_get-change_at, slice_get-there}
 use Rattle.rb_code.specs.Instructions.Plain.{code as plain}
 use Rattle.rb_code.specs.WordMachine.Turn.{Copy, Standing}
@@ -10,9 +11,10 @@ use Rattle.rb_code.specs.WordMachine.WordRun.{WordWorld}
 use Rattle.rb_conv.specs.Conversations.{memberships}
 use Rattle.rb_proc.specs.Process.{Seen}
 use Rattle.rb_machine.specs.Rejections.{changed}
-use Rattle.rb_machine.specs.Work.{named_within, undoing}
+use Rattle.rb_machine.specs.Moves.{world}
+use Rattle.rb_machine.specs.Work.{enters_there, looking, named_within, undoing}
 use Rattle.rb_machine.specs.Worlds.{NoneWaits, kind_with, processes_of}
-use Rattle.rb_machine.proofs.Turning.Acting.{moved_as}
+use Rattle.rb_machine.proofs.Turning.Ended.{leads_as, leads_from}
 use Rattle.rb_machine.proofs.Knowing.CountedTurns.{counted_there, counted_work, counted_world, few_used}
 use Rattle.rb_machine.proofs.Working.MoveWork.{counted_undoing, pays_same}
 use Rattle.rb_machine.proofs.Rejecting.QuietProcesses.{waits_at}
@@ -49,19 +51,34 @@ go_on-requires-clause-running g c one there =
     c.count-over.new.procs counted one (ap (λ (xs : List Seen). slice_get xs c.args.p) (sym kept) ∙ there) in
     ap (λ (x : Seen). x.process.status) (sym is) ∙ c.requires.running found.0 found.1
 
-pub returns-clause-moved : goal.returns-clause-moved
-returns-clause-moved g c one there =
+pub returns-clause-leads : goal.returns-clause-leads
+returns-clause-leads g c one there =
     let code = plain c.args.code.now in
     let parts = c.args.parts.now in
+    let procs = parts.procs.items in
     let k = kind_with code parts.table in
     let kept = with_items_is parts.procs c.count-over.new.procs (omega (arith, c.count-over.auto.procs, c.deref_mut.ensures.len)) in
     let counted = kept ∙ (c.count-over.ensures.counted ∙ ap (change_at c.args.p (changed turn_used)) c.deref_mut.ensures.value) in
     let q = turn_used one.process in
-    let w = counted_world code c.args.turn parts.procs.items parts.table parts.mails.items parts.links.items c.requires.work.work c.args.p one there _ counted in
-    moved_as (ap (λ (x : WordWorld). bounded k c.args.turn c.args.p q x (position is_over q.levels)) w)
-    (c.go_on.ensures.moved (changed turn_used one)
+    let w = counted_world code c.args.turn procs parts.table parts.mails.items parts.links.items c.requires.work.work c.args.p one there _ counted in
+    let after = with_items parts.procs c.count-over.new.procs in
+    leads_from code c.args.turn c.args.p (processes_of after.items) (processes_of procs) c.go_on.new.parts c.go_on.result
+    (bounded k c.args.turn c.args.p q (with_process c.args.p (λ _. q) (world parts)) (position is_over q.levels))
+    (λ kind events back. ap (λ (qs : List (Process Standing Copy)). undoing kind qs events back)
+    (ap processes_of counted ∙ processes_at c.args.p turn_used procs)
+    ∙ counted_undoing c.args.p (processes_of procs) kind events back)
+    (leads_as code c.args.turn c.args.p (processes_of after.items) c.go_on.new.parts c.go_on.result
+    (ap (λ (x : WordWorld). bounded k c.args.turn c.args.p q x (position is_over q.levels)) w)
+    (c.go_on.ensures.leads (changed turn_used one)
     (ap (λ (xs : List Seen). slice_get xs c.args.p) counted
-    ∙ (slice_get-change_at c.args.p (changed turn_used) parts.procs.items ∙ ap (option_map (changed turn_used)) there)))
+    ∙ (slice_get-change_at c.args.p (changed turn_used) procs ∙ ap (option_map (changed turn_used)) there))))
+
+pub returns-clause-stays : goal.returns-clause-stays
+returns-clause-stays g c = record {
+  table = c.go_on.ensures.stays.table;
+  waits = c.go_on.ensures.stays.waits;
+  sized = c.go_on.ensures.stays.sized;
+}
 
 pub returns-clause-work : goal.returns-clause-work
 returns-clause-work g c one there =
@@ -69,17 +86,14 @@ returns-clause-work g c one there =
     let parts = c.args.parts.now in
     let procs = parts.procs.items in
     let groups = memberships parts.table in
+    let k = kind_with code parts.table in
     let kept = with_items_is parts.procs c.count-over.new.procs (omega (arith, c.count-over.auto.procs, c.deref_mut.ensures.len)) in
     let counted = kept ∙ (c.count-over.ensures.counted ∙ ap (change_at c.args.p (changed turn_used)) c.deref_mut.ensures.value) in
     let q = turn_used one.process in
     let w = counted_world code c.args.turn procs parts.table parts.mails.items parts.links.items c.requires.work.work c.args.p one there _ counted in
-    let kind = c.go_on.result.kind in
-    let events = c.go_on.new.events.items in
-    let after = processes_of c.go_on.new.parts.procs.items in
-    pays_same _ _ _ _ _ _ _
+    pays_same _ _ _ _ _ _
     (c.go_on.ensures.work (changed turn_used one)
     (ap (λ (xs : List Seen). slice_get xs c.args.p) counted
     ∙ (slice_get-change_at c.args.p (changed turn_used) procs ∙ ap (option_map (changed turn_used)) there)))
+    (ap (λ (x : WordWorld). looking (enters_there code (bounded k c.args.turn c.args.p q x (position is_over q.levels)).kind (Some q))) (sym w))
     (ap (λ (x : WordWorld). named_within code groups c.args.turn c.args.p q x (position is_over q.levels)) (sym w))
-    (sym (ap (λ (qs : List (Process Standing Copy)). undoing kind qs events after) (ap processes_of counted ∙ processes_at c.args.p turn_used procs)
-    ∙ counted_undoing c.args.p (processes_of procs) kind events after))

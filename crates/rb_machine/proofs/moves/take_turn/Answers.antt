@@ -1,18 +1,19 @@
 -- A process that is there and runs takes its turn, and no other does.
-use Rattle.std.proofs.Common.{true≢false, ap, sym, ◌∙◌, refl, List, slice_get}
+use Rattle.std.proofs.Common.{ap, sym, ◌∙◌, refl, List, slice_get}
 use Rattle.std.proofs.lemmas.Option.{slice_get_within}
 use Rattle.rb_world.proofs.ListFacts.{some_same}
 use Rattle.rb_code.specs.Instructions.Plain.{code as plain}
+use Rattle.rb_code.specs.WordMachine.Turn.{Common, Copy, Standing}
 use Rattle.rb_conv.specs.Conversations.{memberships}
 use Rattle.rb_proc.specs.Process.{Seen}
-use Rattle.rb_proc.proofs.Leaving.{none_there}
-use Rattle.rb_world.specs.Turn.{move}
-use Rattle.rb_machine.specs.Moves.{passes_of, world}
+use Rattle.rb_world.specs.Turn.{Moved}
+use Rattle.rb_machine.specs.Moves.{world}
 use Rattle.rb_machine.specs.Turns.{runs_there}
+use Rattle.rb_machine.specs.Work.{enters_there, looking}
 use Rattle.rb_machine.specs.Worlds.{kind_with, processes_of}
-use Rattle.rb_machine.proofs.Turning.Acting.{moved_as}
+use Rattle.rb_machine.proofs.Turning.Ended.{leads_as}
 use Rattle.rb_machine.proofs.Knowing.KnownHere.{process_there}
-use Rattle.rb_machine.proofs.Working.MoveWork.{pays_more, pays_move, running_moves}
+use Rattle.rb_machine.proofs.Working.MoveWork.{pays_nothing, pays_same, running_looks, running_names}
 use Rattle.rb_machine.proofs.Turning.TurnsTaken.{rests, running_there, runs_counted}
 use Rattle.rb_machine.proofs.moves.take_turn.Goals as goal
 
@@ -32,29 +33,35 @@ run-requires-clause-running g c one there =
     let found = running_there procs c.args.p runs in
     ap (λ (x : Seen). x.process.status) (some_same (sym there ∙ found.1)) ∙ found.2
 
-pub returns-then-is_running-clause-moved : goal.returns-then-is_running-clause-moved
-returns-then-is_running-clause-moved g c =
+pub returns-then-is_running-clause-leads : goal.returns-then-is_running-clause-leads
+returns-then-is_running-clause-leads g c =
+    let code = plain c.args.code.now in
     let parts = c.args.parts.now in
     let procs = parts.procs.items in
     let runs = ap (λ (xs : List Seen). runs_there (slice_get (processes_of xs) c.args.p)) (sym c.deref.ensures.value)
     ∙ (sym c.is_running.ensures ∙ c.if-is_running.true) in
     let found = running_there procs c.args.p runs in
-    moved_as (sym (runs_counted (kind_with (plain c.args.code.now) parts.table) c.args.turn c.args.p (world parts) found.0.process
+    leads_as code c.args.turn c.args.p (processes_of procs) c.run.new.parts c.run.result (sym (runs_counted (kind_with code parts.table) c.args.turn c.args.p (world parts) found.0.process
     (process_there procs c.args.p found.0 found.1) found.2))
-    (c.run.ensures.moved found.0 found.1)
+    (c.run.ensures.leads found.0 found.1)
 
-pub returns-else-is_running-clause-moved : goal.returns-else-is_running-clause-moved
-returns-else-is_running-clause-moved g c =
+pub returns-else-is_running-clause-leads : goal.returns-else-is_running-clause-leads
+returns-else-is_running-clause-leads g c =
     let parts = c.args.parts.now in
     let none = ap (λ (xs : List Seen). runs_there (slice_get (processes_of xs) c.args.p)) (sym c.deref.ensures.value)
     ∙ (sym c.is_running.ensures ∙ c.if-is_running.false) in
-    moved_as (sym (rests (kind_with (plain c.args.code.now) parts.table) c.args.turn c.args.p (world parts) none))
-    (record {
-      worlds = refl;
-      kind = c.without_pass.ensures.kind;
-      rejections = none_there c.args.events.now.items c.requires.none;
-      passes = ap passes_of c.without_pass.ensures.pass;
-    })
+    rests (kind_with (plain c.args.code.now) parts.table) c.args.turn c.args.p (world parts) none
+
+pub returns-then-is_running-clause-ran : goal.returns-then-is_running-clause-ran
+returns-then-is_running-clause-ran g c e =
+    ap (λ (xs : List Seen). runs_there (slice_get (processes_of xs) c.args.p)) (sym c.deref.ensures.value)
+    ∙ (sym c.is_running.ensures ∙ c.if-is_running.true)
+
+pub returns-else-is_running-clause-ran : goal.returns-else-is_running-clause-ran
+returns-else-is_running-clause-ran g c e = absurd (let no_way : ⊥ = cc in no_way)
+
+pub returns-else-is_running-clause-stays : goal.returns-else-is_running-clause-stays
+returns-else-is_running-clause-stays g c = record { table = refl; waits = c.requires.work.waits; sized = c.requires.work.work.sized }
 
 pub returns-then-is_running-clause-work : goal.returns-then-is_running-clause-work
 returns-then-is_running-clause-work g c =
@@ -62,26 +69,16 @@ returns-then-is_running-clause-work g c =
     let parts = c.args.parts.now in
     let procs = parts.procs.items in
     let k = kind_with code parts.table in
+    let groups = memberships parts.table in
     let runs = ap (λ (xs : List Seen). runs_there (slice_get (processes_of xs) c.args.p)) (sym c.deref.ensures.value)
     ∙ (sym c.is_running.ensures ∙ c.if-is_running.true) in
     let found = running_there procs c.args.p runs in
     let here = process_there procs c.args.p found.0 found.1 in
-    let moved =
-    moved_as (sym (runs_counted k c.args.turn c.args.p (world parts) found.0.process here found.2)) (c.run.ensures.moved found.0 found.1) in
-    pays_move _ _ _ _ _ _ (c.run.ensures.work found.0 found.1)
-    (running_moves code (memberships parts.table) c.args.turn c.args.p (world parts) found.0.process here found.2
-    c.run.new.parts c.run.new.events.items c.run.result (move k c.args.turn c.args.p (world parts)) moved)
+    let counted = runs_counted k c.args.turn c.args.p (world parts) found.0.process here found.2 in
+    pays_same _ _ _ _ _ _ (c.run.ensures.work found.0 found.1)
+    (ap (λ (moved : Moved Standing Copy Common). looking (enters_there code moved.kind (slice_get (processes_of procs) c.args.p))) counted
+    ∙ running_looks code groups c.args.turn c.args.p (world parts) found.0.process here found.2 _)
+    (running_names code groups c.args.turn c.args.p (world parts) found.0.process here found.2)
 
 pub returns-else-is_running-clause-work : goal.returns-else-is_running-clause-work
-returns-else-is_running-clause-work g c = pays_more _ _
-
-pub returns-then-is_running-clause-ran : goal.returns-then-is_running-clause-ran
-returns-then-is_running-clause-ran g c e =
-    ap (λ (xs : List Seen). runs_there (slice_get (processes_of xs) c.args.p)) (sym c.deref.ensures.value)
-    ∙ (sym c.is_running.ensures ∙ c.if-is_running.true)
-
-pub returns-else-is_running-clause-quiet : goal.returns-else-is_running-clause-quiet
-returns-else-is_running-clause-quiet g c e = absurd (true≢false (sym e ∙ c.without_pass.ensures.quiet))
-
-pub returns-else-is_running-clause-ran : goal.returns-else-is_running-clause-ran
-returns-else-is_running-clause-ran g c e = absurd (true≢false (sym e ∙ c.without_pass.ensures.quiet))
+returns-else-is_running-clause-work g c = pays_nothing _ _ _

@@ -1,0 +1,51 @@
+-- What each outcome of the step leaves.
+use Rattle.std.proofs.Common.{ℕ, ◌∷◌, ◌++◌, List, [], ap, ◌∙◌}
+use Rattle.rb_machine.specs.Stepping.{turn_kept}
+use Rattle.rb_machine.specs.declared.links.Link.{Link as Linked}
+use Rattle.rb_machine.proofs.step.step_kept.Goals as goal
+
+pub returns-then-is_quiet-clause-done : goal.returns-then-is_quiet-clause-done
+returns-then-is_quiet-clause-done g c = (
+  record {
+    later = c.step.new.self.process;
+    comes = c.in-Went.ensures.came;
+    kept = c.keep.ensures
+        ∙ ap (λ (lines : List (List ℕ)). turn_kept c.args.turn (record { process = c.step.new.self.process; waiting = lines }))
+        (c.step.ensures.waiting ∙ c.requires.may.none_waits);
+  },
+  record { running = c.is_quiet.ensures.running c.if-is_quiet.true; same = λ code. c.is_quiet.ensures.same code c.if-is_quiet.true },
+)
+
+pub returns-else-is_quiet-clause-done : goal.returns-else-is_quiet-clause-done
+returns-else-is_quiet-clause-done g c = record {
+  later = c.step.new.self.process;
+  comes = c.in-Went.ensures.came;
+  kept = c.keep.ensures
+      ∙ ap (λ (lines : List (List ℕ)). turn_kept c.args.turn (record { process = c.step.new.self.process; waiting = lines }))
+      (c.step.ensures.waiting ∙ c.requires.may.none_waits);
+}
+
+pub returns-in-Accepts-clause-done : goal.returns-in-Accepts-clause-done
+returns-in-Accepts-clause-done g c = record {
+  later = c.step.new.self.process;
+  comes = c.in-Accepts.ensures.came;
+  kept = c.keep-in-Accepts.ensures
+      ∙ ap (λ (lines : List (List ℕ)). turn_kept c.args.turn (record { process = c.step.new.self.process; waiting = lines }))
+      (c.step.ensures.waiting ∙ c.requires.may.none_waits);
+}
+
+pub returns-in-Trap-clause-done : goal.returns-in-Trap-clause-done
+returns-in-Trap-clause-done g c =
+    (c.in-Trap.ensures.came, c.step.ensures.waiting ∙ c.requires.may.none_waits, c.levels.ensures)
+
+pub returns-then-is_quiet-clause-links : goal.returns-then-is_quiet-clause-links
+returns-then-is_quiet-clause-links g c = c.add.ensures.items ∙ ap (λ (l : Linked). c.args.links.now.items ++ l ∷ []) c.link_of-link.ensures
+
+pub returns-else-is_quiet-clause-links : goal.returns-else-is_quiet-clause-links
+returns-else-is_quiet-clause-links g c = c.add.ensures.items ∙ ap (λ (l : Linked). c.args.links.now.items ++ l ∷ []) c.link_of-link.ensures
+
+pub returns-in-Accepts-clause-links : goal.returns-in-Accepts-clause-links
+returns-in-Accepts-clause-links g c = c.add.ensures.items ∙ ap (λ (l : Linked). c.args.links.now.items ++ l ∷ []) c.link_of-link.ensures
+
+pub returns-in-Trap-clause-links : goal.returns-in-Trap-clause-links
+returns-in-Trap-clause-links g c = c.take_back.ensures.items c.args.links.now.items c.link_of-link.result c.add.ensures.items
