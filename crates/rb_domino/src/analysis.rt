@@ -18,7 +18,7 @@ use std::sync::ledger::Ledger;
 pub const NOW: u32 = u32::MAX;
 
 /// A state that is given up, and the message that forces it; `None` where the process failed.
-#[derive(Clone, Copy, Debug, PartialEq, Eq)]
+#[derive(Clone, Copy)]
 pub struct Dropped {
     pub process: u32,
     pub state: u32,

@@ -12,7 +12,7 @@ pub struct Message {
 }
 
 /// A line of a history. Processes and messages are numbered from 0 in the order of their first lines.
-#[derive(Clone, Copy, Debug, PartialEq, Eq)]
+#[derive(Clone, Copy)]
 pub enum Line {
     /// A process begins, with its recovery point 0.
     Begin(u32),

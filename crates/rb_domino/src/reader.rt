@@ -13,7 +13,7 @@ use std::alloc::{AllocFailed, Global};
 use std::collections::BTreeMap;
 
 /// Why a line was not taken.
-#[derive(Clone, Copy, Debug, PartialEq, Eq)]
+#[derive(Clone, Copy)]
 pub(crate) enum LineRefusal {
     Fault(FaultName),
     Memory,

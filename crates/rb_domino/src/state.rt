@@ -10,14 +10,14 @@ use rb_base::{Memory, Steps};
 use std::sync::ledger::Ledger;
 
 /// A state of a process: the number of a recovery point, or `NOW`, and its place among the lines of the history.
-#[derive(Clone, Copy, Debug, PartialEq, Eq)]
+#[derive(Clone, Copy)]
 pub struct State {
     pub number: u32,
     pub place: u32,
 }
 
 /// Why a process gives up its states after a place: it failed there, or it took a message there that breaks the line.
-#[derive(Clone, Copy, Debug, PartialEq, Eq)]
+#[derive(Clone, Copy)]
 pub struct Fall {
     pub process: u32,
     pub after: u32,
