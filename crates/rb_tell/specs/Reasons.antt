@@ -1,5 +1,5 @@
 -- Why a text was refused, in words: of the fault that the written line names, and of the files of the command.
-use Rattle.std.specs.Prelude.{◌≡◌, ℕ, ◌+◌, ◌<◌, ◌==◌, cond, Bool, true, false, List, [], length, Option, Some, None, slice_get, codes, Result, Ok}
+use Rattle.std.specs.Prelude.{◌≡◌, ℕ, ◌+◌, ◌<◌, ◌==◌, cond, Bool, true, false, List, [], length, Option, Some, None, slice_get, codes, Ok}
 use Rattle.rb_base.specs.Words.{fault_word}
 use Rattle.rb_base.specs.declared.fault.FaultName.{FaultName}
 use Rattle.rb_base.specs.declared.fault.FaultName.TheVariants.{B1, B2, B3, H1, H2, H3, H4, H5, I1, I2}

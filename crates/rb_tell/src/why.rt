@@ -9,7 +9,7 @@ ghost use Rattle.rb_plain.specs.Stuck.{stuck_turn};
 ghost use Rattle.rb_syntax.specs.Plain.{tree};
 ghost use Rattle.rb_why.specs.Frame.{framed_alone};
 ghost use Rattle.rb_why.specs.Phrases.{long_words};
-ghost use Rattle.rb_why.specs.Text.{names_process, text_told};
+ghost use Rattle.rb_why.specs.Text.{text_told};
 
 use crate::reads::{Reads, named, word_at};
 use crate::told::{Told, told_by};
@@ -21,7 +21,7 @@ use rb_plain::record::Record;
 use rb_plain::{StuckTurn, stuck_cause};
 use rb_top::Words;
 use rb_top::read::read_file;
-use rb_why::{file_reason, long_reason, source_reason, stuck_reason, text_reason};
+use rb_why::{file_reason, long_reason, names_process, source_reason, stuck_reason, text_reason};
 use std::alloc::Global;
 
 /// Why the texts of a command were refused, by the line that the command wrote. Nothing where it is no line of a refusal, where a file can't
@@ -177,13 +177,6 @@ fn number_of(name: FaultName) -> u8
         FaultName::B1 | FaultName::B2 | FaultName::B3 => 2,
         _ => 1,
     }
-}
-
-// Whether a fault is about a name that no process has.
-fn names_process(name: FaultName) -> bool
-    ensures { result ≡ names_process name }
-{
-    matches!(name, FaultName::T2 | FaultName::V2 | FaultName::B2)
 }
 
 // The names of the program.

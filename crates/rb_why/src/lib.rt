@@ -21,4 +21,4 @@ mod words;
 pub use file::{file_reason, long_reason};
 pub use source::source_reason;
 pub use stuck::stuck_reason;
-pub use text::text_reason;
+pub use text::{names_process, text_reason};

@@ -81,8 +81,8 @@ fn is_about_word(name: FaultName) -> bool
     )
 }
 
-// Whether a fault is about a name that no process has.
-fn names_process(name: FaultName) -> bool
+/// Whether a fault is about a name that no process has.
+pub fn names_process(name: FaultName) -> bool
     ensures { result ≡ names_process name }
 {
     matches!(name, FaultName::T2 | FaultName::V2 | FaultName::B2)
