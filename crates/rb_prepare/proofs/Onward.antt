@@ -6,7 +6,7 @@ use Rattle.rb_code.specs.SoundCode.Reached.{Reached, leads}
 use Rattle.rb_code.specs.SoundCode.Sound.{Each, IsMember}
 use Rattle.rb_code.specs.Agreement.Template.{One}
 use Rattle.rb_code.specs.declared.instr.Instr.{Instr}
-use Rattle.rb_code.specs.declared.instr.Instr.TheVariants.{Jump, JumpZero, Call, Absent, Range, Again, Start, Return, Done}
+use Rattle.rb_code.specs.declared.instr.Instr.TheVariants.{Jump, JumpZero, Absent, Range, Again, Start, Return, Done}
 use Rattle.rb_prepare.proofs.Walking.Ways.{ways, way_is_successor}
 
 -- what can be come to from an address, going ahead

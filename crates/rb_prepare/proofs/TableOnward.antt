@@ -1,10 +1,10 @@
 -- What a sound table has along ways that lead ahead: entries of one body, in which loops stay open up to their ends.
-use Rattle.std.proofs.Common.{◌≡◌, inl, ℕ, ◌+◌, ◌<◌, ◌≤◌, true, List, [], ◌∷◌, slice_get, Option, Some, ap, sym, ◌∙◌, subst, refl, arith}
+use Rattle.std.proofs.Common.{◌≡◌, inl, ℕ, ◌+◌, ◌≤◌, true, List, slice_get, Some, sym, ◌∙◌, subst, refl, arith}
 use Rattle.std.proofs.lemmas.Bool.{and_from, le-leb}
 use Rattle.rb_world.specs.Kind.{Membership}
 use Rattle.rb_world.proofs.ListFacts.{some_same}
 use Rattle.rb_code.specs.Instructions.Plain.{Code}
-use Rattle.rb_code.specs.SoundCode.Sound.{Entry, FineAt, HasTable, IsMember, IsOpen, Loop, Table, Within, end_of_loop, is_in}
+use Rattle.rb_code.specs.SoundCode.Sound.{Entry, FineAt, HasTable, IsMember, IsOpen, Loop, Table, Within, is_in}
 use Rattle.rb_code.specs.SoundCode.WellFormed.{LoopsStayOpen}
 use Rattle.rb_code.specs.declared.instr.Instr.{Instr}
 use Rattle.rb_code.specs.declared.instr.Instr.TheVariants.{Range}

@@ -1,5 +1,5 @@
 -- What `clap` makes of plain words that are given to a command: it takes as many as the command has, and finds them by their names.
-use Rattle.std.proofs.Common.{◌≡◌, ◌∙◌, ℕ, Bool, true, false, List, [], ◌∷◌, ◌++◌, map, codes, Option, Some, None, Box, Bor, ◌<◌, ◌+◌, length, take}
+use Rattle.std.proofs.Common.{◌≡◌, ◌∙◌, ℕ, true, false, List, [], ◌∷◌, ◌++◌, map, Option, Some, None, Box, Bor, ◌<◌, ◌+◌, length, take}
 use Rattle.std.proofs.Common.{slice_index_or, option_map, refl, sym, ap, true≢false}
 use Rattle.std.specs.Str.{bytes_eq}
 use Rattle.std.proofs.lemmas.List.{map-append, take_more}

@@ -1,5 +1,5 @@
 -- The code of an expression is walked, and counts nothing.
-use Rattle.std.proofs.Common.{◌≡◌, ℕ, ◌+◌, ◌<◌, ◌≤◌, pos, false, List, Option, Some, None, refl, ap, sym, ◌∙◌, slice_get, arith}
+use Rattle.std.proofs.Common.{◌≡◌, ℕ, ◌+◌, ◌<◌, pos, false, List, Option, Some, None, refl, ap, sym, ◌∙◌, arith}
 use Rattle.rb_syntax.specs.declared.expression.Op.{Op}
 use Rattle.rb_syntax.specs.declared.expression.Op.TheVariants as op
 use Rattle.rb_syntax.specs.declared.expression.Quantifier.{Quantifier}
