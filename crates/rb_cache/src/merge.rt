@@ -29,13 +29,14 @@ fn merge_step(
     ensures from { kept ≤ result }
     ensures behind { result ≤ i + 1 }
 {
-    let entry = arena[i];
-    if entry.place < lower.height && entry.earlier <= lower.first {
-        arena[kept] = entry;
-        stamps[entry.place as usize] = kept + 1;
+    let place = arena[i].place;
+    let earlier = arena[i].earlier;
+    if place < lower.height && earlier <= lower.first {
+        arena[kept] = arena[i];
+        stamps[place as usize] = kept + 1;
         kept + 1
     } else {
-        stamps[entry.place as usize] = entry.earlier;
+        stamps[place as usize] = earlier;
         kept
     }
 }

@@ -37,7 +37,7 @@ fn push_all<L: Ledger>(words: &mut Vec<i64>, n: u32, steps: &mut Steps<L>)
 {
     for _i in 0..n {
         steps.tick();
-        words.push(0).unwrap();
+        words.push_reserved(0);
     }
 }
 
