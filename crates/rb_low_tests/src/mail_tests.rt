@@ -1,8 +1,9 @@
 //! Tests of slots, at the limits and across the turn of the ring.
 
-ghost use Rattle.std.specs.Prelude.{◌<◌};
+ghost use Rattle.std.specs.Prelude.{◌≡◌, ◌<◌, ◌≤◌, length, IfOk};
 
-use rb_mail::Mail;
+use rb_base::{MOST_CHANNEL_SIZE, MOST_CONNECTIONS, Memory};
+use rb_mail::{Mail, Mails};
 use std::alloc::Global;
 
 // Whether slots of this number keep a value under an index, and under the index of its slot.
@@ -47,4 +48,50 @@ fn slots_hold_their_own(rt: HostRuntime) {
         panic!(rt; "memory");
     };
     assert!(rt; held(&mut mail) == [[0, 40, 50], [0, 70, 50]]);
+}
+
+// So many channels of so many slots.
+fn channels(alloc: Global, many: u32, size: u32) -> Result<Mails, Memory>
+    requires { 0 < size }
+    ensures { IfOk result (λ mails. length mails ≡ many) }
+{
+    let mut mails = Mails::with_room(alloc, many as usize)?;
+    for _channel in 0..many {
+        mails.add(alloc, size)?;
+    }
+    Ok(mails)
+}
+
+// Puts a value of its own into the last slot that each of so many channels has.
+fn put_each(mails: &mut Mails, many: u32)
+    requires { many ≤ length mails.old }
+    ensures { length mails.new ≡ length mails.old }
+{
+    for channel in 0..many {
+        mails.put(channel as usize, u64::MAX, i64::from(channel) - 7);
+    }
+}
+
+// Whether each of so many channels has it there, and 0 in its first slot.
+fn each_keeps_its_own(mails: &Mails, many: u32) -> bool
+    requires { many ≤ length mails.now }
+{
+    for channel in 0..many {
+        let last = mails.get(channel as usize, u64::MAX);
+        if last != i64::from(channel) - 7 || mails.get(channel as usize, 0) != 0 {
+            return false;
+        }
+    }
+    true
+}
+
+#[test]
+fn as_many_channels_as_there_may_be(rt: HostRuntime) {
+    let many = MOST_CONNECTIONS as u32;
+    let Ok(mut mails) = channels(rt.alloc(), many, MOST_CHANNEL_SIZE) else {
+        panic!(rt; "memory");
+    };
+    put_each(&mut mails, many);
+    assert!(rt; each_keeps_its_own(&mails, many));
+    assert!(rt; Mails::none(rt.alloc()).len() == 0);
 }
