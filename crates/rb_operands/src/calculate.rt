@@ -1,12 +1,13 @@
 //! Instructions on operands and counters alone.
 
-ghost use Rattle.std.specs.Prelude.{◌≡◌, ◌+◌, ◌<◌, ◌^◌, ◌+ℤ◌, ℤ, neg_ℤ, pos, cond, not, List, [], ◌∷◌, length, option_map, slice_set, None};
+ghost use Rattle.std.specs.Prelude.{◌≡◌, ℕ, ◌+◌, ◌<◌, ◌^◌, ◌+ℤ◌, ℤ, neg_ℤ, pos, cond, not, List, [], ◌∷◌, length, option_map, slice_set, None, Ok};
 ghost use Rattle.rb_base.specs.declared.limits.TheConstants.{MOST_OPERANDS};
 ghost use Rattle.rb_base.specs.declared.event.Cause.TheVariants.{Index};
 ghost use Rattle.rb_meaning.specs.Value.{applied, fitting, is_zero, span, truth};
 ghost use Rattle.rb_code.specs.WordMachine.Workspace.{Workspace};
 ghost use Rattle.rb_code.specs.WordMachine.Act.{Accepts, Going, Trapped, counted_on, counter_at, if_there, on_top, operate, or_trap, ranged, within};
 ghost use Rattle.rb_base.specs.declared.event.Cause.TheVariants.{Test as TestCause};
+ghost use Rattle.rb_operands.specs.Comparing.{IsComparison};
 ghost use Rattle.rb_operands.specs.Outcomes.{outcome_of};
 
 use crate::counters::{Counters, Counting};
@@ -45,6 +46,37 @@ pub fn operate(op: Op, at: u32, operands: &mut Operands<'_>) -> Next
     let right = operands.pop();
     let left = operands.pop();
     finish(applied(op, left, right), at, operands)
+}
+
+/// Whether a comparison holds.
+#[inline(always)]
+fn holds(op: Op, left: i64, right: i64) -> bool
+    requires { IsComparison op }
+    ensures { applied op left right ≡ Ok (truth result) }
+{
+    match op {
+        Op::Eq => left == right,
+        Op::Ne => left != right,
+        Op::Lt => left < right,
+        Op::Le => left <= right,
+        Op::Gt => left > right,
+        Op::Ge => left >= right,
+        _ => unreachable!(),
+    }
+}
+
+/// A comparison of the two operands on top.
+#[inline(always)]
+pub fn compare(op: Op, operands: &mut Operands<'_>) -> Next
+    requires comparison { IsComparison op }
+    requires two { 1 < length operands.old }
+    ensures { (a : ℕ) (m : Workspace)
+        → outcome_of result a operands.new m
+        ≡ on_top operands.old (λ y rest. on_top rest (λ x others. or_trap (applied op x y) (λ z. Going (a + 1) (z ∷ others) m))) }
+{
+    let right = operands.pop();
+    let left = operands.pop();
+    Next::Holds(holds(op, left, right))
 }
 
 /// The number on top with the other sign.

@@ -7,6 +7,8 @@ use rb_base::Cause;
 pub enum Next {
     /// On at an address.
     Go(u32),
+    /// On at the next address; whether the comparison holds, which is still to be pushed.
+    Holds(bool),
     /// The turn is over here.
     Stop,
     /// The acceptance test held; what follows it stands at an address.

@@ -34,6 +34,14 @@ impl<'a> Operands<'a> {
         Operands { values, height: 0 }
     }
 
+    /// There are no more than that. Nothing is done: whoever calls it knows it then.
+    #[inline(always)]
+    pub fn are_few(&self)
+        ensures { length self.now ≤ MOST_OPERANDS }
+    {
+        let _ = &self.height;
+    }
+
     /// One more, on top.
     #[inline(always)]
     pub fn push(&mut self, value: i64)

@@ -9,5 +9,5 @@ pub fn put<T: Drop>(items: &mut Vec<T>, item: T)
     ensures len { vec_len items.new ≡ vec_len items.old + 1 }
     ensures room { vec_capacity items.old ≤ vec_capacity items.new }
 {
-    items.push(item).unwrap();
+    items.push_reserved(item);
 }
