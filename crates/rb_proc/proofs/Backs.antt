@@ -18,6 +18,7 @@ use Rattle.rb_proc.specs.Inside.{Fronts, IsFront, IsTied, Rise, calls_at, calls_
 use Rattle.rb_proc.proofs.Rising.{rise_first, rise_push}
 use Rattle.rb_proc.proofs.Fronts.{cut_length, cut_take, fronts_open, fronts_out}
 use Rattle.rb_proc.proofs.Levels.{levels_fewer, levels_take}
+use Rattle.rb_proc.proofs.Timed.{timed_up_to}
 use Rattle.rb_proc.proofs.Tied.{IsAbove, bases_front, copies_long, marks_copied}
 use Rattle.rb_proc.specs.Places.{most_places}
 
@@ -83,12 +84,12 @@ module _ (first : List Touched) (all : List (List ℤ)) (n : ℕ) (words later :
       ∙ ap (λ k. take k all) (sym out_long)
 
 -- what is looked up in lists of one length
-pub pick : (marks : List LevelMark) (copied : List (List ℤ)) (calls : List Held) (k : ℕ) (m : LevelMark) → k < length marks
-    → length marks ≡ length copied → slice_get (levels_of marks copied calls) k ≡ Some (level_of (get_or marks k m) (get_or copied k []) calls)
-pick [] copied calls k m h e = absurd (omega arith)
-pick (mark ∷ marks) [] calls k m h e = absurd (omega arith)
-pick (mark ∷ marks) (ws ∷ copied) calls zero m h e = refl
-pick (mark ∷ marks) (ws ∷ copied) calls (suc k) m h e = pick marks copied calls k m (omega arith) (omega arith)
+pub pick : (clock : ℕ) (marks : List LevelMark) (copied : List (List ℤ)) (calls : List Held) (k : ℕ) (m : LevelMark) → k < length marks
+    → length marks ≡ length copied → slice_get (levels_of clock marks copied calls) k ≡ Some (level_of clock (get_or marks k m) (get_or copied k []) calls)
+pick clock [] copied calls k m h e = absurd (omega arith)
+pick clock (mark ∷ marks) [] calls k m h e = absurd (omega arith)
+pick clock (mark ∷ marks) (ws ∷ copied) calls zero m h e = refl
+pick clock (mark ∷ marks) (ws ∷ copied) calls (suc k) m h e = pick clock marks copied calls k m (omega arith) (omega arith)
 
 -- the first of rising numbers, up to one of them
 rise_to : (ns : List ℕ) (k last : ℕ) → k < length ns → Rise ns last → Rise (take k ns) (get_or ns k 0)
@@ -132,14 +133,14 @@ front_at lines copied k h f =
     let turned = ap reverse (take_more copied k [] h) ∙ reverse-append (take k copied) (get_or copied k [] ∷ []) in
     subst (Fronts lines) turned outer
 
-module _ (store : Store) (cache : RecoveryCache) (calls : List Held) (room : ℕ) (marks : List LevelMark) (marks_room : ℕ) (lines : TwoLists)
-    (tied : IsTied store cache calls room marks marks_room lines) (k : ℕ) (mark : LevelMark) (within : k < length marks)
+module _ (clock deadline : ℕ) (store : Store) (cache : RecoveryCache) (calls : List Held) (room : ℕ) (marks : List LevelMark) (marks_room : ℕ) (lines : TwoLists)
+    (tied : IsTied clock deadline store cache calls room marks marks_room lines) (k : ℕ) (mark : LevelMark) (within : k < length marks)
     (mark_is : (m : LevelMark) → get_or marks k m ≡ mark) where
   abbrev pub copied_now : List (List ℤ)
   copied_now = copies store.words cache
 
   abbrev pub before : Contents
-  before = contents store.words cache calls marks lines
+  before = contents clock store.words cache calls marks lines
 
   abbrev pub copy : List ℤ
   copy = get_or copied_now k []
@@ -148,7 +149,7 @@ module _ (store : Store) (cache : RecoveryCache) (calls : List Held) (room : ℕ
   lines_then = cut_held (told copy) lines.held
 
   there : k < length copied_now
-  there = let e = marks_copied _ _ _ _ _ _ _ tied in omega arith
+  there = let e = marks_copied _ _ _ _ _ _ _ _ _ tied in omega arith
 
   pub front : IsFront lines.held copy × Fronts lines_then (reverse (take k copied_now))
   front = front_at lines.held copied_now k there tied.fronts
@@ -199,10 +200,10 @@ module _ (store : Store) (cache : RecoveryCache) (calls : List Held) (room : ℕ
         let few = tied.few_words in
         omega arith
 
-    pub tied_then : (room_after marks_after : ℕ) → room ≤ room_after → marks_room ≤ marks_after → Fits later.words after → after.limits ≡ cache.limits
-        → IsTied later after (take mark.calls calls) room_after (take (k + 1) marks) marks_after
+    pub tied_then : (until room_after marks_after : ℕ) → until ≤ mark.around → until ≤ mark.since + mark.facts.bound → room ≤ room_after → marks_room ≤ marks_after → Fits later.words after → after.limits ≡ cache.limits
+        → IsTied clock until later after (take mark.calls calls) room_after (take (k + 1) marks) marks_after
         (record { held = lines_then; released = lines.released })
-    tied_then room_after marks_after calls_room levels_room fits limits = record {
+    tied_then until room_after marks_after outer own calls_room levels_room fits limits = record {
       limit_is = ap (λ (s : Store). s.limit) stored ∙ tied.limit_is;
       few_words = subst (λ (ws : List ℤ). length ws ≤ most_places) (sym words_then) copy_few;
       levels_limit = ap (λ (l : Limits). l.levels) limits ∙ tied.levels_limit;
@@ -227,26 +228,27 @@ module _ (store : Store) (cache : RecoveryCache) (calls : List Held) (room : ℕ
           (fronts_open lines_then copy (take k copied_now) front.0.some front.0.bytes front.1);
       bases = bases_front (take mark.calls calls) (drop mark.calls calls)
           (subst (AllByRecursion IsAbove) (sym (take-append-drop mark.calls calls)) tied.bases);
+      timed = timed_up_to clock deadline marks tied.timed k until mark within (mark_is mark) outer own;
     }
 
     pub seen_then : PutBack k before (slice_get before.levels k)
-        (contents later.words after (take mark.calls calls) (take (k + 1) marks) (record { held = lines_then; released = lines.released }))
+        (contents clock later.words after (take mark.calls calls) (take (k + 1) marks) (record { held = lines_then; released = lines.released }))
     seen_then =
-        let found : slice_get before.levels k ≡ Some (level_of mark copy calls) =
-        pick marks copied_now calls k mark within (marks_copied _ _ _ _ _ _ _ tied)
-        ∙ ap (λ (m : LevelMark). Some (level_of m copy calls)) (mark_is mark) in
+        let found : slice_get before.levels k ≡ Some (level_of clock mark copy calls) =
+        pick clock marks copied_now calls k mark within (marks_copied _ _ _ _ _ _ _ _ _ tied)
+        ∙ ap (λ (m : LevelMark). Some (level_of clock m copy calls)) (mark_is mark) in
         subst (λ (o : Option (Level Copy)). PutBack k before o
-        (contents later.words after (take mark.calls calls) (take (k + 1) marks) (record { held = lines_then; released = lines.released })))
+        (contents clock later.words after (take mark.calls calls) (take (k + 1) marks) (record { held = lines_then; released = lines.released })))
         (sym found) whole
       where
-        levels_then : levels_of (take (k + 1) marks) (copies later.words after) (take mark.calls calls) ≡ take (k + 1) before.levels
+        levels_then : levels_of clock (take (k + 1) marks) (copies later.words after) (take mark.calls calls) ≡ take (k + 1) before.levels
         levels_then =
-            levels_fewer (take (k + 1) marks) (copies later.words after) calls mark.calls entries_then
-            ∙ ap (λ (cs : List (List ℤ)). levels_of (take (k + 1) marks) cs calls) copies_are
-            ∙ levels_take (k + 1) marks copied_now calls
+            levels_fewer clock (take (k + 1) marks) (copies later.words after) calls mark.calls entries_then
+            ∙ ap (λ (cs : List (List ℤ)). levels_of clock (take (k + 1) marks) cs calls) copies_are
+            ∙ levels_take clock (k + 1) marks copied_now calls
 
-        whole : contents later.words after (take mark.calls calls) (take (k + 1) marks) (record { held = lines_then; released = lines.released })
-            ≡ back_at k before (level_of mark copy calls)
+        whole : contents clock later.words after (take mark.calls calls) (take (k + 1) marks) (record { held = lines_then; released = lines.released })
+            ≡ back_at k before (level_of clock mark copy calls)
         whole =
             ap (λ (ls : List (Level Copy)). record {
               words = later.words;
@@ -279,7 +281,7 @@ module _ (store : Store) (cache : RecoveryCache) (calls : List Held) (room : ℕ
 
   pub mark_of : IsMarkOf (slice_get before.levels k) mark
   mark_of =
-      let found : slice_get before.levels k ≡ Some (level_of mark copy calls) =
-      pick marks copied_now calls k mark within (marks_copied _ _ _ _ _ _ _ tied)
-      ∙ ap (λ (m : LevelMark). Some (level_of m copy calls)) (mark_is mark) in
+      let found : slice_get before.levels k ≡ Some (level_of clock mark copy calls) =
+      pick clock marks copied_now calls k mark within (marks_copied _ _ _ _ _ _ _ _ _ tied)
+      ∙ ap (λ (m : LevelMark). Some (level_of clock m copy calls)) (mark_is mark) in
       subst (λ (o : Option (Level Copy)). IsMarkOf o mark) (sym found) (refl, refl)

@@ -1,61 +1,63 @@
--- Counting a turn in a list, one element after another.
-use Rattle.std.proofs.Common.{◌≡◌, ℕ, ◌+◌, ◌-◌, ◌<◌, ◌≤◌, Bool, true, false, not, cond, eqb, List, [], ◌∷◌, ◌++◌, length, map, take, drop, set, get_or, ap, sym, ◌∙◌, arith}
-use Rattle.std.specs.Prelude.{position, nat_lt, Option, Some, None}
-use Rattle.std.specs.List.{position_or_len}
-use Rattle.std.specs.Option.{option_or}
-use Rattle.std.specs.Bool.{then_some}
+-- A turn is counted by the clock, or mark by mark.
+use Rattle.std.proofs.Common.{◌≡◌, ℕ, ◌+◌, ◌-◌, ◌<◌, ◌≤◌, Bool, true, false, not, cond, List, [], ◌∷◌, ◌++◌, length, map, take, drop, set, get_or, refl, ap, sym, ◌∙◌, arith}
+use Rattle.std.specs.Prelude.{position, nat_lt, ◌&&◌, Option, Some, None}
+use Rattle.std.specs.List.{AllByRecursion, list_all, position_or_len}
+use Rattle.std.specs.Option.{is_none}
 use Rattle.std.proofs.lemmas.Bool.Decides.{nat_tests}
-use Rattle.std.proofs.lemmas.List.{length-append, length-map, length-take-le, get_or-append_right, get_or-drop, get_or_default, length-drop, map_more}
+use Rattle.std.proofs.lemmas.List.{length-append, length-map, length-take-le, get_or_default, length-drop}
 use Rattle.std.proofs.lemmas.List.Edits.{map_over_more}
-use Rattle.std.proofs.lemmas.List.Folds.{position_or_len_push}
-use Rattle.std.proofs.lemmas.List.Sums.{prefix_len-le-length}
+use Rattle.rb_proc.specs.Inside.{IsWithin}
+use Rattle.rb_proc.specs.Marks.{is_mark_over}
+use Rattle.rb_proc.specs.declared.recoverable.LevelMark.{LevelMark}
 
-first_yes : (n k : ℕ) → n ≤ k
-    → cond (nat_lt (cond (eqb n k) (k + 0) n) (k + 1)) (Some (cond (eqb n k) (k + 0) n)) None ≡ option_or (cond (nat_lt n k) (Some n) None) (Some k)
-first_yes n k h = grind (arith, nat_tests)
+-- an element changes in its place
+pub one_more : {A : Type 0} (f : A → A) (xs ys : List A) (i : ℕ) (d y : A) → i < length xs → ys ≡ map f (take i xs) ++ drop i xs
+    → y ≡ f (get_or ys i d) → set ys i y ≡ map f (take (i + 1) xs) ++ drop (i + 1) xs
+one_more f xs ys i d y within so_far wrote =
+    let long = length-map (take i xs) f ∙ length-take-le i xs (omega arith) in
+    let there : i < length ys = omega (arith, ap length so_far, length-append (map f (take i xs)) (drop i xs), long, length-drop i xs) in
+    ap (set ys i) wrote ∙ map_over_more f xs ys i (get_or ys i d) within so_far (get_or_default ys i d (get_or ys i d) there)
 
-first_no : (n k : ℕ) → n ≤ k
-    → cond (nat_lt (cond (eqb n k) (k + 1) n) (k + 1)) (Some (cond (eqb n k) (k + 1) n)) None ≡ option_or (cond (nat_lt n k) (Some n) None) None
-first_no n k h = grind (arith, nat_tests)
+-- none passes
+none_if : (b : Bool) (n : ℕ) → is_none (cond b (Some n) None) ≡ not b
+none_if true n = refl
+none_if false n = refl
 
--- the first place that passes, once one more was looked at
-position_push : {A : Type 0} (p : A → Bool) (xs : List A) (y : A)
-    → position p (xs ++ y ∷ []) ≡ option_or (position p xs) (then_some (p y) (length xs))
-position_push p xs y =
-    let n = position_or_len p xs in
-    let k = length xs in
-    ap (λ i. cond (nat_lt i (length (xs ++ y ∷ []))) (Some i) None) (position_or_len_push p xs y)
-    ∙ ap (λ j. cond (nat_lt (cond (eqb n k) (k + cond (p y) 0 1) n) j) (Some (cond (eqb n k) (k + cond (p y) 0 1) n)) None)
-    (length-append xs (y ∷ []))
-    ∙ by (p y) n k (prefix_len-le-length (λ x. not (p x)) xs)
-  where
-    by : (b : Bool) (n k : ℕ) → n ≤ k → cond (nat_lt (cond (eqb n k) (k + cond b 0 1) n) (k + 1)) (Some (cond (eqb n k) (k + cond b 0 1) n)) None
-        ≡ option_or (cond (nat_lt n k) (Some n) None) (then_some b k)
-    by true n k h = first_yes n k h
-    by false n k h = first_no n k h
+none_below : (k : ℕ) → nat_lt 0 (1 + k) ≡ true
+none_below k = grind (arith, nat_tests)
 
--- an element changes in its place, and it is looked at as it is then
-module _ {A : Type 0} (f : A → A) (p : A → Bool) (xs ys : List A) (i : ℕ) (d y : A) (within : i < length xs)
-    (so_far : ys ≡ map f (take i xs) ++ drop i xs) (wrote : y ≡ f (get_or ys i d)) where
-  long : length (map f (take i xs)) ≡ i
-  long = length-map (take i xs) f ∙ length-take-le i xs (omega arith)
+one_below : (n k : ℕ) → nat_lt (1 + n) (1 + k) ≡ nat_lt n k
+one_below n k = grind (arith, nat_tests)
 
-  there : i < length ys
-  there = omega (arith, ap length so_far, length-append (map f (take i xs)) (drop i xs), long, length-drop i xs)
+one_before : (b rest : Bool) (n k : ℕ) → not (nat_lt n k) ≡ rest → not (nat_lt (cond (not b) (1 + n) 0) (1 + k)) ≡ (not b && rest)
+one_before true rest n k e = ap not (none_below k)
+one_before false rest n k e = ap not (one_below n k) ∙ e
 
-  pub one_more : set ys i y ≡ map f (take (i + 1) xs) ++ drop (i + 1) xs
-  one_more = ap (set ys i) wrote ∙ map_over_more f xs ys i (get_or ys i d) within so_far (get_or_default ys i d (get_or ys i d) there)
+none_before : {A : Type 0} (p : A → Bool) (xs : List A) → not (nat_lt (position_or_len p xs) (length xs)) ≡ list_all (λ x. not (p x)) xs
+none_before p [] = refl
+none_before p (x ∷ xs) =
+    ap (λ k. not (nat_lt (cond (not (p x)) (1 + position_or_len p xs) 0) k)) (omega arith)
+    ∙ one_before (p x) (list_all (λ y. not (p y)) xs) (position_or_len p xs) (length xs) (none_before p xs)
 
-  same : get_or ys i d ≡ get_or xs i d
-  same =
-      ap (λ (zs : List A). get_or zs i d) so_far ∙ get_or-append_right (map f (take i xs)) (drop i xs) i i d long (omega arith)
-      ∙ get_or-drop i xs (i - i) d ∙ ap (λ k. get_or xs k d) (omega arith)
+none_first : {A : Type 0} (p : A → Bool) (xs : List A) → is_none (position p xs) ≡ list_all (λ x. not (p x)) xs
+none_first p xs = none_if (nat_lt (position_or_len p xs) (length xs)) (position_or_len p xs) ∙ none_before p xs
 
-  pub first_so_far : (o r : Option ℕ) → o ≡ position p (map f (take i xs)) → r ≡ option_or o (then_some (p y) i)
-      → r ≡ position p (map f (take (i + 1) xs))
-  first_so_far o r before now =
-      now ∙ ap (λ (q : Option ℕ). option_or q (then_some (p y) i)) before
-      ∙ ap (λ (z : A). option_or (position p (map f (take i xs))) (then_some (p z) i)) (wrote ∙ ap f same)
-      ∙ ap (λ k. option_or (position p (map f (take i xs))) (then_some (p (f (get_or xs i d))) k)) (sym long)
-      ∙ sym (position_push p (map f (take i xs)) (f (get_or xs i d)))
-      ∙ ap (λ (zs : List A). position p zs) (sym (map_more f xs i d within))
+nothing : {A : Type 0} (o : Option A) → is_none o ≡ true → o ≡ None
+nothing None e = refl
+nothing (Some x) e = absurd (cc)
+
+-- before a deadline no level is over its bound
+in_bound : (clock deadline since bound : ℕ) → deadline ≤ since + bound → clock ≤ deadline → not (nat_lt bound (clock - since)) ≡ true
+in_bound clock deadline since bound h e = grind (arith, nat_tests)
+
+all_in_bound : (clock deadline : ℕ) (marks : List LevelMark) → AllByRecursion (IsWithin deadline) marks → clock ≤ deadline
+    → list_all (λ mark. not (is_mark_over clock mark)) marks ≡ true
+all_in_bound clock deadline [] within h = refl
+all_in_bound clock deadline (m ∷ marks) within h =
+    ap (λ b. b && list_all (λ mark. not (is_mark_over clock mark)) marks) (in_bound clock deadline m.since m.facts.bound within.0 h)
+    ∙ all_in_bound clock deadline marks within.1 h
+
+pub none_over : (clock deadline : ℕ) (marks : List LevelMark) → AllByRecursion (IsWithin deadline) marks → clock ≤ deadline
+    → position (is_mark_over clock) marks ≡ None
+none_over clock deadline marks within h =
+    nothing (position (is_mark_over clock) marks) (none_first (is_mark_over clock) marks ∙ all_in_bound clock deadline marks within h)

@@ -2,20 +2,18 @@
 use Rattle.std.proofs.Common.{◌≡◌, ℕ, zero, suc, ◌+◌, ◌<◌, Bool, false, List, [], ◌∷◌, ◌++◌, map, length, refl, ap, sym, ◌∙◌, subst, arith}
 use Rattle.std.specs.Prelude.{get_or, slice_get, Option, Some, None}
 use Rattle.std.proofs.lemmas.Option.{slice_get_within}
-use Rattle.rb_world.specs.Kind.{Want, NothingLeft, SendsOn, ReceivesOn, MayReceiveOn, Enters, Starts, Acts}
+use Rattle.rb_world.specs.Kind.{Want, Enters}
 use Rattle.rb_cache.specs.Copies.{entered}
-use Rattle.rb_world.specs.World.{Process, status_at}
+use Rattle.rb_world.specs.World.{status_at}
 use Rattle.rb_code.specs.Instructions.Plain.{Block, Code}
 use Rattle.rb_code.specs.WordMachine.Turn.{Copy, Standing, enters, want, wants_at, wants_by, wants_there}
 use Rattle.rb_code.specs.declared.instr.Instr.{Instr}
 use Rattle.rb_code.specs.declared.instr.Instr.TheVariants.{Done, Enter}
 use Rattle.rb_proc.specs.Contents.{Contents, facts_of}
 use Rattle.rb_proc.specs.Entries.{EntersAs, WantsBlock}
-use Rattle.rb_proc.specs.Process.{wanted_by}
 use Rattle.rb_proc.specs.ProcessInside.{seen, standing}
 use Rattle.rb_proc.specs.Statuses.{status_of}
 use Rattle.rb_proc.specs.declared.answers.ProcessStatus.{ProcessStatus}
-use Rattle.rb_proc.specs.declared.answers.Wanted.TheVariants as wanted
 use Rattle.rb_proc.specs.declared.recoverable.BlockFacts.{BlockFacts}
 
 pub mapped_there : {A B : Type 0} (f : A → B) (xs : List A) (k : ℕ) (a : A) → k < length xs → a ≡ get_or xs k a → slice_get (map f xs) k ≡ Some (f a)
@@ -65,26 +63,6 @@ module _ (c : Code) (b : ℕ) where
 
     pub stands_before : WantsBlock b (wants_there c (slice_get c.instrs at) (slice_get c.instrs (at + 1))) → StandsBefore c at b
     stands_before h = by_instrs (slice_get c.instrs at) (slice_get c.instrs (at + 1)) refl refl h
-
--- whoever is told to want an entry wants this block, and whoever is told something else wants none
-pub told_block : (w : Want) (b : ℕ) → wanted.Entry b ≡ wanted_by w → WantsBlock b w
-told_block (Enters facts) b e = cc
-told_block NothingLeft b e = cc
-told_block (SendsOn channel) b e = cc
-told_block (ReceivesOn channel) b e = cc
-told_block (MayReceiveOn channel) b e = cc
-told_block Starts b e = cc
-told_block Acts b e = cc
-
-pub enters_none : (c : Code) (w : Want) (alternate turn : ℕ) (q : Process Standing Copy) → ((b : ℕ) → wanted_by w ≡ wanted.Entry b → ⊥)
-    → EntersAs c w alternate turn q q
-enters_none c (Enters facts) alternate turn q h = absurd (h facts.number refl)
-enters_none c NothingLeft alternate turn q h = refl
-enters_none c (SendsOn channel) alternate turn q h = refl
-enters_none c (ReceivesOn channel) alternate turn q h = refl
-enters_none c (MayReceiveOn channel) alternate turn q h = refl
-enters_none c Starts alternate turn q h = refl
-enters_none c Acts alternate turn q h = refl
 
 -- a level was opened for the block that stands next, and the process stands behind its entry
 pub entered_so : (c : Code) (r later : Contents) (process at last_kept : ℕ) (at_line : Bool) (before after : ProcessStatus) (one : BlockFacts)

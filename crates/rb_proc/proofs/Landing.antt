@@ -14,16 +14,16 @@ use Rattle.rb_code.specs.declared.instr.Instr.TheVariants.{Enter, Turn}
 use Rattle.rb_proc.specs.Executable.{LandsAt}
 use Rattle.rb_proc.specs.Process.{kind_of}
 
-entry_runs : (b : ℕ) (block : Option Block) → status_at (enters b block) ≡ Running
+pub entry_runs : (b : ℕ) (block : Option Block) → status_at (enters b block) ≡ Running
 entry_runs b None = refl
 entry_runs b (Some block) = refl
 
-next_runs : (c : Code) (i : Instr) → status_at (wants_by c i) ≡ Running
+pub next_runs : (c : Code) (i : Instr) → status_at (wants_by c i) ≡ Running
 next_runs c (Enter b) = entry_runs b (slice_get c.blocks b)
 next_runs c _ = refl
 
 -- who stands at a `turn` runs
-turn_runs : (c : Code) (next : Option Instr) → status_at (wants_there c (Some Turn) next) ≡ Running
+pub turn_runs : (c : Code) (next : Option Instr) → status_at (wants_there c (Some Turn) next) ≡ Running
 turn_runs c None = refl
 turn_runs c (Some i) = next_runs c i
 

@@ -2,6 +2,7 @@
 pub mod Rising
 pub mod Fronts
 pub mod Levels
+pub mod Timed
 pub mod Tied
 pub mod Returns
 pub mod Alternates
@@ -9,6 +10,7 @@ pub mod Backs
 pub mod TouchedPlaces
 pub mod Mailed
 pub mod Texts
+pub mod FewOperands
 pub mod Running
 pub mod Stepping
 pub mod Leaving

@@ -1,9 +1,10 @@
--- Channels: places of cursors, and slots that are written.
-use Rattle.std.proofs.Common.{◌≡◌, ℕ, zero, suc, ◌+◌, ◌<◌, ◌≤◌, ◌%◌, ◌+ℤ◌, ℤ, pos, Option, List, [], ◌∷◌, map, length, refl, ap, sym, ◌∙◌, arith}
-use Rattle.std.specs.Prelude.{get_or, slice_set}
+-- Channels: slots that are read and written.
+use Rattle.std.proofs.Common.{◌≡◌, ℕ, zero, suc, ◌+◌, ◌<◌, ◌≤◌, ◌%◌, ◌+ℤ◌, ℤ, pos, Option, Some, List, [], ◌∷◌, map, length, refl, ap, sym, ◌∙◌, arith}
+use Rattle.std.specs.Prelude.{get_or, slice_get, slice_set}
+use Rattle.std.specs.Option.{unwrap_or}
 use Rattle.std.proofs.lemmas.List.{length-set}
 use Rattle.rb_world.specs.Kind.{Ends}
-use Rattle.rb_world.specs.Slots.{Slots, put_slot, size_on}
+use Rattle.rb_world.specs.Slots.{Slots, put_slot, size_on, slot_of}
 use Rattle.rb_world.specs.World.{change_at}
 use Rattle.rb_meaning.specs.Environment.{natural}
 use Rattle.rb_cache.specs.Copies.{change_last, joined}
@@ -23,6 +24,21 @@ pub change_beyond : {A : Type 0} (k : ℕ) (f : A → A) (xs : List A) → lengt
 change_beyond k f [] h = refl
 change_beyond zero f (x ∷ xs) h = absurd (omega arith)
 change_beyond {A} (suc k) f (x ∷ xs) h = ap (λ (ys : List A). x ∷ ys) (change_beyond k f xs (omega arith))
+
+-- what lies in a slot
+pub slot_there : (channels : List Ends) (slots : Slots) (k n : ℕ) (v : ℤ) → FitSizes (map length slots) channels → k < length slots
+    → slice_get (get_or slots k []) (n % length (get_or slots k [])) ≡ Some v → v ≡ slot_of channels slots k n
+slot_there channels [] k n v e h s = absurd (omega arith)
+slot_there [] (values ∷ slots) k n v e h s = absurd e
+slot_there (ends ∷ channels) (values ∷ slots) zero n v e h s =
+    sym (ap (λ (o : Option ℤ). unwrap_or o (pos 0)) (ap (λ m. slice_get values (n % m)) (sym e.0) ∙ s))
+slot_there (ends ∷ channels) (values ∷ slots) (suc k) n v e h s = slot_there channels slots k n v e.1 (omega arith) s
+
+pub slot_none : (channels : List Ends) (slots : Slots) (k n : ℕ) → length slots ≤ k → pos 0 ≡ slot_of channels slots k n
+slot_none channels [] k n h = refl
+slot_none channels (values ∷ slots) zero n h = absurd (omega arith)
+slot_none [] (values ∷ slots) (suc k) n h = slot_none [] slots k n (omega arith)
+slot_none (ends ∷ channels) (values ∷ slots) (suc k) n h = slot_none channels slots k n (omega arith)
 
 -- slots by the size of their channel
 pub sized_change : (slots : Slots) (channels : List Ends) (k n : ℕ) (v : ℤ) → FitSizes (map length slots) channels

@@ -21,23 +21,23 @@ pub calls_long : (calls : List Held) → length (calls_of calls) ≡ length call
 calls_long calls = length-reverse (map call_of calls) ∙ length-map calls call_of
 
 -- where the innermost level has no more calls than these, no level has
-pub entry_rise : (marks : List LevelMark) (copied : List (List ℤ)) (calls : List Held) (k : ℕ) → length marks ≡ length copied
-    → Rise (map calls_at marks) (length calls) → entry_calls (copy_of (last_of (levels_of marks copied calls))) ≤ k → Rise (map calls_at marks) k
-entry_rise [] copied calls k e r h = tt
-entry_rise (m ∷ marks) [] calls k e r h = absurd (omega arith)
-entry_rise (m ∷ []) (ws ∷ []) calls k e r h =
+pub entry_rise : (clock : ℕ) (marks : List LevelMark) (copied : List (List ℤ)) (calls : List Held) (k : ℕ) → length marks ≡ length copied
+    → Rise (map calls_at marks) (length calls) → entry_calls (copy_of (last_of (levels_of clock marks copied calls))) ≤ k → Rise (map calls_at marks) k
+entry_rise clock [] copied calls k e r h = tt
+entry_rise clock (m ∷ marks) [] calls k e r h = absurd (omega arith)
+entry_rise clock (m ∷ []) (ws ∷ []) calls k e r h =
     let long = calls_long (take m.calls calls) in
     let taken = length-take-le m.calls calls r.0 in
     (omega arith, tt)
-entry_rise (m ∷ []) (ws ∷ vs ∷ copied) calls k e r h = absurd (omega arith)
-entry_rise (m ∷ n ∷ marks) (ws ∷ []) calls k e r h = absurd (omega arith)
-entry_rise (m ∷ n ∷ marks) (ws ∷ vs ∷ copied) calls k e r h =
-    (r.0, entry_rise (n ∷ marks) (vs ∷ copied) calls k (omega arith) r.1 h)
+entry_rise clock (m ∷ []) (ws ∷ vs ∷ copied) calls k e r h = absurd (omega arith)
+entry_rise clock (m ∷ n ∷ marks) (ws ∷ []) calls k e r h = absurd (omega arith)
+entry_rise clock (m ∷ n ∷ marks) (ws ∷ vs ∷ copied) calls k e r h =
+    (r.0, entry_rise clock (n ∷ marks) (vs ∷ copied) calls k (omega arith) r.1 h)
 
-module _ (store : Store) (cache : RecoveryCache) (calls : List Held) (call : Held) (room : ℕ) (marks : List LevelMark) (marks_room : ℕ)
-    (lines : TwoLists) (tied : IsTied store cache (calls ++ call ∷ []) room marks marks_room lines) where
+module _ (clock deadline : ℕ) (store : Store) (cache : RecoveryCache) (calls : List Held) (call : Held) (room : ℕ) (marks : List LevelMark) (marks_room : ℕ)
+    (lines : TwoLists) (tied : IsTied clock deadline store cache (calls ++ call ∷ []) room marks marks_room lines) where
   abbrev pub before : Contents
-  before = contents store.words cache (calls ++ call ∷ []) marks lines
+  before = contents clock store.words cache (calls ++ call ∷ []) marks lines
 
   pub turned : calls_of (calls ++ call ∷ []) ≡ call_of call ∷ calls_of calls
   turned = ap reverse (map-append call_of calls (call ∷ [])) ∙ reverse-append (map call_of calls) (call_of call ∷ [])
@@ -54,16 +54,16 @@ module _ (store : Store) (cache : RecoveryCache) (calls : List Held) (call : Hel
     entries =
         let long = ap length turned in
         let few = calls_long calls in
-        entry_rise marks (copies store.words cache) (calls ++ call ∷ []) (length calls) (marks_copied _ _ _ _ _ _ _ tied) tied.entries (omega arith)
+        entry_rise clock marks (copies store.words cache) (calls ++ call ∷ []) (length calls) (marks_copied _ _ _ _ _ _ _ _ _ tied) tied.entries (omega arith)
 
     first_calls : take (length calls) (calls ++ call ∷ []) ≡ calls
     first_calls = take_at calls (call ∷ []) (length calls) refl
 
     module _ (later : Store) (stored : later ≡ record { words = take call.base store.words; limit = store.limit }) where
-      cut : IsTied later cache (calls ++ call ∷ []) room marks marks_room lines
-      cut = tied_cut _ _ _ _ _ _ _ tied later call.base stored here.0 (bases_last calls call tied.bases) here.1
+      cut : IsTied clock deadline later cache (calls ++ call ∷ []) room marks marks_room lines
+      cut = tied_cut _ _ _ _ _ _ _ _ _ tied later call.base stored here.0 (bases_last calls call tied.bases) here.1
 
-      pub tied_back : (room_after : ℕ) → room ≤ room_after → IsTied later cache calls room_after marks marks_room lines
+      pub tied_back : (room_after : ℕ) → room ≤ room_after → IsTied clock deadline later cache calls room_after marks marks_room lines
       tied_back room_after much = record {
         limit_is = cut.limit_is;
         few_words = cut.few_words;
@@ -82,9 +82,10 @@ module _ (store : Store) (cache : RecoveryCache) (calls : List Held) (call : Hel
         held = cut.held;
         fronts = cut.fronts;
         bases = bases_front calls (call ∷ []) cut.bases;
+        timed = cut.timed;
       }
 
-      pub seen_back : contents later.words cache calls marks lines ≡ record before { words = take call.base store.words; calls = calls_of calls }
+      pub seen_back : contents clock later.words cache calls marks lines ≡ record before { words = take call.base store.words; calls = calls_of calls }
       seen_back =
           ap (λ (ls : List (Level Copy)). record {
             words = later.words;
@@ -95,7 +96,7 @@ module _ (store : Store) (cache : RecoveryCache) (calls : List Held) (call : Hel
             levels = ls;
             waiting = lines.released;
           })
-          (ap (levels_of marks (copies later.words cache)) (sym first_calls)
-          ∙ levels_fewer marks (copies later.words cache) (calls ++ call ∷ []) (length calls) entries)
+          (ap (levels_of clock marks (copies later.words cache)) (sym first_calls)
+          ∙ levels_fewer clock marks (copies later.words cache) (calls ++ call ∷ []) (length calls) entries)
           ∙ ap (λ (r : Contents). record r { calls = calls_of calls })
-          (seen_cut _ _ _ _ _ _ _ tied later call.base stored here.0 (bases_last calls call tied.bases) here.1)
+          (seen_cut _ _ _ _ _ _ _ _ _ tied later call.base stored here.0 (bases_last calls call tied.bases) here.1)

@@ -1,8 +1,10 @@
 -- One step of a safe run.
-use Rattle.std.proofs.Common.{◌≡◌, ℕ, zero, suc, ◌+◌, ◌-◌, ◌<◌, ◌≤◌, ◌^◌, ℤ, List, length, Option, Some, None, refl, ap, sym, ◌∙◌, subst, arith}
+use Rattle.std.proofs.Common.{◌≡◌, ℕ, zero, suc, ◌+◌, ◌-◌, ◌<◌, ◌≤◌, ◌^◌, ℤ, Bool, true, false, cond, List, ◌∷◌, length, Option, Some, None, refl, ap, sym, ◌∙◌, subst, arith}
 use Rattle.std.specs.Prelude.{slice_get, get_or}
 use Rattle.std.proofs.lemmas.Option.{slice_get_within, slice_get_read}
+use Rattle.rb_base.specs.declared.limits.TheConstants.{MOST_OPERANDS}
 use Rattle.rb_meaning.specs.Environment.{natural}
+use Rattle.rb_meaning.specs.Value.{truth}
 use Rattle.rb_world.specs.Slots.{Slots}
 use Rattle.rb_world.specs.World.{Level}
 use Rattle.rb_cache.specs.Copies.{Level as Touched}
@@ -14,11 +16,13 @@ use Rattle.rb_code.specs.SoundCode.Stays.{CursorStays, HasEnough, Stays, StaysOn
 use Rattle.rb_code.specs.SoundCode.Stands.{IsAmong}
 use Rattle.rb_code.specs.WordMachine.Turn.{Copy}
 use Rattle.rb_code.specs.declared.instr.Instr.{Instr}
-use Rattle.rb_code.specs.declared.instr.Instr.TheVariants.{Put, Take}
+use Rattle.rb_code.specs.declared.instr.Instr.TheVariants.{JumpZero, Put, Take}
 use Rattle.rb_proc.specs.Acts.{CursorRises, LeavesEnough}
 use Rattle.rb_proc.specs.Contents.{Contents}
 use Rattle.rb_proc.specs.Outcomes.{mem}
+use Rattle.rb_proc.specs.Runs.{decided}
 use Rattle.rb_proc.specs.Work.{named, named_along, named_at, named_from}
+use Rattle.rb_proc.proofs.FewOperands.{LeavesFew, leaves_few}
 
 module _ (c : Code) (see : Sight) (P : Workspace → Type 0) (calls : ℕ) (start : List ℤ) where
   -- a run of at most so many instructions that is safe from here, and comes to what the whole comes to
@@ -199,6 +203,44 @@ module _ (c : Code) (see : Sight) (P : Workspace → Type 0) (calls : ℕ) (star
           at : (n : ℕ) → Safe c see P n a xs m → P m
           at zero safe = absurd safe
           at (suc n) safe = on o (Safe c see P n) h (safe_on o e n safe)
+
+  -- a comparison of which it is known whether it holds leads on, and so does a jump right behind it
+  module _ (most a : ℕ) (xs : List ℤ) (m : Workspace) (end : Outcome) (runs : Runs most end a xs m) (i : Instr) (q : slice_get c.instrs a ≡ Some i)
+      (holds : Bool) (ys : List ℤ) (later : Workspace) (e : Going (a + 1) (truth holds ∷ ys) later ≡ act c see i a xs m) where
+    abbrev pub pushed : List ℤ
+    pushed = truth holds ∷ ys
+
+    -- the run with the truth on top
+    first : (rest : Runs most end (a + 1) pushed later) × (named_along c see runs.n a xs m ≡ named i + named_along c see rest.n (a + 1) pushed later)
+    first = onward most a xs m end runs i q (a + 1) pushed later e
+
+    pub is_behind : a + 1 < length c.instrs
+    is_behind = in_code most (a + 1) pushed later end first.0
+
+    pub is_room : length xs ≤ MOST_OPERANDS → length ys < MOST_OPERANDS
+    is_room few = subst LeavesFew (sym e) (leaves_few c see a xs m few i (ready_here most a xs m end runs i q))
+
+    pub record LeadsOn (b : ℕ) (zs : List ℤ) : Type 0 where
+      pub rest : Runs most end b zs later
+      pub names : named_along c see runs.n a xs m ≡ named i + named_along c see rest.n b zs later
+      pub fewer : steps_left c see most b zs later < steps_left c see most a xs m
+
+    pub decides : (b : ℕ) (zs : List ℤ) → Going b zs later ≡ decided (slice_get c.instrs (a + 1)) (a + 1) holds ys later → LeadsOn b zs
+    decides b zs = by (slice_get c.instrs (a + 1)) refl
+      where
+        jumped : (to : ℕ) (holds : Bool) → Going (cond holds (a + 1 + 1) to) ys later ≡ act c see (JumpZero to) (a + 1) (truth holds ∷ ys) later
+        jumped to true = refl
+        jumped to false = refl
+
+        by : (o : Option Instr) → slice_get c.instrs (a + 1) ≡ o → Going b zs later ≡ decided o (a + 1) holds ys later → LeadsOn b zs
+        by (Some (JumpZero to)) there d =
+            let jump = onward most (a + 1) pushed later end first.0 (JumpZero to) there b zs later (d ∙ jumped to holds) in
+            let fewer = falls most (a + 1) pushed later end first.0 (JumpZero to) there b zs later (d ∙ jumped to holds) in
+            let before = falls most a xs m end runs i q (a + 1) pushed later e in
+            record { rest = jump.0; names = (let one = first.1 in let other = jump.1 in omega arith); fewer = omega arith }
+        by o there d =
+            let next = onward most a xs m end runs i q b zs later (d ∙ e) in
+            record { rest = next.0; names = next.1; fewer = falls most a xs m end runs i q b zs later (d ∙ e) }
 
 -- where a memory is unchanged, so is what the process can recover
 pub same_contents : (old new : Contents) (pieces later_pieces : List (List ℕ))

@@ -1,6 +1,6 @@
 -- What ties the parts of a process stays through each change of them, and what each change is for contracts.
 use Rattle.std.proofs.Common.{◌≡◌, ℕ, ◌+◌, ◌-◌, ◌<◌, ◌≤◌, ℤ, pos, List, [], ◌∷◌, ◌++◌, map, length, take, reverse, replicate, refl, ap, sym, ◌∙◌, subst, arith}
-use Rattle.std.specs.Prelude.{slice_set}
+use Rattle.std.specs.Prelude.{get_or, slice_set}
 use Rattle.std.specs.List.{AllByRecursion}
 use Rattle.std.proofs.lemmas.List.{length-append, length-reverse, length-take-le, length-replicate, length-set, map-append, reverse-append, take_all, take-append-le}
 use Rattle.std.specs.List.{take-map}
@@ -22,6 +22,7 @@ use Rattle.rb_proc.specs.declared.recoverable.OpenCall.{OpenCall as Held}
 use Rattle.rb_proc.specs.Inside.{Fronts, IsTied, Rise, call_of, calls_at, calls_of, contents, height_at, level_of, levels_of}
 use Rattle.rb_proc.proofs.Rising.{all_low, rise_above, rise_more, rise_push, rise_take}
 use Rattle.rb_proc.proofs.Fronts.{fronts_accept, fronts_open, held_cut, held_more, held_none, held_set}
+use Rattle.rb_proc.proofs.Timed.{timed_open, timed_outer}
 use Rattle.rb_proc.proofs.Levels.{last_is, last_or-low, levels_long, levels_more, levels_push, levels_take, without_last_is}
 
 -- each level has a copy
@@ -46,26 +47,26 @@ pub bases_last : (calls : List Held) (call : Held) → AllByRecursion IsAbove (c
 bases_last [] call a = a.0
 bases_last (x ∷ calls) call a = bases_last calls call a.1
 
-module _ (store : Store) (cache : RecoveryCache) (calls : List Held) (room : ℕ) (marks : List LevelMark) (marks_room : ℕ) (lines : TwoLists)
-    (tied : IsTied store cache calls room marks marks_room lines) where
+module _ (clock deadline : ℕ) (store : Store) (cache : RecoveryCache) (calls : List Held) (room : ℕ) (marks : List LevelMark) (marks_room : ℕ) (lines : TwoLists)
+    (tied : IsTied clock deadline store cache calls room marks marks_room lines) where
   abbrev pub copied : List (List ℤ)
   copied = copies store.words cache
 
   abbrev pub seen : Contents
-  seen = contents store.words cache calls marks lines
+  seen = contents clock store.words cache calls marks lines
 
   pub marks_copied : length marks ≡ length copied
   marks_copied = tied.levels_are ∙ sym (copies_long store.words cache)
 
   pub marks_levels : length seen.levels ≡ length marks
-  marks_levels = levels_long marks copied calls marks_copied
+  marks_levels = levels_long clock marks copied calls marks_copied
 
   pub marks_open : length (open_levels cache) ≡ length marks
   marks_open = open_long cache ∙ sym tied.levels_are
 
   -- the innermost copy
   pub last_copy_is : last_copy store.words cache ≡ prior_words (copy_of (last_of seen.levels))
-  last_copy_is = sym (last_is marks copied calls marks_copied)
+  last_copy_is = sym (last_is clock marks copied calls marks_copied)
 
   -- where words lie in the innermost copy a level is open
   pub prior_there : (at : ℕ) → at < length (prior_words (copy_of (last_of seen.levels))) → 0 < length (open_levels cache)
@@ -74,15 +75,16 @@ module _ (store : Store) (cache : RecoveryCache) (calls : List Held) (room : ℕ
       by : (ms : List LevelMark) → marks ≡ ms → 0 < length (open_levels cache)
       by [] e = absurd
           (let none : 0 ≡ length (prior_words (copy_of (last_of seen.levels))) =
-          sym (ap (λ ms. length (prior_words (copy_of (last_of (levels_of ms copied calls))))) e) in omega arith)
+          sym (ap (λ ms. length (prior_words (copy_of (last_of (levels_of clock ms copied calls))))) e) in omega arith)
       by (m ∷ ms) e = let k = marks_open in let n = ap length e in omega arith
 
   -- a level is opened
   module _ (after : RecoveryCache) (mark : LevelMark) (copies_are : copies store.words after ≡ copied ++ store.words ∷ [])
-      (opened : open_levels after ≡ open_levels cache ++ entered (length store.words) ∷ []) (calls_are : mark.calls ≡ length calls) where
-    pub tied_open : (room_after : ℕ) → mark.height ≡ length store.words → Fits store.words after → after.limits ≡ cache.limits
-        → length marks < MOST_OPEN_LEVELS → MOST_OPEN_LEVELS ≤ room_after → IsTied store after calls room (marks ++ mark ∷ []) room_after lines
-    tied_open room_after height_is fits limits few much = record {
+      (opened : open_levels after ≡ open_levels cache ++ entered (length store.words) ∷ []) (calls_are : mark.calls ≡ length calls)
+      (since_is : mark.since ≡ clock) where
+    pub tied_open : (later room_after : ℕ) → mark.around ≡ deadline → later ≤ deadline → later ≤ mark.since + mark.facts.bound → mark.height ≡ length store.words → Fits store.words after → after.limits ≡ cache.limits
+        → length marks < MOST_OPEN_LEVELS → MOST_OPEN_LEVELS ≤ room_after → IsTied clock later store after calls room (marks ++ mark ∷ []) room_after lines
+    tied_open later room_after around outer own height_is fits limits few much = record {
       limit_is = tied.limit_is;
       few_words = tied.few_words;
       levels_limit = ap (λ (l : Limits). l.levels) limits ∙ tied.levels_limit;
@@ -109,13 +111,15 @@ module _ (store : Store) (cache : RecoveryCache) (calls : List Held) (room : ℕ
       fronts = subst (λ (cs : List (List ℤ)). Fronts lines.held (reverse cs)) (sym copies_are)
           (fronts_open lines.held store.words copied tied.some tied.held tied.fronts);
       bases = tied.bases;
+      timed = timed_open clock deadline marks tied.timed later mark (omega arith) (omega arith) outer own;
     }
 
-    pub seen_open : contents store.words after calls (marks ++ mark ∷ []) lines
+    pub seen_open : contents clock store.words after calls (marks ++ mark ∷ []) lines
         ≡ record seen {
           touched = seen.touched ++ entered (length store.words) ∷ [];
           levels = seen.levels
-              ++ record (level_of mark store.words calls) {
+              ++ record (level_of clock mark store.words calls) {
+                used = 0;
                 copy =
                     record { at = mark.at; words = store.words; calls = calls_of calls; last_kept = mark.last_kept };
               }
@@ -128,27 +132,38 @@ module _ (store : Store) (cache : RecoveryCache) (calls : List Held) (room : ℕ
           held = lines.held;
           touched =
               ts;
-          levels = levels_of (marks ++ mark ∷ []) (copies store.words after) calls;
+          levels = levels_of clock (marks ++ mark ∷ []) (copies store.words after) calls;
           waiting = lines.released;
         }) opened
         ∙ ap (λ (cs : List (List ℤ)). record seen {
           touched = seen.touched ++ entered (length store.words) ∷ [];
           levels =
-              levels_of (marks ++ mark ∷ []) cs calls;
+              levels_of clock (marks ++ mark ∷ []) cs calls;
         }) copies_are
         ∙ ap
         (λ (ls : List (Level Copy)). record seen { touched = seen.touched ++ entered (length store.words) ∷ []; levels = ls })
-        (levels_push marks copied calls mark store.words marks_copied)
+        (levels_push clock marks copied calls mark store.words marks_copied)
         ∙ ap (λ (cs : List Held). record seen {
           touched = seen.touched ++ entered (length store.words) ∷ [];
           levels = seen.levels
-              ++ record (level_of mark store.words calls) {
+              ++ record (level_of clock mark store.words calls) {
                 copy =
                     record { at = mark.at; words = store.words; calls = calls_of cs; last_kept = mark.last_kept };
               }
               ∷ [];
         })
         (take_all mark.calls calls (omega (arith, calls_are)))
+        ∙ ap (λ (n : ℕ). record seen {
+          touched = seen.touched ++ entered (length store.words) ∷ [];
+          levels = seen.levels
+              ++ record (level_of clock mark store.words calls) {
+                used = n;
+                copy =
+                    record { at = mark.at; words = store.words; calls = calls_of calls; last_kept = mark.last_kept };
+              }
+              ∷ [];
+        })
+        (omega (arith, since_is))
 
   -- the innermost level goes
   module _ (after : RecoveryCache) (copies_are : copies store.words after ≡ take (length (open_levels cache) - 1) copied)
@@ -156,9 +171,9 @@ module _ (store : Store) (cache : RecoveryCache) (calls : List Held) (room : ℕ
     fewer : take (length (open_levels cache) - 1) copied ≡ take (length marks - 1) copied
     fewer = ap (λ n. take (n - 1) copied) marks_open
 
-    pub tied_accept : Fits store.words after → after.limits ≡ cache.limits
-        → IsTied store after calls room (take (length marks - 1) marks) marks_room lines
-    tied_accept fits limits = record {
+    pub tied_accept : (top : LevelMark) → get_or marks (length marks - 1) top ≡ top → Fits store.words after → after.limits ≡ cache.limits
+        → IsTied clock top.around store after calls room (take (length marks - 1) marks) marks_room lines
+    tied_accept top top_is fits limits = record {
       limit_is = tied.limit_is;
       few_words = tied.few_words;
       levels_limit = ap (λ (l : Limits). l.levels) limits ∙ tied.levels_limit;
@@ -185,9 +200,10 @@ module _ (store : Store) (cache : RecoveryCache) (calls : List Held) (room : ℕ
       fronts = subst (λ (cs : List (List ℤ)). Fronts lines.held (reverse cs)) (sym (copies_are ∙ fewer))
           (fronts_accept lines.held copied (length marks) marks_copied some tied.fronts);
       bases = tied.bases;
+      timed = timed_outer clock deadline marks tied.timed (length marks - 1) top (omega arith) top_is;
     }
 
-    pub seen_accept : contents store.words after calls (take (length marks - 1) marks) lines
+    pub seen_accept : contents clock store.words after calls (take (length marks - 1) marks) lines
         ≡ record seen { touched = accepted seen.touched; levels = without_last seen.levels }
     seen_accept =
         ap (λ (ts : List Touched). record {
@@ -196,7 +212,7 @@ module _ (store : Store) (cache : RecoveryCache) (calls : List Held) (room : ℕ
           held = lines.held;
           touched =
               ts;
-          levels = levels_of (take (length marks - 1) marks) (copies store.words after) calls;
+          levels = levels_of clock (take (length marks - 1) marks) (copies store.words after) calls;
           waiting =
               lines.released;
         }) open_are
@@ -204,11 +220,11 @@ module _ (store : Store) (cache : RecoveryCache) (calls : List Held) (room : ℕ
         (λ (cs : List (List ℤ)). record seen {
           touched = accepted seen.touched;
           levels =
-              levels_of (take (length marks - 1) marks) cs calls;
+              levels_of clock (take (length marks - 1) marks) cs calls;
         })
         (copies_are ∙ fewer)
         ∙ ap (λ (ls : List (Level Copy)). record seen { touched = accepted seen.touched; levels = ls })
-        (levels_take (length marks - 1) marks copied calls ∙ ap (λ n. take (n - 1) seen.levels) (sym marks_levels) ∙ without_last_is seen.levels)
+        (levels_take clock (length marks - 1) marks copied calls ∙ ap (λ n. take (n - 1) seen.levels) (sym marks_levels) ∙ without_last_is seen.levels)
 
   -- a word is written
   module _ (after : RecoveryCache) (later : Store) (at : ℕ) (value : ℤ)
@@ -222,7 +238,7 @@ module _ (store : Store) (cache : RecoveryCache) (calls : List Held) (room : ℕ
 
     pub tied_written : (after_lines : TwoLists) → word_at (slice_set store.words at value) held_place ≡ pos (held_bytes after_lines.held)
         → Fronts after_lines.held (reverse copied) → Fits later.words after → after.limits ≡ cache.limits
-        → IsTied later after calls room marks marks_room after_lines
+        → IsTied clock deadline later after calls room marks marks_room after_lines
     tied_written after_lines held fronts fits limits = record {
       limit_is = ap (λ (s : Store). s.limit) stored ∙ tied.limit_is;
       few_words = let few = tied.few_words in omega (arith, long);
@@ -242,12 +258,13 @@ module _ (store : Store) (cache : RecoveryCache) (calls : List Held) (room : ℕ
       held = ap (λ ws. word_at ws held_place) words_are ∙ held;
       fronts = subst (λ (cs : List (List ℤ)). Fronts after_lines.held (reverse cs)) (sym copies_are) fronts;
       bases = tied.bases;
+      timed = tied.timed;
     }
 
-    pub tied_store : 0 < at → Fits later.words after → after.limits ≡ cache.limits → IsTied later after calls room marks marks_room lines
+    pub tied_store : 0 < at → Fits later.words after → after.limits ≡ cache.limits → IsTied clock deadline later after calls room marks marks_room lines
     tied_store above fits limits = tied_written lines (held_set store.words at value above ∙ tied.held) tied.fronts fits limits
 
-    pub seen_store : contents later.words after calls marks lines
+    pub seen_store : contents clock later.words after calls marks lines
         ≡ record seen { words = slice_set store.words at value; touched = change_last (joined (at ∷ [])) seen.touched }
     seen_store =
         ap (λ (cs : List (List ℤ)). record {
@@ -256,7 +273,7 @@ module _ (store : Store) (cache : RecoveryCache) (calls : List Held) (room : ℕ
           held = lines.held;
           touched =
               open_levels after;
-          levels = levels_of marks cs calls;
+          levels = levels_of clock marks cs calls;
           waiting = lines.released;
         }) copies_are
         ∙ ap (λ (ws : List ℤ). record seen { words = ws; touched = open_levels after }) words_are
@@ -269,7 +286,7 @@ module _ (store : Store) (cache : RecoveryCache) (calls : List Held) (room : ℕ
     more_long : length later.words ≡ length store.words + length more
     more_long = ap (λ (s : Store). length s.words) stored ∙ length-append store.words more
 
-    pub tied_more : IsTied later cache calls room marks marks_room lines
+    pub tied_more : IsTied clock deadline later cache calls room marks marks_room lines
     tied_more = record {
       limit_is = ap (λ (s : Store). s.limit) stored ∙ tied.limit_is;
       few_words = omega (arith, more_long);
@@ -289,9 +306,10 @@ module _ (store : Store) (cache : RecoveryCache) (calls : List Held) (room : ℕ
       held = ap (λ (s : Store). word_at s.words held_place) stored ∙ held_more store.words more tied.some ∙ tied.held;
       fronts = subst (λ (cs : List (List ℤ)). Fronts lines.held (reverse cs)) (sym copies_are) tied.fronts;
       bases = tied.bases;
+      timed = tied.timed;
     }
 
-    pub seen_more : contents later.words cache calls marks lines ≡ record seen { words = store.words ++ more }
+    pub seen_more : contents clock later.words cache calls marks lines ≡ record seen { words = store.words ++ more }
     seen_more =
         ap (λ (cs : List (List ℤ)). record {
           words = later.words;
@@ -299,7 +317,7 @@ module _ (store : Store) (cache : RecoveryCache) (calls : List Held) (room : ℕ
           held = lines.held;
           touched =
               open_levels cache;
-          levels = levels_of marks cs calls;
+          levels = levels_of clock marks cs calls;
           waiting = lines.released;
         }) copies_are
         ∙ ap (λ (s : Store). record seen { words = s.words }) stored
@@ -323,7 +341,7 @@ module _ (store : Store) (cache : RecoveryCache) (calls : List Held) (room : ℕ
     cut_long : length later.words ≡ h
     cut_long = ap (λ (s : Store). length s.words) stored ∙ length-take-le h store.words le
 
-    pub tied_cut : IsTied later cache calls room marks marks_room lines
+    pub tied_cut : IsTied clock deadline later cache calls room marks marks_room lines
     tied_cut = record {
       limit_is = ap (λ (s : Store). s.limit) stored ∙ tied.limit_is;
       few_words = let few = tied.few_words in omega (arith, cut_long);
@@ -343,9 +361,10 @@ module _ (store : Store) (cache : RecoveryCache) (calls : List Held) (room : ℕ
       held = ap (λ (s : Store). word_at s.words held_place) stored ∙ held_cut store.words h some ∙ tied.held;
       fronts = subst (λ (cs : List (List ℤ)). Fronts lines.held (reverse cs)) (sym kept.0) tied.fronts;
       bases = tied.bases;
+      timed = tied.timed;
     }
 
-    pub seen_cut : contents later.words cache calls marks lines ≡ record seen { words = take h store.words }
+    pub seen_cut : contents clock later.words cache calls marks lines ≡ record seen { words = take h store.words }
     seen_cut =
         ap (λ (cs : List (List ℤ)). record {
           words = later.words;
@@ -353,7 +372,7 @@ module _ (store : Store) (cache : RecoveryCache) (calls : List Held) (room : ℕ
           held = lines.held;
           touched =
               open_levels cache;
-          levels = levels_of marks cs calls;
+          levels = levels_of clock marks cs calls;
           waiting = lines.released;
         }) kept.0
         ∙ ap (λ (s : Store). record seen { words = s.words }) stored
@@ -369,7 +388,7 @@ module _ (store : Store) (cache : RecoveryCache) (calls : List Held) (room : ℕ
   -- one call more
   module _ (call : Held) (above : 0 < call.base) where
     pub tied_called : (room_after : ℕ) → length calls < MOST_OPEN_CALLS → MOST_OPEN_CALLS ≤ room_after
-        → IsTied store cache (calls ++ call ∷ []) room_after marks marks_room lines
+        → IsTied clock deadline store cache (calls ++ call ∷ []) room_after marks marks_room lines
     tied_called room_after few much = record {
       limit_is = tied.limit_is;
       few_words = tied.few_words;
@@ -389,9 +408,10 @@ module _ (store : Store) (cache : RecoveryCache) (calls : List Held) (room : ℕ
       held = tied.held;
       fronts = tied.fronts;
       bases = bases_push calls call tied.bases above;
+      timed = tied.timed;
     }
 
-    pub seen_called : contents store.words cache (calls ++ call ∷ []) marks lines ≡ record seen { calls = call_of call ∷ seen.calls }
+    pub seen_called : contents clock store.words cache (calls ++ call ∷ []) marks lines ≡ record seen { calls = call_of call ∷ seen.calls }
     seen_called =
         ap (λ (cs : List OpenCall). record {
           words = store.words;
@@ -399,22 +419,22 @@ module _ (store : Store) (cache : RecoveryCache) (calls : List Held) (room : ℕ
           held = lines.held;
           touched =
               open_levels cache;
-          levels = levels_of marks copied (calls ++ call ∷ []);
+          levels = levels_of clock marks copied (calls ++ call ∷ []);
           waiting = lines.released;
         })
         (ap reverse (map-append call_of calls (call ∷ [])) ∙ reverse-append (map call_of calls) (call_of call ∷ []))
         ∙ ap (λ (ls : List (Level Copy)). record seen { calls = call_of call ∷ seen.calls; levels = ls })
-        (levels_more marks copied calls (call ∷ []) tied.entries)
+        (levels_more clock marks copied calls (call ∷ []) tied.entries)
 
   -- the innermost copy is no longer than the words
   pub prior_long : length (prior_words (copy_of (last_of seen.levels))) ≤ length store.words
-  prior_long = subst (λ (ws : List ℤ). length ws ≤ length store.words) (sym (last_is marks copied calls marks_copied))
+  prior_long = subst (λ (ws : List ℤ). length ws ≤ length store.words) (sym (last_is clock marks copied calls marks_copied))
       (last_or-low copied (length store.words) tied.heights)
 
 -- no call, no level, no line, and so many words that are 0
-module _ (n : ℕ) (some : 0 < n) (few : n ≤ most_places) where
+module _ (clock deadline n : ℕ) (some : 0 < n) (few : n ≤ most_places) where
   tied_first : (room marks_room : ℕ) → MOST_OPEN_CALLS ≤ room → MOST_OPEN_LEVELS ≤ marks_room
-      → IsTied (record { words = replicate n (pos 0); limit = most_places })
+      → IsTied clock deadline (record { words = replicate n (pos 0); limit = most_places })
       (record { regions = []; limits = record { levels = MOST_OPEN_LEVELS; words = most_places } })
       [] room [] marks_room (record { held = []; released = [] })
   tied_first room marks_room many much = record {
@@ -435,18 +455,19 @@ module _ (n : ℕ) (some : 0 < n) (few : n ≤ most_places) where
     held = held_none n some;
     fronts = tt;
     bases = tt;
+    timed = record { begun = tt; within = tt; around = tt };
   }
 
   pub tied_new : (store : Store) (cache : RecoveryCache) (calls : List Held) (room : ℕ) (marks : List LevelMark) (marks_room : ℕ) (lines : TwoLists)
       → store ≡ record { words = replicate n (pos 0); limit = most_places }
       → cache ≡ record { regions = []; limits = record { levels = MOST_OPEN_LEVELS; words = most_places } } → calls ≡ [] → marks ≡ []
       → lines ≡ record { held = []; released = [] } → MOST_OPEN_CALLS ≤ room → MOST_OPEN_LEVELS ≤ marks_room
-      → IsTied store cache calls room marks marks_room lines
+      → IsTied clock deadline store cache calls room marks marks_room lines
   tied_new store cache calls room marks marks_room lines s k cs ms ls many much =
       let first : Store = record { words = replicate n (pos 0); limit = most_places } in
       let bare : RecoveryCache = record { regions = []; limits = record { levels = MOST_OPEN_LEVELS; words = most_places } } in
-      subst (λ (x : Store). IsTied x cache calls room marks marks_room lines) (sym s)
-      (subst (λ (x : RecoveryCache). IsTied first x calls room marks marks_room lines) (sym k)
-      (subst (λ (x : List Held). IsTied first bare x room marks marks_room lines) (sym cs)
-      (subst (λ (x : List LevelMark). IsTied first bare [] room x marks_room lines) (sym ms)
-      (subst (λ (x : TwoLists). IsTied first bare [] room [] marks_room x) (sym ls) (tied_first room marks_room many much)))))
+      subst (λ (x : Store). IsTied clock deadline x cache calls room marks marks_room lines) (sym s)
+      (subst (λ (x : RecoveryCache). IsTied clock deadline first x calls room marks marks_room lines) (sym k)
+      (subst (λ (x : List Held). IsTied clock deadline first bare x room marks marks_room lines) (sym cs)
+      (subst (λ (x : List LevelMark). IsTied clock deadline first bare [] room x marks_room lines) (sym ms)
+      (subst (λ (x : TwoLists). IsTied clock deadline first bare [] room [] marks_room x) (sym ls) (tied_first room marks_room many much)))))

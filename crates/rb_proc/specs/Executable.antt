@@ -35,3 +35,7 @@ IsTurnAt c at to = (to ≡ at) × (slice_get c.instrs to ≡ Some Turn)
 -- a jump stands at an address, and leads to a `turn`
 abbrev pub LandsAt : Code → ℕ → ℕ → Type 0
 LandsAt c at to = (slice_get c.instrs at ≡ Some (Jump to)) × (slice_get c.instrs to ≡ Some Turn)
+
+-- a `turn` stands at the address behind an entry
+abbrev pub RestartsAt : Code → ℕ → Type 0
+RestartsAt c at = slice_get c.instrs at ≡ Some Turn

@@ -1,5 +1,5 @@
 -- What the parts of a process stand for, and what ties them.
-use Rattle.std.specs.Prelude.{◌≡◌, ℕ, ◌<◌, ◌≤◌, ℤ, pos, List, [], ◌∷◌, map, length, take, reverse}
+use Rattle.std.specs.Prelude.{◌≡◌, ℕ, ◌+◌, ◌<◌, ◌≤◌, ℤ, pos, List, [], ◌∷◌, map, length, take, reverse}
 use Rattle.std.specs.List.{AllByRecursion}
 use Rattle.rb_base.specs.declared.limits.TheConstants.{MOST_OPEN_CALLS, MOST_OPEN_LEVELS}
 use Rattle.rb_meaning.specs.Environment.{natural}
@@ -11,6 +11,7 @@ use Rattle.rb_code.specs.WordMachine.Workspace.{OpenCall, cut_held, held_place, 
 use Rattle.rb_code.specs.WordMachine.Turn.{Copy}
 use Rattle.rb_proc.specs.Places.{most_places}
 use Rattle.rb_proc.specs.Contents.{Contents, facts_of}
+use Rattle.rb_proc.specs.Marks.{mark_used}
 use Rattle.rb_proc.specs.declared.recoverable.LevelMark.{LevelMark}
 use Rattle.rb_proc.specs.declared.recoverable.OpenCall.{OpenCall as Held}
 
@@ -21,27 +22,27 @@ call_of one = record { back = one.back; base = one.base }
 abbrev pub calls_of : List Held → List OpenCall
 calls_of calls = reverse (map call_of calls)
 
--- a level by its mark, with the words of its copy
-abbrev pub level_of : LevelMark → List ℤ → List Held → Level Copy
-level_of mark words calls = record {
+-- a level by its mark and the clock, with the words of its copy
+abbrev pub level_of : ℕ → LevelMark → List ℤ → List Held → Level Copy
+level_of clock mark words calls = record {
   facts = facts_of mark.facts;
   alternate = mark.alternate;
-  used = mark.used;
+  used = mark_used clock mark;
   copy = record { at = mark.at; words = words; calls = calls_of (take mark.calls calls); last_kept = mark.last_kept };
 }
 
-abbrev pub levels_of : List LevelMark → List (List ℤ) → List Held → List (Level Copy)
-levels_of [] copied calls = []
-levels_of (mark ∷ marks) [] calls = []
-levels_of (mark ∷ marks) (words ∷ copied) calls = level_of mark words calls ∷ levels_of marks copied calls
+abbrev pub levels_of : ℕ → List LevelMark → List (List ℤ) → List Held → List (Level Copy)
+levels_of clock [] copied calls = []
+levels_of clock (mark ∷ marks) [] calls = []
+levels_of clock (mark ∷ marks) (words ∷ copied) calls = level_of clock mark words calls ∷ levels_of clock marks copied calls
 
-abbrev pub contents : List ℤ → RecoveryCache → List Held → List LevelMark → TwoLists → Contents
-contents words cache calls marks lines = record {
+abbrev pub contents : ℕ → List ℤ → RecoveryCache → List Held → List LevelMark → TwoLists → Contents
+contents clock words cache calls marks lines = record {
   words = words;
   calls = calls_of calls;
   held = lines.held;
   touched = open_levels cache;
-  levels = levels_of marks (copies words cache) calls;
+  levels = levels_of clock marks (copies words cache) calls;
   waiting = lines.released;
 }
 
@@ -73,10 +74,29 @@ calls_at mark = mark.calls
 abbrev pub height_at : LevelMark → ℕ
 height_at mark = mark.height
 
+-- a mark's level began no later than the clock stands
+abbrev pub HasBegun : ℕ → LevelMark → Type 0
+HasBegun clock mark = mark.since ≤ clock
+
+-- a mark's level is not beyond its bound before the clock is beyond a deadline
+abbrev pub IsWithin : ℕ → LevelMark → Type 0
+IsWithin deadline mark = deadline ≤ mark.since + mark.facts.bound
+
+-- each deadline that a mark keeps is one of the levels around it
+abbrev pub KeepDeadlines : List LevelMark → Type 0
+KeepDeadlines [] = Unit {0}
+KeepDeadlines (mark ∷ marks) = AllByRecursion (λ inner. IsWithin inner.around mark) marks × KeepDeadlines marks
+
+-- What ties the marks to the clock, and to the deadline up to which it counts turns without a look at them.
+pub record IsTimed (clock deadline : ℕ) (marks : List LevelMark) : Type 0 where
+  pub begun : AllByRecursion (HasBegun clock) marks
+  pub within : AllByRecursion (IsWithin deadline) marks
+  pub around : KeepDeadlines marks
+
 -- What ties the parts. The words are no fewer than at the entry of each level, whose mark tells how many there were, and so are the
 -- calls; the held length is that of the held lines, and in each copy that of the lines that were held then; and no call has the held
 -- length among its words.
-pub record IsTied (store : Store) (cache : RecoveryCache) (calls : List Held) (room : ℕ) (marks : List LevelMark) (marks_room : ℕ)
+pub record IsTied (clock deadline : ℕ) (store : Store) (cache : RecoveryCache) (calls : List Held) (room : ℕ) (marks : List LevelMark) (marks_room : ℕ)
     (lines : TwoLists) : Type 0 where
   pub limit_is : store.limit ≡ most_places
   pub few_words : length store.words ≤ most_places
@@ -95,3 +115,4 @@ pub record IsTied (store : Store) (cache : RecoveryCache) (calls : List Held) (r
   pub held : word_at store.words held_place ≡ pos (held_bytes lines.held)
   pub fronts : Fronts lines.held (reverse (copies store.words cache))
   pub bases : AllByRecursion (λ (call : Held). 0 < call.base) calls
+  pub timed : IsTimed clock deadline marks

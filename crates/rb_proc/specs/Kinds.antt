@@ -2,40 +2,40 @@
 use Rattle.rb_code.specs.declared.instr.Instr.{Instr}
 use Rattle.rb_code.specs.declared.instr.Instr.TheVariants.{Mul, Div, Rem, Neg, Not, Bool, Prior, LoadAt, PriorAt, StoreAt, Frame, Drop, Call, Return, Text, Item, Print, Put, Take, Absent, Range, Again, Counter}
 
-pub data Kind : Type 0 where
+pub data InstructionKind : Type 0 where
   -- the most frequent, which `act` carries out itself
-  Frequent : Kind
-  Numbers : Kind
+  Frequent : InstructionKind
+  Numbers : InstructionKind
   -- elements of arrays, and words of the innermost copy
-  Elements : Kind
+  Elements : InstructionKind
   -- words that are added on top of the others, or go
-  Frames : Kind
-  Lines : Kind
-  Channels : Kind
-  Counters : Kind
+  Frames : InstructionKind
+  Lines : InstructionKind
+  Channels : InstructionKind
+  Counters : InstructionKind
 
-abbrev pub kind_of : Instr → Kind
-kind_of Mul = Numbers
-kind_of Div = Numbers
-kind_of Rem = Numbers
-kind_of Neg = Numbers
-kind_of Not = Numbers
-kind_of Bool = Numbers
-kind_of (LoadAt spot) = Elements
-kind_of (StoreAt spot) = Elements
-kind_of (Prior spot) = Elements
-kind_of (PriorAt spot) = Elements
-kind_of (Frame n) = Frames
-kind_of (Drop n) = Frames
-kind_of (Call a p n) = Frames
-kind_of Return = Frames
-kind_of (Text k) = Lines
-kind_of Item = Lines
-kind_of Print = Lines
-kind_of (Put channel) = Channels
-kind_of (Take channel) = Channels
-kind_of (Absent channel a) = Channels
-kind_of (Range k a) = Counters
-kind_of (Again k a) = Counters
-kind_of (Counter k) = Counters
-kind_of _ = Frequent
+abbrev pub instruction_kind : Instr → InstructionKind
+instruction_kind Mul = Numbers
+instruction_kind Div = Numbers
+instruction_kind Rem = Numbers
+instruction_kind Neg = Numbers
+instruction_kind Not = Numbers
+instruction_kind Bool = Numbers
+instruction_kind (LoadAt spot) = Elements
+instruction_kind (StoreAt spot) = Elements
+instruction_kind (Prior spot) = Elements
+instruction_kind (PriorAt spot) = Elements
+instruction_kind (Frame n) = Frames
+instruction_kind (Drop n) = Frames
+instruction_kind (Call a p n) = Frames
+instruction_kind Return = Frames
+instruction_kind (Text k) = Lines
+instruction_kind Item = Lines
+instruction_kind Print = Lines
+instruction_kind (Put channel) = Channels
+instruction_kind (Take channel) = Channels
+instruction_kind (Absent channel a) = Channels
+instruction_kind (Range k a) = Counters
+instruction_kind (Again k a) = Counters
+instruction_kind (Counter k) = Counters
+instruction_kind _ = Frequent

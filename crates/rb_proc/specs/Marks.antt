@@ -1,5 +1,5 @@
--- What is asked of the mark of an open level, and how it counts a turn.
-use Rattle.std.specs.Prelude.{ℕ, ◌+◌, Bool, false, nat_lt, Option, Some, None}
+-- What is asked of the mark of an open level, and how many turns it has used.
+use Rattle.std.specs.Prelude.{ℕ, ◌-◌, Bool, false, nat_lt, Option, Some, None}
 use Rattle.rb_world.specs.World.{is_number}
 use Rattle.rb_proc.specs.declared.recoverable.LevelMark.{LevelMark}
 
@@ -12,10 +12,14 @@ abbrev pub is_last_mark_in : ℕ → Option LevelMark → Bool
 is_last_mark_in c None = false
 is_last_mark_in c (Some mark) = is_mark_in c mark
 
--- a mark that has used more turns than its bound
-abbrev pub is_mark_over : LevelMark → Bool
-is_mark_over mark = nat_lt mark.facts.bound mark.used
+-- the turns that a mark has used, by the clock
+abbrev pub mark_used : ℕ → LevelMark → ℕ
+mark_used clock mark = clock - mark.since
 
--- a mark that has used one turn more
-abbrev pub mark_used : LevelMark → LevelMark
-mark_used mark = record mark { used = mark.used + 1 }
+-- a mark that has used more turns than its bound
+abbrev pub is_mark_over : ℕ → LevelMark → Bool
+is_mark_over clock mark = nat_lt mark.facts.bound (mark_used clock mark)
+
+-- a mark that began one turn earlier, with no deadline for the levels around it
+abbrev pub earlier : LevelMark → LevelMark
+earlier mark = record mark { since = mark.since - 1; around = 0 }

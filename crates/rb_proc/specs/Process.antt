@@ -1,13 +1,13 @@
 -- A process of the machine as contracts see it: the process of the word machine, with a whole copy at the entry of each open level, and
 -- the released lines that wait. What each call does is told in the words of the turn of a world.
-use Rattle.std.specs.Prelude.{◌≡◌, ℕ, ℤ, cond, Bool, List, [], Option, Some, None}
+use Rattle.std.specs.Prelude.{◌≡◌, ℕ, ℤ, cond, Bool, List, [], Option}
 use Rattle.rb_world.specs.Kind.{Kind, Want, NothingLeft, SendsOn, ReceivesOn, MayReceiveOn, Enters, Starts, Acts, Stepped, Trapped, Went, Held}
 use Rattle.rb_world.specs.World.{Level, ProcessStatus, Running, Finished, FailedWith, Process, copy_of, last_of, goes_on}
-use Rattle.rb_world.specs.Slots.{Slots, slot_of}
+use Rattle.rb_world.specs.Slots.{Slots}
 use Rattle.rb_world.specs.Turn.{tried_at}
 use Rattle.rb_code.specs.Instructions.Plain.{Code}
 use Rattle.rb_code.specs.WordMachine.Turn.{Common, Copy, Standing, step, want}
-use Rattle.rb_code.specs.WordMachine.WordKind.{cursor_in, word_kind}
+use Rattle.rb_code.specs.WordMachine.WordKind.{word_kind}
 use Rattle.rb_proc.specs.declared.answers.Wanted.{Wanted}
 use Rattle.rb_proc.specs.declared.answers.Wanted.TheVariants as wanted
 use Rattle.rb_proc.specs.declared.answers.Outcome.{Outcome}
@@ -51,21 +51,10 @@ alternate_for (MayReceiveOn channel) levels = 0
 alternate_for (Enters facts) levels = 0
 alternate_for Acts levels = 0
 
--- the message that a step is given: where one is there, the one in the slot of the receiver's cursor
-abbrev pub message_for : Code → Standing → Slots → Bool → Want → Option ℤ
-message_for c s slots there (ReceivesOn channel) = cond there (Some (slot_of c.channels slots channel (cursor_in c s.process s.words channel))) None
-message_for c s slots there (MayReceiveOn channel) = cond there (Some (slot_of c.channels slots channel (cursor_in c s.process s.words channel))) None
-message_for c s slots there NothingLeft = None
-message_for c s slots there (SendsOn channel) = None
-message_for c s slots there (Enters facts) = None
-message_for c s slots there Starts = None
-message_for c s slots there Acts = None
-
--- the step of the word machine that a process takes
-abbrev pub step_of : Code → Process Standing Copy → Slots → Bool → Stepped Standing Common
-step_of c q slots there =
-    step c (alternate_for (want c q.state) q.levels) (copy_of (last_of q.levels)) q.state (message_for c q.state slots there (want c q.state))
-    (record { slots = slots; links = [] })
+-- the step of the word machine that a process takes, with this message or none
+abbrev pub step_of : Code → Process Standing Copy → Slots → Option ℤ → Stepped Standing Common
+step_of c q slots message =
+    step c (alternate_for (want c q.state) q.levels) (copy_of (last_of q.levels)) q.state message (record { slots = slots; links = [] })
 
 -- What a step answers, and what it leaves: where it went on, the process goes on from there, and a send has written its slot; where an
 -- acceptance test held it stands behind the test; where it trapped nothing is changed.

@@ -1,5 +1,5 @@
 -- The work of a process in its turn. Work is counted in ticks, one for each word that is read or written.
-use Rattle.std.specs.Prelude.{ℕ, zero, suc, ◌+◌, ℤ, Bool, List, [], length, slice_get, sum_by, Option, Some, None}
+use Rattle.std.specs.Prelude.{ℕ, zero, suc, ◌+◌, ℤ, List, [], length, slice_get, sum_by, Option, Some, None}
 use Rattle.rb_world.specs.Slots.{Slots}
 use Rattle.rb_world.specs.World.{Level, Process, copy_of, last_of}
 use Rattle.rb_cache.specs.Copies.{Level as Touched}
@@ -9,7 +9,7 @@ use Rattle.rb_code.specs.Instructions.Plain.{Code}
 use Rattle.rb_code.specs.WordMachine.Turn.{Copy, Standing, memory_of, most_steps, sight, want}
 use Rattle.rb_code.specs.declared.instr.Instr.{Instr}
 use Rattle.rb_code.specs.declared.instr.Instr.TheVariants.{Load, Prior, LoadAt, PriorAt, Store, StoreAt, Frame, Print, Room, Put, There, Take, Call, Absent}
-use Rattle.rb_proc.specs.Process.{alternate_for, message_for}
+use Rattle.rb_proc.specs.Process.{alternate_for}
 
 -- how many words an instruction names
 abbrev pub named : Instr → ℕ
@@ -52,11 +52,10 @@ abbrev pub named_by_step : Code → ℕ → Option Copy → Standing → Option 
 named_by_step c alternate copy s message slots =
     named_along c (sight s alternate copy message) (most_steps c) (s.at + 1) [] (memory_of s slots)
 
--- the words that the step of a process names, for which a message is there or is not
-abbrev pub named_in_step : Code → Process Standing Copy → Slots → Bool → ℕ
-named_in_step c q slots there =
-    named_by_step c (alternate_for (want c q.state) q.levels) (copy_of (last_of q.levels)) q.state
-    (message_for c q.state slots there (want c q.state)) slots
+-- the words that the step of a process names, with this message or none
+abbrev pub named_in_step : Code → Process Standing Copy → Slots → Option ℤ → ℕ
+named_in_step c q slots message =
+    named_by_step c (alternate_for (want c q.state) q.levels) (copy_of (last_of q.levels)) q.state message slots
 
 -- the words that are named on the way to the next turn, with these levels open
 abbrev pub named_settling : Code → Standing → List (Level Copy) → ℕ

@@ -16,7 +16,7 @@ ghost use Rattle.rb_proc.specs.Sees.{AreSized};
 use crate::recoverable::{Recoverable, natural};
 use rb_base::{Cause, Steps, Text};
 use rb_code::Code;
-use rb_mail::Mail;
+use rb_mail::Mails;
 use rb_operands::Next;
 use rb_operands::line::Line;
 use rb_operands::operands::Operands;
@@ -62,12 +62,12 @@ fn one_further(cursor: i64) -> i64
 }
 
 // Puts a value into the slot of a message, if the channel is there.
-fn put_mail(mails: &mut [Mail], channel: u32, index: u64, value: i64)
+fn put_mail(mails: &mut Mails, channel: u32, index: u64, value: i64)
     ensures put { (c : Plain) → AreSized c mails.old → mails.new ≡ put_slot c.channels channel index value mails.old }
     ensures sized { map length mails.new ≡ map length mails.old }
 {
     if (channel as usize) < mails.len() {
-        mails[channel as usize].put(index, value);
+        mails.put(channel as usize, index, value);
     }
 }
 
@@ -80,7 +80,7 @@ pub fn put_value<L: Ledger>(
     at: u32,
     operands: &mut Operands<'_>,
     memory: &mut Recoverable<L>,
-    mails: &mut [Mail],
+    mails: &mut Mails,
     steps: &mut Steps<L>,
 ) -> Next
     requires at { at + 1 < 2 ^ 32 }

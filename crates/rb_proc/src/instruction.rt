@@ -23,8 +23,8 @@ use crate::wants::alternate_of;
 use crate::words::{load, store};
 use rb_base::{Cause, Steps};
 use rb_code::{Code, Instr};
-use rb_mail::Mail;
-use rb_operands::calculate::{bound, jump_zero, operate, push, test};
+use rb_mail::Mails;
+use rb_operands::calculate::{bound, compare, jump_zero, operate, push, test};
 use rb_operands::operands::Operands;
 use rb_operands::{Bench, Next};
 use rb_syntax::Op;
@@ -64,7 +64,7 @@ pub fn act<L: Ledger>(
     operands: &mut Operands<'_>,
     bench: &mut Bench,
     memory: &mut Recoverable<L>,
-    mails: &mut [Mail],
+    mails: &mut Mails,
     steps: &mut Steps<L>,
 ) -> Next
     requires at { at + 1 < 2 ^ 32 }
@@ -93,12 +93,12 @@ pub fn act<L: Ledger>(
         Instr::Bound(n) => bound(n, at, operands),
         Instr::Add => operate(Op::Add, at, operands),
         Instr::Sub => operate(Op::Sub, at, operands),
-        Instr::Eq => operate(Op::Eq, at, operands),
-        Instr::Ne => operate(Op::Ne, at, operands),
-        Instr::Lt => operate(Op::Lt, at, operands),
-        Instr::Le => operate(Op::Le, at, operands),
-        Instr::Gt => operate(Op::Gt, at, operands),
-        Instr::Ge => operate(Op::Ge, at, operands),
+        Instr::Eq => compare(Op::Eq, operands),
+        Instr::Ne => compare(Op::Ne, operands),
+        Instr::Lt => compare(Op::Lt, operands),
+        Instr::Le => compare(Op::Le, operands),
+        Instr::Gt => compare(Op::Gt, operands),
+        Instr::Ge => compare(Op::Ge, operands),
         Instr::Jump(to) => Next::Go(to),
         Instr::JumpZero(to) => jump_zero(to, at, operands),
         Instr::Room(_) | Instr::There(_) => Next::Go(at + 1),

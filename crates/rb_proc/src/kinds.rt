@@ -11,7 +11,7 @@ ghost use Rattle.rb_code.specs.SoundCode.Stays.{entry_calls};
 ghost use Rattle.rb_operands.specs.Outcomes.{outcome_of};
 ghost use Rattle.rb_operands.specs.Pieces.{AreTexts};
 ghost use Rattle.rb_proc.specs.Acts.{CursorRises, LeavesEnough};
-ghost use Rattle.rb_proc.specs.Kinds.{Channels, Counters as OnCounters, Elements, Frames, Lines, Numbers, kind_of};
+ghost use Rattle.rb_proc.specs.Kinds.{Channels, Counters as OnCounters, Elements, Frames, Lines, Numbers, instruction_kind};
 ghost use Rattle.rb_proc.specs.Outcomes.{Keeps, mem, whole};
 ghost use Rattle.rb_proc.specs.Sees.{AreSized, IsTurnOf, see_of};
 ghost use Rattle.rb_proc.specs.Work.{named};
@@ -22,7 +22,7 @@ use crate::sight::Sight;
 use crate::words::{call, drop_words, frame, go_back, load_at, prior, prior_at, store_at};
 use rb_base::Steps;
 use rb_code::{Code, Instr};
-use rb_mail::Mail;
+use rb_mail::Mails;
 use rb_operands::calculate::{again, counter, negate, operate, range, test_zero};
 use rb_operands::counters::Counters;
 use rb_operands::line::Piece;
@@ -34,7 +34,7 @@ use std::sync::ledger::Ledger;
 /// An instruction on numbers alone.
 #[inline(always)]
 pub fn act_on_numbers(instr: &Instr, at: u32, operands: &mut Operands<'_>) -> Next
-    requires kind { kind_of instr.now ≡ Numbers }
+    requires kind { instruction_kind instr.now ≡ Numbers }
     requires at { at + 1 < 2 ^ 32 }
     requires ready { (c : Plain) × (see : Seen) × (m : Workspace) × Ready c see instr.now operands.old m }
     ensures moved { (c : Plain) (see : Seen) (m : Workspace)
@@ -62,7 +62,7 @@ pub fn act_on_elements<L: Ledger>(
     memory: &mut Recoverable<L>,
     steps: &mut Steps<L>,
 ) -> Next
-    requires kind { kind_of instr.now ≡ Elements }
+    requires kind { instruction_kind instr.now ≡ Elements }
     requires at { at + 1 < 2 ^ 32 }
     requires turn { IsTurnOf (plain code.now) sight.now }
     requires ready { (pieces : List (List ℕ)) × (counters : List (Option Counts)) × (slots : Slots)
@@ -106,7 +106,7 @@ pub fn act_on_frames<L: Ledger>(
     memory: &mut Recoverable<L>,
     steps: &mut Steps<L>,
 ) -> Next
-    requires kind { kind_of instr.now ≡ Frames }
+    requires kind { instruction_kind instr.now ≡ Frames }
     requires at { at + 1 < 2 ^ 32 }
     requires turn { IsTurnOf (plain code.now) sight.now }
     requires ready { (pieces : List (List ℕ)) × (counters : List (Option Counts)) × (slots : Slots)
@@ -144,7 +144,7 @@ pub fn act_on_line<L: Ledger>(
     memory: &mut Recoverable<L>,
     steps: &mut Steps<L>,
 ) -> Next
-    requires kind { kind_of instr.now ≡ Lines }
+    requires kind { instruction_kind instr.now ≡ Lines }
     requires at { at + 1 < 2 ^ 32 }
     requires texts { AreTexts (plain code.now).texts }
     requires none_waits { memory.old.waiting ≡ [] }
@@ -180,10 +180,10 @@ pub fn act_on_channel<L: Ledger>(
     at: u32,
     operands: &mut Operands<'_>,
     memory: &mut Recoverable<L>,
-    mails: &mut [Mail],
+    mails: &mut Mails,
     steps: &mut Steps<L>,
 ) -> Next
-    requires kind { kind_of instr.now ≡ Channels }
+    requires kind { instruction_kind instr.now ≡ Channels }
     requires at { at + 1 < 2 ^ 32 }
     requires turn { IsTurnOf (plain code.now) sight.now }
     requires sized { AreSized (plain code.now) mails.old }
@@ -223,7 +223,7 @@ pub fn act_on_counters(
     operands: &mut Operands<'_>,
     counters: &mut Counters,
 ) -> Next
-    requires kind { kind_of instr.now ≡ OnCounters }
+    requires kind { instruction_kind instr.now ≡ OnCounters }
     requires at { at + 1 < 2 ^ 32 }
     requires ready { (c : Plain) × (see : Seen) × (m : Workspace)
         × Ready c see instr.now operands.old (record m { counters = counters.old }) }

@@ -1,22 +1,19 @@
 //! What is looked up in the marks of open levels, and how they count turns and alternates.
 
-ghost use Rattle.std.specs.Prelude.{◌≡◌, ℕ, ◌+◌, ◌-◌, ◌<◌, ◌^◌, length, map, position, Some, IfSome};
-ghost use Rattle.std.specs.Option.{option_or};
-ghost use Rattle.std.specs.Bool.{then_some};
-ghost use Rattle.rb_world.specs.Standing.{Each};
+ghost use Rattle.std.specs.Prelude.{◌≡◌, ◌+◌, ◌-◌, ◌<◌, ◌≤◌, ◌^◌, length, map, position, IfSome};
 ghost use Rattle.rb_world.specs.World.{last_of};
 ghost use Rattle.rb_proc.specs.Contents.{facts_of};
-ghost use Rattle.rb_proc.specs.Marks.{is_last_mark_in, is_mark_in, is_mark_over, mark_used};
+ghost use Rattle.rb_proc.specs.Marks.{earlier, is_last_mark_in, is_mark_in, is_mark_over, mark_used};
 ghost use Rattle.rb_proc.specs.Views.{facts_seen};
 
 use crate::answers::LevelView;
 use crate::recoverable::LevelMark;
 
 /// A level as callers see it.
-pub(crate) fn view_of(mark: LevelMark) -> LevelView
+pub(crate) fn view_of(mark: LevelMark, clock: u32) -> LevelView
     ensures facts { facts_seen result ≡ facts_of mark.facts }
     ensures alternate { result.alternate ≡ mark.alternate }
-    ensures used { result.used ≡ mark.used }
+    ensures used { result.used ≡ mark_used clock mark }
 {
     LevelView {
         block: mark.facts.number,
@@ -25,18 +22,18 @@ pub(crate) fn view_of(mark: LevelMark) -> LevelView
         bound: mark.facts.bound,
         alternates: mark.facts.alternates,
         alternate: mark.alternate,
-        used: mark.used,
+        used: used(&mark, clock),
     }
 }
 
 /// A level that goes on to its next alternate, with no turns used.
-pub(crate) fn next_mark(mark: LevelMark) -> LevelMark
+pub(crate) fn next_mark(mark: LevelMark, clock: u32) -> LevelMark
     requires { mark.alternate < 2 ^ 32 - 1 }
-    ensures { result ≡ record mark { alternate = mark.alternate + 1; used = 0 } }
+    ensures { result ≡ record mark { alternate = mark.alternate + 1; since = clock } }
 {
     LevelMark {
         alternate: mark.alternate + 1,
-        used: 0,
+        since: clock,
         ..mark
     }
 }
@@ -78,54 +75,59 @@ pub(crate) fn is_last_in(marks: &[LevelMark], conversation: u32) -> bool
     }
 }
 
+// The turns that a level has used; no mark begins later than the clock stands.
+fn used(mark: &LevelMark, clock: u32) -> u32
+    ensures { result ≡ mark_used clock mark.now }
+{
+    clock.saturating_sub(mark.since)
+}
+
 // Whether a level has used more turns than its bound.
-fn is_over(mark: &LevelMark) -> bool
-    ensures { result ≡ is_mark_over mark.now }
+fn is_over(mark: &LevelMark, clock: u32) -> bool
+    ensures { result ≡ is_mark_over clock mark.now }
 {
-    mark.facts.bound < mark.used
+    mark.facts.bound < used(mark, clock)
 }
 
-// A level has used one turn more.
+/// The first level, from the outside in, that is over its bound.
+pub(crate) fn first_over(marks: &[LevelMark], clock: u32) -> Option<u32>
+    requires { length marks.now < 2 ^ 32 }
+    ensures { result ≡ position (is_mark_over clock) marks.now }
+{
+    let place = first_beyond(marks, clock)?;
+    Some(place as u32)
+}
+
+// The same, as an index.
+fn first_beyond(marks: &[LevelMark], clock: u32) -> Option<usize>
+    ensures place { result ≡ position (is_mark_over clock) marks.now }
+    ensures within { IfSome result (λ place. place < length marks.now) }
+{
+    marks.iter().position(|mark| is_over(mark, clock))
+}
+
+/// The deadline of a level and of those around it: theirs, or its own where that is sooner, which lies its bound behind its beginning.
 #[inline(always)]
-fn use_one(mark: &mut LevelMark)
-    requires { mark.old.used < 2 ^ 32 - 1 }
-    ensures { mark.new ≡ mark_used mark.old }
+pub(crate) fn sooner(outer: u32, since: u32, bound: u32) -> u32
+    ensures outer { result ≤ outer }
+    ensures own { result ≤ since + bound }
 {
-    mark.used += 1;
+    outer.min(since.saturating_add(bound))
 }
 
-/// Each level has used one turn more; tells the first one that is over its bound then.
-pub(crate) fn count_turn(marks: &mut [LevelMark]) -> Option<u32>
-    requires short { length marks.old < 2 ^ 32 }
-    requires few { Each (λ _ mark. mark.used < 2 ^ 32 - 1) marks.old }
-    ensures turn { marks.new ≡ map mark_used marks.old }
-    ensures over { result ≡ position is_mark_over marks.new }
+/// Each level began one turn earlier, and keeps no deadline.
+pub(crate) fn begin_earlier(marks: &mut [LevelMark])
+    ensures { marks.new ≡ map earlier marks.old }
 {
-    let mut over = None;
-    for (place, mark) in marks.iter_mut().enumerate() {
-        use_one(mark);
-        over = first_over(over, is_over(mark), place as u32);
-    }
-    over
-}
-
-// The first place that is over, where one more place is or is not.
-#[inline(always)]
-fn first_over(so_far: Option<u32>, over: bool, place: u32) -> Option<u32>
-    ensures { result ≡ option_or so_far (then_some over place) }
-{
-    if over {
-        first_of(so_far, place)
-    } else {
-        so_far
+    for mark in marks.iter_mut() {
+        start_earlier(mark);
     }
 }
 
-// The first of two places, the second of which is there. Levels are rarely over their bounds.
-#[cold]
-#[inline(never)]
-fn first_of(so_far: Option<u32>, place: u32) -> Option<u32>
-    ensures { result ≡ option_or so_far (Some place) }
+// A level that did not begin with the clock.
+fn start_earlier(mark: &mut LevelMark)
+    ensures { mark.new ≡ earlier mark.old }
 {
-    so_far.or(Some(place))
+    mark.since = mark.since.saturating_sub(1);
+    mark.around = 0;
 }

@@ -16,13 +16,13 @@ ghost use Rattle.rb_code.specs.WordMachine.Workspace.{part_of};
 ghost use Rattle.rb_code.specs.WordMachine.WordRun.{opening_standing};
 ghost use Rattle.rb_proc.specs.Contents.{IsBelowLast};
 ghost use Rattle.rb_proc.specs.Entries.{EntersAs, WantsBlock};
-ghost use Rattle.rb_proc.specs.Executable.{HasNext, IsExecutable};
+ghost use Rattle.rb_proc.specs.Executable.{HasNext, IsExecutable, RestartsAt};
 ghost use Rattle.rb_operands.specs.Outcomes.{stop_at};
 ghost use Rattle.rb_proc.specs.Runs.{CursorsRise};
 ghost use Rattle.rb_proc.specs.Sees.{AreSized};
 ghost use Rattle.rb_proc.specs.Statuses.{status_of};
 ghost use Rattle.rb_proc.specs.Views.{IsViewOf};
-ghost use Rattle.rb_proc.specs.Process.{Seen, StepsTo, alternate_for, kind_of, message_for, step_of, wanted_by, wanted_of};
+ghost use Rattle.rb_proc.specs.Process.{Seen, StepsTo, alternate_for, kind_of, step_of, wanted_by, wanted_of};
 ghost use Rattle.rb_proc.specs.Work.{named_in_step, named_settling, places_touched};
 
 mod lines;
@@ -33,10 +33,10 @@ use crate::answers::{LevelView, Outcome, ProcessStatus, Wanted};
 use crate::recoverable::Recoverable;
 use crate::run::run;
 use crate::sight::Sight;
-use crate::wants::{facts_of, landing, message_of, status_by, status_here, want_at, want_next};
+use crate::wants::{facts_of, landing, status_by, status_here, want_at, want_next};
 use rb_base::{Cause, MOST_OPERANDS, Memory, State, Steps};
 use rb_code::Code;
-use rb_mail::Mail;
+use rb_mail::Mails;
 use rb_operands::operands::Operands;
 use rb_operands::{Bench, Ended};
 use std::alloc::Global;
@@ -46,6 +46,7 @@ use std::sync::ledger::Ledger;
 /// A process of the machine. Contracts see the process of the word machine, with its whole copies.
 #[derive(Drop)]
 pub struct Proc<L: Ledger> {
+    alloc: Global,
     memory: Recoverable<L>,
     values: Box<[i64; MOST_OPERANDS]>,
     bench: Bench,
@@ -91,6 +92,7 @@ impl<L: Ledger> Proc<L> {
         let values = Box::new(alloc, [0; MOST_OPERANDS])?;
         let bench = Bench::new(alloc)?;
         let mut proc = Proc {
+            alloc,
             memory,
             values,
             bench,
@@ -187,14 +189,14 @@ impl<L: Ledger> Proc<L> {
         self.at_line
     }
 
-    /// One turn: all from the `turn` at which the process stands up to the next one. It is known what the process wants, and whether a
-    /// message is there. At most one tick, and three for each word that its instructions name.
+    /// One turn: all from the `turn` at which the process stands up to the next one. It is known what the process wants, and it is given the
+    /// message that is there, if one is. At most three ticks for each word that its instructions name.
     pub fn step(
         &mut self,
         code: &Code,
-        mails: &mut [Mail],
+        mails: &mut Mails,
         wanted: Wanted,
-        there: bool,
+        message: Option<i64>,
         steps: &mut Steps<L>,
     ) -> Outcome
         requires code { IsExecutable (plain code.now) }
@@ -205,25 +207,15 @@ impl<L: Ledger> Proc<L> {
         requires stands { (groups : List Membership) × StandsSoundly (plain code.now) groups self.old.process.state self.old.process.levels }
         requires serves { Serves (wanted_in (plain code.now) self.old.process.state)
             (alternate_for (wanted_in (plain code.now) self.old.process.state) self.old.process.levels)
-            (message_for (plain code.now) self.old.process.state mails.old there
-            (wanted_in (plain code.now) self.old.process.state)) self.old.process.levels }
+            message self.old.process.levels }
         requires sized { AreSized (plain code.now) mails.old }
         requires cursors { CursorsRise (plain code.now) self.old.process.state.process self.old.process.state.words }
         ensures came { StepsTo (plain code.now) self.old.process mails.old
-            (step_of (plain code.now) self.old.process mails.old there) result self.new.process mails.new }
+            (step_of (plain code.now) self.old.process mails.old message) result self.new.process mails.new }
         ensures sized { AreSized (plain code.now) mails.new }
         ensures waiting { self.new.waiting ≡ self.old.waiting }
-        ensures work { steps.new ≤ steps.old + 1 + 3 * named_in_step (plain code.now) self.old.process mails.old there }
+        ensures work { steps.new ≤ steps.old + 3 * named_in_step (plain code.now) self.old.process mails.old message }
     {
-        let message = message_of(
-            code,
-            self.process,
-            wanted,
-            there,
-            &self.memory,
-            mails,
-            steps,
-        );
         let sight = Sight::new(code, self.process, message, wanted);
         let mut operands = Operands::none(&mut *self.values);
         self.bench.clear();
@@ -251,6 +243,7 @@ impl<L: Ledger> Proc<L> {
     }
 
     /// The innermost level goes, and what stands before the next `turn` is carried out. At most three ticks for each word that is named there.
+    #[inline(always)]
     pub fn accept(&mut self, code: &Code, steps: &mut Steps<L>)
         requires code { IsExecutable (plain code.now) }
         requires none_waits { self.old.waiting ≡ [] }
@@ -307,7 +300,7 @@ impl<L: Ledger> Proc<L> {
         let sight = Sight::new(code, self.process, None, Wanted::Step);
         let mut operands = Operands::none(&mut *self.values);
         self.bench.clear();
-        let mut mails: [Mail; 0] = [];
+        let mut none = Mails::none(self.alloc);
         let ended = run(
             code,
             &sight,
@@ -315,7 +308,7 @@ impl<L: Ledger> Proc<L> {
             &mut operands,
             &mut self.bench,
             &mut self.memory,
-            &mut mails,
+            &mut none,
             steps,
         );
         let at = end_of(ended, self.at);
@@ -348,24 +341,15 @@ impl<L: Ledger> Proc<L> {
         self.status = ProcessStatus::Running;
     }
 
-    /// Enters the recovery block that stands next, if one does, at an alternate; the turn is the last kept one of the level's copy.
-    pub fn enter(&mut self, code: &Code, alternate: u32, turn: u32)
-        requires code { IsExecutable (plain code.now) }
-        requires room { length self.old.process.levels < MOST_OPEN_LEVELS }
-        ensures process { EntersAs (plain code.now)
-            (wanted_in (plain code.now) self.old.process.state) alternate turn self.old.process self.new.process }
-        ensures waiting { self.new.waiting ≡ self.old.waiting }
-    {
-        if let Wanted::Entry(block) = want_at(code, self.at) {
-            self.enter_block(code, block, alternate, turn);
-        }
-    }
-
-    /// The same where it is known which block stands next.
+    /// Enters the recovery block that stands next, at an alternate; the turn is the last kept one of the level's copy. It is known which block
+    /// that is, that the process goes on, and that a `turn` stands behind the entry, as in sound code: so it goes on from there.
     #[inline(always)]
-    pub fn enter_block(&mut self, code: &Code, block: u32, alternate: u32, turn: u32)
+    pub fn enter(&mut self, code: &Code, block: u32, alternate: u32, turn: u32)
         requires code { IsExecutable (plain code.now) }
         requires wants { WantsBlock block (wanted_in (plain code.now) self.old.process.state) }
+        requires running { self.old.process.status ≡ Running }
+        requires away { self.old.process.at_line ≡ false }
+        requires restart { RestartsAt (plain code.now) (self.old.process.state.at + 2) }
         requires room { length self.old.process.levels < MOST_OPEN_LEVELS }
         ensures process { EntersAs (plain code.now)
             (wanted_in (plain code.now) self.old.process.state) alternate turn self.old.process self.new.process }
@@ -375,8 +359,6 @@ impl<L: Ledger> Proc<L> {
         self.at += 2;
         self.last_kept = turn;
         self.memory.open(facts, alternate, self.at, turn);
-        self.at_line = false;
-        self.status = status_here(code, self.at);
     }
 
     /// The copy of an open level is put back, and the levels inside it go. At most one tick for each place that was touched in a level and no

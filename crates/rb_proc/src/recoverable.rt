@@ -40,20 +40,22 @@ pub struct BlockFacts {
     pub alternates: u32,
 }
 
-/// An open level: its block, the alternate that is tried, the turns that it used, and of its copy all but the words: the address, how many
-/// calls were open, how many words there were, and the last kept turn.
+/// An open level: its block, the alternate that is tried, the clock when none of its turns was used, the deadline of the levels around it, and
+/// of its copy all but the words: the address, how many calls were open, how many words there were, and the last kept turn.
 #[derive(Clone, Copy)]
 pub struct LevelMark {
     pub facts: BlockFacts,
     pub alternate: u32,
-    pub used: u32,
+    pub since: u32,
+    pub around: u32,
     pub at: u32,
     pub calls: usize,
     pub height: u32,
     pub last_kept: u32,
 }
 
-/// The words, the calls, the levels and the held lines of a process. Contracts see a whole copy for each open level.
+/// The words, the calls, the levels and the held lines of a process. One clock counts the turns of all open levels, up to the deadline with no
+/// look at them. Contracts see a whole copy for each open level, and the turns that it used.
 #[derive(Drop)]
 pub struct Recoverable<L: Ledger> {
     cells: Cells<L>,
@@ -61,6 +63,8 @@ pub struct Recoverable<L: Ledger> {
     calls: Vec<OpenCall>,
     marks: Vec<LevelMark>,
     hold: Hold,
+    clock: u32,
+    deadline: u32,
 }
 
 impl<L: Ledger> Model for Recoverable<L> {
@@ -71,9 +75,9 @@ impl<L: Ledger> Model for Recoverable<L> {
 
     ghost use Rattle.rb_proc.specs.Inside.{contents, IsTied};
 
-    ghost view = { λ r. contents r.cells.words r.cache r.calls.items r.marks.items r.hold };
+    ghost view = { λ r. contents r.clock r.cells.words r.cache r.calls.items r.marks.items r.hold };
 
-    ghost invariant = { λ r. IsTied r.cells r.cache r.calls.items (vec_capacity r.calls) r.marks.items (vec_capacity r.marks) r.hold };
+    ghost invariant = { λ r. IsTied r.clock r.deadline r.cells r.cache r.calls.items (vec_capacity r.calls) r.marks.items (vec_capacity r.marks) r.hold };
 }
 
 impl<L: Ledger> Recoverable<L> {
@@ -95,6 +99,8 @@ impl<L: Ledger> Recoverable<L> {
             calls,
             marks,
             hold,
+            clock: 0,
+            deadline: u32::MAX,
         })
     }
 }
@@ -103,8 +109,5 @@ impl<L: Ledger> Recoverable<L> {
 pub(crate) fn natural(word: i64) -> u64
     ensures { result ≡ natural word }
 {
-    match u64::try_from(word) {
-        Ok(n) => n,
-        Err(_) => 0,
-    }
+    if word < 0 { 0 } else { word as u64 }
 }

@@ -1,14 +1,16 @@
 //! All instructions up to an end.
 
-ghost use Rattle.std.specs.Prelude.{◌≡◌, ◌+◌, ◌*◌, ◌<◌, ◌≤◌, ◌^◌, ℤ, List, [], get_or, length, Option, Some};
+ghost use Rattle.std.specs.Prelude.{◌≡◌, ◌+◌, ◌*◌, ◌<◌, ◌≤◌, ◌^◌, ℤ, List, [], get_or, length, slice_get, Option, Some};
 ghost use Rattle.rb_code.specs.Instructions.Plain.{Code as Plain, code as plain};
-ghost use Rattle.rb_code.specs.WordMachine.Act.{execute};
+ghost use Rattle.rb_base.specs.declared.limits.TheConstants.{MOST_OPERANDS};
+ghost use Rattle.rb_code.specs.WordMachine.Workspace.{Workspace};
+ghost use Rattle.rb_code.specs.WordMachine.Act.{Going, execute};
 ghost use Rattle.rb_code.specs.SoundCode.Safe.{IsUnchanged, Safe};
 ghost use Rattle.rb_code.specs.SoundCode.Stays.{Stays, entry_calls};
 ghost use Rattle.rb_code.specs.WordMachine.Turn.{most_steps, wants_there};
 ghost use Rattle.rb_world.specs.World.{status_at};
 ghost use Rattle.rb_world.specs.World.{copy_of, last_of};
-ghost use Rattle.rb_proc.specs.Runs.{CursorsRise, KeepsEnded, TellsDone, done_or_running};
+ghost use Rattle.rb_proc.specs.Runs.{CursorsRise, KeepsEnded, TellsDone, decided, done_or_running};
 ghost use Rattle.rb_operands.specs.Outcomes.{ended_of};
 ghost use Rattle.rb_proc.specs.Outcomes.{whole};
 ghost use Rattle.rb_operands.specs.Pieces.{AreTexts};
@@ -20,9 +22,10 @@ use crate::recoverable::Recoverable;
 use crate::sight::Sight;
 use rb_base::Steps;
 use rb_code::{Code, Instr};
-use rb_mail::Mail;
+use rb_mail::Mails;
 use rb_operands::operands::Operands;
 use rb_operands::{Bench, Ended, Next};
+use rb_value::operator::truth;
 use std::sync::ledger::Ledger;
 
 /// Carries out the instructions from an address on, up to an end. At most three ticks for each word that they name.
@@ -34,7 +37,7 @@ pub fn run<L: Ledger>(
     operands: &mut Operands<'_>,
     bench: &mut Bench,
     memory: &mut Recoverable<L>,
-    mails: &mut [Mail],
+    mails: &mut Mails,
     steps: &mut Steps<L>,
 ) -> Ended
     requires length { length code.now.instrs.items < 2 ^ 32 }
@@ -66,10 +69,13 @@ pub fn run<L: Ledger>(
     let mut at = from;
     'turn: loop {
         let instr = instr_at(instrs, at);
+        // So the truth of a comparison finds room.
+        operands.are_few();
         match act(
             code, sight, instr, at, operands, bench, memory, mails, steps,
         ) {
             Next::Go(to) => at = to,
+            Next::Holds(holds) => at = decide(instrs, at + 1, holds, operands),
             Next::Stop => return Ended::Stop(at, is_done(instr)),
             Next::Accepts(to) => return Ended::Accepts(to),
             Next::Trap(cause) => return Ended::Trap(cause),
@@ -84,6 +90,24 @@ fn instr_at(instrs: &[Instr], at: u32) -> &Instr
     ensures { result.now ≡ get_or instrs.now at result.now }
 {
     &instrs[at as usize]
+}
+
+// Where a comparison leads that holds or does not. A jump right behind it is decided at once, so that nothing is pushed for it.
+#[inline(always)]
+fn decide(instrs: &[Instr], next: u32, holds: bool, operands: &mut Operands<'_>) -> u32
+    requires there { next < length instrs.now }
+    requires addresses { length instrs.now < 2 ^ 32 }
+    requires room { length operands.old < MOST_OPERANDS }
+    ensures { (m : Workspace) → Going result operands.new m ≡ decided (slice_get instrs.now next) next holds operands.old m }
+{
+    match *instr_at(instrs, next) {
+        Instr::JumpZero(_) if holds => next + 1,
+        Instr::JumpZero(to) => to,
+        _ => {
+            operands.push(truth(holds));
+            next
+        }
+    }
 }
 
 // Whether a process is done that stands at this instruction.

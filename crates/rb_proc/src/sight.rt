@@ -18,7 +18,7 @@ use std::sync::ledger::Ledger;
 #[derive(Clone, Copy)]
 pub struct Sight {
     pub process: u32,
-    pub variables: u32,
+    pub variables: usize,
     pub message: Option<i64>,
     pub wanted: Wanted,
 }
@@ -36,7 +36,7 @@ impl Sight {
     {
         Sight {
             process,
-            variables: 1 + code.processes[process as usize].channels.len() as u32,
+            variables: 1 + code.processes[process as usize].channels.len(),
             message,
             wanted,
         }
@@ -48,7 +48,7 @@ impl Sight {
         ensures most { result ≡ variables_place (part_of (plain code.now) self.now.process) + most_words code.now.edition }
         ensures few { result ≤ most_places }
     {
-        self.variables + code.edition.most_words()
+        self.variables as u32 + code.edition.most_words()
     }
 
     /// Where the words of the main body begin.
@@ -56,7 +56,7 @@ impl Sight {
         requires { IsTurnOf (plain code.now) self.now }
         ensures { result ≡ body_place (part_of (plain code.now) self.now.process) }
     {
-        self.variables + code.processes[self.process as usize].words
+        self.variables as u32 + code.processes[self.process as usize].words
     }
 
     /// Where a variable's first word lies.
@@ -67,7 +67,7 @@ impl Sight {
         ensures small { result < 2 ^ 33 }
     {
         match spot {
-            Spot::Global(k) => self.variables as usize + k as usize,
+            Spot::Global(k) => self.variables + k as usize,
             Spot::Local(k) => self.base(code, memory) as usize + k as usize,
         }
     }

@@ -5,14 +5,12 @@ ghost use Rattle.rb_world.specs.Kind.{Enters};
 ghost use Rattle.rb_world.specs.World.{status_at};
 ghost use Rattle.rb_code.specs.Instructions.Plain.{code as plain};
 ghost use Rattle.rb_code.specs.WordMachine.Turn.{enters, wants_by, wants_there};
-ghost use Rattle.rb_world.specs.Slots.{slot_of};
 ghost use Rattle.rb_code.specs.WordMachine.WordKind.{cursor_in};
 ghost use Rattle.rb_proc.specs.Process.{wanted_by};
 ghost use Rattle.rb_proc.specs.Contents.{facts_of as facts};
 ghost use Rattle.rb_proc.specs.Executable.{HasNext, IsExecutable, IsTurnAt, LandsAt, ends};
-ghost use Rattle.rb_proc.specs.Given.{alternate_by, message_by};
+ghost use Rattle.rb_proc.specs.Given.{alternate_by};
 ghost use Rattle.rb_proc.specs.Runs.{done_or_running};
-ghost use Rattle.rb_proc.specs.Sees.{AreSized};
 ghost use Rattle.rb_proc.specs.Statuses.{status_of};
 
 use crate::answers::{ProcessStatus, Wanted};
@@ -20,7 +18,6 @@ use crate::channels::cursor_place;
 use crate::recoverable::{BlockFacts, Recoverable, natural};
 use rb_base::Steps;
 use rb_code::{Code, Instr};
-use rb_mail::Mail;
 use std::sync::ledger::Ledger;
 
 /// What the process wants that runs and stands at an address, and at no test line.
@@ -130,51 +127,6 @@ pub fn alternate_of<L: Ledger>(wanted: Wanted, memory: &Recoverable<L>) -> u32
     match wanted {
         Wanted::Start => memory.alternate(),
         _ => 0,
-    }
-}
-
-/// The message that a step is given.
-pub fn message_of<L: Ledger>(
-    code: &Code,
-    process: u32,
-    wanted: Wanted,
-    there: bool,
-    memory: &Recoverable<L>,
-    mails: &[Mail],
-    steps: &mut Steps<L>,
-) -> Option<i64>
-    requires process { process < length code.now.processes.items }
-    requires sized { AreSized (plain code.now) mails.now }
-    ensures message { result ≡ message_by (plain code.now) process memory.now.words mails.now there wanted }
-    ensures ticks { steps.new ≤ steps.old + 1 }
-{
-    match wanted {
-        Wanted::Message(channel) | Wanted::Maybe(channel) if there => {
-            Some(message_in(code, process, channel, memory, mails, steps))
-        }
-        _ => None,
-    }
-}
-
-// What lies in the slot of a receiver's cursor.
-fn message_in<L: Ledger>(
-    code: &Code,
-    process: u32,
-    channel: u32,
-    memory: &Recoverable<L>,
-    mails: &[Mail],
-    steps: &mut Steps<L>,
-) -> i64
-    requires process { process < length code.now.processes.items }
-    requires sized { AreSized (plain code.now) mails.now }
-    ensures message { result ≡ slot_of (plain code.now).channels mails.now channel (cursor_in (plain code.now) process memory.now.words channel) }
-    ensures ticks { steps.new ≤ steps.old + 1 }
-{
-    let cursor = cursor_of(code, process, channel, memory, steps);
-    if (channel as usize) < mails.len() {
-        mails[channel as usize].get(cursor)
-    } else {
-        0
     }
 }
 

@@ -12,7 +12,7 @@ ghost use Rattle.rb_proc.specs.Views.{IsViewOf};
 
 use super::{BlockFacts, LevelMark, Recoverable};
 use crate::answers::LevelView;
-use crate::marks::{count_turn, is_last_in, next_mark, place_in, view_of};
+use crate::marks::{begin_earlier, first_over, is_last_in, next_mark, place_in, sooner, view_of};
 use rb_cache::Cache;
 use rb_cell::Cells;
 use rb_operands::room::put;
@@ -31,13 +31,15 @@ impl<L: Ledger> Recoverable<L> {
         let mark = LevelMark {
             facts,
             alternate,
-            used: 0,
+            since: self.clock,
+            around: self.deadline,
             at,
             calls: self.calls.len(),
             height: self.cells.height(),
             last_kept,
         };
         put(&mut self.marks, mark);
+        self.deadline = sooner(self.deadline, self.clock, facts.bound);
     }
 
     /// The innermost level goes.
@@ -46,7 +48,10 @@ impl<L: Ledger> Recoverable<L> {
         ensures { self.new ≡ record self.old { touched = accepted self.old.touched; levels = without_last self.old.levels } }
     {
         self.cache.accept(&self.cells);
-        self.marks.truncate(self.marks.len() - 1);
+        let last = self.marks.len() - 1;
+        let mark = self.marks[last];
+        self.deadline = mark.around;
+        self.marks.truncate(last);
     }
 
     /// How many levels are open.
@@ -61,7 +66,7 @@ impl<L: Ledger> Recoverable<L> {
         requires { k < length self.now.levels }
         ensures { IsViewOf (slice_get self.now.levels k) result }
     {
-        view_of(self.marks[k as usize])
+        view_of(self.marks[k as usize], self.clock)
     }
 
     /// The alternate of the innermost level, and 0 without one.
@@ -96,7 +101,37 @@ impl<L: Ledger> Recoverable<L> {
         ensures turn { self.new ≡ record self.old { levels = map one_used self.old.levels } }
         ensures over { result ≡ position is_over self.new.levels }
     {
-        count_turn(&mut self.marks)
+        if self.clock < self.deadline {
+            self.clock += 1;
+            None
+        } else {
+            self.count_by_marks()
+        }
+    }
+
+    // The same where a level may be beyond its bound then, or the clock is at its end.
+    #[cold]
+    #[inline(never)]
+    fn count_by_marks(&mut self) -> Option<u32>
+        requires { Each (λ _ level. level.used < 2 ^ 32 - 1) self.old.levels }
+        ensures turn { self.new ≡ record self.old { levels = map one_used self.old.levels } }
+        ensures over { result ≡ position is_over self.new.levels }
+    {
+        self.tick();
+        first_over(&self.marks, self.clock)
+    }
+
+    // The clock goes on. At its end each level began one turn earlier in place of that, and no deadline is ahead any more.
+    fn tick(&mut self)
+        requires { Each (λ _ level. level.used < 2 ^ 32 - 1) self.old.levels }
+        ensures { self.new ≡ record self.old { levels = map one_used self.old.levels } }
+    {
+        if self.clock < u32::MAX {
+            self.clock += 1;
+        } else {
+            begin_earlier(&mut self.marks);
+            self.deadline = 0;
+        }
     }
 
     /// A level goes on to its next alternate, with no turns used.
@@ -106,7 +141,11 @@ impl<L: Ledger> Recoverable<L> {
         ensures { self.new ≡ record self.old { levels = change_at level next_alternate self.old.levels } }
     {
         let mark = self.marks[level as usize];
-        self.marks[level as usize] = next_mark(mark);
+        self.marks[level as usize] = next_mark(mark, self.clock);
+        // With levels inside it the deadline stays: it is theirs too, and may only be too early.
+        if level as usize + 1 == self.marks.len() {
+            self.deadline = sooner(mark.around, self.clock, mark.facts.bound);
+        }
     }
 
     /// All levels go, and the words stay.
@@ -115,6 +154,7 @@ impl<L: Ledger> Recoverable<L> {
     {
         forget(&mut self.cache, &self.cells);
         self.marks.clear();
+        self.deadline = u32::MAX;
     }
 }
 

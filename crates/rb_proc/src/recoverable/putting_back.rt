@@ -7,6 +7,7 @@ ghost use Rattle.rb_proc.specs.Inside.{told as told_by};
 ghost use Rattle.rb_proc.specs.Work.{places_touched};
 
 use super::{LevelMark, Recoverable, natural};
+use crate::marks::sooner;
 use rb_base::Steps;
 use rb_cache::Cache;
 use rb_cell::Cells;
@@ -25,6 +26,7 @@ impl<L: Ledger> Recoverable<L> {
         put_back(&mut self.cache, &mut self.cells, level, steps);
         let mark = self.marks[level as usize];
         self.marks.truncate(level as usize + 1);
+        self.deadline = sooner(mark.around, mark.since, mark.facts.bound);
         self.calls.truncate(mark.calls);
         let held = told(&self.cells, steps);
         // Read for its range: the held length of the copy is no greater.

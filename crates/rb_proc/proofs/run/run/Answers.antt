@@ -1,5 +1,6 @@
-use Rattle.std.proofs.Common.{◌≡◌, ℕ, ◌≤◌, ◌+◌, List, Option, refl, ap, sym, ◌∙◌, subst, arith}
+use Rattle.std.proofs.Common.{◌≡◌, ℕ, ◌<◌, ◌≤◌, ◌+◌, List, ◌∷◌, length, Option, refl, ap, sym, ◌∙◌, subst, arith}
 use Rattle.std.specs.Prelude.{get_or, slice_get}
+use Rattle.rb_meaning.specs.Value.{truth}
 use Rattle.rb_world.specs.World.{Level, copy_of, last_of, status_at}
 use Rattle.rb_code.specs.declared.instr.Instr.{Instr}
 use Rattle.rb_code.specs.Instructions.Plain.{code as plain}
@@ -10,8 +11,9 @@ use Rattle.rb_code.specs.WordMachine.Turn.{Copy, most_steps, wants_there}
 use Rattle.rb_proc.specs.Acts.{CursorRises, LeavesEnough}
 use Rattle.rb_proc.specs.Contents.{Contents}
 use Rattle.rb_proc.specs.Outcomes.{pieces_in, whole}
+use Rattle.rb_proc.specs.Runs.{decided}
 use Rattle.rb_proc.specs.Sees.{FitSizes, see_of}
-use Rattle.rb_proc.proofs.Running.{falls, fetched, leaves, names_here, onward, over, ready_here, rises, same_contents, unchanged}
+use Rattle.rb_proc.proofs.Running.{decides, falls, fetched, in_code, is_behind, is_room, leaves, names_here, onward, over, ready_here, rises, same_contents, unchanged}
 use Rattle.rb_proc.proofs.run.run.Goals as goal
 
 pub turn-init : goal.turn-init
@@ -87,8 +89,8 @@ act-requires-clause-stays g c =
     (sym c.turn.invariant.levels)
     (leaves code see (IsUnchanged first) calls start most c.turn.at xs m end c.turn.invariant.runs i q)
 
-pub turn-smaller : goal.turn-smaller
-turn-smaller g c =
+pub turn-smaller-in-Go : goal.turn-smaller-in-Go
+turn-smaller-in-Go g c =
     let code = plain c.args.code.now in
     let see = see_of c.args.sight.now c.args.memory.now.levels in
     let first = whole code.texts c.args.bench.now c.args.memory.now c.args.mails.now in
@@ -109,8 +111,8 @@ turn-smaller g c =
     (IsUnchanged first) calls start most c.turn.at xs m end c.turn.invariant.runs i q c.in-Go.to c.act.new.operands
     (whole code.texts c.act.new.bench c.act.new.memory c.act.new.mails) moved
 
-pub turn-preserved : goal.turn-preserved
-turn-preserved g c =
+pub turn-preserved-in-Go : goal.turn-preserved-in-Go
+turn-preserved-in-Go g c =
     let code = plain c.args.code.now in
     let see = see_of c.args.sight.now c.args.memory.now.levels in
     let first = whole code.texts c.args.bench.now c.args.memory.now c.args.mails.now in
@@ -136,6 +138,123 @@ turn-preserved g c =
       waiting = c.in-Go.ensures.kept.1 ∙ c.turn.invariant.waiting;
       sized = subst (λ (ns : List ℕ). FitSizes ns code.channels) (sym c.in-Go.ensures.sized) c.turn.invariant.sized;
       work = omega (arith, next.1, c.in-Go.ensures.work, c.turn.invariant.work);
+      start = start;
+      cursors = c.turn.invariant.cursors;
+    }
+
+pub overflow_add-at : goal.overflow_add-at
+overflow_add-at g c =
+    let code = plain c.args.code.now in
+    let see = see_of c.args.sight.now c.args.memory.now.levels in
+    let first = whole code.texts c.args.bench.now c.args.memory.now c.args.mails.now in
+    let m = whole code.texts c.turn.bench c.turn.memory c.turn.mails in
+    let xs = c.turn.operands in
+    let calls = entry_calls (copy_of (last_of c.args.memory.now.levels)) in
+    let start = c.turn.invariant.start in
+    let most = most_steps code in
+    let end = execute code see most c.args.from c.args.operands.now first in
+    let within = in_code code see (IsUnchanged first) calls start most c.turn.at xs m end c.turn.invariant.runs in
+    omega (arith, c.requires.length)
+
+pub decide-at-requires-clause-there : goal.decide-at-requires-clause-there
+decide-at-requires-clause-there g c =
+    let code = plain c.args.code.now in
+    let see = see_of c.args.sight.now c.args.memory.now.levels in
+    let first = whole code.texts c.args.bench.now c.args.memory.now c.args.mails.now in
+    let m = whole code.texts c.turn.bench c.turn.memory c.turn.mails in
+    let xs = c.turn.operands in
+    let calls = entry_calls (copy_of (last_of c.args.memory.now.levels)) in
+    let start = c.turn.invariant.start in
+    let most = most_steps code in
+    let end = execute code see most c.args.from c.args.operands.now first in
+    let i = c.instr_at-instr.result.now in
+    let q = fetched code see (IsUnchanged first) calls start most c.turn.at xs m end c.turn.invariant.runs i
+    (c.instr_at-instr.ensures ∙ ap (λ (xs : List Instr). get_or xs c.turn.at c.instr_at-instr.result.now) c.as_slice-instrs.ensures.value) in
+    let later = whole code.texts c.act.new.bench c.act.new.memory c.act.new.mails in
+    let moved = subst
+    (λ (ls : List (Level Copy)). Going (c.turn.at + 1) (truth c.in-Holds.holds ∷ c.act.new.operands) later
+    ≡ acted code (see_of c.args.sight.now ls) i c.turn.at xs m) c.turn.invariant.levels c.in-Holds.ensures.moved in
+    subst (λ (is : List Instr). c.turn.at + 1 < length is) (sym c.as_slice-instrs.ensures.value)
+    (is_behind code see (IsUnchanged first) calls start most c.turn.at xs m end c.turn.invariant.runs i q c.in-Holds.holds c.act.new.operands
+    later moved)
+
+pub decide-at-requires-clause-room : goal.decide-at-requires-clause-room
+decide-at-requires-clause-room g c =
+    let code = plain c.args.code.now in
+    let see = see_of c.args.sight.now c.args.memory.now.levels in
+    let first = whole code.texts c.args.bench.now c.args.memory.now c.args.mails.now in
+    let m = whole code.texts c.turn.bench c.turn.memory c.turn.mails in
+    let xs = c.turn.operands in
+    let calls = entry_calls (copy_of (last_of c.args.memory.now.levels)) in
+    let start = c.turn.invariant.start in
+    let most = most_steps code in
+    let end = execute code see most c.args.from c.args.operands.now first in
+    let i = c.instr_at-instr.result.now in
+    let q = fetched code see (IsUnchanged first) calls start most c.turn.at xs m end c.turn.invariant.runs i
+    (c.instr_at-instr.ensures ∙ ap (λ (xs : List Instr). get_or xs c.turn.at c.instr_at-instr.result.now) c.as_slice-instrs.ensures.value) in
+    let later = whole code.texts c.act.new.bench c.act.new.memory c.act.new.mails in
+    let moved = subst
+    (λ (ls : List (Level Copy)). Going (c.turn.at + 1) (truth c.in-Holds.holds ∷ c.act.new.operands) later
+    ≡ acted code (see_of c.args.sight.now ls) i c.turn.at xs m) c.turn.invariant.levels c.in-Holds.ensures.moved in
+    is_room code see (IsUnchanged first) calls start most c.turn.at xs m end c.turn.invariant.runs i q c.in-Holds.holds c.act.new.operands
+    later moved c.are_few.ensures
+
+pub turn-smaller : goal.turn-smaller
+turn-smaller g c =
+    let code = plain c.args.code.now in
+    let see = see_of c.args.sight.now c.args.memory.now.levels in
+    let first = whole code.texts c.args.bench.now c.args.memory.now c.args.mails.now in
+    let m = whole code.texts c.turn.bench c.turn.memory c.turn.mails in
+    let xs = c.turn.operands in
+    let calls = entry_calls (copy_of (last_of c.args.memory.now.levels)) in
+    let start = c.turn.invariant.start in
+    let most = most_steps code in
+    let end = execute code see most c.args.from c.args.operands.now first in
+    let i = c.instr_at-instr.result.now in
+    let q = fetched code see (IsUnchanged first) calls start most c.turn.at xs m end c.turn.invariant.runs i
+    (c.instr_at-instr.ensures ∙ ap (λ (xs : List Instr). get_or xs c.turn.at c.instr_at-instr.result.now) c.as_slice-instrs.ensures.value) in
+    let later = whole code.texts c.act.new.bench c.act.new.memory c.act.new.mails in
+    let moved = subst
+    (λ (ls : List (Level Copy)). Going (c.turn.at + 1) (truth c.in-Holds.holds ∷ c.act.new.operands) later
+    ≡ acted code (see_of c.args.sight.now ls) i c.turn.at xs m) c.turn.invariant.levels c.in-Holds.ensures.moved in
+    let led = c.decide-at.ensures later
+    ∙ ap (λ (is : List Instr). decided (slice_get is (c.turn.at + 1)) (c.turn.at + 1) c.in-Holds.holds c.act.new.operands later)
+    c.as_slice-instrs.ensures.value in
+    let next = decides code see
+    (IsUnchanged first) calls start most c.turn.at xs m end c.turn.invariant.runs i q c.in-Holds.holds c.act.new.operands later moved
+    c.decide-at.result c.decide-at.new.operands led in
+    next.fewer
+
+pub turn-preserved : goal.turn-preserved
+turn-preserved g c =
+    let code = plain c.args.code.now in
+    let see = see_of c.args.sight.now c.args.memory.now.levels in
+    let first = whole code.texts c.args.bench.now c.args.memory.now c.args.mails.now in
+    let m = whole code.texts c.turn.bench c.turn.memory c.turn.mails in
+    let xs = c.turn.operands in
+    let calls = entry_calls (copy_of (last_of c.args.memory.now.levels)) in
+    let start = c.turn.invariant.start in
+    let most = most_steps code in
+    let end = execute code see most c.args.from c.args.operands.now first in
+    let i = c.instr_at-instr.result.now in
+    let q = fetched code see (IsUnchanged first) calls start most c.turn.at xs m end c.turn.invariant.runs i
+    (c.instr_at-instr.ensures ∙ ap (λ (xs : List Instr). get_or xs c.turn.at c.instr_at-instr.result.now) c.as_slice-instrs.ensures.value) in
+    let later = whole code.texts c.act.new.bench c.act.new.memory c.act.new.mails in
+    let moved = subst
+    (λ (ls : List (Level Copy)). Going (c.turn.at + 1) (truth c.in-Holds.holds ∷ c.act.new.operands) later
+    ≡ acted code (see_of c.args.sight.now ls) i c.turn.at xs m) c.turn.invariant.levels c.in-Holds.ensures.moved in
+    let led = c.decide-at.ensures later
+    ∙ ap (λ (is : List Instr). decided (slice_get is (c.turn.at + 1)) (c.turn.at + 1) c.in-Holds.holds c.act.new.operands later)
+    c.as_slice-instrs.ensures.value in
+    let next = decides code see
+    (IsUnchanged first) calls start most c.turn.at xs m end c.turn.invariant.runs i q c.in-Holds.holds c.act.new.operands later moved
+    c.decide-at.result c.decide-at.new.operands led in
+    record {
+      runs = next.rest;
+      levels = ap (λ (r : Contents). r.levels) c.in-Holds.ensures.kept.0 ∙ c.turn.invariant.levels;
+      waiting = ap (λ (r : Contents). r.waiting) c.in-Holds.ensures.kept.0 ∙ c.turn.invariant.waiting;
+      sized = subst (λ (ns : List ℕ). FitSizes ns code.channels) (sym c.in-Holds.ensures.sized) c.turn.invariant.sized;
+      work = omega (arith, next.names, c.in-Holds.ensures.work, c.turn.invariant.work);
       start = start;
       cursors = c.turn.invariant.cursors;
     }

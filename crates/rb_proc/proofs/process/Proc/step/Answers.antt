@@ -8,7 +8,7 @@ use Rattle.rb_proc.specs.Contents.{Contents}
 use Rattle.rb_proc.specs.Given.{alternate_by}
 use Rattle.rb_proc.specs.Outcomes.{whole}
 use Rattle.rb_proc.specs.Runs.{CursorsRise}
-use Rattle.rb_proc.specs.Process.{Seen, StepsTo, alternate_for, message_for, step_of, wanted_by}
+use Rattle.rb_proc.specs.Process.{Seen, StepsTo, alternate_for, step_of, wanted_by}
 use Rattle.rb_proc.specs.ProcessInside.{seen, standing}
 use Rattle.rb_proc.specs.Statuses.{status_of}
 use Rattle.rb_proc.specs.Work.{named_in_step}
@@ -28,10 +28,10 @@ run-requires-clause-safe g c =
     let serves = subst
     (λ (old : Seen). Serves (want code old.process.state)
     (alternate_for (want code old.process.state) old.process.levels)
-    (message_for code old.process.state c.args.mails.now c.args.there (want code old.process.state)) old.process.levels)
+    c.args.message old.process.levels)
     (sym c.self.view_is) c.requires.serves in
-    step_safe code i.memory i.process i.at i.last_kept i.at_line i.status c.args.mails.now c.args.there c.clear.new.self c.none-operands.result c.new-sight.result
-    c.args.wanted (alternate_by c.args.wanted i.memory.levels) c.message_of-message.result wanted refl c.message_of-message.ensures.message
+    step_safe code i.memory i.process i.at i.last_kept i.at_line i.status c.args.mails.now c.args.message c.clear.new.self c.none-operands.result c.new-sight.result
+    c.args.wanted (alternate_by c.args.wanted i.memory.levels) wanted refl
     c.new-sight.ensures.process c.new-sight.ensures.message (ap (λ (w : Wanted). alternate_by w i.memory.levels) c.new-sight.ensures.wanted)
     c.none-operands.ensures c.clear.ensures.line c.clear.ensures.counters
     stands.0 stands.1 serves
@@ -47,13 +47,13 @@ run-requires-clause-stays g c =
     let serves = subst
     (λ (old : Seen). Serves (want code old.process.state)
     (alternate_for (want code old.process.state) old.process.levels)
-    (message_for code old.process.state c.args.mails.now c.args.there (want code old.process.state)) old.process.levels)
+    c.args.message old.process.levels)
     (sym c.self.view_is) c.requires.serves in (
       i.memory.words,
       subst (λ (p : ℕ). CursorsRise code p i.memory.words) (sym c.new-sight.ensures.process)
           (subst (λ (old : Seen). CursorsRise code old.process.state.process old.process.state.words) (sym c.self.view_is) c.requires.cursors),
-      step_stays code i.memory i.process i.at i.last_kept i.at_line i.status c.args.mails.now c.args.there c.clear.new.self c.none-operands.result c.new-sight.result
-          c.args.wanted (alternate_by c.args.wanted i.memory.levels) c.message_of-message.result wanted refl c.message_of-message.ensures.message
+      step_stays code i.memory i.process i.at i.last_kept i.at_line i.status c.args.mails.now c.args.message c.clear.new.self c.none-operands.result c.new-sight.result
+          c.args.wanted (alternate_by c.args.wanted i.memory.levels) wanted refl
           c.new-sight.ensures.process c.new-sight.ensures.message (ap (λ (w : Wanted). alternate_by w i.memory.levels) c.new-sight.ensures.wanted)
           c.none-operands.ensures c.clear.ensures.line c.clear.ensures.counters
           stands.0 stands.1 serves,
@@ -65,12 +65,12 @@ returns-in-Stop-clause-came g c =
     let i = c.self.inside in
     let wanted = subst (λ (old : Seen). c.args.wanted ≡ wanted_by (want code old.process.state)) (sym c.self.view_is) c.requires.wanted in
     let e = c.in-Stop.ensures.ended
-    ∙ executes code i.memory i.process i.at i.last_kept i.at_line i.status c.args.mails.now c.args.there c.clear.new.self c.none-operands.result c.new-sight.result
-    c.args.wanted (alternate_by c.args.wanted i.memory.levels) c.message_of-message.result wanted refl c.message_of-message.ensures.message
+    ∙ executes code i.memory i.process i.at i.last_kept i.at_line i.status c.args.mails.now c.args.message c.clear.new.self c.none-operands.result c.new-sight.result
+    c.args.wanted (alternate_by c.args.wanted i.memory.levels) wanted refl
     c.new-sight.ensures.process c.new-sight.ensures.message (ap (λ (w : Wanted). alternate_by w i.memory.levels) c.new-sight.ensures.wanted)
     c.none-operands.ensures c.clear.ensures.line c.clear.ensures.counters in
     subst (λ (old : Seen). StepsTo code old.process c.args.mails.now
-    (step_of code old.process c.args.mails.now c.args.there) outcome.Went
+    (step_of code old.process c.args.mails.now c.args.message) outcome.Went
     (record {
       state = standing c.run.new.memory i.process c.in-Stop.at i.last_kept;
       levels =
@@ -80,7 +80,7 @@ returns-in-Stop-clause-came g c =
           status_of c.status_by-self-inside.result;
     }) c.run.new.mails) c.self.view_is
     (stop_comes code
-    ((seen i.memory i.process i.at i.last_kept i.at_line i.status).process) c.args.mails.now c.args.there c.in-Stop.at
+    ((seen i.memory i.process i.at i.last_kept i.at_line i.status).process) c.args.mails.now c.args.message c.in-Stop.at
     (whole code.texts c.run.new.bench c.run.new.memory c.run.new.mails) _ c.run.new.mails e
     (ap (λ (ls : List (Level Copy)). record {
       state = standing c.run.new.memory i.process c.in-Stop.at i.last_kept;
@@ -110,15 +110,15 @@ returns-in-Accepts-clause-came g c =
     let i = c.self.inside in
     let wanted = subst (λ (old : Seen). c.args.wanted ≡ wanted_by (want code old.process.state)) (sym c.self.view_is) c.requires.wanted in
     let e = c.in-Accepts.ensures.ended
-    ∙ executes code i.memory i.process i.at i.last_kept i.at_line i.status c.args.mails.now c.args.there c.clear.new.self c.none-operands.result c.new-sight.result
-    c.args.wanted (alternate_by c.args.wanted i.memory.levels) c.message_of-message.result wanted refl c.message_of-message.ensures.message
+    ∙ executes code i.memory i.process i.at i.last_kept i.at_line i.status c.args.mails.now c.args.message c.clear.new.self c.none-operands.result c.new-sight.result
+    c.args.wanted (alternate_by c.args.wanted i.memory.levels) wanted refl
     c.new-sight.ensures.process c.new-sight.ensures.message (ap (λ (w : Wanted). alternate_by w i.memory.levels) c.new-sight.ensures.wanted)
     c.none-operands.ensures c.clear.ensures.line c.clear.ensures.counters in
     subst (λ (old : Seen). StepsTo code old.process c.args.mails.now
-    (step_of code old.process c.args.mails.now c.args.there) outcome.Accepts
+    (step_of code old.process c.args.mails.now c.args.message) outcome.Accepts
     ((seen c.run.new.memory i.process c.in-Accepts.at i.last_kept i.at_line i.status).process) c.run.new.mails) c.self.view_is
     (accept_comes code
-    ((seen i.memory i.process i.at i.last_kept i.at_line i.status).process) c.args.mails.now c.args.there c.in-Accepts.at
+    ((seen i.memory i.process i.at i.last_kept i.at_line i.status).process) c.args.mails.now c.args.message c.in-Accepts.at
     (whole code.texts c.run.new.bench c.run.new.memory c.run.new.mails) _ c.run.new.mails e
     (ap
     (λ (ls : List (Level Copy)). record {
@@ -137,15 +137,15 @@ returns-in-Trap-clause-came g c =
     let i = c.self.inside in
     let wanted = subst (λ (old : Seen). c.args.wanted ≡ wanted_by (want code old.process.state)) (sym c.self.view_is) c.requires.wanted in
     let e = c.in-Trap.ensures.ended
-    ∙ executes code i.memory i.process i.at i.last_kept i.at_line i.status c.args.mails.now c.args.there c.clear.new.self c.none-operands.result c.new-sight.result
-    c.args.wanted (alternate_by c.args.wanted i.memory.levels) c.message_of-message.result wanted refl c.message_of-message.ensures.message
+    ∙ executes code i.memory i.process i.at i.last_kept i.at_line i.status c.args.mails.now c.args.message c.clear.new.self c.none-operands.result c.new-sight.result
+    c.args.wanted (alternate_by c.args.wanted i.memory.levels) wanted refl
     c.new-sight.ensures.process c.new-sight.ensures.message (ap (λ (w : Wanted). alternate_by w i.memory.levels) c.new-sight.ensures.wanted)
     c.none-operands.ensures c.clear.ensures.line c.clear.ensures.counters in
     subst (λ (old : Seen). StepsTo code old.process c.args.mails.now
-    (step_of code old.process c.args.mails.now c.args.there) (outcome.Trap c.in-Trap.cause)
+    (step_of code old.process c.args.mails.now c.args.message) (outcome.Trap c.in-Trap.cause)
     ((seen c.run.new.memory i.process i.at i.last_kept i.at_line i.status).process) c.run.new.mails) c.self.view_is
     (trap_comes code
-    ((seen i.memory i.process i.at i.last_kept i.at_line i.status).process) c.args.mails.now c.args.there c.in-Trap.cause _ c.run.new.mails e
+    ((seen i.memory i.process i.at i.last_kept i.at_line i.status).process) c.args.mails.now c.args.message c.in-Trap.cause _ c.run.new.mails e
     (ap (λ (r : Contents). (seen r i.process i.at i.last_kept i.at_line i.status).process) c.in-Trap.ensures.kept.0) c.in-Trap.ensures.kept.1)
 
 pub returns-in-Stop-clause-work : goal.returns-in-Stop-clause-work
@@ -153,36 +153,36 @@ returns-in-Stop-clause-work g c =
     let code = plain c.args.code.now in
     let i = c.self.inside in
     let wanted = subst (λ (old : Seen). c.args.wanted ≡ wanted_by (want code old.process.state)) (sym c.self.view_is) c.requires.wanted in
-    let same = step_named code i.memory i.process i.at i.last_kept i.at_line i.status c.args.mails.now c.args.there c.clear.new.self
+    let same = step_named code i.memory i.process i.at i.last_kept i.at_line i.status c.args.mails.now c.args.message c.clear.new.self
     c.none-operands.result c.new-sight.result
-    c.args.wanted (alternate_by c.args.wanted i.memory.levels) c.message_of-message.result wanted refl c.message_of-message.ensures.message
+    c.args.wanted (alternate_by c.args.wanted i.memory.levels) wanted refl
     c.new-sight.ensures.process c.new-sight.ensures.message (ap (λ (w : Wanted). alternate_by w i.memory.levels) c.new-sight.ensures.wanted)
     c.none-operands.ensures c.clear.ensures.line c.clear.ensures.counters in
-    subst (λ (old : Seen). c.run.new.steps ≤ c.args.steps.now + 1 + 3 * named_in_step code old.process c.args.mails.now c.args.there) c.self.view_is
-    (omega (arith, same, c.message_of-message.ensures.ticks, c.in-Stop.ensures.work))
+    subst (λ (old : Seen). c.run.new.steps ≤ c.args.steps.now + 3 * named_in_step code old.process c.args.mails.now c.args.message) c.self.view_is
+    (omega (arith, same, c.in-Stop.ensures.work))
 
 pub returns-in-Accepts-clause-work : goal.returns-in-Accepts-clause-work
 returns-in-Accepts-clause-work g c =
     let code = plain c.args.code.now in
     let i = c.self.inside in
     let wanted = subst (λ (old : Seen). c.args.wanted ≡ wanted_by (want code old.process.state)) (sym c.self.view_is) c.requires.wanted in
-    let same = step_named code i.memory i.process i.at i.last_kept i.at_line i.status c.args.mails.now c.args.there c.clear.new.self
+    let same = step_named code i.memory i.process i.at i.last_kept i.at_line i.status c.args.mails.now c.args.message c.clear.new.self
     c.none-operands.result c.new-sight.result
-    c.args.wanted (alternate_by c.args.wanted i.memory.levels) c.message_of-message.result wanted refl c.message_of-message.ensures.message
+    c.args.wanted (alternate_by c.args.wanted i.memory.levels) wanted refl
     c.new-sight.ensures.process c.new-sight.ensures.message (ap (λ (w : Wanted). alternate_by w i.memory.levels) c.new-sight.ensures.wanted)
     c.none-operands.ensures c.clear.ensures.line c.clear.ensures.counters in
-    subst (λ (old : Seen). c.run.new.steps ≤ c.args.steps.now + 1 + 3 * named_in_step code old.process c.args.mails.now c.args.there) c.self.view_is
-    (omega (arith, same, c.message_of-message.ensures.ticks, c.in-Accepts.ensures.work))
+    subst (λ (old : Seen). c.run.new.steps ≤ c.args.steps.now + 3 * named_in_step code old.process c.args.mails.now c.args.message) c.self.view_is
+    (omega (arith, same, c.in-Accepts.ensures.work))
 
 pub returns-in-Trap-clause-work : goal.returns-in-Trap-clause-work
 returns-in-Trap-clause-work g c =
     let code = plain c.args.code.now in
     let i = c.self.inside in
     let wanted = subst (λ (old : Seen). c.args.wanted ≡ wanted_by (want code old.process.state)) (sym c.self.view_is) c.requires.wanted in
-    let same = step_named code i.memory i.process i.at i.last_kept i.at_line i.status c.args.mails.now c.args.there c.clear.new.self
+    let same = step_named code i.memory i.process i.at i.last_kept i.at_line i.status c.args.mails.now c.args.message c.clear.new.self
     c.none-operands.result c.new-sight.result
-    c.args.wanted (alternate_by c.args.wanted i.memory.levels) c.message_of-message.result wanted refl c.message_of-message.ensures.message
+    c.args.wanted (alternate_by c.args.wanted i.memory.levels) wanted refl
     c.new-sight.ensures.process c.new-sight.ensures.message (ap (λ (w : Wanted). alternate_by w i.memory.levels) c.new-sight.ensures.wanted)
     c.none-operands.ensures c.clear.ensures.line c.clear.ensures.counters in
-    subst (λ (old : Seen). c.run.new.steps ≤ c.args.steps.now + 1 + 3 * named_in_step code old.process c.args.mails.now c.args.there) c.self.view_is
-    (omega (arith, same, c.message_of-message.ensures.ticks, c.in-Trap.ensures.work))
+    subst (λ (old : Seen). c.run.new.steps ≤ c.args.steps.now + 3 * named_in_step code old.process c.args.mails.now c.args.message) c.self.view_is
+    (omega (arith, same, c.in-Trap.ensures.work))

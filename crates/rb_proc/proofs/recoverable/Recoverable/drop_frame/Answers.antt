@@ -10,7 +10,7 @@ invariant_of-self g c =
     let same = ap (λ (r : Contents). length r.words) c.self.view_is in
     let stay = subst (λ (r : Contents). StayAbove r.touched (length r.words - c.args.n)) (sym c.self.view_is) c.requires.copies in
     let stored = c.drop_to.ensures ∙ ap (λ h. record { words = take (h - c.args.n) ws; limit = c.self.inside.cells.limit }) c.height.ensures.words in
-    tied_cut _ _ _ _ _ _ _ c.self.invariant c.drop_to.new.self (length ws - c.args.n) stored (omega arith) (omega arith) stay
+    tied_cut _ _ _ _ _ _ _ _ _ c.self.invariant c.drop_to.new.self (length ws - c.args.n) stored (omega arith) (omega arith) stay
 
 pub returns : goal.returns
 returns g c =
@@ -18,5 +18,5 @@ returns g c =
     let same = ap (λ (r : Contents). length r.words) c.self.view_is in
     let stay = subst (λ (r : Contents). StayAbove r.touched (length r.words - c.args.n)) (sym c.self.view_is) c.requires.copies in
     let stored = c.drop_to.ensures ∙ ap (λ h. record { words = take (h - c.args.n) ws; limit = c.self.inside.cells.limit }) c.height.ensures.words in
-    seen_cut _ _ _ _ _ _ _ c.self.invariant c.drop_to.new.self (length ws - c.args.n) stored (omega arith) (omega arith) stay
+    seen_cut _ _ _ _ _ _ _ _ _ c.self.invariant c.drop_to.new.self (length ws - c.args.n) stored (omega arith) (omega arith) stay
     ∙ ap (λ (r : Contents). record r { words = take (length r.words - c.args.n) r.words }) c.self.view_is

@@ -19,13 +19,13 @@ invariant_of-self g c =
     let split : i.calls.items ≡ c.pop.new.self.items ++ c.unwrap-last.result ∷ [] = rw c.unwrap-last.ensures at c.pop.ensures.items in
     let asked : Asked c.args.self.now = (c.requires.call, c.requires.levels) in
     let before =
-    subst (λ (cs : List Held). Asked (contents i.cells.words i.cache cs i.marks.items i.hold)) split
+    subst (λ (cs : List Held). Asked (contents i.clock i.cells.words i.cache cs i.marks.items i.hold)) split
     (subst Asked (sym c.self.view_is) asked) in
     let tied = subst
-    (λ (cs : List Held). IsTied i.cells i.cache cs (vec_capacity i.calls) i.marks.items
+    (λ (cs : List Held). IsTied i.clock i.deadline i.cells i.cache cs (vec_capacity i.calls) i.marks.items
     (vec_capacity i.marks) i.hold) split c.self.invariant in
     let room = c.pop.ensures.capacity in
-    tied_back _ _ _ _ _ _ _ _ tied before.0 before.1 c.drop_to.new.self c.drop_to.ensures (vec_capacity c.pop.new.self) (omega arith)
+    tied_back _ _ _ _ _ _ _ _ _ _ tied before.0 before.1 c.drop_to.new.self c.drop_to.ensures (vec_capacity c.pop.new.self) (omega arith)
 
 pub returns : goal.returns
 returns g c =
@@ -33,16 +33,16 @@ returns g c =
     let split : i.calls.items ≡ c.pop.new.self.items ++ c.unwrap-last.result ∷ [] = rw c.unwrap-last.ensures at c.pop.ensures.items in
     let asked : Asked c.args.self.now = (c.requires.call, c.requires.levels) in
     let before =
-    subst (λ (cs : List Held). Asked (contents i.cells.words i.cache cs i.marks.items i.hold)) split
+    subst (λ (cs : List Held). Asked (contents i.clock i.cells.words i.cache cs i.marks.items i.hold)) split
     (subst Asked (sym c.self.view_is) asked) in
     let tied = subst
-    (λ (cs : List Held). IsTied i.cells i.cache cs (vec_capacity i.calls) i.marks.items
+    (λ (cs : List Held). IsTied i.clock i.deadline i.cells i.cache cs (vec_capacity i.calls) i.marks.items
     (vec_capacity i.marks) i.hold) split c.self.invariant in
-    let same = ap (λ (cs : List Held). contents i.cells.words i.cache cs i.marks.items i.hold) (sym split) ∙ c.self.view_is in (
+    let same = ap (λ (cs : List Held). contents i.clock i.cells.words i.cache cs i.marks.items i.hold) (sym split) ∙ c.self.view_is in (
       call_of c.unwrap-last.result,
       calls_of c.pop.new.self.items,
-      sym (ap (λ (r : Contents). r.calls) same) ∙ turned _ _ _ _ _ _ _ _ tied,
+      sym (ap (λ (r : Contents). r.calls) same) ∙ turned _ _ _ _ _ _ _ _ _ _ tied,
       refl,
-      seen_back _ _ _ _ _ _ _ _ tied before.0 before.1 c.drop_to.new.self c.drop_to.ensures
+      seen_back _ _ _ _ _ _ _ _ _ _ tied before.0 before.1 c.drop_to.new.self c.drop_to.ensures
           ∙ ap (λ (r : Contents). record r { words = take c.unwrap-last.result.base r.words; calls = calls_of c.pop.new.self.items }) same,
     )

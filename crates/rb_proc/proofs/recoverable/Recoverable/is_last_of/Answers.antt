@@ -10,5 +10,5 @@ use Rattle.rb_proc.proofs.recoverable.Recoverable.is_last_of.Goals as goal
 pub returns : goal.returns
 returns g c =
     c.is_last_in.ensures ∙ ap (λ (marks : List LevelMark). is_last_mark_in c.args.conversation (last_of marks)) c.deref.ensures.value
-    ∙ last_seen _ _ _ _ _ _ _ c.self.invariant c.args.conversation
+    ∙ last_seen _ _ _ _ _ _ _ _ _ c.self.invariant c.args.conversation
     ∙ ap (λ (r : Contents). is_last_of c.args.conversation (last_of r.levels)) c.self.view_is

@@ -5,6 +5,6 @@ use Rattle.rb_proc.proofs.recoverable.Recoverable.levels.Goals as goal
 
 pub returns : goal.returns
 returns g c =
-    let levels = marks_levels _ _ _ _ _ _ _ c.self.invariant in
+    let levels = marks_levels _ _ _ _ _ _ _ _ _ c.self.invariant in
     let same = ap (λ (r : Contents). length r.levels) c.self.view_is in
     omega arith

@@ -26,15 +26,15 @@ invariant_of-self g c =
     let long : length more ≡ length c.args.arguments.now + c.args.zeros =
     omega (arith, length-append c.args.arguments.now (replicate c.args.zeros (pos 0)), length-replicate c.args.zeros (pos 0)) in
     let k = subst (λ (s : Store). (copies s.words i.cache ≡ copies i.cells.words i.cache) × Fits s.words i.cache)
-    (sym stored) (more_keeps _ _ _ _ _ _ _ t more) in
-    let tied = tied_more _ _ _ _ _ _ _ t c.push_zeros.new.self more stored k.0 k.1 (omega arith) in
+    (sym stored) (more_keeps _ _ _ _ _ _ _ _ _ t more) in
+    let tied = tied_more _ _ _ _ _ _ _ _ _ t c.push_zeros.new.self more stored k.0 k.1 (omega arith) in
     let room = c.put.ensures.room in
     let many = t.many_calls in
     let above : 0 < c.height-base.result = let some = t.some in let h = c.height-base.ensures.words in omega arith in
     subst
-    (λ (cs : List Held). IsTied c.push_zeros.new.self i.cache cs (vec_capacity c.put.new.items) i.marks.items (vec_capacity i.marks) i.hold)
+    (λ (cs : List Held). IsTied i.clock i.deadline c.push_zeros.new.self i.cache cs (vec_capacity c.put.new.items) i.marks.items (vec_capacity i.marks) i.hold)
     (sym c.put.ensures.items)
-    (tied_called _ _ _ _ _ _ _ tied call above (vec_capacity c.put.new.items) (omega arith) (omega arith))
+    (tied_called _ _ _ _ _ _ _ _ _ tied call above (vec_capacity c.put.new.items) (omega arith) (omega arith))
 
 pub returns-clause-call : goal.returns-clause-call
 returns-clause-call g c =
@@ -50,19 +50,19 @@ returns-clause-call g c =
     let long : length more ≡ length c.args.arguments.now + c.args.zeros =
     omega (arith, length-append c.args.arguments.now (replicate c.args.zeros (pos 0)), length-replicate c.args.zeros (pos 0)) in
     let k = subst (λ (s : Store). (copies s.words i.cache ≡ copies i.cells.words i.cache) × Fits s.words i.cache)
-    (sym stored) (more_keeps _ _ _ _ _ _ _ t more) in
-    let tied = tied_more _ _ _ _ _ _ _ t c.push_zeros.new.self more stored k.0 k.1 (omega arith) in
+    (sym stored) (more_keeps _ _ _ _ _ _ _ _ _ t more) in
+    let tied = tied_more _ _ _ _ _ _ _ _ _ t c.push_zeros.new.self more stored k.0 k.1 (omega arith) in
     let above : 0 < c.height-base.result = let some = t.some in let h = c.height-base.ensures.words in omega arith in
-    ap (λ (cs : List Held). contents c.push_zeros.new.self.words i.cache cs i.marks.items i.hold) c.put.ensures.items
-    ∙ seen_called _ _ _ _ _ _ _ tied call above
+    ap (λ (cs : List Held). contents i.clock c.push_zeros.new.self.words i.cache cs i.marks.items i.hold) c.put.ensures.items
+    ∙ seen_called _ _ _ _ _ _ _ _ _ tied call above
     ∙ ap (λ (r : Contents). record r { calls = record { back = c.args.back; base = c.height-base.result } ∷ r.calls })
-    (seen_more _ _ _ _ _ _ _ t c.push_zeros.new.self more stored k.0 k.1 (omega arith))
+    (seen_more _ _ _ _ _ _ _ _ _ t c.push_zeros.new.self more stored k.0 k.1 (omega arith))
     ∙ ap (λ (n : ℕ). record
-    (contents i.cells.words i.cache i.calls.items i.marks.items i.hold) {
+    (contents i.clock i.cells.words i.cache i.calls.items i.marks.items i.hold) {
       words = i.cells.words ++ more;
       calls =
           record { back = c.args.back; base = n }
-          ∷ (contents i.cells.words i.cache i.calls.items i.marks.items i.hold).calls;
+          ∷ (contents i.clock i.cells.words i.cache i.calls.items i.marks.items i.hold).calls;
     }) c.height-base.ensures.words
     ∙ ap (λ (r : Contents). record r {
       words = r.words ++ more;

@@ -10,5 +10,5 @@ use Rattle.rb_proc.proofs.recoverable.Recoverable.place_in.Goals as goal
 pub returns : goal.returns
 returns g c =
     c.place_in.ensures ∙ ap (λ (marks : List LevelMark). position (is_mark_in c.args.conversation) marks) c.deref.ensures.value
-    ∙ place_seen _ _ _ _ _ _ _ c.self.invariant c.args.conversation
+    ∙ place_seen _ _ _ _ _ _ _ _ _ c.self.invariant c.args.conversation
     ∙ ap (λ (r : Contents). position (is_of c.args.conversation) r.levels) c.self.view_is

@@ -19,10 +19,10 @@ invariant_of-self g c =
     ∙ ap (λ (v : ℤ). record { words = slice_set i.cells.words 0 v; limit = i.cells.limit })
     (to_z-of_z w64 c.from.result (search rules) ∙ value) in
     subst
-    (λ (two : TwoLists). IsTied c.write.new.cells c.write.new.self i.calls.items (vec_capacity i.calls) i.marks.items
+    (λ (two : TwoLists). IsTied i.clock i.deadline c.write.new.cells c.write.new.self i.calls.items (vec_capacity i.calls) i.marks.items
     (vec_capacity i.marks) two)
     (sym hold_is)
-    (tied_written _ _ _ _ _ _ _ t c.write.new.self c.write.new.cells 0
+    (tied_written _ _ _ _ _ _ _ _ _ t c.write.new.self c.write.new.cells 0
     (pos (held_bytes after.held)) stored c.write.ensures.copies c.write.ensures.levels
     after (held_written i.cells.words (pos (held_bytes after.held)) t.some)
     (fronts_more i.hold.held (c.args.line.now ∷ []) _ t.fronts) c.write.ensures.fits c.write.ensures.limits)

@@ -13,8 +13,8 @@ invariant_of-self g c =
     let k = subst
     (λ (s : Store). (copies s.words c.self.inside.cache ≡ copies c.self.inside.cells.words c.self.inside.cache)
     × Fits s.words c.self.inside.cache)
-    (sym c.push_zeros.ensures.words) (more_keeps _ _ _ _ _ _ _ c.self.invariant (replicate c.args.n (pos 0))) in
-    tied_more _ _ _ _ _ _ _ c.self.invariant c.push_zeros.new.self (replicate c.args.n (pos 0)) c.push_zeros.ensures.words k.0 k.1
+    (sym c.push_zeros.ensures.words) (more_keeps _ _ _ _ _ _ _ _ _ c.self.invariant (replicate c.args.n (pos 0))) in
+    tied_more _ _ _ _ _ _ _ _ _ c.self.invariant c.push_zeros.new.self (replicate c.args.n (pos 0)) c.push_zeros.ensures.words k.0 k.1
     (omega (arith, length-replicate c.args.n (pos 0)))
 
 pub returns-clause-words : goal.returns-clause-words
@@ -23,7 +23,7 @@ returns-clause-words g c =
     let k = subst
     (λ (s : Store). (copies s.words c.self.inside.cache ≡ copies c.self.inside.cells.words c.self.inside.cache)
     × Fits s.words c.self.inside.cache)
-    (sym c.push_zeros.ensures.words) (more_keeps _ _ _ _ _ _ _ c.self.invariant (replicate c.args.n (pos 0))) in
-    seen_more _ _ _ _ _ _ _ c.self.invariant c.push_zeros.new.self (replicate c.args.n (pos 0)) c.push_zeros.ensures.words k.0 k.1
+    (sym c.push_zeros.ensures.words) (more_keeps _ _ _ _ _ _ _ _ _ c.self.invariant (replicate c.args.n (pos 0))) in
+    seen_more _ _ _ _ _ _ _ _ _ c.self.invariant c.push_zeros.new.self (replicate c.args.n (pos 0)) c.push_zeros.ensures.words k.0 k.1
     (omega (arith, length-replicate c.args.n (pos 0)))
     ∙ ap (λ (r : Contents). record r { words = r.words ++ replicate c.args.n (pos 0) }) c.self.view_is

@@ -12,16 +12,16 @@ invariant_of-self g c =
     let i = c.self.inside in
     let none = ap (λ (r : Contents). length r.levels) c.self.view_is ∙ c.requires.none_open in
     subst
-    (λ (two : TwoLists). IsTied c.write.new.cells c.write.new.self i.calls.items (vec_capacity i.calls) i.marks.items
+    (λ (two : TwoLists). IsTied i.clock i.deadline c.write.new.cells c.write.new.self i.calls.items (vec_capacity i.calls) i.marks.items
     (vec_capacity i.marks) two)
     (sym c.release.ensures)
-    (tied_release _ _ _ _ _ _ _ c.self.invariant none c.write.new.cells c.write.new.self c.write.ensures.cells c.write.ensures.copies
+    (tied_release _ _ _ _ _ _ _ _ _ c.self.invariant none c.write.new.cells c.write.new.self c.write.ensures.cells c.write.ensures.copies
     c.write.ensures.levels c.write.ensures.fits c.write.ensures.limits)
 
 pub returns-clause-lines : goal.returns-clause-lines
 returns-clause-lines g c =
     let i = c.self.inside in
     let none = ap (λ (r : Contents). length r.levels) c.self.view_is ∙ c.requires.none_open in
-    ap (λ (two : TwoLists). contents c.write.new.cells.words c.write.new.self i.calls.items i.marks.items two) c.release.ensures
-    ∙ seen_release _ _ _ _ _ _ _ c.self.invariant none c.write.new.cells c.write.new.self c.write.ensures.cells c.write.ensures.copies c.write.ensures.levels
+    ap (λ (two : TwoLists). contents i.clock c.write.new.cells.words c.write.new.self i.calls.items i.marks.items two) c.release.ensures
+    ∙ seen_release _ _ _ _ _ _ _ _ _ c.self.invariant none c.write.new.cells c.write.new.self c.write.ensures.cells c.write.ensures.copies c.write.ensures.levels
     ∙ ap (λ (r : Contents). record r { words = slice_set r.words held_place (pos 0); held = []; waiting = r.held }) c.self.view_is

@@ -12,7 +12,7 @@ invariant_of-self g c =
     ∙ ap
     (λ (v : ℤ). record { words = slice_set c.self.inside.cells.words c.args.at v; limit = c.self.inside.cells.limit })
     (to_z-of_z w64 c.args.value (search rules)) in
-    tied_store _ _ _ _ _ _ _ c.self.invariant c.write.new.self c.write.new.cells c.args.at c.args.value stored c.write.ensures.copies
+    tied_store _ _ _ _ _ _ _ _ _ c.self.invariant c.write.new.self c.write.new.cells c.args.at c.args.value stored c.write.ensures.copies
     c.write.ensures.levels c.requires.some c.write.ensures.fits c.write.ensures.limits
 
 pub returns-clause-word : goal.returns-clause-word
@@ -21,7 +21,7 @@ returns-clause-word g c =
     ∙ ap
     (λ (v : ℤ). record { words = slice_set c.self.inside.cells.words c.args.at v; limit = c.self.inside.cells.limit })
     (to_z-of_z w64 c.args.value (search rules)) in
-    seen_store _ _ _ _ _ _ _ c.self.invariant c.write.new.self c.write.new.cells c.args.at c.args.value stored c.write.ensures.copies
+    seen_store _ _ _ _ _ _ _ _ _ c.self.invariant c.write.new.self c.write.new.cells c.args.at c.args.value stored c.write.ensures.copies
     c.write.ensures.levels
     ∙ ap (λ (r : Contents). record r {
       words = slice_set r.words c.args.at c.args.value;
