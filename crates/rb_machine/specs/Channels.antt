@@ -1,6 +1,6 @@
 -- What the machine asks of its processes to tell rooms and messages, the copies that it looks into, and the message that it gives.
-use Rattle.std.specs.Prelude.{◌≡◌, ◌<◌, ◌≤◌, ℕ, ℤ, Bool, cond, List, [], ◌∷◌, length, slice_get, Option, Some, None}
-use Rattle.std.specs.Option.{option_map, unwrap_or}
+use Rattle.std.specs.Prelude.{◌≡◌, ◌<◌, ◌≤◌, ℕ, ℤ, List, [], ◌∷◌, length, slice_get, Option, Some, None}
+use Rattle.std.specs.Option.{option_map}
 use Rattle.rb_world.specs.Slots.{Slots, slot_of}
 use Rattle.rb_world.specs.Standing.{Each}
 use Rattle.rb_world.specs.World.{Level, Process}
@@ -53,10 +53,6 @@ words_then words (Some copy) = copy.words
 abbrev pub cursor_at : Code → ℕ → Process Standing Copy → Option Copy → ℕ
 cursor_at c channel q copy = cursor_in c q.state.process (words_then q.state.words copy) channel
 
--- the words of a process, and none where there is no process
-abbrev pub words_at : List Seen → ℕ → List ℤ
-words_at procs p = unwrap_or (option_map (λ (one : Seen). one.process.state.words) (slice_get procs p)) []
-
--- where a message is there, it is the one in the slot of the receiver's cursor
-abbrev pub message_given : Code → Slots → List Seen → ℕ → ℕ → Bool → Option ℤ
-message_given c slots procs p channel there = cond there (Some (slot_of c.channels slots channel (cursor_in c p (words_at procs p) channel))) None
+-- the message of a number, if there is one: it is what lies in its slot
+abbrev pub message_given : Code → Slots → ℕ → Option ℕ → Option ℤ
+message_given c slots channel number = option_map (slot_of c.channels slots channel) number

@@ -1,5 +1,5 @@
 -- What a turn has come to before its end, by what the process did in it, and what its end makes of that.
-use Rattle.std.specs.Prelude.{◌≡◌, ℕ, ◌+◌, ◌*◌, ◌-◌, ◌<◌, ◌≤◌, ◌^◌, Bool, true, false, List, length, slice_get, vec_len, vec_capacity, Option, Some, None}
+use Rattle.std.specs.Prelude.{◌≡◌, ℕ, ◌+◌, ◌*◌, ◌-◌, ◌<◌, ◌≤◌, ◌^◌, Bool, true, false, List, length, slice_get, Option, Some, None}
 use Rattle.rb_base.specs.declared.event.Cause.{Cause}
 use Rattle.rb_base.specs.declared.event.Event.{Event}
 use Rattle.rb_base.specs.declared.event.TurnKind.{TurnKind}
@@ -20,6 +20,7 @@ use Rattle.rb_proc.specs.Sees.{AreSized}
 use Rattle.rb_machine.specs.AtWork.{IsAtWork, MayAct}
 use Rattle.rb_machine.specs.Cascade.{AreQuiet, MayRejectAt, SameGroups}
 use Rattle.rb_machine.specs.Channels.{conversation_in}
+use Rattle.rb_machine.specs.Links.{HasRoom}
 use Rattle.rb_machine.specs.Moves.{AreAtWork, HasMoved, IsLeft, world}
 use Rattle.rb_machine.specs.Stepping.{HoldsTest, IsListed, MayLeave}
 use Rattle.rb_machine.specs.Telling.{AreFreed, GoesOn, IsQuiet, running_of}
@@ -46,7 +47,7 @@ pub record IsToAccept {L : Type 0} (c : Code) (p : ℕ) (parts : Parts L) (moved
   pub leave : Each (MayLeave c) parts.procs.items
   pub moves : moved
       ≡ accepted (kind_with c parts.table) p one.process.levels (last_of one.process.levels) (world parts)
-      (one.process.state, memory_of parts.mails.items parts.links.items)
+      (one.process.state, memory_of parts.mails parts.links.items)
 
 -- going back costs the same from one world of processes as from another
 abbrev pub CostsTheSame : List (Process Standing Copy) → List (Process Standing Copy) → Type 0
@@ -61,7 +62,7 @@ pub record IsToEnter {L : Type 0} (c : Code) (t p b : ℕ) (before : List (Proce
   pub work : AreAtWork c (t + 1) parts
   pub acting : MayAct parts.procs.items p
   pub wants : WantsBlock b (want c one.process.state)
-  pub room : vec_len parts.links < vec_capacity parts.links
+  pub room : HasRoom parts.links
   pub moves : moved ≡ acts (kind_with c parts.table) t p one.process (world parts) (want c one.process.state)
   pub costs : CostsTheSame (processes_of parts.procs.items) before
 
@@ -89,7 +90,7 @@ LeadsTo c t p before parts (did.Rejects left cause) moved = IsToReject c p left 
 pub record StaysOpen {L : Type 0} (c : Code) (before now : Parts L) : Type 0 where
   pub table : now.table ≡ before.table
   pub waits : NoneWaits now.procs.items
-  pub sized : AreSized c now.mails.items
+  pub sized : AreSized c now.mails
 
 -- how many links the end of a turn adds
 abbrev pub links_yet : Move → ℕ
@@ -140,7 +141,7 @@ pub record HasCome {L : Type 0} (c : Code) (t p : ℕ) (before now : Parts L) (r
 pub record IsTurned {L : Type 0} (c : Code) (t p : ℕ) (before after : Parts L) (running : List Bool) (told : Told) (released : Bool) : Type 0 where
   pub turned : (world after, told) ≡ turn (kind_with c before.table) t p (world before)
   pub groups : SameGroups before.table after.table
-  pub at_work : IsAtWork c (t + 1) after.procs.items after.table after.mails.items after.links.items
+  pub at_work : IsAtWork c (t + 1) after.procs.items after.table after.mails after.links.items
   pub running_is : running ≡ running_of (processes_of after.procs.items)
   pub freed : AreFreed (processes_of after.procs.items)
   pub none_waits : released ≡ false → NoneWaits after.procs.items

@@ -1,4 +1,5 @@
 -- What is said of the machine.
+pub mod Links
 pub mod Linked
 pub mod Known
 pub mod Worlds

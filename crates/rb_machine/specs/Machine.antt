@@ -36,14 +36,13 @@ seen c parts taken most = record {
 
 -- What ties the parts: they stand for a world of a run, before the next turn; it is known who runs; who has no level holds no
 -- line; it is known where no released line waits; there is room for the links of all turns that may come; who was noted to rest does, and is counted.
-pub record IsTied {L : Type 0} (c : Code) (parts : Parts L) (running : List Bool) (links room taken most : ℕ) (released : Bool)
+pub record IsTied {L : Type 0} (c : Code) (parts : Parts L) (running : List Bool) (taken most : ℕ) (released : Bool)
     (resting : Resting) : Type 0 where
-  pub work : IsAtWork c (taken + 1) parts.procs.items parts.table parts.mails.items parts.links.items
+  pub work : IsAtWork c (taken + 1) parts.procs.items parts.table parts.mails parts.links.items
   pub running_is : running ≡ running_of (processes_of parts.procs.items)
   pub freed : AreFreed (processes_of parts.procs.items)
   pub none_waits : released ≡ false → NoneWaits parts.procs.items
-  pub links_few : links ≤ taken
-  pub links_room : most ≤ room
+  pub links_room : most ≤ taken + parts.links.room
   pub taken_few : taken ≤ most
   pub most_few : most < 2 ^ 32 - 1
   pub noted : AreNoted c (memberships parts.table) (world parts) resting.rests.items resting.changed taken

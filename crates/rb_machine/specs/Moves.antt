@@ -8,12 +8,12 @@ use Rattle.rb_world.specs.Turn.{Moved, acts, idles, steps, waits}
 use Rattle.rb_world.specs.World.{Process}
 use Rattle.rb_code.specs.Instructions.Plain.{Code}
 use Rattle.rb_code.specs.SoundCode.Sound.{IsReceiver}
-use Rattle.rb_code.specs.WordMachine.Turn.{Common, Copy, Standing, want}
+use Rattle.rb_code.specs.WordMachine.Turn.{Common, Copy, Link, Standing, want}
 use Rattle.rb_code.specs.WordMachine.WordKind.{word_kind}
 use Rattle.rb_code.specs.WordMachine.WordRun.{WordWorld}
 use Rattle.rb_conv.specs.Conversations.{Conversation, memberships}
 use Rattle.rb_proc.specs.Entries.{WantsBlock}
-use Rattle.rb_proc.specs.Process.{Seen, alternate_for, message_for, wanted_by}
+use Rattle.rb_proc.specs.Process.{Seen, alternate_for, wanted_by}
 use Rattle.rb_proc.specs.declared.answers.Wanted.{Wanted}
 use Rattle.rb_proc.specs.Sees.{AreSized}
 use Rattle.rb_machine.specs.AtWork.{IsAtWork, IsStep}
@@ -27,11 +27,11 @@ use Rattle.rb_machine.specs.declared.parts.Parts.{Parts}
 
 -- the world that parts stand for
 abbrev pub world : {L : Type 0} → Parts L → WordWorld
-world parts = world_of parts.procs.items parts.table (memory_of parts.mails.items parts.links.items)
+world parts = world_of parts.procs.items parts.table (memory_of parts.mails parts.links.items)
 
 -- the parts stand for a world of a run before turn number t, and no released line waits
 pub record AreAtWork {L : Type 0} (c : Code) (t : ℕ) (parts : Parts L) : Type 0 where
-  pub work : IsAtWork c t parts.procs.items parts.table parts.mails.items parts.links.items
+  pub work : IsAtWork c t parts.procs.items parts.table parts.mails parts.links.items
   pub waits : NoneWaits parts.procs.items
 
 -- the pass of a turn, if a test line was passed
@@ -55,34 +55,34 @@ pub record HasMoved {L : Type 0} (parts : Parts L) (events : List Event) (came :
 pub record IsLeft {L : Type 0} (c : Code) (before after : Parts L) (events : List Event) (came : Came) : Type 0 where
   pub waits : NoneWaits after.procs.items
   pub groups : SameGroups before.table after.table
-  pub sized : AreSized c after.mails.items
+  pub sized : AreSized c after.mails
   pub few : length (passes_of came.pass) + length events ≤ MOST_OPEN_LEVELS
 
--- What process number p does in its turn, by what it is ready for: it idles, waits, enters a block, or steps, with the message that is there
--- or without one; and a step names the words that count for what stands first.
-abbrev pub IsReadyFor : Code → List Membership → ℕ → ℕ → Process Standing Copy → WordWorld → Slots → ReadyFor → Type 0
-IsReadyFor c groups t p q w slots ready.Idle = acts (word_kind c groups) t p q w (want c q.state) ≡ idles w
-IsReadyFor c groups t p q w slots ready.Waits = acts (word_kind c groups) t p q w (want c q.state) ≡ waits w
-IsReadyFor c groups t p q w slots (ready.Enters b) = WantsBlock b (want c q.state)
-IsReadyFor c groups t p q w slots (ready.Steps there) =
-    IsStep there (want c q.state)
+-- What process number p does in its turn, by what it is ready for: it idles, waits, enters a block, or steps, with this message or without
+-- one; and a step names the words that count for what stands first.
+abbrev pub IsReadyFor : Code → List Membership → ℕ → ℕ → Process Standing Copy → WordWorld → ReadyFor → Type 0
+IsReadyFor c groups t p q w ready.Idle = acts (word_kind c groups) t p q w (want c q.state) ≡ idles w
+IsReadyFor c groups t p q w ready.Waits = acts (word_kind c groups) t p q w (want c q.state) ≡ waits w
+IsReadyFor c groups t p q w (ready.Enters b) = WantsBlock b (want c q.state)
+IsReadyFor c groups t p q w (ready.Steps message) =
+    IsStep message (want c q.state)
     × (acts (word_kind c groups) t p q w (want c q.state)
-    ≡ steps (word_kind c groups) t p (alternate_for (want c q.state) q.levels) (message_for c q.state slots there (want c q.state)) q w)
+    ≡ steps (word_kind c groups) t p (alternate_for (want c q.state) q.levels) message q w)
     × (named_by_acts c groups t p q w (want c q.state)
-    ≡ named_by_steps c groups t p (alternate_for (want c q.state) q.levels) (message_for c q.state slots there (want c q.state)) q w)
+    ≡ named_by_steps c groups t p (alternate_for (want c q.state) q.levels) message q w)
 
--- the same of whoever stands at that number, in every turn and with every table
-abbrev pub IsReadyAt : Code → List Seen → ℕ → ReadyFor → Type 0
-IsReadyAt c procs p one =
-    (x : Seen) (table : List Conversation) (memory : Common) (t : ℕ) → slice_get procs p ≡ Some x
-    → IsReadyFor c (memberships table) t p x.process (world_of procs table memory) memory.slots one
+-- the same of whoever stands at that number, with these slots, in every turn and with every table
+abbrev pub IsReadyAt : Code → List Seen → Slots → ℕ → ReadyFor → Type 0
+IsReadyAt c procs slots p one =
+    (x : Seen) (table : List Conversation) (links : List Link) (t : ℕ) → slice_get procs p ≡ Some x
+    → IsReadyFor c (memberships table) t p x.process (world_of procs table (record { slots = slots; links = links })) one
 
 -- it is ready for an entry
 abbrev pub IsEntryReady : ReadyFor → Type 0
 IsEntryReady (ready.Enters b) = Unit {0}
 IsEntryReady ready.Idle = ⊥
 IsEntryReady ready.Waits = ⊥
-IsEntryReady (ready.Steps there) = ⊥
+IsEntryReady (ready.Steps message) = ⊥
 
 -- what process number p wants
 abbrev pub WantsThere : Code → List Seen → ℕ → Wanted → Type 0

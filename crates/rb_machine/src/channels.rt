@@ -48,32 +48,32 @@ pub fn has_room<L: Ledger>(
     is_within(sent, from, ends.size)
 }
 
-/// Whether a message is there for process p, the receiver of a channel: more were sent than it has taken, up to the entry of the sender's
-/// first level that the two do not share. None is there if the code does not have the sender.
+/// The number of the message that is there for process p, the receiver of a channel: that of its cursor, if more were sent than it has
+/// taken, up to the entry of the sender's first level that the two do not share. None is there if the code does not have the sender.
 pub fn message_there<L: Ledger>(
     code: &Code,
     procs: &[Proc<L>],
     p: u32,
     channel: u32,
     steps: &mut Steps<L>,
-) -> bool
+) -> Option<u64>
     requires numbered { AreNumbered (plain code.now) procs.now }
     requires process { p < length procs.now }
     requires receiver { IsReceiver (slice_get (plain code.now).channels channel) p }
     ensures there { (groups : List Membership) (talks : List Talk) (memory : Common)
         → message_there (word_kind (plain code.now) groups)
         (record { processes = processes_of procs.now; talks = talks; memory = memory }) channel
-        ≡ message_given (plain code.now) memory.slots procs.now p channel result }
+        ≡ message_given (plain code.now) memory.slots channel result }
     ensures ticks { steps.new ≤ steps.old + 2 }
 {
     let sender = code.channels[channel as usize].sender as usize;
     if sender >= procs.len() {
-        return false;
+        return None;
     }
     let receiver = &procs[p as usize];
     let seen = seen_count(code, &procs[sender], receiver, channel, steps);
     let taken = receiver.cursor(code, channel, steps);
-    taken < seen
+    (taken < seen).then_some(taken)
 }
 
 // The sender's first level that it does not share with the receiver, whose copy is what the receiver sees of it; none where the receiver

@@ -1,6 +1,6 @@
 //! How turns end, by what the process did in them: rare ends are functions of their own, so that a plain step and a wait are not slowed by them.
 
-ghost use Rattle.std.specs.Prelude.{◌≡◌, ℕ, ◌+◌, ◌*◌, ◌<◌, ◌≤◌, true, false, length, vec_len, vec_capacity, None};
+ghost use Rattle.std.specs.Prelude.{◌≡◌, ℕ, ◌+◌, ◌*◌, ◌<◌, ◌≤◌, true, false, length, None};
 ghost use Rattle.rb_base.specs.declared.event.TurnKind.TheVariants.{Took};
 ghost use Rattle.rb_code.specs.Instructions.Plain.{Code as Plain, code as plain};
 ghost use Rattle.rb_trace.specs.Report.{told_of};
@@ -37,8 +37,7 @@ pub fn end_turn<L: Ledger>(
     requires none { length report.old.events.items ≡ 0 }
     ensures ended { Ends (plain code.now) turn p parts.old running.old.items moved parts.new running.new.items
         (told_of report.new.kind report.new.events.items (lines_of parts.new.procs.items)) result steps.old steps.new }
-    ensures links { vec_len parts.new.links ≤ vec_len parts.old.links + links_yet moved }
-    ensures room { vec_capacity parts.old.links ≤ vec_capacity parts.new.links }
+    ensures room { parts.old.links.room ≤ parts.new.links.room + links_yet moved }
 {
     match moved {
         Move::Went => end(
@@ -132,13 +131,21 @@ fn pass_test<L: Ledger>(
     ensures links { parts.new.links ≡ parts.old.links }
 {
     let pass = accept(code, &mut parts.procs, &mut parts.table, p, steps);
-    let quiet = ends_quietly(&parts.procs, p, pass);
-    let came = Came {
-        kind: TurnKind::Took,
-        pass,
-        quiet,
-    };
-    end(parts, running, p, came, report, steps)
+    if ends_quietly(&parts.procs, p, pass) {
+        let came = Came {
+            kind: TurnKind::Took,
+            pass,
+            quiet: true,
+        };
+        end(parts, running, p, came, report, steps)
+    } else {
+        let came = Came {
+            kind: TurnKind::Took,
+            pass,
+            quiet: false,
+        };
+        end(parts, running, p, came, report, steps)
+    }
 }
 
 // Whether process p, whose acceptance test held, goes on, and there is nothing to tell or to release: with no pass no other was touched.
@@ -166,8 +173,7 @@ fn come_in<L: Ledger>(
     requires none { length report.old.events.items ≡ 0 }
     ensures ended { Ends (plain code.now) turn p parts.old running.old.items (Move.Enters block) parts.new running.new.items
         (told_of report.new.kind report.new.events.items (lines_of parts.new.procs.items)) result steps.old steps.new }
-    ensures links { vec_len parts.new.links ≤ vec_len parts.old.links + 1 }
-    ensures room { vec_capacity parts.old.links ≤ vec_capacity parts.new.links }
+    ensures room { parts.old.links.room ≤ parts.new.links.room + 1 }
 {
     let came = enter(code, parts, turn, p, block, &mut report.events, steps);
     end(parts, running, p, came, report, steps)

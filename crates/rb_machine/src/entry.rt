@@ -1,6 +1,6 @@
 //! The entry of a recovery block, alone or as a member of a conversation.
 
-ghost use Rattle.std.specs.Prelude.{◌≡◌, ◌+◌, ◌<◌, ◌≤◌, true, [], ◌∷◌, ◌++◌, length, slice_get, vec_len, vec_capacity, Some};
+ghost use Rattle.std.specs.Prelude.{◌≡◌, ◌+◌, ◌<◌, ◌≤◌, true, [], ◌∷◌, ◌++◌, length, slice_get, Some};
 ghost use Rattle.rb_base.specs.declared.limits.TheConstants.{MOST_OPEN_LEVELS};
 ghost use Rattle.rb_base.specs.declared.event.Cause.TheVariants.{Broken};
 ghost use Rattle.rb_base.specs.declared.event.TurnKind.TheVariants.{Took};
@@ -13,11 +13,12 @@ ghost use Rattle.rb_code.specs.SoundCode.Sound.{conversation_of};
 ghost use Rattle.rb_code.specs.WordMachine.Turn.{want};
 ghost use Rattle.rb_conv.specs.Conversations.{conversation_at, talks};
 ghost use Rattle.rb_proc.specs.Entries.{WantsBlock, entered_process};
-ghost use Rattle.rb_proc.specs.Executable.{IsExecutable};
+ghost use Rattle.rb_proc.specs.Executable.{IsExecutable, RestartsAt};
 ghost use Rattle.rb_proc.specs.Process.{Seen, kind_of};
 ghost use Rattle.rb_machine.specs.AtWork.{MayAct};
 ghost use Rattle.rb_machine.specs.Cascade.{SameGroups};
 ghost use Rattle.rb_machine.specs.Entries.{IsListedBlock, entry_at, joined_at};
+ghost use Rattle.rb_machine.specs.Links.{HasRoom};
 ghost use Rattle.rb_machine.specs.Moves.{AreAtWork, HasMoved, IsLeft, MovesAt};
 ghost use Rattle.rb_machine.specs.Rejections.{changed};
 ghost use Rattle.rb_machine.specs.Telling.{IsQuiet};
@@ -25,14 +26,14 @@ ghost use Rattle.rb_machine.specs.Work.{undoing};
 ghost use Rattle.rb_machine.specs.Worlds.{kind_with, processes_of};
 
 use crate::came::Came;
-use crate::links::{Link, add};
+use crate::links::Links;
 use crate::parts::Parts;
 use crate::undone::undo;
 use arrayvec::ArrayVec;
 use rb_base::{Cause, Event, MOST_EVENTS, MOST_OPEN_LEVELS, Steps, TurnKind};
 use rb_code::Code;
 use rb_conv::Table;
-use rb_proc::Proc;
+use rb_proc::{Proc, Wanted};
 use std::sync::ledger::Ledger;
 
 /// Process p enters a recovery block, at its first alternate, or at the present one of its conversation. It fails where that is broken
@@ -51,7 +52,7 @@ pub fn enter<L: Ledger>(
     requires process { p < length parts.old.procs.items }
     requires acting { MayAct parts.old.procs.items p }
     requires wants { (one : Seen) → slice_get parts.old.procs.items p ≡ Some one → WantsBlock block (want (plain code.now) one.process.state) }
-    requires room { vec_len parts.old.links < vec_capacity parts.old.links }
+    requires room { HasRoom parts.old.links }
     requires none { length events.old.items ≡ 0 }
     ensures moved { (facts : Facts)
         → MovesAt parts.old p (λ q w. enters (kind_with (plain code.now) parts.old.table) turn p facts q w)
@@ -60,8 +61,7 @@ pub fn enter<L: Ledger>(
     ensures left { IsLeft (plain code.now) parts.old parts.new events.new.items result }
     ensures took { result.quiet ≡ true → result.kind ≡ Took }
     ensures quiet { result.quiet ≡ true → IsQuiet result parts.new.procs.items p }
-    ensures links { vec_len parts.new.links ≤ vec_len parts.old.links + 1 }
-    ensures room { vec_capacity parts.old.links ≤ vec_capacity parts.new.links }
+    ensures room { parts.old.links.room ≤ parts.new.links.room + 1 }
     ensures work { steps.new
         ≤ steps.old + undoing result.kind (processes_of parts.old.procs.items) events.new.items (processes_of parts.new.procs.items) }
 {
@@ -120,12 +120,12 @@ fn join(table: &mut Table, p: u32, conversation: u32) -> Option<u32>
 }
 
 // Process p opens a level of the block that stands next, which is known, at an alternate. The turn is kept before, so that it is the last
-// kept one of the level's copy.
+// kept one of the level's copy, and its link is added before that.
 #[inline(always)]
 fn open<L: Ledger>(
     code: &Code,
     procs: &mut [Proc<L>],
-    links: &mut Vec<Link>,
+    links: &mut Links,
     turn: u32,
     p: u32,
     block: u32,
@@ -134,28 +134,20 @@ fn open<L: Ledger>(
     requires code { IsExecutable (plain code.now) }
     requires process { p < length procs.old }
     requires wants { (one : Seen) → slice_get procs.old p ≡ Some one → WantsBlock block (want (plain code.now) one.process.state) }
+    requires acting { MayAct procs.old p }
+    requires restart { (one : Seen) → slice_get procs.old p ≡ Some one → RestartsAt (plain code.now) (one.process.state.at + 2) }
     requires shallow { (one : Seen) → slice_get procs.old p ≡ Some one → length one.process.levels < MOST_OPEN_LEVELS }
-    requires room { vec_len links.old < vec_capacity links.old }
+    requires room { HasRoom links.old }
     ensures processes { (one : Seen) (facts : Facts) → slice_get procs.old p ≡ Some one
         → want (plain code.now) one.process.state ≡ Enters facts
         → procs.new ≡ change_at p (changed (entered_process (plain code.now) facts alternate turn)) procs.old }
     ensures links { (one : Seen) → slice_get procs.old p ≡ Some one
         → links.new.items ≡ links.old.items ++ record { turn = turn; process = p; alternate = 0; before = one.process.state.last_kept } ∷ [] }
-    ensures len { vec_len links.new ≡ vec_len links.old + 1 }
-    ensures room { vec_capacity links.old ≤ vec_capacity links.new }
+    ensures room { links.old.room ≤ links.new.room + 1 }
 {
     let proc = &mut procs[p as usize];
-    let before = proc.last_kept();
-    proc.enter_block(code, block, alternate, turn);
-    add(
-        links,
-        Link {
-            turn,
-            process: p,
-            alternate: 0,
-            before,
-        },
-    );
+    links.note(proc, turn, p, Wanted::Entry(block));
+    proc.enter(code, block, alternate, turn);
 }
 
 // Process p fails, since the conversation that it enters is broken for good.

@@ -1,6 +1,7 @@
 //! The machine: all processes with their recovery caches, the conversations and the channels, turn by turn.
 #![tactic(auto)]
 
+mod all_links;
 pub mod came;
 pub mod cascade;
 pub mod channels;

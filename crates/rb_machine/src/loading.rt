@@ -1,6 +1,6 @@
-//! Loading a program: its processes at their bodies, empty channels, conversations that nobody has entered, and room for links.
+//! Loading a program: its processes at their bodies, empty channels, and conversations that nobody has entered.
 
-ghost use Rattle.std.specs.Prelude.{◌≡◌, ◌<◌, ◌≤◌, ◌-◌, ◌^◌, nat_lt, true, false, length, map, vec_len, vec_capacity, IfOk};
+ghost use Rattle.std.specs.Prelude.{◌≡◌, ◌<◌, ◌≤◌, ◌-◌, ◌^◌, nat_lt, true, false, [], length, map, IfOk};
 ghost use Rattle.std.specs.List.{All, list_all};
 ghost use Rattle.rb_world.specs.Slots.{zero_slots};
 ghost use Rattle.rb_code.specs.declared.code.ChannelCode.{ChannelCode as Channel};
@@ -15,13 +15,14 @@ ghost use Rattle.rb_machine.specs.Machine.{IsTied, opening_seen, seen};
 ghost use Rattle.rb_machine.specs.Telling.{running_of};
 ghost use Rattle.rb_machine.specs.Worlds.{counts_of, processes_of};
 
+use crate::links::Links;
 use crate::parts::Parts;
 use crate::rests::Resting;
 use crate::telling::note_running;
 use rb_base::{Memory, Nested, Steps};
 use rb_code::{BlockCode, ChannelCode, Code};
 use rb_conv::Table;
-use rb_mail::Mail;
+use rb_mail::Mails;
 use rb_proc::Proc;
 use std::alloc::Global;
 use std::sync::ledger::Ledger;
@@ -34,22 +35,24 @@ pub struct Loaded<L: Ledger> {
     pub resting: Resting,
 }
 
-/// Loads a program with room for the links of so many turns; `Memory` if it is wanting, or if 32 bits do not number the instructions and
-/// the alternates of the code.
-pub fn load_parts<L: Ledger>(
+/// Loads a program for so many turns, with links, of which there is none yet; `Memory` if it is wanting, or if 32 bits do not number the
+/// instructions and the alternates of the code.
+pub(crate) fn load_parts<L: Ledger>(
     alloc: Global,
     code: &Code,
     nested: &Nested,
     turns: u32,
+    links: Links,
     steps: &mut Steps<L>,
 ) -> Result<Loaded<L>, Memory>
     requires sound { IsSound (plain code.now) (memberships (opening nested.now)) (counts_of (opening nested.now)) }
     requires turns { turns < 2 ^ 32 - 1 }
+    requires none { links.items ≡ [] }
+    requires room { turns ≤ links.room }
     ensures seen { IfOk result
         (λ loaded. seen (plain code.now) loaded.parts 0 turns ≡ opening_seen (plain code.now) (memberships (opening nested.now)) turns) }
     ensures tied { IfOk result
-        (λ loaded. IsTied (plain code.now) loaded.parts loaded.running.items (vec_len loaded.parts.links)
-        (vec_capacity loaded.parts.links) 0 turns false loaded.resting) }
+        (λ loaded. IsTied (plain code.now) loaded.parts loaded.running.items 0 turns false loaded.resting) }
 {
     if !is_numbered(code) {
         return Err(Memory);
@@ -57,13 +60,12 @@ pub fn load_parts<L: Ledger>(
     let procs = load_processes(alloc, code, steps)?;
     let mails = load_mails(alloc, &code.channels)?;
     let table = Table::new(alloc, nested)?;
-    let links = Vec::with_capacity(alloc, turns as usize)?;
     let running = who_runs(alloc, &procs)?;
     let resting = Resting::new(alloc, procs.len())?;
     Ok(Loaded {
         parts: Parts {
-            procs,
             mails,
+            procs,
             table,
             links,
         },
@@ -107,13 +109,13 @@ fn load_processes<L: Ledger>(
 }
 
 // All channels with 0 in their slots.
-fn load_mails(alloc: Global, channels: &[ChannelCode]) -> Result<Vec<Mail>, Memory>
+fn load_mails(alloc: Global, channels: &[ChannelCode]) -> Result<Mails, Memory>
     requires { All (λ (one : Channel). 1 ≤ one.size) channels.now }
-    ensures { IfOk result (λ mails. mails.items ≡ zero_slots (map channel channels.now)) }
+    ensures { IfOk result (λ mails. mails ≡ zero_slots (map channel channels.now)) }
 {
-    let mut mails = Vec::with_capacity(alloc, channels.len())?;
+    let mut mails = Mails::with_room(alloc, channels.len())?;
     for channel in channels {
-        mails.push(Mail::new(alloc, channel.size)?)?;
+        mails.add(alloc, channel.size)?;
     }
     Ok(mails)
 }

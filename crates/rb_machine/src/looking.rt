@@ -13,7 +13,7 @@ ghost use Rattle.rb_proc.specs.Views.{IsEntryOf, IsViewOf};
 ghost use Rattle.rb_machine.specs.Worlds.{processes_of};
 
 use rb_conv::Table;
-use rb_mail::Mail;
+use rb_mail::Mails;
 use rb_proc::{LevelView, Proc, ProcessStatus};
 use std::sync::ledger::Ledger;
 
@@ -69,11 +69,12 @@ pub fn last_held_at<L: Ledger>(procs: &[Proc<L>], p: u32) -> Option<&[u8]>
 }
 
 /// The value in the slot of a message, by its number, which counts from 0; and 0 without slots.
-pub fn message_at(mails: &[Mail], channel: u32, number: u64) -> i64
+#[inline(always)]
+pub fn message_at(mails: &Mails, channel: u32, number: u64) -> i64
     ensures { (c : Plain) → AreSized c mails.now → slot_of c.channels mails.now channel number ≡ result }
 {
     if (channel as usize) < mails.len() {
-        mails[channel as usize].get(number)
+        mails.get(channel as usize, number)
     } else {
         0
     }

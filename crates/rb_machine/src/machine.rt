@@ -1,6 +1,6 @@
 //! The machine: a program's processes, channels and conversations, turn by turn.
 
-ghost use Rattle.std.specs.Prelude.{◌≡◌, ◌+◌, ◌-◌, ◌*◌, ◌<◌, ◌≤◌, ◌^◌, true, false, [], length, map, replicate, slice_get, sum_by, vec_len, vec_capacity, IfOk, Some};
+ghost use Rattle.std.specs.Prelude.{◌≡◌, ◌+◌, ◌-◌, ◌*◌, ◌<◌, ◌≤◌, ◌^◌, true, false, [], length, map, replicate, slice_get, sum_by, IfOk, Some};
 ghost use Rattle.rb_base.specs.declared.limits.TheConstants.{MOST_HELD_BYTES, MOST_PROCESSES_SECOND};
 ghost use Rattle.rb_code.specs.Instructions.Plain.{code as plain};
 ghost use Rattle.rb_code.specs.SoundCode.WellFormed.{IsSound};
@@ -13,6 +13,7 @@ ghost use Rattle.rb_world.specs.World.{Process};
 ghost use Rattle.rb_machine.specs.AtWork.{IsAtWork};
 ghost use Rattle.rb_machine.specs.Cascade.{SameGroups};
 ghost use Rattle.rb_machine.specs.Known.{IsSoundFor};
+ghost use Rattle.rb_machine.specs.Links.{HasRoom};
 ghost use Rattle.rb_machine.specs.Machine.{HasTurned, IsKeptEntry, IsOver, opening_seen};
 ghost use Rattle.rb_machine.specs.Moves.{AreAtWork, world};
 ghost use Rattle.rb_machine.specs.Reading.{line_stood_at};
@@ -24,6 +25,7 @@ ghost use Rattle.rb_machine.specs.Worlds.{NoneWaits, counts_of, kind_with, lines
 mod looking;
 
 use crate::ends::end_turn;
+use crate::links::Links;
 use crate::loading::load_parts;
 use crate::moves::take_turn;
 use crate::parts::Parts;
@@ -40,11 +42,11 @@ use std::marker::Model;
 use std::sync::ledger::Ledger;
 
 /// A program under way. Contracts see the word machine's world, in which each open level has a whole copy of its process; the machine
-/// copies nothing. Only `load` and `survivors` take memory.
+/// copies nothing. Only the two loads and `survivors` take memory.
 #[derive(Drop)]
 pub struct Machine<'a, L: Ledger> {
-    code: &'a Code,
     parts: Parts<L>,
+    code: &'a Code,
     running: Vec<bool>,
     taken: u32,
     most: u32,
@@ -53,7 +55,6 @@ pub struct Machine<'a, L: Ledger> {
 }
 
 impl<'a, L: Ledger> Model for Machine<'a, L> {
-    ghost use Rattle.std.specs.Prelude.{vec_len, vec_capacity};
     ghost use Rattle.rb_code.specs.Instructions.Plain.{code as plain};
     ghost use Rattle.rb_machine.specs.Machine.{Seen, seen, IsTied};
 
@@ -61,13 +62,12 @@ impl<'a, L: Ledger> Model for Machine<'a, L> {
 
     ghost view = { λ m. seen (plain m.code.now) m.parts m.taken m.most };
 
-    ghost invariant = { λ m. IsTied (plain m.code.now) m.parts m.running.items (vec_len m.parts.links)
-        (vec_capacity m.parts.links) m.taken m.most m.released m.resting };
+    ghost invariant = { λ m. IsTied (plain m.code.now) m.parts m.running.items m.taken m.most m.released m.resting };
 }
 
 impl<'a, L: Ledger> Machine<'a, L> {
-    /// A program before its first turn, with room for so many turns; `Memory` if it is wanting, or if the code has more instructions, or a
-    /// block more alternates, than 32 bits number. No call but `survivors` takes more.
+    /// A program before its first turn, for so many turns; `Memory` if it is wanting, or if the code has more instructions, or a block more
+    /// alternates, than 32 bits number. It holds no links, so `survivors` has no answer but `Memory`; no other call takes memory.
     pub fn load(
         alloc: Global,
         code: &'a Code,
@@ -79,10 +79,46 @@ impl<'a, L: Ledger> Machine<'a, L> {
         requires turns { turns < 2 ^ 32 - 1 }
         ensures { IfOk result (λ machine. machine ≡ opening_seen (plain code.now) (memberships (opening nested.now)) turns) }
     {
-        let loaded = load_parts(alloc, code, nested, turns, steps)?;
+        let links = Links::unheld(alloc);
+        Machine::start(alloc, code, nested, turns, links, steps)
+    }
+
+    /// The same of a machine whose survivors may be asked for: it holds the links of the turns that are kept, and takes memory here for those
+    /// of so many turns. No call but `survivors` takes more.
+    pub fn load_for_survivors(
+        alloc: Global,
+        code: &'a Code,
+        nested: &Nested,
+        turns: u32,
+        steps: &mut Steps<L>,
+    ) -> Result<Self, Memory>
+        requires sound { IsSound (plain code.now) (memberships (opening nested.now)) (counts_of (opening nested.now)) }
+        requires turns { turns < 2 ^ 32 - 1 }
+        ensures { IfOk result (λ machine. machine ≡ opening_seen (plain code.now) (memberships (opening nested.now)) turns) }
+    {
+        let links = Links::held(alloc, turns)?;
+        Machine::start(alloc, code, nested, turns, links, steps)
+    }
+
+    // A program before its first turn, with these links, of which there is none yet.
+    fn start(
+        alloc: Global,
+        code: &'a Code,
+        nested: &Nested,
+        turns: u32,
+        links: Links,
+        steps: &mut Steps<L>,
+    ) -> Result<Self, Memory>
+        requires sound { IsSound (plain code.now) (memberships (opening nested.now)) (counts_of (opening nested.now)) }
+        requires turns { turns < 2 ^ 32 - 1 }
+        requires none { links.items ≡ [] }
+        requires room { turns ≤ links.room }
+        ensures { IfOk result (λ machine. machine ≡ opening_seen (plain code.now) (memberships (opening nested.now)) turns) }
+    {
+        let loaded = load_parts(alloc, code, nested, turns, links, steps)?;
         Ok(Machine {
-            code,
             parts: loaded.parts,
+            code,
             running: loaded.running,
             taken: 0,
             most: turns,
@@ -172,7 +208,8 @@ impl<'a, L: Ledger> Machine<'a, L> {
         drop_all_released(&mut self.parts.procs)
     }
 
-    /// The turns that survived so far, in the order of their numbers. It takes memory for their list, and for one number a process.
+    /// The turns that survived so far, in the order of their numbers. It takes memory for their list, and for one number a process: `Memory` if
+    /// it is wanting, or if the machine was loaded without room for links.
     pub fn survivors(&self, alloc: Global) -> Result<Vec<Kept>, Memory>
         ensures { IfOk result (λ kept. kept.items ≡ word_survivors self.now.world) }
     {
@@ -296,18 +333,17 @@ fn turn<L: Ledger>(
 ) -> bool
     requires work { AreAtWork (plain code.now) number parts.old }
     requires running { running.old.items ≡ running_of (processes_of parts.old.procs.items) }
-    requires room { vec_len parts.old.links < vec_capacity parts.old.links }
+    requires room { HasRoom parts.old.links }
     requires few { number < 2 ^ 32 - 1 }
     requires freed { AreFreed (processes_of parts.old.procs.items) }
     ensures turned { (world parts.new, told_of report.new.kind report.new.events.items (lines_of parts.new.procs.items))
         ≡ turn (kind_with (plain code.now) parts.old.table) number p (world parts.old) }
     ensures groups { SameGroups parts.old.table parts.new.table }
-    ensures at_work { IsAtWork (plain code.now) (number + 1) parts.new.procs.items parts.new.table parts.new.mails.items parts.new.links.items }
+    ensures at_work { IsAtWork (plain code.now) (number + 1) parts.new.procs.items parts.new.table parts.new.mails parts.new.links.items }
     ensures running { running.new.items ≡ running_of (processes_of parts.new.procs.items) }
     ensures freed { AreFreed (processes_of parts.new.procs.items) }
     ensures none_waits { result ≡ false → NoneWaits parts.new.procs.items }
-    ensures links { vec_len parts.new.links ≤ vec_len parts.old.links + 1 }
-    ensures room { vec_capacity parts.old.links ≤ vec_capacity parts.new.links }
+    ensures room { parts.old.links.room ≤ parts.new.links.room + 1 }
     ensures work { steps.new ≤ steps.old + turn_work (plain code.now) (memberships parts.old.table) number p (world parts.old) }
     ensures entry { enters_there (plain code.now) report.new.kind (slice_get (processes_of parts.old.procs.items) p) ≡ true → steps.new ≤ steps.old }
 {

@@ -1,7 +1,8 @@
 //! What a process does in its turn: it waits, steps, enters, or is rejected since a level has used up its turns.
 
-ghost use Rattle.std.specs.Prelude.{◌≡◌, ◌+◌, ◌*◌, ◌-◌, ◌<◌, ◌≤◌, ◌^◌, true, [], length, position, slice_get, vec_len, vec_capacity, Some};
+ghost use Rattle.std.specs.Prelude.{◌≡◌, ◌+◌, ◌*◌, ◌-◌, ◌<◌, ◌≤◌, ◌^◌, true, [], length, position, slice_get, Some};
 ghost use Rattle.rb_world.specs.Kind.{SendsOn};
+ghost use Rattle.rb_world.specs.Slots.{Slots};
 ghost use Rattle.rb_world.specs.Standing.{Each};
 ghost use Rattle.rb_world.specs.Turn.{acts, bounded, is_over, move, runs, turn_used};
 ghost use Rattle.rb_world.specs.World.{Running, change_at};
@@ -10,9 +11,11 @@ ghost use Rattle.rb_code.specs.SoundCode.Sound.{IsReceiver};
 ghost use Rattle.rb_code.specs.WordMachine.Turn.{want};
 ghost use Rattle.rb_conv.specs.Conversations.{memberships};
 ghost use Rattle.rb_proc.specs.Process.{Seen};
+ghost use Rattle.rb_proc.specs.Sees.{AreSized};
 ghost use Rattle.rb_machine.specs.AtWork.{MayAct};
 ghost use Rattle.rb_machine.specs.Channels.{AreNumbered};
 ghost use Rattle.rb_machine.specs.Ends.{LeadsTo, StaysOpen, links_yet, named_yet};
+ghost use Rattle.rb_machine.specs.Links.{HasRoom};
 ghost use Rattle.rb_machine.specs.Moves.{AreAtWork, IsEntryReady, IsReadyAt, MovesAt, ReceivesThere, WantsThere, world};
 ghost use Rattle.rb_machine.specs.Receipts.{is_receipt_that_waits, receipt};
 ghost use Rattle.rb_machine.specs.Rejections.{changed};
@@ -21,10 +24,12 @@ ghost use Rattle.rb_machine.specs.Work.{enters_there, looking, named_by_acts, na
 ghost use Rattle.rb_machine.specs.Worlds.{kind_with, processes_of};
 
 use crate::channels::{has_room, message_there};
+use crate::looking::message_at;
 use crate::parts::Parts;
 use crate::step::take_step;
 use rb_base::{Cause, Steps};
 use rb_code::Code;
+use rb_mail::Mails;
 use rb_proc::{Proc, ProcessStatus, Wanted};
 use std::sync::ledger::Ledger;
 
@@ -56,8 +61,8 @@ pub(crate) enum ReadyFor {
     Waits,
     /// For the entry of a recovery block.
     Enters(u32),
-    /// For a step; whether a message is there for it.
-    Steps(bool),
+    /// For a step, with the message that it is given, if it is given one.
+    Steps(Option<i64>),
 }
 
 /// What stands first in process p decides.
@@ -72,13 +77,12 @@ pub fn act<L: Ledger>(
     requires work { AreAtWork (plain code.now) (turn + 1) parts.old }
     requires process { p < length parts.old.procs.items }
     requires acting { MayAct parts.old.procs.items p }
-    requires room { vec_len parts.old.links < vec_capacity parts.old.links }
+    requires room { HasRoom parts.old.links }
     ensures leads { MovesAt parts.old p
         (λ q w. acts (kind_with (plain code.now) parts.old.table) turn p q w (want (plain code.now) q.state))
         (LeadsTo (plain code.now) turn p (processes_of parts.old.procs.items) parts.new result) }
     ensures stays { StaysOpen (plain code.now) parts.old parts.new }
-    ensures links { vec_len parts.new.links + links_yet result ≤ vec_len parts.old.links + 1 }
-    ensures room { vec_capacity parts.old.links ≤ vec_capacity parts.new.links }
+    ensures room { parts.old.links.room + links_yet result ≤ parts.new.links.room + 1 }
     ensures work { (one : Seen) → slice_get parts.old.procs.items p ≡ Some one
         → steps.new + 3 * named_yet (plain code.now) (memberships parts.old.table) p (world parts.new) result
         ≤ steps.old + looking (enters_there (plain code.now)
@@ -88,11 +92,11 @@ pub fn act<L: Ledger>(
         (want (plain code.now) one.process.state) }
 {
     let wanted = parts.procs[p as usize].want_next(code);
-    match ready(code, &parts.procs, p, wanted, steps) {
+    match ready(code, &parts.procs, &parts.mails, p, wanted, steps) {
         ReadyFor::Idle => Move::Rests,
         ReadyFor::Waits => Move::Waits,
         ReadyFor::Enters(block) => Move::Enters(block),
-        ReadyFor::Steps(there) => take_step(code, parts, turn, p, wanted, there, steps),
+        ReadyFor::Steps(message) => take_step(code, parts, turn, p, wanted, message, steps),
     }
 }
 
@@ -101,6 +105,7 @@ pub fn act<L: Ledger>(
 fn ready<L: Ledger>(
     code: &Code,
     procs: &[Proc<L>],
+    mails: &Mails,
     p: u32,
     wanted: Wanted,
     steps: &mut Steps<L>,
@@ -109,7 +114,8 @@ fn ready<L: Ledger>(
     requires process { p < length procs.now }
     requires receiver { ReceivesThere (plain code.now) procs.now p }
     requires wanted { WantsThere (plain code.now) procs.now p wanted }
-    ensures ready { IsReadyAt (plain code.now) procs.now p result }
+    requires sized { AreSized (plain code.now) mails.now }
+    ensures ready { IsReadyAt (plain code.now) procs.now mails.now p result }
     ensures work { steps.new ≤ steps.old + 2 }
     ensures entry { IsEntryReady result → steps.new ≤ steps.old }
 {
@@ -117,10 +123,18 @@ fn ready<L: Ledger>(
         Wanted::Idle | Wanted::Line => ReadyFor::Idle,
         Wanted::Room(channel) => send(code, procs, p, channel, steps),
         Wanted::Message(channel) | Wanted::Maybe(channel) => {
-            receive(code, procs, p, channel, waits_for_message(wanted), steps)
+            receive(
+                code,
+                procs,
+                mails,
+                p,
+                channel,
+                waits_for_message(wanted),
+                steps,
+            )
         }
         Wanted::Entry(block) => ReadyFor::Enters(block),
-        Wanted::Start | Wanted::Step => ReadyFor::Steps(false),
+        Wanted::Start | Wanted::Step => ReadyFor::Steps(None),
     }
 }
 
@@ -136,21 +150,22 @@ fn send<L: Ledger>(
     requires numbered { AreNumbered (plain code.now) procs.now }
     requires process { p < length procs.now }
     requires wants { (one : Seen) → slice_get procs.now p ≡ Some one → want (plain code.now) one.process.state ≡ SendsOn channel }
-    ensures ready { IsReadyAt (plain code.now) procs.now p result }
+    ensures ready { (slots : Slots) → IsReadyAt (plain code.now) procs.now slots p result }
     ensures work { steps.new ≤ steps.old + 2 }
 {
     if has_room(code, procs, channel, steps) {
-        ReadyFor::Steps(false)
+        ReadyFor::Steps(None)
     } else {
         ReadyFor::Waits
     }
 }
 
-// Process p, at a receipt, is ready where a message is there, and without one where it does not wait for one.
+// Process p, at a receipt, is ready where a message is there, which it is given, and without one where it does not wait for one.
 #[inline(always)]
 fn receive<L: Ledger>(
     code: &Code,
     procs: &[Proc<L>],
+    mails: &Mails,
     p: u32,
     channel: u32,
     waits: bool,
@@ -160,14 +175,14 @@ fn receive<L: Ledger>(
     requires process { p < length procs.now }
     requires receiver { IsReceiver (slice_get (plain code.now).channels channel) p }
     requires wants { (one : Seen) → slice_get procs.now p ≡ Some one → want (plain code.now) one.process.state ≡ receipt waits channel }
-    ensures ready { IsReadyAt (plain code.now) procs.now p result }
+    requires sized { AreSized (plain code.now) mails.now }
+    ensures ready { IsReadyAt (plain code.now) procs.now mails.now p result }
     ensures work { steps.new ≤ steps.old + 2 }
 {
-    let there = message_there(code, procs, p, channel, steps);
-    if waits && !there {
-        ReadyFor::Waits
-    } else {
-        ReadyFor::Steps(there)
+    match message_there(code, procs, p, channel, steps) {
+        Some(number) => ReadyFor::Steps(Some(message_at(mails, channel, number))),
+        None if waits => ReadyFor::Waits,
+        None => ReadyFor::Steps(None),
     }
 }
 
@@ -190,13 +205,12 @@ pub fn take_turn<L: Ledger>(
 ) -> Move
     requires work { AreAtWork (plain code.now) turn parts.old }
     requires turns { turn < 2 ^ 32 - 1 }
-    requires room { vec_len parts.old.links < vec_capacity parts.old.links }
+    requires room { HasRoom parts.old.links }
     ensures leads { LeadsTo (plain code.now) turn p (processes_of parts.old.procs.items) parts.new result
         (move (kind_with (plain code.now) parts.old.table) turn p (world parts.old)) }
     ensures ran { result ≡ Move.Went → runs_there (slice_get (processes_of parts.old.procs.items) p) ≡ true }
     ensures stays { StaysOpen (plain code.now) parts.old parts.new }
-    ensures links { vec_len parts.new.links + links_yet result ≤ vec_len parts.old.links + 1 }
-    ensures room { vec_capacity parts.old.links ≤ vec_capacity parts.new.links }
+    ensures room { parts.old.links.room + links_yet result ≤ parts.new.links.room + 1 }
     ensures work { steps.new + 3 * named_yet (plain code.now) (memberships parts.old.table) p (world parts.new) result
         ≤ steps.old + looking (enters_there (plain code.now)
         (move (kind_with (plain code.now) parts.old.table) turn p (world parts.old)).kind (slice_get (processes_of parts.old.procs.items) p))
@@ -233,12 +247,11 @@ fn run<L: Ledger>(
     requires turns { turn < 2 ^ 32 - 1 }
     requires process { p < length parts.old.procs.items }
     requires running { (one : Seen) → slice_get parts.old.procs.items p ≡ Some one → one.process.status ≡ Running }
-    requires room { vec_len parts.old.links < vec_capacity parts.old.links }
+    requires room { HasRoom parts.old.links }
     ensures leads { MovesAt parts.old p (λ q w. runs (kind_with (plain code.now) parts.old.table) turn p (turn_used q) w)
         (LeadsTo (plain code.now) turn p (processes_of parts.old.procs.items) parts.new result) }
     ensures stays { StaysOpen (plain code.now) parts.old parts.new }
-    ensures links { vec_len parts.new.links + links_yet result ≤ vec_len parts.old.links + 1 }
-    ensures room { vec_capacity parts.old.links ≤ vec_capacity parts.new.links }
+    ensures room { parts.old.links.room + links_yet result ≤ parts.new.links.room + 1 }
     ensures work { (one : Seen) → slice_get parts.old.procs.items p ≡ Some one
         → steps.new + 3 * named_yet (plain code.now) (memberships parts.old.table) p (world parts.new) result
         ≤ steps.old + looking (enters_there (plain code.now)
@@ -275,13 +288,12 @@ fn go_on<L: Ledger>(
     requires process { p < length parts.old.procs.items }
     requires running { (one : Seen) → slice_get parts.old.procs.items p ≡ Some one → one.process.status ≡ Running }
     requires over { (one : Seen) → slice_get parts.old.procs.items p ≡ Some one → over ≡ position is_over one.process.levels }
-    requires room { vec_len parts.old.links < vec_capacity parts.old.links }
+    requires room { HasRoom parts.old.links }
     ensures leads { MovesAt parts.old p
         (λ q w. bounded (kind_with (plain code.now) parts.old.table) turn p q w (position is_over q.levels))
         (LeadsTo (plain code.now) turn p (processes_of parts.old.procs.items) parts.new result) }
     ensures stays { StaysOpen (plain code.now) parts.old parts.new }
-    ensures links { vec_len parts.new.links + links_yet result ≤ vec_len parts.old.links + 1 }
-    ensures room { vec_capacity parts.old.links ≤ vec_capacity parts.new.links }
+    ensures room { parts.old.links.room + links_yet result ≤ parts.new.links.room + 1 }
     ensures work { (one : Seen) → slice_get parts.old.procs.items p ≡ Some one
         → steps.new + 3 * named_yet (plain code.now) (memberships parts.old.table) p (world parts.new) result
         ≤ steps.old + looking (enters_there (plain code.now)

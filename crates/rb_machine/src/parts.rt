@@ -1,16 +1,17 @@
 //! The parts of the machine: its processes, channels, conversations, and the links of the turns that were kept.
 
-use crate::links::Link;
+use crate::links::Links;
 use rb_conv::Table;
-use rb_mail::Mail;
+use rb_mail::Mails;
 use rb_proc::Proc;
 use std::sync::ledger::Ledger;
 
-/// The processes and the channels of a program by number, its conversations, and the links of the turns that were kept, the newest last.
+/// The channels and the processes of a program by number, its conversations, and the links of the turns that were kept, the newest last. The
+/// channels come first, and in the machine the parts do: then no turn works out where they lie.
 #[derive(Drop)]
 pub struct Parts<L: Ledger> {
+    pub mails: Mails,
     pub procs: Vec<Proc<L>>,
-    pub mails: Vec<Mail>,
     pub table: Table,
-    pub links: Vec<Link>,
+    pub links: Links,
 }

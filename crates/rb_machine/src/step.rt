@@ -1,50 +1,31 @@
 //! A step of a process in its turn: it goes on, traps, or comes to the end of an alternate whose acceptance test held.
 
-ghost use Rattle.std.specs.Prelude.{◌≡◌, ◌+◌, ◌*◌, ◌<◌, ◌≤◌, length, slice_get, vec_len, vec_capacity, Some};
+ghost use Rattle.std.specs.Prelude.{◌≡◌, ◌+◌, ◌*◌, ◌<◌, ◌≤◌, length, slice_get, Some};
 ghost use Rattle.rb_world.specs.Turn.{steps as stepping};
 ghost use Rattle.rb_code.specs.Instructions.Plain.{code as plain};
 ghost use Rattle.rb_code.specs.WordMachine.Turn.{want};
 ghost use Rattle.rb_proc.specs.Executable.{IsExecutable};
 ghost use Rattle.rb_proc.specs.Given.{alternate_by};
-ghost use Rattle.rb_proc.specs.Process.{Seen, alternate_for, message_for, wanted_by};
+ghost use Rattle.rb_proc.specs.Process.{Seen, alternate_for, wanted_by};
 ghost use Rattle.rb_proc.specs.Sees.{AreSized};
 ghost use Rattle.rb_proc.specs.Work.{named_in_step};
 ghost use Rattle.rb_machine.specs.AtWork.{IsStep, MayAct};
 ghost use Rattle.rb_conv.specs.Conversations.{memberships};
 ghost use Rattle.rb_machine.specs.Ends.{LeadsTo, StaysOpen, links_yet, named_yet};
+ghost use Rattle.rb_machine.specs.Links.{HasRoom};
 ghost use Rattle.rb_machine.specs.Moves.{AreAtWork, MovesAt, WantsThere, world};
 ghost use Rattle.rb_machine.specs.Stepping.{AddsLink, HasDone, HasDoneAt, MayStep};
 ghost use Rattle.rb_machine.specs.Work.{named_by_steps};
 ghost use Rattle.rb_machine.specs.Worlds.{kind_with, processes_of};
 
-use crate::innermost::started;
-use crate::links::{Link, add, take_back};
+use crate::links::Links;
 use crate::moves::Move;
 use crate::parts::Parts;
 use rb_base::Steps;
 use rb_code::Code;
-use rb_mail::Mail;
+use rb_mail::Mails;
 use rb_proc::{Outcome, Proc, Wanted};
 use std::sync::ledger::Ledger;
-
-// The link of a turn of process p, by how the process stands before it.
-#[inline(always)]
-fn link_of<L: Ledger>(proc: &Proc<L>, turn: u32, p: u32, wanted: Wanted) -> Link
-    ensures { result
-        ≡ record {
-          turn = turn;
-          process = p;
-          alternate = alternate_by wanted proc.now.process.levels;
-          before = proc.now.process.state.last_kept;
-        } }
-{
-    Link {
-        turn,
-        process: p,
-        alternate: started(wanted, proc),
-        before: proc.last_kept(),
-    }
-}
 
 // A process takes a step. The link of the turn, to the last kept turn before, is added first; a turn that goes on or whose test held is
 // kept, and a trap takes the link back.
@@ -52,31 +33,29 @@ fn link_of<L: Ledger>(proc: &Proc<L>, turn: u32, p: u32, wanted: Wanted) -> Link
 fn step_kept<L: Ledger>(
     code: &Code,
     proc: &mut Proc<L>,
-    mails: &mut [Mail],
-    links: &mut Vec<Link>,
+    mails: &mut Mails,
+    links: &mut Links,
     turn: u32,
     p: u32,
     wanted: Wanted,
-    there: bool,
+    message: Option<i64>,
     steps: &mut Steps<L>,
 ) -> Move
     requires code { IsExecutable (plain code.now) }
-    requires may { MayStep (plain code.now) mails.old there proc.old }
+    requires may { MayStep (plain code.now) message proc.old }
     requires wanted { wanted ≡ wanted_by (want (plain code.now) proc.old.process.state) }
     requires sized { AreSized (plain code.now) mails.old }
-    requires room { vec_len links.old < vec_capacity links.old }
-    ensures done { HasDone (plain code.now) turn there proc.old result mails.old mails.new proc.new }
+    requires room { HasRoom links.old }
+    ensures done { HasDone (plain code.now) turn message proc.old result mails.old mails.new proc.new }
     ensures sized { AreSized (plain code.now) mails.new }
     ensures links { AddsLink result
         (record { turn = turn; process = p; alternate = alternate_by wanted proc.old.process.levels; before = proc.old.process.state.last_kept })
         links.old.items links.new.items }
-    ensures len { vec_len links.new ≤ vec_len links.old + 1 }
-    ensures room { vec_capacity links.old ≤ vec_capacity links.new }
-    ensures work { steps.new ≤ steps.old + 1 + 3 * named_in_step (plain code.now) proc.old.process mails.old there }
+    ensures room { links.old.room ≤ links.new.room + 1 }
+    ensures work { steps.new ≤ steps.old + 3 * named_in_step (plain code.now) proc.old.process mails.old message }
 {
-    let link = link_of(proc, turn, p, wanted);
-    add(links, link);
-    match proc.step(code, mails, wanted, there, steps) {
+    links.note(proc, turn, p, wanted);
+    match proc.step(code, mails, wanted, message, steps) {
         Outcome::Went => {
             proc.keep(turn);
             if proc.is_quiet() {
@@ -90,7 +69,7 @@ fn step_kept<L: Ledger>(
             Move::Accepts
         }
         Outcome::Trap(cause) => {
-            take_back(links);
+            links.take_back();
             Move::Rejects(proc.levels(), cause)
         }
     }
@@ -101,31 +80,30 @@ fn step_kept<L: Ledger>(
 fn step_one<L: Ledger>(
     code: &Code,
     procs: &mut [Proc<L>],
-    mails: &mut [Mail],
-    links: &mut Vec<Link>,
+    mails: &mut Mails,
+    links: &mut Links,
     turn: u32,
     p: u32,
     wanted: Wanted,
-    there: bool,
+    message: Option<i64>,
     steps: &mut Steps<L>,
 ) -> Move
     requires code { IsExecutable (plain code.now) }
     requires process { p < length procs.old }
-    requires may { (one : Seen) → slice_get procs.old p ≡ Some one → MayStep (plain code.now) mails.old there one }
+    requires may { (one : Seen) → slice_get procs.old p ≡ Some one → MayStep (plain code.now) message one }
     requires wanted { WantsThere (plain code.now) procs.old p wanted }
     requires sized { AreSized (plain code.now) mails.old }
-    requires room { vec_len links.old < vec_capacity links.old }
+    requires room { HasRoom links.old }
     ensures done { (one : Seen) → slice_get procs.old p ≡ Some one
-        → HasDoneAt (plain code.now) turn there p one result mails.old mails.new procs.old procs.new }
+        → HasDoneAt (plain code.now) turn message p one result mails.old mails.new procs.old procs.new }
     ensures sized { AreSized (plain code.now) mails.new }
     ensures links { (one : Seen) → slice_get procs.old p ≡ Some one
         → AddsLink result
         (record { turn = turn; process = p; alternate = alternate_by wanted one.process.levels; before = one.process.state.last_kept })
         links.old.items links.new.items }
-    ensures len { vec_len links.new ≤ vec_len links.old + 1 }
-    ensures room { vec_capacity links.old ≤ vec_capacity links.new }
+    ensures room { links.old.room ≤ links.new.room + 1 }
     ensures work { (one : Seen) → slice_get procs.old p ≡ Some one
-        → steps.new ≤ steps.old + 1 + 3 * named_in_step (plain code.now) one.process mails.old there }
+        → steps.new ≤ steps.old + 3 * named_in_step (plain code.now) one.process mails.old message }
 {
     step_kept(
         code,
@@ -135,7 +113,7 @@ fn step_one<L: Ledger>(
         turn,
         p,
         wanted,
-        there,
+        message,
         steps,
     )
 }
@@ -148,31 +126,26 @@ pub fn take_step<L: Ledger>(
     turn: u32,
     p: u32,
     wanted: Wanted,
-    there: bool,
+    message: Option<i64>,
     steps: &mut Steps<L>,
 ) -> Move
     requires work { AreAtWork (plain code.now) (turn + 1) parts.old }
     requires process { p < length parts.old.procs.items }
     requires acting { MayAct parts.old.procs.items p }
-    requires step { (one : Seen) → slice_get parts.old.procs.items p ≡ Some one → IsStep there (want (plain code.now) one.process.state) }
+    requires step { (one : Seen) → slice_get parts.old.procs.items p ≡ Some one → IsStep message (want (plain code.now) one.process.state) }
     requires wanted { WantsThere (plain code.now) parts.old.procs.items p wanted }
-    requires room { vec_len parts.old.links < vec_capacity parts.old.links }
+    requires room { HasRoom parts.old.links }
     ensures leads { MovesAt parts.old p
         (λ q w. stepping (kind_with (plain code.now) parts.old.table) turn p
-        (alternate_for (want (plain code.now) q.state) q.levels)
-        (message_for (plain code.now) q.state parts.old.mails.items there (want (plain code.now) q.state)) q w)
+        (alternate_for (want (plain code.now) q.state) q.levels) message q w)
         (LeadsTo (plain code.now) turn p (processes_of parts.old.procs.items) parts.new result) }
     ensures stays { StaysOpen (plain code.now) parts.old parts.new }
-    ensures links { vec_len parts.new.links + links_yet result ≤ vec_len parts.old.links + 1 }
-    ensures room { vec_capacity parts.old.links ≤ vec_capacity parts.new.links }
+    ensures room { parts.old.links.room + links_yet result ≤ parts.new.links.room + 1 }
     ensures work { (one : Seen) → slice_get parts.old.procs.items p ≡ Some one
         → steps.new + 3 * named_yet (plain code.now) (memberships parts.old.table) p (world parts.new) result
-        ≤ steps.old + 1
+        ≤ steps.old
         + 3 * named_by_steps (plain code.now) (memberships parts.old.table) turn p
-        (alternate_for (want (plain code.now) one.process.state) one.process.levels)
-        (message_for (plain code.now) one.process.state parts.old.mails.items there
-        (want (plain code.now) one.process.state)) one.process
-        (world parts.old) }
+        (alternate_for (want (plain code.now) one.process.state) one.process.levels) message one.process (world parts.old) }
 {
     step_one(
         code,
@@ -182,7 +155,7 @@ pub fn take_step<L: Ledger>(
         turn,
         p,
         wanted,
-        there,
+        message,
         steps,
     )
 }

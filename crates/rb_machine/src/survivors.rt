@@ -14,13 +14,16 @@ use rb_proc::Proc;
 use std::alloc::Global;
 use std::sync::ledger::Ledger;
 
-/// The turns that survived, in the order of their numbers.
+/// The turns that survived, in the order of their numbers; `Memory` if it is wanting, or if the links are not held.
 pub fn survivors<L: Ledger>(alloc: Global, parts: &Parts<L>) -> Result<Vec<Kept>, Memory>
     requires { (t : ℕ) × AreLinked t (world parts.now) }
     ensures { IfOk result (λ kept. kept.items ≡ word_survivors (world parts.now)) }
 {
+    let Some(links) = parts.links.items() else {
+        return Err(Memory);
+    };
     let mut wanted = last_kept(alloc, &parts.procs)?;
-    let mut kept = reach(alloc, &parts.links, &mut wanted)?;
+    let mut kept = reach(alloc, links, &mut wanted)?;
     kept.reverse();
     Ok(kept)
 }

@@ -35,7 +35,7 @@ pub fn undo<L: Ledger>(
     requires none { length events.old.items ≡ 0 }
     ensures moved { (c : Plain)
         → HasMoved parts.new events.new.items result (undone (reject (kind_with c parts.old.table) p left cause (world parts.old))) }
-    ensures left { (c : Plain) → AreSized c parts.old.mails.items → IsLeft c parts.old parts.new events.new.items result }
+    ensures left { (c : Plain) → AreSized c parts.old.mails → IsLeft c parts.old parts.new events.new.items result }
     ensures quiet { result.quiet ≡ false }
     ensures links { parts.new.links ≡ parts.old.links }
     ensures work { steps.new

@@ -1,12 +1,11 @@
 -- What is known of the processes of a world gives each what its turn asks for: it can be rejected from any of its levels on, and take a step;
 -- and who stands at a test line may leave it.
-use Rattle.std.proofs.Common.{◌≡◌, ℕ, zero, suc, ◌-◌, ◌<◌, ◌≤◌, ◌^◌, Bool, true, false, List, [], ◌∷◌, length, map, slice_get, Option, Some, None, option_map, refl, ap, sym, ◌∙◌, subst, true≢false, arith}
+use Rattle.std.proofs.Common.{◌≡◌, ℕ, zero, suc, ◌-◌, ◌<◌, ◌≤◌, ◌^◌, ℤ, Bool, true, false, List, [], ◌∷◌, length, map, slice_get, Option, Some, None, option_map, refl, ap, sym, ◌∙◌, subst, true≢false, arith}
 use Rattle.std.proofs.lemmas.Option.{slice_get-map}
 use Rattle.rb_cache.specs.Copies.{accepted}
 use Rattle.rb_world.specs.Kind.{Want, NothingLeft, SendsOn, ReceivesOn, MayReceiveOn, Enters, Starts, Acts}
 use Rattle.rb_world.specs.Nested.{IsLevelOf}
 use Rattle.rb_world.specs.Present.{IsPresent}
-use Rattle.rb_world.specs.Slots.{Slots}
 use Rattle.rb_world.specs.Standing.{Each}
 use Rattle.rb_world.specs.Turn.{tried_at}
 use Rattle.rb_world.specs.World.{Level, ProcessStatus, Running, Finished, FailedWith, last_of, without_last}
@@ -20,7 +19,7 @@ use Rattle.rb_code.specs.WordMachine.Turn.{Common, Copy, Standing, want}
 use Rattle.rb_code.specs.SoundCode.WellFormed.{IsSound}
 use Rattle.rb_code.proofs.Executing.ProcessesStand.{stands_to_step}
 use Rattle.rb_conv.specs.Conversations.{Conversation, conversation_at, memberships, talks}
-use Rattle.rb_proc.specs.Process.{Seen, alternate_for, message_for}
+use Rattle.rb_proc.specs.Process.{Seen, alternate_for}
 use Rattle.rb_proc.specs.Runs.{CursorsRise}
 use Rattle.rb_machine.specs.AtWork.{HasFewAlternates, IsStep, MayActNow}
 use Rattle.rb_machine.specs.Cascade.{AreQuiet, MayRejectAt, TriesWith}
@@ -60,17 +59,15 @@ last_tried (l ∷ []) each = let h = each 0 l refl in (h.first, h.last)
 last_tried (l ∷ m ∷ ls) each = last_tried (m ∷ ls) (λ n. each (suc n))
 
 -- a step gets what it wants
-step_serves : (c : Code) (s : Standing) (slots : Slots) (there : Bool) (levels : List (Level Copy)) (w : Want)
-    → Each (λ _ level. IsTried level) levels
-    → IsStep there w → Serves w (alternate_for w levels) (message_for c s slots there w) levels
-step_serves c s slots there levels NothingLeft tried h = h
-step_serves c s slots there levels (SendsOn channel) tried h = tt
-step_serves c s slots true levels (ReceivesOn channel) tried h = tt
-step_serves c s slots false levels (ReceivesOn channel) tried h = absurd (true≢false (sym h))
-step_serves c s slots there levels (MayReceiveOn channel) tried h = tt
-step_serves c s slots there levels (Enters facts) tried h = h
-step_serves c s slots there levels Starts tried h = last_tried levels tried
-step_serves c s slots there levels Acts tried h = tt
+step_serves : (message : Option ℤ) (levels : List (Level Copy)) (w : Want) → Each (λ _ level. IsTried level) levels → IsStep message w
+    → Serves w (alternate_for w levels) message levels
+step_serves message levels NothingLeft tried h = h
+step_serves message levels (SendsOn channel) tried h = tt
+step_serves message levels (ReceivesOn channel) tried h = h
+step_serves message levels (MayReceiveOn channel) tried h = tt
+step_serves message levels (Enters facts) tried h = h
+step_serves message levels Starts tried h = last_tried levels tried
+step_serves message levels Acts tried h = tt
 
 module _ (c : Code) (table : List Conversation) (sound : IsSound c (memberships table) (counts_of table)) (t : ℕ) (procs : List Seen) (m : Common)
     (known : IsKnown c (memberships table) (counts_of table) sound.table t (world_of procs table m)) where
@@ -142,9 +139,9 @@ module _ (c : Code) (table : List Conversation) (sound : IsSound c (memberships 
       )
 
   -- who may act, and wants a step, may take it
-  pub may_step : (slots : Slots) (there : Bool) (p : ℕ) (one : Seen) → slice_get procs p ≡ Some one → NoneWaits procs → MayActNow one
-      → IsStep there (want c one.process.state) → t < 2 ^ 32 → MayStep c slots there one
-  may_step slots there p one e waits act step few =
+  pub may_step : (message : Option ℤ) (p : ℕ) (one : Seen) → slice_get procs p ≡ Some one → NoneWaits procs → MayActNow one
+      → IsStep message (want c one.process.state) → t < 2 ^ 32 → MayStep c message one
+  may_step message p one e waits act step few =
       let q = one.process in
       let here = process_there procs p one e in
       let placed = known.placed p q here in
@@ -163,7 +160,7 @@ module _ (c : Code) (table : List Conversation) (sound : IsSound c (memberships 
                 (memberships table) sound.table sound.has sound.well.lists q placed.stands act.running act.away;
           },
         );
-        serves = step_serves c q.state slots there q.levels (want c q.state) (known.tried p q here) step;
+        serves = step_serves message q.levels (want c q.state) (known.tried p q here) step;
         cursors = subst (λ n. CursorsRise c n q.state.words) (sym placed.number) (λ channel among.
             let less = below channel among in
             omega arith);

@@ -1,10 +1,11 @@
 -- Rooms and messages of a world, told by the cursors of the two ends of a channel.
-use Rattle.std.proofs.Common.{◌≡◌, ℕ, ◌+◌, ◌<◌, nat_lt, Bool, cond, ℤ, List, [], ◌∷◌, length, map, option_map, slice_get, get_or, unwrap_or, Option, Some, None, refl, ap, sym, subst, ◌∙◌, eq-eqb, arith}
+use Rattle.std.proofs.Common.{◌≡◌, ℕ, ◌+◌, ◌<◌, nat_lt, Bool, true, false, cond, ℤ, List, [], ◌∷◌, length, map, option_map, slice_get, get_or, Option, Some, None, refl, ap, sym, subst, ◌∙◌, eq-eqb, arith}
+use Rattle.std.specs.Bool.{then_some}
 use Rattle.std.proofs.lemmas.Option.{slice_get-map, slice_get_within}
 use Rattle.rb_world.specs.Channels.{has_room, has_room_for, has_room_on, room_from}
 use Rattle.rb_world.specs.Channels.{message_between, message_on, message_there, seen_copy, seen_count, seen_message}
-use Rattle.rb_world.specs.Kind.{Ends, Membership, ReceivesOn, MayReceiveOn}
-use Rattle.rb_world.specs.Slots.{Slots, slot_of}
+use Rattle.rb_world.specs.Kind.{Ends, Membership}
+use Rattle.rb_world.specs.Slots.{slot_of}
 use Rattle.rb_world.specs.Standing.{Each}
 use Rattle.rb_world.specs.World.{Level, Process, Talk}
 use Rattle.rb_world.proofs.ListFacts.{slice_get-there}
@@ -19,13 +20,18 @@ use Rattle.rb_code.specs.SoundCode.Stands.{IsAmong}
 use Rattle.rb_code.specs.WordMachine.Turn.{Common, Copy, Standing}
 use Rattle.rb_code.specs.WordMachine.WordKind.{cursor_in, sent_by, taken_by, word_kind}
 use Rattle.rb_code.proofs.InWords.Channels.{receives, sends}
-use Rattle.rb_proc.specs.Process.{Seen, message_for}
-use Rattle.rb_machine.specs.Channels.{AreNumbered, HasCursor, HoldsCursors, cursor_at, message_given, outermost_copy, words_at, words_then}
+use Rattle.rb_proc.specs.Process.{Seen}
+use Rattle.rb_machine.specs.Channels.{AreNumbered, HasCursor, HoldsCursors, cursor_at, outermost_copy, words_then}
 use Rattle.rb_machine.specs.Worlds.{processes_of}
 
 -- equal numbers are compared alike
 pub compared : {A : Type 0} (f : ℕ → ℕ → A) (m n k l : ℕ) → m ≡ k → n ≡ l → f m n ≡ f k l
 compared f m n k l e h = ap (λ x. f x n) e ∙ ap (f k) h
+
+-- an option by a test
+pub given_if : {A : Type 0} (b : Bool) (f : ℕ → A) (n : ℕ) → cond b (Some (f n)) None ≡ option_map f (then_some b n)
+given_if true f n = refl
+given_if false f n = refl
 
 pub channel_lent : (code : Held) (lists : List ChannelCode) (k : ℕ) (one : ChannelCode) → lists ≡ code.channels.items → k < length lists
     → one ≡ get_or lists k one → slice_get (plain code).channels k ≡ Some (channel_of one)
@@ -36,9 +42,6 @@ channel_lent code lists k one same h read =
 process_at : (procs : List Seen) (p : ℕ) (o : Option Seen) → slice_get procs p ≡ o
     → slice_get (processes_of procs) p ≡ option_map (λ (one : Seen). one.process) o
 process_at procs p o e = slice_get-map (λ (one : Seen). one.process) procs p ∙ ap (option_map (λ (one : Seen). one.process)) e
-
-words_are : (procs : List Seen) (p : ℕ) (one : Seen) → slice_get procs p ≡ Some one → words_at procs p ≡ one.process.state.words
-words_are procs p one e = ap (λ o. unwrap_or (option_map (λ (one : Seen). one.process.state.words) o) []) e
 
 module _ (c : Code) (procs : List Seen) (numbered : AreNumbered c procs) where
   -- each process is one of the code
@@ -71,24 +74,6 @@ module _ (c : Code) (procs : List Seen) (numbered : AreNumbered c procs) where
 
   pub is_of_code : (p : ℕ) (one : Seen) → slice_get procs p ≡ Some one → one.process.state.process < length c.processes
   is_of_code p one there = omega (arith, numbered.numbers p one there, slice_get_within procs p one there, numbered.as_many)
-
-  -- the cursor of a process, by its number
-  own_cursor : (p channel : ℕ) (one : Seen) → slice_get procs p ≡ Some one
-      → cursor_at c channel one.process None ≡ cursor_in c p (words_at procs p) channel
-  own_cursor p channel one there =
-      ap (λ n. cursor_in c n one.process.state.words channel) (numbered.numbers p one there)
-      ∙ ap (λ words. cursor_in c p words channel) (sym (words_are procs p one there))
-
-  -- The message that is given is the one that the receiver's step takes, whether it waits for one or not.
-  pub given_is_taken : (slots : Slots) (p channel : ℕ) (one : Seen) (there : Bool) → slice_get procs p ≡ Some one
-      → message_given c slots procs p channel there ≡ message_for c one.process.state slots there (ReceivesOn channel)
-  given_is_taken slots p channel one there at =
-      ap (λ n. cond there (Some (slot_of c.channels slots channel n)) None) (sym (own_cursor p channel one at))
-
-  pub given_is_taken_if_there : (slots : Slots) (p channel : ℕ) (one : Seen) (there : Bool) → slice_get procs p ≡ Some one
-      → message_given c slots procs p channel there ≡ message_for c one.process.state slots there (MayReceiveOn channel)
-  given_is_taken_if_there slots p channel one there at =
-      ap (λ n. cond there (Some (slot_of c.channels slots channel n)) None) (sym (own_cursor p channel one at))
 
 module _ (c : Code) (groups : List Membership) where
   -- what an end of a channel has sent or taken is its cursor
@@ -160,24 +145,27 @@ module _ (c : Code) (groups : List Membership) where
         ∙ room_for channel ends q.process r.process there (numbered.numbers ends.sender q sender) (numbered.numbers ends.receiver r receiver)))
 
     -- the message that is there in a world
-    abbrev pub MessageIs : ℕ → Type 0
-    MessageIs p =
+    abbrev MessageIs : ℕ → ℕ → Type 0
+    MessageIs taken seen =
         message_there (word_kind c groups) (record { processes = processes_of procs; talks = talks; memory = memory }) channel
-        ≡ message_given c memory.slots procs p channel
-        (nat_lt (cursor_at c channel r.process None) (cursor_at c channel q.process (seen_copy q.process.levels r.process.levels)))
+        ≡ cond (nat_lt taken seen) (Some (slot_of c.channels memory.slots channel taken)) None
 
-    message_seen : slice_get procs ends.receiver ≡ Some r → MessageIs ends.receiver
+    message_seen : slice_get procs ends.receiver ≡ Some r
+        → MessageIs (cursor_at c channel r.process None) (cursor_at c channel q.process (seen_copy q.process.levels r.process.levels))
     message_seen receiver =
         let k = word_kind c groups in
         ap (message_on k (record { processes = processes_of procs; talks = talks; memory = memory }) channel) there
         ∙ (ap (λ o. message_between k memory channel o (slice_get (processes_of procs) ends.receiver)) (process_at procs ends.sender (Some q) sender)
         ∙ (ap (message_between k memory channel (Some q.process)) (process_at procs ends.receiver (Some r) receiver)
-        ∙ (message_for_both memory channel ends q.process r.process there (numbered.numbers ends.sender q sender)
-        (numbered.numbers ends.receiver r receiver)
-        ∙ ap (λ n. cond (nat_lt (cursor_at c channel r.process None) (cursor_at c channel q.process (seen_copy q.process.levels r.process.levels)))
-        (Some (slot_of c.channels memory.slots channel n)) None) (own_cursor c procs numbered ends.receiver channel r receiver))))
+        ∙ message_for_both memory channel ends q.process r.process there (numbered.numbers ends.sender q sender)
+        (numbered.numbers ends.receiver r receiver)))
 
-    pub message_is : (p : ℕ) → IsReceiver (slice_get c.channels channel) p → slice_get procs p ≡ Some r → MessageIs p
-    message_is p is at =
+    -- which is that of the receiver's cursor, as both were read
+    pub message_is : (p taken seen : ℕ) → IsReceiver (slice_get c.channels channel) p → slice_get procs p ≡ Some r
+        → taken ≡ cursor_at c channel r.process None → seen ≡ cursor_at c channel q.process (seen_copy q.process.levels r.process.levels)
+        → MessageIs taken seen
+    message_is p taken seen is at taken_is seen_is =
         let own : ends.receiver ≡ p = subst (λ o. IsReceiver o p) there is in
-        subst MessageIs own (message_seen (subst (λ n. slice_get procs n ≡ Some r) (sym own) at))
+        subst (λ n. MessageIs n seen) (sym taken_is)
+        (subst (MessageIs (cursor_at c channel r.process None)) (sym seen_is)
+        (message_seen (subst (λ n. slice_get procs n ≡ Some r) (sym own) at)))

@@ -1,5 +1,5 @@
 -- A machine that has lent a line is at work as before, and it tells as many counts as the code has channels.
-use Rattle.std.proofs.Common.{◌≡◌, ◌≤◌, ◌+◌, ℕ, zero, suc, Bool, false, List, [], ◌∷◌, length, replicate, vec_len, vec_capacity, refl, ap, sym, ◌∙◌, subst}
+use Rattle.std.proofs.Common.{◌≡◌, ◌≤◌, ◌+◌, ℕ, zero, suc, Bool, false, List, [], ◌∷◌, length, replicate, refl, ap, sym, ◌∙◌, subst}
 use Rattle.rb_base.specs.Lines.{without_next}
 use Rattle.rb_world.specs.Kind.{Ends}
 use Rattle.rb_world.specs.Slots.{Slots}
@@ -55,27 +55,26 @@ still_none old new p lent none =
 
 -- so parts with the same processes, and with all else the same, are tied again
 pub tied_same : {L : Type 0} (c : Code) (old new : Parts L) (running : List Bool) (taken most : ℕ) (before released : Bool) (resting : Resting)
-    → IsTied c old running (vec_len old.links) (vec_capacity old.links) taken most before resting
+    → IsTied c old running taken most before resting
     → processes_of new.procs.items ≡ processes_of old.procs.items → new.mails ≡ old.mails → new.table ≡ old.table → new.links ≡ old.links
     → (released ≡ false → NoneWaits new.procs.items)
-    → IsTied c new running (vec_len new.links) (vec_capacity new.links) taken most released resting
+    → IsTied c new running taken most released resting
 tied_same c old new running taken most before released resting tied processes mails table links none = record {
-  work = subst (λ table. IsAtWork c (taken + 1) new.procs.items table new.mails.items new.links.items) (sym table)
-      (subst (λ mails. IsAtWork c (taken + 1) new.procs.items old.table mails.items new.links.items) (sym mails)
-      (subst (λ links. IsAtWork c (taken + 1) new.procs.items old.table old.mails.items links.items) (sym links)
-      (same_work c (taken + 1) old.procs.items new.procs.items old.table old.mails.items old.links.items processes tied.work)));
+  work = subst (λ table. IsAtWork c (taken + 1) new.procs.items table new.mails new.links.items) (sym table)
+      (subst (λ mails. IsAtWork c (taken + 1) new.procs.items old.table mails new.links.items) (sym mails)
+      (subst (λ links. IsAtWork c (taken + 1) new.procs.items old.table old.mails links.items) (sym links)
+      (same_work c (taken + 1) old.procs.items new.procs.items old.table old.mails old.links.items processes tied.work)));
   running_is = tied.running_is ∙ ap running_of (sym processes);
   freed = subst AreFreed (sym processes) tied.freed;
   none_waits = none;
-  links_few = subst (λ links. vec_len links ≤ taken) (sym links) tied.links_few;
-  links_room = subst (λ links. most ≤ vec_capacity links) (sym links) tied.links_room;
+  links_room = subst (λ links. most ≤ taken + links.room) (sym links) tied.links_room;
   taken_few = tied.taken_few;
   most_few = tied.most_few;
-  noted = subst (λ table. AreNoted c (memberships table) (world_of new.procs.items table (memory_of new.mails.items new.links.items))
+  noted = subst (λ table. AreNoted c (memberships table) (world_of new.procs.items table (memory_of new.mails new.links.items))
       resting.rests.items resting.changed taken) (sym table)
-      (subst (λ mails. AreNoted c (memberships old.table) (world_of new.procs.items old.table (memory_of mails.items new.links.items))
+      (subst (λ mails. AreNoted c (memberships old.table) (world_of new.procs.items old.table (memory_of mails new.links.items))
       resting.rests.items resting.changed taken) (sym mails)
-      (subst (λ links. AreNoted c (memberships old.table) (world_of new.procs.items old.table (memory_of old.mails.items links.items))
+      (subst (λ links. AreNoted c (memberships old.table) (world_of new.procs.items old.table (memory_of old.mails links.items))
       resting.rests.items resting.changed taken) (sym links)
       (subst (λ (all : List (Process Standing Copy)). AreNoted c (memberships old.table) (record (world old) { processes = all })
       resting.rests.items resting.changed taken) (sym processes) tied.noted)));
@@ -84,8 +83,8 @@ tied_same c old new running taken most before released resting tied processes ma
 }
 
 pub tied_again : {L : Type 0} (c : Code) (old new : Parts L) (running : List Bool) (taken most : ℕ) (released : Bool) (resting : Resting) (p : ℕ)
-    → IsTied c old running (vec_len old.links) (vec_capacity old.links) taken most released resting → HasLent p old new
-    → IsTied c new running (vec_len new.links) (vec_capacity new.links) taken most released resting
+    → IsTied c old running taken most released resting → HasLent p old new
+    → IsTied c new running taken most released resting
 tied_again c old new running taken most released resting p tied lent =
     tied_same c old new running taken most released released resting tied lent.processes lent.mails lent.table lent.links
     (λ e. still_none old.procs.items new.procs.items p lent.lines (tied.none_waits e))

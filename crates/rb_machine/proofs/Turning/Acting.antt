@@ -4,7 +4,6 @@ use Rattle.std.proofs.lemmas.Option.{slice_get_read}
 use Rattle.rb_base.specs.declared.event.Event.{Event}
 use Rattle.rb_world.specs.Channels.{has_room, message_there}
 use Rattle.rb_world.specs.Kind.{Facts, Kind, Want, NothingLeft, SendsOn, ReceivesOn, MayReceiveOn, Enters, Starts, Acts}
-use Rattle.rb_world.specs.Slots.{Slots}
 use Rattle.rb_world.specs.Turn.{Moved, acts, enters, idles, receives, steps, waits}
 use Rattle.rb_world.specs.World.{Process, ProcessStatus}
 use Rattle.rb_world.proofs.ListFacts.{some_same}
@@ -12,7 +11,7 @@ use Rattle.rb_code.specs.Instructions.Plain.{Code}
 use Rattle.rb_code.specs.WordMachine.Turn.{Common, Copy, Standing, want}
 use Rattle.rb_code.specs.WordMachine.WordRun.{WordWorld}
 use Rattle.rb_proc.specs.Entries.{WantsBlock}
-use Rattle.rb_proc.specs.Process.{Seen, alternate_for, message_for, wanted_by, wanted_now, wanted_of}
+use Rattle.rb_proc.specs.Process.{Seen, alternate_for, wanted_by, wanted_now, wanted_of}
 use Rattle.rb_proc.specs.declared.answers.Wanted.{Wanted}
 use Rattle.rb_proc.specs.declared.answers.Wanted.TheVariants as wanted
 use Rattle.rb_machine.specs.AtWork.{IsStep, MayActNow}
@@ -111,55 +110,50 @@ pub is_done : (w : Want) (answer : Wanted) → wanted_by w ≡ answer → (answe
 is_done w answer e (inl idle) = is_idle w (e ∙ idle)
 is_done w answer e (inr line) = no_line w (e ∙ line)
 
-pub starts_or_acts : (w : Want) (answer : Wanted) → wanted_by w ≡ answer → (answer ≡ wanted.Start) ⊎ (answer ≡ wanted.Step) → IsStep false w
-starts_or_acts w answer e (inl start) = subst (IsStep false) (sym (is_start w (e ∙ start))) tt
-starts_or_acts w answer e (inr step) = subst (IsStep false) (sym (is_step w (e ∙ step))) tt
+pub starts_or_acts : (w : Want) (answer : Wanted) → wanted_by w ≡ answer → (answer ≡ wanted.Start) ⊎ (answer ≡ wanted.Step) → IsStep None w
+starts_or_acts w answer e (inl start) = subst (IsStep None) (sym (is_start w (e ∙ start))) tt
+starts_or_acts w answer e (inr step) = subst (IsStep None) (sym (is_step w (e ∙ step))) tt
 
 -- a move that is the same as another has come to the same
 pub moved_as : {L : Type 0} {parts : Parts L} {events : List Event} {came : Came} {one other : Moved Standing Copy Common} → one ≡ other
     → HasMoved parts events came one → HasMoved parts events came other
 moved_as {L} {parts} {events} {came} e h = subst (HasMoved parts events came) e h
 
-module _ (c : Code) (k : Kind Standing Copy Common) (t p : ℕ) (q : Process Standing Copy) (w : WordWorld) (slots : Slots) where
+module _ (c : Code) (k : Kind Standing Copy Common) (t p : ℕ) (q : Process Standing Copy) (w : WordWorld) where
   abbrev Does : Moved Standing Copy Common
   Does = acts k t p q w (want c q.state)
 
-  abbrev StepsThere : Bool → Moved Standing Copy Common
-  StepsThere there =
-      steps k t p (alternate_for (want c q.state) q.levels) (message_for c q.state slots there (want c q.state)) q w
+  abbrev StepsThere : Option ℤ → Moved Standing Copy Common
+  StepsThere message = steps k t p (alternate_for (want c q.state) q.levels) message q w
 
   -- the same, of whatever is wanted
-  abbrev StepsBy : Bool → Want → Type 0
-  StepsBy there x = acts k t p q w x ≡ steps k t p (alternate_for x q.levels) (message_for c q.state slots there x) q w
+  abbrev StepsBy : Option ℤ → Want → Type 0
+  StepsBy message x = acts k t p q w x ≡ steps k t p (alternate_for x q.levels) message q w
 
   pub done_idles : want c q.state ≡ NothingLeft → Does ≡ idles w
   done_idles wants = ap (acts k t p q w) wants
 
-  pub send_steps : (channel : ℕ) → want c q.state ≡ SendsOn channel → has_room k w channel ≡ true → Does ≡ StepsThere false
+  pub send_steps : (channel : ℕ) → want c q.state ≡ SendsOn channel → has_room k w channel ≡ true → Does ≡ StepsThere None
   send_steps channel wants room =
-      subst (StepsBy false) (sym wants) (ap (λ (b : Bool). cond b (steps k t p 0 None q w) (waits w)) room)
+      subst (StepsBy None) (sym wants) (ap (λ (b : Bool). cond b (steps k t p 0 None q w) (waits w)) room)
 
   pub send_waits : (channel : ℕ) → want c q.state ≡ SendsOn channel → has_room k w channel ≡ false → Does ≡ waits w
   send_waits channel wants none =
       ap (acts k t p q w) wants ∙ ap (λ (b : Bool). cond b (steps k t p 0 None q w) (waits w)) none
 
-  pub receipt_steps : (channel : ℕ) → want c q.state ≡ ReceivesOn channel
-      → message_there k w channel ≡ message_for c q.state slots true (ReceivesOn channel) → Does ≡ StepsThere true
-  receipt_steps channel wants there = subst (StepsBy true) (sym wants) (ap (receives k t p q w) there)
+  pub receipt_steps : (channel : ℕ) (message : ℤ) → want c q.state ≡ ReceivesOn channel → message_there k w channel ≡ Some message
+      → Does ≡ StepsThere (Some message)
+  receipt_steps channel message wants there = subst (StepsBy (Some message)) (sym wants) (ap (receives k t p q w) there)
 
-  pub receipt_waits : (channel : ℕ) → want c q.state ≡ ReceivesOn channel
-      → message_there k w channel ≡ message_for c q.state slots false (ReceivesOn channel) → Does ≡ waits w
-  receipt_waits channel wants none = ap (acts k t p q w) wants ∙ ap (receives k t p q w) none
-
-  pub look_steps : (there : Bool) (channel : ℕ) → want c q.state ≡ MayReceiveOn channel
-      → message_there k w channel ≡ message_for c q.state slots there (MayReceiveOn channel) → Does ≡ StepsThere there
-  look_steps there channel wants is =
-      subst (StepsBy there) (sym wants) (ap (λ (message : Option ℤ). steps k t p 0 message q w) is)
+  pub look_steps : (channel : ℕ) (message : Option ℤ) → want c q.state ≡ MayReceiveOn channel → message_there k w channel ≡ message
+      → Does ≡ StepsThere message
+  look_steps channel message wants is =
+      subst (StepsBy message) (sym wants) (ap (λ (given : Option ℤ). steps k t p 0 given q w) is)
 
   pub entry_enters : (facts : Facts) → want c q.state ≡ Enters facts → Does ≡ enters k t p facts q w
   entry_enters facts wants = ap (acts k t p q w) wants
 
   pub step_steps : (answer : Wanted) → wanted_by (want c q.state) ≡ answer → (answer ≡ wanted.Start) ⊎ (answer ≡ wanted.Step)
-      → Does ≡ StepsThere false
-  step_steps answer e (inl start) = subst (StepsBy false) (sym (is_start (want c q.state) (e ∙ start))) refl
-  step_steps answer e (inr step) = subst (StepsBy false) (sym (is_step (want c q.state) (e ∙ step))) refl
+      → Does ≡ StepsThere None
+  step_steps answer e (inl start) = subst (StepsBy None) (sym (is_start (want c q.state) (e ∙ start))) refl
+  step_steps answer e (inr step) = subst (StepsBy None) (sym (is_step (want c q.state) (e ∙ step))) refl

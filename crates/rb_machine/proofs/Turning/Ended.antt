@@ -166,15 +166,15 @@ module _ {L : Type 0} (c : Code) (t p : ℕ) where
       one = way.leads.one
 
       abbrev memory : Common
-      memory = memory_of now.mails.items now.links.items
+      memory = memory_of now.mails now.links.items
 
       abbrev accepted_here : Moved Standing Copy Common
       accepted_here =
           accepted (kind_with c now.table) p one.process.levels (last_of one.process.levels) (world now) (one.process.state, memory)
 
       pub accept_comes : (procs' : List Seen) (table' : List Conversation) (middle : Parts L) (pass : Option Event) (quiet : Bool)
-          (events : List Event) → events ≡ [] → middle.procs.items ≡ procs' → middle.table ≡ table' → memory_of middle.mails.items middle.links.items ≡ memory
-          → AreSized c middle.mails.items → HasTaken memory procs' table' pass accepted_here → NoneWaits procs' → SameGroups now.table table'
+          (events : List Event) → events ≡ [] → middle.procs.items ≡ procs' → middle.table ≡ table' → memory_of middle.mails middle.links.items ≡ memory
+          → AreSized c middle.mails → HasTaken memory procs' table' pass accepted_here → NoneWaits procs' → SameGroups now.table table'
           → (quiet ≡ true → IsQuiet (record { kind = Took; pass = pass; quiet = quiet }) middle.procs.items p)
           → HasCome c t p before middle running events (record { kind = Took; pass = pass; quiet = quiet })
       accept_comes procs' table' middle pass quiet events none procs_are table_is memory_is sized takes waits groups goes =
@@ -185,8 +185,8 @@ module _ {L : Type 0} (c : Code) (t p : ℕ) where
             noted = way.noted;
             freed = way.freed;
             moved = record {
-              worlds = ap (λ (xs : List Seen). world_of xs middle.table (memory_of middle.mails.items middle.links.items)) procs_are
-                  ∙ (ap (λ (xs : List Conversation). world_of procs' xs (memory_of middle.mails.items middle.links.items)) table_is
+              worlds = ap (λ (xs : List Seen). world_of xs middle.table (memory_of middle.mails middle.links.items)) procs_are
+                  ∙ (ap (λ (xs : List Conversation). world_of procs' xs (memory_of middle.mails middle.links.items)) table_is
                   ∙ (ap (λ (m : Common). world_of procs' table' m) memory_is ∙ taken.world));
               kind = sym taken.kind;
               rejections = none ∙ sym taken.rejections;

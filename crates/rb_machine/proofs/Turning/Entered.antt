@@ -4,8 +4,8 @@ use Rattle.rb_world.specs.Kind.{Facts, Membership, Want, Enters}
 use Rattle.rb_world.specs.Slots.{Slots}
 use Rattle.rb_world.specs.World.{Level, Running, change_at, status_at}
 use Rattle.rb_world.proofs.ListFacts.{slice_get-change_at, some_same}
-use Rattle.rb_code.specs.Instructions.Plain.{Block, Code}
-use Rattle.rb_code.specs.WordMachine.Turn.{Copy, Standing, enters, want, wants_by, wants_there}
+use Rattle.rb_code.specs.Instructions.Plain.{Code}
+use Rattle.rb_code.specs.WordMachine.Turn.{Copy, Standing, want, wants_by, wants_there}
 use Rattle.rb_code.specs.SoundCode.Sound.{Entry, Fine, HasTable, Table}
 use Rattle.rb_code.specs.SoundCode.Stands.{Stands}
 use Rattle.rb_code.specs.SoundCode.WellFormed.{ListsChannels}
@@ -13,7 +13,9 @@ use Rattle.rb_code.specs.declared.instr.Instr.{Instr}
 use Rattle.rb_code.specs.declared.instr.Instr.TheVariants.{Turn, Enter}
 use Rattle.rb_conv.specs.Conversations.{Conversation, memberships}
 use Rattle.rb_proc.specs.Entries.{entered_process, state_entered}
+use Rattle.rb_proc.specs.Executable.{RestartsAt}
 use Rattle.rb_proc.specs.Process.{Seen}
+use Rattle.rb_proc.proofs.Landing.{turn_runs}
 use Rattle.rb_machine.specs.AtWork.{IsAtWork, MayActNow}
 use Rattle.rb_machine.specs.Rejections.{changed}
 use Rattle.rb_machine.specs.Telling.{GoesOn, HoldsNone}
@@ -22,19 +24,6 @@ use Rattle.rb_machine.proofs.Knowing.KnownHere.{process_there}
 use Rattle.rb_machine.proofs.Knowing.Placed.Behind.{IsBusy, behind}
 use Rattle.rb_machine.proofs.Knowing.Placed.Wants.{placed_stands}
 use Rattle.rb_machine.proofs.Releasing.Finished.{freed_same}
-
--- who stands at a `turn` is not done
-entry_runs : (b : ℕ) (block : Option Block) → status_at (enters b block) ≡ Running
-entry_runs b None = refl
-entry_runs b (Some block) = refl
-
-next_runs : (c : Code) (i : Instr) → status_at (wants_by c i) ≡ Running
-next_runs c (Enter b) = entry_runs b (slice_get c.blocks b)
-next_runs c _ = refl
-
-turn_runs : (c : Code) (next : Option Instr) → status_at (wants_there c (Some Turn) next) ≡ Running
-turn_runs c None = refl
-turn_runs c (Some i) = next_runs c i
 
 -- who has a level releases nothing, whatever it holds
 none_released : (levels : List (Level Copy)) (level : Level Copy) (s : Standing) → HoldsNone (levels ++ level ∷ []) s
@@ -62,25 +51,30 @@ module _ (c : Code) (groups : List Membership) (t : Table) where
 
 module _ (c : Code) (t : ℕ) (procs : List Seen) (table : List Conversation) (slots : Slots) (links : List Link)
     (work : IsAtWork c t procs table slots links) (p : ℕ) (one : Seen) (here : slice_get procs p ≡ Some one) (acts : MayActNow one)
-    (facts : Facts) (wants : want c one.process.state ≡ Enters facts) (alternate turn : ℕ) where
-  entered_runs : status_at (want c (state_entered turn one.process.state)) ≡ Running
-  entered_runs =
+    (facts : Facts) (wants : want c one.process.state ≡ Enters facts) where
+  -- so it is of who enters in its turn
+  pub restarts_at_work : RestartsAt c (one.process.state.at + 2)
+  restarts_at_work =
       let sound = work.sound in
       let placed = work.known.placed p one.process (process_there procs p one here) in
       let stands = placed_stands c (memberships table) sound.table sound.has sound.well.lists p one.process placed acts.running acts.away in
-      let s = one.process.state in
-      ap (λ (o : Option Instr). status_at (wants_there c o (slice_get c.instrs (s.at + 2 + 1))))
-      (restart_there c (memberships table) sound.table sound.has sound.well.lists s one.process.levels stands facts wants)
-      ∙ turn_runs c (slice_get c.instrs (s.at + 2 + 1))
+      restart_there c (memberships table) sound.table sound.has sound.well.lists one.process.state one.process.levels stands facts wants
 
-  pub entered_goes_on : (procs' : List Seen) → procs' ≡ change_at p (changed (entered_process c facts alternate turn)) procs
-      → (later : Seen) → slice_get procs' p ≡ Some later → GoesOn later
-  entered_goes_on procs' opens later found =
-      let enter = changed (entered_process c facts alternate turn) in
-      let is : enter one ≡ later =
-      some_same (sym (ap (λ (xs : List Seen). slice_get xs p) opens ∙ (slice_get-change_at p enter procs ∙ ap (option_map enter) here)) ∙ found) in
-      subst GoesOn is (record {
-        running = entered_runs;
-        same = λ code. sym (freed_same code (record (enter one) { waiting = [] })
-            (none_released one.process.levels _ (state_entered turn one.process.state)) refl);
-      })
+  module _ (alternate turn : ℕ) where
+    entered_runs : status_at (want c (state_entered turn one.process.state)) ≡ Running
+    entered_runs =
+        let to : ℕ = one.process.state.at + 2 in
+        ap (λ (o : Option Instr). status_at (wants_there c o (slice_get c.instrs (to + 1)))) restarts_at_work
+        ∙ turn_runs c (slice_get c.instrs (to + 1))
+
+    pub entered_goes_on : (procs' : List Seen) → procs' ≡ change_at p (changed (entered_process c facts alternate turn)) procs
+        → (later : Seen) → slice_get procs' p ≡ Some later → GoesOn later
+    entered_goes_on procs' opens later found =
+        let enter = changed (entered_process c facts alternate turn) in
+        let is : enter one ≡ later =
+        some_same (sym (ap (λ (xs : List Seen). slice_get xs p) opens ∙ (slice_get-change_at p enter procs ∙ ap (option_map enter) here)) ∙ found) in
+        subst GoesOn is (record {
+          running = entered_runs;
+          same = λ code. sym (freed_same code (record (enter one) { waiting = [] })
+              (none_released one.process.levels _ (state_entered turn one.process.state)) refl);
+        })

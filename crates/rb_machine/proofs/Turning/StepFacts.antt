@@ -1,6 +1,6 @@
 -- A step of a process that stands in the table of sound code: it passes links through, keeps the process's number and its last kept turn, and
 -- what it comes to has settled, also once its turn was kept.
-use Rattle.std.proofs.Common.{◌≡◌, ℕ, ◌+◌, ◌<◌, ℤ, Bool, List, [], ◌∷◌, length, Option, refl, ap, sym, subst, arith}
+use Rattle.std.proofs.Common.{◌≡◌, ℕ, ◌+◌, ◌<◌, ℤ, List, [], ◌∷◌, length, Option, refl, ap, sym, subst, arith}
 use Rattle.rb_base.specs.declared.event.Cause.{Cause}
 use Rattle.rb_cache.specs.Copies.{accepted}
 use Rattle.rb_world.specs.Kind.{Membership, Stepped, Trapped, Went, Held}
@@ -18,7 +18,7 @@ use Rattle.rb_code.proofs.Executing.SoundSteps.{standing_has_settled, steps_stan
 use Rattle.rb_code.proofs.Executing.StandingSteps.{unchanged_keeps}
 use Rattle.rb_code.proofs.Executing.StandingSteps as standing
 use Rattle.rb_code.proofs.Executing.StandsAgain.{settles_like, stands_like}
-use Rattle.rb_proc.specs.Process.{StepsTo, alternate_for, kind_of, message_for, step_of}
+use Rattle.rb_proc.specs.Process.{StepsTo, alternate_for, kind_of, step_of}
 use Rattle.rb_proc.specs.declared.answers.Outcome.TheVariants as outcome
 
 -- what a step comes to, with other links
@@ -35,13 +35,12 @@ came_relinked s slots links (Trap cause) = refl
 came_relinked s slots links (Going at operands m) = refl
 came_relinked s slots links Unfinished = refl
 
-pub step_relinked : (c : Code) (q : Process Standing Copy) (slots : Slots) (there : Bool) (links : List Link)
-    → step c (alternate_for (want c q.state) q.levels) (copy_of (last_of q.levels)) q.state (message_for c q.state slots there (want c q.state))
-    (record { slots = slots; links = links })
-    ≡ relinked links (step_of c q slots there)
-step_relinked c q slots there links =
+pub step_relinked : (c : Code) (q : Process Standing Copy) (slots : Slots) (message : Option ℤ) (links : List Link)
+    → step c (alternate_for (want c q.state) q.levels) (copy_of (last_of q.levels)) q.state message (record { slots = slots; links = links })
+    ≡ relinked links (step_of c q slots message)
+step_relinked c q slots message links =
     came_relinked q.state slots links (execute c
-    (sight q.state (alternate_for (want c q.state) q.levels) (copy_of (last_of q.levels)) (message_for c q.state slots there (want c q.state)))
+    (sight q.state (alternate_for (want c q.state) q.levels) (copy_of (last_of q.levels)) message)
     (most_steps c) (q.state.at + 1) [] (memory_of q.state slots))
 
 -- a step that went on
@@ -101,11 +100,11 @@ came_same s memory after later (Trap cause) e = absurd (let no_way : ⊥ = cc in
 came_same s memory after later (Going at operands m) e = absurd (let no_way : ⊥ = cc in no_way)
 came_same s memory after later Unfinished e = absurd (let no_way : ⊥ = cc in no_way)
 
-pub same_process : (c : Code) (q : Process Standing Copy) (slots : Slots) (there : Bool) (later : Standing) (memory : Common)
-    → step_of c q slots there ≡ Went later memory → SameProcess q.state later
-same_process c q slots there later memory e =
+pub same_process : (c : Code) (q : Process Standing Copy) (slots : Slots) (message : Option ℤ) (later : Standing) (memory : Common)
+    → step_of c q slots message ≡ Went later memory → SameProcess q.state later
+same_process c q slots message later memory e =
     came_same q.state (record { slots = slots; links = [] }) memory later (execute c
-    (sight q.state (alternate_for (want c q.state) q.levels) (copy_of (last_of q.levels)) (message_for c q.state slots there (want c q.state)))
+    (sight q.state (alternate_for (want c q.state) q.levels) (copy_of (last_of q.levels)) message)
     (most_steps c) (q.state.at + 1) [] (memory_of q.state slots)) e
 
 -- a process that is served

@@ -1,5 +1,5 @@
 -- Where a step of a process leads, in the world that the machine's parts stand for.
-use Rattle.std.proofs.Common.{◌≡◌, ℕ, ◌<◌, ℤ, Bool, List, [], ◌∷◌, ◌++◌, length, map, reverse, slice_get, Option, Some, None, option_map, refl, ap, sym, ◌∙◌, subst, true≢false}
+use Rattle.std.proofs.Common.{◌≡◌, ℕ, ◌<◌, ℤ, List, [], ◌∷◌, ◌++◌, length, map, reverse, slice_get, Option, Some, None, option_map, refl, ap, sym, ◌∙◌, subst, true≢false}
 use Rattle.std.proofs.lemmas.List.{map-append, reverse-append}
 use Rattle.rb_base.specs.declared.event.Cause.{Cause}
 use Rattle.rb_cache.specs.Copies.{accepted as accepted_in}
@@ -15,7 +15,7 @@ use Rattle.rb_code.specs.WordMachine.Turn.{Common, Copy, Link, Standing, want}
 use Rattle.rb_code.specs.WordMachine.WordRun.{WordWorld}
 use Rattle.rb_conv.specs.Conversations.{Conversation, talks}
 use Rattle.rb_conv.proofs.TalksAfterCalls.{map_changed}
-use Rattle.rb_proc.specs.Process.{Seen, StepsTo, alternate_for, message_for, step_of}
+use Rattle.rb_proc.specs.Process.{Seen, StepsTo, alternate_for, step_of}
 use Rattle.rb_proc.specs.declared.answers.Outcome.{Outcome}
 use Rattle.rb_proc.specs.declared.answers.Outcome.TheVariants as outcome
 use Rattle.rb_machine.specs.Channels.{conversation_in}
@@ -39,23 +39,20 @@ pub processes_put : (p : ℕ) (one : Seen) (procs : List Seen)
 processes_put p one procs = map_changed (λ (x : Seen). x.process) (λ _. one) (λ _. one.process) p procs (λ x e. refl)
 
 -- process number p has taken a step, and no other has changed
-pub record HasStepped (c : Code) (there : Bool) (p : ℕ) (one : Seen) (answer : Outcome) (slots slots' : Slots)
+pub record HasStepped (c : Code) (message : Option ℤ) (p : ℕ) (one : Seen) (answer : Outcome) (slots slots' : Slots)
     (procs procs' : List Seen) : Type 0 where
   pub later : Process Standing Copy
-  pub comes : StepsTo c one.process slots (step_of c one.process slots there) answer later slots'
+  pub comes : StepsTo c one.process slots (step_of c one.process slots message) answer later slots'
   pub processes : procs' ≡ change_at p (λ _. record { process = later; waiting = [] }) procs
 
 -- a process of which no released line waits
 abbrev pub calm : Process Standing Copy → Seen
 calm q = record { process = q; waiting = [] }
 
-module _ (c : Code) (table : List Conversation) (slots : Slots) (links : List Linked) (there : Bool) (turn p : ℕ) (one : Seen) (procs : List Seen)
-    (here : slice_get procs p ≡ Some one) (may : MayStep c slots there one) (number : one.process.state.process ≡ p) where
+module _ (c : Code) (table : List Conversation) (slots : Slots) (links : List Linked) (message : Option ℤ) (turn p : ℕ) (one : Seen) (procs : List Seen)
+    (here : slice_get procs p ≡ Some one) (may : MayStep c message one) (number : one.process.state.process ≡ p) where
   abbrev alternate : ℕ
   alternate = alternate_for (want c one.process.state) one.process.levels
-
-  abbrev message : Option ℤ
-  message = message_for c one.process.state slots there (want c one.process.state)
 
   abbrev before : WordWorld
   before = world_of procs table (memory_of slots links)
@@ -70,12 +67,12 @@ module _ (c : Code) (table : List Conversation) (slots : Slots) (links : List Li
   abbrev linked : List Link
   linked = (memory_of slots links).links
 
-  is_made : taken ≡ made (relinked linked (step_of c one.process slots there))
-  is_made = ap made (step_relinked c one.process slots there linked)
+  is_made : taken ≡ made (relinked linked (step_of c one.process slots message))
+  is_made = ap made (step_relinked c one.process slots message linked)
 
   -- no line waits once the turn was kept
   pub kept_waits : (answer : Outcome) (slots' : Slots) (procs1 procs' : List Seen)
-      (stepping : HasStepped c there p one answer slots slots' procs procs1)
+      (stepping : HasStepped c message p one answer slots slots' procs procs1)
       → procs' ≡ change_at p (turn_kept turn) procs1 → NoneWaits procs → NoneWaits procs'
   kept_waits answer slots' procs1 procs' stepping kept h =
       subst NoneWaits
@@ -83,10 +80,10 @@ module _ (c : Code) (table : List Conversation) (slots : Slots) (links : List Li
       (all_changed (λ (x : Seen). x.waiting ≡ []) p (λ _. turn_kept turn (calm stepping.later)) procs (λ x none. refl) h)
 
   -- it went on
-  module _ (slots' : Slots) (procs1 procs' : List Seen) (stepping : HasStepped c there p one outcome.Went slots slots' procs procs1)
+  module _ (slots' : Slots) (procs1 procs' : List Seen) (stepping : HasStepped c message p one outcome.Went slots slots' procs procs1)
       (kept : procs' ≡ change_at p (turn_kept turn) procs1) where
-    went : WentOn c one.process (step_of c one.process slots there) stepping.later slots'
-    went = went_on c one.process slots (step_of c one.process slots there) stepping.later slots' stepping.comes
+    went : WentOn c one.process (step_of c one.process slots message) stepping.later slots'
+    went = went_on c one.process slots (step_of c one.process slots message) stepping.later slots' stepping.comes
 
     abbrev now : Standing
     now = record went.later { last_kept = turn }
@@ -113,7 +110,7 @@ module _ (c : Code) (table : List Conversation) (slots : Slots) (links : List Li
           links = record { turn = turn; process = went.later.process; alternate = alternate; before = went.later.last_kept } ∷ linked;
         }
     went_memory links' e =
-        let same = same_process c one.process slots there went.later went.memory went.is in
+        let same = same_process c one.process slots message went.later went.memory went.is in
         ap (memory_of slots') e
         ∙ (newest_first slots' links (record { turn = turn; process = p; alternate = alternate; before = one.process.state.last_kept })
         ∙ (ap (λ (ss : Slots). record {
@@ -156,13 +153,13 @@ module _ (c : Code) (table : List Conversation) (slots : Slots) (links : List Li
         })
 
   -- its acceptance test held
-  module _ (slots' : Slots) (procs1 procs2 : List Seen) (stepping : HasStepped c there p one outcome.Accepts slots slots' procs procs1)
+  module _ (slots' : Slots) (procs1 procs2 : List Seen) (stepping : HasStepped c message p one outcome.Accepts slots slots' procs procs1)
       (kept : procs2 ≡ change_at p (turn_kept turn) procs1) where
     abbrev pub holder : Seen
     holder = turn_kept turn (calm stepping.later)
 
-    pub held : HeldTest one.process slots (step_of c one.process slots there) stepping.later slots'
-    held = held_test c one.process slots (step_of c one.process slots there) stepping.later slots' stepping.comes
+    pub held : HeldTest one.process slots (step_of c one.process slots message) stepping.later slots'
+    held = held_test c one.process slots (step_of c one.process slots message) stepping.later slots' stepping.comes
 
     abbrev at_test : Standing
     at_test = record held.later { last_kept = turn }
@@ -313,9 +310,9 @@ module _ (c : Code) (table : List Conversation) (slots : Slots) (links : List Li
 
   -- it trapped
   module _ (slots' : Slots) (procs1 : List Seen) (cause : Cause)
-      (stepping : HasStepped c there p one (outcome.Trap cause) slots slots' procs procs1) where
-    has_fallen : HasTrapped one.process slots cause (step_of c one.process slots there) stepping.later slots'
-    has_fallen = has_trapped c one.process slots cause (step_of c one.process slots there) stepping.later slots' stepping.comes
+      (stepping : HasStepped c message p one (outcome.Trap cause) slots slots' procs procs1) where
+    has_fallen : HasTrapped one.process slots cause (step_of c one.process slots message) stepping.later slots'
+    has_fallen = has_trapped c one.process slots cause (step_of c one.process slots message) stepping.later slots' stepping.comes
 
     -- nothing has changed
     pub same_processes : procs1 ≡ procs

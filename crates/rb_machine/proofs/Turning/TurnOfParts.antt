@@ -64,7 +64,7 @@ module _ {L : Type 0} (c : Code) (t p : ℕ) (before after : Parts L) (events : 
 
   -- the world once lines were released
   abbrev world_after : List Seen → WordWorld
-  world_after released = world_of released after.table (memory_of after.mails.items after.links.items)
+  world_after released = world_of released after.table (memory_of after.mails after.links.items)
 
   module _ (moved : HasMoved after events came moves_to) where
     abbrev moved_so : WordWorld → TurnKind → List Event → List Event → Moved Standing Copy Common
@@ -110,7 +110,7 @@ module _ {L : Type 0} (c : Code) (t p : ℕ) (before after : Parts L) (events : 
         }
 
     -- there are still as many processes as the code has
-    pub as_many_after : IsAtWork c t before.procs.items before.table before.mails.items before.links.items
+    pub as_many_after : IsAtWork c t before.procs.items before.table before.mails before.links.items
         → length after.procs.items ≡ length c.processes
     as_many_after work =
         sym (length-map after.procs.items (λ (one : Seen). one.process))
@@ -119,11 +119,11 @@ module _ {L : Type 0} (c : Code) (t p : ℕ) (before after : Parts L) (events : 
         ∙ (turn-processes Words t p (world before) ∙ work.known.processes)))
 
     -- which are few
-    pub few_after : (work : IsAtWork c t before.procs.items before.table before.mails.items before.links.items) → length after.procs.items ≤ 64
+    pub few_after : (work : IsAtWork c t before.procs.items before.table before.mails before.links.items) → length after.procs.items ≤ 64
     few_after work = omega (arith, as_many_after work, work.sound.well.few_processes, processes_few c.edition)
 
     -- and it was noted of as many whether they run
-    pub running_as_many : (running : List Bool) → IsAtWork c t before.procs.items before.table before.mails.items before.links.items
+    pub running_as_many : (running : List Bool) → IsAtWork c t before.procs.items before.table before.mails before.links.items
         → running ≡ running_of (processes_of before.procs.items) → length running ≡ length after.procs.items
     running_as_many running work is =
         ap length is
@@ -134,9 +134,9 @@ module _ {L : Type 0} (c : Code) (t p : ℕ) (before after : Parts L) (events : 
   Knows groups counts w = (sound : IsSound c groups counts) × IsKnown c groups counts sound.table (t + 1) w
 
   -- the parts are at work before the next turn
-  pub works_on : (released : List Seen) → IsAtWork c t before.procs.items before.table before.mails.items before.links.items
+  pub works_on : (released : List Seen) → IsAtWork c t before.procs.items before.table before.mails before.links.items
       → IsLeft c before after events came → t < 2 ^ 32 - 1 → world_after released ≡ (turn Words t p (world before)).0
-      → IsAtWork c (t + 1) released after.table after.mails.items after.links.items
+      → IsAtWork c (t + 1) released after.table after.mails after.links.items
   works_on released work left few is =
       let known = known_turn c (memberships before.table) (counts_of before.table) work.sound t p (world before) work.known in
       let kept : Knows (memberships after.table) (counts_of after.table) (world_after released) =

@@ -42,10 +42,10 @@ module _ {L : Type 0} (c : Code) (parts : Parts L) (taken most p : ℕ) (kind : 
   }
 
   -- and its parts are tied as before
-  pub rested_tied : (running : List Bool) (links room : ℕ) (before : Bool) (resting : Resting)
-      → IsTied c parts running links room taken most before resting → taken < most
-      → IsTied c parts running links room (taken + 1) most false resting
-  rested_tied running links room before resting tied more =
+  pub rested_tied : (running : List Bool) (before : Bool) (resting : Resting)
+      → IsTied c parts running taken most before resting → taken < most
+      → IsTied c parts running (taken + 1) most false resting
+  rested_tied running before resting tied more =
       let groups : List Membership = memberships parts.table in
       let work = tied.work in
       record {
@@ -62,8 +62,7 @@ module _ {L : Type 0} (c : Code) (parts : Parts L) (taken most p : ℕ) (kind : 
         running_is = tied.running_is;
         freed = tied.freed;
         none_waits = λ _. none;
-        links_few = omega (arith, tied.links_few);
-        links_room = tied.links_room;
+        links_room = omega (arith, tied.links_room);
         taken_few = omega (arith, more);
         most_few = tied.most_few;
         noted = rested c groups resting.rests.items resting.changed taken (world parts) tied.noted;
@@ -84,10 +83,10 @@ module _ {L : Type 0} (c : Code) (parts : Parts L) (over : AllRest c (membership
       (subst (λ m. IsKnown c groups counts sound.table m (turn (word_kind c groups) (n + t) 0 (world parts)).0) (omega arith)
       (known_turn c groups counts sound (n + t) 0 (world parts) before))
 
-  pub over_tied : (running : List Bool) (links room taken most turns : ℕ) (released : Bool) (resting : Resting)
-      → IsTied c parts running links room taken most released resting → taken ≤ turns → turns ≤ most
-      → IsTied c parts running links room turns most released resting
-  over_tied running links room taken most turns released resting tied later few =
+  pub over_tied : (running : List Bool) (taken most turns : ℕ) (released : Bool) (resting : Resting)
+      → IsTied c parts running taken most released resting → taken ≤ turns → turns ≤ most
+      → IsTied c parts running turns most released resting
+  over_tied running taken most turns released resting tied later few =
       let work = tied.work in
       let groups : List Membership = memberships parts.table in
       let number : (turns - taken) + (taken + 1) ≡ turns + 1 = omega (arith, later) in
@@ -104,8 +103,7 @@ module _ {L : Type 0} (c : Code) (parts : Parts L) (over : AllRest c (membership
         running_is = tied.running_is;
         freed = tied.freed;
         none_waits = tied.none_waits;
-        links_few = omega (arith, tied.links_few, later);
-        links_room = tied.links_room;
+        links_room = omega (arith, tied.links_room, later);
         taken_few = few;
         most_few = tied.most_few;
         noted = record { rest = tied.noted.rest; past = λ p one e. omega (arith, tied.noted.past p one e, later) };

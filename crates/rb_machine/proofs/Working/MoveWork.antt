@@ -15,7 +15,7 @@ use Rattle.rb_code.specs.Instructions.Plain.{Code}
 use Rattle.rb_code.specs.WordMachine.Turn.{Copy, Standing, want}
 use Rattle.rb_code.specs.WordMachine.WordKind.{word_kind}
 use Rattle.rb_code.specs.WordMachine.WordRun.{WordWorld}
-use Rattle.rb_proc.specs.Process.{Seen, alternate_for, message_for, wanted_by}
+use Rattle.rb_proc.specs.Process.{Seen, alternate_for, wanted_by}
 use Rattle.rb_proc.specs.declared.answers.Wanted.{Wanted}
 use Rattle.rb_proc.specs.declared.answers.Wanted.TheVariants as wanted
 use Rattle.rb_machine.specs.AtWork.{IsStep}
@@ -27,32 +27,32 @@ use Rattle.rb_machine.proofs.Turning.Acting.{is_start, is_step}
 use Rattle.rb_machine.proofs.Turning.Entering.{wants_block}
 
 -- who steps enters nothing
-pub step_is_no_entry : (there : Bool) (w : Want) → IsStep there w → is_entry w ≡ false
-step_is_no_entry there NothingLeft h = absurd h
-step_is_no_entry there (SendsOn channel) h = refl
-step_is_no_entry there (ReceivesOn channel) h = refl
-step_is_no_entry there (MayReceiveOn channel) h = refl
-step_is_no_entry there (Enters facts) h = absurd h
-step_is_no_entry there Starts h = refl
-step_is_no_entry there Acts h = refl
+pub step_is_no_entry : (message : Option ℤ) (w : Want) → IsStep message w → is_entry w ≡ false
+step_is_no_entry message NothingLeft h = absurd h
+step_is_no_entry message (SendsOn channel) h = refl
+step_is_no_entry message (ReceivesOn channel) h = refl
+step_is_no_entry message (MayReceiveOn channel) h = refl
+step_is_no_entry message (Enters facts) h = absurd h
+step_is_no_entry message Starts h = refl
+step_is_no_entry message Acts h = refl
 
 -- and who enters nothing is ready for no entry
-pub is_no_entry : (c : Code) (procs : List Seen) (p : ℕ) (one : ReadyFor) (x : Seen) → IsReadyAt c procs p one → slice_get procs p ≡ Some x
-    → is_entry (want c x.process.state) ≡ false → IsEntryReady one → ⊥
-is_no_entry c procs p (ready.Enters b) x at there none entry =
-    let found = wants_block b (want c x.process.state) (at x [] (record { slots = []; links = [] }) 0 there) in
+pub is_no_entry : (c : Code) (procs : List Seen) (slots : Slots) (p : ℕ) (one : ReadyFor) (x : Seen) → IsReadyAt c procs slots p one
+    → slice_get procs p ≡ Some x → is_entry (want c x.process.state) ≡ false → IsEntryReady one → ⊥
+is_no_entry c procs slots p (ready.Enters b) x at there none entry =
+    let found = wants_block b (want c x.process.state) (at x [] [] 0 there) in
     true≢false (ap is_entry (sym found.1) ∙ none)
-is_no_entry c procs p ready.Idle x at there none entry = entry
-is_no_entry c procs p ready.Waits x at there none entry = entry
-is_no_entry c procs p (ready.Steps there) x at here none entry = entry
+is_no_entry c procs slots p ready.Idle x at there none entry = entry
+is_no_entry c procs slots p ready.Waits x at there none entry = entry
+is_no_entry c procs slots p (ready.Steps message) x at there none entry = entry
 
 module _ (c : Code) (q : Process Standing Copy) (kind : TurnKind) where
   -- a turn that is not kept pays four ticks for looking, and so does a step
   pub looks_unkept : is_kept kind ≡ false → looking (enters_there c kind (Some q)) ≡ 4
   looks_unkept e = ap looking (and_right (is_entry (want c q.state)) (is_kept kind) e)
 
-  pub looks_stepping : (there : Bool) → IsStep there (want c q.state) → looking (enters_there c kind (Some q)) ≡ 4
-  looks_stepping there step = ap (λ (entry : Bool). looking (entry && is_kept kind)) (step_is_no_entry there (want c q.state) step)
+  pub looks_stepping : (message : Option ℤ) → IsStep message (want c q.state) → looking (enters_there c kind (Some q)) ≡ 4
+  looks_stepping message step = ap (λ (entry : Bool). looking (entry && is_kept kind)) (step_is_no_entry message (want c q.state) step)
 
 -- the words that are named in a turn
 module _ (c : Code) (groups : List Membership) (t p : ℕ) (q : Process Standing Copy) (w : WordWorld) where
@@ -63,29 +63,26 @@ module _ (c : Code) (groups : List Membership) (t p : ℕ) (q : Process Standing
       ap (named_within c groups t p q w) (sym e ∙ none) ∙ ap (λ (b : Bool). cond b 0 (named_by_acts c groups t p q w (want c q.state))) away
 
   -- and where that is a step, they are those of the step
-  module _ (slots : Slots) where
-    abbrev NamesBy : Bool → Want → Type 0
-    NamesBy there x =
-        named_by_acts c groups t p q w x ≡ named_by_steps c groups t p (alternate_for x q.levels) (message_for c q.state slots there x) q w
+  abbrev NamesBy : Option ℤ → Want → Type 0
+  NamesBy message x = named_by_acts c groups t p q w x ≡ named_by_steps c groups t p (alternate_for x q.levels) message q w
 
-    pub send_names : (channel : ℕ) → want c q.state ≡ SendsOn channel → has_room (word_kind c groups) w channel ≡ true
-        → NamesBy false (want c q.state)
-    send_names channel wants room =
-        subst (NamesBy false) (sym wants) (ap (λ (b : Bool). cond b (named_by_steps c groups t p 0 None q w) 0) room)
+  pub send_names : (channel : ℕ) → want c q.state ≡ SendsOn channel → has_room (word_kind c groups) w channel ≡ true → NamesBy None (want c q.state)
+  send_names channel wants room =
+      subst (NamesBy None) (sym wants) (ap (λ (b : Bool). cond b (named_by_steps c groups t p 0 None q w) 0) room)
 
-    pub receipt_names : (channel : ℕ) → want c q.state ≡ ReceivesOn channel
-        → message_there (word_kind c groups) w channel ≡ message_for c q.state slots true (ReceivesOn channel) → NamesBy true (want c q.state)
-    receipt_names channel wants there = subst (NamesBy true) (sym wants) (ap (named_by_receipt c groups t p q w) there)
+  pub receipt_names : (channel : ℕ) (message : ℤ) → want c q.state ≡ ReceivesOn channel
+      → message_there (word_kind c groups) w channel ≡ Some message → NamesBy (Some message) (want c q.state)
+  receipt_names channel message wants there = subst (NamesBy (Some message)) (sym wants) (ap (named_by_receipt c groups t p q w) there)
 
-    pub look_names : (there : Bool) (channel : ℕ) → want c q.state ≡ MayReceiveOn channel
-        → message_there (word_kind c groups) w channel ≡ message_for c q.state slots there (MayReceiveOn channel) → NamesBy there (want c q.state)
-    look_names there channel wants is =
-        subst (NamesBy there) (sym wants) (ap (λ (message : Option ℤ). named_by_steps c groups t p 0 message q w) is)
+  pub look_names : (channel : ℕ) (message : Option ℤ) → want c q.state ≡ MayReceiveOn channel
+      → message_there (word_kind c groups) w channel ≡ message → NamesBy message (want c q.state)
+  look_names channel message wants is =
+      subst (NamesBy message) (sym wants) (ap (λ (given : Option ℤ). named_by_steps c groups t p 0 given q w) is)
 
-    pub step_names : (answer : Wanted) → wanted_by (want c q.state) ≡ answer → (answer ≡ wanted.Start) ⊎ (answer ≡ wanted.Step)
-        → NamesBy false (want c q.state)
-    step_names answer e (inl start) = subst (NamesBy false) (sym (is_start (want c q.state) (e ∙ start))) refl
-    step_names answer e (inr step) = subst (NamesBy false) (sym (is_step (want c q.state) (e ∙ step))) refl
+  pub step_names : (answer : Wanted) → wanted_by (want c q.state) ≡ answer → (answer ≡ wanted.Start) ⊎ (answer ≡ wanted.Step)
+      → NamesBy None (want c q.state)
+  step_names answer e (inl start) = subst (NamesBy None) (sym (is_start (want c q.state) (e ∙ start))) refl
+  step_names answer e (inr step) = subst (NamesBy None) (sym (is_step (want c q.state) (e ∙ step))) refl
 
 -- ticks of looking and of the words that are named add up
 pub pays_waiting : (old now look names : ℕ) → now ≤ old + 2 → look ≡ 4 → now + 3 * 0 ≤ old + look + 3 * names
@@ -94,7 +91,7 @@ pays_waiting old now look names ready e = omega (arith, ready, e)
 pub pays_entry : (old now look names : ℕ) → now ≤ old → now + 3 * 0 ≤ old + look + 3 * names
 pays_entry old now look names entry = omega (arith, entry)
 
-pub pays_step : (old now done later look names same : ℕ) → now ≤ old + 2 → done + 3 * later ≤ now + 1 + 3 * same → look ≡ 4 → names ≡ same
+pub pays_step : (old now done later look names same : ℕ) → now ≤ old + 2 → done + 3 * later ≤ now + 3 * same → look ≡ 4 → names ≡ same
     → done + 3 * later ≤ old + look + 3 * names
 pays_step old now done later look names same ready work e is = omega (arith, ready, work, e, is)
 

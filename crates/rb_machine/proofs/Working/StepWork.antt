@@ -1,5 +1,5 @@
 -- The work of a step of process number p: the words that it names, and those that are named behind it where its test held.
-use Rattle.std.proofs.Common.{◌≡◌, ℕ, ◌+◌, ◌*◌, ◌≤◌, ℤ, Bool, List, slice_get, Option, Some, None, refl, ap, sym, ◌∙◌, subst, arith}
+use Rattle.std.proofs.Common.{◌≡◌, ℕ, ◌+◌, ◌*◌, ◌≤◌, ℤ, List, slice_get, Option, Some, None, refl, ap, sym, ◌∙◌, arith}
 use Rattle.rb_world.specs.Kind.{Stepped}
 use Rattle.rb_world.specs.Slots.{Slots}
 use Rattle.rb_world.specs.Turn.{stands_now}
@@ -8,7 +8,7 @@ use Rattle.rb_code.specs.Instructions.Plain.{Code}
 use Rattle.rb_code.specs.WordMachine.Turn.{Common, Copy, Standing, step, want}
 use Rattle.rb_code.specs.WordMachine.WordRun.{WordWorld}
 use Rattle.rb_conv.specs.Conversations.{Conversation, memberships, talks}
-use Rattle.rb_proc.specs.Process.{Seen, alternate_for, message_for, step_of}
+use Rattle.rb_proc.specs.Process.{Seen, alternate_for, step_of}
 use Rattle.rb_proc.specs.Work.{named_in_step}
 use Rattle.rb_proc.specs.declared.answers.Outcome.TheVariants as outcome
 use Rattle.rb_machine.specs.Stepping.{HasDoneAt, turn_kept}
@@ -29,11 +29,11 @@ use Rattle.rb_machine.proofs.Turning.TakenSteps.{HasStepped}
 use Rattle.rb_machine.proofs.Turning.TakenSteps as taken
 
 -- a step that names n words, with others behind it that are named later, or not at all
-kept_within : (start stepped n others later : ℕ) → stepped ≤ start + 1 + 3 * n → later ≡ others
-    → stepped + 3 * later ≤ start + 1 + 3 * (n + others)
+kept_within : (start stepped n others later : ℕ) → stepped ≤ start + 3 * n → later ≡ others
+    → stepped + 3 * later ≤ start + 3 * (n + others)
 kept_within start stepped n others later counted is = omega (arith, counted, is)
 
-ended_within : (start stepped n others : ℕ) → stepped ≤ start + 1 + 3 * n → stepped + 3 * 0 ≤ start + 1 + 3 * (n + others)
+ended_within : (start stepped n others : ℕ) → stepped ≤ start + 3 * n → stepped + 3 * 0 ≤ start + 3 * (n + others)
 ended_within start stepped n others counted = omega (arith, counted)
 
 -- what an acceptance names does not depend on slots and links
@@ -67,13 +67,10 @@ named_again c table p levels memory s q qs (Some level) = by level.facts.convers
         (record { processes = ps; talks = talks table; memory = memory }))
         (change_twice p (λ _. q) (stands_now s levels) qs)
 
-module _ {c : Code} {turn p : ℕ} {there : Bool} {procs : List Seen} {table : List Conversation} {slots : Slots} {links : List Linked}
-    (at : AtStep c turn p there procs table slots links) (one : Seen) (here : slice_get procs p ≡ Some one) where
+module _ {c : Code} {turn p : ℕ} {message : Option ℤ} {procs : List Seen} {table : List Conversation} {slots : Slots} {links : List Linked}
+    (at : AtStep c turn p message procs table slots links) (one : Seen) (here : slice_get procs p ≡ Some one) where
   abbrev alternate : ℕ
   alternate = alternate_for (want c one.process.state) one.process.levels
-
-  abbrev message : Option ℤ
-  message = message_for c one.process.state slots there (want c one.process.state)
 
   abbrev before : WordWorld
   before = world_of procs table (memory_of slots links)
@@ -87,23 +84,21 @@ module _ {c : Code} {turn p : ℕ} {there : Bool} {procs : List Seen} {table : L
 
   -- a step that names so many words
   abbrev Counted : ℕ → ℕ → Type 0
-  Counted start stepped = stepped ≤ start + 1 + 3 * named_in_step c one.process slots there
+  Counted start stepped = stepped ≤ start + 3 * named_in_step c one.process slots message
 
   -- what was told of the parts that were lent
-  pub counted_here : (procs0 : List Seen) (slots0 : Slots) (start stepped : ℕ) → procs0 ≡ procs → slots0 ≡ slots
-      → ((x : Seen) → slice_get procs0 p ≡ Some x → stepped ≤ start + 1 + 3 * named_in_step c x.process slots0 there) → Counted start stepped
-  counted_here procs0 slots0 start stepped e f h =
-      subst (λ (ss : Slots). stepped ≤ start + 1 + 3 * named_in_step c one.process ss there) f
-      (h one (ap (λ (xs : List Seen). slice_get xs p) e ∙ here))
+  pub counted_here : (procs0 : List Seen) (start stepped : ℕ) → procs0 ≡ procs
+      → ((x : Seen) → slice_get procs0 p ≡ Some x → stepped ≤ start + 3 * named_in_step c x.process slots message) → Counted start stepped
+  counted_here procs0 start stepped e h = h one (ap (λ (xs : List Seen). slice_get xs p) e ∙ here)
 
   -- a step behind which nothing is named later
-  pub ended_work : (start stepped : ℕ) → Counted start stepped → stepped + 3 * 0 ≤ start + 1 + 3 * Named
+  pub ended_work : (start stepped : ℕ) → Counted start stepped → stepped + 3 * 0 ≤ start + 3 * Named
   ended_work start stepped counted =
-      ended_within start stepped (named_in_step c one.process slots there)
+      ended_within start stepped (named_in_step c one.process slots message)
       (Behind (step c alternate (copy_of (last_of one.process.levels)) one.process.state message before.memory)) counted
 
   -- its acceptance test held
-  module _ (slots' : Slots) (procs1 procs2 procs3 procs4 : List Seen) (stepping : HasStepped c there p one outcome.Accepts slots slots' procs procs1)
+  module _ (slots' : Slots) (procs1 procs2 procs3 procs4 : List Seen) (stepping : HasStepped c message p one outcome.Accepts slots slots' procs procs1)
       (same : procs2 ≡ procs1) (kept : procs3 ≡ change_at p (turn_kept turn) procs2) (again : procs4 ≡ procs3) where
     kept1 : procs4 ≡ change_at p (turn_kept turn) procs1
     kept1 = known.kept1 at one here slots' procs1 procs2 procs3 procs4 stepping same kept again
@@ -111,8 +106,8 @@ module _ {c : Code} {turn p : ℕ} {there : Bool} {procs : List Seen} {table : L
     abbrev holder : Seen
     holder = turn_kept turn (taken.calm stepping.later)
 
-    abbrev held : HeldTest one.process slots (step_of c one.process slots there) stepping.later slots'
-    held = taken.held c table slots links there turn p one procs here (known.may at one here)
+    abbrev held : HeldTest one.process slots (step_of c one.process slots message) stepping.later slots'
+    held = taken.held c table slots links message turn p one procs here (known.may at one here)
         (known.number at one here) slots' procs1 procs4 stepping kept1
 
     abbrev at_test : Standing
@@ -121,7 +116,7 @@ module _ {c : Code} {turn p : ℕ} {there : Bool} {procs : List Seen} {table : L
     -- what is named behind the step is what the acceptance names
     behind_is : Behind (step c alternate (copy_of (last_of one.process.levels)) one.process.state message before.memory)
         ≡ named_accepted c (memberships table) p one.process.levels (last_of one.process.levels) before at_test
-    behind_is = ap Behind (step_relinked c one.process slots there before.memory.links ∙ ap (relinked before.memory.links) held.is)
+    behind_is = ap Behind (step_relinked c one.process slots message before.memory.links ∙ ap (relinked before.memory.links) held.is)
 
     -- so what the acceptance names later is what is named behind the step
     held_names : (memory : Common)
@@ -130,12 +125,12 @@ module _ {c : Code} {turn p : ℕ} {there : Bool} {procs : List Seen} {table : L
         ≡ Behind (step c alternate (copy_of (last_of one.process.levels)) one.process.state message before.memory)
     held_names memory =
         ap (λ (x : Process Standing Copy). named_accepted c (memberships table) p x.levels (last_of x.levels) (world_of procs4 table memory) x.state)
-        (taken.holder_is c table slots links there turn p one procs here (known.may at one here)
+        (taken.holder_is c table slots links message turn p one procs here (known.may at one here)
         (known.number at one here) slots' procs1 procs4 stepping kept1)
         ∙ (ap (λ (qs : List (Process Standing Copy)). named_accepted c (memberships table) p one.process.levels (last_of one.process.levels)
         (record { processes = qs; talks = talks table; memory = memory }) at_test)
         (ap processes_of
-        (taken.put_held c table slots links there turn p one procs here (known.may at one here)
+        (taken.put_held c table slots links message turn p one procs here (known.may at one here)
         (known.number at one here) slots' procs1 procs4 stepping kept1)
         ∙ taken.processes_put p holder procs)
         ∙ (named_again c table p one.process.levels memory at_test holder.process (processes_of procs) (last_of one.process.levels)
@@ -145,31 +140,31 @@ module _ {c : Code} {turn p : ℕ} {there : Bool} {procs : List Seen} {table : L
     pub held_work : (start stepped : ℕ) (memory : Common) → Counted start stepped
         → stepped
         + 3 * named_by_test c (memberships table) p (world_of procs4 table memory) (slice_get (processes_of procs4) p)
-        ≤ start + 1 + 3 * Named
+        ≤ start + 3 * Named
     held_work start stepped memory counted =
-        kept_within start stepped (named_in_step c one.process slots there)
+        kept_within start stepped (named_in_step c one.process slots message)
         (Behind (step c alternate (copy_of (last_of one.process.levels)) one.process.state message before.memory)) _ counted
         (ap (named_by_test c (memberships table) p (world_of procs4 table memory))
         (process_there procs4 p holder
-        (taken.holder_there c table slots links there turn p one procs here (known.may at one here)
+        (taken.holder_there c table slots links message turn p one procs here (known.may at one here)
         (known.number at one here) slots' procs1 procs4 stepping kept1))
         ∙ held_names memory)
 
 -- the words that a step names, with those that are named at the end of its turn
-module _ {L : Type 0} {c : Code} {turn p : ℕ} {there : Bool} {procs : List Seen} {slots : Slots} {links : List Linked} (after : Parts L)
-    (at : AtStep c turn p there procs after.table slots links) (one : Seen) (here : slice_get procs p ≡ Some one) where
-  pub step_names : (m : Move) → HasDoneAt c turn there p one m slots after.mails.items procs after.procs.items → (start stepped : ℕ)
+module _ {L : Type 0} {c : Code} {turn p : ℕ} {message : Option ℤ} {procs : List Seen} {slots : Slots} {links : List Linked} (after : Parts L)
+    (at : AtStep c turn p message procs after.table slots links) (one : Seen) (here : slice_get procs p ≡ Some one) where
+  pub step_names : (m : Move) → HasDoneAt c turn message p one m slots after.mails procs after.procs.items → (start stepped : ℕ)
       → Counted at one here start stepped
-      → stepped + 3 * named_yet c (memberships after.table) p (world after) m ≤ start + 1 + 3 * Named at one here
+      → stepped + 3 * named_yet c (memberships after.table) p (world after) m ≤ start + 3 * Named at one here
   step_names did.Went done start stepped counted = ended_work at one here start stepped counted
   step_names did.Tells done start stepped counted = ended_work at one here start stepped counted
   step_names (did.Rejects left cause) done start stepped counted = ended_work at one here start stepped counted
   step_names did.Accepts done start stepped counted =
       let k = done.does in
-      held_work at one here after.mails.items (known.calm_at after at one here k.later) (known.calm_at after at one here k.later) after.procs.items
+      held_work at one here after.mails (known.calm_at after at one here k.later) (known.calm_at after at one here k.later) after.procs.items
       after.procs.items (known.stepping after at one here outcome.Accepts k.later k.comes) refl
       (known.kept_at after at one here outcome.Accepts done.later k done.processes) refl start stepped
-      (memory_of after.mails.items after.links.items) counted
+      (memory_of after.mails after.links.items) counted
   step_names did.Rests done start stepped counted = absurd done.does
   step_names did.Waits done start stepped counted = absurd done.does
   step_names (did.Enters b) done start stepped counted = absurd done.does

@@ -1,11 +1,12 @@
 -- The two ends, as they were looked up, and the message that the receiver sees.
-use Rattle.std.proofs.Common.{◌∙◌, sym, nat_lt, arith}
+use Rattle.std.proofs.Common.{◌∙◌, ap, sym, nat_lt, arith}
 use Rattle.std.proofs.lemmas.List.{length-map}
+use Rattle.rb_world.specs.Slots.{slot_of}
 use Rattle.rb_scope.proofs.Long.{got}
 use Rattle.rb_code.specs.Instructions.Plain.{code as plain, channel as channel_of, part}
 use Rattle.rb_machine.specs.Channels.{message_given}
 use Rattle.rb_machine.proofs.Passing.CountsRead.{channel_there, receiver_within}
-use Rattle.rb_machine.proofs.Passing.RoomsAndMessages.{compared, is_of_code, message_is, sender_has_cursor}
+use Rattle.rb_machine.proofs.Passing.RoomsAndMessages.{given_if, is_of_code, message_is, sender_has_cursor}
 use Rattle.rb_machine.proofs.channels.message_there.Goals as goal
 
 pub index-requires : goal.index-requires
@@ -45,6 +46,7 @@ returns-clause-there g c groups talks memory =
     let sender = got procs one.sender c.index-procs-sender.result (omega (arith, c.if-sender-procs.false)) c.index-procs-sender.is in
     let receiver = got procs c.args.p c.index-procs-p.result c.requires.process c.index-procs-p.is in
     message_is code groups procs c.requires.numbered talks memory c.args.channel (channel_of one) there
-    c.index-procs-sender.result c.index-procs-p.result sender c.args.p c.requires.receiver receiver
-    ∙ compared (λ m n. message_given code memory.slots procs c.args.p c.args.channel (nat_lt m n)) _ _ _ _
-    (sym c.cursor-taken.ensures.cursor) (sym c.seen_count-seen.ensures.cursor)
+    c.index-procs-sender.result c.index-procs-p.result sender c.args.p c.cursor-taken.result c.seen_count-seen.result c.requires.receiver receiver
+    c.cursor-taken.ensures.cursor c.seen_count-seen.ensures.cursor
+    ∙ (given_if (nat_lt c.cursor-taken.result c.seen_count-seen.result) (slot_of code.channels memory.slots c.args.channel) c.cursor-taken.result
+    ∙ ap (message_given code memory.slots c.args.channel) (sym c.then_some.ensures))

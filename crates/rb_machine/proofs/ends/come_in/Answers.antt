@@ -48,7 +48,7 @@ end-requires g c =
         come = end_comes code c.args.turn c.args.p c.requires.way.before now c.args.running.now.items _ way c.enter-came.new.parts
             c.enter-came.new.events.items c.enter-came.result _
             (leads.moves
-            ∙ entry_enters code (kind_with code now.table) c.args.turn c.args.p leads.one.process (world now) now.mails.items wants.0 wants.1)
+            ∙ entry_enters code (kind_with code now.table) c.args.turn c.args.p leads.one.process (world now) wants.0 wants.1)
             (c.enter-came.ensures.moved wants.0 leads.one leads.there
             (λ other found. subst (λ (x : Seen). want code x.process.state ≡ Enters wants.0) (some_same (sym leads.there ∙ found)) wants.1))
             c.enter-came.ensures.left c.enter-came.ensures.took c.enter-came.ensures.quiet;
@@ -63,7 +63,7 @@ returns-clause-ended g c = λ before way.
     let wants = wants_block c.args.block (want code leads.one.process.state) leads.wants in
     let come = end_comes code c.args.turn c.args.p before now c.args.running.now.items _ way c.enter-came.new.parts
     c.enter-came.new.events.items c.enter-came.result _
-    (leads.moves ∙ entry_enters code (kind_with code now.table) c.args.turn c.args.p leads.one.process (world now) now.mails.items wants.0 wants.1)
+    (leads.moves ∙ entry_enters code (kind_with code now.table) c.args.turn c.args.p leads.one.process (world now) wants.0 wants.1)
     (c.enter-came.ensures.moved wants.0 leads.one leads.there
     (λ other found. subst (λ (x : Seen). want code x.process.state ≡ Enters wants.0) (some_same (sym leads.there ∙ found)) wants.1))
     c.enter-came.ensures.left c.enter-came.ensures.took c.enter-came.ensures.quiet in

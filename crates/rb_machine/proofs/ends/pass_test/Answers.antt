@@ -1,5 +1,5 @@
 -- The acceptance leads to where the turn leads.
-use Rattle.std.proofs.Common.{◌+◌, ◌*◌, ◌<◌, ◌≤◌, List, ap, sym, ◌∙◌, subst, refl, length, slice_get, arith}
+use Rattle.std.proofs.Common.{true, false, ◌+◌, ◌*◌, ◌<◌, ◌≤◌, List, ap, sym, ◌∙◌, subst, refl, length, slice_get, arith}
 use Rattle.std.proofs.lemmas.List.{with_items_is}
 use Rattle.std.proofs.lemmas.Option.{slice_get_within}
 use Rattle.rb_base.specs.declared.event.TurnKind.TheVariants.{Took}
@@ -55,7 +55,34 @@ end-requires g c =
     let w = c.requires.way in
     let way = w.1.way in
     let leads = way.leads in
-    let memory = memory_of now.mails.items now.links.items in
+    let memory = memory_of now.mails now.links.items in
+    let lent = ap (λ (xs : List Seen). slice_get xs c.args.p) c.deref_mut.ensures.value ∙ leads.there in
+    let takes = subst (λ (xs : List Seen). HasTaken memory c.accept-pass.new.procs c.accept-pass.new.table c.accept-pass.result
+    (accepted (kind_with code now.table) c.args.p leads.one.process.levels (last_of leads.one.process.levels) (world_of xs now.table memory)
+    (leads.one.process.state, memory))) c.deref_mut.ensures.value (c.accept-pass.ensures.taken leads.one memory lent) in
+    let q = subst (λ (xs : List Seen). IsQuiet (record { kind = Took; pass = c.accept-pass.result; quiet = c.ends_quietly.result }) xs c.args.p)
+    c.deref.ensures.value (c.ends_quietly.ensures c.if-ends_quietly.true) in
+    record {
+      come = record {
+        code = code;
+        turn = w.0;
+        before = w.1.before;
+        come = accept_comes code w.0 c.args.p w.1.before now c.args.running.now.items way c.accept-pass.new.procs c.accept-pass.new.table _
+            c.accept-pass.result true c.args.report.now.events.items (none_there c.args.report.now.events.items c.requires.none)
+            (with_items_is now.procs c.accept-pass.new.procs (omega (arith, c.accept-pass.auto.procs, c.deref_mut.ensures.len))) refl refl
+            way.stays.sized takes c.accept-pass.ensures.waits c.accept-pass.ensures.groups
+            (λ e. record { kind = q.kind; none = q.none; goes_on = q.goes_on });
+      };
+    }
+
+pub end-requires-else-ends_quietly : goal.end-requires-else-ends_quietly
+end-requires-else-ends_quietly g c =
+    let code = plain c.args.code.now in
+    let now = c.args.parts.now in
+    let w = c.requires.way in
+    let way = w.1.way in
+    let leads = way.leads in
+    let memory = memory_of now.mails now.links.items in
     let lent = ap (λ (xs : List Seen). slice_get xs c.args.p) c.deref_mut.ensures.value ∙ leads.there in
     let takes = subst (λ (xs : List Seen). HasTaken memory c.accept-pass.new.procs c.accept-pass.new.table c.accept-pass.result
     (accepted (kind_with code now.table) c.args.p leads.one.process.levels (last_of leads.one.process.levels) (world_of xs now.table memory)
@@ -66,20 +93,19 @@ end-requires g c =
         turn = w.0;
         before = w.1.before;
         come = accept_comes code w.0 c.args.p w.1.before now c.args.running.now.items way c.accept-pass.new.procs c.accept-pass.new.table _
-            c.accept-pass.result c.ends_quietly-quiet.result c.args.report.now.events.items (none_there c.args.report.now.events.items c.requires.none)
+            c.accept-pass.result false c.args.report.now.events.items (none_there c.args.report.now.events.items c.requires.none)
             (with_items_is now.procs c.accept-pass.new.procs (omega (arith, c.accept-pass.auto.procs, c.deref_mut.ensures.len))) refl refl
             way.stays.sized takes c.accept-pass.ensures.waits c.accept-pass.ensures.groups
-            (λ e. subst (λ (xs : List Seen). IsQuiet (record { kind = Took; pass = c.accept-pass.result; quiet = c.ends_quietly-quiet.result }) xs c.args.p)
-            c.deref.ensures.value (c.ends_quietly-quiet.ensures e));
+            (λ e. absurd (cc));
       };
     }
 
-pub returns-clause-ended : goal.returns-clause-ended
-returns-clause-ended g c = λ t before way.
+pub returns-then-ends_quietly-clause-ended : goal.returns-then-ends_quietly-clause-ended
+returns-then-ends_quietly-clause-ended g c = λ t before way.
     let code = plain c.args.code.now in
     let now = c.args.parts.now in
     let leads = way.leads in
-    let memory = memory_of now.mails.items now.links.items in
+    let memory = memory_of now.mails now.links.items in
     let lent = ap (λ (xs : List Seen). slice_get xs c.args.p) c.deref_mut.ensures.value ∙ leads.there in
     let takes = subst (λ (xs : List Seen). HasTaken memory c.accept-pass.new.procs c.accept-pass.new.table c.accept-pass.result
     (accepted (kind_with code now.table) c.args.p leads.one.process.levels (last_of leads.one.process.levels) (world_of xs now.table memory)
@@ -88,11 +114,34 @@ returns-clause-ended g c = λ t before way.
     ≤ c.args.steps.now
     + 3 * named_accepted code (memberships now.table) c.args.p leads.one.process.levels (last_of leads.one.process.levels)
     (world_of xs now.table memory) leads.one.process.state) c.deref_mut.ensures.value (c.accept-pass.ensures.work leads.one memory lent) in
+    let q = subst (λ (xs : List Seen). IsQuiet (record { kind = Took; pass = c.accept-pass.result; quiet = c.ends_quietly.result }) xs c.args.p)
+    c.deref.ensures.value (c.ends_quietly.ensures c.if-ends_quietly.true) in
     has_ended code t c.args.p before now c.args.running.now.items c.args.steps.now c.accept-pass.new.steps _ c.end.ensures.finished
     (accept_comes code t c.args.p before now c.args.running.now.items way c.accept-pass.new.procs c.accept-pass.new.table _ c.accept-pass.result
-    c.ends_quietly-quiet.result c.args.report.now.events.items (none_there c.args.report.now.events.items c.requires.none)
+    true c.args.report.now.events.items (none_there c.args.report.now.events.items c.requires.none)
     (with_items_is now.procs c.accept-pass.new.procs (omega (arith, c.accept-pass.auto.procs, c.deref_mut.ensures.len))) refl refl
     way.stays.sized takes c.accept-pass.ensures.waits c.accept-pass.ensures.groups
-    (λ e. subst (λ (xs : List Seen). IsQuiet (record { kind = Took; pass = c.accept-pass.result; quiet = c.ends_quietly-quiet.result }) xs c.args.p)
-    c.deref.ensures.value (c.ends_quietly-quiet.ensures e)))
+    (λ e. record { kind = q.kind; none = q.none; goes_on = q.goes_on }))
     (omega (arith, names, accept_names code t c.args.p before now c.args.running.now.items way)) c.end.ensures.work
+
+pub returns-else-ends_quietly-clause-ended : goal.returns-else-ends_quietly-clause-ended
+returns-else-ends_quietly-clause-ended g c = λ t before way.
+    let code = plain c.args.code.now in
+    let now = c.args.parts.now in
+    let leads = way.leads in
+    let memory = memory_of now.mails now.links.items in
+    let lent = ap (λ (xs : List Seen). slice_get xs c.args.p) c.deref_mut.ensures.value ∙ leads.there in
+    let takes = subst (λ (xs : List Seen). HasTaken memory c.accept-pass.new.procs c.accept-pass.new.table c.accept-pass.result
+    (accepted (kind_with code now.table) c.args.p leads.one.process.levels (last_of leads.one.process.levels) (world_of xs now.table memory)
+    (leads.one.process.state, memory))) c.deref_mut.ensures.value (c.accept-pass.ensures.taken leads.one memory lent) in
+    let names = subst (λ (xs : List Seen). c.accept-pass.new.steps
+    ≤ c.args.steps.now
+    + 3 * named_accepted code (memberships now.table) c.args.p leads.one.process.levels (last_of leads.one.process.levels)
+    (world_of xs now.table memory) leads.one.process.state) c.deref_mut.ensures.value (c.accept-pass.ensures.work leads.one memory lent) in
+    has_ended code t c.args.p before now c.args.running.now.items c.args.steps.now c.accept-pass.new.steps _ c.end-else-ends_quietly.ensures.finished
+    (accept_comes code t c.args.p before now c.args.running.now.items way c.accept-pass.new.procs c.accept-pass.new.table _ c.accept-pass.result
+    false c.args.report.now.events.items (none_there c.args.report.now.events.items c.requires.none)
+    (with_items_is now.procs c.accept-pass.new.procs (omega (arith, c.accept-pass.auto.procs, c.deref_mut.ensures.len))) refl refl
+    way.stays.sized takes c.accept-pass.ensures.waits c.accept-pass.ensures.groups
+    (λ e. absurd (cc)))
+    (omega (arith, names, accept_names code t c.args.p before now c.args.running.now.items way)) c.end-else-ends_quietly.ensures.work

@@ -17,7 +17,7 @@ use Rattle.rb_machine.specs.Telling.{takes_nothing_back}
 use Rattle.rb_machine.specs.Worlds.{NoneWaits, memory_of, world_of}
 use Rattle.rb_machine.proofs.Turning.Acting.{moved_as}
 use Rattle.rb_machine.proofs.Turning.Ended.{not_quiet}
-use Rattle.rb_machine.proofs.Turning.Entered.{entered_goes_on}
+use Rattle.rb_machine.proofs.Turning.Entered.{entered_goes_on, restarts_at_work}
 use Rattle.rb_machine.proofs.Turning.Entering.{entry_trapped, few_levels, has_failed, has_opened, is_listed, wants_block}
 use Rattle.rb_machine.proofs.Knowing.KnownHere.{are_quiet, may_reject}
 use Rattle.rb_machine.proofs.Rejecting.QuietProcesses.{waits_at}
@@ -29,7 +29,7 @@ undo-requires-clause-may g c =
     let procs = parts.procs.items in
     let work = c.requires.work.work in
     let here = slice_get_read procs (length procs) c.args.p c.index.result.now refl c.requires.process c.index.ensures in
-    may_reject (plain c.args.code.now) parts.table work.sound (c.args.turn + 1) procs (memory_of parts.mails.items parts.links.items) work.known
+    may_reject (plain c.args.code.now) parts.table work.sound (c.args.turn + 1) procs (memory_of parts.mails parts.links.items) work.known
     c.args.p c.levels-levels.result
     (λ one there. omega (arith, c.levels-levels.ensures, ap (λ (x : Seen). length x.process.levels) (some_same (sym here ∙ there))))
 
@@ -37,7 +37,7 @@ pub undo-requires-clause-quiet : goal.undo-requires-clause-quiet
 undo-requires-clause-quiet g c =
     let parts = c.args.parts.now in
     let work = c.requires.work.work in
-    are_quiet (plain c.args.code.now) parts.table work.sound (c.args.turn + 1) parts.procs.items (memory_of parts.mails.items parts.links.items)
+    are_quiet (plain c.args.code.now) parts.table work.sound (c.args.turn + 1) parts.procs.items (memory_of parts.mails parts.links.items)
     work.known work.few c.requires.work.waits
 
 pub undo-requires-clause-few : goal.undo-requires-clause-few
@@ -49,7 +49,7 @@ undo-requires-clause-few g c =
     omega (
       arith,
       c.levels-levels.ensures,
-      few_levels (plain c.args.code.now) (c.args.turn + 1) procs parts.table parts.mails.items parts.links.items
+      few_levels (plain c.args.code.now) (c.args.turn + 1) procs parts.table parts.mails parts.links.items
           c.requires.work.work c.args.p one here (c.requires.acting one here),
     )
 
@@ -62,7 +62,7 @@ returns-then-levels-ge-MOST_OPEN_LEVELS-clause-moved g c facts one there wants =
     let levels : c.levels-levels.result ≡ length one.process.levels =
     c.levels-levels.ensures ∙ ap (λ (x : Seen). length x.process.levels) (some_same (sym here ∙ there)) in
     moved_as (sym
-    (entry_trapped code parts.table parts.mails.items parts.links.items c.args.turn c.args.p procs facts one there c.levels-levels.result levels
+    (entry_trapped code parts.table parts.mails parts.links.items c.args.turn c.args.p procs facts one there c.levels-levels.result levels
     c.if-levels-ge-MOST_OPEN_LEVELS.true))
     (c.undo.ensures.moved code)
 
@@ -83,8 +83,21 @@ alternate_for-requires g c =
     let one = c.index.result.now in
     let here = slice_get_read procs (length procs) c.args.p one refl c.requires.process c.index.ensures in
     let wants = wants_block c.args.block (want code one.process.state) (c.requires.wants one here) in
-    is_listed code (c.args.turn + 1) procs parts.table parts.mails.items parts.links.items c.requires.work.work c.args.p one here
+    is_listed code (c.args.turn + 1) procs parts.table parts.mails parts.links.items c.requires.work.work c.args.p one here
     (c.requires.acting one here) c.args.block wants.0 wants.1 wants.2
+
+pub open-requires-clause-acting : goal.open-requires-clause-acting
+open-requires-clause-acting g c one there =
+    c.requires.acting one (ap (λ (xs : List Seen). slice_get xs c.args.p) (sym c.deref_mut-in-Some.ensures.value) ∙ there)
+
+pub open-requires-clause-restart : goal.open-requires-clause-restart
+open-requires-clause-restart g c one there =
+    let code = plain c.args.code.now in
+    let parts = c.args.parts.now in
+    let here = ap (λ (xs : List Seen). slice_get xs c.args.p) (sym c.deref_mut-in-Some.ensures.value) ∙ there in
+    let wants = wants_block c.args.block (want code one.process.state) (c.requires.wants one here) in
+    restarts_at_work code (c.args.turn + 1) parts.procs.items parts.table parts.mails parts.links.items c.requires.work.work c.args.p one here
+    (c.requires.acting one here) wants.0 wants.1
 
 pub open-requires-clause-shallow : goal.open-requires-clause-shallow
 open-requires-clause-shallow g c one there =
@@ -106,7 +119,7 @@ returns-in-None-clause-moved g c facts one there wants =
     let few : length one.process.levels < 32 =
     omega (arith, c.levels-levels.ensures, ap (λ (x : Seen). length x.process.levels) (some_same (sym here ∙ there))) in
     let number = subst (WantsBlock c.args.block) (wants one there) (c.requires.wants one there) in
-    let h = has_failed code (c.args.turn + 1) procs parts.table parts.mails.items parts.links.items c.requires.work.work c.args.p one there
+    let h = has_failed code (c.args.turn + 1) procs parts.table parts.mails parts.links.items c.requires.work.work c.args.p one there
     (c.requires.acting one there) c.args.block facts (wants one there) number c.args.turn few c.alternate_for.result c.alternate_for.ensures.alternate
     c.fail.new.procs c.alternate_for.new.table c.alternate_for.ensures.talks c.in-None.is
     (subst
@@ -114,7 +127,7 @@ returns-in-None-clause-moved g c facts one there wants =
     (c.fail.ensures code)) in
     let kept = with_items_is parts.procs c.fail.new.procs (omega (arith, c.fail.auto.procs, c.deref_mut.ensures.len)) in
     record {
-      worlds = ap (λ (xs : List Seen). world_of xs c.alternate_for.new.table (memory_of parts.mails.items parts.links.items)) kept ∙ h.world;
+      worlds = ap (λ (xs : List Seen). world_of xs c.alternate_for.new.table (memory_of parts.mails parts.links.items)) kept ∙ h.world;
       kind = c.without_pass.ensures.kind ∙ h.kind;
       rejections = none_there c.args.events.now.items c.requires.none ∙ h.rejections;
       passes = ap passes_of c.without_pass.ensures.pass ∙ h.passes;
@@ -153,13 +166,13 @@ returns-in-Some-clause-moved g c facts one there wants =
     let opens = subst
     (λ (xs : List Seen). c.open.new.procs ≡ change_at c.args.p (changed (entered_process code facts c.in-Some.alternate c.args.turn)) xs)
     c.deref_mut-in-Some.ensures.value (c.open.ensures.processes one facts lent (wants one there)) in
-    let h = has_opened code (c.args.turn + 1) procs parts.table parts.mails.items parts.links.items c.requires.work.work c.args.p one there
+    let h = has_opened code (c.args.turn + 1) procs parts.table parts.mails parts.links.items c.requires.work.work c.args.p one there
     (c.requires.acting one there) c.args.block facts (wants one there) number c.args.turn few c.alternate_for.result c.alternate_for.ensures.alternate
     c.open.new.procs c.alternate_for.new.table c.alternate_for.ensures.talks c.in-Some.alternate c.in-Some.is opens
     c.open.new.links.items (c.open.ensures.links one lent) in
     let kept = with_items_is parts.procs c.open.new.procs (omega (arith, c.open.auto.procs, c.deref_mut-in-Some.ensures.len)) in
     record {
-      worlds = ap (λ (xs : List Seen). world_of xs c.alternate_for.new.table (memory_of parts.mails.items c.open.new.links.items)) kept ∙ h.world;
+      worlds = ap (λ (xs : List Seen). world_of xs c.alternate_for.new.table (memory_of parts.mails c.open.new.links.items)) kept ∙ h.world;
       kind = c.quietly.ensures.kind ∙ h.kind;
       rejections = none_there c.args.events.now.items c.requires.none ∙ h.rejections;
       passes = ap passes_of c.quietly.ensures.pass ∙ h.passes;
@@ -205,6 +218,6 @@ returns-in-Some-clause-quiet g c = λ e.
     record {
       kind = ap takes_nothing_back c.quietly.ensures.kind;
       none = ap passes_of c.quietly.ensures.pass;
-      goes_on = entered_goes_on code (c.args.turn + 1) procs parts.table parts.mails.items parts.links.items c.requires.work.work c.args.p one here
+      goes_on = entered_goes_on code (c.args.turn + 1) procs parts.table parts.mails parts.links.items c.requires.work.work c.args.p one here
           (c.requires.acting one here) wants.0 wants.1 c.in-Some.alternate c.args.turn _ (kept ∙ opens);
     }

@@ -5,4 +5,4 @@ use Rattle.rb_code.specs.Instructions.Plain.{channel}
 use Rattle.rb_machine.proofs.loading.load_mails.Given as goal
 
 abbrev pub invariant-loop-channel : goal.invariant-loop-channel
-invariant-loop-channel l = l.mails.items ≡ zero_slots (map channel (take l.channel-index l.channels))
+invariant-loop-channel l = l.mails ≡ zero_slots (map channel (take l.channel-index l.channels))

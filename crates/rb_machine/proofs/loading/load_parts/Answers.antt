@@ -46,7 +46,7 @@ returns-clause-seen g c =
     opens_as (plain c.args.code.now) c.args.nested.now c.requires.sound c.args.turns _ _ _ _ c.in_ok-procs.ensures
     c.in_ok-table.ensures.opening
     (c.in_ok-mails.ensures ∙ ap (λ (channels : List ChannelCode). zero_slots (map channel channels)) c.deref.ensures.value)
-    c.in_ok-links.ensures.items
+    c.requires.none
 
 pub returns-clause-tied : goal.returns-clause-tied
 returns-clause-tied g c = record {
@@ -56,12 +56,11 @@ returns-clause-tied g c = record {
       (c.is_numbered.ensures.alternates c.if-not-is_numbered.false) c.in_ok-procs.ensures
       c.in_ok-table.ensures.opening
       (c.in_ok-mails.ensures ∙ ap (λ (channels : List ChannelCode). zero_slots (map channel channels)) c.deref.ensures.value)
-      c.in_ok-links.ensures.items;
+      c.requires.none;
   running_is = c.in_ok-running.ensures ∙ ap (λ (procs : List Seen). running_of (processes_of procs)) c.deref-2.ensures.value;
   freed = opens_freed (plain c.args.code.now) c.args.nested.now c.requires.sound _ c.in_ok-procs.ensures;
   none_waits = λ _. none_wait _ (length (plain c.args.code.now).processes) (ap (λ (machine : Machine). machine.waiting) (returns-clause-seen g c));
-  links_few = omega (arith, c.in_ok-links.ensures.len);
-  links_room = omega (arith, c.in_ok-links.ensures.capacity);
+  links_room = omega (arith, c.requires.room);
   taken_few = omega arith;
   most_few = c.requires.turns;
   noted =
@@ -72,7 +71,7 @@ returns-clause-tied g c = record {
         procs = c.in_ok-procs.procs;
         mails = c.in_ok-mails.mails;
         table = c.in_ok-table.table;
-        links = c.in_ok-links.links;
+        links = c.args.links;
       }) in
       let none : List Rest = replicate c.len.result (record { since = 0; kind = Idle }) in
       subst (λ (rests : List Rest). AreNoted code groups first rests resting.changed 0) (sym c.in_ok-resting.ensures.rests)

@@ -1,14 +1,13 @@
 use Rattle.std.proofs.Common.{w64, ◌∙◌, sym, arith, rules}
 use Rattle.std.proofs.lemmas.Int.{to_z-of_z}
-use Rattle.rb_proc.proofs.Stepping.{slot_none, slot_there}
+use Rattle.rb_proc.proofs.Mailed.{slot_none, slot_there}
 use Rattle.rb_machine.proofs.looking.message_at.Goals as goal
 
-pub returns-then-channel-mails : goal.returns-then-channel-mails
-returns-then-channel-mails c code sized =
+pub returns-then-channel-len : goal.returns-then-channel-len
+returns-then-channel-len c code sized =
     sym (to_z-of_z w64 c.get.result (search rules)
-    ∙ slot_there code.channels c.args.mails.now c.args.channel c.args.number c.index-mails-channel.result c.get.result sized
-    c.index-mails-channel.is c.if-channel-mails.true c.get.ensures)
+    ∙ slot_there code.channels c.args.mails.now c.args.channel c.args.number c.get.result sized (omega arith) c.get.ensures)
 
-pub returns-else-channel-mails : goal.returns-else-channel-mails
-returns-else-channel-mails c code sized =
+pub returns-else-channel-len : goal.returns-else-channel-len
+returns-else-channel-len c code sized =
     sym (slot_none code.channels c.args.mails.now c.args.channel _ (omega arith))

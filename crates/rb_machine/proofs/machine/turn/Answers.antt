@@ -55,7 +55,6 @@ returns g c =
       running = ended.turned.running_is;
       freed = ended.turned.freed;
       none_waits = ended.turned.none_waits;
-      links = omega (arith, c.end_turn.ensures.links, moved.ensures.links);
       room = omega (arith, c.end_turn.ensures.room, moved.ensures.room);
       work = work;
       entry =

@@ -17,7 +17,7 @@ use Rattle.rb_machine.proofs.moves.act.Goals as goal
 pub want_next-wanted-requires : goal.want_next-wanted-requires
 want_next-wanted-requires g c =
     let parts = c.args.parts.now in
-    next_read (plain c.args.code.now) (c.args.turn + 1) parts.procs.items parts.table parts.mails.items parts.links.items c.requires.work.work
+    next_read (plain c.args.code.now) (c.args.turn + 1) parts.procs.items parts.table parts.mails parts.links.items c.requires.work.work
     c.args.p c.index.result.now c.requires.process c.index.ensures c.requires.acting
 
 pub ready-requires-clause-numbered : goal.ready-requires-clause-numbered
@@ -25,14 +25,14 @@ ready-requires-clause-numbered g c =
     let code = plain c.args.code.now in
     let parts = c.args.parts.now in
     subst (AreNumbered code) (sym c.deref.ensures.value)
-    (numbered_at_work code (c.args.turn + 1) parts.procs.items parts.table parts.mails.items parts.links.items c.requires.work.work)
+    (numbered_at_work code (c.args.turn + 1) parts.procs.items parts.table parts.mails parts.links.items c.requires.work.work)
 
 pub ready-requires-clause-receiver : goal.ready-requires-clause-receiver
 ready-requires-clause-receiver g c =
     let code = plain c.args.code.now in
     let parts = c.args.parts.now in
     subst (λ (xs : List Seen). ReceivesThere code xs c.args.p) (sym c.deref.ensures.value)
-    (receives_there code (c.args.turn + 1) parts.procs.items parts.table parts.mails.items parts.links.items c.requires.work.work c.args.p
+    (receives_there code (c.args.turn + 1) parts.procs.items parts.table parts.mails parts.links.items c.requires.work.work c.args.p
     c.requires.acting)
 
 pub ready-requires-clause-wanted : goal.ready-requires-clause-wanted
@@ -46,9 +46,9 @@ pub take_step-requires-clause-step : goal.take_step-requires-clause-step
 take_step-requires-clause-step g c one there =
     let code = plain c.args.code.now in
     let parts = c.args.parts.now in
-    let at = subst (λ (xs : List Seen). IsReadyAt code xs c.args.p c.ready.result) c.deref.ensures.value c.ready.ensures.ready in
-    let fit = subst (IsReadyAt code parts.procs.items c.args.p) c.in-Steps.is at in
-    (fit one parts.table (memory_of parts.mails.items parts.links.items) c.args.turn there).0
+    let at = subst (λ (xs : List Seen). IsReadyAt code xs parts.mails c.args.p c.ready.result) c.deref.ensures.value c.ready.ensures.ready in
+    let fit = subst (IsReadyAt code parts.procs.items parts.mails c.args.p) c.in-Steps.is at in
+    (fit one parts.table (memory_of parts.mails parts.links.items).links c.args.turn there).0
 
 pub take_step-requires-clause-wanted : goal.take_step-requires-clause-wanted
 take_step-requires-clause-wanted g c =
@@ -59,30 +59,30 @@ pub returns-in-Idle-clause-leads : goal.returns-in-Idle-clause-leads
 returns-in-Idle-clause-leads g c one there =
     let code = plain c.args.code.now in
     let parts = c.args.parts.now in
-    let at = subst (λ (xs : List Seen). IsReadyAt code xs c.args.p c.ready.result) c.deref.ensures.value c.ready.ensures.ready in
-    let fit = subst (IsReadyAt code parts.procs.items c.args.p) c.in-Idle.is at in
-    fit one parts.table (memory_of parts.mails.items parts.links.items) c.args.turn there
+    let at = subst (λ (xs : List Seen). IsReadyAt code xs parts.mails c.args.p c.ready.result) c.deref.ensures.value c.ready.ensures.ready in
+    let fit = subst (IsReadyAt code parts.procs.items parts.mails c.args.p) c.in-Idle.is at in
+    fit one parts.table (memory_of parts.mails parts.links.items).links c.args.turn there
 
 pub returns-in-Waits-clause-leads : goal.returns-in-Waits-clause-leads
 returns-in-Waits-clause-leads g c one there =
     let code = plain c.args.code.now in
     let parts = c.args.parts.now in
-    let at = subst (λ (xs : List Seen). IsReadyAt code xs c.args.p c.ready.result) c.deref.ensures.value c.ready.ensures.ready in
-    let fit = subst (IsReadyAt code parts.procs.items c.args.p) c.in-Waits.is at in
-    fit one parts.table (memory_of parts.mails.items parts.links.items) c.args.turn there
+    let at = subst (λ (xs : List Seen). IsReadyAt code xs parts.mails c.args.p c.ready.result) c.deref.ensures.value c.ready.ensures.ready in
+    let fit = subst (IsReadyAt code parts.procs.items parts.mails c.args.p) c.in-Waits.is at in
+    fit one parts.table (memory_of parts.mails parts.links.items).links c.args.turn there
 
 pub returns-in-Enters-clause-leads : goal.returns-in-Enters-clause-leads
 returns-in-Enters-clause-leads g c one there =
     let code = plain c.args.code.now in
     let parts = c.args.parts.now in
-    let at = subst (λ (xs : List Seen). IsReadyAt code xs c.args.p c.ready.result) c.deref.ensures.value c.ready.ensures.ready in
-    let fit = subst (IsReadyAt code parts.procs.items c.args.p) c.in-Enters.is at in
+    let at = subst (λ (xs : List Seen). IsReadyAt code xs parts.mails c.args.p c.ready.result) c.deref.ensures.value c.ready.ensures.ready in
+    let fit = subst (IsReadyAt code parts.procs.items parts.mails c.args.p) c.in-Enters.is at in
     record {
       one = one;
       there = there;
       work = c.requires.work;
       acting = c.requires.acting;
-      wants = fit one parts.table (memory_of parts.mails.items parts.links.items) c.args.turn there;
+      wants = fit one parts.table (memory_of parts.mails parts.links.items).links c.args.turn there;
       room = c.requires.room;
       moves = refl;
       costs = λ kind events after. refl;
@@ -92,10 +92,10 @@ pub returns-in-Steps-clause-leads : goal.returns-in-Steps-clause-leads
 returns-in-Steps-clause-leads g c one there =
     let code = plain c.args.code.now in
     let parts = c.args.parts.now in
-    let at = subst (λ (xs : List Seen). IsReadyAt code xs c.args.p c.ready.result) c.deref.ensures.value c.ready.ensures.ready in
-    let fit = subst (IsReadyAt code parts.procs.items c.args.p) c.in-Steps.is at in
+    let at = subst (λ (xs : List Seen). IsReadyAt code xs parts.mails c.args.p c.ready.result) c.deref.ensures.value c.ready.ensures.ready in
+    let fit = subst (IsReadyAt code parts.procs.items parts.mails c.args.p) c.in-Steps.is at in
     leads_as code c.args.turn c.args.p (processes_of parts.procs.items) c.take_step.new.parts c.take_step.result
-    (sym (fit one parts.table (memory_of parts.mails.items parts.links.items) c.args.turn there).1) (c.take_step.ensures.leads one there)
+    (sym (fit one parts.table (memory_of parts.mails parts.links.items).links c.args.turn there).1) (c.take_step.ensures.leads one there)
 
 pub returns-in-Idle-clause-stays : goal.returns-in-Idle-clause-stays
 returns-in-Idle-clause-stays g c = record { table = refl; waits = c.requires.work.waits; sized = c.requires.work.work.sized }
@@ -126,8 +126,8 @@ pub returns-in-Steps-clause-work : goal.returns-in-Steps-clause-work
 returns-in-Steps-clause-work g c one there =
     let code = plain c.args.code.now in
     let parts = c.args.parts.now in
-    let at = subst (λ (xs : List Seen). IsReadyAt code xs c.args.p c.ready.result) c.deref.ensures.value c.ready.ensures.ready in
-    let fit = subst (IsReadyAt code parts.procs.items c.args.p) c.in-Steps.is at in
-    let ready = fit one parts.table (memory_of parts.mails.items parts.links.items) c.args.turn there in
+    let at = subst (λ (xs : List Seen). IsReadyAt code xs parts.mails c.args.p c.ready.result) c.deref.ensures.value c.ready.ensures.ready in
+    let fit = subst (IsReadyAt code parts.procs.items parts.mails c.args.p) c.in-Steps.is at in
+    let ready = fit one parts.table (memory_of parts.mails parts.links.items).links c.args.turn there in
     pays_step _ _ _ _ _ _ _ c.ready.ensures.work (c.take_step.ensures.work one there)
-    (looks_stepping code one.process _ c.in-Steps.there ready.0) ready.2
+    (looks_stepping code one.process _ c.in-Steps.message ready.0) ready.2

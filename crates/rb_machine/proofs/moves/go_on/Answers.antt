@@ -44,10 +44,10 @@ returns-in-Some-clause-leads g c one there =
     let few = work.known.shallow c.args.p one.process (process_there parts.procs.items c.args.p one there) in
     record {
       there = c.requires.process;
-      may = may_reject code parts.table work.sound (c.args.turn + 1) parts.procs.items (memory_of parts.mails.items parts.links.items) work.known
+      may = may_reject code parts.table work.sound (c.args.turn + 1) parts.procs.items (memory_of parts.mails parts.links.items) work.known
           c.args.p (c.in-Some.level + 1)
           (λ x found. omega (arith, position_within is_over x.process.levels c.in-Some.level (sym (c.requires.over x found) ∙ c.in-Some.is)));
-      quiet = are_quiet code parts.table work.sound (c.args.turn + 1) parts.procs.items (memory_of parts.mails.items parts.links.items) work.known
+      quiet = are_quiet code parts.table work.sound (c.args.turn + 1) parts.procs.items (memory_of parts.mails parts.links.items) work.known
           work.few c.requires.work.waits;
       few = omega (arith, within, few);
       moves = overrun_rejects (kind_with code parts.table) c.args.turn c.args.p (world parts) one.process c.args.over c.in-Some.level

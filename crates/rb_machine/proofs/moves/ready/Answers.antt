@@ -17,23 +17,26 @@ send-requires-clause-wants g c one there =
 pub receive-requires-clause-receiver : goal.receive-requires-clause-receiver
 receive-requires-clause-receiver g c =
     let here = slice_get-there c.args.procs.now c.args.p c.requires.process in
-    receiver_here (plain c.args.code.now) c.args.procs.now c.args.p c.args.wanted c.requires.wanted c.in-Message.channel c.in-Message.is
+    receiver_here (plain c.args.code.now) c.args.procs.now c.args.mails.now c.args.p c.args.wanted c.requires.wanted c.in-Message.channel c.in-Message.is
     here.0 here.1 c.requires.receiver
 
 pub receive-requires-clause-wants : goal.receive-requires-clause-wants
 receive-requires-clause-wants g c one there =
-    receipt_here (plain c.args.code.now) c.args.procs.now c.args.p c.args.wanted c.requires.wanted c.in-Message.channel c.in-Message.is
+    receipt_here (plain c.args.code.now) c.args.procs.now c.args.mails.now c.args.p c.args.wanted c.requires.wanted c.in-Message.channel c.in-Message.is
     one there c.waits_for_message.result (c.waits_for_message.ensures ∙ ap is_receipt_that_waits c.in-Message.wanted-is)
 
+pub returns-in-Room-clause-ready : goal.returns-in-Room-clause-ready
+returns-in-Room-clause-ready g c = c.send.ensures.ready c.args.mails.now
+
 pub returns-in-Idle-clause-ready : goal.returns-in-Idle-clause-ready
-returns-in-Idle-clause-ready g c = idles_ready (plain c.args.code.now) c.args.procs.now c.args.p c.args.wanted c.requires.wanted c.in-Idle.is
+returns-in-Idle-clause-ready g c = idles_ready (plain c.args.code.now) c.args.procs.now c.args.mails.now c.args.p c.args.wanted c.requires.wanted c.in-Idle.is
 
 pub returns-in-Entry-clause-ready : goal.returns-in-Entry-clause-ready
 returns-in-Entry-clause-ready g c =
-    enters_ready (plain c.args.code.now) c.args.procs.now c.args.p c.args.wanted c.requires.wanted c.in-Entry.block c.in-Entry.is
+    enters_ready (plain c.args.code.now) c.args.procs.now c.args.mails.now c.args.p c.args.wanted c.requires.wanted c.in-Entry.block c.in-Entry.is
 
 pub returns-in-Start-clause-ready : goal.returns-in-Start-clause-ready
-returns-in-Start-clause-ready g c = steps_ready (plain c.args.code.now) c.args.procs.now c.args.p c.args.wanted c.requires.wanted c.in-Start.is
+returns-in-Start-clause-ready g c = steps_ready (plain c.args.code.now) c.args.procs.now c.args.mails.now c.args.p c.args.wanted c.requires.wanted c.in-Start.is
 
 -- who wants room or a message is ready for no entry
 pub returns-in-Room-clause-entry : goal.returns-in-Room-clause-entry
@@ -41,7 +44,7 @@ returns-in-Room-clause-entry g c entry =
     let code = plain c.args.code.now in
     let here = slice_get-there c.args.procs.now c.args.p c.requires.process in
     let wants = is_room (want code here.0.process.state) c.in-Room.channel (sym (c.requires.wanted here.0 here.1) ∙ c.in-Room.is) in
-    absurd (is_no_entry code c.args.procs.now c.args.p c.send.result here.0 c.send.ensures.ready here.1 (ap is_entry wants) entry)
+    absurd (is_no_entry code c.args.procs.now c.args.mails.now c.args.p c.send.result here.0 (c.send.ensures.ready c.args.mails.now) here.1 (ap is_entry wants) entry)
 
 pub returns-in-Message-clause-entry : goal.returns-in-Message-clause-entry
 returns-in-Message-clause-entry g c entry =
@@ -49,7 +52,7 @@ returns-in-Message-clause-entry g c entry =
     let procs = c.args.procs.now in
     let here = slice_get-there procs c.args.p c.requires.process in
     let waits = c.waits_for_message.result in
-    let wants = receipt_here code procs c.args.p c.args.wanted c.requires.wanted c.in-Message.channel c.in-Message.is here.0 here.1 waits
+    let wants = receipt_here code procs c.args.mails.now c.args.p c.args.wanted c.requires.wanted c.in-Message.channel c.in-Message.is here.0 here.1 waits
     (c.waits_for_message.ensures ∙ ap is_receipt_that_waits c.in-Message.wanted-is) in
-    absurd (is_no_entry code procs c.args.p c.receive.result here.0 c.receive.ensures.ready here.1
+    absurd (is_no_entry code procs c.args.mails.now c.args.p c.receive.result here.0 c.receive.ensures.ready here.1
     (ap is_entry wants ∙ receipt_is_no_entry waits c.in-Message.channel) entry)

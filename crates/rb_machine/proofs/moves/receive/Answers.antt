@@ -1,19 +1,15 @@
 -- A receipt is ready where a message is there, and without one where it does not wait for one.
-use Rattle.std.proofs.Common.{Bool, ap, ◌∙◌}
+use Rattle.std.proofs.Common.{Some, w64, ap, sym, ◌∙◌, rules}
+use Rattle.std.proofs.lemmas.Int.{to_z-of_z}
 use Rattle.rb_code.specs.Instructions.Plain.{code as plain}
 use Rattle.rb_conv.specs.Conversations.{memberships, talks}
-use Rattle.rb_machine.specs.Receipts.{receipt}
-use Rattle.rb_machine.proofs.Turning.ReadyFor.{receipt_unready, receipt_with}
+use Rattle.rb_machine.proofs.Turning.ReadyFor.{taking_ready}
 use Rattle.rb_machine.proofs.moves.receive.Goals as goal
 
-pub returns-then-not-there-clause-ready : goal.returns-then-not-there-clause-ready
-returns-then-not-there-clause-ready g c =
-    receipt_unready (plain c.args.code.now) c.args.procs.now c.args.p c.requires.numbered c.args.channel c.message_there-there.result
-    (λ table memory. c.message_there-there.ensures.there (memberships table) (talks table) memory)
-    (λ x at. c.requires.wants x at ∙ ap (λ (waits : Bool). receipt waits c.args.channel) c.if-waits.true) c.if-not-there.true
-
-pub returns-else-waits-clause-ready : goal.returns-else-waits-clause-ready
-returns-else-waits-clause-ready g c =
-    receipt_with (plain c.args.code.now) c.args.procs.now c.args.p c.requires.numbered c.args.channel c.message_there-there.result
-    (λ table memory. c.message_there-there.ensures.there (memberships table) (talks table) memory)
-    c.args.waits c.requires.wants c.else-waits.either
+pub returns-in-Some-clause-ready : goal.returns-in-Some-clause-ready
+returns-in-Some-clause-ready g c =
+    let code = plain c.args.code.now in
+    let mails = c.args.mails.now in
+    taking_ready code c.args.procs.now mails c.args.p c.args.channel _ c.args.waits c.requires.wants
+    (λ table links. c.in-Some.ensures.there (memberships table) (talks table) (record { slots = mails; links = links })
+    ∙ ap Some (c.message_at.ensures code c.requires.sized ∙ sym (to_z-of_z w64 c.message_at.result (search rules))))

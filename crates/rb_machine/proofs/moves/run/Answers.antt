@@ -25,7 +25,7 @@ pub count-over-requires-clause-few : goal.count-over-requires-clause-few
 count-over-requires-clause-few g c one there =
     let parts = c.args.parts.now in
     let here = ap (λ (xs : List Seen). slice_get xs c.args.p) (sym c.deref_mut.ensures.value) ∙ there in
-    few_used (plain c.args.code.now) c.args.turn parts.procs.items parts.table parts.mails.items parts.links.items c.requires.work.work c.args.p one here
+    few_used (plain c.args.code.now) c.args.turn parts.procs.items parts.table parts.mails parts.links.items c.requires.work.work c.args.p one here
 
 pub go_on-requires-clause-work : goal.go_on-requires-clause-work
 go_on-requires-clause-work g c =
@@ -35,7 +35,7 @@ go_on-requires-clause-work g c =
     let kept = with_items_is parts.procs c.count-over.new.procs (omega (arith, c.count-over.auto.procs, c.deref_mut.ensures.len)) in
     let counted = kept ∙ (c.count-over.ensures.counted ∙ ap (change_at c.args.p (changed turn_used)) c.deref_mut.ensures.value) in
     record {
-      work = counted_work code c.args.turn parts.procs.items parts.table parts.mails.items parts.links.items c.requires.work.work c.args.p found.0 found.1
+      work = counted_work code c.args.turn parts.procs.items parts.table parts.mails parts.links.items c.requires.work.work c.args.p found.0 found.1
           _ counted c.requires.turns;
       waits = subst NoneWaits (sym counted) (waits_at c.args.p turn_used parts.procs.items c.requires.work.waits);
     }
@@ -47,7 +47,7 @@ go_on-requires-clause-running g c one there =
     let found = slice_get-there parts.procs.items c.args.p c.requires.process in
     let kept = with_items_is parts.procs c.count-over.new.procs (omega (arith, c.count-over.auto.procs, c.deref_mut.ensures.len)) in
     let counted = c.count-over.ensures.counted ∙ ap (change_at c.args.p (changed turn_used)) c.deref_mut.ensures.value in
-    let is = counted_there code c.args.turn parts.procs.items parts.table parts.mails.items parts.links.items c.requires.work.work c.args.p found.0 found.1
+    let is = counted_there code c.args.turn parts.procs.items parts.table parts.mails parts.links.items c.requires.work.work c.args.p found.0 found.1
     c.count-over.new.procs counted one (ap (λ (xs : List Seen). slice_get xs c.args.p) (sym kept) ∙ there) in
     ap (λ (x : Seen). x.process.status) (sym is) ∙ c.requires.running found.0 found.1
 
@@ -60,7 +60,7 @@ returns-clause-leads g c one there =
     let kept = with_items_is parts.procs c.count-over.new.procs (omega (arith, c.count-over.auto.procs, c.deref_mut.ensures.len)) in
     let counted = kept ∙ (c.count-over.ensures.counted ∙ ap (change_at c.args.p (changed turn_used)) c.deref_mut.ensures.value) in
     let q = turn_used one.process in
-    let w = counted_world code c.args.turn procs parts.table parts.mails.items parts.links.items c.requires.work.work c.args.p one there _ counted in
+    let w = counted_world code c.args.turn procs parts.table parts.mails parts.links.items c.requires.work.work c.args.p one there _ counted in
     let after = with_items parts.procs c.count-over.new.procs in
     leads_from code c.args.turn c.args.p (processes_of after.items) (processes_of procs) c.go_on.new.parts c.go_on.result
     (bounded k c.args.turn c.args.p q (with_process c.args.p (λ _. q) (world parts)) (position is_over q.levels))
@@ -90,7 +90,7 @@ returns-clause-work g c one there =
     let kept = with_items_is parts.procs c.count-over.new.procs (omega (arith, c.count-over.auto.procs, c.deref_mut.ensures.len)) in
     let counted = kept ∙ (c.count-over.ensures.counted ∙ ap (change_at c.args.p (changed turn_used)) c.deref_mut.ensures.value) in
     let q = turn_used one.process in
-    let w = counted_world code c.args.turn procs parts.table parts.mails.items parts.links.items c.requires.work.work c.args.p one there _ counted in
+    let w = counted_world code c.args.turn procs parts.table parts.mails parts.links.items c.requires.work.work c.args.p one there _ counted in
     pays_same _ _ _ _ _ _
     (c.go_on.ensures.work (changed turn_used one)
     (ap (λ (xs : List Seen). slice_get xs c.args.p) counted

@@ -6,11 +6,11 @@ use Rattle.rb_machine.proofs.Turning.ReadyFor.{send_ready, send_unready}
 use Rattle.rb_machine.proofs.moves.send.Goals as goal
 
 pub returns-then-has_room-clause-ready : goal.returns-then-has_room-clause-ready
-returns-then-has_room-clause-ready g c =
-    send_ready (plain c.args.code.now) c.args.procs.now c.args.p c.args.channel c.requires.wants
-    (λ table memory. sym (c.has_room.ensures.room (memberships table) (talks table) memory) ∙ c.if-has_room.true)
+returns-then-has_room-clause-ready g c slots =
+    send_ready (plain c.args.code.now) c.args.procs.now slots c.args.p c.args.channel c.requires.wants
+    (λ table links. sym (c.has_room.ensures.room (memberships table) (talks table) (record { slots = slots; links = links })) ∙ c.if-has_room.true)
 
 pub returns-else-has_room-clause-ready : goal.returns-else-has_room-clause-ready
-returns-else-has_room-clause-ready g c =
-    send_unready (plain c.args.code.now) c.args.procs.now c.args.p c.args.channel c.requires.wants
-    (λ table memory. sym (c.has_room.ensures.room (memberships table) (talks table) memory) ∙ c.if-has_room.false)
+returns-else-has_room-clause-ready g c slots =
+    send_unready (plain c.args.code.now) c.args.procs.now slots c.args.p c.args.channel c.requires.wants
+    (λ table links. sym (c.has_room.ensures.room (memberships table) (talks table) (record { slots = slots; links = links })) ∙ c.if-has_room.false)

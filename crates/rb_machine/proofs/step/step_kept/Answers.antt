@@ -1,7 +1,6 @@
 -- What each outcome of the step leaves.
-use Rattle.std.proofs.Common.{ℕ, ◌∷◌, ◌++◌, List, [], ap, ◌∙◌}
+use Rattle.std.proofs.Common.{ℕ, List, ap, ◌∙◌}
 use Rattle.rb_machine.specs.Stepping.{turn_kept}
-use Rattle.rb_machine.specs.declared.links.Link.{Link as Linked}
 use Rattle.rb_machine.proofs.step.step_kept.Goals as goal
 
 pub returns-then-is_quiet-clause-done : goal.returns-then-is_quiet-clause-done
@@ -39,13 +38,13 @@ returns-in-Trap-clause-done g c =
     (c.in-Trap.ensures.came, c.step.ensures.waiting ∙ c.requires.may.none_waits, c.levels.ensures)
 
 pub returns-then-is_quiet-clause-links : goal.returns-then-is_quiet-clause-links
-returns-then-is_quiet-clause-links g c = c.add.ensures.items ∙ ap (λ (l : Linked). c.args.links.now.items ++ l ∷ []) c.link_of-link.ensures
+returns-then-is_quiet-clause-links g c = c.note.ensures.items
 
 pub returns-else-is_quiet-clause-links : goal.returns-else-is_quiet-clause-links
-returns-else-is_quiet-clause-links g c = c.add.ensures.items ∙ ap (λ (l : Linked). c.args.links.now.items ++ l ∷ []) c.link_of-link.ensures
+returns-else-is_quiet-clause-links g c = c.note.ensures.items
 
 pub returns-in-Accepts-clause-links : goal.returns-in-Accepts-clause-links
-returns-in-Accepts-clause-links g c = c.add.ensures.items ∙ ap (λ (l : Linked). c.args.links.now.items ++ l ∷ []) c.link_of-link.ensures
+returns-in-Accepts-clause-links g c = c.note.ensures.items
 
 pub returns-in-Trap-clause-links : goal.returns-in-Trap-clause-links
-returns-in-Trap-clause-links g c = c.take_back.ensures.items c.args.links.now.items c.link_of-link.result c.add.ensures.items
+returns-in-Trap-clause-links g c = c.take_back.ensures.items c.args.links.now.items _ c.note.ensures.items

@@ -25,7 +25,7 @@ returns-clause-done g c = λ one e.
     let x = c.index-procs-p.result in
     record {
       later = c.step_kept.new.proc;
-      does = subst (λ (y : Seen). HasDone (plain c.args.code.now) c.args.turn c.args.there y c.step_kept.result c.args.mails.now c.step_kept.new.mails
+      does = subst (λ (y : Seen). HasDone (plain c.args.code.now) c.args.turn c.args.message y c.step_kept.result c.args.mails.now c.step_kept.new.mails
           c.step_kept.new.proc) (get_or_from_slice_get procs c.args.p one x e) c.step_kept.ensures.done;
       processes = set-changes (λ _. c.step_kept.new.proc) procs c.args.p x c.requires.process;
     }
@@ -44,5 +44,5 @@ returns-clause-links g c = λ one e.
 pub returns-clause-work : goal.returns-clause-work
 returns-clause-work g c = λ one e.
     subst (λ (y : Seen). c.step_kept.new.steps
-    ≤ c.args.steps.now + 1 + 3 * named_in_step (plain c.args.code.now) y.process c.args.mails.now c.args.there)
+    ≤ c.args.steps.now + 3 * named_in_step (plain c.args.code.now) y.process c.args.mails.now c.args.message)
     (get_or_from_slice_get c.args.procs.now c.args.p one c.index-procs-p.result e) c.step_kept.ensures.work

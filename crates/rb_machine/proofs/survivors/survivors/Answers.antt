@@ -11,10 +11,10 @@ use Rattle.rb_machine.proofs.survivors.survivors.Goals as goal
 pub returns : goal.returns
 returns g c =
     let parts = c.args.parts.now in
-    let links = c.deref-2.result.now in
+    let links = c.in-Some.links.now in
     let wanted = c.deref_mut.result.now in
     in_order links wanted c.in_ok-kept.kept.items c.reverse.new.self.items c.in_ok-kept.ensures c.reverse.ensures.items
-    ∙ (ap (λ (all : List Link). reverse (reached (reverse (map link_of all)) wanted)) c.deref-2.ensures.value
+    ∙ (ap (λ (all : List Link). reverse (reached (reverse (map link_of all)) wanted)) c.in-Some.ensures
     ∙ (ap (λ (turns : List ℕ). reverse (reached (reverse (map link_of parts.links.items)) turns))
     (c.deref_mut.ensures.value ∙ (c.in_ok-wanted.ensures ∙ ap last_of_each c.deref.ensures.value))
     ∙ sym (walk_survives c.requires.0 parts.procs.items (world parts) refl c.requires.1)))

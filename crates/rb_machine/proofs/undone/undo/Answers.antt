@@ -18,7 +18,7 @@ reject-requires-clause-may g c =
 pub returns-clause-moved : goal.returns-clause-moved
 returns-clause-moved g c code =
     let parts = c.args.parts.now in
-    let memory = memory_of parts.mails.items parts.links.items in
+    let memory = memory_of parts.mails parts.links.items in
     let f = reject (kind_with code parts.table) c.args.p c.args.left c.args.cause in
     let h = subst
     (λ (procs : List Seen). HasHappened f memory procs parts.table c.args.events.now.items c.reject.new.procs c.reject.new.table c.reject.new.events.items)

@@ -11,5 +11,5 @@ invariant_of-self g c =
     let taken = ap (λ (machine : Seen). machine.taken) c.self.view_is in
     let most = ap (λ (machine : Seen). machine.most) c.self.view_is in
     over_tied (plain inside.code.now) inside.parts (subst (λ (machine : Seen). IsOver machine) (sym c.self.view_is) c.requires.over)
-    inside.running.items _ _ inside.taken inside.most c.args.turns inside.released inside.resting c.self.invariant
+    inside.running.items inside.taken inside.most c.args.turns inside.released inside.resting c.self.invariant
     (omega (arith, taken, c.requires.later)) (omega (arith, most, c.requires.most))

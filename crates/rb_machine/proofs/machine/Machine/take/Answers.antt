@@ -66,7 +66,6 @@ invariant_of-self g c =
             | then-released w ↦ λ e. absurd (cc)
             | else-released w ↦ λ e. turned.ensures.none_waits w.if-released.false
           ];
-      links_few = omega (arith, turned.ensures.links, c.self.invariant.links_few);
       links_room = omega (arith, turned.ensures.room, c.self.invariant.links_room);
       taken_few = omega (
         arith,
@@ -116,7 +115,6 @@ invariant_of-self-else-still g c =
       running_is = turned.ensures.running;
       freed = turned.ensures.freed;
       none_waits = turned.ensures.none_waits;
-      links_few = omega (arith, turned.ensures.links, c.self.invariant.links_few);
       links_room = omega (arith, turned.ensures.room, c.self.invariant.links_room);
       taken_few = omega (
         arith,

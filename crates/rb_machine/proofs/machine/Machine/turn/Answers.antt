@@ -21,7 +21,7 @@ invariant_of-self g c =
       ap (λ (machine : Seen). machine.taken) c.self.view_is,
       ap (λ (machine : Seen). machine.most) c.self.view_is,
     ) in
-    rested_tied (plain inside.code.now) inside.parts inside.taken inside.most c.args.p c.in-Some.kind rests none inside.running.items _ _
+    rested_tied (plain inside.code.now) inside.parts inside.taken inside.most c.args.p c.in-Some.kind rests none inside.running.items
     inside.released inside.resting c.self.invariant more
 
 pub returns-in-Some-clause-turned : goal.returns-in-Some-clause-turned
