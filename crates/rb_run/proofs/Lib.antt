@@ -10,6 +10,7 @@ pub mod RunWritten
 pub mod AsMeant
 -- Lines that are counted, and records that are written.
 pub mod Counted
+pub mod CountedUp
 pub mod Gathered
 pub mod Recorded
 pub mod TurnsUnseen

@@ -1,11 +1,12 @@
 //! A run that prints nothing, and counts the lines that it would print.
 
-ghost use Rattle.std.specs.Prelude.{◌≡◌, ◌+◌, ◌-◌, ◌^◌, ◌<◌, ◌≤◌, [], ◌∷◌, length};
+ghost use Rattle.std.specs.Prelude.{◌≡◌, ◌+◌, ◌-◌, ◌*◌, ◌^◌, ◌<◌, ◌≤◌, true, [], ◌∷◌, length, replicate, sum_by};
 ghost use Rattle.rb_base.specs.declared.event.TheConstants.{MOST_EVENTS};
+ghost use Rattle.rb_base.specs.declared.limits.TheConstants.{MOST_HELD_BYTES, MOST_PROCESSES_SECOND};
 ghost use Rattle.rb_code.specs.WordMachine.WordKind.{word_kind};
 ghost use Rattle.rb_code.specs.WordMachine.WordRun.{opening_of, word_run};
 ghost use Rattle.rb_world.specs.Turn.{run as run_from, told_at_opening};
-ghost use Rattle.rb_machine.specs.Machine.{opening_seen};
+ghost use Rattle.rb_machine.specs.Machine.{IsOver, opening_seen};
 ghost use Rattle.rb_machine.specs.Work.{turns_work};
 ghost use Rattle.rb_run.specs.Counting.{AreBelow, IsMore, both_counted, counts, nothing_counted, told_counts};
 ghost use Rattle.rb_run.specs.Running.{NoneWaits, ran};
@@ -72,13 +73,28 @@ fn count_turns<L: Ledger>(
 {
     'turns: while let Some(p) = schedule.next() {
         machine.turn(p, report, steps);
-        let may_rest = machine.has_released();
-        tally.add(&report.events, machine.drop_released());
-        if may_rest && machine.is_over() {
+        if count_turn(machine, &report.events, tally) {
             machine.rest_until(schedule.turns());
             return;
         }
     }
+}
+
+// Adds up the lines of the turn that was taken last, which are forgotten. Most turns have none. True where no turn behind it has any.
+fn count_turn<L: Ledger>(machine: &mut Machine<'_, L>, events: &[Event], tally: &mut Counts) -> bool
+    requires processes { length machine.old.waiting ≡ length machine.old.world.processes }
+    requires room { AreBelow (2 ^ 63) tally.old }
+    requires few { length events.now ≤ MOST_EVENTS }
+    ensures more { IsMore tally.old (sum_by length machine.old.waiting) events.now tally.new }
+    ensures few { sum_by length machine.old.waiting ≤ MOST_PROCESSES_SECOND * MOST_HELD_BYTES }
+    ensures machine { machine.new ≡ record machine.old { waiting = replicate (length machine.old.waiting) [] } }
+    ensures over { result ≡ true → IsOver machine.new }
+{
+    if events.is_empty() && !machine.has_released() {
+        return false;
+    }
+    tally.add(events, machine.drop_released());
+    machine.is_over()
 }
 
 impl Counts {

@@ -5,6 +5,7 @@ mod block;
 pub mod counting;
 pub mod laws;
 pub mod record;
+mod rising;
 pub mod running;
 pub mod surviving;
 

@@ -43,7 +43,7 @@ pub fn survive_turns<S: Sink, L: Ledger>(
     let mut steps = Steps::<L>::start(blank);
     let turns = schedule.turns();
     let names = &prepared.code.names;
-    match Machine::load(alloc, &prepared.code, &prepared.nested, turns, &mut steps) {
+    match Machine::load_for_survivors(alloc, &prepared.code, &prepared.nested, turns, &mut steps) {
         Ok(mut machine) => status_of(survive(
             alloc,
             &mut machine,

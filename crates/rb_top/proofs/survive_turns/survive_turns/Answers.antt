@@ -10,8 +10,8 @@ use Rattle.rb_top.proofs.Answering.{survival_ends}
 use Rattle.rb_top.proofs.Loaded.{is_sound}
 use Rattle.rb_top.proofs.survive_turns.survive_turns.Goals as goal
 
-pub load-requires-clause-sound : goal.load-requires-clause-sound
-load-requires-clause-sound g c = is_sound c.requires.prepared.0 c.args.prepared.now c.requires.prepared.1
+pub load_for_survivors-requires-clause-sound : goal.load_for_survivors-requires-clause-sound
+load_for_survivors-requires-clause-sound g c = is_sound c.requires.prepared.0 c.args.prepared.now c.requires.prepared.1
 
 pub survive-requires-clause-fresh : goal.survive-requires-clause-fresh
 survive-requires-clause-fresh g c =
