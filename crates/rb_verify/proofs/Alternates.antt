@@ -1,11 +1,9 @@
 -- Steps to each alternate of a block, one after another.
-use Rattle.std.proofs.Common.{◌≡◌, ℕ, Bool, true, false, List, [], ◌∷◌, ◌++◌, ◌+◌, ◌<◌, ◌≤◌, suc, get_or, drop, length, ◌∙◌, append_assoc, add-one, arith, Option, Some, None, refl, sym, ap, subst}
-use Rattle.rb_code.specs.Instructions.Plain.{Code}
-use Rattle.rb_world.specs.Kind.{Membership}
+use Rattle.std.proofs.Common.{◌≡◌, ℕ, List, [], ◌∷◌, ◌++◌, ◌+◌, ◌<◌, ◌≤◌, get_or, drop, length, ◌∙◌, append_assoc, add-one, Some, None, sym, ap, subst}
 use Rattle.rb_code.specs.SoundCode.Sound.{Entry, Table}
-use Rattle.rb_verify.specs.Flow.{Keeps, Step, Steps, and_to, goes, goes_to_each, is_ahead, when}
+use Rattle.rb_verify.specs.Flow.{Steps, and_to, goes, goes_to_each}
 use Rattle.rb_verify.specs.Search.{Gains, HasGained, Pending}
-use Rattle.rb_verify.specs.Found.{IsWithin, NoneTakes}
+use Rattle.rb_verify.specs.Found.{NoneTakes}
 use Rattle.rb_verify.specs.Held.{HasGrown, IsFront}
 use Rattle.rb_verify.specs.declared.lists.Lists.{Lists}
 use Rattle.std.proofs.Math.Seq.{drop-cons}

@@ -1,15 +1,14 @@
 -- The main bodies begin.
-use Rattle.std.proofs.Common.{◌≡◌, ◌⊎◌, inl, inr, ℕ, zero, suc, ◌+◌, ◌<◌, ◌≤◌, Bool, true, false, List, [], ◌∷◌, length, map, replicate, slice_get, Option, Some, None, option_map, Contains, refl, sym, ap, ◌∙◌, subst, arith}
+use Rattle.std.proofs.Common.{◌≡◌, ◌⊎◌, inl, inr, ℕ, zero, suc, ◌+◌, ◌<◌, ◌≤◌, true, false, List, [], ◌∷◌, length, replicate, slice_get, Option, Some, None, option_map, refl, sym, ap, ◌∙◌, subst, arith}
 use Rattle.std.proofs.lemmas.Option.{slice_get_within}
 use Rattle.rb_code.specs.Instructions.Plain.{Code, Part}
 use Rattle.rb_world.specs.Kind.{Membership}
-use Rattle.rb_code.specs.SoundCode.Sound.{Entry, Has, HasTable, Table, at_address}
+use Rattle.rb_code.specs.SoundCode.Sound.{Entry, Has, Table}
 use Rattle.rb_code.specs.SoundCode.Reached.{begins as first_reached}
-use Rattle.rb_verify.specs.Flow.{Keeps, begins, flow_at, goes}
-use Rattle.rb_verify.specs.Held.{IsHeld, entry_of}
+use Rattle.rb_verify.specs.Flow.{begins, goes}
+use Rattle.rb_verify.specs.Held.{entry_of}
 use Rattle.rb_verify.specs.Search.{Gains, HasEntry, HasNoTable, IsBeginning, IsSearching, Pending}
 use Rattle.rb_verify.specs.Found.{IsWell, NoneTakes, found, held_in, pending, pending_in}
-use Rattle.rb_verify.specs.declared.entry.Held.{Held}
 use Rattle.rb_verify.specs.declared.lists.Lists.{Lists}
 use Rattle.rb_verify.specs.declared.cell.Cell.{Cell}
 use Rattle.rb_verify.proofs.Searching.{has_on, table_starts}

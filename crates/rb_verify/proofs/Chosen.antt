@@ -1,9 +1,8 @@
 -- Where an instruction leads if a test holds.
-use Rattle.std.proofs.Common.{◌≡◌, ℕ, ◌+◌, ◌<◌, Bool, true, false, List, [], ◌∷◌, ◌++◌, length, get_or, Option, Some, None, refl, sym, ap, ◌∙◌, subst, arith}
+use Rattle.std.proofs.Common.{◌≡◌, ℕ, ◌+◌, ◌<◌, ◌&&◌, Bool, true, false, [], ◌∷◌, ◌++◌, length, get_or, Option, None, Result, Ok, Err, IfOk, refl, sym, ap, ◌∙◌, subst, arith}
 use Rattle.std.proofs.lemmas.List.{append-nil, length_push}
 use Rattle.std.proofs.Math.Seq.{get_or-append_seam}
 use Rattle.rb_code.specs.Instructions.Plain.{Code}
-use Rattle.rb_world.specs.Kind.{Membership}
 use Rattle.rb_verify.specs.Flow.{Steps, goes, when}
 use Rattle.rb_verify.specs.Held.{IsHeld, blocks_of, entry_of, operands_of}
 use Rattle.rb_verify.specs.Parts.{block_of, mode_of}
@@ -12,10 +11,10 @@ use Rattle.rb_verify.specs.declared.entry.Mode.TheVariants as variant
 use Rattle.rb_verify.specs.declared.entry.OpenBlock.{OpenBlock as HeldBlock}
 use Rattle.rb_verify.specs.Found.{AreHeld, IsFlow, chosen, steps_of}
 use Rattle.rb_verify.specs.declared.entry.Held.{Held}
-use Rattle.rb_code.specs.SoundCode.Sound.{Mode, Changed, OpenBlock}
+use Rattle.rb_code.specs.SoundCode.Sound.{Changed}
 use Rattle.rb_verify.specs.declared.lists.Lists.{Lists}
 use Rattle.rb_verify.specs.declared.way.Way.{Way}
-use Rattle.rb_verify.specs.declared.way.Way.TheVariants.{One}
+use Rattle.rb_verify.specs.declared.way.Way.TheVariants.{Broken, One}
 use Rattle.rb_verify.proofs.Finding.{grown_itself}
 
 pub chosen_leads : (c : Code) (lists : Lists) (test : Bool) (way : Way)
@@ -27,21 +26,25 @@ pub chosen_held : (lists : Lists) (test : Bool) (way : Way) → AreHeld lists wa
 chosen_held lists true way h = h
 chosen_held lists false way h = tt
 
-pub held_by : (lists : Lists) (test : Bool) (way other : Way) → other ≡ chosen test way → AreHeld lists way → AreHeld lists other
-held_by lists test way other is h = subst (AreHeld lists) (sym is) (chosen_held lists test way h)
-
-pub chosen_flow : (c : Code) (before after : Lists) (test : Bool) (way : Way) (steps : Steps)
-    → IsFlow c before after way steps → IsFlow c before after (chosen test way) (when test steps)
-chosen_flow c before after test way steps flow = record {
-  leads = chosen_leads c after test way ∙ ap (when test) flow.leads;
-  held = chosen_held after test way flow.held;
-  grown = flow.grown;
-}
-
 -- nothing was made
 pub quiet_flow : (c : Code) (lists : Lists) (way : Way) (steps : Steps)
     → steps_of c lists way ≡ steps → AreHeld lists way → IsFlow c lists lists way steps
 quiet_flow c lists way steps leads held = record { leads = leads; held = held; grown = grown_itself lists }
+
+-- nothing was made by a last call
+pub quiet_call : {E : Type 0} (c : Code) (lists : Lists) (r : Result Way E) (steps : Steps)
+    → IfOk r (λ way. steps_of c lists way ≡ steps) → IfOk r (AreHeld lists) → IfOk r (λ way. IsFlow c lists lists way steps)
+quiet_call c lists (Ok way) steps leads held = quiet_flow c lists way steps leads held
+quiet_call c lists (Err e) steps leads held = tt
+
+-- nothing is made where a test does not hold
+pub refused_flow : (c : Code) (lists : Lists) (test : Bool) (steps : Steps) → test ≡ false → IsFlow c lists lists Broken (when test steps)
+refused_flow c lists test steps is = quiet_flow c lists Broken (when test steps) (sym (ap (λ t. when t steps) is)) tt
+
+-- what is made where it holds
+pub passed_flow : {E : Type 0} (c : Code) (before after : Lists) (test : Bool) (r : Result Way E) (steps : Steps) → test ≡ true
+    → IfOk r (λ way. IsFlow c before after way steps) → IfOk r (λ way. IsFlow c before after way (when test steps))
+passed_flow c before after test r steps is made = subst (λ t. IfOk r (λ way. IsFlow c before after way (when t steps))) (sym is) made
 
 -- an operand was put on
 pub put_flow : (c : Code) (b : ℕ) (before after : Lists) (entry held : Held) (top : Option ℕ) (below : ℕ) (mode : HeldMode)
@@ -68,6 +71,11 @@ put_flow c b before after entry held top below mode is_held operands blocks is =
         blocks = ([], blocks ∙ sym (append-nil before.blocks));
       };
     }
+
+-- both tests, one after the other
+pub when_and : (a b : Bool) (steps : Steps) → when (a && b) steps ≡ when a (when b steps)
+when_and true b steps = refl
+when_and false b steps = refl
 
 pub when_none : (test : Bool) → when test None ≡ None
 when_none true = refl
@@ -104,10 +112,3 @@ block_flow c b before after entry held block empty is_held operands blocks none 
         blocks = ((block_of block ∷ blocks_of before entry.blocks) ∷ [], blocks);
       };
     }
-
-pub flow_if : (c : Code) (before after : Lists) (test other : Bool) (way chose : Way) (steps : Steps)
-    → chose ≡ chosen other way → other ≡ test
-    → IsFlow c before after way steps → IsFlow c before after chose (when test steps)
-flow_if c before after test other way chose steps is same flow =
-    subst (λ w. IsFlow c before after w (when test steps)) (ap (λ t. chosen t way) (sym same) ∙ sym is)
-    (chosen_flow c before after test way steps flow)

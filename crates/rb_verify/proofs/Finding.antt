@@ -1,15 +1,15 @@
 -- What the search holds, where lists grow and an address gets another entry.
-use Rattle.std.proofs.Common.{◌≡◌, ◌⊎◌, inl, inr, ℕ, zero, suc, ◌+◌, ◌<◌, ◌≤◌, Bool, true, false, nat_eq, List, [], ◌∷◌, ◌++◌, length, set, get_or, slice_get, Option, Some, None, option_map, Contains, refl, sym, ap, ◌∙◌, subst, arith, eqb-true, eq-eqb}
+use Rattle.std.proofs.Common.{◌≡◌, ◌⊎◌, inl, inr, ℕ, ◌<◌, ◌≤◌, Bool, true, false, List, [], ◌∷◌, length, set, get_or, slice_get, Option, Some, None, option_map, Contains, refl, sym, ap, ◌∙◌, subst, arith}
 use Rattle.std.proofs.lemmas.List.{get_or_append_left, length-append, append-nil}
 use Rattle.std.proofs.lemmas.Option.{slice_get_past}
 use Rattle.std.specs.List.Sorted.{IsPermutation}
 use Rattle.rb_code.specs.Instructions.Plain.{Code}
 use Rattle.rb_world.specs.Kind.{Membership}
 use Rattle.rb_code.specs.SoundCode.Sound.{Entry, Has, FineAt, HasTable, Table, at_address}
-use Rattle.rb_verify.specs.Flow.{Keeps, Step, Steps, flow_at, goes, goes_both}
+use Rattle.rb_verify.specs.Flow.{Keeps, Steps, flow_at, goes, goes_both}
 use Rattle.rb_verify.specs.Join.{joined}
 use Rattle.rb_verify.specs.Search.{Gains, HasGained, HasNoTable, IsBelow, IsFollowing, IsSearching, Pending}
-use Rattle.rb_verify.specs.Held.{HasGrown, IsFront, IsHeld, blocks_of, entry_of, operands_of}
+use Rattle.rb_verify.specs.Held.{HasGrown, IsFront, IsHeld, entry_of}
 use Rattle.rb_verify.specs.Found.{IfUnsound, IsFlow, IsTaking, IsWell, IsWithin, steps_of, NoneTakes, found, held_in, pending, pending_in}
 use Rattle.rb_verify.specs.declared.entry.Held.{Held}
 use Rattle.rb_verify.specs.declared.lists.Lists.{Lists}

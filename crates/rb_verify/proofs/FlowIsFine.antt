@@ -1,11 +1,11 @@
 -- The rule of each instruction is kept in a table exactly if the table takes the steps that the instruction leads to.
-use Rattle.std.proofs.Common.{◌≡◌, ◌↔◌, ℕ, ◌+◌, ◌-◌, ◌<◌, nat_eq, nat_lt, nat_le, not, Bool, true, false, List, [], ◌∷◌, length, slice_get, Option, Some, None, refl, sym, ap, subst}
-use Rattle.rb_code.specs.Instructions.Plain.{Block, Code}
+use Rattle.std.proofs.Common.{◌≡◌, ◌↔◌, ℕ, ◌+◌, ◌-◌, ◌<◌, nat_eq, nat_lt, Bool, true, false, List, [], ◌∷◌, length, slice_get, Option, Some, None, refl}
+use Rattle.rb_code.specs.Instructions.Plain.{Code}
 use Rattle.rb_world.specs.Kind.{Membership}
 use Rattle.rb_code.specs.WordMachine.Workspace.{part_of}
-use Rattle.rb_code.specs.SoundCode.Sound.{BeginsAs, Each, Entry, Fine, Has, InnermostIs, IsAhead, EndIs, LeadsTo, Table, TopIs, IsBelow, IsSet, MayTrap, IsWeaker, changed, with_operands, alternates_at, at_address, conversation_of, end_of_loop, Loop, Mode, OpenBlock, Changed, Fresh, MayPut, MayTake, Free, Begun}
+use Rattle.rb_code.specs.SoundCode.Sound.{BeginsAs, Each, Entry, Fine, Has, InnermostIs, IsAhead, EndIs, LeadsTo, Table, TopIs, MayTrap, changed, with_operands, alternates_at, at_address, conversation_of, end_of_loop, OpenBlock, Fresh, MayPut, MayTake, Free, Begun}
 use Rattle.rb_base.specs.declared.limits.TheConstants.{MOST_OPERANDS, MOST_ITEMS}
-use Rattle.rb_verify.specs.Flow.{Keeps, Step, Steps, Takes, and_to, begins, flow, goes, goes_both, goes_to_each, innermost, is_ahead, is_none, last_of, is_fresh, may_trap, no_loops, pushes, takes_one, takes_two, top, when, words_at}
+use Rattle.rb_verify.specs.Flow.{Keeps, Steps, and_to, begins, flow, goes, goes_both, goes_to_each, innermost, is_ahead, is_none, last_of, may_trap, no_loops, pushes, takes_one, takes_two, top, when, words_at}
 use Rattle.rb_verify.proofs.Weaker.{begins_as}
 use Rattle.rb_verify.proofs.Tests.{Tells, above_tells, ahead_tells, entered_tells, below_tells, denies, enter_tells, eq_tells, frame_tells, fresh_tells, main_tells, not_main_tells, le_tells, loop_tells, lt_tells, no_blocks_tells, no_loops_tells, none_tells, prior_tells, procedure_tells, put_tells, range_tells, receiver_tells, restart_tells, sender_tells, set_tells, take_tells, trap_tells, turn_tells}
 use Rattle.rb_code.specs.declared.instr.Instr.{Instr}

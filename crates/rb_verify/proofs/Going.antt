@@ -1,14 +1,14 @@
 -- The steps of an instruction lead to its successors, each to one.
-use Rattle.std.proofs.Common.{◌≡◌, ℕ, ◌+◌, ◌-◌, nat_lt, nat_le, nat_eq, Bool, true, false, List, [], ◌∷◌, map, length, slice_get, Option, Some, None, refl, ap}
+use Rattle.std.proofs.Common.{◌≡◌, ℕ, ◌+◌, ◌-◌, nat_lt, nat_eq, Bool, true, false, List, [], ◌∷◌, map, length, slice_get, Option, Some, None, refl, ap}
 use Rattle.rb_base.specs.declared.limits.TheConstants.{MOST_ITEMS, MOST_OPERANDS}
 use Rattle.rb_world.specs.Kind.{Membership}
 use Rattle.rb_code.specs.Instructions.Plain.{Code}
 use Rattle.rb_code.specs.WordMachine.Workspace.{part_of}
-use Rattle.rb_code.specs.SoundCode.Sound.{Begun, Changed, Entry, Free, Fresh, MayPut, MayTake, OpenBlock, Table, alternates_at, changed, conversation_of, end_of_loop, with_operands}
+use Rattle.rb_code.specs.SoundCode.Sound.{Begun, Entry, Free, Fresh, MayPut, MayTake, OpenBlock, Table, alternates_at, changed, conversation_of, end_of_loop, with_operands}
 use Rattle.rb_code.specs.SoundCode.Reached.{successors}
 use Rattle.rb_code.specs.declared.instr.Instr.{Instr}
 use Rattle.rb_code.specs.declared.instr.Instr.TheVariants.{Turn, Push, Load, Prior, Bound, LoadAt, PriorAt, Store, StoreAt, Add, Sub, Mul, Div, Rem, Eq, Ne, Lt, Le, Gt, Ge, Neg, Not, Bool as ToBool, Jump, JumpZero, Frame, Drop, Text, Item, Print, Room, Put, There, Take, Call, Return, Fail, Enter, Start, Test, Done, Range, Again, Counter, Absent}
-use Rattle.rb_verify.specs.Flow.{Step, Steps, is_none, no_loops, no_blocks, may_trap, is_fresh, and_to, begins, flow, goes, goes_both, goes_to_each, innermost, is_ahead, last_of, pushes, takes_one, takes_two, top, when, words_at}
+use Rattle.rb_verify.specs.Flow.{Step, Steps, is_none, no_loops, and_to, begins, flow, goes, goes_both, goes_to_each, innermost, is_ahead, last_of, pushes, takes_one, takes_two, top, when, words_at}
 use Rattle.rb_verify.proofs.Tests.{Tells, above_tells, ahead_tells, below_tells, denies, enter_tells, entered_tells, eq_tells, frame_tells, fresh_tells, le_tells, loop_tells, lt_tells, main_tells, no_blocks_tells, no_loops_tells, none_tells, not_main_tells, prior_tells, procedure_tells, put_tells, range_tells, receiver_tells, restart_tells, sender_tells, set_tells, take_tells, trap_tells, turn_tells}
 
 abbrev pub addresses : List Step → List ℕ

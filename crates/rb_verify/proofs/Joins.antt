@@ -1,9 +1,9 @@
 -- Two entries meet in the strongest one that is weaker than both.
-use Rattle.std.proofs.Common.{◌≡◌, ℕ, suc, ◌+◌, ◌&&◌, nat_eq, cond, Bool, true, false, List, [], ◌∷◌, Option, Some, None, option_map, refl, sym, ap, ◌∙◌, subst}
+use Rattle.std.proofs.Common.{◌≡◌, ℕ, ◌&&◌, nat_eq, cond, Bool, true, false, List, [], ◌∷◌, Option, Some, None, option_map, refl, sym, ap, ◌∙◌, subst}
 use Rattle.rb_code.specs.SoundCode.Sound.{Entry, IsWeaker, WeakerMode, WeakerOperand, WeakerOperands, Mode, Fresh, MayPut, MayTake, Begun, Free, Changed, Within, OpenBlock, Loop}
 use Rattle.rb_verify.specs.Join.{is_alike, joined, met_mode, met_operand, met_operands, same_block, same_blocks, same_procedure, same_loop, same_loops, same_mode, same_within}
 use Rattle.rb_verify.proofs.Tests.{Tells, always, both_tell, eq_tells, never}
-use Rattle.rb_verify.proofs.Weaker.{mode_itself, operand_itself}
+use Rattle.rb_verify.proofs.Weaker.{mode_itself}
 
 procedure_tells : (o p : Option ℕ) → Tells (same_procedure o p) (o ≡ p)
 procedure_tells None None = always refl

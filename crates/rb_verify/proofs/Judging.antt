@@ -1,13 +1,13 @@
 -- What the found table has of sound code, every sound table says; so the code is sound exactly if the found table has it.
-use Rattle.std.proofs.Common.{◌≡◌, ℕ, suc, ◌+◌, ◌<◌, ◌≤◌, List, [], ◌∷◌, length, map, slice_get, Option, Some, None, refl, sym, ap, ◌∙◌, subst}
+use Rattle.std.proofs.Common.{◌≡◌, ℕ, suc, ◌+◌, List, [], ◌∷◌, length, map, Option, Some, None, refl, sym, ap, ◌∙◌, subst}
 use Rattle.rb_world.specs.Kind.{Membership}
 use Rattle.rb_conv.specs.Conversations.{Conversation, memberships}
 use Rattle.rb_code.specs.Instructions.Plain.{Code}
 use Rattle.rb_code.specs.SoundCode.Reached.{Reached}
-use Rattle.rb_code.specs.SoundCode.Sound.{Entry, Has, HasTable, IsWeaker, Loop, Table}
+use Rattle.rb_code.specs.SoundCode.Sound.{Entry, Has, HasTable, IsWeaker, Table}
 use Rattle.rb_code.specs.SoundCode.WellFormed.{IsSound, IsWellFormed, Joins, JoinsOnce, LoopsStayOpen}
 use Rattle.rb_code.specs.SoundCode.Sound.{IsOpen}
-use Rattle.rb_verify.specs.Search.{HasEntry, HasNoTable, IsBelow, IsFound}
+use Rattle.rb_verify.specs.Search.{HasEntry, HasNoTable, IsFound}
 
 -- an entry that is weaker
 record Weak (t : Table) (a : ℕ) (e : Entry) : Type 0 where

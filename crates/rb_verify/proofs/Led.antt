@@ -1,11 +1,11 @@
 -- Where steps lead is reached, and what is reached has an entry once nothing is to be followed.
-use Rattle.std.proofs.Common.{◌≡◌, ◌⊎◌, inl, inr, ℕ, Bool, true, false, List, [], ◌∷◌, slice_get, Option, Some, None, refl, sym, ap, ◌∙◌, subst}
+use Rattle.std.proofs.Common.{◌≡◌, inl, inr, ℕ, false, List, [], ◌∷◌, slice_get, Option, Some, None, refl, sym, subst}
 use Rattle.rb_world.specs.Kind.{Membership}
-use Rattle.rb_code.specs.Instructions.Plain.{Code, Part}
+use Rattle.rb_code.specs.Instructions.Plain.{Code}
 use Rattle.rb_code.specs.declared.instr.Instr.{Instr}
 use Rattle.rb_code.specs.SoundCode.Reached.{Reached, begins as start, leads, successors}
 use Rattle.rb_code.specs.SoundCode.Sound.{Entry, Has, IsMember, Table, at_address}
-use Rattle.rb_verify.specs.Flow.{Keeps, Step, Steps, Takes, begins, flow, flow_at, flow_by, is_above, when}
+use Rattle.rb_verify.specs.Flow.{Keeps, Step, Steps, Takes, begins, flow, flow_by, is_above}
 use Rattle.rb_verify.specs.Search.{Covers, HasEntry, HasStarts, IsLedTo, IsSettled, Pending}
 use Rattle.rb_verify.proofs.Going.{GoTo, addresses, flow_goes, tested}
 

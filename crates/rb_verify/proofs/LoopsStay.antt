@@ -1,5 +1,5 @@
 -- Whether loops stay open: the pass goes on, or finds one that is not.
-use Rattle.std.proofs.Common.{◌≡◌, ◌⊎◌, inl, inr, ◌↔◌, ℕ, ◌+◌, ◌<◌, ◌≤◌, nat_eq, nat_lt, cond, Bool, true, false, List, [], ◌∷◌, length, slice_get, Option, Some, None, refl, sym, ap, ◌∙◌, subst, arith, eqb-true}
+use Rattle.std.proofs.Common.{◌≡◌, ◌⊎◌, inl, inr, ℕ, ◌+◌, ◌<◌, ◌≤◌, nat_eq, nat_lt, cond, Bool, true, false, List, [], ◌∷◌, length, slice_get, Option, Some, None, refl, sym, ap, ◌∙◌, subst, arith, eqb-true}
 use Rattle.rb_world.specs.Kind.{Membership}
 use Rattle.rb_code.specs.Instructions.Plain.{Code}
 use Rattle.rb_code.specs.SoundCode.Sound.{Entry, FineAt, HasTable, IsSet, Loop, Table, end_of_loop}
@@ -7,9 +7,7 @@ use Rattle.rb_code.specs.SoundCode.WellFormed.{LoopsStayOpen}
 use Rattle.rb_code.specs.SoundCode.Sound.{IsOpen}
 use Rattle.rb_code.specs.declared.instr.Instr.{Instr}
 use Rattle.rb_code.specs.declared.instr.Instr.TheVariants.{Range}
-use Rattle.rb_verify.specs.Flow.{either}
 use Rattle.rb_verify.specs.Join.{same_loop}
-use Rattle.rb_verify.specs.Found.{IsWithin}
 use Rattle.rb_verify.specs.Watched.{IsLoopOf, IsWatching, StaysOpen, begun, is_kept, is_open, watched_by, watched_on}
 use Rattle.rb_verify.proofs.Tests.{Tells, either_tells, lt_tells, never}
 use Rattle.rb_verify.proofs.Joins.{loop_tells}

@@ -1,14 +1,13 @@
 -- Whether each member joins its conversations once, as it is told from the list of all blocks of conversations that are entered.
-use Rattle.std.proofs.Common.{◌≡◌, ◌⊎◌, inl, inr, ◌↔◌, ℕ, zero, suc, ◌+◌, ◌-◌, ◌<◌, ◌≤◌, ◌&&◌, nat_eq, not, cond, Bool, true, false, List, [], ◌∷◌, ◌++◌, length, map, slice_get, Option, Some, None, Contains, refl, sym, ap, ◌∙◌, subst, arith, eqb-true, eq-eqb}
+use Rattle.std.proofs.Common.{◌≡◌, ◌⊎◌, inl, inr, ◌↔◌, ℕ, zero, suc, ◌+◌, ◌-◌, ◌<◌, ◌&&◌, nat_eq, not, cond, Bool, true, false, List, [], ◌∷◌, ◌++◌, length, map, slice_get, Option, Some, None, Contains, refl, sym, ap, ◌∙◌, subst, arith, eqb-true, eq-eqb}
 use Rattle.std.proofs.lemmas.List.Elements.{Contains-append_cases}
 use Rattle.rb_base.specs.declared.names.Group.{Group}
-use Rattle.rb_world.specs.Kind.{Membership}
-use Rattle.rb_conv.specs.Conversations.{Conversation, membership, opened, outsider}
+use Rattle.rb_conv.specs.Conversations.{Conversation, membership, opened}
 use Rattle.rb_code.specs.Instructions.Plain.{Block, Code}
 use Rattle.rb_code.specs.SoundCode.Sound.{Entry, IsMember, Table}
 use Rattle.rb_code.specs.SoundCode.WellFormed.{Joins, JoinsOnce}
 use Rattle.rb_code.specs.declared.instr.Instr.{Instr}
-use Rattle.rb_code.specs.declared.instr.Instr.TheVariants.{Turn, Push, Load, Prior, Bound, LoadAt, PriorAt, Store, StoreAt, Add, Sub, Mul, Div, Rem, Eq, Ne, Lt, Le, Gt, Ge, Neg, Not, Bool as ToBool, Jump, JumpZero, Frame, Drop, Text, Item, Print, Room, Put, There, Take, Call, Return, Fail, Enter, Start, Test, Done, Range, Again, Counter, Absent}
+use Rattle.rb_code.specs.declared.instr.Instr.TheVariants.{Enter}
 use Rattle.rb_verify.specs.Joinings.{AreJoinings, conversed, entered, enters, first_of, groups_join, is_of, joining_at, joins_once, members_join, noted, once_by, only_block, process_at}
 use Rattle.rb_verify.specs.declared.joining.Joining.{Joining}
 use Rattle.rb_verify.proofs.Tests.{both_tell, eq_tells}

@@ -1,13 +1,12 @@
 -- A stronger entry leads to stronger ones: a table that takes what an instruction leads to from the weaker entry takes what it leads to
 -- from the stronger one.
-use Rattle.std.proofs.Common.{◌≡◌, ℕ, suc, ◌+◌, ◌-◌, ◌&&◌, nat_eq, nat_lt, nat_le, not, Bool, true, false, List, [], ◌∷◌, length, slice_get, Option, Some, None, refl, sym, ap, ◌∙◌, subst}
-use Rattle.rb_code.specs.Instructions.Plain.{Block, Code}
+use Rattle.std.proofs.Common.{◌≡◌, ℕ, suc, ◌+◌, ◌-◌, nat_eq, nat_lt, nat_le, not, Bool, true, false, List, [], ◌∷◌, length, slice_get, Option, Some, None, refl, sym, ap, ◌∙◌, subst}
+use Rattle.rb_code.specs.Instructions.Plain.{Code}
 use Rattle.rb_world.specs.Kind.{Membership}
-use Rattle.rb_code.specs.WordMachine.Workspace.{part_of}
-use Rattle.rb_code.specs.SoundCode.Sound.{Entry, Has, IsWeaker, Table, WeakerMode, WeakerOperand, WeakerOperands, alternates_at, at_address, changed, conversation_of, end_of_loop, freed, with_operands, Loop, Mode, OpenBlock, Fresh, MayPut, MayTake, Begun, Free, Changed}
+use Rattle.rb_code.specs.SoundCode.Sound.{Entry, Has, IsWeaker, Table, WeakerMode, WeakerOperand, WeakerOperands, alternates_at, at_address, end_of_loop, freed, with_operands, Mode, OpenBlock, Fresh, MayPut, MayTake, Begun, Free, Changed}
 use Rattle.rb_base.specs.declared.limits.TheConstants.{MOST_OPERANDS, MOST_ITEMS}
-use Rattle.rb_verify.specs.Flow.{Keeps, Steps, and_to, begins, below_in_range, flow, flow_at, flow_by, goes, goes_both, goes_to_each, in_main, in_range, innermost, is_above, is_ahead, is_entered, is_fresh, is_loop, is_none, is_receiver, is_sender, is_set, last_of, may_frame, may_put, may_take, may_trap, no_blocks, no_loops, prior_in_range, pushes, takes_one, takes_two, top, when, words_at}
-use Rattle.rb_verify.proofs.Weaker.{alike, arrives_weaker, has_stronger, itself, mode_freed, mode_itself, operands_itself, operand_itself}
+use Rattle.rb_verify.specs.Flow.{Keeps, Steps, and_to, below_in_range, flow, flow_at, flow_by, goes, goes_both, goes_to_each, in_main, in_range, is_above, is_ahead, is_entered, is_fresh, is_loop, is_none, is_receiver, is_sender, is_set, last_of, may_frame, may_put, may_take, may_trap, no_loops, prior_in_range, pushes, takes_one, takes_two, top, when, words_at}
+use Rattle.rb_verify.proofs.Weaker.{alike, arrives_weaker, has_stronger, mode_freed}
 use Rattle.rb_code.specs.declared.instr.Spot.{Spot}
 use Rattle.rb_code.specs.declared.instr.Instr.{Instr}
 use Rattle.rb_code.specs.declared.instr.Instr.TheVariants.{Turn, Push, Load, Prior, Bound, LoadAt, PriorAt, Store, StoreAt, Add, Sub, Mul, Div, Rem, Eq, Ne, Lt, Le, Gt, Ge, Neg, Not, Bool as ToBool, Jump, JumpZero, Frame, Drop, Text, Item, Print, Room, Put, There, Take, Call, Return, Fail, Enter, Start, Test, Done, Range, Again, Counter, Absent}

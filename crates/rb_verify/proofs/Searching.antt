@@ -1,14 +1,14 @@
 -- A search that has followed all addresses has found a table; and where it can't go on there is none.
-use Rattle.std.proofs.Common.{◌≡◌, ◌⊎◌, inl, inr, ℕ, zero, suc, ◌+◌, ◌<◌, Bool, true, false, List, [], ◌∷◌, filter, slice_get, Option, Some, None, refl, sym, ap, ◌∙◌, subst, nat_eq, eqb-true, eq-eqb}
-use Rattle.rb_code.specs.Instructions.Plain.{Code, Part}
+use Rattle.std.proofs.Common.{◌≡◌, ◌⊎◌, inl, inr, ℕ, Bool, true, false, List, [], ◌∷◌, filter, slice_get, Option, Some, None, refl, sym, ap, ◌∙◌, subst, nat_eq, eqb-true, eq-eqb}
+use Rattle.rb_code.specs.Instructions.Plain.{Code}
 use Rattle.rb_world.specs.Kind.{Membership}
 use Rattle.rb_code.specs.declared.instr.Instr.{Instr}
-use Rattle.rb_code.specs.SoundCode.Sound.{Loop, Entry, FineAt, Has, HasTable, IsAbove, IsSoundAt, IsWeaker, Table, at_address, is_in}
-use Rattle.rb_verify.specs.Flow.{Keeps, Step, Steps, Takes, begins, flow_at, flow_by, flow, is_above, when}
+use Rattle.rb_code.specs.SoundCode.Sound.{Loop, Entry, FineAt, Has, HasTable, IsAbove, IsWeaker, Table, at_address, is_in}
+use Rattle.rb_verify.specs.Flow.{Keeps, Step, Steps, Takes, begins, flow_at, flow_by, flow, is_above}
 use Rattle.rb_verify.specs.Join.{joined}
-use Rattle.rb_verify.specs.Search.{Gains, HasGained, HasNoTable, HasEntry, HasStarts, IsBelow, IsLedTo, IsFollowing, IsFound, IsSearching, IsSettled, IsStrongest, LiesAround, Pending}
+use Rattle.rb_verify.specs.Search.{Gains, HasGained, HasNoTable, HasEntry, HasStarts, IsBelow, IsLedTo, IsFollowing, IsFound, IsSearching, IsStrongest, LiesAround, Pending}
 use Rattle.rb_verify.proofs.Tests.{above_tells}
-use Rattle.rb_verify.proofs.Weaker.{begun_is, has_stronger, itself, weaker_on}
+use Rattle.rb_verify.proofs.Weaker.{begun_is, has_stronger, itself}
 use Rattle.rb_verify.proofs.FlowIsFine.{fine_is_flow, when1}
 use Rattle.rb_verify.proofs.Monotone.{flow_is_monotone}
 use Rattle.rb_verify.proofs.Led.{covers, led_is_reached}

@@ -1,7 +1,7 @@
 -- The first addresses of procedures, as they are put into a set, and the sets of all processes.
-use Rattle.std.proofs.Common.{◌≡◌, ◌⊎◌, inl, inr, ℕ, zero, suc, ◌+◌, ◌<◌, ◌≤◌, Bool, true, false, nat_eq, cond, drop, List, [], ◌∷◌, ◌++◌, length, map, slice_get, get_or, add-one, eqb-true, eq-eqb, Option, Some, None, refl, sym, ap, ◌∙◌, subst, arith}
+use Rattle.std.proofs.Common.{◌≡◌, ◌⊎◌, inl, inr, ℕ, zero, suc, ◌+◌, ◌<◌, ◌≤◌, Bool, true, false, nat_eq, cond, drop, List, [], ◌∷◌, ◌++◌, length, map, slice_get, get_or, add-one, eqb-true, eq-eqb, Option, Some, None, refl, sym, ap, ◌∙◌, arith}
 use Rattle.std.proofs.lemmas.List.{length-map}
-use Rattle.std.proofs.lemmas.Option.{slice_get_past, slice_get-get_or}
+use Rattle.std.proofs.lemmas.Option.{slice_get_past}
 use Rattle.std.specs.BTreeSet.{BTreeSet, contains}
 use Rattle.std.proofs.Math.Seq.{drop-cons}
 use Rattle.std.specs.BTreeMap.{is_at}
@@ -9,7 +9,7 @@ use Rattle.std.specs.Cmp.{nat_cmp_is}
 use Rattle.std.specs.declared.cmp.Ordering.TheVariants.{Less, Equal, Greater}
 use Rattle.std.specs.Option.{unwrap_or}
 use Rattle.std.specs.Ordering.{is_eq, nat_cmp}
-use Rattle.rb_code.specs.Instructions.Plain.{Code, Part, Procedure, part, procedure}
+use Rattle.rb_code.specs.Instructions.Plain.{Code, Part, part, procedure}
 use Rattle.rb_code.specs.WordMachine.Workspace.{no_part, part_of}
 use Rattle.rb_code.specs.declared.code.ProcedureCode.{ProcedureCode}
 use Rattle.rb_code.specs.declared.code.ProcessCode.{ProcessCode}

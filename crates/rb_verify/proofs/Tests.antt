@@ -1,10 +1,10 @@
 -- What the tests of rules tell.
-use Rattle.std.proofs.Common.{◌≡◌, ◌⊎◌, inl, inr, ◌↔◌, ℕ, zero, suc, ◌+◌, ◌<◌, ◌≤◌, ◌&&◌, nat_eq, nat_lt, nat_le, not, Bool, true, false, List, [], ◌∷◌, length, slice_get, Option, Some, None, refl, sym, ap, ◌∙◌, subst, arith, eq-eqb, eqb-true, lt-ltb, ltb-true, le-leb, leb-true}
+use Rattle.std.proofs.Common.{◌≡◌, ◌⊎◌, inl, inr, ◌↔◌, ℕ, ◌+◌, ◌<◌, ◌≤◌, ◌&&◌, nat_eq, nat_lt, nat_le, not, Bool, true, false, List, [], ◌∷◌, slice_get, Option, Some, None, refl, ap, eq-eqb, eqb-true, lt-ltb, ltb-true, le-leb, leb-true}
 use Rattle.rb_code.specs.Instructions.Plain.{Block, Code, Procedure}
 use Rattle.rb_world.specs.Kind.{Ends, Membership}
 use Rattle.rb_world.specs.Turn.{members_of}
 use Rattle.rb_world.specs.Reject.{parent_of}
-use Rattle.rb_code.specs.SoundCode.Sound.{Entry, InRange, IsAbove, IsAhead, IsBelow, InnermostIs, IsMember, IsOpen, IsProcedureAt, IsOfProcedure, IsReceiver, IsSender, IsSet, LiesIn, MayEnter, MayFrame, MayTrap, RestartIs, Table, conversation_of, Loop, Mode, OpenBlock, Within, Fresh, MayPut, MayTake, Begun, Free, Changed}
+use Rattle.rb_code.specs.SoundCode.Sound.{Entry, InRange, IsAbove, IsAhead, IsBelow, InnermostIs, IsMember, IsOpen, IsProcedureAt, IsOfProcedure, IsReceiver, IsSender, IsSet, LiesIn, MayEnter, MayFrame, MayTrap, RestartIs, Table, conversation_of, Loop, Mode, OpenBlock, Fresh, MayPut, MayTake, Begun, Free, Changed}
 use Rattle.rb_verify.specs.Flow.{below_in_range, either, in_range, is_above, is_ahead, in_main, is_among, is_conversation, is_entered, is_fresh, is_loop, is_none, is_receiver, is_sender, is_set, is_start_among, is_this_loop, is_turn, lies_in, may_enter, may_frame, may_put, may_take, may_trap, no_blocks, no_loops, prior_in_range, restarts_at}
 use Rattle.rb_code.specs.declared.instr.Spot.{Spot}
 use Rattle.rb_code.specs.declared.instr.Spot.TheVariants.{Global, Local}

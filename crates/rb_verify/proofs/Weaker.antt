@@ -1,6 +1,6 @@
 -- Weaker entries: each is weaker than itself, and what is weaker than a weaker one is.
-use Rattle.std.proofs.Common.{◌≡◌, ◌↔◌, ℕ, Bool, true, false, List, [], ◌∷◌, filter, Option, Some, None, refl, sym, ap, ◌∙◌, subst}
-use Rattle.rb_code.specs.SoundCode.Sound.{BeginsAs, Entry, Has, IsWeaker, Table, WeakerMode, WeakerOperand, WeakerOperands, at_address, freed, is_in, Loop, Mode, Fresh, MayPut, MayTake, Begun, Free, Changed}
+use Rattle.std.proofs.Common.{◌≡◌, ◌↔◌, ℕ, List, [], ◌∷◌, filter, Option, Some, None, refl, sym, ap, ◌∙◌, subst}
+use Rattle.rb_code.specs.SoundCode.Sound.{BeginsAs, Entry, Has, IsWeaker, WeakerMode, WeakerOperand, WeakerOperands, at_address, freed, is_in, Mode, Fresh, MayPut, MayTake, Begun, Free, Changed}
 use Rattle.rb_verify.specs.Flow.{begins}
 
 pub operand_itself : (o : Option ℕ) → WeakerOperand o o

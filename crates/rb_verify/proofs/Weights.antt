@@ -1,5 +1,5 @@
 -- What is weakened is lighter.
-use Rattle.std.proofs.Common.{◌≡◌, ◌⊎◌, inl, inr, ℕ, zero, suc, ◌+◌, ◌<◌, ◌≤◌, List, [], ◌∷◌, length, set, slice_get, Option, Some, None, refl, sym, ap, ◌∙◌, subst, arith}
+use Rattle.std.proofs.Common.{◌≡◌, ◌⊎◌, inl, inr, ℕ, zero, suc, ◌+◌, ◌<◌, ◌≤◌, List, [], ◌∷◌, length, set, slice_get, Option, Some, None, refl, sym, ap, arith}
 use Rattle.rb_code.specs.SoundCode.Sound.{Entry, IsWeaker, WeakerMode, WeakerOperand, WeakerOperands, Mode, Fresh, MayPut, MayTake, Begun, Free, Changed}
 use Rattle.rb_base.specs.declared.limits.TheConstants.{MOST_OPERANDS}
 use Rattle.rb_verify.specs.Weight.{bound, bounds, total, unchanged, weight}

@@ -1,5 +1,5 @@
 -- Lists that share their ends, made of nodes in one list.
-use Rattle.std.specs.Prelude.{◌≡◌, ℕ, ◌+◌, ◌≤◌, List, [], ◌∷◌, ◌++◌, length, get_or, slice_get, Option, Some}
+use Rattle.std.specs.Prelude.{◌≡◌, ℕ, ◌+◌, ◌≤◌, List, [], ◌∷◌, ◌++◌, length, get_or, slice_get, Some}
 use Rattle.rb_verify.specs.declared.blocks.BlockNode.{BlockNode}
 use Rattle.rb_code.specs.SoundCode.Sound.{OpenBlock}
 use Rattle.rb_verify.specs.Parts.{block_of}

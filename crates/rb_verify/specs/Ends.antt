@@ -1,5 +1,5 @@
 -- The end of a loop as it is kept: one more, or 0 where there is none.
-use Rattle.std.specs.Prelude.{◌≡◌, ℕ, zero, suc, ◌<◌, Bool, true, false, List, [], length, get_or, slice_get, Option, Some, None}
+use Rattle.std.specs.Prelude.{◌≡◌, ℕ, zero, suc, ◌<◌, Bool, false, List, [], length, get_or, slice_get, Option, Some, None}
 use Rattle.rb_code.specs.Instructions.Plain.{Code, Part, Procedure}
 use Rattle.std.specs.BTreeSet.{BTreeSet, contains}
 use Rattle.std.specs.Ordering.{nat_cmp}

@@ -1,5 +1,5 @@
 -- The rules of instructions as a function: where an instruction leads from an entry, and with which entries, or that its rule is broken.
-use Rattle.std.specs.Prelude.{◌≡◌, ℕ, ◌+◌, ◌-◌, ◌&&◌, nat_le, nat_lt, nat_eq, not, Bool, true, false, List, [], ◌∷◌, length, slice_get, Option, Some, None}
+use Rattle.std.specs.Prelude.{ℕ, ◌+◌, ◌-◌, ◌&&◌, nat_le, nat_lt, nat_eq, not, Bool, true, false, List, [], ◌∷◌, length, slice_get, Option, Some, None}
 use Rattle.rb_code.specs.Instructions.Plain.{Block, Code, Procedure}
 use Rattle.rb_world.specs.Kind.{Ends, Membership}
 use Rattle.rb_world.specs.Turn.{members_of}

@@ -1,9 +1,8 @@
 -- What the search holds in memory, as a table and the addresses that are to be followed.
-use Rattle.std.specs.Prelude.{◌≡◌, ◌⊎◌, ℕ, ◌≤◌, Bool, true, false, List, [], ◌∷◌, slice_get, Option, Some, None, option_map, Contains}
-use Rattle.rb_code.specs.SoundCode.Sound.{Entry, Has, Table, at_address, alternates_at}
+use Rattle.std.specs.Prelude.{◌≡◌, ◌⊎◌, ℕ, ◌≤◌, Bool, true, false, List, [], slice_get, Option, Some, None, option_map, Contains}
+use Rattle.rb_code.specs.SoundCode.Sound.{Table, alternates_at}
 use Rattle.rb_code.specs.Instructions.Plain.{Code}
-use Rattle.rb_world.specs.Kind.{Membership}
-use Rattle.rb_verify.specs.Flow.{Keeps, Steps, goes, goes_both, goes_to_each, flow_at}
+use Rattle.rb_verify.specs.Flow.{Keeps, Steps, goes, goes_both, goes_to_each}
 use Rattle.rb_verify.specs.Search.{IsBelow, Pending}
 use Rattle.rb_verify.specs.Held.{HasGrown, IsHeld, entry_of}
 use Rattle.rb_verify.specs.declared.entry.Held.{Held}

@@ -2,7 +2,7 @@
 use Rattle.std.specs.Prelude.{◌≡◌, ◌⊎◌, ℕ, ◌<◌, Bool, true, false, List, [], ◌∷◌, filter, slice_get, Option, Some, None}
 use Rattle.rb_code.specs.Instructions.Plain.{Code, Part}
 use Rattle.rb_world.specs.Kind.{Membership}
-use Rattle.rb_code.specs.SoundCode.Sound.{Entry, Has, HasTable, Table, at_address, is_in}
+use Rattle.rb_code.specs.SoundCode.Sound.{Entry, Has, HasTable, Table, is_in}
 use Rattle.rb_code.specs.SoundCode.Reached.{Reached}
 use Rattle.rb_verify.specs.Flow.{Keeps, Step, Steps, Takes, begins, flow_at}
 

@@ -1,6 +1,6 @@
 -- How often what is known at an address can be weakened: once for each operand that is below a number, once for its mode, and once more
 -- where nothing is known.
-use Rattle.std.specs.Prelude.{ℕ, ◌+◌, List, [], ◌∷◌, length, Option, Some, None}
+use Rattle.std.specs.Prelude.{ℕ, ◌+◌, List, [], ◌∷◌, Option, Some, None}
 use Rattle.rb_code.specs.SoundCode.Sound.{Entry, Mode, Changed}
 use Rattle.rb_base.specs.declared.limits.TheConstants.{MOST_OPERANDS}
 

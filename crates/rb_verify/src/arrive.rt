@@ -1,13 +1,13 @@
 //! A step arrives at an address.
 
-ghost use Rattle.std.specs.Prelude.{◌≡◌, ℕ, ◌<◌, ◌+◌, List, [], ◌∷◌, length, set, filter, slice_get, Option, Some, None, true, IfOk, IfErr, Contains};
+ghost use Rattle.std.specs.Prelude.{◌≡◌, ℕ, ◌<◌, [], ◌∷◌, length, set, filter, slice_get, Some, None, true, IfOk, IfErr, Contains};
 ghost use Rattle.rb_verify.specs.declared.cell.Refusal.TheVariants.{Memory};
-ghost use Rattle.rb_code.specs.SoundCode.Sound.{at_address, is_in, Has, Table};
+ghost use Rattle.rb_code.specs.SoundCode.Sound.{at_address, is_in};
 ghost use Rattle.rb_verify.specs.Flow.{goes};
 ghost use Rattle.rb_verify.specs.Held.{entry_of, IsHeld, HasGrown};
 ghost use Rattle.rb_verify.specs.Parts.{loop_of, loops_of};
-ghost use Rattle.rb_verify.specs.Search.{Gains, IsBelow};
-ghost use Rattle.rb_verify.specs.Found.{found, held_in, pending, IfUnsound, IsWell, IsWithin, NoneTakes};
+ghost use Rattle.rb_verify.specs.Search.{Gains};
+ghost use Rattle.rb_verify.specs.Found.{found, held_in, pending, IfUnsound, IsWell, NoneTakes};
 ghost use Rattle.rb_verify.specs.declared.lists.Lists.{Lists as AllLists};
 
 use crate::cell::{Cell, Refusal};

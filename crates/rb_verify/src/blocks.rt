@@ -1,6 +1,6 @@
 //! Lists that share their ends, each by its number: the open blocks of all entries.
 
-ghost use Rattle.std.specs.Prelude.{◌≡◌, ℕ, ◌<◌, List, [], ◌∷◌, ◌++◌, length, get_or, Option, IfOk, MatchOption};
+ghost use Rattle.std.specs.Prelude.{◌≡◌, ◌<◌, List, [], ◌∷◌, ◌++◌, length, get_or, Option, IfOk, MatchOption};
 ghost use Rattle.rb_verify.specs.Blocks.{blocks_of, AreBlocked};
 ghost use Rattle.rb_verify.specs.Parts.{block_of};
 

@@ -10,7 +10,7 @@ pub struct Cell {
 }
 
 /// Why code is refused: it is not sound, or memory is wanting.
-#[derive(Clone, Copy, Debug, PartialEq, Eq)]
+#[derive(Clone, Copy)]
 pub enum Refusal {
     Unsound,
     Memory,

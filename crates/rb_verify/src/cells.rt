@@ -1,6 +1,6 @@
 //! What is known at all addresses, in little room: what addresses near each other have in common is kept once.
 
-ghost use Rattle.std.specs.Prelude.{◌≡◌, ℕ, ◌<◌, ◌≤◌, List, length, replicate, set, slice_get, Option, Some, None, option_map, true, false, IfOk};
+ghost use Rattle.std.specs.Prelude.{◌≡◌, ◌<◌, ◌≤◌, List, length, replicate, set, slice_get, Option, Some, None, option_map, true, false, IfOk};
 ghost use Rattle.rb_verify.specs.Cells.{cell_of, cells_of, context_in, entry_with, AreKept};
 ghost use Rattle.rb_verify.specs.Found.{pending};
 ghost use Rattle.rb_verify.specs.Held.{IsFront};

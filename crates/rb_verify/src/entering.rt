@@ -1,6 +1,6 @@
 //! Where the entry, the start and the test of a recovery block lead.
 
-ghost use Rattle.std.specs.Prelude.{◌≡◌, ℕ, ◌<◌, ◌+◌, ◌-◌, List, [], ◌∷◌, length, get_or, slice_get, Option, Some, None, IfOk, IfSome};
+ghost use Rattle.std.specs.Prelude.{◌≡◌, ◌<◌, ◌+◌, ◌-◌, [], ◌∷◌, length, Some, None, IfOk};
 ghost use Rattle.rb_code.specs.Instructions.Plain.{code as plain};
 ghost use Rattle.rb_conv.specs.Conversations.{memberships, opening};
 ghost use Rattle.rb_verify.specs.Held.{entry_of, operands_of, IsHeld};
@@ -79,24 +79,19 @@ pub fn enter(
         conversation,
         entry.within,
     );
+    let all = is_fresh(entry.mode) & none & restarts & turns & may;
+    if !all {
+        return Ok(Way::Broken);
+    }
     let block = OpenBlock {
         number: b,
         words: entry.words,
     };
-    match put_block(code, lists, at, entry, block) {
-        Err(_) => Err(Memory),
-        Ok(way) => {
-            let way = when(may, way);
-            let way = when(turns, way);
-            let way = when(restarts, way);
-            let way = when(none, way);
-            Ok(when(is_fresh(entry.mode), way))
-        }
-    }
+    put_block(code, lists, at, entry, block)
 }
 
 /// To each alternate.
-#[tactic(auto, using(crate::proofs::Chosen::chosen_leads, crate::proofs::Chosen::chosen_held))]
+#[tactic(auto, using(crate::proofs::Chosen::chosen_leads, crate::proofs::Chosen::chosen_held, crate::proofs::Chosen::when_and))]
 pub fn start(code: &Code, nested: &Nested, lists: &Lists, at: u32, entry: Held, b: u32) -> Way
     requires held { IsHeld lists.now entry }
     requires at { at < 4294967295 }
@@ -108,14 +103,13 @@ pub fn start(code: &Code, nested: &Nested, lists: &Lists, at: u32, entry: Held, 
         mode: Mode::Begun,
         ..entry
     };
-    let way = Way::Each(begun, b);
-    let way = when(is_entered(&lists.blocks, entry.blocks, b, entry.words), way);
-    let way = when(is_none(&lists.operands, entry.operands), way);
-    when(is_fresh(entry.mode), way)
+    let entered = is_entered(&lists.blocks, entry.blocks, b, entry.words);
+    let none = is_none(&lists.operands, entry.operands);
+    when(is_fresh(entry.mode) & none & entered, Way::Each(begun, b))
 }
 
 /// A block is closed.
-#[tactic(auto, using(crate::proofs::Chosen::chosen_leads, crate::proofs::Chosen::chosen_held, crate::proofs::Chosen::when_none))]
+#[tactic(auto, using(crate::proofs::Chosen::chosen_leads, crate::proofs::Chosen::chosen_held, crate::proofs::Chosen::when_and, crate::proofs::Chosen::when_none))]
 pub fn test(
     code: &Code,
     nested: &Nested,
@@ -144,12 +138,9 @@ pub fn test(
                     mode: Mode::Changed,
                     ..entry
                 };
-                let way = Way::One(at + 1, closed);
-                let way = when(block.top.words == entry.words, way);
-                let way = when(block.top.number == b, way);
-                let way = when(no_loops(entry.loops), way);
-                let way = when(entry.pieces == 0, way);
-                when(may_trap(entry.mode), way)
+                let same = (block.top.number == b) & (block.top.words == entry.words);
+                let none = (entry.pieces == 0) & no_loops(entry.loops);
+                when(may_trap(entry.mode) & none & same, Way::One(at + 1, closed))
             }
         },
     }

@@ -1,6 +1,6 @@
 //! Where the instruction at an address leads.
 
-ghost use Rattle.std.specs.Prelude.{◌≡◌, ℕ, ◌<◌, ◌+◌, ◌-◌, List, [], ◌∷◌, length, get_or, slice_get, Option, Some, None, IfOk, IfSome};
+ghost use Rattle.std.specs.Prelude.{◌≡◌, ◌<◌, ◌-◌, [], ◌∷◌, length, slice_get, Option, Some, None, IfOk};
 ghost use Rattle.rb_code.specs.Instructions.Plain.{code as plain};
 ghost use Rattle.rb_conv.specs.Conversations.{memberships, opening};
 ghost use Rattle.rb_verify.specs.Held.{entry_of, operands_of, IsHeld};
@@ -25,7 +25,7 @@ use crate::pushing::{counter, load, prior, pushes, take};
 use crate::rules::is_above;
 use crate::stacks::Top;
 use crate::taking::{item, jump_zero, put_message, range, store, store_at};
-use crate::way::{Way, when};
+use crate::way::Way;
 use rb_base::{Memory, Nested};
 use rb_code::{Code, Instr};
 
@@ -49,11 +49,10 @@ pub fn flow(
     match instr_at(code, at) {
         None => Ok(Way::Broken),
         Some(instr) => {
-            let above = is_above(&lists.blocks, entry.blocks, entry.words);
-            match flow_of(code, nested, ends, lists, at, instr, entry) {
-                Err(_) => Err(Memory),
-                Ok(way) => Ok(when(above, way)),
+            if !is_above(&lists.blocks, entry.blocks, entry.words) {
+                return Ok(Way::Broken);
             }
+            flow_of(code, nested, ends, lists, at, instr, entry)
         }
     }
 }
@@ -117,6 +116,7 @@ fn shape_of(instr: Instr) -> Shape
 }
 
 // Where an instruction leads at an address.
+#[tactic(auto, using(crate::proofs::Chosen::quiet_call))]
 fn flow_of(
     code: &Code,
     nested: &Nested,
@@ -136,20 +136,11 @@ fn flow_of(
         Shape::Pushes => pushing(code, nested, lists, at, instr, entry),
         Shape::Operates => operating(code, nested, lists, at, instr, entry),
         Shape::Takes => match lists.operands.top(entry.operands) {
-            None => match lacking(code, nested, lists, at, instr, entry) {
-                Err(_) => Err(Memory),
-                Ok(way) => Ok(way),
-            },
-            Some(x) => match taking(code, nested, ends, lists, at, instr, entry, x) {
-                Err(_) => Err(Memory),
-                Ok(way) => Ok(way),
-            },
+            None => lacking(code, nested, lists, at, instr, entry),
+            Some(x) => taking(code, nested, ends, lists, at, instr, entry, x),
         },
         Shape::Enters(b) => enter(code, nested, lists, at, entry, b),
-        Shape::Moves => match moving(code, nested, ends, lists, at, instr, entry) {
-            Err(_) => Err(Memory),
-            Ok(way) => Ok(way),
-        },
+        Shape::Moves => moving(code, nested, ends, lists, at, instr, entry),
     }
 }
 

@@ -1,7 +1,6 @@
 //! Where two entries meet.
 
-ghost use Rattle.std.specs.Prelude.{◌≡◌, ℕ, ◌<◌, ◌&&◌, nat_eq, List, [], ◌∷◌, ◌++◌, length, get_or, Option, Some, None, option_map, IfOk, true};
-ghost use Rattle.rb_verify.specs.Flow.{is_none};
+ghost use Rattle.std.specs.Prelude.{◌≡◌, ◌<◌, ◌&&◌, [], ◌∷◌, length, get_or, Option, Some, None, option_map, IfOk, true};
 ghost use Rattle.rb_verify.specs.Held.{entry_of, IsFront, IsHeld, HasGrown};
 ghost use Rattle.rb_verify.specs.Join.{is_alike, joined, met_mode, met_operand, met_operands, same_procedure, same_block, same_blocks, same_loop, same_loops, same_mode, same_within};
 ghost use Rattle.rb_verify.specs.Parts.{block_of, loop_of, loops_of, mode_of, within_of};

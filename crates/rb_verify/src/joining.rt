@@ -1,9 +1,9 @@
 //! Whether each member of a conversation has exactly one block of it, with its number of alternates.
 
-ghost use Rattle.std.specs.Prelude.{◌≡◌, ℕ, ◌<◌, ◌+◌, ◌^◌, List, length, slice_get, Option, Some, None, option_map, IfOk};
+ghost use Rattle.std.specs.Prelude.{◌≡◌, ◌<◌, ◌^◌, length, slice_get, Option, Some, None, IfOk};
 ghost use Rattle.rb_code.specs.Instructions.Plain.{code as plain};
-ghost use Rattle.rb_verify.specs.Found.{found, held_in};
-ghost use Rattle.rb_verify.specs.Joinings.{conversed, entered, first_of as first_such, groups_join, joining_at as joining_there, joins_once as has_once, members_join, noted, only_block, AreJoinings};
+ghost use Rattle.rb_verify.specs.Found.{found};
+ghost use Rattle.rb_verify.specs.Joinings.{entered, first_of as first_such, groups_join, joining_at as joining_there, joins_once as has_once, members_join, noted, only_block, AreJoinings};
 
 use crate::cells::Cells;
 use crate::lists::Lists;

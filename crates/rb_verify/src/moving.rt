@@ -1,9 +1,9 @@
 //! Where the instructions lead that touch no operand.
 
-ghost use Rattle.std.specs.Prelude.{◌≡◌, ℕ, ◌<◌, ◌+◌, ◌-◌, List, [], ◌∷◌, length, get_or, slice_get, Option, Some, None, IfOk, IfSome};
+ghost use Rattle.std.specs.Prelude.{◌≡◌, ◌<◌, ◌+◌, ◌-◌, [], length, Some, None, IfOk};
 ghost use Rattle.rb_code.specs.Instructions.Plain.{code as plain};
 ghost use Rattle.rb_conv.specs.Conversations.{memberships, opening};
-ghost use Rattle.rb_verify.specs.Held.{entry_of, operands_of, IsHeld};
+ghost use Rattle.rb_verify.specs.Held.{entry_of, IsHeld};
 ghost use Rattle.rb_verify.specs.Flow.{flow as leads};
 ghost use Rattle.rb_verify.specs.Ends.{AreEnds};
 ghost use Rattle.rb_verify.specs.Found.{steps_of, AreHeld};
@@ -22,7 +22,7 @@ use rb_base::{Memory, Nested};
 use rb_code::Code;
 
 /// A turn begins.
-#[tactic(auto, using(crate::proofs::Chosen::chosen_leads, crate::proofs::Chosen::chosen_held))]
+#[tactic(auto, using(crate::proofs::Chosen::chosen_leads, crate::proofs::Chosen::chosen_held, crate::proofs::Chosen::when_and))]
 pub fn turn(code: &Code, nested: &Nested, lists: &Lists, at: u32, entry: Held) -> Way
     requires held { IsHeld lists.now entry }
     requires at { at < 4294967295 }
@@ -37,9 +37,8 @@ pub fn turn(code: &Code, nested: &Nested, lists: &Lists, at: u32, entry: Held) -
             ..entry
         },
     );
-    let way = when(no_loops(entry.loops), way);
-    let way = when(entry.pieces == 0, way);
-    when(is_none(&lists.operands, entry.operands), way)
+    let none = is_none(&lists.operands, entry.operands);
+    when(none & (entry.pieces == 0) & no_loops(entry.loops), way)
 }
 
 /// To an address.
@@ -51,14 +50,16 @@ pub fn jump(code: &Code, nested: &Nested, lists: &Lists, at: u32, entry: Held, b
         ≡ leads (plain code.now) (memberships (opening nested.now)) (Jump b) at (entry_of lists.now entry) }
     ensures held { AreHeld lists.now result }
 {
-    let way = Way::One(
+    if !is_ahead(code, at, b) {
+        return Way::Broken;
+    }
+    Way::One(
         b,
         Held {
             mode: freed(entry.mode),
             ..entry
         },
-    );
-    when(is_ahead(code, at, b), way)
+    )
 }
 
 /// More words. Those that 64 bits do not count are answered with Memory.
@@ -160,7 +161,7 @@ pub fn print(code: &Code, nested: &Nested, lists: &Lists, at: u32, entry: Held) 
 }
 
 /// A channel has room.
-#[tactic(auto, using(crate::proofs::Chosen::chosen_leads, crate::proofs::Chosen::chosen_held))]
+#[tactic(auto, using(crate::proofs::Chosen::chosen_leads, crate::proofs::Chosen::chosen_held, crate::proofs::Chosen::when_and))]
 pub fn room(code: &Code, nested: &Nested, lists: &Lists, at: u32, entry: Held, channel: u32) -> Way
     requires held { IsHeld lists.now entry }
     requires at { at < 4294967295 }
@@ -175,13 +176,12 @@ pub fn room(code: &Code, nested: &Nested, lists: &Lists, at: u32, entry: Held, c
             ..entry
         },
     );
-    let way = when(is_sender(code, channel, entry.within.process), way);
-    let way = when(is_main(entry.within), way);
-    when(is_fresh(entry.mode), way)
+    let sends = is_sender(code, channel, entry.within.process);
+    when(is_fresh(entry.mode) & is_main(entry.within) & sends, way)
 }
 
 /// A message is there.
-#[tactic(auto, using(crate::proofs::Chosen::chosen_leads, crate::proofs::Chosen::chosen_held))]
+#[tactic(auto, using(crate::proofs::Chosen::chosen_leads, crate::proofs::Chosen::chosen_held, crate::proofs::Chosen::when_and))]
 pub fn there(code: &Code, nested: &Nested, lists: &Lists, at: u32, entry: Held, channel: u32) -> Way
     requires held { IsHeld lists.now entry }
     requires at { at < 4294967295 }
@@ -196,13 +196,12 @@ pub fn there(code: &Code, nested: &Nested, lists: &Lists, at: u32, entry: Held, 
             ..entry
         },
     );
-    let way = when(is_receiver(code, channel, entry.within.process), way);
-    let way = when(is_main(entry.within), way);
-    when(is_fresh(entry.mode), way)
+    let takes = is_receiver(code, channel, entry.within.process);
+    when(is_fresh(entry.mode) & is_main(entry.within) & takes, way)
 }
 
 /// A message is there, or it is not.
-#[tactic(auto, using(crate::proofs::Chosen::chosen_leads, crate::proofs::Chosen::chosen_held))]
+#[tactic(auto, using(crate::proofs::Chosen::chosen_leads, crate::proofs::Chosen::chosen_held, crate::proofs::Chosen::when_and))]
 pub fn absent(
     code: &Code,
     nested: &Nested,
@@ -227,10 +226,9 @@ pub fn absent(
         ..entry
     };
     let way = Way::Two(b, without, at + 1, with);
-    let way = when(is_ahead(code, at, b), way);
-    let way = when(is_receiver(code, channel, entry.within.process), way);
-    let way = when(is_main(entry.within), way);
-    when(is_fresh(entry.mode), way)
+    let takes = is_receiver(code, channel, entry.within.process);
+    let may = is_fresh(entry.mode) & is_main(entry.within) & takes & is_ahead(code, at, b);
+    when(may, way)
 }
 
 /// A call of a procedure, and what stands behind it.
@@ -280,7 +278,7 @@ pub fn call(
 }
 
 /// A procedure ends.
-#[tactic(auto, using(crate::proofs::Chosen::chosen_leads, crate::proofs::Chosen::chosen_held))]
+#[tactic(auto, using(crate::proofs::Chosen::chosen_leads, crate::proofs::Chosen::chosen_held, crate::proofs::Chosen::when_and))]
 pub fn returns(code: &Code, nested: &Nested, lists: &Lists, at: u32, entry: Held) -> Way
     requires held { IsHeld lists.now entry }
     requires at { at < 4294967295 }
@@ -288,14 +286,13 @@ pub fn returns(code: &Code, nested: &Nested, lists: &Lists, at: u32, entry: Held
         ≡ leads (plain code.now) (memberships (opening nested.now)) Return at (entry_of lists.now entry) }
     ensures held { AreHeld lists.now result }
 {
-    let way = when(no_blocks(&lists.blocks, entry.blocks), Way::Ends);
-    let way = when(entry.pieces == 0, way);
-    let way = when(is_none(&lists.operands, entry.operands), way);
-    when(!is_main(entry.within), way)
+    let none = is_none(&lists.operands, entry.operands);
+    let all = none & (entry.pieces == 0) & no_blocks(&lists.blocks, entry.blocks);
+    when(!is_main(entry.within) & all, Way::Ends)
 }
 
 /// A process is done.
-#[tactic(auto, using(crate::proofs::Chosen::chosen_leads, crate::proofs::Chosen::chosen_held))]
+#[tactic(auto, using(crate::proofs::Chosen::chosen_leads, crate::proofs::Chosen::chosen_held, crate::proofs::Chosen::when_and))]
 pub fn done(code: &Code, nested: &Nested, lists: &Lists, at: u32, entry: Held) -> Way
     requires held { IsHeld lists.now entry }
     requires at { at < 4294967295 }
@@ -303,10 +300,9 @@ pub fn done(code: &Code, nested: &Nested, lists: &Lists, at: u32, entry: Held) -
         ≡ leads (plain code.now) (memberships (opening nested.now)) Done at (entry_of lists.now entry) }
     ensures held { AreHeld lists.now result }
 {
-    let way = when(no_blocks(&lists.blocks, entry.blocks), Way::Ends);
-    let way = when(entry.pieces == 0, way);
-    let way = when(is_none(&lists.operands, entry.operands), way);
-    when(is_main(entry.within), way)
+    let none = is_none(&lists.operands, entry.operands);
+    let all = none & (entry.pieces == 0) & no_blocks(&lists.blocks, entry.blocks);
+    when(is_main(entry.within) & all, Way::Ends)
 }
 
 /// What stands behind counts as its next address.
@@ -323,7 +319,7 @@ pub fn fail(code: &Code, nested: &Nested, lists: &Lists, at: u32, entry: Held) -
 }
 
 /// Back to the first address of a loop, and past it.
-#[tactic(auto, using(crate::proofs::Chosen::chosen_leads, crate::proofs::Chosen::chosen_held))]
+#[tactic(auto, using(crate::proofs::Chosen::chosen_leads, crate::proofs::Chosen::chosen_held, crate::proofs::Chosen::when_and))]
 pub fn again(
     code: &Code,
     nested: &Nested,
@@ -344,6 +340,5 @@ pub fn again(
         ..entry
     };
     let way = Way::Two(b, held, at + 1, held);
-    let way = when(is_loop(k, b, at, entry.loops), way);
-    when(b <= at, way)
+    when((b <= at) & is_loop(k, b, at, entry.loops), way)
 }

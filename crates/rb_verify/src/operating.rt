@@ -1,21 +1,18 @@
 //! Where the instructions lead that take operands and push one.
 
-ghost use Rattle.std.specs.Prelude.{◌≡◌, ℕ, ◌<◌, ◌+◌, ◌-◌, List, [], ◌∷◌, length, get_or, slice_get, Option, Some, None, IfOk, IfSome};
+ghost use Rattle.std.specs.Prelude.{◌<◌, ◌-◌, [], Some, None, IfOk};
 ghost use Rattle.rb_code.specs.Instructions.Plain.{code as plain};
-ghost use Rattle.rb_code.specs.SoundCode.Sound.{Changed};
 ghost use Rattle.rb_conv.specs.Conversations.{memberships, opening};
-ghost use Rattle.rb_verify.specs.Parts.{block_of, loop_of, loops_of, mode_of};
-ghost use Rattle.rb_verify.specs.Held.{blocks_of, entry_of, operands_of, IsHeld};
-ghost use Rattle.rb_verify.specs.Flow.{flow as leads, flow_at, goes, pushes as puts_one, takes_one as takes_a, takes_two as takes_both};
-ghost use Rattle.rb_verify.specs.Found.{steps_of, AreHeld, IsFlow};
-ghost use Rattle.rb_verify.specs.Ends.{AreEnds};
+ghost use Rattle.rb_verify.specs.Held.{entry_of, IsHeld};
+ghost use Rattle.rb_verify.specs.Flow.{flow as leads, takes_one as takes_a, takes_two as takes_both};
+ghost use Rattle.rb_verify.specs.Found.{IsFlow};
 ghost use Rattle.rb_code.specs.declared.instr.Instr.TheVariants.{Add, Bound, LoadAt, Neg, PriorAt};
 
 use crate::entry::Held;
 use crate::lists::Lists;
 use crate::pushing::put;
 use crate::rules::{below_in_range, freed, may_trap, prior_in_range, words_of};
-use crate::way::{Way, when};
+use crate::way::Way;
 use rb_base::{Memory, Nested};
 use rb_code::{Code, Spot};
 
@@ -49,7 +46,7 @@ pub fn takes_two(code: &Code, lists: &mut Lists, at: u32, entry: Held) -> Result
 }
 
 /// An operator of two operands that may trap.
-#[tactic(auto, using(crate::proofs::Chosen::chosen_flow))]
+#[tactic(auto, using(crate::proofs::Chosen::refused_flow, crate::proofs::Chosen::passed_flow))]
 pub fn trapping(
     code: &Code,
     nested: &Nested,
@@ -62,14 +59,14 @@ pub fn trapping(
     ensures { IfOk result (λ way. IsFlow (plain code.now) lists.old lists.new way
         (leads (plain code.now) (memberships (opening nested.now)) Add at (entry_of lists.old entry))) }
 {
-    match takes_two(code, lists, at, entry) {
-        Err(_) => Err(Memory),
-        Ok(way) => Ok(when(may_trap(entry.mode), way)),
+    if !may_trap(entry.mode) {
+        return Ok(Way::Broken);
     }
+    takes_two(code, lists, at, entry)
 }
 
 /// The operator of one operand that may trap.
-#[tactic(auto, using(crate::proofs::Chosen::chosen_flow))]
+#[tactic(auto, using(crate::proofs::Chosen::refused_flow, crate::proofs::Chosen::passed_flow))]
 pub fn negated(
     code: &Code,
     nested: &Nested,
@@ -82,14 +79,14 @@ pub fn negated(
     ensures { IfOk result (λ way. IsFlow (plain code.now) lists.old lists.new way
         (leads (plain code.now) (memberships (opening nested.now)) Neg at (entry_of lists.old entry))) }
 {
-    match takes_one(code, lists, at, entry) {
-        Err(_) => Err(Memory),
-        Ok(way) => Ok(when(may_trap(entry.mode), way)),
+    if !may_trap(entry.mode) {
+        return Ok(Way::Broken);
     }
+    takes_one(code, lists, at, entry)
 }
 
 /// The top is below a number from here on.
-#[tactic(auto, using(crate::proofs::Chosen::chosen_flow))]
+#[tactic(auto, using(crate::proofs::Chosen::refused_flow, crate::proofs::Chosen::passed_flow))]
 pub fn bound(
     code: &Code,
     nested: &Nested,
@@ -103,18 +100,17 @@ pub fn bound(
     ensures { IfOk result (λ way. IsFlow (plain code.now) lists.old lists.new way
         (leads (plain code.now) (memberships (opening nested.now)) (Bound n) at (entry_of lists.old entry))) }
 {
-    let test = may_trap(entry.mode);
+    if !may_trap(entry.mode) {
+        return Ok(Way::Broken);
+    }
     match lists.operands.top(entry.operands) {
-        None => Ok(when(test, Way::Broken)),
-        Some(x) => match put(code, lists, at, entry, Some(n), x.below, freed(entry.mode)) {
-            Err(_) => Err(Memory),
-            Ok(way) => Ok(when(test, way)),
-        },
+        None => Ok(Way::Broken),
+        Some(x) => put(code, lists, at, entry, Some(n), x.below, freed(entry.mode)),
     }
 }
 
 /// An index becomes the word so far behind a place.
-#[tactic(auto, using(crate::proofs::Chosen::chosen_flow))]
+#[tactic(auto, using(crate::proofs::Chosen::refused_flow, crate::proofs::Chosen::passed_flow))]
 pub fn load_at(
     code: &Code,
     nested: &Nested,
@@ -131,17 +127,17 @@ pub fn load_at(
     match lists.operands.top(entry.operands) {
         None => Ok(Way::Broken),
         Some(x) => {
-            let test = below_in_range(words_of(code, entry.within.process), entry.words, v, x.top);
-            match put(code, lists, at, entry, None, x.below, freed(entry.mode)) {
-                Err(_) => Err(Memory),
-                Ok(way) => Ok(when(test, way)),
+            let globals = words_of(code, entry.within.process);
+            if !below_in_range(globals, entry.words, v, x.top) {
+                return Ok(Way::Broken);
             }
+            put(code, lists, at, entry, None, x.below, freed(entry.mode))
         }
     }
 }
 
 /// The same in the innermost block's copy.
-#[tactic(auto, using(crate::proofs::Chosen::chosen_flow))]
+#[tactic(auto, using(crate::proofs::Chosen::refused_flow, crate::proofs::Chosen::passed_flow))]
 pub fn prior_at(
     code: &Code,
     nested: &Nested,
@@ -158,17 +154,11 @@ pub fn prior_at(
     match lists.operands.top(entry.operands) {
         None => Ok(Way::Broken),
         Some(x) => {
-            let test = prior_in_range(
-                words_of(code, entry.within.process),
-                &lists.blocks,
-                entry.blocks,
-                v,
-                x.top,
-            );
-            match put(code, lists, at, entry, None, x.below, freed(entry.mode)) {
-                Err(_) => Err(Memory),
-                Ok(way) => Ok(when(test, way)),
+            let globals = words_of(code, entry.within.process);
+            if !prior_in_range(globals, &lists.blocks, entry.blocks, v, x.top) {
+                return Ok(Way::Broken);
             }
+            put(code, lists, at, entry, None, x.below, freed(entry.mode))
         }
     }
 }

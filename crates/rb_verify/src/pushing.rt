@@ -1,20 +1,19 @@
 //! Where the instructions lead that push an operand and take none.
 
-ghost use Rattle.std.specs.Prelude.{◌≡◌, ℕ, ◌<◌, ◌+◌, ◌-◌, List, [], ◌∷◌, length, get_or, slice_get, Option, Some, None, IfOk, IfSome};
+ghost use Rattle.std.specs.Prelude.{◌<◌, ◌+◌, ◌-◌, [], ◌∷◌, length, Option, Some, None, IfOk};
 ghost use Rattle.rb_code.specs.Instructions.Plain.{code as plain};
 ghost use Rattle.rb_code.specs.SoundCode.Sound.{Changed};
 ghost use Rattle.rb_conv.specs.Conversations.{memberships, opening};
-ghost use Rattle.rb_verify.specs.Parts.{block_of, loop_of, loops_of, mode_of};
-ghost use Rattle.rb_verify.specs.Held.{blocks_of, entry_of, operands_of, IsHeld};
-ghost use Rattle.rb_verify.specs.Flow.{flow as leads, flow_at, goes, pushes as puts_one, takes_one as takes_a, takes_two as takes_both};
-ghost use Rattle.rb_verify.specs.Found.{steps_of, AreHeld, IsFlow};
-ghost use Rattle.rb_verify.specs.Ends.{AreEnds};
+ghost use Rattle.rb_verify.specs.Parts.{mode_of};
+ghost use Rattle.rb_verify.specs.Held.{entry_of, operands_of, IsHeld};
+ghost use Rattle.rb_verify.specs.Flow.{flow as leads, goes, pushes as puts_one};
+ghost use Rattle.rb_verify.specs.Found.{IsFlow};
 ghost use Rattle.rb_code.specs.declared.instr.Instr.TheVariants.{Counter, Load, Prior, Take};
 
 use crate::entry::{Held, Mode};
 use crate::lists::Lists;
 use crate::rules::{freed, in_range, is_set, may_take, prior_in_range, words_of};
-use crate::way::{Way, when};
+use crate::way::Way;
 use rb_base::limits::MOST_OPERANDS;
 use rb_base::{Memory, Nested};
 use rb_code::{Code, Spot};
@@ -71,7 +70,7 @@ pub fn pushes(code: &Code, lists: &mut Lists, at: u32, entry: Held) -> Result<Wa
 }
 
 /// A word is pushed.
-#[tactic(auto, using(crate::proofs::Chosen::chosen_flow))]
+#[tactic(auto, using(crate::proofs::Chosen::refused_flow, crate::proofs::Chosen::passed_flow))]
 pub fn load(
     code: &Code,
     nested: &Nested,
@@ -85,15 +84,15 @@ pub fn load(
     ensures { IfOk result (λ way. IsFlow (plain code.now) lists.old lists.new way
         (leads (plain code.now) (memberships (opening nested.now)) (Load v) at (entry_of lists.old entry))) }
 {
-    let test = in_range(words_of(code, entry.within.process), entry.words, v, 1);
-    match pushes(code, lists, at, entry) {
-        Err(_) => Err(Memory),
-        Ok(way) => Ok(when(test, way)),
+    let globals = words_of(code, entry.within.process);
+    if !in_range(globals, entry.words, v, 1) {
+        return Ok(Way::Broken);
     }
+    pushes(code, lists, at, entry)
 }
 
 /// A word of the innermost block's copy is pushed.
-#[tactic(auto, using(crate::proofs::Chosen::chosen_flow))]
+#[tactic(auto, using(crate::proofs::Chosen::refused_flow, crate::proofs::Chosen::passed_flow))]
 pub fn prior(
     code: &Code,
     nested: &Nested,
@@ -107,21 +106,15 @@ pub fn prior(
     ensures { IfOk result (λ way. IsFlow (plain code.now) lists.old lists.new way
         (leads (plain code.now) (memberships (opening nested.now)) (Prior v) at (entry_of lists.old entry))) }
 {
-    let test = prior_in_range(
-        words_of(code, entry.within.process),
-        &lists.blocks,
-        entry.blocks,
-        v,
-        Some(1),
-    );
-    match pushes(code, lists, at, entry) {
-        Err(_) => Err(Memory),
-        Ok(way) => Ok(when(test, way)),
+    let globals = words_of(code, entry.within.process);
+    if !prior_in_range(globals, &lists.blocks, entry.blocks, v, Some(1)) {
+        return Ok(Way::Broken);
     }
+    pushes(code, lists, at, entry)
 }
 
 /// A counter is pushed.
-#[tactic(auto, using(crate::proofs::Chosen::chosen_flow))]
+#[tactic(auto, using(crate::proofs::Chosen::refused_flow, crate::proofs::Chosen::passed_flow))]
 pub fn counter(
     code: &Code,
     nested: &Nested,
@@ -135,15 +128,14 @@ pub fn counter(
     ensures { IfOk result (λ way. IsFlow (plain code.now) lists.old lists.new way
         (leads (plain code.now) (memberships (opening nested.now)) (Counter k) at (entry_of lists.old entry))) }
 {
-    let test = is_set(k, entry.loops);
-    match pushes(code, lists, at, entry) {
-        Err(_) => Err(Memory),
-        Ok(way) => Ok(when(test, way)),
+    if !is_set(k, entry.loops) {
+        return Ok(Way::Broken);
     }
+    pushes(code, lists, at, entry)
 }
 
 /// A message is pushed.
-#[tactic(auto, using(crate::proofs::Chosen::chosen_flow))]
+#[tactic(auto, using(crate::proofs::Chosen::refused_flow, crate::proofs::Chosen::passed_flow))]
 pub fn take(
     code: &Code,
     nested: &Nested,
@@ -157,12 +149,11 @@ pub fn take(
     ensures { IfOk result (λ way. IsFlow (plain code.now) lists.old lists.new way
         (leads (plain code.now) (memberships (opening nested.now)) (Take channel) at (entry_of lists.old entry))) }
 {
-    let test = may_take(channel, entry.mode);
+    if !may_take(channel, entry.mode) {
+        return Ok(Way::Broken);
+    }
     if lists.operands.length(entry.operands) as usize >= MOST_OPERANDS {
-        return Ok(when(test, Way::Broken));
+        return Ok(Way::Broken);
     }
-    match put(code, lists, at, entry, None, entry.operands, Mode::Changed) {
-        Err(_) => Err(Memory),
-        Ok(way) => Ok(when(test, way)),
-    }
+    put(code, lists, at, entry, None, entry.operands, Mode::Changed)
 }

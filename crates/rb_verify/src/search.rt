@@ -1,14 +1,14 @@
 //! The search for a table of code.
 
-ghost use Rattle.std.specs.Prelude.{◌≡◌, ◌⊎◌, ℕ, ◌+◌, ◌<◌, List, [], ◌∷◌, length, map, replicate, set, slice_get, Option, Some, None, option_map, true, false, IfOk, IfErr, IfSome, Contains};
+ghost use Rattle.std.specs.Prelude.{◌≡◌, ℕ, ◌+◌, ◌<◌, [], ◌∷◌, length, set, slice_get, Option, Some, None, option_map, true, false, IfOk, IfErr, IfSome};
 ghost use Rattle.rb_code.specs.Instructions.Plain.{code as plain, Part};
 ghost use Rattle.rb_conv.specs.Conversations.{memberships, opening};
-ghost use Rattle.rb_code.specs.SoundCode.Sound.{alternates_at, HasTable};
-ghost use Rattle.rb_verify.specs.Flow.{begins, Keeps, goes, goes_both, goes_to_each};
-ghost use Rattle.rb_verify.specs.Held.{entry_of, IsHeld, HasGrown};
+ghost use Rattle.rb_code.specs.SoundCode.Sound.{alternates_at};
+ghost use Rattle.rb_verify.specs.Flow.{begins, goes, goes_both, goes_to_each};
+ghost use Rattle.rb_verify.specs.Held.{entry_of, IsHeld};
 ghost use Rattle.rb_verify.specs.Search.{Gains, HasGained, HasNoTable, IsBeginning, IsFollowing, IsFound, IsSearching};
 ghost use Rattle.rb_verify.specs.Ends.{AreEnds};
-ghost use Rattle.rb_verify.specs.Found.{found, held_in, pending, steps_of, AreHeld, IfUnsound, IsTaking, IsWell, NoneTakes};
+ghost use Rattle.rb_verify.specs.Found.{found, held_in, pending, steps_of, AreHeld, IfUnsound, IsWell, NoneTakes};
 
 use crate::arrive::arrive;
 use crate::cell::{Cell, Refusal};

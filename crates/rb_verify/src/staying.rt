@@ -1,6 +1,6 @@
 //! Whether each loop that is begun stays open up to its end.
 
-ghost use Rattle.std.specs.Prelude.{◌≡◌, ℕ, ◌<◌, ◌+◌, true, false, length, slice_get, Option, option_map};
+ghost use Rattle.std.specs.Prelude.{◌≡◌, ◌<◌, ◌+◌, true, false, length, slice_get, Option, option_map};
 ghost use Rattle.rb_code.specs.Instructions.Plain.{code as plain};
 ghost use Rattle.rb_code.specs.SoundCode.Sound.{HasTable, end_of_loop};
 ghost use Rattle.rb_code.specs.SoundCode.WellFormed.{LoopsStayOpen};
@@ -8,7 +8,6 @@ ghost use Rattle.rb_conv.specs.Conversations.{memberships, opening};
 ghost use Rattle.rb_verify.specs.Ends.{AreEnds};
 ghost use Rattle.rb_verify.specs.Found.{found, held_in};
 ghost use Rattle.rb_verify.specs.Parts.{loop_of, loops_of};
-ghost use Rattle.rb_verify.specs.Join.{same_loop};
 ghost use Rattle.rb_verify.specs.Watched.{IsLooked, IsWatching, StaysOpen, begun, is_kept as kept, is_open as opened, watched_on};
 
 use crate::cells::Cells;

@@ -1,6 +1,6 @@
 //! Where the instructions lead that take operands and push none.
 
-ghost use Rattle.std.specs.Prelude.{◌≡◌, ℕ, ◌<◌, ◌+◌, ◌-◌, List, [], ◌∷◌, length, get_or, slice_get, Option, Some, None, IfOk, IfSome};
+ghost use Rattle.std.specs.Prelude.{◌≡◌, ◌<◌, ◌+◌, ◌-◌, [], ◌∷◌, length, Option, Some, None, IfOk, IfSome};
 ghost use Rattle.rb_code.specs.Instructions.Plain.{code as plain};
 ghost use Rattle.rb_conv.specs.Conversations.{memberships, opening};
 ghost use Rattle.rb_verify.specs.Held.{entry_of, operands_of, IsHeld};
@@ -176,7 +176,7 @@ pub fn put_message(
 }
 
 /// A loop begins, or is passed.
-#[tactic(auto, using(crate::proofs::Chosen::chosen_leads, crate::proofs::Chosen::chosen_held, crate::proofs::Chosen::when_none))]
+#[tactic(auto, using(crate::proofs::Chosen::chosen_leads, crate::proofs::Chosen::chosen_held, crate::proofs::Chosen::when_and, crate::proofs::Chosen::when_none))]
 pub fn range(
     code: &Code,
     nested: &Nested,
@@ -224,10 +224,8 @@ pub fn range(
         None => return Err(Memory),
         Some(loops) => Held { loops, ..past },
     };
-    let way = Way::Two(b, past, at + 1, inside);
-    let way = when(is_ahead(code, at, b), way);
-    let way = when(!is_set(k, entry.loops), way);
-    Ok(when(may_trap(entry.mode), way))
+    let may = may_trap(entry.mode) & !is_set(k, entry.loops) & is_ahead(code, at, b);
+    Ok(when(may, Way::Two(b, past, at + 1, inside)))
 }
 
 // One loop more inside others, if these are not two.

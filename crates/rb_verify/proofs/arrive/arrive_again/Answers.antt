@@ -1,4 +1,4 @@
-use Rattle.std.proofs.Common.{◌≡◌, List, sym, ap, ◌∙◌, subst, ◌∷◌, []}
+use Rattle.std.proofs.Common.{List, sym, ap, ◌∙◌, subst, ◌∷◌, []}
 use Rattle.rb_verify.specs.Search.{Gains}
 use Rattle.rb_verify.specs.Held.{entry_of}
 use Rattle.rb_verify.specs.Found.{found, pending, IsWell}

@@ -1,4 +1,4 @@
-use Rattle.std.proofs.Common.{◌≡◌, ℕ, sym, ◌∙◌, arith}
+use Rattle.std.proofs.Common.{sym, ◌∙◌, arith}
 use Rattle.rb_verify.proofs.Starting.{put_one}
 use Rattle.rb_verify.proofs.ends.starts_of.Goals as goal
 

@@ -1,32 +1,58 @@
-use Rattle.std.proofs.Common.{ℕ, ◌+◌, ◌∙◌, ap, map, slice_get, Option}
+use Rattle.std.proofs.Common.{◌≡◌, ℕ, ◌+◌, ◌&&◌, Bool, [], ◌∷◌, ◌∙◌, ap, slice_get, subst, IfOk, Option}
 use Rattle.rb_code.specs.Instructions.Plain.{code as plain}
+use Rattle.rb_code.specs.SoundCode.Sound.{Changed}
 use Rattle.rb_conv.specs.Conversations.{memberships, opening}
-use Rattle.rb_verify.specs.Flow.{is_fresh, is_none, is_turn, may_enter, restarts_at, when}
-use Rattle.rb_code.specs.SoundCode.Sound.{conversation_of}
-use Rattle.rb_verify.specs.Parts.{mode_of, within_of}
-use Rattle.rb_verify.specs.Held.{blocks_of, operands_of}
-use Rattle.rb_verify.proofs.Chosen.{flow_if}
+use Rattle.rb_verify.specs.Flow.{Steps, goes, is_turn, may_enter, when}
+use Rattle.rb_verify.specs.Found.{IsFlow}
+use Rattle.rb_verify.specs.Parts.{within_of}
+use Rattle.rb_verify.specs.Held.{blocks_of, entry_of}
+use Rattle.rb_verify.specs.declared.entry.Held.{Held}
+use Rattle.rb_verify.specs.declared.lists.Lists.{Lists}
+use Rattle.rb_verify.specs.declared.way.Way.TheVariants.{Broken}
+use Rattle.rb_verify.proofs.Chosen.{passed_flow, refused_flow, when_and}
 use Rattle.rb_verify.proofs.entering.enter.Goals as goal
 
-pub returns-in-Ok : goal.returns-in-Ok
-returns-in-Ok c =
+-- five tests one after another, where each is known otherwise
+tests : {f n r t m : Bool} {p q u v w : Bool} (steps : Steps) → p ≡ f → q ≡ n → u ≡ r → v ≡ t → w ≡ m
+    → when ((((p && q) && u) && v) && w) steps ≡ when f (when n (when r (when t (when m steps))))
+tests {f = f} {n = n} {r = r} {t = t} {m = m} steps of_f of_n of_r of_t of_m =
+    rw (of_f, of_n, of_r, of_t, of_m)
+    (when_and (((f && n) && r) && t) m steps ∙ when_and ((f && n) && r) t (when m steps)
+    ∙ when_and (f && n) r (when t (when m steps)) ∙ when_and f n (when r (when t (when m steps))))
+
+-- into the block
+abbrev inside : Lists → Held → ℕ → ℕ → Steps
+inside lists e a b =
+    goes (a + 1) (record (entry_of lists e) {
+      operands = [];
+      blocks = record { number = b; words = e.words } ∷ blocks_of lists e.blocks;
+      mode = Changed;
+    })
+
+pub returns-then-not-all : goal.returns-then-not-all
+returns-then-not-all c =
     let code = plain c.args.code.now
-    in let groups = memberships (opening c.args.nested.now)
     in let lists = c.args.lists.now
-    in let after = c.put_block.new.lists
-    in let a = c.args.at
     in let e = c.args.entry
-    in flow_if code lists after (is_fresh (mode_of e.mode)) c.is_fresh.result c.when-way-in-Ok-3.result c.when.result _ c.when.ensures
-    c.is_fresh.ensures
-    (flow_if code lists after (is_none (operands_of lists e.operands)) c.is_none-none.result c.when-way-in-Ok-2.result
-    c.when-way-in-Ok-3.result _ c.when-way-in-Ok-3.ensures c.is_none-none.ensures
-    (flow_if code lists after (restarts_at (slice_get code.blocks c.args.b) (a + 1)) c.restarts_at-restarts.result
-    c.when-way-in-Ok.result c.when-way-in-Ok-2.result _ c.when-way-in-Ok-2.ensures c.restarts_at-restarts.ensures
-    (flow_if code lists after (is_turn (slice_get code.instrs (a + 1))) c.is_turn-turns.result c.when-way.result
-    c.when-way-in-Ok.result _ c.when-way-in-Ok.ensures
-    (c.is_turn-turns.ensures ∙ ap (λ xs. is_turn (slice_get xs (a + 1))) c.deref.ensures.value)
-    (flow_if code lists after
-    (may_enter code groups (conversation_of (slice_get code.blocks c.args.b)) (within_of e.within) (blocks_of lists e.blocks)) c.may_enter-may.result
-    c.in-Ok.way c.when-way.result _ c.when-way.ensures
-    (c.may_enter-may.ensures ∙ ap (λ (o : Option ℕ). may_enter code groups o (within_of e.within) (blocks_of lists e.blocks)) c.conversation_in-conversation.ensures)
-    c.in-Ok.ensures))))
+    in let steps = inside lists e c.args.at c.args.b
+    in subst (λ (s : Steps). IsFlow code lists lists Broken s)
+    (tests steps c.is_fresh.ensures c.is_none-none.ensures c.restarts_at-restarts.ensures
+    (c.is_turn-turns.ensures ∙ ap (λ xs. is_turn (slice_get xs (c.args.at + 1))) c.deref.ensures.value)
+    (c.may_enter-may.ensures
+    ∙ ap (λ (o : Option ℕ). may_enter code (memberships (opening c.args.nested.now)) o (within_of e.within) (blocks_of lists e.blocks))
+    c.conversation_in-conversation.ensures))
+    (refused_flow code lists _ steps c.if-not-all.true)
+
+pub returns : goal.returns
+returns c =
+    let code = plain c.args.code.now
+    in let lists = c.args.lists.now
+    in let e = c.args.entry
+    in let steps = inside lists e c.args.at c.args.b
+    in subst (λ (s : Steps). IfOk c.put_block.result (λ way. IsFlow code lists c.put_block.new.lists way s))
+    (tests steps c.is_fresh.ensures c.is_none-none.ensures c.restarts_at-restarts.ensures
+    (c.is_turn-turns.ensures ∙ ap (λ xs. is_turn (slice_get xs (c.args.at + 1))) c.deref.ensures.value)
+    (c.may_enter-may.ensures
+    ∙ ap (λ (o : Option ℕ). may_enter code (memberships (opening c.args.nested.now)) o (within_of e.within) (blocks_of lists e.blocks))
+    c.conversation_in-conversation.ensures))
+    (passed_flow code lists c.put_block.new.lists _ c.put_block.result steps c.if-not-all.false c.put_block.ensures)

@@ -1,6 +1,4 @@
-use Rattle.std.proofs.Common.{◌∙◌, map, length, arith}
-use Rattle.rb_code.specs.Instructions.Plain.{code as plain}
-use Rattle.rb_conv.specs.Conversations.{memberships, opening}
+use Rattle.std.proofs.Common.{◌∙◌, length, arith}
 use Rattle.rb_verify.specs.Held.{entry_of}
 use Rattle.rb_verify.specs.Found.{found, pending}
 use Rattle.rb_verify.proofs.Finding.{grown_entry, if_unsound}

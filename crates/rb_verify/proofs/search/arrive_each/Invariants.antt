@@ -1,6 +1,4 @@
-use Rattle.std.proofs.Common.{◌≡◌, ℕ, drop, length, map}
-use Rattle.rb_code.specs.Instructions.Plain.{code as plain}
-use Rattle.rb_conv.specs.Conversations.{memberships, opening}
+use Rattle.std.proofs.Common.{◌≡◌, drop, length}
 use Rattle.rb_code.specs.SoundCode.Sound.{Table}
 use Rattle.rb_verify.specs.Flow.{goes_to_each}
 use Rattle.rb_verify.specs.Held.{HasGrown, entry_of}

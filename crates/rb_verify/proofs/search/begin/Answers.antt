@@ -1,4 +1,4 @@
-use Rattle.std.proofs.Common.{ℕ, ◌≤◌, length, arith}
+use Rattle.std.proofs.Common.{◌≤◌, length, arith}
 use Rattle.std.proofs.lemmas.List.{length-map}
 use Rattle.rb_code.specs.Instructions.Plain.{code as plain, part}
 use Rattle.rb_conv.specs.Conversations.{memberships, opening}

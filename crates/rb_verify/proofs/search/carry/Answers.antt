@@ -1,6 +1,5 @@
-use Rattle.std.proofs.Common.{sym, subst, map}
+use Rattle.std.proofs.Common.{sym, subst}
 use Rattle.rb_code.specs.Instructions.Plain.{code as plain}
-use Rattle.rb_conv.specs.Conversations.{memberships, opening}
 use Rattle.rb_verify.specs.Search.{HasGained}
 use Rattle.rb_verify.specs.Found.{found, pending, steps_of}
 use Rattle.rb_verify.specs.declared.way.Way.{Way}

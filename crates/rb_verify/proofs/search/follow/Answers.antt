@@ -1,10 +1,10 @@
-use Rattle.std.proofs.Common.{List, map, sym, subst}
+use Rattle.std.proofs.Common.{List, sym, subst}
 use Rattle.rb_code.specs.Instructions.Plain.{code as plain}
 use Rattle.rb_conv.specs.Conversations.{memberships, opening}
 use Rattle.rb_verify.specs.Search.{IsFollowing}
 use Rattle.rb_verify.specs.Found.{found, pending, IsWell}
 use Rattle.rb_verify.specs.declared.cell.Cell.{Cell}
-use Rattle.rb_verify.proofs.Finding.{clear_following, clear_well, none_pending, taking}
+use Rattle.rb_verify.proofs.Finding.{clear_following, clear_well, taking}
 use Rattle.rb_verify.proofs.search.follow.Goals as goal
 
 pub follow_from-requires-clause-following : goal.follow_from-requires-clause-following
