@@ -20,7 +20,7 @@ use rb_value::span::span;
 
 /// The result of an operator, or its trap.
 #[inline(always)]
-fn finish(value: Result<i64, Cause>, at: u32, operands: &mut Operands<'_>) -> Next
+fn finish(value: Result<i64, Cause>, at: usize, operands: &mut Operands<'_>) -> Next
     requires at { at + 1 < 2 ^ 32 }
     requires room { length operands.old < MOST_OPERANDS }
     ensures { (m : Workspace) → outcome_of result at operands.new m ≡ or_trap value (λ z. Going (at + 1) (z ∷ operands.old) m) }
@@ -36,7 +36,7 @@ fn finish(value: Result<i64, Cause>, at: u32, operands: &mut Operands<'_>) -> Ne
 
 /// An operator on the two operands on top.
 #[inline(always)]
-pub fn operate(op: Op, at: u32, operands: &mut Operands<'_>) -> Next
+pub fn operate(op: Op, at: usize, operands: &mut Operands<'_>) -> Next
     requires at { at + 1 < 2 ^ 32 }
     requires two { 1 < length operands.old }
     ensures { (m : Workspace)
@@ -81,7 +81,7 @@ pub fn compare(op: Op, operands: &mut Operands<'_>) -> Next
 
 /// The number on top with the other sign.
 #[inline(always)]
-pub fn negate(at: u32, operands: &mut Operands<'_>) -> Next
+pub fn negate(at: usize, operands: &mut Operands<'_>) -> Next
     requires at { at + 1 < 2 ^ 32 }
     requires one { 0 < length operands.old }
     ensures { (m : Workspace)
@@ -93,7 +93,7 @@ pub fn negate(at: u32, operands: &mut Operands<'_>) -> Next
 
 /// 1 where the number on top is 0, else 0; or the other way round.
 #[inline(always)]
-pub fn test_zero(zero: bool, at: u32, operands: &mut Operands<'_>) -> Next
+pub fn test_zero(zero: bool, at: usize, operands: &mut Operands<'_>) -> Next
     requires at { at + 1 < 2 ^ 32 }
     requires one { 0 < length operands.old }
     ensures { (m : Workspace)
@@ -107,7 +107,7 @@ pub fn test_zero(zero: bool, at: u32, operands: &mut Operands<'_>) -> Next
 
 /// Pushes a number.
 #[inline(always)]
-pub fn push(value: i64, at: u32, operands: &mut Operands<'_>) -> Next
+pub fn push(value: i64, at: usize, operands: &mut Operands<'_>) -> Next
     requires at { at + 1 < 2 ^ 32 }
     requires room { length operands.old < MOST_OPERANDS }
     ensures { (m : Workspace) → outcome_of result at operands.new m ≡ Going (at + 1) (value ∷ operands.old) m }
@@ -125,7 +125,7 @@ fn is_within(n: u32, i: i64) -> bool
 
 /// The trap `index`, unless the number on top is an index below n.
 #[inline(always)]
-pub fn bound(n: u32, at: u32, operands: &mut Operands<'_>) -> Next
+pub fn bound(n: u32, at: usize, operands: &mut Operands<'_>) -> Next
     requires at { at + 1 < 2 ^ 32 }
     requires one { 0 < length operands.old }
     ensures { (m : Workspace)
@@ -143,14 +143,14 @@ pub fn bound(n: u32, at: u32, operands: &mut Operands<'_>) -> Next
 
 /// Goes to an address if the number on top is 0.
 #[inline(always)]
-pub fn jump_zero(to: u32, at: u32, operands: &mut Operands<'_>) -> Next
+pub fn jump_zero(to: u32, at: usize, operands: &mut Operands<'_>) -> Next
     requires at { at + 1 < 2 ^ 32 }
     requires one { 0 < length operands.old }
     ensures { (m : Workspace)
         → outcome_of result at operands.new m ≡ on_top operands.old (λ x rest. cond (is_zero x) (Going to rest m) (Going (at + 1) rest m)) }
 {
     if operands.pop() == 0 {
-        Next::Go(to)
+        Next::Go(to as usize)
     } else {
         Next::Go(at + 1)
     }
@@ -158,7 +158,7 @@ pub fn jump_zero(to: u32, at: u32, operands: &mut Operands<'_>) -> Next
 
 /// Accepts, or traps if the number on top is 0.
 #[inline(always)]
-pub fn test(at: u32, operands: &mut Operands<'_>) -> Next
+pub fn test(at: usize, operands: &mut Operands<'_>) -> Next
     requires at { at + 1 < 2 ^ 32 }
     requires one { 0 < length operands.old }
     ensures { (m : Workspace)
@@ -167,7 +167,7 @@ pub fn test(at: u32, operands: &mut Operands<'_>) -> Next
     if operands.pop() == 0 {
         Next::Trap(Cause::Test)
     } else {
-        Next::Accepts(at + 1)
+        Next::Accepts((at + 1) as u32)
     }
 }
 
@@ -176,7 +176,7 @@ pub fn test(at: u32, operands: &mut Operands<'_>) -> Next
 pub fn range(
     k: u32,
     past: u32,
-    at: u32,
+    at: usize,
     operands: &mut Operands<'_>,
     counters: &mut Counters,
 ) -> Next
@@ -191,7 +191,7 @@ pub fn range(
     let end = operands.pop();
     let now = operands.pop();
     match span(now, end) {
-        Ok(0) => Next::Go(past),
+        Ok(0) => Next::Go(past as usize),
         Ok(_) => {
             counters.set(k, Counting { now, end });
             Next::Go(at + 1)
@@ -202,7 +202,7 @@ pub fn range(
 
 /// One step of a counter: on to the next number, or past the loop.
 #[inline(always)]
-pub fn again(k: u32, first: u32, at: u32, counters: &mut Counters) -> Next
+pub fn again(k: u32, first: u32, at: usize, counters: &mut Counters) -> Next
     requires at { at + 1 < 2 ^ 32 }
     ensures { (m : Workspace) (operands : List ℤ)
         → outcome_of result at operands (record m { counters = counters.new })
@@ -219,7 +219,7 @@ pub fn again(k: u32, first: u32, at: u32, counters: &mut Counters) -> Next
                     end: counter.end,
                 },
             );
-            Next::Go(first)
+            Next::Go(first as usize)
         }
         Some(_) => {
             counters.unset(k);
@@ -231,7 +231,7 @@ pub fn again(k: u32, first: u32, at: u32, counters: &mut Counters) -> Next
 
 /// Pushes a counter.
 #[inline(always)]
-pub fn counter(k: u32, at: u32, operands: &mut Operands<'_>, counters: &Counters) -> Next
+pub fn counter(k: u32, at: usize, operands: &mut Operands<'_>, counters: &Counters) -> Next
     requires at { at + 1 < 2 ^ 32 }
     requires room { length operands.old < MOST_OPERANDS }
     ensures { (m : Workspace)

@@ -6,7 +6,7 @@ use rb_base::Cause;
 #[derive(Clone, Copy)]
 pub enum Next {
     /// On at an address.
-    Go(u32),
+    Go(usize),
     /// On at the next address; whether the comparison holds, which is still to be pushed.
     Holds(bool),
     /// The turn is over here.

@@ -1,13 +1,11 @@
 -- The kinds of instructions. All but the first are carried out by a function each.
 use Rattle.rb_code.specs.declared.instr.Instr.{Instr}
-use Rattle.rb_code.specs.declared.instr.Instr.TheVariants.{Mul, Div, Rem, Neg, Not, Bool, Prior, LoadAt, PriorAt, StoreAt, Frame, Drop, Call, Return, Text, Item, Print, Put, Take, Absent, Range, Again, Counter}
+use Rattle.rb_code.specs.declared.instr.Instr.TheVariants.{Mul, Div, Rem, Neg, Not, Bool, Frame, Drop, Call, Return, Text, Item, Print, Put, Take, Absent, Range, Again, Counter}
 
 pub data InstructionKind : Type 0 where
   -- the most frequent, which `act` carries out itself
   Frequent : InstructionKind
   Numbers : InstructionKind
-  -- elements of arrays, and words of the innermost copy
-  Elements : InstructionKind
   -- words that are added on top of the others, or go
   Frames : InstructionKind
   Lines : InstructionKind
@@ -21,10 +19,6 @@ instruction_kind Rem = Numbers
 instruction_kind Neg = Numbers
 instruction_kind Not = Numbers
 instruction_kind Bool = Numbers
-instruction_kind (LoadAt spot) = Elements
-instruction_kind (StoreAt spot) = Elements
-instruction_kind (Prior spot) = Elements
-instruction_kind (PriorAt spot) = Elements
 instruction_kind (Frame n) = Frames
 instruction_kind (Drop n) = Frames
 instruction_kind (Call a p n) = Frames

@@ -77,7 +77,7 @@ pub fn put_value<L: Ledger>(
     code: &Code,
     process: u32,
     channel: u32,
-    at: u32,
+    at: usize,
     operands: &mut Operands<'_>,
     memory: &mut Recoverable<L>,
     mails: &mut Mails,
@@ -112,7 +112,7 @@ pub fn take_message<L: Ledger>(
     process: u32,
     message: Option<i64>,
     channel: u32,
-    at: u32,
+    at: usize,
     operands: &mut Operands<'_>,
     memory: &mut Recoverable<L>,
     steps: &mut Steps<L>,
@@ -143,7 +143,7 @@ pub fn take_message<L: Ledger>(
 #[inline(always)]
 pub fn print<L: Ledger>(
     texts: &[Text],
-    at: u32,
+    at: usize,
     line: &mut Line,
     memory: &mut Recoverable<L>,
     steps: &mut Steps<L>,

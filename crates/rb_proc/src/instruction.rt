@@ -14,13 +14,11 @@ ghost use Rattle.rb_operands.specs.Pieces.{AreTexts};
 ghost use Rattle.rb_proc.specs.Sees.{AreSized, IsTurnOf, see_of};
 ghost use Rattle.rb_proc.specs.Work.{named};
 
-use crate::kinds::{
-    act_on_channel, act_on_counters, act_on_elements, act_on_frames, act_on_line, act_on_numbers,
-};
+use crate::kinds::{act_on_channel, act_on_counters, act_on_frames, act_on_line, act_on_numbers};
 use crate::recoverable::Recoverable;
 use crate::sight::Sight;
 use crate::wants::alternate_of;
-use crate::words::{load, store};
+use crate::words::{load, load_at, prior, prior_at, store, store_at};
 use rb_base::{Cause, Steps};
 use rb_code::{Code, Instr};
 use rb_mail::Mails;
@@ -39,7 +37,7 @@ fn start(code: &Code, block: u32, alternate: u32) -> Next
         ≡ if_there (alternate_address (slice_get (plain code.now).blocks block) alternate) (λ to. Going to operands m) }
 {
     let one = &code.blocks[block as usize];
-    Next::Go(one.alternates[alternate as usize - 1])
+    Next::Go(one.alternates[alternate as usize - 1] as usize)
 }
 
 // The cause of a trap by an instruction alone. It is looked up, since a constant for it would be loaded before each instruction.
@@ -60,7 +58,7 @@ pub fn act<L: Ledger>(
     code: &Code,
     sight: &Sight,
     instr: &Instr,
-    at: u32,
+    at: usize,
     operands: &mut Operands<'_>,
     bench: &mut Bench,
     memory: &mut Recoverable<L>,
@@ -90,6 +88,28 @@ pub fn act<L: Ledger>(
         Instr::Push(n) => push(n, at, operands),
         Instr::Load(spot) => load(sight.place(code, memory, spot), at, operands, memory, steps),
         Instr::Store(spot) => store(sight.place(code, memory, spot), at, operands, memory, steps),
+        Instr::LoadAt(spot) => load_at(
+            sight.place(code, memory, spot),
+            at,
+            operands,
+            memory,
+            steps,
+        ),
+        Instr::StoreAt(spot) => store_at(
+            sight.place(code, memory, spot),
+            at,
+            operands,
+            memory,
+            steps,
+        ),
+        Instr::Prior(spot) => prior(sight.place(code, memory, spot), at, operands, memory, steps),
+        Instr::PriorAt(spot) => prior_at(
+            sight.place(code, memory, spot),
+            at,
+            operands,
+            memory,
+            steps,
+        ),
         Instr::Bound(n) => bound(n, at, operands),
         Instr::Add => operate(Op::Add, at, operands),
         Instr::Sub => operate(Op::Sub, at, operands),
@@ -99,7 +119,7 @@ pub fn act<L: Ledger>(
         Instr::Le => compare(Op::Le, operands),
         Instr::Gt => compare(Op::Gt, operands),
         Instr::Ge => compare(Op::Ge, operands),
-        Instr::Jump(to) => Next::Go(to),
+        Instr::Jump(to) => Next::Go(to as usize),
         Instr::JumpZero(to) => jump_zero(to, at, operands),
         Instr::Room(_) | Instr::There(_) => Next::Go(at + 1),
         Instr::Start(block) => start(code, block, alternate_of(sight.wanted, memory)),
@@ -107,9 +127,6 @@ pub fn act<L: Ledger>(
         Instr::Fail | Instr::Enter(_) => Next::Trap(cause_of(instr)),
         Instr::Mul | Instr::Div | Instr::Rem | Instr::Neg | Instr::Not | Instr::Bool => {
             act_on_numbers(instr, at, operands)
-        }
-        Instr::LoadAt(_) | Instr::StoreAt(_) | Instr::Prior(_) | Instr::PriorAt(_) => {
-            act_on_elements(code, sight, instr, at, operands, memory, steps)
         }
         Instr::Frame(_) | Instr::Drop(_) | Instr::Call(..) | Instr::Return => {
             act_on_frames(code, sight, instr, at, operands, memory, steps)

@@ -11,7 +11,7 @@ ghost use Rattle.rb_code.specs.SoundCode.Stays.{entry_calls};
 ghost use Rattle.rb_operands.specs.Outcomes.{outcome_of};
 ghost use Rattle.rb_operands.specs.Pieces.{AreTexts};
 ghost use Rattle.rb_proc.specs.Acts.{CursorRises, LeavesEnough};
-ghost use Rattle.rb_proc.specs.Kinds.{Channels, Counters as OnCounters, Elements, Frames, Lines, Numbers, instruction_kind};
+ghost use Rattle.rb_proc.specs.Kinds.{Channels, Counters as OnCounters, Frames, Lines, Numbers, instruction_kind};
 ghost use Rattle.rb_proc.specs.Outcomes.{Keeps, mem, whole};
 ghost use Rattle.rb_proc.specs.Sees.{AreSized, IsTurnOf, see_of};
 ghost use Rattle.rb_proc.specs.Work.{named};
@@ -19,7 +19,7 @@ ghost use Rattle.rb_proc.specs.Work.{named};
 use crate::channels::{print, put_value, take_message};
 use crate::recoverable::Recoverable;
 use crate::sight::Sight;
-use crate::words::{call, drop_words, frame, go_back, load_at, prior, prior_at, store_at};
+use crate::words::{call, drop_words, frame, go_back};
 use rb_base::Steps;
 use rb_code::{Code, Instr};
 use rb_mail::Mails;
@@ -33,7 +33,7 @@ use std::sync::ledger::Ledger;
 
 /// An instruction on numbers alone.
 #[inline(always)]
-pub fn act_on_numbers(instr: &Instr, at: u32, operands: &mut Operands<'_>) -> Next
+pub fn act_on_numbers(instr: &Instr, at: usize, operands: &mut Operands<'_>) -> Next
     requires kind { instruction_kind instr.now ≡ Numbers }
     requires at { at + 1 < 2 ^ 32 }
     requires ready { (c : Plain) × (see : Seen) × (m : Workspace) × Ready c see instr.now operands.old m }
@@ -51,57 +51,13 @@ pub fn act_on_numbers(instr: &Instr, at: u32, operands: &mut Operands<'_>) -> Ne
     }
 }
 
-/// An instruction on an element of an array, or on the copy of the innermost level.
-#[inline(always)]
-pub fn act_on_elements<L: Ledger>(
-    code: &Code,
-    sight: &Sight,
-    instr: &Instr,
-    at: u32,
-    operands: &mut Operands<'_>,
-    memory: &mut Recoverable<L>,
-    steps: &mut Steps<L>,
-) -> Next
-    requires kind { instruction_kind instr.now ≡ Elements }
-    requires at { at + 1 < 2 ^ 32 }
-    requires turn { IsTurnOf (plain code.now) sight.now }
-    requires ready { (pieces : List (List ℕ)) × (counters : List (Option Counts)) × (slots : Slots)
-        × Ready (plain code.now) (see_of sight.now memory.old.levels) instr.now operands.old
-        (mem memory.old pieces counters slots) }
-    ensures moved { (pieces : List (List ℕ)) (counters : List (Option Counts)) (slots : Slots)
-        → outcome_of result at operands.new (mem memory.new pieces counters slots)
-        ≡ acted (plain code.now) (see_of sight.now memory.old.levels) instr.now at operands.old (mem memory.old pieces counters slots) }
-    ensures kept { (slots : Slots) → Keeps result memory.old memory.new slots slots }
-    ensures work { steps.new ≤ steps.old + 3 * named instr.now }
-{
-    match *instr {
-        Instr::LoadAt(spot) => {
-            let first = sight.place(code, memory, spot);
-            load_at(first, at, operands, memory, steps)
-        }
-        Instr::StoreAt(spot) => {
-            let first = sight.place(code, memory, spot);
-            store_at(first, at, operands, memory, steps)
-        }
-        Instr::Prior(spot) => {
-            let from = sight.place(code, memory, spot);
-            prior(from, at, operands, memory, steps)
-        }
-        Instr::PriorAt(spot) => {
-            let first = sight.place(code, memory, spot);
-            prior_at(first, at, operands, memory, steps)
-        }
-        _ => unreachable!(),
-    }
-}
-
 /// An instruction that adds words on top of the others, or takes some away.
 #[inline(always)]
 pub fn act_on_frames<L: Ledger>(
     code: &Code,
     sight: &Sight,
     instr: &Instr,
-    at: u32,
+    at: usize,
     operands: &mut Operands<'_>,
     memory: &mut Recoverable<L>,
     steps: &mut Steps<L>,
@@ -138,7 +94,7 @@ pub fn act_on_frames<L: Ledger>(
 pub fn act_on_line<L: Ledger>(
     code: &Code,
     instr: &Instr,
-    at: u32,
+    at: usize,
     operands: &mut Operands<'_>,
     bench: &mut Bench,
     memory: &mut Recoverable<L>,
@@ -177,7 +133,7 @@ pub fn act_on_channel<L: Ledger>(
     code: &Code,
     sight: &Sight,
     instr: &Instr,
-    at: u32,
+    at: usize,
     operands: &mut Operands<'_>,
     memory: &mut Recoverable<L>,
     mails: &mut Mails,
@@ -208,7 +164,7 @@ pub fn act_on_channel<L: Ledger>(
             take_message(code, process, message, channel, at, operands, memory, steps)
         }
         Instr::Absent(_, to) => match sight.message {
-            None => Next::Go(to),
+            None => Next::Go(to as usize),
             Some(_) => Next::Go(at + 1),
         },
         _ => unreachable!(),
@@ -219,7 +175,7 @@ pub fn act_on_channel<L: Ledger>(
 #[inline(always)]
 pub fn act_on_counters(
     instr: &Instr,
-    at: u32,
+    at: usize,
     operands: &mut Operands<'_>,
     counters: &mut Counters,
 ) -> Next

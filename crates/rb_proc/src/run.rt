@@ -66,7 +66,7 @@ pub fn run<L: Ledger>(
         (whole (plain code.now).texts bench.old memory.old mails.old) }
 {
     let instrs = code.instrs.as_slice();
-    let mut at = from;
+    let mut at = from as usize;
     'turn: loop {
         let instr = instr_at(instrs, at);
         // So the truth of a comparison finds room.
@@ -76,7 +76,7 @@ pub fn run<L: Ledger>(
         ) {
             Next::Go(to) => at = to,
             Next::Holds(holds) => at = decide(instrs, at + 1, holds, operands),
-            Next::Stop => return Ended::Stop(at, is_done(instr)),
+            Next::Stop => return Ended::Stop(at as u32, is_done(instr)),
             Next::Accepts(to) => return Ended::Accepts(to),
             Next::Trap(cause) => return Ended::Trap(cause),
         }
@@ -85,16 +85,16 @@ pub fn run<L: Ledger>(
 
 // The instruction at an address.
 #[inline(always)]
-fn instr_at(instrs: &[Instr], at: u32) -> &Instr
+fn instr_at(instrs: &[Instr], at: usize) -> &Instr
     requires { at < length instrs.now }
     ensures { result.now ≡ get_or instrs.now at result.now }
 {
-    &instrs[at as usize]
+    &instrs[at]
 }
 
 // Where a comparison leads that holds or does not. A jump right behind it is decided at once, so that nothing is pushed for it.
 #[inline(always)]
-fn decide(instrs: &[Instr], next: u32, holds: bool, operands: &mut Operands<'_>) -> u32
+fn decide(instrs: &[Instr], next: usize, holds: bool, operands: &mut Operands<'_>) -> usize
     requires there { next < length instrs.now }
     requires addresses { length instrs.now < 2 ^ 32 }
     requires room { length operands.old < MOST_OPERANDS }
@@ -102,7 +102,7 @@ fn decide(instrs: &[Instr], next: u32, holds: bool, operands: &mut Operands<'_>)
 {
     match *instr_at(instrs, next) {
         Instr::JumpZero(_) if holds => next + 1,
-        Instr::JumpZero(to) => to,
+        Instr::JumpZero(to) => to as usize,
         _ => {
             operands.push(truth(holds));
             next

@@ -27,7 +27,7 @@ use std::sync::ledger::Ledger;
 #[inline(always)]
 pub fn load<L: Ledger>(
     from: usize,
-    at: u32,
+    at: usize,
     operands: &mut Operands<'_>,
     memory: &Recoverable<L>,
     steps: &mut Steps<L>,
@@ -47,7 +47,7 @@ pub fn load<L: Ledger>(
 #[inline(always)]
 pub fn prior<L: Ledger>(
     from: usize,
-    at: u32,
+    at: usize,
     operands: &mut Operands<'_>,
     memory: &Recoverable<L>,
     steps: &mut Steps<L>,
@@ -69,7 +69,7 @@ pub fn prior<L: Ledger>(
 #[inline(always)]
 pub fn load_at<L: Ledger>(
     first: usize,
-    at: u32,
+    at: usize,
     operands: &mut Operands<'_>,
     memory: &Recoverable<L>,
     steps: &mut Steps<L>,
@@ -92,7 +92,7 @@ pub fn load_at<L: Ledger>(
 #[inline(always)]
 pub fn prior_at<L: Ledger>(
     first: usize,
-    at: u32,
+    at: usize,
     operands: &mut Operands<'_>,
     memory: &Recoverable<L>,
     steps: &mut Steps<L>,
@@ -117,7 +117,7 @@ pub fn prior_at<L: Ledger>(
 #[inline(always)]
 pub fn store<L: Ledger>(
     to: usize,
-    at: u32,
+    at: usize,
     operands: &mut Operands<'_>,
     memory: &mut Recoverable<L>,
     steps: &mut Steps<L>,
@@ -141,7 +141,7 @@ pub fn store<L: Ledger>(
 #[inline(always)]
 pub fn store_at<L: Ledger>(
     first: usize,
-    at: u32,
+    at: usize,
     operands: &mut Operands<'_>,
     memory: &mut Recoverable<L>,
     steps: &mut Steps<L>,
@@ -169,7 +169,7 @@ pub fn store_at<L: Ledger>(
 pub fn frame<L: Ledger>(
     n: u32,
     most: u32,
-    at: u32,
+    at: usize,
     memory: &mut Recoverable<L>,
     steps: &mut Steps<L>,
 ) -> Next
@@ -192,7 +192,7 @@ pub fn frame<L: Ledger>(
 
 /// So many words fewer.
 #[inline(always)]
-pub fn drop_words<L: Ledger>(n: u32, at: u32, memory: &mut Recoverable<L>) -> Next
+pub fn drop_words<L: Ledger>(n: u32, at: usize, memory: &mut Recoverable<L>) -> Next
     requires at { at + 1 < 2 ^ 32 }
     requires words { n < length memory.old.words }
     requires copies { StayAbove memory.old.touched (length memory.old.words - n) }
@@ -212,7 +212,7 @@ pub fn call<L: Ledger>(
     count: u32,
     zeros: u32,
     most: u32,
-    at: u32,
+    at: usize,
     operands: &mut Operands<'_>,
     memory: &mut Recoverable<L>,
     steps: &mut Steps<L>,
@@ -236,14 +236,14 @@ pub fn call<L: Ledger>(
     if u64::from(memory.height()) + (u64::from(count) + u64::from(zeros)) > u64::from(most) {
         return Next::Trap(Cause::Stack);
     }
-    memory.open_call(at + 1, operands.top(count), zeros, steps);
+    memory.open_call((at + 1) as u32, operands.top(count), zeros, steps);
     operands.drop_top(count);
-    Next::Go(to)
+    Next::Go(to as usize)
 }
 
 /// Goes back from the running call.
 #[inline(always)]
-pub fn go_back<L: Ledger>(at: u32, memory: &mut Recoverable<L>) -> Next
+pub fn go_back<L: Ledger>(at: usize, memory: &mut Recoverable<L>) -> Next
     requires call { HasCall memory.old.calls (λ call. (call.base ≤ length memory.old.words) × StayAbove memory.old.touched call.base) }
     requires levels { entry_calls (copy_of (last_of memory.old.levels)) < length memory.old.calls }
     ensures moved { (c : Plain) (see : Seen) (operands : List ℤ) (pieces : List (List ℕ)) (counters : List (Option Counts)) (slots : Slots)
@@ -251,5 +251,5 @@ pub fn go_back<L: Ledger>(at: u32, memory: &mut Recoverable<L>) -> Next
         ≡ returned c see memory.old.calls operands (mem memory.old pieces counters slots) }
     ensures kept { (slots : Slots) → Keeps result memory.old memory.new slots slots }
 {
-    Next::Go(memory.go_back())
+    Next::Go(memory.go_back() as usize)
 }
